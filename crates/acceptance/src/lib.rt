@@ -1,0 +1,21 @@
+//! Tests that cross the crates: whole images, rows of the table, and runs over readers, writers and devices.
+#![tactic(auto)]
+
+#[cfg(test)]
+mod arithmetic;
+#[cfg(test)]
+mod arithmetic_cases;
+#[cfg(test)]
+mod blocks;
+#[cfg(test)]
+mod failing_ends;
+#[cfg(test)]
+mod first_words;
+#[cfg(test)]
+mod fixtures;
+#[cfg(test)]
+mod rows;
+#[cfg(test)]
+mod terminal;
+#[cfg(test)]
+mod threads;

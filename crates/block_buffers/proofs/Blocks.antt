@@ -1,0 +1,105 @@
+-- No block is in two buffers, and where a block's entry stands.
+use Rattle.std.proofs.Common.{◌≡◌, ◌≢◌, ℕ, zero, suc, ◌<◌, ◌==◌, List, [], ◌∷◌, length, get_or, take, map, Option, Some, None, refl, arith, ap, ◌∙◌, sym, subst, true, false, Bool, is_some}
+use Rattle.std.specs.Prelude.{All, remove}
+use Rattle.std.specs.List.{position_or_len}
+use Rattle.std.specs.List.Sorted.{IsPermutation}
+use Rattle.std.proofs.lemmas.Bool.{eq-eqb, eqb-true}
+use Rattle.std.proofs.lemmas.List.Elements.{All-cons, All-take}
+use Rattle.std.proofs.lemmas.List.Kept.{AllPairs-cons}
+use Rattle.std.proofs.lemmas.List.Sorted.{IsPermutation-filter_both}
+use Rattle.std.proofs.lemmas.List.Sums.{passes_at_first}
+use Rattle.block_buffers.specs.declared.entry.Entry.{Entry}
+use Rattle.block_buffers.specs.Entries.{unassigned_slot, start, is_in, is_elsewhere, is_of, holds, slot_of, moved_front, assigned, front_marked, cleaned_entry, cleaned, unassigned_entry, unassigned, victim, entry_at, AreBuffers, HasNoBlockTwice}
+use Rattle.block_buffers.proofs.Fronts.{moved_at, front_some, front_none}
+use Rattle.block_buffers.proofs.Kept.{BlocksDiffer}
+use Rattle.block_buffers.proofs.Pairs.{pairs_head, pairs_tail, pairs_map}
+use Rattle.block_buffers.proofs.Places.{place_held, slot_here}
+
+of_from_block : (u : ℕ) (o : Option ℕ) → (elim o [ Some v ↦ v == u | None ↦ false ]) ≡ true → o ≡ Some u
+of_from_block u (Some v) h = ap (λ (n : ℕ). Some n) (eqb-true v u h)
+of_from_block u None h = cc
+
+block_of : (u : ℕ) (e : Entry) → e.block ≡ Some u → is_of u e ≡ true
+block_of u e h = rw h (eq-eqb u u refl)
+
+lacks_block : (u : ℕ) (b : List Entry) → holds b u ≡ false → All (λ e. e.block ≢ Some u) b
+unfolding holds
+lacks_block u [] h = λ k d l. absurd (omega arith)
+lacks_block u (e ∷ es) h = by_test (is_of u e) refl (lacks_block u es) where
+  by_test : (m : Bool) → is_of u e ≡ m → (holds es u ≡ false → All (λ f. f.block ≢ Some u) es) → All (λ f. f.block ≢ Some u) (e ∷ es)
+  by_test true q rest = let no : true ≡ false = rw q at h in cc
+  by_test false q rest = All-cons (λ f. f.block ≢ Some u) e es (λ r. let yes : is_of u e ≡ true = block_of u e r in cc) (rest (rw q at h))
+
+no_blocks : (b : List Entry) → HasNoBlockTwice (map unassigned_entry b)
+no_blocks [] = λ i j d l m. absurd (omega arith)
+no_blocks (e ∷ es) =
+    AllPairs-cons BlocksDiffer (unassigned_entry e) (map unassigned_entry es) (λ k d l u q. cc) (no_blocks es)
+
+pub blocks_unassigned : (b : List Entry) → HasNoBlockTwice (unassigned b)
+unfolding unassigned
+blocks_unassigned b = no_blocks b
+
+pub blocks_started : HasNoBlockTwice start
+unfolding start
+blocks_started = no_blocks start
+
+blocks_replaced : (d e : Entry) (es : List Entry) → e.block ≡ d.block → HasNoBlockTwice (d ∷ es) → HasNoBlockTwice (e ∷ es)
+blocks_replaced d e es q h =
+    AllPairs-cons BlocksDiffer e es (λ k f l u r. pairs_head BlocksDiffer d es h k f l u (sym q ∙ r)) (pairs_tail BlocksDiffer d es h)
+
+marked_with : (e : Entry) (es : List Entry) (m : Bool) → is_some e.block ≡ m → HasNoBlockTwice (e ∷ es) → HasNoBlockTwice (front_marked (e ∷ es))
+marked_with e es true q h =
+    let P : List Entry → Type 0 = λ b. HasNoBlockTwice b
+    in subst P (sym (front_some (e ∷ es) e (omega arith) q)) (blocks_replaced e (record e { updated = true }) es refl h)
+marked_with e es false q h =
+    let P : List Entry → Type 0 = λ b. HasNoBlockTwice b in subst P (sym (front_none (e ∷ es) e (omega arith) q)) h
+
+pub blocks_marked : (b : List Entry) → HasNoBlockTwice b → HasNoBlockTwice (front_marked b)
+unfolding front_marked
+blocks_marked [] h = h
+blocks_marked (e ∷ es) h = marked_with e es (is_some e.block) refl h
+
+clean_block : (slot : ℕ) (e : Entry) (m : Bool) → is_in slot e ≡ m → (cleaned_entry slot e).block ≡ e.block
+clean_block slot e true q = rw q refl
+clean_block slot e false q = rw q refl
+
+pub blocks_cleaned : (slot : ℕ) (b : List Entry) → HasNoBlockTwice b → HasNoBlockTwice (cleaned slot b)
+unfolding cleaned
+blocks_cleaned slot b h =
+    pairs_map BlocksDiffer (cleaned_entry slot)
+    (λ d e r u q k. r u (sym (clean_block slot d (is_in slot d) refl) ∙ q) (sym (clean_block slot e (is_in slot e) refl) ∙ k)) b h
+
+pairs_take : (n : ℕ) (b : List Entry) → HasNoBlockTwice b → HasNoBlockTwice (take n b)
+pairs_take zero b h = λ i j d l m. absurd (omega arith)
+pairs_take (suc n) [] h = h
+pairs_take (suc n) (e ∷ es) h =
+    AllPairs-cons BlocksDiffer e (take n es) (All-take (BlocksDiffer e) n es (pairs_head BlocksDiffer e es h)) (pairs_take n es (pairs_tail BlocksDiffer e es h))
+
+pub blocks_assigned : (u : ℕ) (b : List Entry) → holds b u ≡ false → HasNoBlockTwice b → HasNoBlockTwice (assigned u b)
+unfolding assigned
+blocks_assigned u b none h =
+    AllPairs-cons BlocksDiffer (record { slot = (victim b).slot; block = Some u; updated = false }) (take 3 b)
+    (λ k d l v q r. All-take (λ e. e.block ≢ Some u) 3 b (lacks_block u b none) k d l (r ∙ sym q)) (pairs_take 3 b h)
+
+-- the entry of a block that a buffer has comes to the front
+pub touched_block : (u : ℕ) (b : List Entry) → AreBuffers b → holds b u ≡ true → (entry_at (moved_front (slot_of b u) b) 0).block ≡ Some u
+unfolding entry_at
+touched_block u b h k =
+    let place : ℕ = position_or_len (is_of u) b
+    in let d : Entry = unassigned_slot 0
+    in let l : place < length b = place_held u b k
+    in let P : List Entry → Type 0 = λ es. (get_or es 0 d).block ≡ Some u
+    in let at_slot : moved_front (slot_of b u) b ≡ get_or b place d ∷ remove b place = ap (λ (slot : ℕ). moved_front slot b) (slot_here u b l) ∙ moved_at place b d l h.once
+    in subst P (sym at_slot) (of_from_block u (get_or b place d).block (passes_at_first (is_of u) b d l))
+
+pub holds_assigned : (u : ℕ) (b : List Entry) → holds (assigned u b) u ≡ true
+unfolding holds assigned
+holds_assigned u b = let yes : (u == u) ≡ true = eq-eqb u u refl in rw yes refl
+
+pub slot_assigned : (u : ℕ) (b : List Entry) → slot_of (assigned u b) u ≡ (victim b).slot
+unfolding slot_of assigned
+slot_assigned u b = let yes : (u == u) ≡ true = eq-eqb u u refl in rw (slot_of, yes) refl
+
+pub moved_permutes : (slot : ℕ) (b : List Entry) → IsPermutation b (moved_front slot b)
+unfolding moved_front
+moved_permutes slot b = IsPermutation-filter_both (is_in slot) (is_elsewhere slot) (λ e. refl) b

@@ -1,0 +1,10 @@
+pub mod Places
+pub mod Fronts
+pub mod Maps
+pub mod Pairs
+pub mod Kept
+pub mod Updated
+pub mod Blocks
+pub mod Turns
+pub mod ScreenLines
+pub mod Slots

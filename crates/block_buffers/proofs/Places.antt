@@ -1,0 +1,50 @@
+-- Where the buffer of a block stands in the list.
+use Rattle.std.proofs.Common.{◌≡◌, ℕ, ◌<◌, ◌≤◌, List, length, get_or, arith, true, false, ap, ◌∙◌, Option, unwrap_or, inl, inr}
+use Rattle.std.specs.List.{position_or_len}
+use Rattle.std.proofs.lemmas.Bool.{cases_lt}
+use Rattle.std.proofs.lemmas.List.{get_or_default, get_or_past}
+use Rattle.std.proofs.lemmas.List.Elements.{All-from_get_or}
+use Rattle.std.proofs.lemmas.List.Folds.{list_any_at, list_any_none, find_at}
+use Rattle.std.proofs.lemmas.List.Sums.{position_or_len_is, passes_at_first, fails_before_first}
+use Rattle.std.proofs.lemmas.Option.{unwrap_or-slice_get}
+use Rattle.block_buffers.specs.declared.entry.Entry.{Entry}
+use Rattle.block_buffers.specs.Entries.{unassigned_slot, is_of, holds, slot_of, victim, entry_at}
+
+-- a loop that has passed the entries below i
+pub position_here : (u i : ℕ) (es : List Entry) (d : Entry) → is_of u (get_or es i d) ≡ true → i < length es → ((k : ℕ) (e : Entry) → k < i → is_of u (get_or es k e) ≡ false) → position_or_len (is_of u) es ≡ i
+position_here u i es d here h before = position_or_len_is (is_of u) es i d (omega arith) (λ k. before k d) (λ _. here)
+
+pub position_end : (u : ℕ) (es : List Entry) → ((k : ℕ) (e : Entry) → k < length es → is_of u (get_or es k e) ≡ false) → position_or_len (is_of u) es ≡ length es
+position_end u es before =
+    position_or_len_is (is_of u) es (length es) (unassigned_slot 0) (omega arith) (λ k. before k (unassigned_slot 0)) (λ h. absurd (omega arith))
+
+pub holds_here : (u : ℕ) (es : List Entry) → position_or_len (is_of u) es < length es → holds es u ≡ true
+unfolding holds
+holds_here u es h = list_any_at (is_of u) es (position_or_len (is_of u) es) (unassigned_slot 0) h (passes_at_first (is_of u) es (unassigned_slot 0) h)
+
+pub holds_end : (u : ℕ) (es : List Entry) → length es ≤ position_or_len (is_of u) es → holds es u ≡ false
+unfolding holds
+holds_end u es h =
+    list_any_none (is_of u) es (All-from_get_or (λ e. is_of u e ≡ false) es (unassigned_slot 0) (λ k l. fails_before_first (is_of u) es k (unassigned_slot 0) (omega arith)))
+
+pub place_held : (u : ℕ) (es : List Entry) → holds es u ≡ true → position_or_len (is_of u) es < length es
+place_held u es h = elim (cases_lt (position_or_len (is_of u) es) (length es)) [
+  | inl l ↦ l
+  | inr g ↦ let no : holds es u ≡ false = holds_end u es g in cc
+]
+
+found : (u : ℕ) (es : List Entry) → slot_of es u ≡ (get_or es (position_or_len (is_of u) es) (victim es)).slot
+unfolding slot_of
+found u es =
+    ap (λ (e : Entry). e.slot) (ap (λ (o : Option Entry). unwrap_or o (victim es)) (find_at (is_of u) es) ∙ unwrap_or-slice_get es (position_or_len (is_of u) es) (victim es))
+
+pub slot_here : (u : ℕ) (es : List Entry) → position_or_len (is_of u) es < length es → slot_of es u ≡ (get_or es (position_or_len (is_of u) es) (unassigned_slot 0)).slot
+slot_here u es h =
+    found u es ∙ ap (λ (e : Entry). e.slot) (get_or_default es (position_or_len (is_of u) es) (victim es) (unassigned_slot 0) h)
+
+pub slot_end : (u : ℕ) (es : List Entry) → length es ≤ position_or_len (is_of u) es → slot_of es u ≡ (get_or es 3 (unassigned_slot 0)).slot
+unfolding entry_at
+slot_end u es h =
+    found u es ∙ ap (λ (e : Entry). e.slot) (get_or_past es (position_or_len (is_of u) es) (victim es) h)
+
+pub ruleset places = (holds_here, holds_end, place_held, slot_here, slot_end)

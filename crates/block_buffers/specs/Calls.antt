@@ -1,0 +1,23 @@
+-- What a call does to a device.
+use Rattle.std.specs.Prelude.{◌≡◌, ℕ, ◌+◌, true, false, List, Option, Some, Result, Ok, Err, IfSome, IsSomeAnd}
+use Rattle.block_buffers.specs.declared.devices.DeviceFault.{DeviceFault}
+use Rattle.block_buffers.specs.Disks.{Disk, succeeds, block_at, called, written}
+
+-- a call fails exactly where the count of failures rises, and then it rises by one
+abbrev pub Counts : ℕ → ℕ → Result Unit DeviceFault → Type 0
+Counts old new (Ok _) = new ≡ old
+Counts old new (Err _) = new ≡ old + 1
+
+-- a read that succeeds gives the block's bytes; no read changes a block
+abbrev pub Reads : Disk → ℕ → Option Disk → List ℕ → Result Unit DeviceFault → Type 0
+Reads disk block new page (Ok _) = (succeeds disk block ≡ true) × (new ≡ Some (called disk)) × (page ≡ block_at disk.blocks block)
+Reads disk block new page (Err _) = (succeeds disk block ≡ false) × (new ≡ Some (called disk))
+
+-- a write that succeeds changes its block alone, to the bytes handed in; one that fails changes none
+abbrev pub Writes : Disk → ℕ → List ℕ → Option Disk → Result Unit DeviceFault → Type 0
+Writes disk block page new (Ok _) = (succeeds disk block ≡ true) × (new ≡ Some (written disk block page))
+Writes disk block page new (Err _) = (succeeds disk block ≡ false) × (new ≡ Some (called disk))
+
+-- where the blocks are told, they are the same after
+abbrev pub KeepsBlocks : Option Disk → Option Disk → Type 0
+KeepsBlocks old new = IfSome old (λ d. IsSomeAnd new (λ e. e.blocks ≡ d.blocks))

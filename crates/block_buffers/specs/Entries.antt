@@ -1,0 +1,107 @@
+-- The list of block buffers, the most recently referenced first.
+use Rattle.std.specs.Prelude.{◌≡◌, ◌≢◌, ℕ, ◌<◌, ◌≤◌, List, [], ◌∷◌, ◌++◌, Some, None, ◌==◌, Bool, true, false, not, if◌then◌else◌, slice_index_or, is_some, unwrap_or, find, filter, map, take, fold, length, nat_lt, All, AllPairs, Contains, IsSome}
+use Rattle.std.specs.List.{list_any}
+use Rattle.block_buffers.specs.declared.entry.Entry.{Entry}
+
+-- slot 3 first, down to slot 0; none has a block
+abbrev pub unassigned_slot : ℕ → Entry
+unassigned_slot slot = record { slot = slot; block = None; updated = false }
+
+unfoldable pub start : List Entry
+start = unassigned_slot 3 ∷ unassigned_slot 2 ∷ unassigned_slot 1 ∷ unassigned_slot 0 ∷ []
+
+-- the entry has block u
+abbrev pub is_of : ℕ → Entry → Bool
+is_of u e = elim e.block [ Some v ↦ v == u | None ↦ false ]
+
+-- a buffer has block u
+unfoldable pub holds : List Entry → ℕ → Bool
+holds b u = list_any (is_of u) b
+
+-- the entry at a place, 0 being the most recently referenced
+unfoldable pub entry_at : List Entry → ℕ → Entry
+entry_at b place = slice_index_or b place (unassigned_slot 0)
+
+-- the entry that is taken where a buffer is needed: the one that was not referenced for longest
+abbrev pub victim : List Entry → Entry
+victim b = entry_at b 3
+
+-- the slot of the buffer that has block u; the victim's where none has it
+unfoldable pub slot_of : List Entry → ℕ → ℕ
+slot_of b u = (unwrap_or (find (is_of u) b) (victim b)).slot
+
+-- a buffer has the block, and this is its slot
+abbrev pub IsSlotOf : List Entry → ℕ → ℕ → Type 0
+IsSlotOf b u slot = (holds b u ≡ true) × (slot ≡ slot_of b u)
+
+-- the entry is that of a slot
+abbrev pub is_in : ℕ → Entry → Bool
+is_in slot e = e.slot == slot
+
+-- it is that of another slot
+abbrev pub is_elsewhere : ℕ → Entry → Bool
+is_elsewhere slot e = not (is_in slot e)
+
+-- a reference to a slot: its entry comes first, the others stay in their order
+unfoldable pub moved_front : ℕ → List Entry → List Entry
+moved_front slot b = filter (is_in slot) b ++ filter (is_elsewhere slot) b
+
+-- the victim's buffer is given to block u, and is referenced; it is not updated
+unfoldable pub assigned : ℕ → List Entry → List Entry
+assigned u b = record { slot = (victim b).slot; block = Some u; updated = false } ∷ take 3 b
+
+-- the entry in front is marked as updated, where it has a block
+unfoldable pub front_marked : List Entry → List Entry
+front_marked [] = []
+front_marked (e ∷ es) = if is_some e.block then record e { updated = true } ∷ es else e ∷ es
+
+-- the entry of a slot is no longer marked
+abbrev pub cleaned_entry : ℕ → Entry → Entry
+cleaned_entry slot e = if is_in slot e then record e { updated = false } else e
+
+unfoldable pub cleaned : ℕ → List Entry → List Entry
+cleaned slot b = map (cleaned_entry slot) b
+
+-- no buffer has a block; the order stays
+abbrev pub unassigned_entry : Entry → Entry
+unassigned_entry e = unassigned_slot e.slot
+
+unfoldable pub unassigned : List Entry → List Entry
+unassigned b = map unassigned_entry b
+
+-- the block of the entry was updated since it was read or written
+abbrev pub is_updated : Entry → Bool
+is_updated e = e.updated
+
+-- an entry is updated
+unfoldable pub has_updated : List Entry → Bool
+has_updated b = list_any is_updated b
+
+-- the one of two entries with the lower slot
+abbrev pub lower_of : Entry → Entry → Entry
+lower_of d e = if nat_lt e.slot d.slot then e else d
+
+-- the updated entry with the lowest slot; slot 4, above all, stands for none
+unfoldable pub first_updated : List Entry → Entry
+first_updated b = fold lower_of (unassigned_slot 4) (filter is_updated b)
+
+-- an entry is updated, and this is the one with the lowest slot
+abbrev pub IsFirstUpdated : List Entry → Entry → Type 0
+IsFirstUpdated b e = (has_updated b ≡ true) × (e ≡ first_updated b)
+
+-- what every list of buffers keeps: four entries, each slot once, and only a buffer with a block is updated
+pub record AreBuffers (b : List Entry) : Type 0 where
+  pub four : length b ≡ 4
+  pub slots : All (λ e. e.slot < 4) b
+  pub once : AllPairs (λ d e. d.slot ≢ e.slot) b
+  pub updated_have : All (λ e. e.updated ≡ true → IsSome e.block) b
+
+-- no two buffers have the same block
+abbrev pub HasNoBlockTwice : List Entry → Type 0
+HasNoBlockTwice b = AllPairs (λ d e. (u : ℕ) → d.block ≡ Some u → e.block ≢ Some u) b
+
+-- one of the list, updated, and no updated one has a lower slot
+pub record IsLowestUpdated (b : List Entry) (e : Entry) : Type 0 where
+  pub one : Contains b e
+  pub marked : e.updated ≡ true
+  pub lowest : All (λ d. d.updated ≡ true → e.slot ≤ d.slot) b

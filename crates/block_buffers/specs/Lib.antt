@@ -1,0 +1,4 @@
+pub mod Calls
+pub mod Disks
+pub mod Entries
+pub mod Screens

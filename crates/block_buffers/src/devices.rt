@@ -1,0 +1,39 @@
+//! Devices of blocks.
+ghost use Rattle.std.specs.Prelude.{◌≡◌, ◌≤◌, ℕ, Option, length, IfSome, OnErr};
+
+/// How many bytes a block has.
+pub const BLOCK_SIZE: usize = 1024;
+
+/// A block could not be read or written.
+#[derive(Clone, Copy, Debug, PartialEq, Eq)]
+pub struct DeviceFault;
+
+/// Blocks of 1,024 bytes, numbered from 0. A device may tell its blocks to contracts, as a
+/// [`crate::MemoryDevice`] does; a file doesn't. Every device counts its failures for them.
+pub trait Device {
+    ghost use Rattle.block_buffers.specs.Disks.{Disk};
+    ghost use Rattle.block_buffers.specs.Calls.{Counts, Reads, Writes, KeepsBlocks};
+
+    // its blocks and its coming results, where it tells them
+    ghost disk: { Self → Option Disk };
+
+    // how many calls have failed
+    ghost failures: { Self → ℕ };
+
+    /// How many blocks there are, at most 65,536.
+    fn count(&self) -> u32
+        ensures bound { result ≤ 65536 }
+        ensures told { IfSome (disk self.now) (λ d. result ≡ length d.blocks) };
+
+    /// Reads a block into `page`. Where it fails, no block has changed, and `page` may hold any bytes.
+    fn read(&mut self, block: u16, page: &mut [u8; BLOCK_SIZE]) -> Result<(), DeviceFault>
+        ensures told { IfSome (disk self.old) (λ d. Reads d block (disk self.new) page.new result) }
+        ensures kept { KeepsBlocks (disk self.old) (disk self.new) }
+        ensures counted { Counts (failures self.old) (failures self.new) result };
+
+    /// Writes `page` to a block. Where it fails, no block has changed.
+    fn write(&mut self, block: u16, page: &[u8; BLOCK_SIZE]) -> Result<(), DeviceFault>
+        ensures told { IfSome (disk self.old) (λ d. Writes d block page.now (disk self.new) result) }
+        ensures kept { OnErr result (KeepsBlocks (disk self.old) (disk self.new)) }
+        ensures counted { Counts (failures self.old) (failures self.new) result };
+}

@@ -1,0 +1,163 @@
+//! Work on a list of entries, the most recently referenced first.
+ghost use Rattle.std.specs.Prelude.{◌≡◌, ◌≢◌, ◌<◌, ◌∷◌, if◌then◌else◌, length, slice_index_or, remove, MatchOption, IsTrue, IsFalse, IfSome, All, AllPairs};
+ghost use Rattle.std.specs.List.{position_or_len};
+ghost use Rattle.block_buffers.specs.Entries.{is_of, holds, slot_of, unassigned_slot, moved_front, assigned, front_marked, cleaned_entry, cleaned, unassigned, first_updated, is_updated, lower_of, IsSlotOf};
+
+use crate::entry::Entry;
+
+/// The entry of a slot that has no block.
+pub fn unassigned_slot(slot: usize) -> Entry
+    ensures { result ≡ unassigned_slot slot }
+{
+    Entry {
+        slot,
+        block: None,
+        updated: false,
+    }
+}
+
+/// Whether the entry has block `u`.
+fn is_of(entry: &Entry, u: u16) -> bool
+    ensures { result ≡ is_of u entry.now }
+{
+    match entry.block {
+        Some(block) => block == u,
+        None => false,
+    }
+}
+
+/// The place of the first entry of block `u`, or the length.
+#[tactic(auto, using(crate::proofs::Places::position_here, crate::proofs::Places::position_end))]
+fn place_of(entries: &[Entry], u: u16) -> usize
+    ensures { result ≡ position_or_len (is_of u) entries.now }
+{
+    for (i, entry) in entries.iter().enumerate() {
+        if is_of(entry, u) {
+            return i;
+        }
+    }
+    entries.len()
+}
+
+/// Moves the entry at a place to the front.
+fn rotate_up(entries: &mut [Entry], place: usize)
+    requires { place < length entries.old }
+    ensures { entries.new ≡ slice_index_or entries.old place (unassigned_slot 0) ∷ remove entries.old place }
+{
+    entries[..place + 1].rotate_right(1);
+}
+
+/// The slot of the buffer that has block `u`.
+#[tactic(auto, using(crate::proofs::Places::places))]
+pub fn find(entries: &[Entry], u: u16) -> Option<usize>
+    ensures value { MatchOption result (IsFalse (holds entries.now u)) (IsSlotOf entries.now u) }
+    ensures slot { All (λ e. e.slot < 4) entries.now → IfSome result (λ slot. slot < 4) }
+{
+    let place = place_of(entries, u);
+    if place < entries.len() {
+        Some(entries[place].slot)
+    } else {
+        None
+    }
+}
+
+/// The slot of the buffer that has block `u`; the victim's where none has it.
+#[tactic(auto, using(crate::proofs::Places::places))]
+pub fn slot_of(entries: &[Entry], u: u16) -> usize
+    requires { length entries.now ≡ 4 }
+    ensures value { result ≡ slot_of entries.now u }
+    ensures slot { All (λ e. e.slot < 4) entries.now → result < 4 }
+{
+    let place = place_of(entries, u);
+    if place < entries.len() {
+        entries[place].slot
+    } else {
+        entries[3].slot
+    }
+}
+
+/// Moves the entry of block `u` to the front.
+#[tactic(auto, using(crate::proofs::Places::places, crate::proofs::Fronts::moved_at))]
+pub fn touch(entries: &mut [Entry], u: u16)
+    requires held { IsTrue (holds entries.old u) }
+    requires slots { AllPairs (λ d e. d.slot ≢ e.slot) entries.old }
+    ensures { entries.new ≡ moved_front (slot_of entries.old u) entries.old }
+{
+    let place = place_of(entries, u);
+    rotate_up(entries, place);
+}
+
+/// Marks the entry in front as updated, where it has a block.
+#[tactic(auto, using(crate::proofs::Fronts::fronts))]
+pub fn mark_front(entries: &mut [Entry])
+    requires { 0 < length entries.old }
+    ensures { entries.new ≡ front_marked entries.old }
+{
+    if entries[0].block.is_some() {
+        entries[0].updated = true;
+    }
+}
+
+/// The entry without its mark, where it is that of a slot.
+fn cleaned_entry(entry: &Entry, slot: usize) -> Entry
+    ensures { result ≡ cleaned_entry slot entry.now }
+{
+    Entry {
+        updated: entry.updated && entry.slot != slot,
+        ..*entry
+    }
+}
+
+/// Takes the mark from the entry of a slot.
+#[tactic(auto, unfolding(crate::specs::Entries::cleaned))]
+pub fn clean(entries: &mut [Entry], slot: usize)
+    ensures { entries.new ≡ cleaned slot entries.old }
+{
+    for entry in entries.iter_mut() {
+        *entry = cleaned_entry(entry, slot);
+    }
+}
+
+/// Takes each entry's block and mark.
+#[tactic(auto, unfolding(crate::specs::Entries::unassigned))]
+pub fn unassign_all(entries: &mut [Entry])
+    ensures { entries.new ≡ unassigned entries.old }
+{
+    for entry in entries.iter_mut() {
+        *entry = unassigned_slot(entry.slot);
+    }
+}
+
+/// Gives the victim's buffer to block `u`, and moves its entry to the front.
+#[tactic(auto, using(crate::proofs::Fronts::assigned_at))]
+pub fn assign(entries: &mut [Entry], u: u16)
+    requires { length entries.old ≡ 4 }
+    ensures { entries.new ≡ assigned u entries.old }
+{
+    rotate_up(entries, 3);
+    entries[0].block = Some(u);
+    entries[0].updated = false;
+}
+
+/// The second entry, where it is updated and has the lower slot; else the first.
+fn lower_updated(first: Entry, entry: &Entry) -> Entry
+    ensures { result ≡ (if is_updated entry.now then lower_of first entry.now else first) }
+{
+    if entry.updated && entry.slot < first.slot {
+        *entry
+    } else {
+        first
+    }
+}
+
+/// The updated entry with the lowest slot; one that isn't updated where none is.
+#[tactic(auto, unfolding(crate::specs::Entries::first_updated))]
+pub fn first_updated(entries: &[Entry]) -> Entry
+    ensures { result ≡ first_updated entries.now }
+{
+    let mut first = unassigned_slot(4);
+    for entry in entries {
+        first = lower_updated(first, entry);
+    }
+    first
+}

@@ -1,0 +1,21 @@
+//! Four block buffers in order of recency, devices of blocks, and blocks as screens of lines.
+#![tactic(auto)]
+
+pub mod buffers;
+mod counts;
+mod devices;
+mod entries;
+pub mod entry;
+pub mod laws;
+mod lines;
+mod memory_devices;
+mod screens;
+#[cfg(test)]
+mod tests;
+
+pub use buffers::Buffers;
+pub use counts::Count;
+pub use devices::{BLOCK_SIZE, Device, DeviceFault};
+pub use entry::Entry;
+pub use memory_devices::MemoryDevice;
+pub use screens::{LINE_SIZE, LINES, delete_line, insert_line, put_line, screen_line, wipe};

@@ -1,0 +1,42 @@
+-- What compiling words lay: the compilation addresses of control primitives, and what stands behind them.
+use Rattle.std.specs.Prelude.{ℕ, ◌+◌, ◌*◌, List, ◌∷◌, ◌++◌, length}
+use Rattle.memory.specs.Bytes.{cell, cell_bytes}
+use Rattle.memory.specs.declared.system.TheConstants.{RUNTIME_CELLS}
+use Rattle.compiling_words.specs.declared.control.Control.{Control}
+use Rattle.compiling_words.specs.declared.control.Control.TheVariants.{Exit, Literal, Branch, ZeroBranch, Do, Loop, PlusLoop, ShowText, AbortText, Does}
+use Rattle.compiling_words.specs.declared.text.TextWord.{TextWord}
+use Rattle.compiling_words.specs.declared.text.TextWord.TheVariants.{Show, Abort}
+
+-- the row of a control primitive
+abbrev pub number_of : Control → ℕ
+number_of Exit = 5
+number_of Literal = 6
+number_of Branch = 7
+number_of ZeroBranch = 8
+number_of Do = 9
+number_of Loop = 10
+number_of PlusLoop = 11
+number_of ShowText = 16
+number_of AbortText = 17
+number_of Does = 18
+
+-- runtime cell k: the compilation address of control primitive k
+abbrev pub runtime : List ℕ → ℕ → ℕ
+runtime m k = cell m (RUNTIME_CELLS + 2 * k)
+
+-- control primitive k, and the cell that it takes from behind it
+abbrev pub control_code : List ℕ → ℕ → ℕ → List ℕ
+control_code m k x = cell_bytes (runtime m k) ++ cell_bytes x
+
+-- the code of a literal: (LIT) and the cell
+abbrev pub literal_code : List ℕ → ℕ → List ℕ
+literal_code m x = control_code m 6 x
+
+-- the row of what lays a text: (.") or (ABORT")
+abbrev pub text_number : TextWord → ℕ
+text_number Show = 16
+text_number Abort = 17
+
+-- a token, a count byte and the text
+unfoldable pub text_code : ℕ → List ℕ → List ℕ
+text_code token text = cell_bytes token ++ length text ∷ text

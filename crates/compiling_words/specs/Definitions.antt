@@ -1,0 +1,33 @@
+-- How a colon definition begins and ends.
+use Rattle.std.specs.Prelude.{◌≡◌, ℕ, ◌+◌, List, [], length, true, Result, Ok, Err, IsTrue, IsFalse}
+use Rattle.memory.specs.Bytes.{byte, cell, put_byte, put_cell, cell_bytes}
+use Rattle.memory.specs.declared.system.TheConstants.{STATE, CONTEXT, CURRENT}
+use Rattle.dictionary.specs.declared.fault.AddFault.{AddFault}
+use Rattle.dictionary.specs.declared.fault.AddFault.TheVariants.{NameLength, Full}
+use Rattle.dictionary.specs.Adding.{is_name, with_header}
+use Rattle.dictionary.specs.Laying.{fits}
+use Rattle.dictionary.specs.Newest.{newest_count, revealed}
+use Rattle.compiling_words.specs.declared.laying.Full.{Full as Refused}
+use Rattle.compiling_words.specs.Code.{runtime}
+use Rattle.compiling_words.specs.Laying.{laid}
+
+-- memory with a definition begun: a hidden header with the code field of a colon word; then words are compiled, and
+-- CURRENT is searched first
+abbrev pub begun : List ℕ → List ℕ → List ℕ
+begun m name = put_cell (put_cell (with_header m name 1 [] true) STATE 65535) CONTEXT (cell m CURRENT)
+
+abbrev pub IsBegun : List ℕ → List ℕ → List ℕ → Result Unit AddFault → Type 0
+IsBegun old new name (Ok _) = IsTrue (is_name name) × IsTrue (fits old (7 + length name)) × (new ≡ begun old name)
+IsBegun old new name (Err NameLength) = IsFalse (is_name name) × (new ≡ old)
+IsBegun old new name (Err Full) =
+    IsTrue (is_name name) × IsFalse (fits old (7 + length name)) × (new ≡ old)
+
+-- memory with the definition ended: EXIT is laid, the newest header is found from now on, and words are executed. The
+-- header is the one that LAST named before, and its count byte the one of before
+abbrev pub ended : List ℕ → List ℕ
+ended m =
+    put_cell (put_byte (laid m (cell_bytes (runtime m 5))) (newest_count m) (revealed (byte m (newest_count m)))) STATE 0
+
+abbrev pub IsEnded : List ℕ → List ℕ → Result Unit Refused → Type 0
+IsEnded old new (Ok _) = IsTrue (fits old 2) × (new ≡ ended old)
+IsEnded old new (Err _) = IsFalse (fits old 2) × (new ≡ old)

@@ -1,0 +1,57 @@
+//! Control primitives, and what is laid for them.
+
+ghost use Rattle.std.specs.Prelude.{◌≡◌, length};
+ghost use Rattle.compiling_words.specs.Code.{number_of, runtime, control_code, literal_code};
+
+use memory::system::RUNTIME_CELLS;
+use memory::{Memory, cell_bytes};
+
+/// The control primitives that compiling words lay, each with the number of its row.
+#[derive(Clone, Copy, Debug, PartialEq, Eq)]
+pub enum Control {
+    /// `EXIT`
+    Exit = 5,
+    /// `(LIT)`
+    Literal = 6,
+    /// `BRANCH`
+    Branch = 7,
+    /// `?BRANCH`
+    ZeroBranch = 8,
+    /// `(DO)`
+    Do = 9,
+    /// `(LOOP)`
+    Loop = 10,
+    /// `(+LOOP)`
+    PlusLoop = 11,
+    /// `(.")`
+    ShowText = 16,
+    /// `(ABORT")`
+    AbortText = 17,
+    /// `(DOES>)`
+    Does = 18,
+}
+
+/// The compilation address of a control primitive: its runtime cell.
+pub fn runtime(memory: &Memory, control: Control) -> u16
+    ensures { result ≡ runtime memory.now (number_of control) }
+{
+    memory.cell(RUNTIME_CELLS + 2 * control as u16)
+}
+
+/// The code of a control primitive that takes a cell from behind it.
+pub fn control_code(memory: &Memory, control: Control, x: u16) -> [u8; 4]
+    ensures value { result ≡ control_code memory.now (number_of control) x }
+    ensures len { length (control_code memory.now (number_of control) x) ≡ 4 }
+{
+    let [first_low, first_high] = cell_bytes(runtime(memory, control));
+    let [low, high] = cell_bytes(x);
+    [first_low, first_high, low, high]
+}
+
+/// The code of a literal: `(LIT)` and the cell.
+pub fn literal_code(memory: &Memory, x: u16) -> [u8; 4]
+    ensures value { result ≡ literal_code memory.now x }
+    ensures len { length (literal_code memory.now x) ≡ 4 }
+{
+    control_code(memory, Control::Literal, x)
+}

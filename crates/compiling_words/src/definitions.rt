@@ -1,0 +1,42 @@
+//! How a colon definition begins and ends.
+
+ghost use Rattle.std.specs.Prelude.{◌≡◌};
+ghost use Rattle.compiling_words.specs.Definitions.{IsBegun, IsEnded};
+
+use crate::control::{Control, runtime};
+use crate::laying::{Full, lay};
+use dictionary::{AddFault, add_header, newest_count, revealed};
+use memory::system::{CONTEXT, CURRENT, STATE};
+use memory::{Memory, cell_bytes};
+
+/// The code field of a colon word.
+const COLON: u16 = 1;
+
+/// Begins a definition (Forth-83 `:`): its hidden header, then STATE is -1 and CONTEXT is CURRENT, as both were before.
+///
+/// `NameLength` for a name of 0 or over 31 bytes, then `Full` where the header would end behind 61,440: nothing is
+/// written.
+pub fn begin_definition(memory: &mut Memory, name: &[u8]) -> Result<(), AddFault>
+    ensures { IsBegun memory.old memory.new name.now result }
+{
+    let current = memory.cell(CURRENT);
+    add_header(memory, name, COLON, &[], true)?;
+    memory.set_cell(STATE, 65535);
+    memory.set_cell(CONTEXT, current);
+    Ok(())
+}
+
+/// Ends a definition (Forth-83 `;`): EXIT is laid, then the newest header is no longer hidden, then STATE is 0.
+///
+/// LAST and the header's count byte are read before anything is written.
+pub fn end_definition(memory: &mut Memory) -> Result<(), Full>
+    ensures { IsEnded memory.old memory.new result }
+{
+    let at = newest_count(memory);
+    let count = memory.byte(at);
+    let exit = cell_bytes(runtime(memory, Control::Exit));
+    lay(memory, &exit)?;
+    memory.set_byte(at, revealed(count));
+    memory.set_cell(STATE, 0);
+    Ok(())
+}

@@ -1,0 +1,79 @@
+//! Bytes at HERE.
+
+ghost use Rattle.std.specs.Prelude.{◌≡◌, ◌%◌, [], ◌∷◌, IfOk};
+ghost use Rattle.memory.specs.Bytes.{cell, cell_bytes};
+ghost use Rattle.compiling_words.specs.Code.{literal_code};
+ghost use Rattle.compiling_words.specs.Laying.{IsLaid, IsAllotted, can_allot};
+
+use crate::control::literal_code;
+use dictionary::{fits, lay_at};
+use memory::system::DP;
+use memory::{Memory, cell_bytes};
+use thiserror::Error;
+
+/// The dictionary has no room for the bytes: they would end behind 61,440.
+#[derive(Clone, Copy, Debug, PartialEq, Eq, Error)]
+#[error("Full")]
+pub struct Full;
+
+/// Lays bytes, and answers where they begin: HERE as it was.
+pub fn lay(memory: &mut Memory, bytes: &[u8]) -> Result<u16, Full>
+    ensures laid { IsLaid memory.old memory.new bytes.now result }
+    ensures place { IfOk result (λ a. a ≡ cell memory.old DP) }
+{
+    if !fits(memory, bytes.len()) {
+        return Err(Full);
+    }
+    let here = memory.cell(DP);
+    lay_at(memory, here, bytes);
+    Ok(here)
+}
+
+/// Lays a cell (Forth-83 `,`).
+pub fn comma(memory: &mut Memory, x: u16) -> Result<(), Full>
+    ensures { IsLaid memory.old memory.new (cell_bytes x) result }
+{
+    lay(memory, &cell_bytes(x))?;
+    Ok(())
+}
+
+/// Lays a byte (Forth-83 `C,`).
+pub fn comma_byte(memory: &mut Memory, byte: u8) -> Result<(), Full>
+    ensures { IsLaid memory.old memory.new (byte ∷ []) result }
+{
+    lay(memory, &[byte])?;
+    Ok(())
+}
+
+/// Lays a literal (Forth-83 LITERAL): `(LIT)` and the cell.
+pub fn literal(memory: &mut Memory, x: u16) -> Result<(), Full>
+    ensures { IsLaid memory.old memory.new (literal_code memory.old x) result }
+{
+    let code = literal_code(memory, x);
+    lay(memory, &code)?;
+    Ok(())
+}
+
+/// Whether HERE moved by `n`, a signed cell, is from 0 to 61,440.
+#[tactic(auto, unfolding(crate::specs::Laying::can_allot))]
+pub fn can_allot(memory: &Memory, n: u16) -> bool
+    ensures { result ≡ can_allot memory.now n }
+{
+    let end = i32::from(memory.cell(DP)) + i32::from(n.cast_signed());
+    if end < 0 {
+        return false;
+    }
+    end <= 61440
+}
+
+/// Moves HERE by `n`, a signed cell (Forth-83 ALLOT). `Full` where it would be below 0 or above 61,440.
+pub fn allot(memory: &mut Memory, n: u16) -> Result<(), Full>
+    ensures { IsAllotted memory.old memory.new n result }
+{
+    if !can_allot(memory, n) {
+        return Err(Full);
+    }
+    let here = memory.cell(DP);
+    memory.set_cell(DP, here.wrapping_add(n));
+    Ok(())
+}

@@ -1,0 +1,59 @@
+//! Texts in the thread.
+
+ghost use Rattle.std.specs.Prelude.{◌≡◌, ◌≤◌, length};
+ghost use Rattle.compiling_words.specs.Code.{runtime, text_number, text_code};
+ghost use Rattle.compiling_words.specs.Laying.{IsLaid};
+ghost use Rattle.dictionary.specs.Laying.{laid_at};
+
+use crate::control::{Control, runtime};
+use crate::laying::Full;
+use dictionary::fits;
+use memory::Memory;
+use memory::system::DP;
+
+/// The two words that lay a text.
+#[derive(Clone, Copy, Debug, PartialEq, Eq)]
+pub enum TextWord {
+    /// `."`, which lays `(.")`
+    Show,
+    /// `ABORT"`, which lays `(ABORT")`
+    Abort,
+}
+
+/// The control primitive that a word lays before its text.
+pub fn runtime_of(memory: &Memory, word: TextWord) -> u16
+    ensures { result ≡ runtime memory.now (text_number word) }
+{
+    match word {
+        TextWord::Show => runtime(memory, Control::ShowText),
+        TextWord::Abort => runtime(memory, Control::AbortText),
+    }
+}
+
+/// Lays a token, the count of a text of at most 255 bytes, and the text at an address, and sets DP behind them.
+#[tactic(auto, using(crate::proofs::Texts::texts), unfolding(dictionary::specs::Laying::laid_at))]
+pub fn lay_text(memory: &mut Memory, here: u16, token: u16, text: &[u8])
+    requires { length text.now ≤ 255 }
+    ensures { memory.new ≡ laid_at here memory.old (text_code token text.now) }
+{
+    memory.set_cell(here, token);
+    memory.set_byte(here.wrapping_add(2), text.len() as u8);
+    memory.set_bytes(here.wrapping_add(3), text);
+    memory.set_cell(DP, here.wrapping_add(3 + text.len() as u16));
+}
+
+/// Lays a text of at most 255 bytes (Forth-83 `."` and `ABORT"`): the control primitive of `word`, a count byte, the
+/// text.
+#[tactic(auto, using(crate::proofs::Texts::texts))]
+pub fn inline_text(memory: &mut Memory, word: TextWord, text: &[u8]) -> Result<(), Full>
+    requires { length text.now ≤ 255 }
+    ensures { IsLaid memory.old memory.new (text_code (runtime memory.old (text_number word)) text.now) result }
+{
+    if !fits(memory, 3 + text.len()) {
+        return Err(Full);
+    }
+    let here = memory.cell(DP);
+    let token = runtime_of(memory, word);
+    lay_text(memory, here, token, text);
+    Ok(())
+}

@@ -1,0 +1,17 @@
+use Rattle.std.proofs.Common.{◌≡◌, ℕ, ◌<◌, ◌≤◌, List, refl, arith, nat_lt}
+use Rattle.std.specs.Prelude.{All, Contains, IsFalse}
+use Rattle.std.proofs.lemmas.List.Elements.{All-weaker}
+use Rattle.dictionary.specs.Chain.{IsNewest}
+use Rattle.dictionary.specs.Order.{members}
+use Rattle.dictionary.specs.Forget.{first_below}
+use Rattle.dictionary.proofs.Firsts.{newest_first, none_first}
+
+pub newest_below : (m : List ℕ) (t head l : ℕ) → Contains (members m head) l → l < t
+    → IsNewest (λ k. nat_lt k t) (members m head) (first_below t (members m head))
+unfolding first_below
+newest_below m t head l c h = newest_first (λ (k : ℕ). nat_lt k t) (members m head) l c (grind arith)
+
+pub none_below : (m : List ℕ) (t head : ℕ) → All (λ k. t ≤ k) (members m head) → first_below t (members m head) ≡ 0
+unfolding first_below
+none_below m t head h =
+    rw (none_first (λ (k : ℕ). nat_lt k t) (members m head) (All-weaker (λ (k : ℕ). t ≤ k) (λ (k : ℕ). IsFalse (nat_lt k t)) (λ k q. grind arith) (members m head) h)) refl

@@ -1,0 +1,12 @@
+pub mod Names
+pub mod Chains
+pub mod Hiding
+pub mod Pieces
+pub mod Counts
+pub mod Cuts
+pub mod Marking
+pub mod Firsts
+pub mod Unnamed
+pub mod Ascending
+pub mod Cleared
+pub mod Kept

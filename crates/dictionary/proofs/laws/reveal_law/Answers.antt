@@ -1,0 +1,5 @@
+use Rattle.dictionary.proofs.Cleared.{reveal_new}
+use Rattle.dictionary.proofs.laws.reveal_law.Goals as goal
+
+pub returns : goal.returns
+returns c = reveal_new

@@ -1,0 +1,79 @@
+use Rattle.std.specs.Prelude.{ℕ, ◌+◌, List, [], ◌∷◌, ◌++◌, ◌≡◌, Bool, false, ◌&&◌, if◌then◌else◌, nat_le, length, Result, Ok, Err, IsTrue, IsFalse}
+use Rattle.cells.specs.Cell.{wrap}
+use Rattle.memory.specs.Bytes.{cell, put_cell, cell_bytes}
+use Rattle.memory.specs.declared.system.TheConstants.{BLK, DP, LAST, CURRENT, VOC_LINK}
+use Rattle.dictionary.specs.declared.fault.AddFault.{AddFault}
+use Rattle.dictionary.specs.declared.fault.AddFault.TheVariants.{NameLength, Full}
+use Rattle.dictionary.specs.declared.site.Site.{Site}
+use Rattle.dictionary.specs.Search.{head_of}
+use Rattle.dictionary.specs.Laying.{fits, laid_at}
+
+-- a name has 1 to 31 bytes
+unfoldable pub is_name : List ℕ → Bool
+is_name name = nat_le 1 (length name) && nat_le (length name) 31
+
+-- the count byte of a new header: bit 7 is set, and bit 5 where it is hidden
+abbrev pub new_count : Bool → List ℕ → ℕ
+new_count hidden name = (if hidden then 160 else 128) + length name
+
+-- a header: view, link, count byte, name, code field, and what is laid with it
+unfoldable pub header_bytes : ℕ → ℕ → ℕ → List ℕ → ℕ → List ℕ → List ℕ
+header_bytes view link count name code extra =
+    cell_bytes view ++ cell_bytes link ++ (count ∷ []) ++ name ++ cell_bytes code ++ extra
+
+-- what a new header takes from memory: HERE, the block of its view, the head of the chain of its name's class in
+-- CURRENT, and the newest header of that chain
+unfoldable pub site_of : List ℕ → List ℕ → Site
+site_of m name = record {
+  here = cell m DP;
+  view = cell m BLK;
+  link = cell m (head_of (cell m CURRENT) name);
+  head = head_of (cell m CURRENT) name;
+}
+
+-- memory with a header laid at its site, then in its chain, then in LAST
+unfoldable pub with_header_at : Site → List ℕ → List ℕ → ℕ → List ℕ → Bool → List ℕ
+with_header_at site m name code extra hidden =
+    put_cell (put_cell
+    (laid_at site.here m (header_bytes site.view site.link (new_count hidden name) name code extra))
+    site.head (wrap (site.here + 2)))
+    LAST (wrap (site.here + 2))
+
+-- memory with a header at HERE
+unfoldable pub with_header : List ℕ → List ℕ → ℕ → List ℕ → Bool → List ℕ
+with_header m name code extra hidden = with_header_at (site_of m name) m name code extra hidden
+
+-- how many bytes a header has with what is laid with it
+abbrev pub header_size : List ℕ → List ℕ → ℕ
+header_size name extra = 7 + length name + length extra
+
+-- a header can be added, or why not
+abbrev pub IsAddable : List ℕ → List ℕ → List ℕ → Result Unit AddFault → Type 0
+IsAddable m name extra (Ok _) = IsTrue (is_name name) × IsTrue (fits m (header_size name extra))
+IsAddable m name extra (Err NameLength) = IsFalse (is_name name)
+IsAddable m name extra (Err Full) = IsTrue (is_name name) × IsFalse (fits m (header_size name extra))
+
+abbrev pub IsAdded : List ℕ → List ℕ → List ℕ → ℕ → List ℕ → Bool → Result Unit AddFault → Type 0
+IsAdded old new name code extra hidden (Ok added) =
+    IsAddable old name extra (Ok added) × (new ≡ with_header old name code extra hidden)
+IsAdded old new name code extra hidden (Err fault) = IsAddable old name extra (Err fault) × (new ≡ old)
+
+-- the record of a new vocabulary: four empty chains, and the newest record before it
+unfoldable pub record_bytes : ℕ → List ℕ
+record_bytes newest = cell_bytes 0 ++ cell_bytes 0 ++ cell_bytes 0 ++ cell_bytes 0 ++ cell_bytes newest
+
+-- memory with a vocabulary's header and record at a site, and last its record in VOC-LINK
+unfoldable pub with_vocabulary_at : Site → ℕ → List ℕ → List ℕ → List ℕ
+with_vocabulary_at site newest m name =
+    put_cell (with_header_at site m name 4 (record_bytes newest) false)
+    VOC_LINK (wrap (site.here + (7 + length name)))
+
+-- memory with a vocabulary at HERE
+unfoldable pub with_vocabulary : List ℕ → List ℕ → List ℕ
+with_vocabulary m name = with_vocabulary_at (site_of m name) (cell m VOC_LINK) m name
+
+abbrev pub IsVocabularyAdded : List ℕ → List ℕ → List ℕ → Result Unit AddFault → Type 0
+IsVocabularyAdded old new name (Ok added) =
+    IsAddable old name (record_bytes (cell old VOC_LINK)) (Ok added) × (new ≡ with_vocabulary old name)
+IsVocabularyAdded old new name (Err fault) =
+    IsAddable old name (record_bytes (cell old VOC_LINK)) (Err fault) × (new ≡ old)

@@ -1,0 +1,70 @@
+use Rattle.std.specs.Prelude.{ℕ, ◌+◌, ◌<◌, List, [], ◌∷◌, ◌++◌, ◌≡◌, ◌==◌, Bool, not, ◌&&◌, ◌||◌, nat_lt, nat_le, if◌then◌else◌, length, flat_map, find, unwrap_or, Result, Ok, Err, IsTrue, IsFalse}
+use Rattle.cells.specs.Cell.{wrap, difference}
+use Rattle.memory.specs.Bytes.{cell, put_cell}
+use Rattle.memory.specs.declared.system.TheConstants.{DP, LAST, CONTEXT, CURRENT, FORTH_VOC, VOC_LINK, FENCE}
+use Rattle.dictionary.specs.declared.fault.ForgetFault.{ForgetFault}
+use Rattle.dictionary.specs.declared.fault.ForgetFault.TheVariants.{NameLength, NotFound, ChainTooLong}
+use Rattle.dictionary.specs.Search.{found_in, is_too_long_in}
+use Rattle.dictionary.specs.Order.{records, members, is_beyond_limit}
+
+-- where the header begins that a name means in CURRENT's vocabulary: at its view cell
+unfoldable pub target : List ℕ → List ℕ → ℕ
+target m name = difference (found_in m (cell m CURRENT) name) 2
+
+-- the name means no header there, or one that begins below FENCE
+unfoldable pub is_kept : List ℕ → List ℕ → Bool
+is_kept m name = (found_in m (cell m CURRENT) name == 0) || nat_lt (target m name) (cell m FENCE)
+
+-- where the header begins that can be forgotten, or why there is none
+abbrev pub IsTarget : List ℕ → List ℕ → Result ℕ ForgetFault → Type 0
+IsTarget m name (Err NameLength) = length name ≡ 0
+IsTarget m name (Err NotFound) =
+    (0 < length name) × IsFalse (is_too_long_in m (cell m CURRENT) name) × IsTrue (is_kept m name)
+IsTarget m name (Err ChainTooLong) =
+    (0 < length name) × IsTrue (is_too_long_in m (cell m CURRENT) name || (not (is_kept m name) && is_beyond_limit m))
+IsTarget m name (Ok t) =
+    (0 < length name) × IsFalse (is_too_long_in m (cell m CURRENT) name) × IsFalse (is_kept m name)
+    × IsFalse (is_beyond_limit m) × (t ≡ target m name)
+
+-- cells written in turn, each an address and what goes there
+unfoldable pub written : List ℕ → List (ℕ × ℕ) → List ℕ
+written m [] = m
+written m (w ∷ ws) = written (put_cell m w.0 w.1) ws
+
+-- the first of a list that is below t, 0 where there is none
+unfoldable pub first_below : ℕ → List ℕ → ℕ
+first_below t ls = unwrap_or (find (λ l. nat_lt l t) ls) 0
+
+-- the newest record below t
+unfoldable pub kept_record : List ℕ → ℕ → ℕ
+kept_record m t = first_below t (records m 32769 (cell m VOC_LINK))
+
+-- a head goes to the first link field of its chain below t
+abbrev pub cut_head : List ℕ → ℕ → ℕ → ℕ × ℕ
+cut_head m t head = (head, first_below t (members m head))
+
+-- so do the four heads of a record
+abbrev pub cut_heads : List ℕ → ℕ → ℕ → List (ℕ × ℕ)
+cut_heads m t r =
+    cut_head m t r ∷ cut_head m t (wrap (r + 2)) ∷ cut_head m t (wrap (r + 4)) ∷ cut_head m t (wrap (r + 6)) ∷ []
+
+-- a cell that names a vocabulary at t or above goes to FORTH's
+unfoldable pub cut_vocabulary : List ℕ → ℕ → ℕ → List (ℕ × ℕ)
+cut_vocabulary m t place = if nat_le t (cell m place) then (place, FORTH_VOC) ∷ [] else []
+
+-- all that is written where what stands at t and above is forgotten, in order, out of the memory before
+unfoldable pub cuts : List ℕ → ℕ → List (ℕ × ℕ)
+cuts m t =
+    (VOC_LINK, kept_record m t) ∷ (flat_map (cut_heads m t) (records m 32769 (kept_record m t))
+    ++ ((DP, t) ∷ (cut_vocabulary m t CONTEXT ++ (cut_vocabulary m t CURRENT ++ ((LAST, 0) ∷ [])))))
+
+unfoldable pub forgotten : List ℕ → ℕ → List ℕ
+forgotten m t = written m (cuts m t)
+
+abbrev pub IsForgotten : List ℕ → List ℕ → List ℕ → Result Unit ForgetFault → Type 0
+IsForgotten old new name (Ok _) = IsTarget old name (Ok (target old name)) × (new ≡ forgotten old (target old name))
+IsForgotten old new name (Err fault) = IsTarget old name (Err fault) × (new ≡ old)
+
+-- the writes to the heads of the first n records from r on, made in m out of the memory before
+unfoldable pub cut_all : List ℕ → ℕ → ℕ → ℕ → List ℕ → List ℕ
+cut_all before t n r m = written m (flat_map (cut_heads before t) (records before n r))

@@ -1,0 +1,12 @@
+use Rattle.std.specs.Prelude.{ℕ, ◌+◌, List, Bool, nat_le, length}
+use Rattle.cells.specs.Cell.{wrap}
+use Rattle.memory.specs.Bytes.{cell, put_cell, put_bytes}
+use Rattle.memory.specs.declared.system.TheConstants.{DP}
+
+-- n bytes at HERE end at 61,440 at the latest, where the block buffers begin
+unfoldable pub fits : List ℕ → ℕ → Bool
+fits m n = nat_le (cell m DP + n) 61440
+
+-- the bytes at an address, and then DP behind them
+unfoldable pub laid_at : ℕ → List ℕ → List ℕ → List ℕ
+laid_at here m bs = put_cell (put_bytes m here bs) DP (wrap (here + length bs))

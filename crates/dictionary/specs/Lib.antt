@@ -1,0 +1,9 @@
+pub mod Header
+pub mod Chain
+pub mod Search
+pub mod Laying
+pub mod Adding
+pub mod Newest
+pub mod Order
+pub mod Forget
+pub mod Marks

@@ -1,0 +1,71 @@
+//! Laws of the dictionary.
+
+ghost use Rattle.std.specs.Prelude.{◌≡◌, ◌<◌, ◌≤◌, ◌↔◌, ℕ, List, length, slice_index, All, Contains, IsTrue, IsFalse, true, false, nat_lt};
+ghost use Rattle.std.specs.List.Sorted.{IsStrictlyIncreasing};
+ghost use Rattle.memory.specs.Bytes.{cell};
+ghost use Rattle.memory.specs.declared.system.TheConstants.{FORTH_VOC, VOC_LINK};
+ghost use Rattle.dictionary.specs.Header.{is_named};
+ghost use Rattle.dictionary.specs.Chain.{IsNewest};
+ghost use Rattle.dictionary.specs.Search.{chain_in, searched_in, goes_on_in, found_in, is_too_long_in, found_from, is_too_long_from};
+ghost use Rattle.dictionary.specs.Adding.{is_name, new_count};
+ghost use Rattle.dictionary.specs.Newest.{revealed};
+ghost use Rattle.dictionary.specs.Order.{members, all_members, headers};
+ghost use Rattle.dictionary.specs.Forget.{first_below};
+
+/// Where a name stands unhidden in its chain, and the chain has no more than 32,768 members, a search gives the newest
+/// header of that name. Where it doesn't stand there, the search in FORTH decides.
+pub fn search_law()
+    ensures newest { (m name : List ℕ) (voc l : ℕ) → 0 < length name → length (chain_in m voc name) ≤ 32768
+        → Contains (chain_in m voc name) l → IsTrue (is_named m name l)
+        → IsNewest (is_named m name) (chain_in m voc name) (found_from m voc name) }
+    ensures forth { (m name : List ℕ) (voc : ℕ) → 0 < length name → length (chain_in m voc name) ≤ 32768
+        → All (λ l. IsFalse (is_named m name l)) (chain_in m voc name)
+        → found_from m voc name ≡ found_in m FORTH_VOC name }
+{}
+
+/// A search looks at 32,768 members of a chain: where these are the same in two memories and have the same names, and
+/// both chains end there or both go on, it gives the same. What stands behind them doesn't matter.
+pub fn walk_law()
+    ensures found { (m n name : List ℕ) (voc : ℕ) → searched_in m voc name ≡ searched_in n voc name
+        → All (λ l. is_named m name l ≡ is_named n name l) (searched_in m voc name)
+        → found_in m voc name ≡ found_in n voc name }
+    ensures too_long { (m n name : List ℕ) (voc : ℕ) → searched_in m voc name ≡ searched_in n voc name
+        → All (λ l. is_named m name l ≡ is_named n name l) (searched_in m voc name)
+        → goes_on_in m voc name ≡ goes_on_in n voc name
+        → is_too_long_in m voc name ≡ is_too_long_in n voc name }
+{}
+
+/// A name of no or of more than 31 bytes is never found, and for the empty name no chain is walked.
+pub fn name_law()
+    ensures found { (m name : List ℕ) (voc : ℕ) → IsFalse (is_name name) → found_from m voc name ≡ 0 }
+    ensures empty { (m name : List ℕ) (voc : ℕ) → length name ≡ 0 → IsFalse (is_too_long_from m voc name) }
+{}
+
+/// Names of more than 31 bytes with the same first byte are searched alike, so a longer one may be cut to 32 bytes. They
+/// aren't found, and walk the same chains.
+pub fn long_name_law()
+    ensures never { (m name : List ℕ) (voc : ℕ) → 31 < length name → found_in m voc name ≡ 0 }
+    ensures alone { (m name other : List ℕ) (voc : ℕ) → 31 < length name → 31 < length other
+        → slice_index name 0 ≡ slice_index other 0 → is_too_long_in m voc name ≡ is_too_long_in m voc other }
+    ensures from { (m name other : List ℕ) (voc : ℕ) → 31 < length name → 31 < length other
+        → slice_index name 0 ≡ slice_index other 0 → is_too_long_from m voc name ≡ is_too_long_from m voc other }
+{}
+
+/// The headers are in the order of their addresses, none stands twice, and they are the members of all chains.
+pub fn headers_law()
+    ensures ascending { (m : List ℕ) → IsStrictlyIncreasing (headers m) }
+    ensures members { (m : List ℕ) (l : ℕ) → l < 65536
+        → (Contains (headers m) l ↔ Contains (all_members m 32769 (cell m VOC_LINK)) l) }
+{}
+
+/// Where a chain has a member below `t`, FORGET keeps the newest of these in its head; else the head becomes 0.
+pub fn forget_law()
+    ensures newest { (m : List ℕ) (t head l : ℕ) → Contains (members m head) l → l < t
+        → IsNewest (λ k. nat_lt k t) (members m head) (first_below t (members m head)) }
+    ensures none { (m : List ℕ) (t head : ℕ) → All (λ k. t ≤ k) (members m head) → first_below t (members m head) ≡ 0 }
+{}
+
+/// What is revealed has the count byte that it would have had unhidden.
+pub fn reveal_law()
+    ensures { (name : List ℕ) → length name ≤ 31 → revealed (new_count true name) ≡ new_count false name }
+{}

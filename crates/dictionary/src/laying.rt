@@ -1,0 +1,30 @@
+//! Bytes laid at HERE.
+
+ghost use Rattle.std.specs.Prelude.{◌≡◌, ◌≤◌, length, IsTrue};
+ghost use Rattle.dictionary.specs.Laying.{fits, laid_at};
+
+use memory::system::DP;
+use memory::{FIRST_BUFFER, Memory};
+
+/// Whether `n` bytes fit at HERE: they end at 61,440 at the latest, where the block buffers begin.
+#[tactic(auto, unfolding(crate::specs::Laying::fits))]
+pub fn fits(memory: &Memory, n: usize) -> bool
+    ensures value { result ≡ fits memory.now n }
+    ensures bound { IsTrue result → n ≤ 61440 }
+{
+    let here = usize::from(memory.cell(DP));
+    if here > FIRST_BUFFER {
+        return false;
+    }
+    n <= FIRST_BUFFER - here
+}
+
+/// Lays bytes at an address, and sets DP behind them.
+#[tactic(auto, unfolding(crate::specs::Laying::laid_at))]
+pub fn lay_at(memory: &mut Memory, here: u16, bytes: &[u8])
+    requires { length bytes.now ≤ 61440 }
+    ensures { memory.new ≡ laid_at here memory.old bytes.now }
+{
+    memory.set_bytes(here, bytes);
+    memory.set_cell(DP, here.wrapping_add(bytes.len() as u16));
+}

@@ -1,0 +1,96 @@
+//! Headers as they stand in memory.
+
+ghost use Rattle.std.specs.Prelude.{◌≡◌, ◌++◌, ◌==◌, bytes_eq};
+ghost use Rattle.memory.specs.Bytes.{cell};
+ghost use Rattle.dictionary.specs.Header.{view_of, count_byte, name_length, is_hidden, is_immediate, name_of, compilation_address, is_named, is_named_but, header_of};
+
+use crate::bits::{CountByte, count_byte};
+use crate::fields::Header;
+use bitflags::Flags;
+use memory::Memory;
+
+/// How many bytes the name of the header at `link_field` has, 0 to 31.
+#[tactic(auto, unfolding(crate::specs::Header::name_length))]
+fn name_length(memory: &Memory, link_field: u16) -> u8
+    ensures { result ≡ name_length memory.now link_field }
+{
+    count_byte(memory, link_field).0 & 31
+}
+
+/// Whether no search finds the header at `link_field`.
+#[tactic(auto, unfolding(crate::specs::Header::is_hidden))]
+fn is_hidden(memory: &Memory, link_field: u16) -> bool
+    ensures { result ≡ is_hidden memory.now link_field }
+{
+    count_byte(memory, link_field).contains(CountByte::HIDDEN)
+}
+
+/// Whether the header at `link_field` is immediate (Forth-83 IMMEDIATE).
+#[tactic(auto, unfolding(crate::specs::Header::is_immediate))]
+pub fn is_immediate(memory: &Memory, link_field: u16) -> bool
+    ensures { result ≡ is_immediate memory.now link_field }
+{
+    count_byte(memory, link_field).contains(CountByte::IMMEDIATE)
+}
+
+/// The compilation address of the header at `link_field`: where its code field stands.
+#[tactic(auto, unfolding(crate::specs::Header::compilation_address))]
+pub fn compilation_address(memory: &Memory, link_field: u16) -> u16
+    ensures { result ≡ compilation_address memory.now link_field }
+{
+    link_field.wrapping_add(3 + u16::from(name_length(memory, link_field)))
+}
+
+/// All that the header at `link_field` says.
+#[tactic(auto, unfolding(crate::specs::Header::view_of))]
+pub fn header(memory: &Memory, link_field: u16) -> Header
+    ensures { result ≡ header_of memory.now link_field }
+{
+    Header {
+        view: memory.cell(link_field.wrapping_sub(2)),
+        link: memory.cell(link_field),
+        length: name_length(memory, link_field),
+        immediate: is_immediate(memory, link_field),
+        hidden: is_hidden(memory, link_field),
+        compilation_address: compilation_address(memory, link_field),
+    }
+}
+
+/// Whether a name that comes in two pieces is `name`.
+#[tactic(auto, using(crate::proofs::Names::bytes_eq_pieces, crate::proofs::Names::bytes_eq_short))]
+fn is_same(head: &[u8], tail: &[u8], name: &[u8]) -> bool
+    ensures { result ≡ bytes_eq (head.now ++ tail.now) name.now }
+{
+    if name.len() < head.len() {
+        return false;
+    }
+    let (front, back) = name.split_at(head.len());
+    if head != front {
+        return false;
+    }
+    tail == back
+}
+
+/// Whether the header at `link_field` is unhidden and has that name.
+#[tactic(auto, unfolding(crate::specs::Header::is_named, crate::specs::Header::name_of))]
+fn is_named(memory: &Memory, link_field: u16, name: &[u8]) -> bool
+    ensures { result ≡ is_named memory.now name.now link_field }
+{
+    if is_hidden(memory, link_field) {
+        return false;
+    }
+    let length = u16::from(name_length(memory, link_field));
+    let (head, tail) = memory.span(link_field.wrapping_add(3), length);
+    is_same(head, tail, name)
+}
+
+/// The same, where the header at `hidden` counts as hidden.
+#[tactic(auto, unfolding(crate::specs::Header::is_named_but))]
+pub fn is_named_but(memory: &Memory, link_field: u16, name: &[u8], hidden: u16) -> bool
+    ensures { result ≡ is_named_but memory.now name.now hidden link_field }
+{
+    if !is_named(memory, link_field, name) {
+        return false;
+    }
+    link_field != hidden
+}

@@ -1,0 +1,97 @@
+//! The subcommands, over values.
+
+ghost use Rattle.std.specs.Prelude.{◌≡◌, false};
+
+use block_buffers::Device;
+use image_loader::{Image, ImageFault};
+use inner_interpreter::{Input, Machine, Output, Stop, run, send_all};
+use memory::OutOfMemory;
+use std::alloc::{AllocError, Global};
+
+/// How a subcommand ended: the program's status, and the bytes of the file that it makes, if it makes one.
+#[derive(Drop)]
+pub struct Ended {
+    pub status: u8,
+    pub file: Option<Vec<u8>>,
+}
+
+fn end_with(status: u8) -> Ended {
+    Ended { status, file: None }
+}
+
+fn status_of(stop: Stop) -> u8 {
+    match stop {
+        Stop::Bye | Stop::InputEnded => 0,
+        Stop::Fault(_) => 3,
+        Stop::Limit => 4,
+        Stop::InputFault | Stop::OutputFault => 5,
+    }
+}
+
+/// Prints a line, and ends with the status, or with 5 where the line can't be written.
+fn print<W: Output>(writer: &mut W, line: &[u8], status: u8) -> Ended {
+    if send_all(writer, line).is_err() {
+        return end_with(5);
+    }
+    match writer.flush() {
+        Ok(()) => end_with(status),
+        Err(_) => end_with(5),
+    }
+}
+
+fn print_out_of_memory<W: Output>(writer: &mut W) -> Ended {
+    print(writer, b"out of memory\n", 1)
+}
+
+fn refusal(alloc: Global, fault: ImageFault) -> Result<String, AllocError> {
+    format!(in alloc; "image: {fault}\n")
+}
+
+/// Prints why bytes are no image.
+fn refuse_image<W: Output>(alloc: Global, fault: ImageFault, writer: &mut W) -> Ended {
+    if fault == ImageFault::OutOfMemory {
+        return print_out_of_memory(writer);
+    }
+    match refusal(alloc, fault) {
+        Ok(line) => print(writer, line.as_str().as_bytes(), 1),
+        Err(_) => print_out_of_memory(writer),
+    }
+}
+
+/// Loads an image and runs it for at most `limit` ticks. Status 0: BYE or the end of input; 1: the bytes are no
+/// image (`image: CAUSE` is printed) or memory ran out; 3: a fault; 4: the limit; 5: an end failed.
+pub fn do_run<R: Input, W: Output, D: Device>(
+    alloc: Global,
+    image: &[u8],
+    device: &mut D,
+    limit: u64,
+    reader: &mut R,
+    writer: &mut W,
+) -> Ended
+    requires reader { R.failed reader.old ≡ false }
+    requires writer { W.failed writer.old ≡ false }
+{
+    let image = match image_loader::read(alloc, image) {
+        Ok(image) => image,
+        Err(fault) => return refuse_image(alloc, fault, writer),
+    };
+    match load_and_run(alloc, &image, device, limit, reader, writer) {
+        Ok(stop) => end_with(status_of(stop)),
+        Err(OutOfMemory) => print_out_of_memory(writer),
+    }
+}
+
+fn load_and_run<R: Input, W: Output, D: Device>(
+    alloc: Global,
+    image: &Image,
+    device: &mut D,
+    limit: u64,
+    reader: &mut R,
+    writer: &mut W,
+) -> Result<Stop, OutOfMemory>
+    requires reader { R.failed reader.old ≡ false }
+    requires writer { W.failed writer.old ≡ false }
+{
+    let mut machine = Machine::load(alloc, image, device.count())?;
+    run(alloc, &mut machine, reader, writer, device, limit)
+}

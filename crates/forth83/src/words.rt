@@ -1,0 +1,121 @@
+//! The command line.
+
+use clap::error::ErrorKind;
+use clap::{Arg, ArgMatches, Command, value_parser};
+use std::alloc::{AllocError, Global};
+use std::env;
+
+/// How many ticks a run may take where no limit is given.
+const DEFAULT_LIMIT: u64 = 1_000_000_000_000;
+
+/// A subcommand with its words.
+#[derive(Drop)]
+pub enum Words {
+    Run {
+        image: String,
+        blocks: Option<String>,
+        limit: u64,
+    },
+}
+
+/// What became of the command line.
+#[derive(Drop)]
+pub enum Parsed {
+    Words(Words),
+    /// `clap`'s text was printed; the program ends with this status.
+    Exit(u8),
+    OutOfMemory,
+}
+
+fn run_command<'a>(alloc: Global) -> Result<Command<'a>, AllocError> {
+    let limit = Arg::new(alloc, "limit")
+        .long("limit")
+        .value_name("N")
+        .value_parser(value_parser!(u64))
+        .default_value("1000000000000")
+        .help("Stop after N ticks");
+    Command::new(alloc, "run")
+        .about("Run an image over standard input and output")
+        .arg(
+            Arg::new(alloc, "IMAGE")
+                .required(true)
+                .help("The image file"),
+        )?
+        .arg(Arg::new(alloc, "BLOCKS").help("A file of blocks of 1,024 bytes"))?
+        .arg(limit)
+}
+
+fn command<'a>(alloc: Global) -> Result<Command<'a>, AllocError> {
+    Command::new(alloc, "forth83")
+        .about("A Forth-83 system with block storage")
+        .subcommand_required(true)
+        .arg_required_else_help(true)
+        .subcommand(run_command(alloc)?)
+}
+
+fn copied(alloc: Global, matches: &ArgMatches<'_>, id: &str) -> Result<Option<String>, AllocError> {
+    match matches.get_str(id) {
+        None => Ok(None),
+        Some(text) => Ok(Some(String::from_str(alloc, text)?)),
+    }
+}
+
+fn words_of(alloc: Global, matches: &ArgMatches<'_>) -> Result<Option<Words>, AllocError> {
+    let Some((_name, inner)) = matches.subcommand() else {
+        return Ok(None);
+    };
+    let Some(image) = copied(alloc, inner, "IMAGE")? else {
+        return Ok(None);
+    };
+    let blocks = copied(alloc, inner, "BLOCKS")?;
+    let limit = inner.get_one::<u64>("limit").unwrap_or(DEFAULT_LIMIT);
+    Ok(Some(Words::Run {
+        image,
+        blocks,
+        limit,
+    }))
+}
+
+/// Prints a text of `clap`'s, to standard output like everything that the program prints.
+fn print(rt: &HostRuntime, error: &clap::Error) -> Parsed {
+    if rt.print(error).is_err() {
+        return Parsed::Exit(5);
+    }
+    Parsed::Exit(if error.use_stderr() { 2 } else { 0 })
+}
+
+/// An argument that is no text is a usage error.
+fn refuse_bytes(rt: &HostRuntime) -> Parsed {
+    match println!(rt; "error: an argument is no text") {
+        Ok(()) => Parsed::Exit(2),
+        Err(_) => Parsed::Exit(5),
+    }
+}
+
+/// Reads the words that the program was started with.
+pub fn parse(rt: &HostRuntime) -> Parsed {
+    let alloc = rt.alloc();
+    let Ok(words) = env::args(rt) else {
+        return refuse_bytes(rt);
+    };
+    let words: Result<Vec<String>, AllocError> = words.collect(alloc);
+    let Ok(words) = words else {
+        return Parsed::OutOfMemory;
+    };
+    let Ok(command) = command(alloc) else {
+        return Parsed::OutOfMemory;
+    };
+    match command.try_get_matches_from(words.as_slice()) {
+        Ok(matches) => match words_of(alloc, &matches) {
+            Ok(Some(words)) => Parsed::Words(words),
+            Ok(None) => Parsed::Exit(2),
+            Err(_) => Parsed::OutOfMemory,
+        },
+        Err(error) => {
+            if error.kind() == ErrorKind::OutOfMemory {
+                return Parsed::OutOfMemory;
+            }
+            print(rt, &error)
+        }
+    }
+}

@@ -1,0 +1,26 @@
+//! Why bytes are not read as an image.
+
+use thiserror::Error;
+
+/// Why bytes are not read as an image. Each fault is spelled as its variant.
+#[derive(Clone, Copy, Debug, PartialEq, Eq, Error)]
+pub enum ImageFault {
+    /// The bytes are the beginning of a file, and end too soon.
+    #[error("Truncated")]
+    Truncated,
+    /// The first bytes are not `FTH83IMG`.
+    #[error("BadMagic")]
+    BadMagic,
+    /// The version is not 1.
+    #[error("BadVersion")]
+    BadVersion,
+    /// The size is below 256 or above 61,440.
+    #[error("BadSize")]
+    BadSize,
+    /// There are bytes behind the end of the file.
+    #[error("TrailingBytes")]
+    TrailingBytes,
+    /// The bytes are a file, and there was no memory for its image.
+    #[error("OutOfMemory")]
+    OutOfMemory,
+}

@@ -1,0 +1,26 @@
+//! Images as files: a header of 14 bytes, and then the bytes of memory.
+#![tactic(auto)]
+
+mod fault;
+mod header;
+mod image;
+mod reader;
+mod writer;
+
+pub use fault::ImageFault;
+pub use image::Image;
+pub use reader::read;
+pub use writer::write;
+
+#[cfg(test)]
+mod tests;
+
+ghost use Rattle.std.specs.Prelude.{◌≡◌, List, ℕ};
+ghost use Rattle.image_loader.specs.Files.{Contents, IsFile};
+
+/// The law of files: bytes are the file of one image at most. So what `read` gives of what
+/// `write` made of an image is that image.
+pub fn file_law()
+    ensures { (bytes : List ℕ) (first second : Contents) →
+        IsFile bytes first → IsFile bytes second → first ≡ second }
+{}

@@ -1,0 +1,56 @@
+//! Reading images.
+
+ghost use Rattle.std.specs.Prelude.{◌≡◌, ◌↔◌, IfOk, MatchResult, IsErrOf};
+ghost use Rattle.image_loader.specs.Files.{Contents, IsFile, IsCutShort, IsFollowed, HasBadMagic, HasBadVersion, HasBadSize};
+ghost use Rattle.image_loader.specs.Reading.{Gives, read_of};
+
+use crate::fault::ImageFault;
+use crate::header::{HEADER_SIZE, read_header};
+use crate::image::Image;
+use std::alloc::Global;
+
+/// Reads the image of which these bytes are the file.
+///
+/// The fields are looked at in the order of their places, and the first whose bytes fit no file
+/// gives the fault. Of a field that is cut off, the bytes that are there decide: any single byte
+/// of a size fits. Where all bytes fit and more are lacking, the fault is `Truncated`.
+pub fn read(alloc: Global, bytes: &[u8]) -> Result<Image, ImageFault>
+    // What is read is the image of which these bytes are the file.
+    ensures found { IfOk result (λ image. IsFile bytes.now image) }
+
+    // Each file is read, unless memory runs out, and it runs out over files alone.
+    ensures accepted { (image : Contents) → IsFile bytes.now image →
+        MatchResult result (λ found. found ≡ image) (λ fault. fault ≡ ImageFault.OutOfMemory) }
+    ensures out_of_memory { IsErrOf result ImageFault.OutOfMemory →
+        (image : Contents) × IsFile bytes.now image }
+
+    // Bytes that are lacking, and bytes that are too many.
+    ensures truncated { IsErrOf result ImageFault.Truncated ↔ IsCutShort bytes.now }
+    ensures trailing { IsErrOf result ImageFault.TrailingBytes ↔ IsFollowed bytes.now }
+
+    // The first field whose bytes fit no file.
+    ensures bad_magic { IsErrOf result ImageFault.BadMagic ↔ HasBadMagic bytes.now }
+    ensures bad_version { IsErrOf result ImageFault.BadVersion ↔ HasBadVersion bytes.now }
+    ensures bad_size { IsErrOf result ImageFault.BadSize ↔ HasBadSize bytes.now }
+{
+    read_fields(alloc, bytes)
+}
+
+/// Reads the header, and then as many bytes as it says.
+fn read_fields(alloc: Global, bytes: &[u8]) -> Result<Image, ImageFault>
+    ensures { Gives result (read_of bytes.now) }
+{
+    let (entry, size) = read_header(bytes)?;
+    let body = &bytes[HEADER_SIZE..];
+    let size = size as usize;
+    if body.len() < size {
+        return Err(ImageFault::Truncated);
+    }
+    if body.len() > size {
+        return Err(ImageFault::TrailingBytes);
+    }
+    match body.to_vec(alloc) {
+        Ok(bytes) => Ok(Image::new(entry, bytes)),
+        Err(_) => Err(ImageFault::OutOfMemory),
+    }
+}

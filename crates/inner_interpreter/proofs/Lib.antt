@@ -1,0 +1,10 @@
+pub mod Ran
+pub mod Sending
+pub mod Lining
+pub mod Answering
+pub mod Quiet
+pub mod Stretches
+pub mod Moving
+pub mod Running
+pub mod Ended
+pub mod Uniqueness

@@ -1,0 +1,160 @@
+-- Rounds of a run, by what its ends tell.
+use Rattle.std.proofs.Common.{◌≡◌, ℕ, ◌-◌, ◌<◌, ◌≤◌, List, [], ◌++◌, Option, None, Some, refl, sym, ap, ◌∙◌, append-nil, arith, Result, Ok, Err, OnOk}
+use Rattle.std.specs.Io.KnownBytes.{Appends, Keeps}
+use Rattle.block_buffers.specs.Disks.{Disk}
+use Rattle.plain_rows.specs.declared.parts.Request.{Request}
+use Rattle.inner_interpreter.specs.State.{State}
+use Rattle.inner_interpreter.specs.Tick.{running}
+use Rattle.inner_interpreter.specs.Answer.{answer_of, asked_by, fits, InputFault}
+use Rattle.inner_interpreter.specs.Moves.{shown_bytes}
+use Rattle.inner_interpreter.specs.Served.{Answered, served_move, Faults}
+use Rattle.inner_interpreter.specs.Sent.{AppendsPart, IsFront}
+use Rattle.inner_interpreter.specs.Runs.{World, round, round_by, rounds, answer_round, served}
+use Rattle.inner_interpreter.specs.Worlds.{IsAt, IsCut, IsFaulted, Made, MadeCut, stretch}
+use Rattle.inner_interpreter.proofs.Sending.{front_of}
+use Rattle.inner_interpreter.proofs.Stretches.{one_round, stretched, behind}
+
+pub asked_none : (wait : Option (Request × ℕ)) → asked_by wait ≡ None → wait ≡ None
+asked_none None e = refl
+asked_none (Some p) e = absurd (cc)
+
+pub runs_running : (s : State) → s.halt ≡ None → s.wait ≡ None → s ≡ running s.parts
+runs_running s h w = rw (h, w) refl
+
+round_answer : (w : World) (r : Request) → asked_by w.state.wait ≡ Some r → round w ≡ answer_round w r
+unfolding round
+round_answer w r e = ap (round_by w) e
+
+-- told bytes after bytes were appended
+sent_more : (old new : Option (List ℕ)) (xs bs : List ℕ) → old ≡ Some xs → Appends old new bs → new ≡ Some (xs ++ bs)
+sent_more None new xs bs e h = absurd (cc)
+sent_more (Some os) None xs bs e h = absurd h
+sent_more (Some os) (Some ns) xs bs e h = let same : os ≡ xs = cc in ap (λ v. Some v) (h ∙ ap (λ v. v ++ bs) same)
+
+sent_kept : (old new : Option (List ℕ)) (xs : List ℕ) → old ≡ Some xs → Keeps old new → new ≡ Some xs
+sent_kept None new xs e h = absurd (cc)
+sent_kept (Some os) None xs e h = absurd h
+sent_kept (Some os) (Some ns) xs e h = ap (λ v. Some v) h ∙ e
+
+pub stretch_at : (w : World) (s s' : State) (unread : Option (List ℕ)) (disk : Option Disk) (sent sent' : Option (List ℕ)) (left left' : ℕ)
+    → s.halt ≡ None → s.wait ≡ None → s' ≡ (stretch left s).1 → left' ≡ left - (stretch left s).0
+    → Appends sent sent' (shown_bytes (stretch left s).1.parts.memory (stretch left s).2.shown)
+    → IsAt w s unread disk sent left → Made w s' unread disk sent' left'
+stretch_at w s s' unread disk sent sent' left left' halt wait state fewer more at =
+    let same : w.state ≡ running s.parts = sym at.state_is ∙ runs_running s halt wait in
+    let most : left ≤ w.left = omega (arith, at.left_is) in
+    let made = stretched left 0 w s.parts same most in
+    let r = stretch left s in
+    let there : IsAt (behind w made.0 r.1 r.2) s' unread disk sent' left' = record {
+      state_is = state;
+      unread_is = at.unread_is;
+      disk_is = at.disk_is;
+      sent_is = sent_more sent sent' w.shown _ at.sent_is more;
+      left_is = omega (arith, at.left_is, fewer, made.1);
+    } in
+    (made.0, rw (made.2) there)
+
+pub stretch_cut : (w : World) (s s' : State) (unread : Option (List ℕ)) (disk : Option Disk) (sent sent' : Option (List ℕ)) (left : ℕ)
+    → s.halt ≡ None → s.wait ≡ None → s' ≡ (stretch left s).1
+    → AppendsPart sent sent' (shown_bytes (stretch left s).1.parts.memory (stretch left s).2.shown)
+    → IsAt w s unread disk sent left → MadeCut w s' unread disk sent'
+stretch_cut w s s' unread disk sent sent' left halt wait state more at =
+    let same : w.state ≡ running s.parts = sym at.state_is ∙ runs_running s halt wait in
+    let most : left ≤ w.left = omega (arith, at.left_is) in
+    let made = stretched left 0 w s.parts same most in
+    let r = stretch left s in
+    let f : IsFront sent' (w.shown ++ shown_bytes r.1.parts.memory r.2.shown) = front_of sent sent' w.shown _ at.sent_is more in
+    let there : IsCut (behind w made.0 r.1 r.2) s' unread disk sent' = record {
+      state_is = state;
+      unread_is = at.unread_is;
+      disk_is = at.disk_is;
+      front = f.0;
+      back = f.1;
+      shown_is = f.2;
+      sent_is = f.3;
+    } in
+    (made.0, rw (made.2) there)
+
+-- what an answer told of each known start
+abbrev pub Tells : State → Request → Option (List ℕ) → Option Disk → State → Option (List ℕ) → Option Disk → (List ℕ → Type 0) → Type 0
+Tells s r unread disk s' unread' disk' P =
+    (typed : List ℕ) → unread ≡ Some typed → (d : Disk) → disk ≡ Some d → Answered s r typed d s' unread' disk' × P (served_move s r typed d).bytes
+
+goes_at : (w : World) (s : State) (unread : Option (List ℕ)) (disk : Option Disk) (sent : Option (List ℕ)) (left : ℕ)
+    → s.halt ≡ None → 0 < left → IsAt w s unread disk sent left → rounds 1 w ≡ round w
+goes_at w s unread disk sent left halt some at =
+    one_round w (ap (λ (v : State). v.halt) (sym at.state_is) ∙ halt) (omega (arith, at.left_is))
+
+pub answer_at : (w : World) (s s' : State) (r : Request) (unread unread' : Option (List ℕ)) (disk disk' : Option Disk) (sent sent' : Option (List ℕ)) (left : ℕ)
+    → s.halt ≡ None → 0 < left → asked_by s.wait ≡ Some r → Tells s r unread disk s' unread' disk' (Appends sent sent') → IsAt w s unread disk sent left → Made w s' unread' disk' sent' left
+answer_at w s s' r unread unread' disk disk' sent sent' left halt some asks told at =
+    let same : s ≡ w.state = at.state_is in
+    let e : asked_by w.state.wait ≡ Some r = ap (λ (v : State). asked_by v.wait) (sym same) ∙ asks in
+    let t = told w.typed at.unread_is w.disk at.disk_is in
+    let made : IsAt (answer_round w r) s' unread' disk' sent' left = record {
+      state_is = t.0.state_is ∙ ap (λ v. (served_move v r w.typed w.disk).state) same;
+      unread_is = t.0.unread_is ∙ ap (λ v. Some (served v r w.typed w.disk).typed) same;
+      disk_is = t.0.disk_is ∙ ap (λ v. Some (served v r w.typed w.disk).disk) same;
+      sent_is = sent_more sent sent' w.shown _ at.sent_is t.1 ∙ ap (λ v. Some (w.shown ++ (served_move v r w.typed w.disk).bytes)) same;
+      left_is = at.left_is;
+    } in
+    (1, rw (goes_at w s unread disk sent left halt some at ∙ round_answer w r e) made)
+
+pub answer_cut : (w : World) (s s' : State) (r : Request) (unread unread' : Option (List ℕ)) (disk disk' : Option Disk) (sent sent' : Option (List ℕ)) (left : ℕ)
+    → s.halt ≡ None → 0 < left → asked_by s.wait ≡ Some r → Tells s r unread disk s' unread' disk' (AppendsPart sent sent') → IsAt w s unread disk sent left → MadeCut w s' unread' disk' sent'
+answer_cut w s s' r unread unread' disk disk' sent sent' left halt some asks told at =
+    let same : s ≡ w.state = at.state_is in
+    let e : asked_by w.state.wait ≡ Some r = ap (λ (v : State). asked_by v.wait) (sym same) ∙ asks in
+    let t = told w.typed at.unread_is w.disk at.disk_is in
+    let f : IsFront sent' (w.shown ++ (served_move s r w.typed w.disk).bytes) = front_of sent sent' w.shown _ at.sent_is t.1 in
+    let made : IsCut (answer_round w r) s' unread' disk' sent' = record {
+      state_is = t.0.state_is ∙ ap (λ v. (served_move v r w.typed w.disk).state) same;
+      unread_is = t.0.unread_is ∙ ap (λ v. Some (served v r w.typed w.disk).typed) same;
+      disk_is = t.0.disk_is ∙ ap (λ v. Some (served v r w.typed w.disk).disk) same;
+      front = f.0;
+      back = f.1;
+      shown_is = ap (λ v. w.shown ++ (served_move v r w.typed w.disk).bytes) (sym same) ∙ f.2;
+      sent_is = f.3;
+    } in
+    (1, rw (goes_at w s unread disk sent left halt some at ∙ round_answer w r e) made)
+
+pub kept_cut : (w : World) (s : State) (unread : Option (List ℕ)) (disk : Option Disk) (sent sent' : Option (List ℕ)) (left : ℕ)
+    → Keeps sent sent' → IsAt w s unread disk sent left → IsCut w s unread disk sent'
+kept_cut w s unread disk sent sent' left k at = record {
+  state_is = at.state_is;
+  unread_is = at.unread_is;
+  disk_is = at.disk_is;
+  front = w.shown;
+  back = [];
+  shown_is = sym (append-nil w.shown);
+  sent_is = sent_kept sent sent' w.shown at.sent_is k;
+}
+
+-- no round was made, and the writer failed in passing on
+pub flush_cut : (w : World) (s : State) (unread : Option (List ℕ)) (disk : Option Disk) (sent sent' : Option (List ℕ)) (left : ℕ)
+    → Keeps sent sent' → IsAt w s unread disk sent left → MadeCut w s unread disk sent'
+unfolding rounds
+flush_cut w s unread disk sent sent' left k at = (0, kept_cut w s unread disk sent sent' left k at)
+
+pub kept_at : (w : World) (s : State) (unread : Option (List ℕ)) (disk : Option Disk) (sent sent' : Option (List ℕ)) (left : ℕ)
+    → Keeps sent sent' → IsAt w s unread disk sent left → IsAt w s unread disk sent' left
+kept_at w s unread disk sent sent' left k at = record {
+  state_is = at.state_is;
+  unread_is = at.unread_is;
+  disk_is = at.disk_is;
+  sent_is = sent_kept sent sent' w.shown at.sent_is k;
+  left_is = at.left_is;
+}
+
+pub faulted_at : (w : World) (s s' : State) (unread : Option (List ℕ)) (disk disk' : Option Disk) (sent sent' : Option (List ℕ)) (left : ℕ)
+    → Faults s s' → disk' ≡ disk → sent' ≡ sent → IsAt w s unread disk sent left → IsFaulted w s' disk' sent'
+faulted_at w s s' unread disk disk' sent sent' left f d t at = record {
+  asked = ap (λ (v : State). fits (asked_by v.wait) InputFault) (sym at.state_is) ∙ f.asked;
+  state_is = f.state_is ∙ ap (λ v. (answer_of v InputFault).0) at.state_is;
+  disk_is = d ∙ at.disk_is;
+  sent_is = t ∙ at.sent_is;
+}
+
+pub on_ok_then : {T E : Type 0} (r : Result T E) (P Q : Type 0) → (P → Q) → OnOk r P → OnOk r Q
+on_ok_then (Ok x) P Q f h = f h
+on_ok_then (Err e) P Q f h = tt

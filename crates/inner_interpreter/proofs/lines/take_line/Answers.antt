@@ -1,0 +1,32 @@
+use Rattle.std.proofs.Common.{◌≡◌, ◌++◌, ◌∷◌, [], arith, refl, true, false, ◌∙◌, rules}
+use Rattle.inner_interpreter.specs.Answer.{is_return}
+use Rattle.inner_interpreter.proofs.Lining.{at_end, took, line_ends, returned_here, more_here, is_taken, typed_more}
+use Rattle.inner_interpreter.proofs.lines.take_line.Goals as goal
+
+pub returns-in_default-clause-told : goal.returns-in_default-clause-told
+returns-in_default-clause-told g c = λ typed e.
+    let before = c.loop.invariant.told typed e in
+    let ended = at_end _ _ _ before.0 c.in_default.is before.1 c.in_ok-byte.ensures.bytes in
+    is_taken _ typed c.loop.line.items _ _ _ _ (line_ends _ c.loop.line.items before.0 typed _ ended.0 before.2) refl ended.1
+
+pub returns-then-is_return-clause-told : goal.returns-then-is_return-clause-told
+returns-then-is_return-clause-told g c = λ typed e.
+    let before = c.loop.invariant.told typed e in
+    let step = took _ _ _ before.0 c.in-Some.byte c.in-Some.is before.1 c.in_ok-byte.ensures.bytes in
+    let returns : is_return c.in-Some.byte ≡ true = search rules in
+    is_taken _ typed c.loop.line.items _ _ step.0 _ (returned_here c.args.n c.loop.counter c.loop.line.items before.0 step.0 c.in-Some.byte _ c.loop-test.true returns step.1 before.2) refl step.2
+
+pub loop-preserved : goal.loop-preserved
+loop-preserved g c =
+    let typed_byte : is_return c.in-Some.byte ≡ false = search rules in
+    let pushed : c.push.new.self.items ≡ c.loop.line.items ++ c.in-Some.byte ∷ [] = search rules in
+    record {
+      told = λ typed e.
+          let before = c.loop.invariant.told typed e in
+          let step = took _ _ _ before.0 c.in-Some.byte c.in-Some.is before.1 c.in_ok-byte.ensures.bytes in
+          (step.0, step.2, rw pushed (more_here c.args.n c.loop.counter c.loop.line.items before.0 step.0 c.in-Some.byte _ c.loop-test.true typed_byte step.1 before.2));
+      typed = rw pushed (typed_more c.loop.line.items c.in-Some.byte c.loop.invariant.typed typed_byte);
+      count = omega (arith, c.push.ensures.len);
+      room = search rules;
+      mark = c.in_ok-byte.ensures.mark ∙ c.loop.invariant.mark;
+    }

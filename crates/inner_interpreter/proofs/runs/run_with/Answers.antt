@@ -1,0 +1,60 @@
+use Rattle.std.proofs.Common.{rules, ◌≡◌, None, Some, ap, Err, ◌∙◌}
+use Rattle.inner_interpreter.specs.declared.stop.Stop.TheVariants as stop
+use Rattle.inner_interpreter.specs.Worlds.{Ends}
+use Rattle.inner_interpreter.proofs.Moving.{moved_none, moved_add}
+use Rattle.inner_interpreter.proofs.Ended.{none_made, more_made, made_cause, made_limit, made_cut, rounds_cut, rounds_faulted, done_so}
+use Rattle.inner_interpreter.proofs.runs.run_with.Goals as goal
+
+pub loop-cause-init : goal.loop-cause-init
+loop-cause-init g c = record {
+  room = search rules;
+  reader = search rules;
+  writer = search rules;
+  moved = moved_none _ _;
+  made = λ w at. none_made w _ _ _ _ _ at;
+}
+
+pub returns-in-Some-clause-whole : goal.returns-in-Some-clause-whole
+returns-in-Some-clause-whole g c = λ fine good w at.
+    let halts : c.loop-cause.machine.halt ≡ Some c.in-Some.cause = search rules in
+    let ends = made_cause w _ _ _ _ _ _ c.in-Some.cause halts c.finish.ensures.bytes (c.loop-cause.invariant.made w at) in
+    done_so c.finish.result c.stop_by_cause.result _ _
+    (Ends w c.loop-cause.machine (g.R.Input.unread c.loop-cause.reader) (g.D.Device.disk c.loop-cause.device) (g.W.Output.sent c.finish.new.writer))
+    c.finish.ensures.done good (rw c.stop_by_cause.ensures ends)
+
+pub returns-in-Some-clause-cut : goal.returns-in-Some-clause-cut
+returns-in-Some-clause-cut g c = λ failed w at. made_cut w _ _ _ _ _ _ c.finish.ensures.bytes (c.loop-cause.invariant.made w at)
+
+pub returns-then-left-eq0-clause-whole : goal.returns-then-left-eq0-clause-whole
+returns-then-left-eq0-clause-whole g c = λ fine good w at.
+    let goes : c.loop-cause.machine.halt ≡ None = search rules in
+    let ends = made_limit w _ _ _ _ _ _ goes c.if-left-eq0.true c.finish-then-left-eq0.ensures.bytes (c.loop-cause.invariant.made w at) in
+    done_so c.finish-then-left-eq0.result stop.Limit _ _
+    (Ends w c.loop-cause.machine (g.R.Input.unread c.loop-cause.reader) (g.D.Device.disk c.loop-cause.device) (g.W.Output.sent c.finish-then-left-eq0.new.writer))
+    c.finish-then-left-eq0.ensures.done good ends
+
+pub returns-then-left-eq0-clause-cut : goal.returns-then-left-eq0-clause-cut
+returns-then-left-eq0-clause-cut g c = λ failed w at. made_cut w _ _ _ _ _ _ c.finish-then-left-eq0.ensures.bytes (c.loop-cause.invariant.made w at)
+
+pub loop-cause-preserved : goal.loop-cause-preserved
+loop-cause-preserved g c = record {
+  room = search rules;
+  reader = search rules;
+  writer = search rules;
+  moved = moved_add _ _ _ _ _ _ c.loop-cause.invariant.moved c.make_rounds.ensures.moved;
+  made = λ w at. more_made w _ _ _ _ _ _ _ _ _ _ c.in-Ok.ensures.ok (c.loop-cause.invariant.made w at);
+}
+
+pub returns-in-Err-Reader-clause-faulted : goal.returns-in-Err-Reader-clause-faulted
+returns-in-Err-Reader-clause-faulted g c = λ fails fine w at.
+    rounds_faulted w c.loop-cause.machine _ _ _ _ _ _ _ (c.make_rounds.ensures.faulted (c.in-Err-Reader.is ∙ ap Err c.in-Err-Reader.field-0-is)) (c.loop-cause.invariant.made w at)
+
+pub returns-in-Err-Writer-clause-cut : goal.returns-in-Err-Writer-clause-cut
+returns-in-Err-Writer-clause-cut g c = λ fails w at.
+    rounds_cut w c.loop-cause.machine _ _ _ _ _ _ _ _ (c.make_rounds.ensures.cut (c.in-Err-Writer.is ∙ ap Err c.in-Err-Writer.field-0-is)) (c.loop-cause.invariant.made w at)
+
+pub returns-in-Err-Reader-clause-moved : goal.returns-in-Err-Reader-clause-moved
+returns-in-Err-Reader-clause-moved g c = moved_add _ _ _ _ _ _ c.loop-cause.invariant.moved c.make_rounds.ensures.moved
+
+pub returns-in-Err-Writer-clause-moved : goal.returns-in-Err-Writer-clause-moved
+returns-in-Err-Writer-clause-moved g c = moved_add _ _ _ _ _ _ c.loop-cause.invariant.moved c.make_rounds.ensures.moved

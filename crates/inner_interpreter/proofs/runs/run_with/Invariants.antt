@@ -1,0 +1,19 @@
+use Rattle.std.proofs.Common.{◌≡◌, ◌≤◌, false, vec_capacity}
+use Rattle.inner_interpreter.specs.Moves.{HasMoved}
+use Rattle.inner_interpreter.specs.Runs.{World}
+use Rattle.inner_interpreter.specs.Worlds.{IsAt, Made, rounds_left}
+use Rattle.inner_interpreter.proofs.runs.run_with.Given as goal
+
+-- some rounds of the run were made
+abbrev pub invariant-loop-cause : goal.invariant-loop-cause
+invariant-loop-cause g l = record {
+  room : 65535 ≤ vec_capacity l.line;
+  reader : g.R.Input.failed l.reader ≡ false;
+  writer : g.W.Output.failed l.writer ≡ false;
+  moved : HasMoved l.fn.machine l.machine (g.D.Device.failures l.fn.device) (g.D.Device.failures l.device);
+  made : (w : World) → IsAt w l.fn.machine (g.R.Input.unread l.fn.reader) (g.D.Device.disk l.fn.device) (g.W.Output.sent l.fn.writer) l.fn.limit
+      → Made w l.machine (g.R.Input.unread l.reader) (g.D.Device.disk l.device) (g.W.Output.sent l.writer) l.left;
+}
+
+abbrev pub decreases-loop-cause : goal.decreases-loop-cause
+decreases-loop-cause g l = rounds_left l.left l.machine.wait

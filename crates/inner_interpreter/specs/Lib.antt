@@ -1,0 +1,10 @@
+pub mod State
+pub mod Tick
+pub mod Answer
+pub mod Ends
+pub mod Moves
+pub mod Lines
+pub mod Sent
+pub mod Runs
+pub mod Served
+pub mod Worlds

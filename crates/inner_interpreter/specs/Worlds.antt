@@ -1,0 +1,72 @@
+-- Where a run is, by what its machine and its ends tell.
+use Rattle.std.specs.Prelude.{◌≡◌, ℕ, ◌+◌, ◌*◌, true, List, ◌++◌, Option, None, Some}
+use Rattle.block_buffers.specs.Disks.{Disk}
+use Rattle.plain_rows.specs.declared.parts.Request.{Request}
+use Rattle.inner_interpreter.specs.declared.act.Act.{Act}
+use Rattle.inner_interpreter.specs.declared.stop.Stop.{Stop}
+use Rattle.inner_interpreter.specs.State.{State}
+use Rattle.inner_interpreter.specs.Tick.{ran}
+use Rattle.inner_interpreter.specs.Answer.{InputFault, answer_of, asked_by, fits}
+use Rattle.inner_interpreter.specs.Runs.{World, rounds, stops}
+
+-- what the machine, the reader, the device and the writer tell is this world's
+pub record IsAt (w : World) (state : State) (unread : Option (List ℕ)) (disk : Option Disk) (sent : Option (List ℕ)) (left : ℕ) : Type 0 where
+  pub state_is : state ≡ w.state
+  pub unread_is : unread ≡ Some w.typed
+  pub disk_is : disk ≡ Some w.disk
+  pub sent_is : sent ≡ Some w.shown
+  pub left_is : left ≡ w.left
+
+-- the same, but that a front of what is shown was sent
+pub record IsCut (w : World) (state : State) (unread : Option (List ℕ)) (disk : Option Disk) (sent : Option (List ℕ)) : Type 0 where
+  pub state_is : state ≡ w.state
+  pub unread_is : unread ≡ Some w.typed
+  pub disk_is : disk ≡ Some w.disk
+  pub front : List ℕ
+  pub back : List ℕ
+  pub shown_is : w.shown ≡ front ++ back
+  pub sent_is : sent ≡ Some front
+
+-- the same, but that the reader failed where a key or a line was asked, and the machine was told so
+pub record IsFaulted (w : World) (state : State) (disk : Option Disk) (sent : Option (List ℕ)) : Type 0 where
+  pub asked : fits (asked_by w.state.wait) InputFault ≡ true
+  pub state_is : state ≡ (answer_of w.state InputFault).0
+  pub disk_is : disk ≡ Some w.disk
+  pub sent_is : sent ≡ Some w.shown
+
+-- how many answers may stand before the next tick
+abbrev pub waiting : Option (Request × ℕ) → ℕ
+waiting None = 0
+waiting (Some _) = 1
+
+-- the rounds that may be left
+abbrev pub rounds_left : ℕ → Option (Request × ℕ) → ℕ
+rounds_left left wait = 2 * left + waiting wait
+
+-- a stretch of at most n ticks: how many, the state behind them, and the last act
+abbrev pub stretch : ℕ → State → ℕ × State × Act
+stretch n s = ran 0 n s.parts
+
+-- the run stops here after some rounds
+pub record Ends (w : World) (state : State) (unread : Option (List ℕ)) (disk : Option Disk) (sent : Option (List ℕ)) (stop : Stop) : Type 0 where
+  pub count : ℕ
+  pub at : IsAt (rounds count w) state unread disk sent (rounds count w).left
+  pub stops_so : stops (rounds count w) ≡ Some stop
+
+-- a writer failed in this run: a front of what some first rounds show was sent
+pub record EndsCut (w : World) (state : State) (unread : Option (List ℕ)) (disk : Option Disk) (sent : Option (List ℕ)) : Type 0 where
+  pub count : ℕ
+  pub cut : IsCut (rounds count w) state unread disk sent
+
+-- a reader failed in this run, after some first rounds
+pub record EndsFaulted (w : World) (state : State) (disk : Option Disk) (sent : Option (List ℕ)) : Type 0 where
+  pub count : ℕ
+  pub faulted : IsFaulted (rounds count w) state disk sent
+
+-- some rounds lead here
+abbrev pub Made : World → State → Option (List ℕ) → Option Disk → Option (List ℕ) → ℕ → Type 0
+Made w s unread disk sent left = (n : ℕ) × IsAt (rounds n w) s unread disk sent left
+
+-- some rounds lead here, of what they show a front was sent
+abbrev pub MadeCut : World → State → Option (List ℕ) → Option Disk → Option (List ℕ) → Type 0
+MadeCut w s unread disk sent = (n : ℕ) × IsCut (rounds n w) s unread disk sent

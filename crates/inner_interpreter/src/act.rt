@@ -1,0 +1,72 @@
+//! What a move shows and comes to, and what the world answers.
+
+use plain_rows::parts::{Request, Span};
+
+/// The bytes that a move shows.
+#[derive(Clone, Copy, Debug, PartialEq, Eq)]
+pub enum Shown {
+    Nothing,
+    Byte(u8),
+    /// Bytes of memory, at least one.
+    Span(Span),
+    /// A line that a return ended: its bytes of memory, and then a blank.
+    Line(Span),
+}
+
+/// Why a machine halted.
+#[derive(Clone, Copy, Debug, PartialEq, Eq)]
+pub enum Cause {
+    Bye,
+    InputEnded,
+    InputFault,
+    Fault(u16),
+}
+
+/// What a move came to.
+#[derive(Clone, Copy, Debug, PartialEq, Eq)]
+pub enum Event {
+    /// The machine goes on.
+    Went,
+    /// It waits for an answer.
+    Ask(Request),
+    /// A fault that its fault thread handles.
+    Fault(u16),
+    /// It halted.
+    Halt(Cause),
+}
+
+/// What a move showed, and what it came to.
+#[derive(Clone, Copy, Debug, PartialEq, Eq)]
+pub struct Act {
+    pub shown: Shown,
+    pub event: Event,
+}
+
+/// Why a move was refused. The machine is then as it was.
+#[derive(Clone, Copy, Debug, PartialEq, Eq)]
+pub enum Refused {
+    /// A tick while a request stands.
+    Waiting,
+    /// Any move of a machine that halted.
+    Halted,
+    /// An answer where no request stands, or one that doesn't fit it.
+    NotAsked,
+}
+
+/// The answer to a request.
+#[derive(Clone, Copy)]
+pub enum Answer<'a> {
+    /// The byte of a key.
+    Key(u8),
+    /// A line of typed bytes, and whether a return ended it.
+    Line { bytes: &'a [u8], returned: bool },
+    /// Nothing is typed any more.
+    InputEnd,
+    /// Typed bytes can't be read.
+    InputFault,
+    /// A block's bytes.
+    ReadOk(&'a [u8; 1024]),
+    ReadFault,
+    WriteOk,
+    WriteFault,
+}

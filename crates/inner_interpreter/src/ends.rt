@@ -1,0 +1,48 @@
+//! The ends of a run: where typed bytes come from, and where shown bytes go.
+
+ghost use Rattle.std.specs.Prelude.{◌<◌, ◌≤◌, ℕ, Bool, List, Option, length, IfOk};
+
+/// A reader or a writer failed.
+#[derive(Clone, Copy, Debug, PartialEq, Eq)]
+pub struct EndFault;
+
+/// Gives bytes one at a time, and then tells the end.
+pub trait Input {
+    ghost use Rattle.inner_interpreter.specs.Ends.{TakesByte, Marks};
+
+    /// The bytes that are left, where the reader tells them.
+    ghost unread: { Self → Option (List ℕ) };
+
+    /// Whether a call has failed.
+    ghost failed: { Self → Bool };
+
+    /// The next byte, or `None` at the end.
+    fn byte(&mut self) -> Result<Option<u8>, EndFault>
+        ensures bytes { TakesByte (unread self.old) (unread self.new) result }
+        ensures mark { Marks (failed self.old) (failed self.new) result };
+}
+
+/// Takes bytes.
+pub trait Output {
+    ghost use Rattle.std.specs.Io.KnownBytes.{Keeps, WriteAppends};
+    ghost use Rattle.inner_interpreter.specs.Ends.{Marks};
+
+    /// The bytes that were taken, where the writer tells them.
+    ghost sent: { Self → Option (List ℕ) };
+
+    /// Whether a call has failed.
+    ghost failed: { Self → Bool };
+
+    /// Takes some of the bytes, from the first one on, and answers how many.
+    fn send(&mut self, bytes: &[u8]) -> Result<usize, EndFault>
+        requires { 0 < length bytes.now }
+        ensures some { IfOk result (λ count. 0 < count) }
+        ensures bound { IfOk result (λ count. count ≤ length bytes.now) }
+        ensures bytes { WriteAppends (sent self.old) (sent self.new) result bytes.now }
+        ensures mark { Marks (failed self.old) (failed self.new) result };
+
+    /// Passes on what was taken.
+    fn flush(&mut self) -> Result<(), EndFault>
+        ensures bytes { Keeps (sent self.old) (sent self.new) }
+        ensures mark { Marks (failed self.old) (failed self.new) result };
+}

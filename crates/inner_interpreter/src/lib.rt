@@ -1,0 +1,25 @@
+//! The inner interpreter: the machine that takes tokens and does their rows, asks and is answered.
+#![tactic(auto)]
+
+mod act;
+mod ends;
+pub mod laws;
+mod lines;
+mod machine;
+mod reading;
+mod replies;
+mod rounds;
+mod runs;
+mod sends;
+mod steps;
+mod stop;
+mod writing;
+
+pub use act::{Act, Answer, Cause, Event, Refused, Shown};
+pub use ends::{EndFault, Input, Output};
+pub use machine::Machine;
+pub use reading::Reading;
+pub use runs::run;
+pub use sends::send_all;
+pub use stop::Stop;
+pub use writing::Writing;

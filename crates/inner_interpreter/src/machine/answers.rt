@@ -1,0 +1,203 @@
+//! Answers to what a machine asks.
+
+ghost use Rattle.std.specs.Prelude.{◌≡◌, ℕ, None, Some, true, false, IsTrue, IsSome, IsOkAnd, IsErrOf, OnOk, OnErr, ◌≤◌, length};
+ghost use Rattle.std.specs.List.{list_all};
+ghost use Rattle.inner_interpreter.specs.Answer.{asked_by, fits, fits_request, seen, answered, answer_of, is_line, line_shown, key_answered, line_answered, read_answered, write_answered, input_stopped, is_typed};
+
+use super::{Machine, quiet};
+use crate::act::{Act, Answer, Cause, Event, Refused, Shown};
+use memory::system::SPAN;
+use plain_rows::parts::{Request, Span};
+
+/// Whether a line's bytes fit a request for at most `n`.
+#[tactic(auto, unfolding(crate::specs::Answer::is_line))]
+fn is_line(n: u16, bytes: &[u8], returned: bool) -> bool
+    ensures value { result ≡ is_line n bytes.now returned }
+    ensures few { IsTrue result → length bytes.now ≤ n }
+{
+    if !are_typed(bytes) {
+        return false;
+    }
+    if returned {
+        return bytes.len() < n as usize;
+    }
+    !bytes.is_empty() && bytes.len() <= n as usize
+}
+
+/// Whether no byte ends a line.
+fn are_typed(bytes: &[u8]) -> bool
+    ensures { result ≡ list_all is_typed bytes.now }
+{
+    bytes.iter().all(|byte| !(*byte == 10 || *byte == 13))
+}
+
+fn line_shown(at: u16, len: u16, returned: bool) -> Shown
+    ensures { result ≡ line_shown at len returned }
+{
+    let span = Span { at, len };
+    if returned {
+        Shown::Line(span)
+    } else {
+        Shown::Span(span)
+    }
+}
+
+impl Machine {
+    /// The answer to the request that stands. `Halted` where the machine is; else `NotAsked` where no request
+    /// stands, or the answer doesn't fit it. The machine is then unchanged.
+    #[tactic(auto, unfolding(crate::specs::Answer::answer_of))]
+    pub fn answer(&mut self, answer: Answer<'_>) -> Result<Act, Refused>
+        ensures done { self.old.halt ≡ None → fits (asked_by self.old.wait) (seen answer.entry) ≡ true → IsOkAnd result (λ act. (self.new, act) ≡ answer_of self.old (seen answer.entry)) }
+        ensures settled { OnOk result (self.new.wait ≡ None) }
+        ensures halted { IsSome self.old.halt → IsErrOf result Refused.Halted }
+        ensures not_asked { self.old.halt ≡ None → fits (asked_by self.old.wait) (seen answer.entry) ≡ false → IsErrOf result Refused.NotAsked }
+        ensures stays { OnErr result (self.new ≡ self.old) }
+    {
+        if self.halt.is_some() {
+            return Err(Refused::Halted);
+        }
+        match self.wait {
+            None => Err(Refused::NotAsked),
+            Some((Request::Key, token)) => self.answer_key(token, answer),
+            Some((Request::Line { n }, token)) => self.answer_line(n, token, answer),
+            Some((Request::Read { block }, token)) => self.answer_read(block, token, answer),
+            Some((Request::Write { block }, token)) => self.answer_write(block, token, answer),
+        }
+    }
+
+    #[tactic(auto, unfolding(crate::specs::Answer::answered))]
+    fn answer_key(&mut self, _token: u16, answer: Answer<'_>) -> Result<Act, Refused>
+        requires { self.old.halt ≡ None }
+        ensures done { fits_request Request.Key (seen answer.entry) ≡ true → IsOkAnd result (λ act. (self.new, act) ≡ answered self.old.parts (Request.Key, _token) (seen answer.entry)) }
+        ensures settled { OnOk result (self.new.wait ≡ None) }
+        ensures not_asked { fits_request Request.Key (seen answer.entry) ≡ false → IsErrOf result Refused.NotAsked }
+        ensures stays { OnErr result (self.new ≡ self.old) }
+    {
+        match answer {
+            Answer::Key(byte) => Ok(self.push_key(byte)),
+            Answer::InputEnd => Ok(self.stop_input(Cause::InputEnded)),
+            Answer::InputFault => Ok(self.stop_input(Cause::InputFault)),
+            _ => Err(Refused::NotAsked),
+        }
+    }
+
+    /// KEY's byte is pushed.
+    #[tactic(auto, unfolding(crate::specs::Answer::key_answered))]
+    fn push_key(&mut self, byte: u8) -> Act
+        requires { self.old.halt ≡ None }
+        ensures done { (self.new, result) ≡ key_answered self.old.parts byte }
+        ensures settled { self.new.wait ≡ None }
+    {
+        self.wait = None;
+        if self.parts.values.push(u16::from(byte)).is_err() {
+            return self.fault(Shown::Nothing, 2);
+        }
+        quiet()
+    }
+
+    #[tactic(auto, unfolding(crate::specs::Answer::answered))]
+    fn answer_line(&mut self, n: u16, _token: u16, answer: Answer<'_>) -> Result<Act, Refused>
+        requires { self.old.halt ≡ None }
+        ensures done { fits_request (Request.Line n) (seen answer.entry) ≡ true → IsOkAnd result (λ act. (self.new, act) ≡ answered self.old.parts (Request.Line n, _token) (seen answer.entry)) }
+        ensures settled { OnOk result (self.new.wait ≡ None) }
+        ensures not_asked { fits_request (Request.Line n) (seen answer.entry) ≡ false → IsErrOf result Refused.NotAsked }
+        ensures stays { OnErr result (self.new ≡ self.old) }
+    {
+        match answer {
+            Answer::Line { bytes, returned } => {
+                if !is_line(n, bytes, returned) {
+                    return Err(Refused::NotAsked);
+                }
+                Ok(self.put_line(bytes, returned))
+            }
+            Answer::InputEnd => Ok(self.stop_input(Cause::InputEnded)),
+            Answer::InputFault => Ok(self.stop_input(Cause::InputFault)),
+            _ => Err(Refused::NotAsked),
+        }
+    }
+
+    /// EXPECT's line: its count goes to SPAN, then its bytes to the address that EXPECT was given.
+    #[tactic(auto, unfolding(crate::specs::Answer::line_answered))]
+    fn put_line(&mut self, bytes: &[u8], returned: bool) -> Act
+        requires halt { self.old.halt ≡ None }
+        requires few { length bytes.now ≤ 65535 }
+        ensures done { (self.new, result) ≡ line_answered self.old.parts bytes.now returned }
+        ensures settled { self.new.wait ≡ None }
+    {
+        self.wait = None;
+        let Some((at, _count)) = self.parts.values.top2() else {
+            return self.fault(Shown::Nothing, 1);
+        };
+        let count = bytes.len() as u16;
+        self.parts.values.lower(2);
+        self.parts.memory.set_cell(SPAN, count);
+        self.parts.memory.set_bytes(at, bytes);
+        Act {
+            shown: line_shown(at, count, returned),
+            event: Event::Went,
+        }
+    }
+
+    #[tactic(auto, unfolding(crate::specs::Answer::answered, crate::specs::Answer::read_answered))]
+    fn answer_read(&mut self, block: u16, token: u16, answer: Answer<'_>) -> Result<Act, Refused>
+        requires { self.old.halt ≡ None }
+        ensures done { fits_request (Request.Read block) (seen answer.entry) ≡ true → IsOkAnd result (λ act. (self.new, act) ≡ answered self.old.parts (Request.Read block, token) (seen answer.entry)) }
+        ensures settled { OnOk result (self.new.wait ≡ None) }
+        ensures not_asked { fits_request (Request.Read block) (seen answer.entry) ≡ false → IsErrOf result Refused.NotAsked }
+        ensures stays { OnErr result (self.new ≡ self.old) }
+    {
+        match answer {
+            Answer::ReadOk(page) => {
+                let slot = self.parts.buffers.victim().slot;
+                self.parts.memory.set_page(slot, page);
+                self.parts.buffers.assign(block);
+                self.parts.pending = Some(token);
+                self.wait = None;
+                Ok(quiet())
+            }
+            Answer::ReadFault => {
+                self.wait = None;
+                Ok(self.fault(Shown::Nothing, 9))
+            }
+            _ => Err(Refused::NotAsked),
+        }
+    }
+
+    #[tactic(auto, unfolding(crate::specs::Answer::answered, crate::specs::Answer::write_answered))]
+    fn answer_write(&mut self, block: u16, token: u16, answer: Answer<'_>) -> Result<Act, Refused>
+        requires { self.old.halt ≡ None }
+        ensures done { fits_request (Request.Write block) (seen answer.entry) ≡ true → IsOkAnd result (λ act. (self.new, act) ≡ answered self.old.parts (Request.Write block, token) (seen answer.entry)) }
+        ensures settled { OnOk result (self.new.wait ≡ None) }
+        ensures not_asked { fits_request (Request.Write block) (seen answer.entry) ≡ false → IsErrOf result Refused.NotAsked }
+        ensures stays { OnErr result (self.new ≡ self.old) }
+    {
+        match answer {
+            Answer::WriteOk => {
+                let slot = self.parts.buffers.slot_of(block);
+                self.parts.buffers.clean(slot);
+                self.parts.pending = Some(token);
+                self.wait = None;
+                Ok(quiet())
+            }
+            Answer::WriteFault => {
+                self.wait = None;
+                Ok(self.fault(Shown::Nothing, 10))
+            }
+            _ => Err(Refused::NotAsked),
+        }
+    }
+
+    /// No more typed bytes come.
+    fn stop_input(&mut self, cause: Cause) -> Act
+        requires { self.old.halt ≡ None }
+        ensures done { (self.new, result) ≡ input_stopped self.old.parts cause }
+        ensures settled { self.new.wait ≡ None }
+    {
+        self.wait = None;
+        self.halt = Some(cause);
+        Act {
+            shown: Shown::Nothing,
+            event: Event::Halt(cause),
+        }
+    }
+}

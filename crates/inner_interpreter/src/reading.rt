@@ -1,0 +1,64 @@
+//! A reader of `std` as an end.
+
+ghost use Rattle.std.specs.Prelude.{◌≡◌, false};
+ghost use Rattle.std.specs.Io.{ReadsAtMost};
+ghost use Rattle.std.specs.Io.KnownBytes.{ReadConsumes};
+
+use crate::ends::{EndFault, Input};
+use std::io::{ErrorKind, Read};
+
+/// A reader of `std` as an `Input`. It tells its bytes where the reader does.
+#[derive(Drop)]
+pub struct Reading<R> {
+    reader: R,
+    has_failed: bool,
+}
+
+impl<R: Read> Reading<R> {
+    /// The reader, of which no call has failed.
+    pub fn new(reader: R) -> Reading<R>
+        ensures bytes { ⟦<Reading<R> as Input>⟧.unread result ≡ R.remaining reader }
+        ensures mark { ⟦<Reading<R> as Input>⟧.failed result ≡ false }
+    {
+        Reading {
+            reader,
+            has_failed: false,
+        }
+    }
+}
+
+impl<R: Read> Input for Reading<R> {
+    ghost unread = { λ r. R.remaining r.reader };
+
+    ghost failed = { λ r. r.has_failed };
+
+    fn byte(&mut self) -> Result<Option<u8>, EndFault> {
+        let mut byte = [0u8; 1];
+        match read_once(&mut self.reader, &mut byte) {
+            Ok(0) => Ok(None),
+            Ok(_) => Ok(Some(byte[0])),
+            Err(fault) => {
+                self.has_failed = true;
+                Err(fault)
+            }
+        }
+    }
+}
+
+/// One read, tried again where a signal interrupts it.
+fn read_once<R: Read>(reader: &mut R, bytes: &mut [u8]) -> Result<usize, EndFault>
+    ensures bound { ReadsAtMost result bytes.new }
+    ensures bytes { ReadConsumes (R.remaining reader.old) (R.remaining reader.new) result bytes.new }
+{
+    for _ in 0..u64::MAX {
+        match reader.read(bytes) {
+            Ok(count) => return Ok(count),
+            Err(error) => {
+                if error.kind() != ErrorKind::Interrupted {
+                    return Err(EndFault);
+                }
+            }
+        }
+    }
+    Err(EndFault)
+}

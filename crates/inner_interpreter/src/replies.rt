@@ -1,0 +1,126 @@
+//! Answering what a machine asks, by a reader and a device.
+
+ghost use Rattle.std.specs.Prelude.{◌≡◌, ◌≤◌, ℕ, List, Some, None, vec_capacity, IfOk, IfErr, Result};
+ghost use Rattle.block_buffers.specs.Disks.{Disk};
+ghost use Rattle.inner_interpreter.specs.Answer.{asked_by};
+ghost use Rattle.inner_interpreter.specs.Ends.{Marks};
+ghost use Rattle.inner_interpreter.specs.Served.{Serves, Faults, HasAnswered};
+
+use crate::act::{Act, Answer};
+use crate::ends::{EndFault, Input};
+use crate::lines::take_line;
+use crate::machine::Machine;
+use block_buffers::Device;
+use plain_rows::parts::Request;
+
+/// Answers a `Key`. Where the reader fails, the machine is told so.
+pub fn answer_key<R: Input>(machine: &mut Machine, reader: &mut R) -> Result<Act, EndFault>
+    requires waits { asked_by machine.old.wait ≡ Some Request.Key }
+    requires goes { machine.old.halt ≡ None }
+    ensures told { (typed : List ℕ) → R.unread reader.old ≡ Some typed → (disk : Disk) → IfOk result (λ act. Serves machine.old Request.Key typed disk machine.new (R.unread reader.new) (Some disk) act) }
+    ensures answered { HasAnswered machine.old machine.new 0 0 }
+    ensures settled { machine.new.wait ≡ None }
+    ensures fault { IfErr result (λ _. Faults machine.old machine.new) }
+    ensures mark { Marks (R.failed reader.old) (R.failed reader.new) result }
+{
+    match reader.byte() {
+        Ok(Some(byte)) => Ok(machine.answer(Answer::Key(byte)).unwrap()),
+        Ok(None) => Ok(machine.answer(Answer::InputEnd).unwrap()),
+        Err(fault) => {
+            machine.answer(Answer::InputFault).unwrap();
+            Err(fault)
+        }
+    }
+}
+
+/// Answers a `Line`. Where the reader fails, the machine is told so.
+#[tactic(auto, using(crate::proofs::Lining::line_fits))]
+pub fn answer_line<R: Input>(
+    line: &mut Vec<u8>,
+    machine: &mut Machine,
+    reader: &mut R,
+    n: u16,
+) -> Result<Act, EndFault>
+    requires waits { asked_by machine.old.wait ≡ Some (Request.Line n) }
+    requires goes { machine.old.halt ≡ None }
+    requires room { 65535 ≤ vec_capacity line.old }
+    ensures told { (typed : List ℕ) → R.unread reader.old ≡ Some typed → (disk : Disk) → IfOk result (λ act. Serves machine.old (Request.Line n) typed disk machine.new (R.unread reader.new) (Some disk) act) }
+    ensures answered { HasAnswered machine.old machine.new 0 0 }
+    ensures settled { machine.new.wait ≡ None }
+    ensures room { 65535 ≤ vec_capacity line.new }
+    ensures fault { IfErr result (λ _. Faults machine.old machine.new) }
+    ensures mark { Marks (R.failed reader.old) (R.failed reader.new) result }
+{
+    match take_line(line, reader, n) {
+        Ok(returned) => {
+            let bytes = line.as_slice();
+            if bytes.is_empty() && !returned {
+                return Ok(machine.answer(Answer::InputEnd).unwrap());
+            }
+            Ok(machine.answer(Answer::Line { bytes, returned }).unwrap())
+        }
+        Err(fault) => {
+            machine.answer(Answer::InputFault).unwrap();
+            Err(fault)
+        }
+    }
+}
+
+/// Answers a `Read`.
+pub fn answer_read<D: Device>(machine: &mut Machine, device: &mut D, block: u16) -> Act
+    requires waits { asked_by machine.old.wait ≡ Some (Request.Read block) }
+    requires goes { machine.old.halt ≡ None }
+    ensures told { (disk : Disk) → D.disk device.old ≡ Some disk → (typed : List ℕ) → Serves machine.old (Request.Read block) typed disk machine.new (Some typed) (D.disk device.new) result }
+    ensures answered { HasAnswered machine.old machine.new (D.failures device.old) (D.failures device.new) }
+    ensures settled { machine.new.wait ≡ None }
+{
+    let mut page = [0u8; 1024];
+    match device.read(block, &mut page) {
+        Ok(()) => machine.answer(Answer::ReadOk(&page)).unwrap(),
+        Err(_) => machine.answer(Answer::ReadFault).unwrap(),
+    }
+}
+
+/// Answers a `Write`, with the bytes of the block's buffer.
+pub fn answer_write<D: Device>(machine: &mut Machine, device: &mut D, block: u16) -> Act
+    requires waits { asked_by machine.old.wait ≡ Some (Request.Write block) }
+    requires goes { machine.old.halt ≡ None }
+    ensures told { (disk : Disk) → D.disk device.old ≡ Some disk → (typed : List ℕ) → Serves machine.old (Request.Write block) typed disk machine.new (Some typed) (D.disk device.new) result }
+    ensures answered { HasAnswered machine.old machine.new (D.failures device.old) (D.failures device.new) }
+    ensures settled { machine.new.wait ≡ None }
+{
+    let Some(page) = machine.asked_page() else {
+        unreachable!()
+    };
+    match device.write(block, page) {
+        Ok(()) => machine.answer(Answer::WriteOk).unwrap(),
+        Err(_) => machine.answer(Answer::WriteFault).unwrap(),
+    }
+}
+
+/// Answers what was asked. Where the reader fails, the machine is told so.
+pub fn settle<R: Input, D: Device>(
+    line: &mut Vec<u8>,
+    machine: &mut Machine,
+    reader: &mut R,
+    device: &mut D,
+    request: Request,
+) -> Result<Act, EndFault>
+    requires waits { asked_by machine.old.wait ≡ Some request }
+    requires goes { machine.old.halt ≡ None }
+    requires room { 65535 ≤ vec_capacity line.old }
+    ensures told { (typed : List ℕ) → R.unread reader.old ≡ Some typed → (disk : Disk) → D.disk device.old ≡ Some disk → IfOk result (λ act. Serves machine.old request typed disk machine.new (R.unread reader.new) (D.disk device.new) act) }
+    ensures answered { HasAnswered machine.old machine.new (D.failures device.old) (D.failures device.new) }
+    ensures settled { machine.new.wait ≡ None }
+    ensures room { 65535 ≤ vec_capacity line.new }
+    ensures fault { IfErr result (λ _. Faults machine.old machine.new) }
+    ensures device { IfErr result (λ _. D.disk device.new ≡ D.disk device.old) }
+    ensures mark { Marks (R.failed reader.old) (R.failed reader.new) result }
+{
+    match request {
+        Request::Key => answer_key(machine, reader),
+        Request::Line { n } => answer_line(line, machine, reader, n),
+        Request::Read { block } => Ok(answer_read(machine, device, block)),
+        Request::Write { block } => Ok(answer_write(machine, device, block)),
+    }
+}

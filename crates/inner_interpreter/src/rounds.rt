@@ -1,0 +1,124 @@
+//! The rounds of a run.
+
+ghost use Rattle.std.specs.Prelude.{◌≡◌, ◌≤◌, ◌<◌, ◌-◌, ℕ, List, Some, None, true, vec_capacity, OnOk, OnErr, IsErrOf};
+ghost use Rattle.std.specs.Io.KnownBytes.{Appends, Keeps};
+ghost use Rattle.block_buffers.specs.Disks.{Disk};
+ghost use Rattle.inner_interpreter.specs.Answer.{asked_by};
+ghost use Rattle.inner_interpreter.specs.Ends.{Marks};
+ghost use Rattle.inner_interpreter.specs.Moves.{HasMoved, shown_bytes};
+ghost use Rattle.inner_interpreter.specs.Runs.{World};
+ghost use Rattle.inner_interpreter.specs.Sent.{AppendsPart};
+ghost use Rattle.inner_interpreter.specs.Served.{Answered, served_move, Faults, HasAnswered};
+ghost use Rattle.inner_interpreter.specs.Tick.{Runs};
+ghost use Rattle.inner_interpreter.specs.Worlds.{IsAt, IsCut, IsFaulted, rounds_left, stretch, Made, MadeCut};
+
+use crate::ends::{EndFault, Input, Output};
+use crate::machine::Machine;
+use crate::replies::settle;
+use crate::sends::show;
+use block_buffers::Device;
+use plain_rows::parts::Request;
+
+/// Which end failed.
+#[derive(Clone, Copy, Debug, PartialEq, Eq)]
+pub enum Failed {
+    Reader,
+    Writer,
+}
+
+/// Ticks up to the first that isn't quiet, and what it shows.
+fn make_stretch<W: Output>(
+    machine: &mut Machine,
+    writer: &mut W,
+    left: &mut u64,
+) -> Result<(), EndFault>
+    requires runs { Runs machine.old }
+    requires some { 0 < left.old }
+    ensures state { machine.new ≡ (stretch left.old machine.old).1 }
+    ensures left { left.new ≡ left.old - (stretch left.old machine.old).0 }
+    ensures fewer { left.new < left.old }
+    ensures ok { OnOk result (Appends (W.sent writer.old) (W.sent writer.new) (shown_bytes (stretch left.old machine.old).1.parts.memory (stretch left.old machine.old).2.shown)) }
+    ensures err { OnErr result (AppendsPart (W.sent writer.old) (W.sent writer.new) (shown_bytes (stretch left.old machine.old).1.parts.memory (stretch left.old machine.old).2.shown)) }
+    ensures mark { Marks (W.failed writer.old) (W.failed writer.new) result }
+{
+    let (count, act) = machine.ticks(*left).unwrap();
+    *left -= count;
+    show(machine, writer, act.shown)
+}
+
+/// An answer, and what it shows.
+fn make_answer<R: Input, W: Output, D: Device>(
+    line: &mut Vec<u8>,
+    machine: &mut Machine,
+    reader: &mut R,
+    writer: &mut W,
+    device: &mut D,
+    request: Request,
+) -> Result<(), Failed>
+    requires waits { asked_by machine.old.wait ≡ Some request }
+    requires goes { machine.old.halt ≡ None }
+    requires room { 65535 ≤ vec_capacity line.old }
+    ensures settled { machine.new.wait ≡ None }
+    ensures room { 65535 ≤ vec_capacity line.new }
+    ensures answered { HasAnswered machine.old machine.new (D.failures device.old) (D.failures device.new) }
+    ensures ok { OnOk result ((typed : List ℕ) → R.unread reader.old ≡ Some typed → (disk : Disk) → D.disk device.old ≡ Some disk → Answered machine.old request typed disk machine.new (R.unread reader.new) (D.disk device.new) × Appends (W.sent writer.old) (W.sent writer.new) (served_move machine.old request typed disk).bytes) }
+    ensures cut { IsErrOf result Failed.Writer → (typed : List ℕ) → R.unread reader.old ≡ Some typed → (disk : Disk) → D.disk device.old ≡ Some disk → Answered machine.old request typed disk machine.new (R.unread reader.new) (D.disk device.new) × AppendsPart (W.sent writer.old) (W.sent writer.new) (served_move machine.old request typed disk).bytes }
+    ensures faulted { IsErrOf result Failed.Reader → Faults machine.old machine.new × (D.disk device.new ≡ D.disk device.old) × (W.sent writer.new ≡ W.sent writer.old) }
+    ensures reader { IsErrOf result Failed.Reader → (R.failed reader.new ≡ true) × (W.failed writer.new ≡ W.failed writer.old) }
+    ensures writer { IsErrOf result Failed.Writer → (W.failed writer.new ≡ true) × (R.failed reader.new ≡ R.failed reader.old) }
+    ensures good { OnOk result ((R.failed reader.new ≡ R.failed reader.old) × (W.failed writer.new ≡ W.failed writer.old)) }
+{
+    match settle(line, machine, reader, device, request) {
+        Ok(act) => match show(machine, writer, act.shown) {
+            Ok(()) => Ok(()),
+            Err(_) => Err(Failed::Writer),
+        },
+        Err(_) => Err(Failed::Reader),
+    }
+}
+
+/// What is shown so far stands before the program waits for typed bytes.
+fn flush_before<W: Output>(writer: &mut W, request: Request) -> Result<(), EndFault>
+    ensures bytes { Keeps (W.sent writer.old) (W.sent writer.new) }
+    ensures mark { Marks (W.failed writer.old) (W.failed writer.new) result }
+{
+    match request {
+        Request::Key | Request::Line { n: _ } => writer.flush(),
+        _ => Ok(()),
+    }
+}
+
+/// A request is answered, else ticks are made up to the first that isn't quiet; and what that shows is sent.
+#[tactic(auto, using(crate::proofs::Running::asked_none))]
+pub fn make_rounds<R: Input, W: Output, D: Device>(
+    line: &mut Vec<u8>,
+    machine: &mut Machine,
+    reader: &mut R,
+    writer: &mut W,
+    device: &mut D,
+    left: &mut u64,
+) -> Result<(), Failed>
+    requires goes { machine.old.halt ≡ None }
+    requires some { 0 < left.old }
+    requires room { 65535 ≤ vec_capacity line.old }
+    ensures room { 65535 ≤ vec_capacity line.new }
+    ensures fewer { OnOk result (rounds_left left.new machine.new.wait < rounds_left left.old machine.old.wait) }
+    ensures moved { HasMoved machine.old machine.new (D.failures device.old) (D.failures device.new) }
+    ensures ok { OnOk result ((w : World) → IsAt w machine.old (R.unread reader.old) (D.disk device.old) (W.sent writer.old) left.old → Made w machine.new (R.unread reader.new) (D.disk device.new) (W.sent writer.new) left.new) }
+    ensures cut { IsErrOf result Failed.Writer → (w : World) → IsAt w machine.old (R.unread reader.old) (D.disk device.old) (W.sent writer.old) left.old → MadeCut w machine.new (R.unread reader.new) (D.disk device.new) (W.sent writer.new) }
+    ensures faulted { IsErrOf result Failed.Reader → (w : World) → IsAt w machine.old (R.unread reader.old) (D.disk device.old) (W.sent writer.old) left.old → IsFaulted w machine.new (D.disk device.new) (W.sent writer.new) }
+    ensures reader { IsErrOf result Failed.Reader → (R.failed reader.new ≡ true) × (W.failed writer.new ≡ W.failed writer.old) }
+    ensures writer { IsErrOf result Failed.Writer → (W.failed writer.new ≡ true) × (R.failed reader.new ≡ R.failed reader.old) }
+    ensures good { OnOk result ((R.failed reader.new ≡ R.failed reader.old) × (W.failed writer.new ≡ W.failed writer.old)) }
+{
+    match machine.asked() {
+        None => match make_stretch(machine, writer, left) {
+            Ok(()) => Ok(()),
+            Err(_) => Err(Failed::Writer),
+        },
+        Some(request) => match flush_before(writer, request) {
+            Ok(()) => make_answer(line, machine, reader, writer, device, request),
+            Err(_) => Err(Failed::Writer),
+        },
+    }
+}

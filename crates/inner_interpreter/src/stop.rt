@@ -1,0 +1,13 @@
+//! Why a run stopped.
+
+/// Why a run stopped.
+#[derive(Clone, Copy, Debug, PartialEq, Eq)]
+pub enum Stop {
+    Bye,
+    InputEnded,
+    InputFault,
+    Fault(u16),
+    /// All ticks that were allowed are done.
+    Limit,
+    OutputFault,
+}

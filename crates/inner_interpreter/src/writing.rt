@@ -1,0 +1,102 @@
+//! A writer of `std` as an end.
+
+ghost use Rattle.std.specs.Prelude.{◌≡◌, false};
+ghost use Rattle.std.specs.Io.{WritesAtMost};
+ghost use Rattle.std.specs.Io.KnownBytes.{Keeps, WriteAppends};
+
+use crate::ends::{EndFault, Output};
+use std::io::{ErrorKind, Write};
+
+/// A writer of `std` as an `Output`. It tells its bytes where the writer does. A write that takes no byte fails.
+#[derive(Drop)]
+pub struct Writing<W> {
+    writer: W,
+    has_failed: bool,
+}
+
+impl<W: Write> Writing<W> {
+    /// The writer, of which no call has failed.
+    pub fn new(writer: W) -> Writing<W>
+        ensures bytes { ⟦<Writing<W> as Output>⟧.sent result ≡ W.contents writer }
+        ensures mark { ⟦<Writing<W> as Output>⟧.failed result ≡ false }
+    {
+        Writing {
+            writer,
+            has_failed: false,
+        }
+    }
+
+    /// The writer, with what it was sent.
+    pub fn into_inner(self) -> W
+        ensures { ⟦<Writing<W> as Output>⟧.sent self ≡ W.contents result }
+    {
+        self.writer
+    }
+}
+
+impl<W: Write> Output for Writing<W> {
+    ghost sent = { λ w. W.contents w.writer };
+
+    ghost failed = { λ w. w.has_failed };
+
+    fn send(&mut self, bytes: &[u8]) -> Result<usize, EndFault> {
+        match write_once(&mut self.writer, bytes) {
+            Ok(count) => {
+                if count == 0 {
+                    self.has_failed = true;
+                    return Err(EndFault);
+                }
+                Ok(count)
+            }
+            Err(fault) => {
+                self.has_failed = true;
+                Err(fault)
+            }
+        }
+    }
+
+    fn flush(&mut self) -> Result<(), EndFault> {
+        match flush_once(&mut self.writer) {
+            Ok(()) => Ok(()),
+            Err(fault) => {
+                self.has_failed = true;
+                Err(fault)
+            }
+        }
+    }
+}
+
+/// One write, tried again where a signal interrupts it.
+fn write_once<W: Write>(writer: &mut W, bytes: &[u8]) -> Result<usize, EndFault>
+    ensures bound { WritesAtMost result bytes.now }
+    ensures bytes { WriteAppends (W.contents writer.old) (W.contents writer.new) result bytes.now }
+{
+    for _ in 0..u64::MAX {
+        match writer.write(bytes) {
+            Ok(count) => return Ok(count),
+            Err(error) => {
+                if error.kind() != ErrorKind::Interrupted {
+                    return Err(EndFault);
+                }
+            }
+        }
+    }
+    Err(EndFault)
+}
+
+/// One flush, tried again where a signal interrupts it.
+fn flush_once<W: Write>(writer: &mut W) -> Result<(), EndFault>
+    ensures { Keeps (W.contents writer.old) (W.contents writer.new) }
+{
+    for _ in 0..u64::MAX {
+        match writer.flush() {
+            Ok(()) => return Ok(()),
+            Err(error) => {
+                if error.kind() != ErrorKind::Interrupted {
+                    return Err(EndFault);
+                }
+            }
+        }
+    }
+    Err(EndFault)
+}

@@ -1,0 +1,12 @@
+//! The input stream and its words.
+#![tactic(auto)]
+
+mod placing;
+mod source;
+#[cfg(test)]
+mod tests;
+mod words;
+
+pub use placing::{TooLong, place_word, word_bytes};
+pub use source::{NeedsBlock, stream};
+pub use words::{Stream, Word, next_word, parse_to, stream_law, word_law};

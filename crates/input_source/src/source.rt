@@ -1,0 +1,54 @@
+//! Where the stream stands.
+
+ghost use Rattle.std.specs.Prelude.{◌≤◌, IfOk};
+ghost use Rattle.input_source.specs.Streams.{IsStream};
+
+use crate::words::Stream;
+use block_buffers::{BLOCK_SIZE, Buffers};
+use memory::{FIRST_BUFFER, Memory};
+use thiserror::Error;
+
+/// The address of >IN.
+pub(crate) const IN: u16 = 20;
+
+/// The address of BLK.
+const BLK: u16 = 22;
+
+/// The address of #TIB.
+const TIB_COUNT: u16 = 24;
+
+/// Where the terminal's buffer begins.
+const TIB: u16 = 128;
+
+/// No buffer has the block that BLK names.
+#[derive(Clone, Copy, Debug, PartialEq, Eq, Error)]
+#[error("no buffer has the block that BLK names")]
+pub struct NeedsBlock;
+
+/// The input stream: where BLK is 0 the #TIB bytes of the terminal's buffer, else the 1,024 bytes of block BLK.
+///
+/// Its place is >IN, which past the size counts as the size. `NeedsBlock` where BLK isn't 0 and no buffer has that block.
+#[tactic(auto, unfolding(crate::specs::Streams::needs_block, crate::specs::Streams::stream_at, crate::specs::Streams::stream_size))]
+pub fn stream(memory: &Memory, buffers: &Buffers) -> Result<Stream, NeedsBlock>
+    ensures value { IsStream memory.now buffers.now result }
+    ensures within { IfOk result (λ s. s.place ≤ s.size) }
+{
+    let place = memory.cell(IN);
+    let block = memory.cell(BLK);
+    if block == 0 {
+        let size = memory.cell(TIB_COUNT);
+        return Ok(Stream {
+            at: TIB,
+            size,
+            place: place.min(size),
+        });
+    }
+    let Some(slot) = buffers.find(block) else {
+        return Err(NeedsBlock);
+    };
+    Ok(Stream {
+        at: (FIRST_BUFFER + BLOCK_SIZE * slot) as u16,
+        size: BLOCK_SIZE as u16,
+        place: place.min(BLOCK_SIZE as u16),
+    })
+}

@@ -1,0 +1,205 @@
+//! The machine's memory: 65,536 bytes, seen as the list of them. Addresses wrap at its end.
+#![tactic(auto)]
+
+mod access;
+mod snapshot;
+pub mod system;
+
+ghost use Rattle.std.specs.Prelude.{◌≡◌, ℕ, ◌+◌, ◌*◌, ◌<◌, ◌≤◌, ◌++◌, List, length, slice_index, IfOk};
+ghost use Rattle.memory.specs.Bytes.{byte, cell, put_byte, put_cell, bytes, zeros, front_put, page, with_page, filled, moved_up, moved_down, put_bytes};
+
+pub use access::{byte_at, cell_at, cell_bytes, set_byte_at, set_cell_at};
+pub use snapshot::Snapshot;
+use std::alloc::Global;
+use std::marker::Model;
+
+/// How many bytes memory has.
+pub const SIZE: usize = 65536;
+
+/// Where the block buffers begin.
+pub const FIRST_BUFFER: usize = 61440;
+
+/// Memory was not found.
+#[derive(Clone, Copy, Debug, PartialEq, Eq)]
+pub struct OutOfMemory;
+
+/// 65,536 bytes. A cell is two of them, the low byte at the lower address.
+#[derive(Drop)]
+pub struct Memory {
+    pub bytes: Box<[u8; 65536]>,
+}
+
+impl Model for Memory {
+    ghost use Rattle.std.specs.Prelude.{List, ℕ};
+
+    ghost Value = { List ℕ };
+
+    ghost view = { λ m. m.bytes.value };
+}
+
+impl Memory {
+    /// Memory of zeros.
+    #[tactic(auto, unfolding(crate::specs::Bytes::zeros))]
+    pub fn new(alloc: Global) -> Result<Memory, OutOfMemory>
+        ensures { IfOk result (λ m. m ≡ zeros) }
+    {
+        match Box::new(alloc, [0; 65536]) {
+            Ok(bytes) => Ok(Memory { bytes }),
+            Err(_) => Err(OutOfMemory),
+        }
+    }
+
+    /// Memory that begins with these bytes, and is zero behind them.
+    pub fn with_front(alloc: Global, bytes: &[u8]) -> Result<Memory, OutOfMemory>
+        requires { length bytes.now ≤ 65536 }
+        ensures { IfOk result (λ m. m ≡ front_put bytes.now zeros) }
+    {
+        let mut memory = Memory::new(alloc)?;
+        memory.put_front(bytes);
+        Ok(memory)
+    }
+
+    /// Writes `bytes` from address 0 on.
+    #[tactic(auto, unfolding(crate::specs::Bytes::front_put))]
+    fn put_front(&mut self, bytes: &[u8])
+        requires { length bytes.now ≤ 65536 }
+        ensures { self.new ≡ front_put bytes.now self.old }
+    {
+        let end = bytes.len();
+        self.bytes[0..end].copy_from_slice(bytes);
+    }
+
+    /// How many bytes there are, which every range and every cell rests on.
+    pub fn len(&self) -> usize
+        ensures value { result ≡ 65536 }
+        ensures bytes { length self.now ≡ 65536 }
+    {
+        self.bytes[..].len()
+    }
+
+    /// The byte at `at`.
+    pub fn byte(&self, at: u16) -> u8
+        ensures { result ≡ byte self.now at }
+    {
+        byte_at(&self.bytes, at)
+    }
+
+    /// The cell at `at`, whose high byte is at the next address.
+    pub fn cell(&self, at: u16) -> u16
+        ensures { result ≡ cell self.now at }
+    {
+        cell_at(&self.bytes, at)
+    }
+
+    /// Writes the byte at `at`.
+    pub fn set_byte(&mut self, at: u16, value: u8)
+        ensures { self.new ≡ put_byte self.old at value }
+    {
+        set_byte_at(&mut self.bytes, at, value);
+    }
+
+    /// Writes the cell at `at`.
+    pub fn set_cell(&mut self, at: u16, value: u16)
+        ensures { self.new ≡ put_cell self.old at value }
+    {
+        set_cell_at(&mut self.bytes, at, value);
+    }
+
+    /// Writes `value` to each of the `n` addresses from `at` on.
+    #[tactic(auto, using(crate::proofs::Steps::filled_none, crate::proofs::Steps::filled_more))]
+    pub fn fill(&mut self, at: u16, n: u16, value: u8)
+        ensures { self.new ≡ filled self.old at n value }
+    {
+        for i in 0..n {
+            self.set_byte(at.wrapping_add(i), value);
+        }
+    }
+
+    /// Moves `n` bytes one by one, the first one first (CMOVE).
+    #[tactic(auto, using(crate::proofs::Steps::moved_up_none, crate::proofs::Steps::moved_up_more))]
+    pub fn move_up(&mut self, from: u16, to: u16, n: u16)
+        ensures { self.new ≡ moved_up self.old from to n }
+    {
+        for i in 0..n {
+            self.set_byte(to.wrapping_add(i), self.byte(from.wrapping_add(i)));
+        }
+    }
+
+    /// Moves `n` bytes one by one, the last one first (CMOVE>).
+    #[tactic(auto, using(crate::proofs::Steps::moved_down_none, crate::proofs::Steps::moved_down_more))]
+    pub fn move_down(&mut self, from: u16, to: u16, n: u16)
+        ensures { self.new ≡ moved_down self.old from to n }
+    {
+        for i in (0..n).rev() {
+            self.set_byte(to.wrapping_add(i), self.byte(from.wrapping_add(i)));
+        }
+    }
+
+    /// Writes `bytes` from `at` on.
+    #[tactic(auto, using(crate::proofs::Puts::puts))]
+    pub fn set_bytes(&mut self, at: u16, bytes: &[u8])
+        ensures { self.new ≡ put_bytes self.old at bytes.now }
+    {
+        let mut place = at;
+        for byte in bytes {
+            self.set_byte(place, *byte);
+            place = place.wrapping_add(1);
+        }
+    }
+
+    /// The `n` bytes from `at` on, in two pieces: the second is empty but where the first ends at memory's end.
+    #[tactic(auto, unfolding(crate::specs::Bytes::bytes))]
+    pub fn span(&self, at: u16, n: u16) -> (&[u8], &[u8])
+        ensures bytes { result.0.now ++ result.1.now ≡ bytes self.now at n }
+        ensures len { length result.0.now + length result.1.now ≡ n }
+    {
+        let memory: &[u8; 65536] = &self.bytes;
+        let start = at as usize;
+        let end = start + n as usize;
+        if end <= SIZE {
+            (&memory[start..end], &memory[..0])
+        } else {
+            (&memory[start..], &memory[..end - SIZE])
+        }
+    }
+
+    /// Byte `i` of the `n` bytes from `at` on.
+    #[tactic(auto, using(crate::proofs::Ranges::ranges), unfolding(crate::specs::Bytes::byte))]
+    pub fn byte_in(&self, at: u16, n: u16, i: u16) -> u8
+        requires { i < n }
+        ensures value { result ≡ slice_index (bytes self.now at n) i }
+        ensures len { length (bytes self.now at n) ≡ n }
+    {
+        self.bytes[at.wrapping_add(i) as usize]
+    }
+
+    /// The 1,024 bytes of the buffer of a slot.
+    #[tactic(auto, unfolding(crate::specs::Bytes::page))]
+    pub fn page(&self, slot: usize) -> &[u8; 1024]
+        requires { slot < 4 }
+        ensures { result.now ≡ page self.now slot }
+    {
+        let start = FIRST_BUFFER + 1024 * slot;
+        let Some((page, _)) = self.bytes[start..].split_first_chunk::<1024>() else {
+            unreachable!()
+        };
+        page
+    }
+
+    /// Writes the buffer of a slot.
+    #[tactic(auto, unfolding(crate::specs::Bytes::with_page))]
+    pub fn set_page(&mut self, slot: usize, page: &[u8; 1024])
+        requires { slot < 4 }
+        ensures { self.new ≡ with_page self.old slot page.now }
+    {
+        let start = FIRST_BUFFER + 1024 * slot;
+        self.bytes[start..start + 1024].copy_from_slice(page);
+    }
+
+    /// A copy of all bytes, which takes no memory.
+    pub fn snapshot(&self) -> Snapshot
+        ensures { result ≡ self.now }
+    {
+        Snapshot::of(&self.bytes)
+    }
+}

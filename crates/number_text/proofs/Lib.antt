@@ -1,0 +1,6 @@
+pub mod Values
+pub mod Conversions
+pub mod Expansions
+pub mod ExpansionLaw
+pub mod Pictures
+pub mod Spellings

@@ -1,0 +1,5 @@
+pub mod Digits
+pub mod Base
+pub mod Numbers
+pub mod Conversion
+pub mod Picture

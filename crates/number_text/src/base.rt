@@ -1,0 +1,29 @@
+//! The base that numbers are read and written in.
+
+ghost use Rattle.number_text.specs.Base.{IsBaseOf};
+
+use memory::Memory;
+use thiserror::Error;
+
+/// The address of BASE.
+const BASE: u16 = 18;
+
+/// BASE is outside 2 to 72.
+#[derive(Clone, Copy, Debug, PartialEq, Eq, Error)]
+#[error("BASE is outside 2 to 72")]
+pub struct BadBase;
+
+/// BASE, where it is a base.
+#[tactic(auto, unfolding(crate::specs::Base::has_base))]
+pub(crate) fn base_of(memory: &Memory) -> Result<u16, BadBase>
+    ensures { IsBaseOf memory.now result }
+{
+    let base = memory.cell(BASE);
+    if base < 2 {
+        return Err(BadBase);
+    }
+    if base > 72 {
+        return Err(BadBase);
+    }
+    Ok(base)
+}

@@ -1,0 +1,81 @@
+//! Numbers that texts spell.
+
+ghost use Rattle.std.specs.Prelude.{◌≡◌, ◌<◌, ℕ, List, Bool, true, length, IsTrue, MatchOption};
+ghost use Rattle.number_text.specs.Digits.{is_base, are_digits};
+ghost use Rattle.number_text.specs.Numbers.{IsNumber, IsNoNumber, IsSpelling, with_sign, is_minus, has_dot, behind_minus, before_dot, digit_part, is_double, spelled};
+
+use crate::digits::continued;
+use crate::value::Number;
+
+/// Whether a text begins with `-`, and what is behind it.
+#[tactic(auto, unfolding(crate::specs::Numbers::is_minus))]
+fn split_minus(text: &[u8]) -> (bool, &[u8])
+    ensures minus { result.0 ≡ is_minus text.now }
+    ensures rest { result.1.now ≡ behind_minus text.now }
+{
+    if text.is_empty() {
+        return (false, text);
+    }
+    if text[0] != b'-' {
+        return (false, text);
+    }
+    (true, &text[1..])
+}
+
+/// Whether a text ends with `.`, and what is before it.
+#[tactic(auto, unfolding(crate::specs::Numbers::has_dot))]
+fn split_dot(text: &[u8]) -> (bool, &[u8])
+    ensures dot { result.0 ≡ has_dot text.now }
+    ensures rest { result.1.now ≡ before_dot text.now }
+{
+    if text.is_empty() {
+        return (false, text);
+    }
+    let last = text.len() - 1;
+    if text[last] != b'.' {
+        return (false, text);
+    }
+    (true, &text[..last])
+}
+
+/// A value with the sign that was read, modulo 2^32.
+fn negated(value: u32, minus: bool) -> u32
+    ensures { result ≡ with_sign minus value }
+{
+    if minus {
+        return 0u32.wrapping_sub(value);
+    }
+    value
+}
+
+/// The number that a text spells in a base of 2 to 72: an optional `-`, one or more digits below the base, an
+/// optional last `.`.
+///
+/// With the `.` it is a double, modulo 2^32; else a single, the low 16 bits. None where the text spells no number.
+#[tactic(auto, using(crate::proofs::Values::value_is), unfolding(crate::specs::Numbers::is_number, crate::specs::Numbers::is_double, crate::specs::Numbers::number_value))]
+pub fn number(text: &[u8], base: u16) -> Option<Number>
+    requires { IsTrue (is_base base) }
+    ensures { MatchOption result (IsNoNumber base text.now) (IsNumber base text.now) }
+{
+    let (minus, unsigned) = split_minus(text);
+    let (dot, digits) = split_dot(unsigned);
+    if digits.is_empty() {
+        return None;
+    }
+    let Some(magnitude) = continued(0, digits, base) else {
+        return None;
+    };
+    let value = negated(magnitude, minus);
+    if dot {
+        return Some(Number::Double(value));
+    }
+    Some(Number::Single((value % 65536) as u16))
+}
+
+/// The law of numbers: a text of an optional `-`, one or more digits and an optional `.` is a number of their value,
+/// and every text is put together so from the parts that it is tested by.
+pub fn number_law()
+    ensures read { (base : ℕ) (ds : List ℕ) (minus dot : Bool) → IsTrue (is_base base) → 0 < length ds → are_digits base ds ≡ true →
+        IsSpelling base (spelled minus ds dot) minus ds dot }
+    ensures parts { (text : List ℕ) → text ≡ spelled (is_minus text) (digit_part text) (is_double text) }
+{}

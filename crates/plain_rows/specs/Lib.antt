@@ -1,0 +1,9 @@
+pub mod Whole
+pub mod Row
+pub mod Control
+pub mod Stack
+pub mod Cells
+pub mod Doubles
+pub mod Memory
+pub mod Table
+pub mod Stops

@@ -1,0 +1,163 @@
+//! Rows 96 to 107: memory.
+
+#![tactic(auto, using(crate::proofs::Takes::takes))]
+
+ghost use Rattle.std.specs.Prelude.{◌≡◌};
+ghost use Rattle.plain_rows.specs.Memory.{fetch, store, plus_store, two_store, cmove, dash_trailing, trimmed, c_fetch, c_store, two_fetch, cmove_down, fill, count};
+
+use crate::ending::leave;
+use crate::parts::{Outcome, Parts};
+use memory::Memory;
+
+#[tactic(auto, using(crate::proofs::Trimmed::trimmed_none, crate::proofs::Trimmed::trimmed_more))]
+fn trim(memory: &Memory, a: u16, u: u16) -> u16
+    ensures { result ≡ trimmed memory.now a u }
+{
+    let mut n = u;
+    while n > 0 && memory.byte(a.wrapping_add(n - 1)) == b' ' {
+        n -= 1;
+    }
+    n
+}
+
+/// 96 `@` ( a -- x )
+pub fn fetch(parts: &mut Parts) -> Outcome
+    ensures { (parts.new, result) ≡ fetch parts.old }
+{
+    let Some(a) = parts.values.pick(0) else {
+        return Outcome::Fault(1);
+    };
+    let x = parts.memory.cell(a);
+    leave(parts, 1, &[x])
+}
+
+/// 97 `!` ( x a -- )
+pub fn store(parts: &mut Parts) -> Outcome
+    ensures { (parts.new, result) ≡ store parts.old }
+{
+    let Some((x, a)) = parts.values.top2() else {
+        return Outcome::Fault(1);
+    };
+    parts.values.lower(2);
+    parts.memory.set_cell(a, x);
+    Outcome::Done
+}
+
+/// 98 `C@` ( a -- c )
+pub fn c_fetch(parts: &mut Parts) -> Outcome
+    ensures { (parts.new, result) ≡ c_fetch parts.old }
+{
+    let Some(a) = parts.values.pick(0) else {
+        return Outcome::Fault(1);
+    };
+    let c = u16::from(parts.memory.byte(a));
+    leave(parts, 1, &[c])
+}
+
+/// 99 `C!` ( c a -- )
+pub fn c_store(parts: &mut Parts) -> Outcome
+    ensures { (parts.new, result) ≡ c_store parts.old }
+{
+    let Some((c, a)) = parts.values.top2() else {
+        return Outcome::Fault(1);
+    };
+    parts.values.lower(2);
+    parts.memory.set_byte(a, (c % 256) as u8);
+    Outcome::Done
+}
+
+/// 100 `+!` ( x a -- )
+pub fn plus_store(parts: &mut Parts) -> Outcome
+    ensures { (parts.new, result) ≡ plus_store parts.old }
+{
+    let Some((x, a)) = parts.values.top2() else {
+        return Outcome::Fault(1);
+    };
+    parts.values.lower(2);
+    let sum = parts.memory.cell(a).wrapping_add(x);
+    parts.memory.set_cell(a, sum);
+    Outcome::Done
+}
+
+/// 101 `2@` ( a -- d )
+pub fn two_fetch(parts: &mut Parts) -> Outcome
+    ensures { (parts.new, result) ≡ two_fetch parts.old }
+{
+    let Some(a) = parts.values.pick(0) else {
+        return Outcome::Fault(1);
+    };
+    let high = parts.memory.cell(a);
+    let low = parts.memory.cell(a.wrapping_add(2));
+    leave(parts, 1, &[high, low])
+}
+
+/// 102 `2!` ( d a -- )
+pub fn two_store(parts: &mut Parts) -> Outcome
+    ensures { (parts.new, result) ≡ two_store parts.old }
+{
+    let Some((low, high, a)) = parts.values.top3() else {
+        return Outcome::Fault(1);
+    };
+    parts.values.lower(3);
+    parts.memory.set_cell(a, high);
+    parts.memory.set_cell(a.wrapping_add(2), low);
+    Outcome::Done
+}
+
+/// 103 `CMOVE` ( a1 a2 u -- )
+pub fn cmove(parts: &mut Parts) -> Outcome
+    ensures { (parts.new, result) ≡ cmove parts.old }
+{
+    let Some((from, to, n)) = parts.values.top3() else {
+        return Outcome::Fault(1);
+    };
+    parts.values.lower(3);
+    parts.memory.move_up(from, to, n);
+    Outcome::Done
+}
+
+/// 104 `CMOVE>` ( a1 a2 u -- )
+pub fn cmove_down(parts: &mut Parts) -> Outcome
+    ensures { (parts.new, result) ≡ cmove_down parts.old }
+{
+    let Some((from, to, n)) = parts.values.top3() else {
+        return Outcome::Fault(1);
+    };
+    parts.values.lower(3);
+    parts.memory.move_down(from, to, n);
+    Outcome::Done
+}
+
+/// 105 `FILL` ( a u c -- )
+pub fn fill(parts: &mut Parts) -> Outcome
+    ensures { (parts.new, result) ≡ fill parts.old }
+{
+    let Some((a, u, c)) = parts.values.top3() else {
+        return Outcome::Fault(1);
+    };
+    parts.values.lower(3);
+    parts.memory.fill(a, u, (c % 256) as u8);
+    Outcome::Done
+}
+
+/// 106 `COUNT` ( a -- a+1 c )
+pub fn count(parts: &mut Parts) -> Outcome
+    ensures { (parts.new, result) ≡ count parts.old }
+{
+    let Some(a) = parts.values.pick(0) else {
+        return Outcome::Fault(1);
+    };
+    let c = u16::from(parts.memory.byte(a));
+    leave(parts, 1, &[c, a.wrapping_add(1)])
+}
+
+/// 107 `-TRAILING` ( a u -- a u2 )
+pub fn dash_trailing(parts: &mut Parts) -> Outcome
+    ensures { (parts.new, result) ≡ dash_trailing parts.old }
+{
+    let Some((a, u)) = parts.values.top2() else {
+        return Outcome::Fault(1);
+    };
+    let n = trim(&parts.memory, a, u);
+    leave(parts, 2, &[n, a])
+}

@@ -1,0 +1,66 @@
+//! What the rows read and write, and what they answer.
+
+use block_buffers::buffers::Buffers;
+use memory::Memory;
+use stacks::Stack;
+use std::marker::Model;
+
+/// Bytes of memory, by address and number. They go on at address 0 behind memory's end.
+#[derive(Clone, Copy, Debug, PartialEq, Eq)]
+pub struct Span {
+    pub at: u16,
+    pub len: u16,
+}
+
+/// What a row asks of the world.
+#[derive(Clone, Copy, Debug, PartialEq, Eq)]
+pub enum Request {
+    /// A typed byte.
+    Key,
+    /// A line of at most `n` typed bytes.
+    Line { n: u16 },
+    /// The bytes of a block.
+    Read { block: u16 },
+    /// That a block's bytes be kept.
+    Write { block: u16 },
+}
+
+/// What a row answers.
+#[derive(Clone, Copy, Debug, PartialEq, Eq)]
+pub enum Outcome {
+    /// The row is done.
+    Done,
+    /// It is done, and shows these bytes of memory as the row leaves it.
+    Show(Span),
+    /// It is done, and shows this byte.
+    Byte(u8),
+    /// It can't be done before this is answered.
+    Ask(Request),
+    /// It can't be done: a fault of this number.
+    Fault(u16),
+    /// It shows these bytes, and is fault 17.
+    Abort(Span),
+    /// It is done, and the machine halts.
+    Halt,
+}
+
+/// What the rows read and write: memory, the data stack and the return stack, the place in the thread (`ip`),
+/// the token that comes next in its place (`pending`), the block buffers, and how many blocks the device has.
+#[derive(Drop)]
+pub struct Parts {
+    pub memory: Memory,
+    pub values: Stack,
+    pub returns: Stack,
+    pub ip: u16,
+    pub pending: Option<u16>,
+    pub buffers: Buffers,
+    pub block_count: u32,
+}
+
+impl Model for Parts {
+    ghost use Rattle.plain_rows.specs.Whole.{Whole};
+
+    ghost Value = { Whole };
+
+    ghost view = { λ p. record { memory = p.memory; values = p.values; returns = p.returns; ip = p.ip; pending = p.pending; buffers = p.buffers; block_count = p.block_count } };
+}

@@ -1,0 +1,119 @@
+use Rattle.std.specs.Prelude.{ℕ, ◌+◌, ◌%◌, List, [], ◌∷◌, length}
+use Rattle.cells.specs.Cell.{wrap}
+use Rattle.compiling_words.specs.Code.{runtime, control_code, literal_code}
+use Rattle.compiling_words.specs.Definitions.{ended}
+use Rattle.compiling_words.specs.Laying.{laid, can_allot, allotted, resolved}
+use Rattle.dictionary.specs.Laying.{fits}
+use Rattle.memory.specs.Bytes.{cell, put_cell, cell_bytes}
+use Rattle.memory.specs.declared.system.TheConstants.{STATE, DP}
+use Rattle.plain_rows.specs.Whole.{Whole}
+use Rattle.plain_rows.specs.Row.{After, done, takes1, takes2, needs, leaves, room}
+
+-- lays the bytes, and leaves d on the data stack
+unfoldable pub compiles : Whole → List ℕ → List ℕ → After
+compiles s bs d =
+    needs s 8 (fits s.memory (length bs)) (room s d (done (record s { values = d; memory = laid s.memory bs })))
+
+-- the same, and then the cell at a is the new HERE
+unfoldable pub resolves : Whole → List ℕ → ℕ → List ℕ → After
+resolves s bs a d =
+    needs s 8 (fits s.memory (length bs)) (room s d (done (record s {
+      values = d;
+      memory = put_cell (laid s.memory bs) a (wrap (cell s.memory DP + length bs));
+    })))
+
+-- the place n bytes behind HERE
+abbrev pub ahead : Whole → ℕ → ℕ
+ahead s n = wrap (cell s.memory DP + n)
+
+-- 169 ; ( -- ): the runtime cell of EXIT; then the newest header isn't hidden, and STATE := 0
+abbrev pub semicolon : Whole → After
+semicolon s = needs s 8 (fits s.memory 2) (done (record s { memory = ended s.memory }))
+
+-- 170 [ ( -- )
+abbrev pub left_bracket : Whole → After
+left_bracket s = done (record s { memory = put_cell s.memory STATE 0 })
+
+-- 171 ] ( -- )
+abbrev pub right_bracket : Whole → After
+right_bracket s = done (record s { memory = put_cell s.memory STATE 65535 })
+
+-- 172 , ( x -- )
+abbrev pub comma : Whole → After
+comma s = takes1 s (λ x d. compiles s (cell_bytes x) d)
+
+-- 173 C, ( c -- )
+abbrev pub c_comma : Whole → After
+c_comma s = takes1 s (λ c d. compiles s (c % 256 ∷ []) d)
+
+-- 174 ALLOT ( n -- )
+abbrev pub allot : Whole → After
+allot s = takes1 s (λ n d. needs s 8 (can_allot s.memory n) (done (record s { values = d; memory = allotted s.memory n })))
+
+-- 175 LITERAL ( x -- )
+abbrev pub literal : Whole → After
+literal s = takes1 s (λ x d. compiles s (literal_code s.memory x) d)
+
+-- 178 DOES> ( -- )
+abbrev pub does : Whole → After
+does s = compiles s (cell_bytes (runtime s.memory 18)) s.values
+
+-- 179 IF ( -- a ): a is where the branch's target will be
+abbrev pub if_row : Whole → After
+if_row s = compiles s (control_code s.memory 8 0) (ahead s 2 ∷ s.values)
+
+-- 180 ELSE ( a -- a2 ): the IF goes behind the branch, and a2 is where the branch's target will be
+abbrev pub else_row : Whole → After
+else_row s = takes1 s (λ a d. resolves s (control_code s.memory 7 0) a (ahead s 2 ∷ d))
+
+-- 181 THEN ( a -- )
+abbrev pub then_row : Whole → After
+then_row s = takes1 s (λ a d. done (record s { values = d; memory = resolved s.memory a }))
+
+-- 182 BEGIN ( -- a )
+abbrev pub begin : Whole → After
+begin s = leaves s (cell s.memory DP ∷ s.values)
+
+-- 183 UNTIL ( a -- )
+abbrev pub until : Whole → After
+until s = takes1 s (λ a d. compiles s (control_code s.memory 8 a) d)
+
+-- 184 WHILE ( -- a ): as IF
+abbrev pub while_row : Whole → After
+while_row s = if_row s
+
+-- 185 REPEAT ( a b -- ): back to a, and the WHILE of b goes behind that
+abbrev pub repeat : Whole → After
+repeat s = takes2 s (λ a b d. resolves s (control_code s.memory 7 a) b d)
+
+-- 186 AGAIN ( a -- )
+abbrev pub again : Whole → After
+again s = takes1 s (λ a d. compiles s (control_code s.memory 7 a) d)
+
+-- 187 DO ( -- a b ): a is where the loop's end will be, and b is its body
+abbrev pub do_row : Whole → After
+do_row s = compiles s (control_code s.memory 9 0) (ahead s 4 ∷ ahead s 2 ∷ s.values)
+
+-- 188 LOOP ( a b -- )
+abbrev pub loop_row : Whole → After
+loop_row s = takes2 s (λ a b d. resolves s (control_code s.memory 10 b) a d)
+
+-- 189 +LOOP ( a b -- )
+abbrev pub plus_loop : Whole → After
+plus_loop s = takes2 s (λ a b d. resolves s (control_code s.memory 11 b) a d)
+
+-- 194 <MARK ( -- a )
+abbrev pub mark_back : Whole → After
+mark_back s = leaves s (cell s.memory DP ∷ s.values)
+
+-- 195 <RESOLVE ( a -- )
+abbrev pub resolve_back : Whole → After
+resolve_back s = takes1 s (λ a d. compiles s (cell_bytes a) d)
+
+-- 196 >MARK ( -- a )
+abbrev pub mark_forward : Whole → After
+mark_forward s = compiles s (cell_bytes 0) (cell s.memory DP ∷ s.values)
+
+-- 197 >RESOLVE ( a -- )
+abbrev pub resolve_forward : Whole → After
+resolve_forward s = takes1 s (λ a d. done (record s { values = d; memory = resolved s.memory a }))

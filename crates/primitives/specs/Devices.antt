@@ -1,0 +1,61 @@
+use Rattle.std.specs.Prelude.{◌%◌, ◌∷◌, ◌==◌, nat_lt, if◌then◌else◌}
+use Rattle.plain_rows.specs.Whole.{Whole}
+use Rattle.plain_rows.specs.declared.parts.Outcome.TheVariants.{Byte, Show, Ask}
+use Rattle.plain_rows.specs.declared.parts.Request.TheVariants.{Key, Line}
+use Rattle.plain_rows.specs.Row.{After, done, takes1, takes2, room, needs}
+use Rattle.block_buffers.specs.Entries.{holds, slot_of, victim, moved_front, assigned, front_marked, has_updated, first_updated, unassigned}
+use Rattle.memory.specs.Bytes.{put_cell}
+use Rattle.memory.specs.declared.system.TheConstants.{SPAN}
+use Rattle.primitives.specs.Blocks.{address_of, write_of, fetches, with_block}
+
+-- 112 BLOCK ( u -- a ): a is where block u is, which is fetched and referenced
+abbrev pub block : Whole → After
+block s = takes1 s (λ u d. fetches s u (λ t slot. done (record t { values = address_of slot ∷ d })))
+
+-- where a buffer is given to block u: the victim's is written first where it is updated
+unfoldable pub gives : Whole → After → After
+gives s after = if (victim s.buffers).updated then (s, write_of (victim s.buffers)) else after
+
+-- 113 BUFFER ( u -- a ): as BLOCK, but that no bytes are read
+abbrev pub buffer : Whole → After
+buffer s = takes1 s (λ u d. needs s 7 (nat_lt u s.block_count) (
+    if holds s.buffers u then done (record (with_block s u) { values = address_of (slot_of s.buffers u) ∷ d })
+    else gives s (done (record s { values = address_of (victim s.buffers).slot ∷ d; buffers = assigned u s.buffers }))))
+
+-- 114 UPDATE ( -- )
+abbrev pub update : Whole → After
+update s = done (record s { buffers = front_marked s.buffers })
+
+-- goes on where no buffer is updated; else the write of the updated one with the lowest slot is asked
+unfoldable pub saves : Whole → After → After
+saves s after = if has_updated s.buffers then (s, write_of (first_updated s.buffers)) else after
+
+-- 115 SAVE-BUFFERS ( -- )
+abbrev pub save_buffers : Whole → After
+save_buffers s = saves s (done s)
+
+-- 116 FLUSH ( -- )
+abbrev pub flush : Whole → After
+flush s = saves s (done (record s { buffers = unassigned s.buffers }))
+
+-- 117 EMPTY-BUFFERS ( -- )
+abbrev pub empty_buffers : Whole → After
+empty_buffers s = done (record s { buffers = unassigned s.buffers })
+
+-- 118 KEY ( -- c ): where c will have room, its byte is asked
+abbrev pub key : Whole → After
+key s = room s (0 ∷ s.values) (s, Ask Key)
+
+-- 119 EXPECT ( a u -- ): a line is asked; where u is 0 none is, and SPAN := 0
+abbrev pub expect : Whole → After
+expect s = takes2 s (λ a u d.
+    if u == 0 then done (record s { values = d; memory = put_cell s.memory SPAN 0 })
+    else (s, Ask (Line u)))
+
+-- 120 EMIT ( c -- ): shows the byte
+abbrev pub emit : Whole → After
+emit s = takes1 s (λ c d. (record s { values = d }, Byte (c % 256)))
+
+-- 121 TYPE ( a u -- ): shows u bytes from a on
+abbrev pub type_out : Whole → After
+type_out s = takes2 s (λ a u d. (record s { values = d }, Show (record { at = a; len = u })))

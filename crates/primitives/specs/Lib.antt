@@ -1,0 +1,11 @@
+pub mod Blocks
+pub mod Devices
+pub mod Numbers
+pub mod Streams
+pub mod Names
+pub mod Dictionary
+pub mod Interpret
+pub mod Defining
+pub mod Compiling
+pub mod Editor
+pub mod Table

@@ -1,0 +1,55 @@
+//! A block that a row needs.
+
+ghost use Rattle.std.specs.Prelude.{◌≡◌, ◌<◌};
+ghost use Rattle.primitives.specs.Blocks.{IsFetched, address_of, write_of, without_block};
+
+use block_buffers::entry::Entry;
+use plain_rows::parts::{Outcome, Parts, Request};
+
+/// References block `u`, and gives its slot; or says what stops the row, which is then unchanged: fault 7, or the
+/// request that comes first.
+#[tactic(auto, unfolding(crate::specs::Blocks::has_block, crate::specs::Blocks::without_block))]
+pub fn fetch(parts: &mut Parts, u: u16) -> Result<usize, Outcome>
+    ensures { IsFetched parts.old parts.new u result }
+{
+    match parts.buffers.find(u) {
+        Some(slot) if u32::from(u) < parts.block_count => {
+            parts.buffers.touch(u);
+            Ok(slot)
+        }
+        _ => Err(without_block(parts, u)),
+    }
+}
+
+/// What stops a row that needs block `u`, which no buffer has: fault 7 where it isn't available, else the request that
+/// comes first.
+#[tactic(auto, unfolding(crate::specs::Blocks::without_block))]
+pub fn without_block(parts: &Parts, u: u16) -> Outcome
+    ensures { result ≡ without_block parts.now u }
+{
+    if u32::from(u) >= parts.block_count {
+        return Outcome::Fault(7);
+    }
+    let victim = parts.buffers.victim();
+    if victim.updated {
+        return write_of(&victim);
+    }
+    Outcome::Ask(Request::Read { block: u })
+}
+
+/// Asks that the block of an entry be written.
+pub fn write_of(entry: &Entry) -> Outcome
+    ensures { result ≡ write_of entry.now }
+{
+    Outcome::Ask(Request::Write {
+        block: entry.block.unwrap_or(0),
+    })
+}
+
+/// Where the bytes of a slot begin.
+pub fn address_of(slot: usize) -> u16
+    requires { slot < 4 }
+    ensures { result ≡ address_of slot }
+{
+    (61440 + 1024 * slot) as u16
+}

@@ -1,0 +1,287 @@
+//! Rows 169 to 197: the words that lay code, but for those that take names or texts out of the stream.
+
+#![tactic(auto, using(plain_rows::proofs::Takes::takes))]
+
+ghost use Rattle.std.specs.Prelude.{◌≡◌, ◌≤◌, ◌++◌, length, drop};
+ghost use Rattle.primitives.specs.Compiling.{compiles, resolves, ahead, semicolon, left_bracket, right_bracket, comma, c_comma, allot, literal, does, if_row, else_row, then_row, begin, until, while_row, repeat, again, do_row, loop_row, plus_loop, mark_back, resolve_back, mark_forward, resolve_forward};
+
+use compiling_words::{Control, control_code, end_definition, literal_code, runtime};
+use dictionary::{fits, lay_at};
+use memory::cell_bytes;
+use memory::system::{DP, STATE};
+use plain_rows::leave;
+use plain_rows::parts::{Outcome, Parts};
+
+/// Lays bytes, and puts the cells `given`, the new top first, in place of the `taken` top cells.
+#[tactic(auto, unfolding(plain_rows::specs::Row::room, crate::specs::Compiling::compiles))]
+pub fn compile(parts: &mut Parts, bytes: &[u8], taken: usize, given: &[u16]) -> Outcome
+    requires { taken ≤ length parts.old.values }
+    ensures { (parts.new, result) ≡ compiles parts.old bytes.now (given.now ++ drop taken parts.old.values) }
+{
+    if !fits(&parts.memory, bytes.len()) {
+        return Outcome::Fault(8);
+    }
+    if parts.values.replace(taken, given).is_err() {
+        return Outcome::Fault(2);
+    }
+    let here = parts.memory.cell(DP);
+    lay_at(&mut parts.memory, here, bytes);
+    Outcome::Done
+}
+
+/// The same, and then the cell at `a` is the new HERE.
+#[tactic(auto, unfolding(plain_rows::specs::Row::room, crate::specs::Compiling::resolves))]
+fn resolve(parts: &mut Parts, bytes: &[u8], a: u16, taken: usize, given: &[u16]) -> Outcome
+    requires { taken ≤ length parts.old.values }
+    ensures { (parts.new, result) ≡ resolves parts.old bytes.now a (given.now ++ drop taken parts.old.values) }
+{
+    if !fits(&parts.memory, bytes.len()) {
+        return Outcome::Fault(8);
+    }
+    if parts.values.replace(taken, given).is_err() {
+        return Outcome::Fault(2);
+    }
+    let here = parts.memory.cell(DP);
+    lay_at(&mut parts.memory, here, bytes);
+    parts
+        .memory
+        .set_cell(a, here.wrapping_add(bytes.len() as u16));
+    Outcome::Done
+}
+
+/// The place `n` bytes behind HERE.
+fn ahead(parts: &Parts, n: u16) -> u16
+    ensures { result ≡ ahead parts.now n }
+{
+    parts.memory.cell(DP).wrapping_add(n)
+}
+
+/// 169 `;` ( -- )
+pub fn semicolon(parts: &mut Parts) -> Outcome
+    ensures { (parts.new, result) ≡ semicolon parts.old }
+{
+    match end_definition(&mut parts.memory) {
+        Ok(()) => Outcome::Done,
+        Err(_) => Outcome::Fault(8),
+    }
+}
+
+/// 170 `[` ( -- )
+pub fn left_bracket(parts: &mut Parts) -> Outcome
+    ensures { (parts.new, result) ≡ left_bracket parts.old }
+{
+    parts.memory.set_cell(STATE, 0);
+    Outcome::Done
+}
+
+/// 171 `]` ( -- )
+pub fn right_bracket(parts: &mut Parts) -> Outcome
+    ensures { (parts.new, result) ≡ right_bracket parts.old }
+{
+    parts.memory.set_cell(STATE, 65535);
+    Outcome::Done
+}
+
+/// 172 `,` ( x -- )
+pub fn comma(parts: &mut Parts) -> Outcome
+    ensures { (parts.new, result) ≡ comma parts.old }
+{
+    let Some(x) = parts.values.pick(0) else {
+        return Outcome::Fault(1);
+    };
+    compile(parts, &cell_bytes(x), 1, &[])
+}
+
+/// 173 `C,` ( c -- )
+pub fn c_comma(parts: &mut Parts) -> Outcome
+    ensures { (parts.new, result) ≡ c_comma parts.old }
+{
+    let Some(c) = parts.values.pick(0) else {
+        return Outcome::Fault(1);
+    };
+    compile(parts, &[(c % 256) as u8], 1, &[])
+}
+
+/// 174 `ALLOT` ( n -- )
+pub fn allot(parts: &mut Parts) -> Outcome
+    ensures { (parts.new, result) ≡ allot parts.old }
+{
+    let Some(n) = parts.values.pick(0) else {
+        return Outcome::Fault(1);
+    };
+    if compiling_words::allot(&mut parts.memory, n).is_err() {
+        return Outcome::Fault(8);
+    }
+    parts.values.lower(1);
+    Outcome::Done
+}
+
+/// 175 `LITERAL` ( x -- )
+pub fn literal(parts: &mut Parts) -> Outcome
+    ensures { (parts.new, result) ≡ literal parts.old }
+{
+    let Some(x) = parts.values.pick(0) else {
+        return Outcome::Fault(1);
+    };
+    let code = literal_code(&parts.memory, x);
+    compile(parts, &code, 1, &[])
+}
+
+/// 178 `DOES>` ( -- )
+pub fn does(parts: &mut Parts) -> Outcome
+    ensures { (parts.new, result) ≡ does parts.old }
+{
+    let code = cell_bytes(runtime(&parts.memory, Control::Does));
+    compile(parts, &code, 0, &[])
+}
+
+/// 179 `IF` ( -- a )
+pub fn if_row(parts: &mut Parts) -> Outcome
+    ensures { (parts.new, result) ≡ if_row parts.old }
+{
+    let code = control_code(&parts.memory, Control::ZeroBranch, 0);
+    let a = ahead(parts, 2);
+    compile(parts, &code, 0, &[a])
+}
+
+/// 180 `ELSE` ( a -- a2 )
+pub fn else_row(parts: &mut Parts) -> Outcome
+    ensures { (parts.new, result) ≡ else_row parts.old }
+{
+    let Some(a) = parts.values.pick(0) else {
+        return Outcome::Fault(1);
+    };
+    let code = control_code(&parts.memory, Control::Branch, 0);
+    let a2 = ahead(parts, 2);
+    resolve(parts, &code, a, 1, &[a2])
+}
+
+/// 181 `THEN` ( a -- )
+pub fn then_row(parts: &mut Parts) -> Outcome
+    ensures { (parts.new, result) ≡ then_row parts.old }
+{
+    let Some(a) = parts.values.pick(0) else {
+        return Outcome::Fault(1);
+    };
+    compiling_words::resolve_forward(&mut parts.memory, a);
+    parts.values.lower(1);
+    Outcome::Done
+}
+
+/// 182 `BEGIN` ( -- a )
+pub fn begin(parts: &mut Parts) -> Outcome
+    ensures { (parts.new, result) ≡ begin parts.old }
+{
+    let a = compiling_words::mark_back(&parts.memory);
+    leave(parts, 0, &[a])
+}
+
+/// 183 `UNTIL` ( a -- )
+pub fn until(parts: &mut Parts) -> Outcome
+    ensures { (parts.new, result) ≡ until parts.old }
+{
+    let Some(a) = parts.values.pick(0) else {
+        return Outcome::Fault(1);
+    };
+    let code = control_code(&parts.memory, Control::ZeroBranch, a);
+    compile(parts, &code, 1, &[])
+}
+
+/// 184 `WHILE` ( -- a )
+pub fn while_row(parts: &mut Parts) -> Outcome
+    ensures { (parts.new, result) ≡ while_row parts.old }
+{
+    if_row(parts)
+}
+
+/// 185 `REPEAT` ( a b -- )
+pub fn repeat(parts: &mut Parts) -> Outcome
+    ensures { (parts.new, result) ≡ repeat parts.old }
+{
+    let Some((a, b)) = parts.values.top2() else {
+        return Outcome::Fault(1);
+    };
+    let code = control_code(&parts.memory, Control::Branch, a);
+    resolve(parts, &code, b, 2, &[])
+}
+
+/// 186 `AGAIN` ( a -- )
+pub fn again(parts: &mut Parts) -> Outcome
+    ensures { (parts.new, result) ≡ again parts.old }
+{
+    let Some(a) = parts.values.pick(0) else {
+        return Outcome::Fault(1);
+    };
+    let code = control_code(&parts.memory, Control::Branch, a);
+    compile(parts, &code, 1, &[])
+}
+
+/// 187 `DO` ( -- a b )
+pub fn do_row(parts: &mut Parts) -> Outcome
+    ensures { (parts.new, result) ≡ do_row parts.old }
+{
+    let code = control_code(&parts.memory, Control::Do, 0);
+    let a = ahead(parts, 2);
+    let b = ahead(parts, 4);
+    compile(parts, &code, 0, &[b, a])
+}
+
+/// 188 `LOOP` ( a b -- )
+pub fn loop_row(parts: &mut Parts) -> Outcome
+    ensures { (parts.new, result) ≡ loop_row parts.old }
+{
+    let Some((a, b)) = parts.values.top2() else {
+        return Outcome::Fault(1);
+    };
+    let code = control_code(&parts.memory, Control::Loop, b);
+    resolve(parts, &code, a, 2, &[])
+}
+
+/// 189 `+LOOP` ( a b -- )
+pub fn plus_loop(parts: &mut Parts) -> Outcome
+    ensures { (parts.new, result) ≡ plus_loop parts.old }
+{
+    let Some((a, b)) = parts.values.top2() else {
+        return Outcome::Fault(1);
+    };
+    let code = control_code(&parts.memory, Control::PlusLoop, b);
+    resolve(parts, &code, a, 2, &[])
+}
+
+/// 194 `<MARK` ( -- a )
+pub fn mark_back(parts: &mut Parts) -> Outcome
+    ensures { (parts.new, result) ≡ mark_back parts.old }
+{
+    let a = compiling_words::mark_back(&parts.memory);
+    leave(parts, 0, &[a])
+}
+
+/// 195 `<RESOLVE` ( a -- )
+pub fn resolve_back(parts: &mut Parts) -> Outcome
+    ensures { (parts.new, result) ≡ resolve_back parts.old }
+{
+    let Some(a) = parts.values.pick(0) else {
+        return Outcome::Fault(1);
+    };
+    compile(parts, &cell_bytes(a), 1, &[])
+}
+
+/// 196 `>MARK` ( -- a )
+pub fn mark_forward(parts: &mut Parts) -> Outcome
+    ensures { (parts.new, result) ≡ mark_forward parts.old }
+{
+    let a = parts.memory.cell(DP);
+    compile(parts, &cell_bytes(0), 0, &[a])
+}
+
+/// 197 `>RESOLVE` ( a -- )
+pub fn resolve_forward(parts: &mut Parts) -> Outcome
+    ensures { (parts.new, result) ≡ resolve_forward parts.old }
+{
+    let Some(a) = parts.values.pick(0) else {
+        return Outcome::Fault(1);
+    };
+    compiling_words::resolve_forward(&mut parts.memory, a);
+    parts.values.lower(1);
+    Outcome::Done
+}

@@ -1,0 +1,170 @@
+//! Compiling rows that need the input stream: 168, 176, 177 and 190 to 193.
+
+#![tactic(auto, using(plain_rows::proofs::Takes::takes))]
+
+ghost use Rattle.std.specs.Prelude.{◌≡◌, ◌≤◌, length, drop};
+ghost use Rattle.dictionary.specs.Laying.{laid_at};
+ghost use Rattle.memory.specs.Bytes.{cell};
+ghost use Rattle.primitives.specs.Defining.{colon, bracket_tick, bracket_compile, quotes, dot_quote, abort_quote, constant, variable};
+ghost use Rattle.primitives.specs.Streams.{past};
+
+use crate::dictionary_rows::define;
+use crate::names::sought;
+use crate::stream::{open, pass};
+use compiling_words::{TextWord, lay_text, literal_code, runtime_of};
+use dictionary::{Site, compilation_address, fits, lay_at};
+use input_source::{Word, next_word, parse_to, word_bytes};
+use memory::system::{CONTEXT, CURRENT, DP, STATE};
+use memory::{Memory, cell_bytes};
+use plain_rows::parts::{Outcome, Parts};
+
+/// 168 `:` ( -- )
+pub fn colon(parts: &mut Parts) -> Outcome
+    ensures { (parts.new, result) ≡ colon parts.old }
+{
+    let stream = match open(parts) {
+        Ok(stream) => stream,
+        Err(outcome) => return outcome,
+    };
+    let word = next_word(&parts.memory, stream, b' ');
+    if word.len == 0 || word.len > 31 {
+        return Outcome::Fault(15);
+    }
+    if !fits(&parts.memory, 7 + word.len as usize) {
+        return Outcome::Fault(8);
+    }
+    let bytes = word_bytes(&parts.memory, stream, word);
+    let name = &bytes[..word.len as usize];
+    let site = Site::of(&parts.memory, name);
+    let current = parts.memory.cell(CURRENT);
+    pass(&mut parts.memory, word);
+    site.write(&mut parts.memory, name, 1, &[], true);
+    parts.memory.set_cell(STATE, 65535);
+    parts.memory.set_cell(CONTEXT, current);
+    Outcome::Done
+}
+
+/// 176 `[']` ( -- )
+pub fn bracket_tick(parts: &mut Parts) -> Outcome
+    ensures { (parts.new, result) ≡ bracket_tick parts.old }
+{
+    let stream = match open(parts) {
+        Ok(stream) => stream,
+        Err(outcome) => return outcome,
+    };
+    let word = next_word(&parts.memory, stream, b' ');
+    if word.len == 0 {
+        return Outcome::Fault(15);
+    }
+    let Ok(link_field) = sought(&parts.memory, stream, word) else {
+        return Outcome::Fault(11);
+    };
+    if link_field == 0 {
+        return Outcome::Fault(13);
+    }
+    if !fits(&parts.memory, 4) {
+        return Outcome::Fault(8);
+    }
+    let code = literal_code(
+        &parts.memory,
+        compilation_address(&parts.memory, link_field),
+    );
+    lay_past(&mut parts.memory, word, &code);
+    Outcome::Done
+}
+
+/// 177 `[COMPILE]` ( -- )
+pub fn bracket_compile(parts: &mut Parts) -> Outcome
+    ensures { (parts.new, result) ≡ bracket_compile parts.old }
+{
+    let stream = match open(parts) {
+        Ok(stream) => stream,
+        Err(outcome) => return outcome,
+    };
+    let word = next_word(&parts.memory, stream, b' ');
+    if word.len == 0 {
+        return Outcome::Fault(15);
+    }
+    let Ok(link_field) = sought(&parts.memory, stream, word) else {
+        return Outcome::Fault(11);
+    };
+    if link_field == 0 {
+        return Outcome::Fault(13);
+    }
+    if !fits(&parts.memory, 2) {
+        return Outcome::Fault(8);
+    }
+    let code = cell_bytes(compilation_address(&parts.memory, link_field));
+    lay_past(&mut parts.memory, word, &code);
+    Outcome::Done
+}
+
+/// Makes `>IN` the place behind a word, and lays bytes at HERE as it was before.
+fn lay_past(memory: &mut Memory, word: Word, bytes: &[u8])
+    requires { length bytes.now ≤ 61440 }
+    ensures { memory.new ≡ laid_at (cell memory.old DP) (past memory.old word) bytes.now }
+{
+    let here = memory.cell(DP);
+    pass(memory, word);
+    lay_at(memory, here, bytes);
+}
+
+/// A row that lays what shows a text, and the text up to the next quote.
+fn quote(parts: &mut Parts, shows: TextWord) -> Outcome
+    ensures { (parts.new, result) ≡ quotes shows parts.old }
+{
+    let stream = match open(parts) {
+        Ok(stream) => stream,
+        Err(outcome) => return outcome,
+    };
+    let word = parse_to(&parts.memory, stream, b'"');
+    if word.len > 255 {
+        return Outcome::Fault(15);
+    }
+    if !fits(&parts.memory, 3 + word.len as usize) {
+        return Outcome::Fault(8);
+    }
+    let bytes = word_bytes(&parts.memory, stream, word);
+    let token = runtime_of(&parts.memory, shows);
+    let here = parts.memory.cell(DP);
+    pass(&mut parts.memory, word);
+    lay_text(&mut parts.memory, here, token, &bytes[..word.len as usize]);
+    Outcome::Done
+}
+
+/// 190 `."` ( -- )
+pub fn dot_quote(parts: &mut Parts) -> Outcome
+    ensures { (parts.new, result) ≡ dot_quote parts.old }
+{
+    quote(parts, TextWord::Show)
+}
+
+/// 191 `ABORT"` ( -- )
+pub fn abort_quote(parts: &mut Parts) -> Outcome
+    ensures { (parts.new, result) ≡ abort_quote parts.old }
+{
+    quote(parts, TextWord::Abort)
+}
+
+/// 192 `CONSTANT` ( x -- )
+pub fn constant(parts: &mut Parts) -> Outcome
+    ensures { (parts.new, result) ≡ constant parts.old }
+{
+    let Some(x) = parts.values.pick(0) else {
+        return Outcome::Fault(1);
+    };
+    match open(parts) {
+        Ok(stream) => define(parts, stream, 3, &cell_bytes(x), 1),
+        Err(outcome) => outcome,
+    }
+}
+
+/// 193 `VARIABLE` ( -- )
+pub fn variable(parts: &mut Parts) -> Outcome
+    ensures { (parts.new, result) ≡ variable parts.old }
+{
+    match open(parts) {
+        Ok(stream) => define(parts, stream, 2, &cell_bytes(0), 0),
+        Err(outcome) => outcome,
+    }
+}

@@ -1,0 +1,189 @@
+//! Rows 147 to 157, but for (INTERPRET): names, new headers, vocabularies, FORGET.
+
+#![tactic(auto, using(plain_rows::proofs::Takes::takes), unfolding(plain_rows::specs::Row::room))]
+
+ghost use Rattle.std.specs.Prelude.{◌≡◌, ◌≤◌, length, drop};
+ghost use Rattle.primitives.specs.Dictionary.{finds_at, find, tick, defines, create, immediate, forget, to_body, here, pad_row, vocabulary, definitions};
+ghost use Rattle.primitives.specs.Names.{counted_string};
+
+use crate::names::{sought, sought_at, target_in};
+use crate::stream::{open, pass};
+use dictionary::{
+    ForgetFault, Site, compilation_address, cut_by, fits, is_immediate, set_immediate,
+};
+use input_source::{Stream, next_word, word_bytes};
+use memory::system::{CONTEXT, CURRENT, DP, VOC_LINK};
+use plain_rows::leave;
+use plain_rows::parts::{Outcome, Parts};
+
+/// 147 `FIND` ( a -- a 0, w -1, w 1 )
+#[tactic(auto, using(plain_rows::proofs::Takes::takes), unfolding(crate::specs::Dictionary::finds_at))]
+pub fn find(parts: &mut Parts) -> Outcome
+    ensures { (parts.new, result) ≡ find parts.old }
+{
+    let Some(a) = parts.values.pick(0) else {
+        return Outcome::Fault(1);
+    };
+    let Ok(link_field) = sought_at(&parts.memory, a) else {
+        return Outcome::Fault(11);
+    };
+    if link_field == 0 {
+        return leave(parts, 1, &[0, a]);
+    }
+    let w = compilation_address(&parts.memory, link_field);
+    if is_immediate(&parts.memory, link_field) {
+        return leave(parts, 1, &[1, w]);
+    }
+    leave(parts, 1, &[65535, w])
+}
+
+/// 148 `'` ( -- w )
+pub fn tick(parts: &mut Parts) -> Outcome
+    ensures { (parts.new, result) ≡ tick parts.old }
+{
+    let stream = match open(parts) {
+        Ok(stream) => stream,
+        Err(outcome) => return outcome,
+    };
+    let word = next_word(&parts.memory, stream, b' ');
+    if word.len == 0 {
+        return Outcome::Fault(15);
+    }
+    let Ok(link_field) = sought(&parts.memory, stream, word) else {
+        return Outcome::Fault(11);
+    };
+    if link_field == 0 {
+        return Outcome::Fault(13);
+    }
+    let w = compilation_address(&parts.memory, link_field);
+    if parts.values.push(w).is_err() {
+        return Outcome::Fault(2);
+    }
+    pass(&mut parts.memory, word);
+    Outcome::Done
+}
+
+/// Makes a header of the next word's name; `taken` cells leave the data stack.
+#[tactic(auto, unfolding(crate::specs::Dictionary::defines))]
+pub fn define(parts: &mut Parts, stream: Stream, code: u16, extra: &[u8], taken: usize) -> Outcome
+    requires extra { length extra.now ≤ 2 }
+    requires taken { taken ≤ length parts.old.values }
+    ensures { (parts.new, result) ≡ defines parts.old stream code extra.now (drop taken parts.old.values) }
+{
+    let word = next_word(&parts.memory, stream, b' ');
+    if word.len == 0 || word.len > 31 {
+        return Outcome::Fault(15);
+    }
+    if !fits(&parts.memory, 7 + word.len as usize + extra.len()) {
+        return Outcome::Fault(8);
+    }
+    let bytes = word_bytes(&parts.memory, stream, word);
+    let name = &bytes[..word.len as usize];
+    let site = Site::of(&parts.memory, name);
+    pass(&mut parts.memory, word);
+    site.write(&mut parts.memory, name, code, extra, false);
+    parts.values.lower(taken);
+    Outcome::Done
+}
+
+/// 150 `CREATE` ( -- )
+pub fn create(parts: &mut Parts) -> Outcome
+    ensures { (parts.new, result) ≡ create parts.old }
+{
+    match open(parts) {
+        Ok(stream) => define(parts, stream, 2, &[], 0),
+        Err(outcome) => outcome,
+    }
+}
+
+/// 151 `IMMEDIATE` ( -- )
+pub fn immediate(parts: &mut Parts) -> Outcome
+    ensures { (parts.new, result) ≡ immediate parts.old }
+{
+    set_immediate(&mut parts.memory);
+    Outcome::Done
+}
+
+/// 152 `FORGET` ( -- )
+pub fn forget(parts: &mut Parts) -> Outcome
+    ensures { (parts.new, result) ≡ forget parts.old }
+{
+    let stream = match open(parts) {
+        Ok(stream) => stream,
+        Err(outcome) => return outcome,
+    };
+    let word = next_word(&parts.memory, stream, b' ');
+    if word.len == 0 {
+        return Outcome::Fault(15);
+    }
+    match target_in(&parts.memory, stream, word) {
+        Ok(target) => {
+            let before = parts.memory.snapshot();
+            pass(&mut parts.memory, word);
+            cut_by(&mut parts.memory, &before, target);
+            Outcome::Done
+        }
+        Err(ForgetFault::NameLength) => Outcome::Fault(15),
+        Err(ForgetFault::NotFound) => Outcome::Fault(13),
+        Err(ForgetFault::ChainTooLong) => Outcome::Fault(11),
+    }
+}
+
+/// 153 `>BODY` ( w -- w+2 )
+pub fn to_body(parts: &mut Parts) -> Outcome
+    ensures { (parts.new, result) ≡ to_body parts.old }
+{
+    let Some(w) = parts.values.pick(0) else {
+        return Outcome::Fault(1);
+    };
+    leave(parts, 1, &[w.wrapping_add(2)])
+}
+
+/// 154 `HERE` ( -- a )
+pub fn here(parts: &mut Parts) -> Outcome
+    ensures { (parts.new, result) ≡ here parts.old }
+{
+    let here = parts.memory.cell(DP);
+    leave(parts, 0, &[here])
+}
+
+/// 155 `PAD` ( -- a )
+pub fn pad_row(parts: &mut Parts) -> Outcome
+    ensures { (parts.new, result) ≡ pad_row parts.old }
+{
+    let pad = number_text::pad(&parts.memory);
+    leave(parts, 0, &[pad])
+}
+
+/// 156 `VOCABULARY` ( -- )
+pub fn vocabulary(parts: &mut Parts) -> Outcome
+    ensures { (parts.new, result) ≡ vocabulary parts.old }
+{
+    let stream = match open(parts) {
+        Ok(stream) => stream,
+        Err(outcome) => return outcome,
+    };
+    let word = next_word(&parts.memory, stream, b' ');
+    if word.len == 0 || word.len > 31 {
+        return Outcome::Fault(15);
+    }
+    if !fits(&parts.memory, 7 + word.len as usize + 10) {
+        return Outcome::Fault(8);
+    }
+    let bytes = word_bytes(&parts.memory, stream, word);
+    let name = &bytes[..word.len as usize];
+    let site = Site::of(&parts.memory, name);
+    let newest = parts.memory.cell(VOC_LINK);
+    pass(&mut parts.memory, word);
+    site.write_vocabulary(&mut parts.memory, name, newest);
+    Outcome::Done
+}
+
+/// 157 `DEFINITIONS` ( -- )
+pub fn definitions(parts: &mut Parts) -> Outcome
+    ensures { (parts.new, result) ≡ definitions parts.old }
+{
+    let context = parts.memory.cell(CONTEXT);
+    parts.memory.set_cell(CURRENT, context);
+    Outcome::Done
+}

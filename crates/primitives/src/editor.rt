@@ -1,0 +1,204 @@
+//! Rows 200 to 204: the line editor, on the screen that SCR names.
+
+#![tactic(auto, using(plain_rows::proofs::Takes::takes))]
+
+ghost use Rattle.std.specs.Prelude.{◌≡◌, ◌≤◌, ◌<◌, ◌+◌, length};
+ghost use Rattle.block_buffers.specs.Screens.{blank_screen, line_start, with_line, line_inserted, line_deleted};
+ghost use Rattle.memory.specs.Bytes.{cell, front_put, page, with_page};
+ghost use Rattle.primitives.specs.Blocks.{IsFetched, address_of};
+ghost use Rattle.primitives.specs.Editor.{line_word, line_text, line, put, insert, delete, wipe};
+ghost use Rattle.primitives.specs.Streams.{past};
+
+use crate::blocks::{address_of, fetch};
+use crate::stream::{open, pass};
+use block_buffers::{delete_line, insert_line, put_line};
+use input_source::{Stream, Word, word_bytes};
+use memory::Memory;
+use memory::system::SCR;
+use plain_rows::leave;
+use plain_rows::parts::{Outcome, Parts};
+
+/// References block SCR, and gives its slot; or says what stops the row.
+fn open_screen(parts: &mut Parts) -> Result<usize, Outcome>
+    ensures { IsFetched parts.old parts.new (cell parts.old.memory SCR) result }
+{
+    let block = parts.memory.cell(SCR);
+    fetch(parts, block)
+}
+
+/// What the editor takes of a stream: all from its place on, at most 64 bytes.
+#[tactic(auto, unfolding(crate::specs::Editor::line_word))]
+fn line_word(stream: Stream) -> Word
+    requires { stream.place ≤ stream.size }
+    ensures value { result ≡ line_word stream }
+    ensures bound { (line_word stream).len ≤ 64 }
+{
+    Word {
+        at: stream.place,
+        len: (stream.size - stream.place).min(64),
+        next: stream.size,
+    }
+}
+
+/// Writes bytes over the beginning of a line.
+#[tactic(auto, unfolding(memory::specs::Bytes::front_put))]
+fn put_front(line: &mut [u8], bytes: &[u8])
+    requires { length bytes.now ≤ length line.old }
+    ensures { line.new ≡ front_put bytes.now line.old }
+{
+    line[..bytes.len()].copy_from_slice(bytes);
+}
+
+/// The text that the editor takes of a stream, filled with blanks.
+#[tactic(auto, unfolding(crate::specs::Editor::line_text, block_buffers::specs::Screens::blank_line))]
+fn line_text(memory: &Memory, stream: Stream) -> [u8; 64]
+    requires { stream.place ≤ stream.size }
+    ensures { result ≡ line_text memory.now stream }
+{
+    let word = line_word(stream);
+    let bytes = word_bytes(memory, stream, word);
+    let mut line = [b' '; 64];
+    put_front(&mut line, &bytes[..word.len as usize]);
+    line
+}
+
+/// Deletes a line of the screen in a slot.
+fn delete_in(memory: &mut Memory, slot: usize, n: u16)
+    requires { slot < 4 }
+    ensures { memory.new ≡ with_page memory.old slot (line_deleted (page memory.old slot) n) }
+{
+    let mut screen = *memory.page(slot);
+    delete_line(&mut screen, n);
+    memory.set_page(slot, &screen);
+}
+
+/// Wipes the screen in a slot.
+fn wipe_in(memory: &mut Memory, slot: usize)
+    requires { slot < 4 }
+    ensures { memory.new ≡ with_page memory.old slot blank_screen }
+{
+    let mut screen = *memory.page(slot);
+    block_buffers::wipe(&mut screen);
+    memory.set_page(slot, &screen);
+}
+
+/// `>IN` goes to the stream's end, and its text becomes line `n` of the screen in a slot.
+fn put_in(memory: &mut Memory, slot: usize, n: u16, stream: Stream)
+    requires slot { slot < 4 }
+    requires place { stream.place ≤ stream.size }
+    ensures { memory.new ≡ with_page (past memory.old (line_word stream)) slot
+        (with_line (page memory.old slot) n (line_text memory.old stream)) }
+{
+    let text = line_text(memory, stream);
+    let mut screen = *memory.page(slot);
+    put_line(&mut screen, n, &text);
+    pass(memory, line_word(stream));
+    memory.set_page(slot, &screen);
+}
+
+/// `>IN` goes to the stream's end, and its text comes before line `n` of the screen in a slot.
+fn insert_in(memory: &mut Memory, slot: usize, n: u16, stream: Stream)
+    requires slot { slot < 4 }
+    requires place { stream.place ≤ stream.size }
+    ensures { memory.new ≡ with_page (past memory.old (line_word stream)) slot
+        (line_inserted (page memory.old slot) n (line_text memory.old stream)) }
+{
+    let text = line_text(memory, stream);
+    let mut screen = *memory.page(slot);
+    insert_line(&mut screen, n, &text);
+    pass(memory, line_word(stream));
+    memory.set_page(slot, &screen);
+}
+
+/// 200 `LINE` ( n -- a 64 )
+pub fn line(parts: &mut Parts) -> Outcome
+    ensures { (parts.new, result) ≡ line parts.old }
+{
+    let Some(n) = parts.values.pick(0) else {
+        return Outcome::Fault(1);
+    };
+    match open_screen(parts) {
+        Ok(slot) => leave(parts, 1, &[64, line_address(slot, n)]),
+        Err(outcome) => outcome,
+    }
+}
+
+/// Where line `n` of the screen in a slot begins.
+fn line_address(slot: usize, n: u16) -> u16
+    requires { slot < 4 }
+    ensures { result ≡ address_of slot + line_start n }
+{
+    address_of(slot) + 64 * (n % 16)
+}
+
+/// 201 `PUT` ( n -- )
+pub fn put(parts: &mut Parts) -> Outcome
+    ensures { (parts.new, result) ≡ put parts.old }
+{
+    let Some(n) = parts.values.pick(0) else {
+        return Outcome::Fault(1);
+    };
+    let stream = match open(parts) {
+        Ok(stream) => stream,
+        Err(outcome) => return outcome,
+    };
+    let slot = match open_screen(parts) {
+        Ok(slot) => slot,
+        Err(outcome) => return outcome,
+    };
+    put_in(&mut parts.memory, slot, n, stream);
+    parts.values.lower(1);
+    parts.buffers.mark_front();
+    Outcome::Done
+}
+
+/// 202 `INSERT` ( n -- )
+pub fn insert(parts: &mut Parts) -> Outcome
+    ensures { (parts.new, result) ≡ insert parts.old }
+{
+    let Some(n) = parts.values.pick(0) else {
+        return Outcome::Fault(1);
+    };
+    let stream = match open(parts) {
+        Ok(stream) => stream,
+        Err(outcome) => return outcome,
+    };
+    let slot = match open_screen(parts) {
+        Ok(slot) => slot,
+        Err(outcome) => return outcome,
+    };
+    insert_in(&mut parts.memory, slot, n, stream);
+    parts.values.lower(1);
+    parts.buffers.mark_front();
+    Outcome::Done
+}
+
+/// 203 `DELETE` ( n -- )
+pub fn delete(parts: &mut Parts) -> Outcome
+    ensures { (parts.new, result) ≡ delete parts.old }
+{
+    let Some(n) = parts.values.pick(0) else {
+        return Outcome::Fault(1);
+    };
+    let slot = match open_screen(parts) {
+        Ok(slot) => slot,
+        Err(outcome) => return outcome,
+    };
+    delete_in(&mut parts.memory, slot, n);
+    parts.values.lower(1);
+    parts.buffers.mark_front();
+    Outcome::Done
+}
+
+/// 204 `WIPE` ( -- )
+pub fn wipe(parts: &mut Parts) -> Outcome
+    ensures { (parts.new, result) ≡ wipe parts.old }
+{
+    let slot = match open_screen(parts) {
+        Ok(slot) => slot,
+        Err(outcome) => return outcome,
+    };
+    wipe_in(&mut parts.memory, slot);
+    parts.buffers.mark_front();
+    Outcome::Done
+}

@@ -1,0 +1,108 @@
+//! Names that rows take, looked up where they stand in memory: a copy is made only of one that goes on at address 0.
+
+ghost use Rattle.std.specs.Prelude.{◌≡◌, ◌<◌, ◌≤◌, ◌+◌, ◌++◌, length, MatchOption, IsTrue};
+ghost use Rattle.dictionary.specs.Forget.{IsTarget};
+ghost use Rattle.input_source.specs.Words.{bytes_in};
+ghost use Rattle.number_text.specs.Digits.{is_base};
+ghost use Rattle.number_text.specs.Numbers.{IsNumber, IsNoNumber};
+ghost use Rattle.primitives.specs.Names.{IsSoughtIn, counted_string};
+
+use crate::text::Text;
+use dictionary::{ChainTooLong, ForgetFault, forget_target, search};
+use input_source::{Stream, Word};
+use memory::Memory;
+use number_text::{Number, number};
+
+/// The link field of the header that a name means, or 0.
+fn found_or_zero(memory: &Memory, name: &[u8]) -> Result<u16, ChainTooLong>
+    ensures { IsSoughtIn memory.now name.now result }
+{
+    match search(memory, name)? {
+        Some(link_field) => Ok(link_field),
+        None => Ok(0),
+    }
+}
+
+/// The same of a name in two pieces.
+fn sought_in_pieces(memory: &Memory, head: &[u8], tail: &[u8]) -> Result<u16, ChainTooLong>
+    requires { length head.now + length tail.now ≤ 65535 }
+    ensures { IsSoughtIn memory.now (head.now ++ tail.now) result }
+{
+    let name = Text::joined(head, tail);
+    let link_field = found_or_zero(memory, name.as_slice())?;
+    Ok(link_field)
+}
+
+/// The link field of the header that a word of the stream means, or 0.
+#[tactic(auto, using(crate::proofs::Pieces::all_in_front), unfolding(input_source::specs::Words::bytes_in))]
+pub fn sought(memory: &Memory, stream: Stream, word: Word) -> Result<u16, ChainTooLong>
+    ensures { IsSoughtIn memory.now (bytes_in memory.now stream word) result }
+{
+    let (head, tail) = memory.span(stream.at.wrapping_add(word.at), word.len);
+    if tail.is_empty() {
+        let link_field = found_or_zero(memory, head)?;
+        return Ok(link_field);
+    }
+    let link_field = sought_in_pieces(memory, head, tail)?;
+    Ok(link_field)
+}
+
+/// The link field of the header that the counted string at `a` means, or 0.
+#[tactic(auto, using(crate::proofs::Pieces::all_in_front), unfolding(crate::specs::Names::counted_string))]
+pub fn sought_at(memory: &Memory, a: u16) -> Result<u16, ChainTooLong>
+    ensures { IsSoughtIn memory.now (counted_string memory.now a) result }
+{
+    let (head, tail) = memory.span(a.wrapping_add(1), u16::from(memory.byte(a)));
+    if tail.is_empty() {
+        let link_field = found_or_zero(memory, head)?;
+        return Ok(link_field);
+    }
+    let link_field = sought_in_pieces(memory, head, tail)?;
+    Ok(link_field)
+}
+
+/// The number that a word of the stream spells.
+#[tactic(auto, using(crate::proofs::Pieces::all_in_front), unfolding(input_source::specs::Words::bytes_in))]
+pub fn number_in(memory: &Memory, stream: Stream, word: Word, base: u16) -> Option<Number>
+    requires { IsTrue (is_base base) }
+    ensures { MatchOption result (IsNoNumber base (bytes_in memory.now stream word)) (IsNumber base (bytes_in memory.now stream word)) }
+{
+    let (head, tail) = memory.span(stream.at.wrapping_add(word.at), word.len);
+    if tail.is_empty() {
+        return number(head, base);
+    }
+    number_in_pieces(head, tail, base)
+}
+
+fn number_in_pieces(head: &[u8], tail: &[u8], base: u16) -> Option<Number>
+    requires base { IsTrue (is_base base) }
+    requires fits { length head.now + length tail.now ≤ 65535 }
+    ensures { MatchOption result (IsNoNumber base (head.now ++ tail.now)) (IsNumber base (head.now ++ tail.now)) }
+{
+    let text = Text::joined(head, tail);
+    number(text.as_slice(), base)
+}
+
+/// Where the header begins that a word of the stream means for FORGET.
+#[tactic(auto, using(crate::proofs::Pieces::all_in_front), unfolding(input_source::specs::Words::bytes_in))]
+pub fn target_in(memory: &Memory, stream: Stream, word: Word) -> Result<u16, ForgetFault>
+    ensures target { IsTarget memory.now (bytes_in memory.now stream word) result }
+    ensures len { length (bytes_in memory.now stream word) ≡ word.len }
+{
+    let (head, tail) = memory.span(stream.at.wrapping_add(word.at), word.len);
+    if tail.is_empty() {
+        let target = forget_target(memory, head)?;
+        return Ok(target);
+    }
+    let target = target_in_pieces(memory, head, tail)?;
+    Ok(target)
+}
+
+fn target_in_pieces(memory: &Memory, head: &[u8], tail: &[u8]) -> Result<u16, ForgetFault>
+    requires { length head.now + length tail.now ≤ 65535 }
+    ensures { IsTarget memory.now (head.now ++ tail.now) result }
+{
+    let name = Text::joined(head, tail);
+    let target = forget_target(memory, name.as_slice())?;
+    Ok(target)
+}

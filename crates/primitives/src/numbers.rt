@@ -1,0 +1,98 @@
+//! Rows 128 to 134: pictures of numbers, and numbers that are read.
+
+#![tactic(auto, using(plain_rows::proofs::Takes::takes))]
+
+ghost use Rattle.std.specs.Prelude.{◌≡◌};
+ghost use Rattle.primitives.specs.Numbers.{open_picture, picture_digit, picture_digits, close_picture, hold, sign, convert};
+
+use plain_rows::parts::{Outcome, Parts};
+use plain_rows::{double_of, leave};
+
+/// 128 `<#` ( -- )
+pub fn open_picture(parts: &mut Parts) -> Outcome
+    ensures { (parts.new, result) ≡ open_picture parts.old }
+{
+    number_text::open_picture(&mut parts.memory);
+    Outcome::Done
+}
+
+/// 129 `#` ( ud -- ud2 )
+pub fn picture_digit(parts: &mut Parts) -> Outcome
+    ensures { (parts.new, result) ≡ picture_digit parts.old }
+{
+    let Some((low, high)) = parts.values.top2() else {
+        return Outcome::Fault(1);
+    };
+    let Ok(rest) = number_text::picture_digit(&mut parts.memory, double_of(low, high)) else {
+        return Outcome::Fault(12);
+    };
+    parts.values.lower(2);
+    parts.values.put((rest % 65536) as u16);
+    parts.values.put((rest / 65536) as u16);
+    Outcome::Done
+}
+
+/// 130 `#S` ( ud -- 0 0 )
+pub fn picture_digits(parts: &mut Parts) -> Outcome
+    ensures { (parts.new, result) ≡ picture_digits parts.old }
+{
+    let Some((low, high)) = parts.values.top2() else {
+        return Outcome::Fault(1);
+    };
+    if number_text::picture_digits(&mut parts.memory, double_of(low, high)).is_err() {
+        return Outcome::Fault(12);
+    }
+    parts.values.lower(2);
+    parts.values.put(0);
+    parts.values.put(0);
+    Outcome::Done
+}
+
+/// 131 `#>` ( d -- a u )
+pub fn close_picture(parts: &mut Parts) -> Outcome
+    ensures { (parts.new, result) ≡ close_picture parts.old }
+{
+    if parts.values.depth() < 2 {
+        return Outcome::Fault(1);
+    }
+    let (address, length) = number_text::close_picture(&parts.memory);
+    leave(parts, 2, &[length, address])
+}
+
+/// 132 `HOLD` ( c -- )
+pub fn hold(parts: &mut Parts) -> Outcome
+    ensures { (parts.new, result) ≡ hold parts.old }
+{
+    let Some(c) = parts.values.pick(0) else {
+        return Outcome::Fault(1);
+    };
+    parts.values.lower(1);
+    number_text::hold(&mut parts.memory, (c % 256) as u8);
+    Outcome::Done
+}
+
+/// 133 `SIGN` ( n -- )
+pub fn sign(parts: &mut Parts) -> Outcome
+    ensures { (parts.new, result) ≡ sign parts.old }
+{
+    let Some(n) = parts.values.pick(0) else {
+        return Outcome::Fault(1);
+    };
+    parts.values.lower(1);
+    number_text::sign(&mut parts.memory, n);
+    Outcome::Done
+}
+
+/// 134 `CONVERT` ( ud a -- ud2 a2 )
+pub fn convert(parts: &mut Parts) -> Outcome
+    ensures { (parts.new, result) ≡ convert parts.old }
+{
+    let Some((low, high, at)) = parts.values.top3() else {
+        return Outcome::Fault(1);
+    };
+    let Ok((number, behind)) = number_text::convert(&parts.memory, double_of(low, high), at) else {
+        return Outcome::Fault(12);
+    };
+    let (high, low) = ((number / 65536) as u16, (number % 65536) as u16);
+    leave(parts, 3, &[behind, high, low])
+}

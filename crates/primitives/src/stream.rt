@@ -1,0 +1,87 @@
+//! Rows 144 to 146, and what every row does that needs the input stream.
+
+#![tactic(auto, using(plain_rows::proofs::Takes::takes))]
+
+ghost use Rattle.std.specs.Prelude.{◌≡◌};
+ghost use Rattle.primitives.specs.Streams.{IsOpened, past, word, paren, dot_paren};
+
+use crate::blocks::without_block;
+use input_source::{Stream, Word, next_word, parse_to, place_word, stream};
+use memory::Memory;
+use memory::system::{BLK, TO_IN};
+use plain_rows::parts::{Outcome, Parts, Span};
+
+/// References the stream's block, and gives the stream; or says what stops the row, which is then unchanged.
+#[tactic(auto, unfolding(crate::specs::Streams::has_stream, crate::specs::Streams::stream_buffers, crate::specs::Blocks::has_block, crate::specs::Blocks::without_block, input_source::specs::Streams::needs_block))]
+pub fn open(parts: &mut Parts) -> Result<Stream, Outcome>
+    ensures { IsOpened parts.old parts.new result }
+{
+    let block = parts.memory.cell(BLK);
+    let Ok(stream) = stream(&parts.memory, &parts.buffers) else {
+        return Err(without_block(parts, block));
+    };
+    if block == 0 {
+        return Ok(stream);
+    }
+    if u32::from(block) >= parts.block_count {
+        return Err(Outcome::Fault(7));
+    }
+    parts.buffers.touch(block);
+    Ok(stream)
+}
+
+/// Makes `>IN` the place behind a word.
+pub fn pass(memory: &mut Memory, word: Word)
+    ensures { memory.new ≡ past memory.old word }
+{
+    memory.set_cell(TO_IN, word.next);
+}
+
+/// 144 `WORD` ( c -- a )
+pub fn word(parts: &mut Parts) -> Outcome
+    ensures { (parts.new, result) ≡ word parts.old }
+{
+    let Some(c) = parts.values.pick(0) else {
+        return Outcome::Fault(1);
+    };
+    let stream = match open(parts) {
+        Ok(stream) => stream,
+        Err(outcome) => return outcome,
+    };
+    let word = next_word(&parts.memory, stream, (c % 256) as u8);
+    let Ok(here) = place_word(&mut parts.memory, stream, word) else {
+        return Outcome::Fault(15);
+    };
+    parts.values.lower(1);
+    parts.values.put(here);
+    Outcome::Done
+}
+
+/// 145 `(` ( -- )
+pub fn paren(parts: &mut Parts) -> Outcome
+    ensures { (parts.new, result) ≡ paren parts.old }
+{
+    let stream = match open(parts) {
+        Ok(stream) => stream,
+        Err(outcome) => return outcome,
+    };
+    let word = parse_to(&parts.memory, stream, b')');
+    pass(&mut parts.memory, word);
+    Outcome::Done
+}
+
+/// 146 `.(` ( -- )
+pub fn dot_paren(parts: &mut Parts) -> Outcome
+    ensures { (parts.new, result) ≡ dot_paren parts.old }
+{
+    let stream = match open(parts) {
+        Ok(stream) => stream,
+        Err(outcome) => return outcome,
+    };
+    let word = parse_to(&parts.memory, stream, b')');
+    pass(&mut parts.memory, word);
+    Outcome::Show(Span {
+        at: stream.at.wrapping_add(word.at),
+        len: word.len,
+    })
+}
