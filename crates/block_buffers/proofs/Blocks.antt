@@ -15,11 +15,11 @@ use Rattle.block_buffers.proofs.Kept.{BlocksDiffer}
 use Rattle.block_buffers.proofs.Pairs.{pairs_head, pairs_tail, pairs_map}
 use Rattle.block_buffers.proofs.Places.{place_held, slot_here}
 
-of_from_block : (u : ℕ) (o : Option ℕ) → (elim o [ Some v ↦ v == u | None ↦ false ]) ≡ true → o ≡ Some u
+pub of_from_block : (u : ℕ) (o : Option ℕ) → (elim o [ Some v ↦ v == u | None ↦ false ]) ≡ true → o ≡ Some u
 of_from_block u (Some v) h = ap (λ (n : ℕ). Some n) (eqb-true v u h)
 of_from_block u None h = cc
 
-block_of : (u : ℕ) (e : Entry) → e.block ≡ Some u → is_of u e ≡ true
+pub block_of : (u : ℕ) (e : Entry) → e.block ≡ Some u → is_of u e ≡ true
 block_of u e h = rw h (eq-eqb u u refl)
 
 lacks_block : (u : ℕ) (b : List Entry) → holds b u ≡ false → All (λ e. e.block ≢ Some u) b
@@ -59,7 +59,7 @@ unfolding front_marked
 blocks_marked [] h = h
 blocks_marked (e ∷ es) h = marked_with e es (is_some e.block) refl h
 
-clean_block : (slot : ℕ) (e : Entry) (m : Bool) → is_in slot e ≡ m → (cleaned_entry slot e).block ≡ e.block
+pub clean_block : (slot : ℕ) (e : Entry) (m : Bool) → is_in slot e ≡ m → (cleaned_entry slot e).block ≡ e.block
 clean_block slot e true q = rw q refl
 clean_block slot e false q = rw q refl
 

@@ -8,3 +8,4 @@ pub mod Blocks
 pub mod Turns
 pub mod ScreenLines
 pub mod Slots
+pub mod Asking

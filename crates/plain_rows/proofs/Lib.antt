@@ -1,3 +1,3 @@
 pub mod Takes
 pub mod Trimmed
-pub mod Stops
+pub mod Plain

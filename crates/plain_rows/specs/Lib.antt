@@ -6,4 +6,4 @@ pub mod Cells
 pub mod Doubles
 pub mod Memory
 pub mod Table
-pub mod Stops
+pub mod Plain

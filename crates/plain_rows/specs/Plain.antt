@@ -1,0 +1,12 @@
+-- What rows do that need nothing but memory and stacks.
+use Rattle.std.specs.Prelude.{◌≡◌}
+use Rattle.plain_rows.specs.Whole.{Whole}
+use Rattle.plain_rows.specs.Row.{After}
+use Rattle.plain_rows.specs.declared.parts.Outcome.TheVariants.{Fault, Abort, Ask}
+
+-- a plain row asks nothing and leaves the buffers as they are; where it ends with a fault or with an abort, all is as it was
+abbrev pub IsPlain : Whole → After → Type 0
+IsPlain s (t, Ask request) = ⊥
+IsPlain s (t, Fault f) = t ≡ s
+IsPlain s (t, Abort span) = t ≡ s
+IsPlain s (t, _) = t.buffers ≡ s.buffers
