@@ -1,3 +1,4 @@
 pub mod Takes
 pub mod Trimmed
+pub mod Shapes
 pub mod Plain

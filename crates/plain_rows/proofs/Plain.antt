@@ -1,10 +1,9 @@
 -- Plain rows: by the shape of each row.
-use Rattle.std.proofs.Common.{ℕ, ◌==◌, List, length, nat_lt, Bool, true, false, refl, rules, inl, inr, if◌then◌else◌}
-use Rattle.std.proofs.lemmas.Bool.{cases_lt}
+use Rattle.std.proofs.Common.{ℕ, ◌==◌, List, length, nat_lt, Bool, true, false, refl, rules, if◌then◌else◌}
 use Rattle.plain_rows.specs.Whole.{Whole}
 use Rattle.plain_rows.specs.Row.{After, takes1, takes2, takes3, takes4, takes6, takes_r1, takes_r3, takes_r4, fault, room, room_r}
 use Rattle.plain_rows.specs.Plain.{IsPlain}
-use Rattle.plain_rows.proofs.Takes.{takes1_none, takes1_deep, takes2_none, takes2_deep, takes3_none, takes3_deep, takes4_none, takes4_deep, takes6_none, takes6_deep, takes_r1_none, takes_r1_deep, takes_r3_none, takes_r3_deep, takes_r4_none, takes_r4_deep}
+use Rattle.plain_rows.proofs.Shapes.{by_if, by_room, by_room_r, by_takes1, by_takes2, by_takes3, by_takes4, by_takes6, by_takes_r1, by_takes_r3, by_takes_r4}
 use Rattle.plain_rows.specs.Control.{colon, variable, constant, vocabulary, exit, lit, branch, zero_branch, begin_loop, next_loop, plus_loop, leave_loop, index, outer_index, execute, show_inline, abort_inline, does, compile, to_r, from_r, r_fetch, bye, r_clear, s_clear, raise, noop}
 use Rattle.plain_rows.specs.Stack.{dup, drop_cell, swap, over, rot, pick, roll, question_dup, depth, two_drop, two_dup, two_over, two_rot, two_swap}
 use Rattle.plain_rows.specs.Cells.{plus, minus, times, slash, modulo, slash_mod, times_slash, times_slash_mod, one_plus, one_minus, two_plus, two_minus, two_times, two_slash, negate, absolute, min, max, and, or, xor, turned, equals, differs, less, greater, u_less, zero_equals, zero_less, zero_greater, um_times, um_slash_mod}
@@ -15,67 +14,40 @@ use Rattle.plain_rows.specs.Table.{control, stack, cells, doubles, memory}
 pub plain_fault : (s : Whole) (f : ℕ) → IsPlain s (fault s f)
 plain_fault s f = refl
 
-pub plain_if : (s : Whole) (b : Bool) (x y : After) → IsPlain s x → IsPlain s y → IsPlain s (if b then x else y)
-plain_if s true x y h k = h
-plain_if s false x y h k = k
+plain_if : (s : Whole) (b : Bool) (x y : After) → IsPlain s x → IsPlain s y → IsPlain s (if b then x else y)
+plain_if s b x y h k = by_if (IsPlain s) b x y h k
 
-pub plain_room : (s : Whole) (d : List ℕ) (x : After) → IsPlain s x → IsPlain s (room s d x)
-unfolding room
-plain_room s d x h = plain_if s (nat_lt 256 (length d)) (fault s 2) x (plain_fault s 2) h
+plain_room : (s : Whole) (d : List ℕ) (x : After) → IsPlain s x → IsPlain s (room s d x)
+plain_room s d x h = by_room (IsPlain s) s d x refl h
 
-pub plain_room_r : (s : Whole) (r : List ℕ) (x : After) → IsPlain s x → IsPlain s (room_r s r x)
-unfolding room_r
-plain_room_r s r x h = plain_if s (nat_lt 256 (length r)) (fault s 4) x (plain_fault s 4) h
+plain_room_r : (s : Whole) (r : List ℕ) (x : After) → IsPlain s x → IsPlain s (room_r s r x)
+plain_room_r s r x h = by_room_r (IsPlain s) s r x refl h
 
-pub plain_takes1 : (s : Whole) (f : (ℕ → List ℕ → After)) → ((c0 : ℕ) (d : List ℕ) → IsPlain s (f c0 d)) → IsPlain s (takes1 s f)
-plain_takes1 s f h = elim (cases_lt (length s.values) 1) [
-  | inl shallow ↦ rw (takes1_none s f shallow) (plain_fault s 1)
-  | inr deep ↦ rw (takes1_deep s f deep) (h _ _)
-]
+plain_takes1 : (s : Whole) (f : ℕ → List ℕ → After) → ((c0 : ℕ) (d : List ℕ) → IsPlain s (f c0 d)) → IsPlain s (takes1 s f)
+plain_takes1 s f h = by_takes1 (IsPlain s) s f refl h
 
-pub plain_takes2 : (s : Whole) (f : (ℕ → ℕ → List ℕ → After)) → ((c0 c1 : ℕ) (d : List ℕ) → IsPlain s (f c0 c1 d)) → IsPlain s (takes2 s f)
-plain_takes2 s f h = elim (cases_lt (length s.values) 2) [
-  | inl shallow ↦ rw (takes2_none s f shallow) (plain_fault s 1)
-  | inr deep ↦ rw (takes2_deep s f deep) (h _ _ _)
-]
+plain_takes2 : (s : Whole) (f : ℕ → ℕ → List ℕ → After) → ((c0 c1 : ℕ) (d : List ℕ) → IsPlain s (f c0 c1 d)) → IsPlain s (takes2 s f)
+plain_takes2 s f h = by_takes2 (IsPlain s) s f refl h
 
-pub plain_takes3 : (s : Whole) (f : (ℕ → ℕ → ℕ → List ℕ → After)) → ((c0 c1 c2 : ℕ) (d : List ℕ) → IsPlain s (f c0 c1 c2 d)) → IsPlain s (takes3 s f)
-plain_takes3 s f h = elim (cases_lt (length s.values) 3) [
-  | inl shallow ↦ rw (takes3_none s f shallow) (plain_fault s 1)
-  | inr deep ↦ rw (takes3_deep s f deep) (h _ _ _ _)
-]
+plain_takes3 : (s : Whole) (f : ℕ → ℕ → ℕ → List ℕ → After) → ((c0 c1 c2 : ℕ) (d : List ℕ) → IsPlain s (f c0 c1 c2 d)) → IsPlain s (takes3 s f)
+plain_takes3 s f h = by_takes3 (IsPlain s) s f refl h
 
-pub plain_takes4 : (s : Whole) (f : (ℕ → ℕ → ℕ → ℕ → List ℕ → After)) → ((c0 c1 c2 c3 : ℕ) (d : List ℕ) → IsPlain s (f c0 c1 c2 c3 d)) → IsPlain s (takes4 s f)
-plain_takes4 s f h = elim (cases_lt (length s.values) 4) [
-  | inl shallow ↦ rw (takes4_none s f shallow) (plain_fault s 1)
-  | inr deep ↦ rw (takes4_deep s f deep) (h _ _ _ _ _)
-]
+plain_takes4 : (s : Whole) (f : ℕ → ℕ → ℕ → ℕ → List ℕ → After) → ((c0 c1 c2 c3 : ℕ) (d : List ℕ) → IsPlain s (f c0 c1 c2 c3 d)) → IsPlain s (takes4 s f)
+plain_takes4 s f h = by_takes4 (IsPlain s) s f refl h
 
-pub plain_takes6 : (s : Whole) (f : (ℕ → ℕ → ℕ → ℕ → ℕ → ℕ → List ℕ → After)) → ((c0 c1 c2 c3 c4 c5 : ℕ) (d : List ℕ) → IsPlain s (f c0 c1 c2 c3 c4 c5 d)) → IsPlain s (takes6 s f)
-plain_takes6 s f h = elim (cases_lt (length s.values) 6) [
-  | inl shallow ↦ rw (takes6_none s f shallow) (plain_fault s 1)
-  | inr deep ↦ rw (takes6_deep s f deep) (h _ _ _ _ _ _ _)
-]
+plain_takes6 : (s : Whole) (f : ℕ → ℕ → ℕ → ℕ → ℕ → ℕ → List ℕ → After) → ((c0 c1 c2 c3 c4 c5 : ℕ) (d : List ℕ) → IsPlain s (f c0 c1 c2 c3 c4 c5 d)) → IsPlain s (takes6 s f)
+plain_takes6 s f h = by_takes6 (IsPlain s) s f refl h
 
-pub plain_takes_r1 : (s : Whole) (f : (ℕ → List ℕ → After)) → ((c0 : ℕ) (d : List ℕ) → IsPlain s (f c0 d)) → IsPlain s (takes_r1 s f)
-plain_takes_r1 s f h = elim (cases_lt (length s.returns) 1) [
-  | inl shallow ↦ rw (takes_r1_none s f shallow) (plain_fault s 3)
-  | inr deep ↦ rw (takes_r1_deep s f deep) (h _ _)
-]
+plain_takes_r1 : (s : Whole) (f : ℕ → List ℕ → After) → ((c0 : ℕ) (r : List ℕ) → IsPlain s (f c0 r)) → IsPlain s (takes_r1 s f)
+plain_takes_r1 s f h = by_takes_r1 (IsPlain s) s f refl h
 
-pub plain_takes_r3 : (s : Whole) (f : (ℕ → ℕ → ℕ → List ℕ → After)) → ((c0 c1 c2 : ℕ) (d : List ℕ) → IsPlain s (f c0 c1 c2 d)) → IsPlain s (takes_r3 s f)
-plain_takes_r3 s f h = elim (cases_lt (length s.returns) 3) [
-  | inl shallow ↦ rw (takes_r3_none s f shallow) (plain_fault s 3)
-  | inr deep ↦ rw (takes_r3_deep s f deep) (h _ _ _ _)
-]
+plain_takes_r3 : (s : Whole) (f : ℕ → ℕ → ℕ → List ℕ → After) → ((c0 c1 c2 : ℕ) (r : List ℕ) → IsPlain s (f c0 c1 c2 r)) → IsPlain s (takes_r3 s f)
+plain_takes_r3 s f h = by_takes_r3 (IsPlain s) s f refl h
 
-pub plain_takes_r4 : (s : Whole) (f : (ℕ → ℕ → ℕ → ℕ → List ℕ → After)) → ((c0 c1 c2 c3 : ℕ) (d : List ℕ) → IsPlain s (f c0 c1 c2 c3 d)) → IsPlain s (takes_r4 s f)
-plain_takes_r4 s f h = elim (cases_lt (length s.returns) 4) [
-  | inl shallow ↦ rw (takes_r4_none s f shallow) (plain_fault s 3)
-  | inr deep ↦ rw (takes_r4_deep s f deep) (h _ _ _ _ _)
-]
+plain_takes_r4 : (s : Whole) (f : ℕ → ℕ → ℕ → ℕ → List ℕ → After) → ((c0 c1 c2 c3 : ℕ) (r : List ℕ) → IsPlain s (f c0 c1 c2 c3 r)) → IsPlain s (takes_r4 s f)
+plain_takes_r4 s f h = by_takes_r4 (IsPlain s) s f refl h
 
-pub ruleset plain = (plain_fault, plain_if, plain_room, plain_room_r, plain_takes1, plain_takes2, plain_takes3, plain_takes4, plain_takes6, plain_takes_r1, plain_takes_r3, plain_takes_r4)
+ruleset plain = (plain_fault, plain_if, plain_room, plain_room_r, plain_takes1, plain_takes2, plain_takes3, plain_takes4, plain_takes6, plain_takes_r1, plain_takes_r3, plain_takes_r4)
 
 plain_1 : (w : ℕ) (s : Whole) → IsPlain s (colon w s)
 plain_1 w s = search (rules, plain)

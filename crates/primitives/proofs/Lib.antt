@@ -1,2 +1,3 @@
 pub mod Pieces
-pub mod Stops
+pub mod Behaves
+pub mod Rows

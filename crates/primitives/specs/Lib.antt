@@ -8,4 +8,6 @@ pub mod Interpret
 pub mod Defining
 pub mod Compiling
 pub mod Editor
+pub mod Stops
+pub mod Needs
 pub mod Table

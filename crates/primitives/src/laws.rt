@@ -1,7 +1,7 @@
 //! Laws of the rows.
 
 ghost use Rattle.std.specs.Prelude.{ℕ};
-ghost use Rattle.plain_rows.specs.Stops.{StopsKeeping};
+ghost use Rattle.primitives.specs.Stops.{StopsKeeping};
 ghost use Rattle.plain_rows.specs.Whole.{Whole};
 ghost use Rattle.primitives.specs.Table.{row};
 
