@@ -1,3 +1,4 @@
 pub mod Pieces
 pub mod Behaves
 pub mod Rows
+pub mod Requests
