@@ -8,3 +8,5 @@ pub mod Moving
 pub mod Running
 pub mod Ended
 pub mod Uniqueness
+pub mod Orderly
+pub mod Requested

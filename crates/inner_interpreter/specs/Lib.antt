@@ -3,6 +3,7 @@ pub mod Tick
 pub mod Answer
 pub mod Ends
 pub mod Moves
+pub mod Requests
 pub mod Lines
 pub mod Sent
 pub mod Runs

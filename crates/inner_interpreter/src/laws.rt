@@ -1,10 +1,29 @@
-//! Laws of runs.
+//! Laws of machines and of runs.
 
-ghost use Rattle.std.specs.Prelude.{◌≡◌, ℕ, Some};
+ghost use Rattle.std.specs.Prelude.{◌≡◌, ℕ, ◌≤◌, List, Some, All, length};
+ghost use Rattle.image_loader.specs.Files.{Contents};
+ghost use Rattle.memory.specs.Bytes.{cell};
+ghost use Rattle.primitives.specs.Needs.{most_requests};
+ghost use Rattle.inner_interpreter.specs.Moves.{Turn, Accepts, turned};
+ghost use Rattle.inner_interpreter.specs.Requests.{IsOrderly, AreAsked, IsPage, IsBelowBuffers, token_of};
 ghost use Rattle.inner_interpreter.specs.Runs.{World, rounds, stops};
+ghost use Rattle.inner_interpreter.specs.State.{State, start};
+ghost use Rattle.inner_interpreter.specs.Tick.{Runs};
 ghost use Rattle.inner_interpreter.specs.declared.stop.Stop.{Stop};
 
 /// A run has one end.
 pub fn one_end_law()
     ensures { (w : World) (n m : ℕ) (s t : Stop) → stops (rounds n w) ≡ Some s → stops (rounds m w) ≡ Some t → rounds n w ≡ rounds m w }
+{}
+
+/// No block is ever in two buffers of a machine, and none is asked to be read that a buffer has.
+pub fn orderly_law()
+    ensures started { (image : Contents) (block_count : ℕ) → IsOrderly (start image block_count) }
+    ensures moved { (s : State) (t : Turn) → Accepts s t → IsOrderly s → IsOrderly (turned s t) }
+{}
+
+/// A token whose code field is below the buffers asks its device, where each request is answered Ok, at most twice for
+/// each block that its row needs; BUFFER once; SAVE-BUFFERS and FLUSH once for each updated buffer.
+pub fn requests_law()
+    ensures { (s : State) (pages : List (List ℕ)) → Runs s → IsOrderly s → length s.parts.memory ≡ 65536 → IsBelowBuffers (token_of s) → All IsPage pages → AreAsked s pages → length pages ≤ most_requests (cell s.parts.memory (token_of s)) s.parts }
 {}

@@ -211,6 +211,13 @@ needed_same : (n : ℕ) (s t : Whole) → t.values ≡ s.values → cell t.memor
 unfolding needed stream_needs
 needed_same n s t v b c = rw (v, b, c) refl
 
+pub left_same : (n : ℕ) (s t : Whole) → t.memory ≡ s.memory → t.values ≡ s.values → t.buffers ≡ s.buffers → left n t ≡ left n s
+unfolding left
+left_same n s t m v b =
+    let needs : needed n t ≡ needed n s = needed_same n s t v (ap (λ (x : List ℕ). cell x BLK) m) (ap (λ (x : List ℕ). cell x SCR) m)
+    in let F : List Entry → List ℕ → ℕ = λ es us. if n == 113 then (if (victim es).updated then 1 else 0) else if (n == 115) || (n == 116) then count_by is_updated es else cost us es
+    in ap (λ (es : List Entry). F es (needed n t)) b ∙ ap (λ (us : List ℕ). F s.buffers us) needs
+
 abbrev mark : List Entry → ℕ
 mark b = if (victim b).updated then 1 else 0
 

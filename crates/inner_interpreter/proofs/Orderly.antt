@@ -1,0 +1,137 @@
+-- The buffers of a machine stay in order.
+use Rattle.std.proofs.Common.{◌≡◌, ℕ, ◌+◌, ◌==◌, List, ◌∷◌, length, nat_lt, Option, Some, None, Bool, true, false, refl, ap, sym, subst, ◌∙◌, if◌then◌else◌}
+use Rattle.block_buffers.specs.declared.entry.Entry.{Entry}
+use Rattle.block_buffers.specs.Entries.{start as unassigned_buffers, holds, slot_of, assigned, cleaned, AreBuffers, HasNoBlockTwice}
+use Rattle.block_buffers.proofs.Kept.{are_started, are_assigned, are_cleaned}
+use Rattle.block_buffers.proofs.Blocks.{blocks_started, blocks_assigned, blocks_cleaned}
+use Rattle.image_loader.specs.Files.{Contents}
+use Rattle.cells.specs.Cell.{wrap}
+use Rattle.memory.specs.Bytes.{cell}
+use Rattle.memory.specs.declared.system.TheConstants.{FAULT}
+use Rattle.plain_rows.specs.Whole.{Whole}
+use Rattle.plain_rows.specs.Row.{After, room, room_r}
+use Rattle.plain_rows.specs.declared.parts.Outcome.{Outcome}
+use Rattle.plain_rows.specs.declared.parts.Outcome.TheVariants.{Done, Show, Byte as ByteOut, Ask as AskOut, Fault as FaultOut, Abort, Halt as HaltOut}
+use Rattle.plain_rows.specs.declared.parts.Request.{Request}
+use Rattle.plain_rows.specs.declared.parts.Request.TheVariants as request
+use Rattle.plain_rows.proofs.Shapes.{by_if, by_room, by_room_r}
+use Rattle.primitives.specs.Table.{row}
+use Rattle.primitives.proofs.Behaves.{AreOrderly}
+use Rattle.primitives.proofs.Rows.{behaves_row}
+use Rattle.primitives.proofs.Requests.{absent_read}
+use Rattle.inner_interpreter.specs.declared.act.Cause.{Cause}
+use Rattle.inner_interpreter.specs.declared.act.Cause.TheVariants.{Bye, Fault as FaultCause, InputEnded, InputFault as InputFaulted}
+use Rattle.inner_interpreter.specs.declared.act.Shown.TheVariants.{Nothing}
+use Rattle.inner_interpreter.specs.declared.act.Shown.{Shown}
+use Rattle.inner_interpreter.specs.declared.act.Act.{Act}
+use Rattle.inner_interpreter.specs.State.{State, start}
+use Rattle.inner_interpreter.specs.Tick.{taken, thread, executed, faulted, running, halted, fault, concluded, ticked, shown_span, quiet}
+use Rattle.inner_interpreter.specs.Answer as answering
+use Rattle.inner_interpreter.specs.Answer.{Reply, block_of, answered, answer_of, asked_by, fits, fits_request, key_answered, line_answered, read_answered, write_answered}
+use Rattle.inner_interpreter.specs.Moves.{Turn, Tick, Answer, Accepts, turned}
+use Rattle.inner_interpreter.specs.Requests.{IsOrderly}
+
+-- a state that asks nothing
+unasked : (s : Whole) (c : Option Cause) → AreOrderly s.buffers → IsOrderly (record { parts = s; wait = None; halt = c })
+unasked s c h = record { buffers = h.buffers; once = h.once; absent = λ u w q. cc }
+
+-- one of two ends
+either_orderly : (b : Bool) (x y : State × Act) → IsOrderly x.0 → IsOrderly y.0 → IsOrderly ((if b then x else y).0)
+either_orderly true x y h k = h
+either_orderly false x y h k = k
+
+faulted_orderly : (s : Whole) (shown : Shown) (f : ℕ) → AreOrderly s.buffers → IsOrderly (fault s shown f).0
+unfolding fault
+faulted_orderly s shown f h = either_orderly (cell s.memory FAULT == 0) _ _ (unasked (faulted s f) (Some (FaultCause f)) h) (unasked (faulted s f) None h)
+
+concluded_orderly : (w : ℕ) (x : After) → AreOrderly x.0.buffers → ((u : ℕ) → x.1 ≡ AskOut (request.Read u) → holds x.0.buffers u ≡ false) → IsOrderly (concluded w x).0
+unfolding concluded
+concluded_orderly w (s, Done) h a = unasked s None h
+concluded_orderly w (s, Show span) h a = unasked s None h
+concluded_orderly w (s, ByteOut c) h a = unasked s None h
+concluded_orderly w (s, AskOut r) h a = record {
+  buffers = h.buffers;
+  once = h.once;
+  absent = λ u v q. a u (ap (λ (o : Option (Request × ℕ)). AskOut (elim o [ Some p ↦ p.0 | None ↦ r ])) q);
+}
+concluded_orderly w (s, FaultOut f) h a = faulted_orderly s Nothing f h
+concluded_orderly w (s, Abort span) h a = faulted_orderly s (shown_span span) 17 h
+concluded_orderly w (s, HaltOut) h a = unasked s (Some Bye) h
+
+thread_orderly : (c w : ℕ) (s : Whole) → AreOrderly s.buffers → AreOrderly (thread c w s).0.buffers
+thread_orderly c w s h = by_room P s _ _ h (by_room_r P s _ _ h h) where
+  P : After → Type 0
+  P x = AreOrderly x.0.buffers
+
+executed_orderly : (w : ℕ) (s : Whole) → AreOrderly s.buffers → AreOrderly (executed w s).0.buffers
+unfolding executed
+executed_orderly w s h =
+    let c : ℕ = cell s.memory w
+    in by_if (λ x. AreOrderly x.0.buffers) (nat_lt c 256) _ _ ((behaves_row c w s).keeps h) (thread_orderly c w s h)
+
+-- no block is asked to be read that a buffer has
+abbrev ReadsAbsent : After → Type 0
+ReadsAbsent x = (u : ℕ) → x.1 ≡ AskOut (request.Read u) → holds x.0.buffers u ≡ false
+
+thread_absent : (c w : ℕ) (s : Whole) → ReadsAbsent (thread c w s)
+thread_absent c w s = by_room ReadsAbsent s _ _ (λ u q. cc) (by_room_r ReadsAbsent s _ _ (λ u q. cc) (λ u q. cc))
+
+row_absent : (c w : ℕ) (s : Whole) → ReadsAbsent (row c w s)
+row_absent c w s u q = absent_read c w s (row c w s).0 u (ap (λ (o : Outcome). ((row c w s).0, o)) q)
+
+executed_absent : (w : ℕ) (s : Whole) → ReadsAbsent (executed w s)
+unfolding executed
+executed_absent w s =
+    let c : ℕ = cell s.memory w
+    in by_if ReadsAbsent (nat_lt c 256) _ _ (row_absent c w s) (thread_absent c w s)
+
+taken_orderly : (s : Whole) → AreOrderly s.buffers → AreOrderly (taken s).1.buffers
+unfolding taken
+taken_orderly s h = by_pending s.pending where
+  took : Option ℕ → ℕ × Whole
+  took p = elim p [
+    | Some w ↦ (w, record s { pending = None })
+    | None ↦ (cell s.memory s.ip, record s { ip = wrap (s.ip + 2) })
+  ]
+  by_pending : (p : Option ℕ) → AreOrderly (took p).1.buffers
+  by_pending (Some w) = h
+  by_pending None = h
+
+ticked_orderly : (s : Whole) → AreOrderly s.buffers → IsOrderly (ticked s).0
+unfolding ticked
+ticked_orderly s h =
+    concluded_orderly (taken s).0 (executed (taken s).0 (taken s).1)
+    (executed_orderly (taken s).0 (taken s).1 (taken_orderly s h)) (executed_absent (taken s).0 (taken s).1)
+
+answered_orderly : (s : Whole) (p : Request × ℕ) (reply : Reply) → AreOrderly s.buffers → ((u w : ℕ) → Some p ≡ Some (request.Read u, w) → holds s.buffers u ≡ false) → fits_request p.0 reply ≡ true → IsOrderly (answered s p reply).0
+unfolding answered key_answered line_answered read_answered write_answered
+answered_orderly s p (answering.Key c) h a f = either_orderly (nat_lt 256 (length (c ∷ s.values))) _ _ (faulted_orderly s Nothing 2 h) (unasked _ None h)
+answered_orderly s p (answering.Line bytes returned) h a f = either_orderly (nat_lt (length s.values) 2) _ _ (faulted_orderly s Nothing 1 h) (unasked _ None h)
+answered_orderly s p answering.InputEnd h a f = unasked s (Some InputEnded) h
+answered_orderly s p answering.InputFault h a f = unasked s (Some InputFaulted) h
+answered_orderly s (request.Key, w) (answering.ReadOk page) h a f = cc
+answered_orderly s (request.Line n, w) (answering.ReadOk page) h a f = cc
+answered_orderly s (request.Read u, w) (answering.ReadOk page) h a f =
+    unasked _ None (record { buffers = are_assigned u s.buffers h.buffers; once = blocks_assigned u s.buffers (a u w refl) h.once })
+answered_orderly s (request.Write u, w) (answering.ReadOk page) h a f = cc
+answered_orderly s p answering.ReadFault h a f = faulted_orderly s Nothing 9 h
+answered_orderly s p answering.WriteOk h a f =
+    let slot : ℕ = slot_of s.buffers (block_of p.0)
+    in unasked _ None (record { buffers = are_cleaned slot s.buffers h.buffers; once = blocks_cleaned slot s.buffers h.once })
+answered_orderly s p answering.WriteFault h a f = faulted_orderly s Nothing 10 h
+
+answer_orderly : (s : State) (reply : Reply) → fits (asked_by s.wait) reply ≡ true → IsOrderly s → IsOrderly (answer_of s reply).0
+unfolding answer_of
+answer_orderly s reply f h = by_wait s.wait refl f where
+  came : Option (Request × ℕ) → State × Act
+  came o = elim o [ Some p ↦ answered s.parts p reply | None ↦ (s, quiet) ]
+  by_wait : (o : Option (Request × ℕ)) → s.wait ≡ o → fits (asked_by o) reply ≡ true → IsOrderly (came o).0
+  by_wait (Some p) q g = answered_orderly s.parts p reply (record { buffers = h.buffers; once = h.once }) (λ u w k. h.absent u w (q ∙ k)) g
+  by_wait None q g = cc
+
+pub moved_orderly : (s : State) (t : Turn) → Accepts s t → IsOrderly s → IsOrderly (turned s t)
+moved_orderly s Tick a h = ticked_orderly s.parts (record { buffers = h.buffers; once = h.once })
+moved_orderly s (Answer reply) a h = answer_orderly s reply a h
+
+pub start_orderly : (image : Contents) (block_count : ℕ) → IsOrderly (start image block_count)
+start_orderly image block_count = unasked _ None (record { buffers = are_started; once = blocks_started })

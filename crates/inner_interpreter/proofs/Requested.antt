@@ -1,0 +1,195 @@
+-- How many requests of the device a token makes, each answered Ok.
+use Rattle.std.proofs.Common.{◌≡◌, ℕ, ◌+◌, ◌*◌, ◌<◌, ◌≤◌, ◌==◌, List, [], ◌∷◌, length, nat_lt, Option, Some, None, Bool, true, false, refl, arith, ap, sym, subst, ◌∙◌, if◌then◌else◌}
+use Rattle.std.specs.Prelude.{All, IsTrue}
+use Rattle.std.proofs.lemmas.List.Elements.{All-head, All-tail}
+use Rattle.block_buffers.specs.declared.entry.Entry.{Entry}
+use Rattle.block_buffers.specs.Entries.{unassigned_slot, entry_at, victim, AreBuffers, HasNoBlockTwice}
+use Rattle.cells.specs.Cell.{wrap}
+use Rattle.memory.specs.Bytes.{cell, with_page}
+use Rattle.memory.specs.declared.system.TheConstants.{BLK, SCR, FAULT}
+use Rattle.memory.proofs.Pages.{cell_below, length-with_page}
+use Rattle.plain_rows.specs.Whole.{Whole}
+use Rattle.plain_rows.specs.Row.{After}
+use Rattle.plain_rows.specs.declared.parts.Outcome.{Outcome}
+use Rattle.plain_rows.specs.declared.parts.Outcome.TheVariants.{Done, Show, Byte as ByteOut, Ask as AskOut, Fault as FaultOut, Abort, Halt as HaltOut}
+use Rattle.plain_rows.specs.declared.parts.Request.{Request}
+use Rattle.plain_rows.specs.declared.parts.Request.TheVariants as request
+use Rattle.plain_rows.proofs.Shapes.{by_room, by_room_r}
+use Rattle.primitives.specs.Needs.{stream_needs, needed, most_requests}
+use Rattle.primitives.specs.Stops.{Keeps, StopsKeeping}
+use Rattle.primitives.specs.Table.{row}
+use Rattle.primitives.proofs.Behaves.{AreOrderly, asks_device as device_asked}
+use Rattle.primitives.proofs.Rows.{behaves_row}
+use Rattle.primitives.proofs.Requests.{answered as buffers_answered, left, left_most, left_same, fewer_requests}
+use Rattle.inner_interpreter.specs.declared.act.Act.{Act}
+use Rattle.inner_interpreter.specs.declared.act.Shown.{Shown}
+use Rattle.inner_interpreter.specs.State.{State}
+use Rattle.inner_interpreter.specs.Tick.{taken, thread, executed, running, fault, concluded, ticked, Runs}
+use Rattle.inner_interpreter.specs.Answer.{fits, answered, answer_of, asked_by, read_answered, write_answered}
+use Rattle.inner_interpreter.specs.Moves.{Tick, Answer, turned}
+use Rattle.inner_interpreter.specs.Requests.{IsOrderly, asks_device, ok_to, AreAsked, IsPage, token_of, IsBelowBuffers}
+use Rattle.inner_interpreter.proofs.Orderly.{moved_orderly}
+
+-- memory behind an Ok
+abbrev memory_behind : Outcome → Whole → List ℕ → List ℕ
+memory_behind (AskOut (request.Read u)) s page = with_page s.memory (victim s.buffers).slot page
+memory_behind _ s page = s.memory
+
+-- the parts behind an Ok to what a token asked
+abbrev behind : ℕ → After → List ℕ → Whole
+behind w x page = record x.0 { memory = memory_behind x.1 x.0 page; buffers = buffers_answered x.1 x.0.buffers; pending = Some w }
+
+fault_asks_none : (s : Whole) (shown : Shown) (f : ℕ) → asks_device (asked_by (fault s shown f).0.wait) ≡ false
+unfolding fault
+fault_asks_none s shown f = either (cell s.memory FAULT == 0) _ _ refl refl where
+  either : (b : Bool) (x y : State × Act) → asks_device (asked_by x.0.wait) ≡ false → asks_device (asked_by y.0.wait) ≡ false → asks_device (asked_by ((if b then x else y).0.wait)) ≡ false
+  either true x y h k = h
+  either false x y h k = k
+
+concluded_asks : (w : ℕ) (x : After) → asks_device (asked_by (concluded w x).0.wait) ≡ true → device_asked x.1 ≡ true
+unfolding concluded
+concluded_asks w (s, Done) q = cc
+concluded_asks w (s, Show span) q = cc
+concluded_asks w (s, ByteOut c) q = cc
+concluded_asks w (s, AskOut request.Key) q = cc
+concluded_asks w (s, AskOut (request.Line n)) q = cc
+concluded_asks w (s, AskOut (request.Read u)) q = refl
+concluded_asks w (s, AskOut (request.Write u)) q = refl
+concluded_asks w (s, FaultOut f) q = cc (fault_asks_none s (concluded w (s, Done)).1.shown f)
+concluded_asks w (s, Abort span) q = cc (fault_asks_none s (concluded w (s, Show span)).1.shown 17)
+concluded_asks w (s, HaltOut) q = cc
+
+abbrev ok_state : State → List ℕ → State
+ok_state t page = turned t (Answer (ok_to (asked_by t.wait) page))
+
+concluded_behind : (w : ℕ) (x : After) (page : List ℕ) → device_asked x.1 ≡ true → ok_state (concluded w x).0 page ≡ running (behind w x page)
+unfolding concluded answer_of answered read_answered write_answered
+concluded_behind w (s, Done) page q = cc
+concluded_behind w (s, Show span) page q = cc
+concluded_behind w (s, ByteOut c) page q = cc
+concluded_behind w (s, AskOut request.Key) page q = cc
+concluded_behind w (s, AskOut (request.Line n)) page q = cc
+concluded_behind w (s, AskOut (request.Read u)) page q = refl
+concluded_behind w (s, AskOut (request.Write u)) page q = refl
+concluded_behind w (s, FaultOut f) page q = cc
+concluded_behind w (s, Abort span) page q = cc
+concluded_behind w (s, HaltOut) page q = cc
+
+thread_asks_none : (c w : ℕ) (s : Whole) → device_asked (thread c w s).1 ≡ false
+thread_asks_none c w s = by_room P s _ _ refl (by_room_r P s _ _ refl refl) where
+  P : After → Type 0
+  P x = device_asked x.1 ≡ false
+
+executed_row : (w : ℕ) (s : Whole) → device_asked (executed w s).1 ≡ true → executed w s ≡ row (cell s.memory w) w s
+unfolding executed
+executed_row w s q = by_code (nat_lt (cell s.memory w) 256) q where
+  either : Bool → After
+  either b = if b then row (cell s.memory w) w s else thread (cell s.memory w) w s
+  by_code : (b : Bool) → device_asked (either b).1 ≡ true → either b ≡ row (cell s.memory w) w s
+  by_code true k = refl
+  by_code false k = let no : device_asked (thread (cell s.memory w) w s).1 ≡ false = thread_asks_none (cell s.memory w) w s in cc
+
+kept : (s : Whole) (x : After) → device_asked x.1 ≡ true → StopsKeeping s x → Keeps s x.0
+kept s (t, Done) q h = cc
+kept s (t, Show span) q h = cc
+kept s (t, ByteOut c) q h = cc
+kept s (t, AskOut r) q h = h
+kept s (t, FaultOut f) q h = cc
+kept s (t, Abort span) q h = cc
+kept s (t, HaltOut) q h = cc
+
+-- what is taken with a token
+record IsTaken (s t : Whole) : Type 0 where
+  memory : t.memory ≡ s.memory
+  values : t.values ≡ s.values
+  buffers : t.buffers ≡ s.buffers
+
+is_taken : (s : Whole) → IsTaken s (taken s).1
+unfolding taken
+is_taken s = by_pending s.pending where
+  took : Option ℕ → ℕ × Whole
+  took p = elim p [
+    | Some w ↦ (w, record s { pending = None })
+    | None ↦ (cell s.memory s.ip, record s { ip = wrap (s.ip + 2) })
+  ]
+  by_pending : (p : Option ℕ) → IsTaken s (took p).1
+  by_pending (Some w) = record { memory = refl; values = refl; buffers = refl }
+  by_pending None = record { memory = refl; values = refl; buffers = refl }
+
+victim_small : (b : List Entry) → AreBuffers b → (victim b).slot < 4
+unfolding entry_at
+victim_small b h = h.slots 3 (unassigned_slot 0) (omega (arith, h.four))
+
+-- memory keeps its size, and below the buffers its cells
+record IsKept (old new : List ℕ) : Type 0 where
+  size : length new ≡ 65536
+  cells : (a : ℕ) → a + 2 ≤ 61440 → cell new a ≡ cell old a
+
+memory_kept : (o : Outcome) (t : Whole) (page : List ℕ) → length t.memory ≡ 65536 → AreBuffers t.buffers → length page ≡ 1024 → IsKept t.memory (memory_behind o t page)
+memory_kept Done t page l h k = record { size = l; cells = λ a b. refl }
+memory_kept (Show span) t page l h k = record { size = l; cells = λ a b. refl }
+memory_kept (ByteOut c) t page l h k = record { size = l; cells = λ a b. refl }
+memory_kept (AskOut request.Key) t page l h k = record { size = l; cells = λ a b. refl }
+memory_kept (AskOut (request.Line n)) t page l h k = record { size = l; cells = λ a b. refl }
+memory_kept (AskOut (request.Read u)) t page l h k = record {
+  size = length-with_page t.memory page (victim t.buffers).slot l (victim_small t.buffers h) k;
+  cells = λ a b. cell_below t.memory page (victim t.buffers).slot a l (victim_small t.buffers h) b;
+}
+memory_kept (AskOut (request.Write u)) t page l h k = record { size = l; cells = λ a b. refl }
+memory_kept (FaultOut f) t page l h k = record { size = l; cells = λ a b. refl }
+memory_kept (Abort span) t page l h k = record { size = l; cells = λ a b. refl }
+memory_kept HaltOut t page l h k = record { size = l; cells = λ a b. refl }
+
+-- behind an Ok: the row may make fewer requests, and the token means the same
+record IsNearer (n w : ℕ) (s t : Whole) : Type 0 where
+  fewer : left n t < left n s
+  size : length t.memory ≡ 65536
+  code : cell t.memory w ≡ n
+
+nearer : (n w : ℕ) (s : Whole) (page : List ℕ) → AreOrderly s.buffers → length s.memory ≡ 65536 → cell s.memory w ≡ n → w + 2 ≤ 61440 → length page ≡ 1024 → device_asked (row n w s).1 ≡ true → IsNearer n w s (behind w (row n w s) page)
+nearer n w s page h l code below k asks =
+    let x : After = row n w s
+    in let keeps : Keeps s x.0 = kept s x asks (behaves_row n w s).stops
+    in let orderly : AreOrderly x.0.buffers = (behaves_row n w s).keeps h
+    in let same : IsKept x.0.memory (memory_behind x.1 x.0 page) = memory_kept x.1 x.0 page (ap length keeps.memory ∙ l) orderly.buffers k
+    in let at : (a : ℕ) → a + 2 ≤ 61440 → cell (memory_behind x.1 x.0 page) a ≡ cell s.memory a = λ a b. same.cells a b ∙ ap (λ (m : List ℕ). cell m a) keeps.memory
+    in record {
+      fewer = fewer_requests n w s (behind w x page) h asks refl keeps.values (at BLK (omega arith)) (at SCR (omega arith));
+      size = same.size;
+      code = at w below ∙ code;
+    }
+
+nearer_token : (n w : ℕ) (s : Whole) (page : List ℕ) → AreOrderly s.buffers → length s.memory ≡ 65536 → cell s.memory w ≡ n → w + 2 ≤ 61440 → length page ≡ 1024 → device_asked (executed w s).1 ≡ true → IsNearer n w s (behind w (executed w s) page)
+nearer_token n w s page h l code below k asks =
+    let same : executed w s ≡ row n w s = executed_row w s asks ∙ ap (λ (c : ℕ). row c w s) code
+    in let P : After → Type 0 = λ x. IsNearer n w s (behind w x page)
+    in subst P (sym same) (nearer n w s page h l code below k (subst (λ (x : After). device_asked x.1 ≡ true) same asks))
+
+ok_fits : (r : Option Request) (page : List ℕ) → asks_device r ≡ true → fits r (ok_to r page) ≡ true
+ok_fits None page q = cc
+ok_fits (Some request.Key) page q = cc
+ok_fits (Some (request.Line n)) page q = cc
+ok_fits (Some (request.Read u)) page q = refl
+ok_fits (Some (request.Write u)) page q = refl
+
+most : (pages : List (List ℕ)) (s : State) (n w : ℕ) → IsOrderly s → Runs s → length s.parts.memory ≡ 65536 → token_of s ≡ w → cell s.parts.memory w ≡ n → w + 2 ≤ 61440 → All IsPage pages → AreAsked s pages → length pages ≤ left n s.parts
+unfolding AreAsked ticked taken
+most [] s n w h runs l tok code below all asked = omega arith
+most (page ∷ pages) s n w h runs l tok code below all asked =
+    let q : Whole = (taken s.parts).1
+    in let same : IsTaken s.parts q = is_taken s.parts
+    in let t : State = turned s Tick
+    in let v : ℕ = token_of s
+    in let device : device_asked (executed v q).1 ≡ true = concluded_asks v (executed v q) asked.0
+    in let next : State = running (behind v (executed v q) page)
+    in let is_next : ok_state t page ≡ next = concluded_behind v (executed v q) page device
+    in let orderly : IsOrderly next = subst IsOrderly is_next (moved_orderly t (Answer (ok_to (asked_by t.wait) page)) (ok_fits (asked_by t.wait) page asked.0) (moved_orderly s Tick runs h))
+    in let code_q : cell q.memory v ≡ n = ap (λ (m : List ℕ). cell m v) same.memory ∙ ap (λ (a : ℕ). cell s.parts.memory a) tok ∙ code
+    in let near : IsNearer n v q (behind v (executed v q) page) = nearer_token n v q page (record { buffers = subst AreBuffers (sym same.buffers) h.buffers; once = subst HasNoBlockTwice (sym same.buffers) h.once }) (ap length same.memory ∙ l) code_q (subst IsBelowBuffers (sym tok) below) (All-head IsPage page pages all) device
+    in let rest : length pages ≤ left n next.parts = most pages next n v orderly (refl, refl) near.size refl near.code (subst IsBelowBuffers (sym tok) below) (All-tail IsPage page pages all) (subst (λ (x : State). AreAsked x pages) is_next asked.1)
+    in omega (arith, rest, near.fewer, left_same n s.parts q same.memory same.values same.buffers)
+
+pub most_asked : (s : State) (pages : List (List ℕ)) → Runs s → IsOrderly s → length s.parts.memory ≡ 65536 → IsBelowBuffers (token_of s) → All IsPage pages → AreAsked s pages → length pages ≤ most_requests (cell s.parts.memory (token_of s)) s.parts
+most_asked s pages runs h l below all asked =
+    let n : ℕ = cell s.parts.memory (token_of s)
+    in omega (arith, most pages s n (token_of s) h runs l refl refl below all asked, left_most n s.parts)

@@ -1,0 +1,45 @@
+-- Requests of the device that are answered Ok, one after another.
+use Rattle.std.specs.Prelude.{ℕ, ◌+◌, ◌≡◌, ◌≤◌, List, [], ◌∷◌, Option, Some, Bool, true, false, IsTrue, IsFalse, length}
+use Rattle.block_buffers.specs.Entries.{holds, AreBuffers, HasNoBlockTwice}
+use Rattle.plain_rows.specs.declared.parts.Request.{Request}
+use Rattle.plain_rows.specs.declared.parts.Request.TheVariants as request
+use Rattle.inner_interpreter.specs.State.{State}
+use Rattle.inner_interpreter.specs.Tick.{taken}
+use Rattle.inner_interpreter.specs.Answer.{Reply, ReadOk, WriteOk, asked_by}
+use Rattle.inner_interpreter.specs.Moves.{Tick, Answer, turned}
+
+-- the machine's buffers are in order: no block is in two of them, and none is asked to be read that one of them has
+pub record IsOrderly (s : State) : Type 0 where
+  pub buffers : AreBuffers s.parts.buffers
+  pub once : HasNoBlockTwice s.parts.buffers
+  pub absent : (u w : ℕ) → s.wait ≡ Some (request.Read u, w) → IsFalse (holds s.parts.buffers u)
+
+-- a request of the device stands
+abbrev pub asks_device : Option Request → Bool
+asks_device (Some (request.Read u)) = true
+asks_device (Some (request.Write u)) = true
+asks_device _ = false
+
+-- Ok to a request of the device: a read brings the page
+abbrev pub ok_to : Option Request → List ℕ → Reply
+ok_to (Some (request.Write u)) page = WriteOk
+ok_to _ page = ReadOk page
+
+-- the machine ticks, asks its device and is answered Ok, as often as there are pages, of which a read brings its own
+unfoldable pub AreAsked : State → List (List ℕ) → Type 0
+AreAsked s [] = Unit {0}
+AreAsked s (page ∷ pages) =
+    let t = turned s Tick in
+    IsTrue (asks_device (asked_by t.wait)) × AreAsked (turned t (Answer (ok_to (asked_by t.wait) page))) pages
+
+-- the bytes of a block
+abbrev pub IsPage : List ℕ → Type 0
+IsPage page = length page ≡ 1024
+
+-- the token that the next tick takes
+abbrev pub token_of : State → ℕ
+token_of s = (taken s.parts).0
+
+-- the cell at w is below the buffers
+abbrev pub IsBelowBuffers : ℕ → Type 0
+IsBelowBuffers w = w + 2 ≤ 61440
