@@ -1,8 +1,8 @@
 -- What a written block, and a buffer that is given to a block, change for the references that follow.
-use Rattle.std.proofs.Common.{◌≡◌, ◌≢◌, ℕ, zero, suc, ◌+◌, ◌*◌, ◌<◌, ◌≤◌, ◌==◌, List, [], ◌∷◌, length, get_or, take, map, Option, Some, None, unwrap_or, refl, arith, ap, ◌∙◌, sym, subst, true, false, Bool, if◌then◌else◌, inl, inr}
+use Rattle.std.proofs.Common.{◌≡◌, ◌≢◌, ℕ, zero, suc, ◌+◌, ◌<◌, ◌≤◌, ◌==◌, List, [], ◌∷◌, length, get_or, take, map, Option, Some, None, unwrap_or, refl, arith, ap, ◌∙◌, sym, subst, true, false, Bool, if◌then◌else◌}
 use Rattle.std.specs.Prelude.{Contains, IsSome, count_by}
 use Rattle.std.specs.List.{list_any, position_or_len}
-use Rattle.std.proofs.lemmas.Bool.{eq-eqb, eqb-true}
+use Rattle.std.proofs.lemmas.Bool.{eq-eqb}
 use Rattle.std.proofs.lemmas.List.{get_or-map, get_or_default}
 use Rattle.std.proofs.lemmas.List.Sorted.{list_any-IsPermutation}
 use Rattle.std.proofs.lemmas.List.Sums.{sum_by-cons}
@@ -10,7 +10,7 @@ use Rattle.block_buffers.specs.declared.entry.Entry.{Entry}
 use Rattle.block_buffers.specs.Entries.{unassigned_slot, is_in, is_of, is_updated, holds, slot_of, moved_front, assigned, cleaned_entry, cleaned, victim, entry_at, has_updated, first_updated, AreBuffers, HasNoBlockTwice, IsLowestUpdated}
 use Rattle.block_buffers.proofs.Blocks.{clean_block, moved_permutes, of_from_block, block_of}
 use Rattle.block_buffers.proofs.Fronts.{moved_at}
-use Rattle.block_buffers.proofs.Places.{position_here, slot_here, holds_here}
+use Rattle.block_buffers.proofs.Places.{position_here, slot_here}
 use Rattle.block_buffers.proofs.Updated.{first_is_lowest}
 
 -- an entry that is no longer marked is of the same block
@@ -49,7 +49,7 @@ slot_of_held b e u (k, l, q) h once =
     in let has : (get_or b k d).block ≡ Some u = ap (λ (x : Entry). x.block) here ∙ h
     in let yes : is_of u (get_or b k d) ≡ true = block_of u (get_or b k d) has
     in let before : (j : ℕ) (f : Entry) → j < k → is_of u (get_or b j f) ≡ false = λ j f m. not_of u (get_or b j f) (is_of u (get_or b j f)) refl
-          (λ r. once j k f m l u r (ap (λ (x : Entry). x.block) (get_or_default b k f d l) ∙ has))
+    (λ r. once j k f m l u r (ap (λ (x : Entry). x.block) (get_or_default b k f d l) ∙ has))
     in let place : position_or_len (is_of u) b ≡ k = position_here u k b d yes l before
     in slot_here u b (rw place l) ∙ ap (λ (i : ℕ). (get_or b i d).slot) place ∙ ap (λ (x : Entry). x.slot) here
 

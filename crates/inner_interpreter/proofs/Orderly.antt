@@ -1,7 +1,6 @@
 -- The buffers of a machine stay in order.
-use Rattle.std.proofs.Common.{◌≡◌, ℕ, ◌+◌, ◌==◌, List, ◌∷◌, length, nat_lt, Option, Some, None, Bool, true, false, refl, ap, sym, subst, ◌∙◌, if◌then◌else◌}
-use Rattle.block_buffers.specs.declared.entry.Entry.{Entry}
-use Rattle.block_buffers.specs.Entries.{start as unassigned_buffers, holds, slot_of, assigned, cleaned, AreBuffers, HasNoBlockTwice}
+use Rattle.std.proofs.Common.{◌≡◌, ℕ, ◌+◌, ◌==◌, ◌∷◌, length, nat_lt, Option, Some, None, Bool, true, false, refl, ap, ◌∙◌, if◌then◌else◌}
+use Rattle.block_buffers.specs.Entries.{holds, slot_of}
 use Rattle.block_buffers.proofs.Kept.{are_started, are_assigned, are_cleaned}
 use Rattle.block_buffers.proofs.Blocks.{blocks_started, blocks_assigned, blocks_cleaned}
 use Rattle.image_loader.specs.Files.{Contents}
@@ -9,7 +8,7 @@ use Rattle.cells.specs.Cell.{wrap}
 use Rattle.memory.specs.Bytes.{cell}
 use Rattle.memory.specs.declared.system.TheConstants.{FAULT}
 use Rattle.plain_rows.specs.Whole.{Whole}
-use Rattle.plain_rows.specs.Row.{After, room, room_r}
+use Rattle.plain_rows.specs.Row.{After}
 use Rattle.plain_rows.specs.declared.parts.Outcome.{Outcome}
 use Rattle.plain_rows.specs.declared.parts.Outcome.TheVariants.{Done, Show, Byte as ByteOut, Ask as AskOut, Fault as FaultOut, Abort, Halt as HaltOut}
 use Rattle.plain_rows.specs.declared.parts.Request.{Request}
@@ -25,7 +24,7 @@ use Rattle.inner_interpreter.specs.declared.act.Shown.TheVariants.{Nothing}
 use Rattle.inner_interpreter.specs.declared.act.Shown.{Shown}
 use Rattle.inner_interpreter.specs.declared.act.Act.{Act}
 use Rattle.inner_interpreter.specs.State.{State, start}
-use Rattle.inner_interpreter.specs.Tick.{taken, thread, executed, faulted, running, halted, fault, concluded, ticked, shown_span, quiet}
+use Rattle.inner_interpreter.specs.Tick.{taken, thread, executed, faulted, fault, concluded, ticked, shown_span, quiet}
 use Rattle.inner_interpreter.specs.Answer as answering
 use Rattle.inner_interpreter.specs.Answer.{Reply, block_of, answered, answer_of, asked_by, fits, fits_request, key_answered, line_answered, read_answered, write_answered}
 use Rattle.inner_interpreter.specs.Moves.{Turn, Tick, Answer, Accepts, turned}
@@ -93,6 +92,7 @@ taken_orderly s h = by_pending s.pending where
     | Some w ↦ (w, record s { pending = None })
     | None ↦ (cell s.memory s.ip, record s { ip = wrap (s.ip + 2) })
   ]
+
   by_pending : (p : Option ℕ) → AreOrderly (took p).1.buffers
   by_pending (Some w) = h
   by_pending None = h
@@ -125,6 +125,7 @@ unfolding answer_of
 answer_orderly s reply f h = by_wait s.wait refl f where
   came : Option (Request × ℕ) → State × Act
   came o = elim o [ Some p ↦ answered s.parts p reply | None ↦ (s, quiet) ]
+
   by_wait : (o : Option (Request × ℕ)) → s.wait ≡ o → fits (asked_by o) reply ≡ true → IsOrderly (came o).0
   by_wait (Some p) q g = answered_orderly s.parts p reply (record { buffers = h.buffers; once = h.once }) (λ u w k. h.absent u w (q ∙ k)) g
   by_wait None q g = cc

@@ -1,6 +1,6 @@
 -- How many requests of the device a token makes, each answered Ok.
-use Rattle.std.proofs.Common.{◌≡◌, ℕ, ◌+◌, ◌*◌, ◌<◌, ◌≤◌, ◌==◌, List, [], ◌∷◌, length, nat_lt, Option, Some, None, Bool, true, false, refl, arith, ap, sym, subst, ◌∙◌, if◌then◌else◌}
-use Rattle.std.specs.Prelude.{All, IsTrue}
+use Rattle.std.proofs.Common.{◌≡◌, ℕ, ◌+◌, ◌<◌, ◌≤◌, ◌==◌, List, [], ◌∷◌, length, nat_lt, Option, Some, None, Bool, true, false, refl, arith, ap, sym, subst, ◌∙◌, if◌then◌else◌}
+use Rattle.std.specs.Prelude.{All}
 use Rattle.std.proofs.lemmas.List.Elements.{All-head, All-tail}
 use Rattle.block_buffers.specs.declared.entry.Entry.{Entry}
 use Rattle.block_buffers.specs.Entries.{unassigned_slot, entry_at, victim, AreBuffers, HasNoBlockTwice}
@@ -15,7 +15,7 @@ use Rattle.plain_rows.specs.declared.parts.Outcome.TheVariants.{Done, Show, Byte
 use Rattle.plain_rows.specs.declared.parts.Request.{Request}
 use Rattle.plain_rows.specs.declared.parts.Request.TheVariants as request
 use Rattle.plain_rows.proofs.Shapes.{by_room, by_room_r}
-use Rattle.primitives.specs.Needs.{stream_needs, needed, most_requests}
+use Rattle.primitives.specs.Needs.{most_requests}
 use Rattle.primitives.specs.Stops.{Keeps, StopsKeeping}
 use Rattle.primitives.specs.Table.{row}
 use Rattle.primitives.proofs.Behaves.{AreOrderly, asks_device as device_asked}
@@ -85,6 +85,7 @@ unfolding executed
 executed_row w s q = by_code (nat_lt (cell s.memory w) 256) q where
   either : Bool → After
   either b = if b then row (cell s.memory w) w s else thread (cell s.memory w) w s
+
   by_code : (b : Bool) → device_asked (either b).1 ≡ true → either b ≡ row (cell s.memory w) w s
   by_code true k = refl
   by_code false k = let no : device_asked (thread (cell s.memory w) w s).1 ≡ false = thread_asks_none (cell s.memory w) w s in cc
@@ -112,6 +113,7 @@ is_taken s = by_pending s.pending where
     | Some w ↦ (w, record s { pending = None })
     | None ↦ (cell s.memory s.ip, record s { ip = wrap (s.ip + 2) })
   ]
+
   by_pending : (p : Option ℕ) → IsTaken s (took p).1
   by_pending (Some w) = record { memory = refl; values = refl; buffers = refl }
   by_pending None = record { memory = refl; values = refl; buffers = refl }

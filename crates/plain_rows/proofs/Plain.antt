@@ -1,5 +1,5 @@
 -- Plain rows: by the shape of each row.
-use Rattle.std.proofs.Common.{ℕ, ◌==◌, List, length, nat_lt, Bool, true, false, refl, rules, if◌then◌else◌}
+use Rattle.std.proofs.Common.{ℕ, ◌==◌, List, Bool, refl, rules, if◌then◌else◌}
 use Rattle.plain_rows.specs.Whole.{Whole}
 use Rattle.plain_rows.specs.Row.{After, takes1, takes2, takes3, takes4, takes6, takes_r1, takes_r3, takes_r4, fault, room, room_r}
 use Rattle.plain_rows.specs.Plain.{IsPlain}

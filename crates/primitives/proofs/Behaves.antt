@@ -137,6 +137,7 @@ unfolding has_stream stream_buffers stream_needs
 behaves_reads us s f h = by_zero (cell s.memory BLK == 0) h where
   with_stream_of : Bool → Whole
   with_stream_of z = record s { buffers = if z then s.buffers else moved_front (slot_of s.buffers (cell s.memory BLK)) s.buffers }
+
   by_zero : (z : Bool) → ((stream : Stream) → Behaves (missing us (with_stream_of z)) (with_stream_of z) (f (with_stream_of z) stream)) → Behaves (missing ((if z then [] else cell s.memory BLK ∷ []) ++ us) s) s (if z || has_block s (cell s.memory BLK) then f (with_stream_of z) (stream_of s.memory s.buffers) else (s, without_block s (cell s.memory BLK)))
   by_zero true k = k (stream_of s.memory s.buffers)
   by_zero false k = behaves_fetches us s (cell s.memory BLK) (λ t slot. f t (stream_of s.memory s.buffers)) (λ slot. k (stream_of s.memory s.buffers))

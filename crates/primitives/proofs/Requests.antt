@@ -1,5 +1,5 @@
 -- Each Ok to what a row asks of its device brings the row one request nearer to its end.
-use Rattle.std.proofs.Common.{◌≡◌, ℕ, ◌+◌, ◌*◌, ◌<◌, ◌≤◌, ◌==◌, ◌||◌, ◌&&◌, ◌⊎◌, List, [], ◌∷◌, ◌++◌, Option, Some, None, unwrap_or, length, nat_lt, take, Bool, true, false, refl, ap, sym, subst, ◌∙◌, arith, inl, inr, if◌then◌else◌}
+use Rattle.std.proofs.Common.{◌≡◌, ℕ, ◌+◌, ◌*◌, ◌<◌, ◌≤◌, ◌==◌, ◌||◌, ◌&&◌, List, [], ◌∷◌, ◌++◌, Some, None, unwrap_or, length, nat_lt, take, Bool, true, false, refl, ap, sym, subst, ◌∙◌, arith, if◌then◌else◌}
 use Rattle.std.specs.Prelude.{count_by}
 use Rattle.block_buffers.specs.declared.entry.Entry.{Entry}
 use Rattle.block_buffers.specs.Entries.{holds, slot_of, victim, entry_at, moved_front, assigned, cleaned, is_updated, has_updated, first_updated}
@@ -64,6 +64,7 @@ asked s u h a = by_count (nat_lt u s.block_count) refl where
   by_victim : (m : Bool) → (victim s.buffers).updated ≡ m → holds s.buffers u ≡ false → Asked s u (if m then write_of (victim s.buffers) else outcome.Ask (request.Read u))
   by_victim true q k = Writes k q refl
   by_victim false q k = Reads k q refl
+
   by_count : (b : Bool) → nat_lt u s.block_count ≡ b → Asked s u (if b then (if (victim s.buffers).updated then write_of (victim s.buffers) else outcome.Ask (request.Read u)) else outcome.Fault 7)
   by_count true q = by_victim (victim s.buffers).updated refl (rw q at h)
   by_count false q = let no : false ≡ true = rw q at a in cc
@@ -86,7 +87,6 @@ fewer_absent s u us o h (Reads k q r) =
     in let behind : cost (u ∷ us) c ≡ cost us (moved_front (slot_of c u) c) = cost_held u us c (holds_assigned u b)
     in let less : cost (u ∷ us) c < cost (u ∷ us) b = omega (arith, before, behind, cost_most us (moved_front (slot_of c u) c))
     in subst P (sym r) less
-
 
 -- behind a block that a buffer has, one more that none has: it costs one less
 fewer_behind : (s : Whole) (u v : ℕ) (o : Outcome) → AreOrderly s.buffers → holds s.buffers u ≡ true → Asked (with_block s u) v o → cost (u ∷ v ∷ []) (answered o (with_block s u).buffers) < cost (u ∷ v ∷ []) s.buffers
@@ -159,11 +159,13 @@ fewer_missing (u ∷ []) s x l h q a = by_block (has_block s u) refl where
 fewer_missing (u ∷ v ∷ []) s x l h q a = by_block (has_block s u) refl where
   t : Whole
   t = with_block s u
+
   by_second : has_block s u ≡ true → (b : Bool) → has_block t v ≡ b → cost (u ∷ v ∷ []) (answered x.1 x.0.buffers) < cost (u ∷ v ∷ []) s.buffers
   by_second k true j = let no : None ≡ Some x = sym (missing_held u (v ∷ []) s k ∙ missing_held v [] t j ∙ missing_none (with_block t v)) ∙ q in cc
   by_second k false j =
       let here : (t, without_block t v) ≡ x = the_some (t, without_block t v) x (sym (missing_held u (v ∷ []) s k ∙ missing_absent v [] t j) ∙ q)
       in fewer_at s t (u ∷ v ∷ []) (without_block t v) x here (λ i. fewer_behind s u v (without_block t v) h (has_held s u k) (asked t v j i)) a
+
   by_block : (b : Bool) → has_block s u ≡ b → cost (u ∷ v ∷ []) (answered x.1 x.0.buffers) < cost (u ∷ v ∷ []) s.buffers
   by_block true k = by_second k (has_block t v) refl
   by_block false k =
@@ -184,9 +186,11 @@ left_most n s = by_buffer (n == 113) ((n == 115) || (n == 116)) where
   one : (m : Bool) → (if m then 1 else 0) ≤ 1
   one true = omega arith
   one false = omega arith
+
   by_saves : (b : Bool) → (if b then count_by is_updated s.buffers else cost (needed n s) s.buffers) ≤ (if b then count_by is_updated s.buffers else 2 * length (needed n s))
   by_saves true = omega arith
   by_saves false = cost_most (needed n s) s.buffers
+
   by_buffer : (a b : Bool) → (if a then (if (victim s.buffers).updated then 1 else 0) else if b then count_by is_updated s.buffers else cost (needed n s) s.buffers) ≤ (if a then 1 else if b then count_by is_updated s.buffers else 2 * length (needed n s))
   by_buffer true b = one (victim s.buffers).updated
   by_buffer false b = by_saves b
@@ -197,6 +201,7 @@ two_at_most n s = by_row (n == 112) (reads_stream n) (cell s.memory BLK == 0) (i
   one : (d : List ℕ) → length (take 1 d) ≤ 2
   one [] = omega arith
   one (u ∷ d) = omega arith
+
   by_row : (a b c d : Bool) → length (if a then take 1 s.values else (if b then (if c then [] else cell s.memory BLK ∷ []) else []) ++ (if d then cell s.memory SCR ∷ [] else [])) ≤ 2
   by_row true b c d = one s.values
   by_row false true true true = omega arith
@@ -226,6 +231,7 @@ unfolding given
 fewer_given s x h q = by_victim (victim s.buffers).updated refl q where
   b : List Entry
   b = s.buffers
+
   by_victim : (m : Bool) → (victim b).updated ≡ m → (if m then Some (s, write_of (victim b)) else None) ≡ Some x → mark (answered x.1 x.0.buffers) < mark b
   by_victim true r k =
       let P : After → Type 0 = λ y. mark (answered y.1 y.0.buffers) < mark b
@@ -240,6 +246,7 @@ unfolding saved
 fewer_updated s x h q = by_any (has_updated s.buffers) refl q where
   b : List Entry
   b = s.buffers
+
   by_any : (m : Bool) → has_updated b ≡ m → (if m then Some (s, write_of (first_updated b)) else None) ≡ Some x → count_by is_updated (answered x.1 x.0.buffers) < count_by is_updated b
   by_any true r k =
       let P : After → Type 0 = λ y. count_by is_updated (answered y.1 y.0.buffers) < count_by is_updated b
@@ -254,6 +261,7 @@ fewer_left n s t x h q a e needs = by_buffer (n == 113) ((n == 115) || (n == 116
   by_saves false k =
       let P : List ℕ → List Entry → Type 0 = λ us b. cost us b < cost (needed n s) s.buffers
       in subst (λ (us : List ℕ). P us t.buffers) (sym needs) (subst (λ (b : List Entry). P (needed n s) b) (sym e) (fewer_missing (needed n s) s x (two_at_most n s) h k a))
+
   by_buffer : (c b : Bool) → (if c then given s else if b then saved s else missing (needed n s) s) ≡ Some x → (if c then mark t.buffers else if b then count_by is_updated t.buffers else cost (needed n t) t.buffers) < (if c then mark s.buffers else if b then count_by is_updated s.buffers else cost (needed n s) s.buffers)
   by_buffer true b k = rw e (fewer_given s x h k)
   by_buffer false b k = by_saves b k

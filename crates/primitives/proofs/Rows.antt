@@ -1,26 +1,21 @@
 -- The whole table, row by row: what each asks of its device, leaves of the buffers, and keeps where it stops.
-use Rattle.std.proofs.Common.{◌≡◌, ℕ, ◌==◌, ◌||◌, ◌&&◌, List, [], ◌∷◌, ◌++◌, Option, Some, None, length, nat_lt, take, Bool, true, false, not, refl, sym, subst, rules, if◌then◌else◌}
+use Rattle.std.proofs.Common.{◌≡◌, ℕ, ◌==◌, ◌||◌, List, [], ◌∷◌, ◌++◌, Option, None, nat_lt, take, Bool, true, false, refl, sym, subst, rules, if◌then◌else◌}
 use Rattle.std.proofs.lemmas.Bool.{eqb-true}
 use Rattle.block_buffers.specs.Entries.{holds, slot_of, victim, assigned, unassigned}
-use Rattle.dictionary.specs.Header.{is_immediate}
-use Rattle.dictionary.specs.Laying.{fits}
-use Rattle.dictionary.specs.Search.{found}
 use Rattle.input_source.specs.declared.words.Stream.{Stream}
 use Rattle.memory.specs.Bytes.{cell}
 use Rattle.memory.specs.declared.system.TheConstants.{SCR}
-use Rattle.number_text.specs.Base.{has_base}
-use Rattle.number_text.specs.Numbers.{is_number, is_double}
 use Rattle.plain_rows.specs.Whole.{Whole}
 use Rattle.plain_rows.specs.Row.{After, done, fault, takes1}
 use Rattle.plain_rows.proofs.Shapes.{by_if, by_takes1}
 use Rattle.plain_rows.proofs.Plain.{plain_control, plain_stack, plain_cells, plain_doubles, plain_memory}
 use Rattle.primitives.specs.Blocks.{address_of, with_block, fetches}
 use Rattle.primitives.specs.Needs.{reads_stream, is_about_screen, stream_needs, needed}
-use Rattle.primitives.specs.Devices.{gives, saves}
+use Rattle.primitives.specs.Devices.{gives}
 use Rattle.primitives.specs.Dictionary.{finds_at, defines}
 use Rattle.primitives.specs.Interpret.{pushes, lays, finds, singles, doubles as doubles_number, counts}
 use Rattle.primitives.specs.Compiling.{compiles, resolves}
-use Rattle.primitives.proofs.Behaves.{Behaves, AreOrderly, behaves, behaves_fault, behaves_done, behaves_if, behaves_fetches, behaves_gives, behaves_saves, behaves_plain, missing, given, saved, orderly_assigned, orderly_moved, orderly_unassigned}
+use Rattle.primitives.proofs.Behaves.{Behaves, behaves, behaves_fault, behaves_done, behaves_if, behaves_fetches, behaves_gives, behaves_saves, behaves_plain, missing, given, saved, orderly_assigned, orderly_moved, orderly_unassigned}
 use Rattle.primitives.specs.Devices.{block as row_112, buffer as row_113, update as row_114, save_buffers as row_115, flush as row_116, empty_buffers as row_117, key as row_118, expect as row_119, emit as row_120, type_out as row_121}
 use Rattle.primitives.specs.Numbers.{open_picture as row_128, picture_digit as row_129, picture_digits as row_130, close_picture as row_131, hold as row_132, sign as row_133, convert as row_134}
 use Rattle.primitives.specs.Streams.{word as row_144, paren as row_145, dot_paren as row_146}
@@ -30,7 +25,6 @@ use Rattle.primitives.specs.Defining.{colon as row_168, bracket_tick as row_176,
 use Rattle.primitives.specs.Compiling.{semicolon as row_169, left_bracket as row_170, right_bracket as row_171, comma as row_172, c_comma as row_173, allot as row_174, literal as row_175, does as row_178, if_row as row_179, else_row as row_180, then_row as row_181, begin as row_182, until as row_183, while_row as row_184, repeat as row_185, again as row_186, do_row as row_187, loop_row as row_188, plus_loop as row_189, mark_back as row_194, resolve_back as row_195, mark_forward as row_196, resolve_forward as row_197}
 use Rattle.primitives.specs.Editor.{line as row_200, put as row_201, insert as row_202, delete as row_203, wipe as row_204}
 use Rattle.primitives.specs.Table.{devices, numbers, input, compiling, editor, row}
-
 
 -- what row n asks of its device at most
 unfoldable pub asks : ℕ → Whole → Option After
@@ -91,12 +85,12 @@ behaves_113 : (s : Whole) → Behaves (given s) s (row_113 s)
 behaves_113 s =
     by_takes1 (Behaves (given s) s) s _ (behaves_fault (given s) s 1)
     (λ u d. behaves_if (given s) s (nat_lt u s.block_count) _ _ (by_held u d (holds s.buffers u) refl) (behaves_fault (given s) s 7)) where
-  by_held : (u : ℕ) (d : List ℕ) (b : Bool) → holds s.buffers u ≡ b → Behaves (given s) s (if b then done (record (with_block s u) { values = address_of (slot_of s.buffers u) ∷ d }) else gives s (done (record s { values = address_of (victim s.buffers).slot ∷ d; buffers = assigned u s.buffers })))
-  by_held u d true q =
-      behaves_done (given s) s (record (with_block s u) { values = address_of (slot_of s.buffers u) ∷ d }) (orderly_moved (slot_of s.buffers u) s.buffers)
-  by_held u d false q =
-      behaves_gives s (done (record s { values = address_of (victim s.buffers).slot ∷ d; buffers = assigned u s.buffers }))
-      (behaves_done None s (record s { values = address_of (victim s.buffers).slot ∷ d; buffers = assigned u s.buffers }) (orderly_assigned u s.buffers q))
+      by_held : (u : ℕ) (d : List ℕ) (b : Bool) → holds s.buffers u ≡ b → Behaves (given s) s (if b then done (record (with_block s u) { values = address_of (slot_of s.buffers u) ∷ d }) else gives s (done (record s { values = address_of (victim s.buffers).slot ∷ d; buffers = assigned u s.buffers })))
+      by_held u d true q =
+          behaves_done (given s) s (record (with_block s u) { values = address_of (slot_of s.buffers u) ∷ d }) (orderly_moved (slot_of s.buffers u) s.buffers)
+      by_held u d false q =
+          behaves_gives s (done (record s { values = address_of (victim s.buffers).slot ∷ d; buffers = assigned u s.buffers }))
+          (behaves_done None s (record s { values = address_of (victim s.buffers).slot ∷ d; buffers = assigned u s.buffers }) (orderly_assigned u s.buffers q))
 
 behaves_115 : (s : Whole) → Behaves (saved s) s (row_115 s)
 behaves_115 s = behaves_saves s (done s) (behaves_done None s s (λ k. k))
@@ -402,7 +396,8 @@ behaves_row n w s =
     (by_if P (nat_lt n 160) _ _ (behaves_input n s)
     (by_if P (nat_lt n 200) _ _ (behaves_compiling n s)
     (behaves_editor n s))))))))) where
-  m : Option After
-  m = asks n s
-  P : After → Type 0
-  P = Behaves m s
+      m : Option After
+      m = asks n s
+
+      P : After → Type 0
+      P = Behaves m s

@@ -1,4 +1,4 @@
-use Rattle.std.specs.Prelude.{ℕ, ◌+◌, List, [], ◌∷◌, ◌++◌, length, nat_le, Bool, true, if◌then◌else◌}
+use Rattle.std.specs.Prelude.{◌+◌, [], nat_le, true}
 use Rattle.dictionary.specs.Adding.{site_of, with_header_at}
 use Rattle.dictionary.specs.Laying.{fits, laid_at}
 use Rattle.input_source.specs.Words.{parsed_in, bytes_in}

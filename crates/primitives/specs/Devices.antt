@@ -3,7 +3,7 @@ use Rattle.plain_rows.specs.Whole.{Whole}
 use Rattle.plain_rows.specs.declared.parts.Outcome.TheVariants.{Byte, Show, Ask}
 use Rattle.plain_rows.specs.declared.parts.Request.TheVariants.{Key, Line}
 use Rattle.plain_rows.specs.Row.{After, done, takes1, takes2, room, needs}
-use Rattle.block_buffers.specs.Entries.{holds, slot_of, victim, moved_front, assigned, front_marked, has_updated, first_updated, unassigned}
+use Rattle.block_buffers.specs.Entries.{holds, slot_of, victim, assigned, front_marked, has_updated, first_updated, unassigned}
 use Rattle.memory.specs.Bytes.{put_cell}
 use Rattle.memory.specs.declared.system.TheConstants.{SPAN}
 use Rattle.primitives.specs.Blocks.{address_of, write_of, fetches, with_block}

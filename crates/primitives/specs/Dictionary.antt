@@ -1,4 +1,4 @@
-use Rattle.std.specs.Prelude.{ℕ, ◌+◌, List, [], ◌∷◌, length, not, ◌==◌, nat_lt, Bool, true, false, if◌then◌else◌}
+use Rattle.std.specs.Prelude.{ℕ, ◌+◌, List, [], ◌∷◌, length, not, ◌==◌, nat_lt, false, if◌then◌else◌}
 use Rattle.cells.specs.Cell.{wrap}
 use Rattle.dictionary.specs.Adding.{site_of, with_header_at, with_vocabulary_at}
 use Rattle.dictionary.specs.Header.{compilation_address, is_immediate}

@@ -1,5 +1,5 @@
 -- Rows that need the input stream.
-use Rattle.std.specs.Prelude.{◌≡◌, ℕ, ◌+◌, ◌%◌, ◌<◌, ◌≤◌, List, ◌∷◌, ◌==◌, ◌||◌, nat_le, Bool, if◌then◌else◌, IsTrue, IsFalse, Result, Ok, Err}
+use Rattle.std.specs.Prelude.{◌≡◌, ℕ, ◌+◌, ◌%◌, ◌≤◌, List, ◌∷◌, ◌==◌, ◌||◌, nat_le, Bool, if◌then◌else◌, IsTrue, IsFalse, Result, Ok, Err}
 use Rattle.block_buffers.specs.declared.entry.Entry.{Entry}
 use Rattle.block_buffers.specs.Entries.{moved_front, slot_of}
 use Rattle.cells.specs.Cell.{wrap}
