@@ -10,3 +10,4 @@ pub mod Ended
 pub mod Uniqueness
 pub mod Orderly
 pub mod Requested
+pub mod Ending

@@ -8,7 +8,7 @@ next_stays : (n : ℕ) (w : World) (s : Stop) → stops (rounds n w) ≡ Some s 
 unfolding rounds
 next_stays n w s h = ap (next_by (rounds n w)) h
 
-stays : (k n m : ℕ) (w : World) (s : Stop) → m ≡ n + k → stops (rounds n w) ≡ Some s → rounds m w ≡ rounds n w
+pub stays : (k n m : ℕ) (w : World) (s : Stop) → m ≡ n + k → stops (rounds n w) ≡ Some s → rounds m w ≡ rounds n w
 stays zero n m w s e h = let same : m ≡ n = omega arith in ap (λ i. rounds i w) same
 stays (suc k) n m w s e h =
     let before : rounds (n + k) w ≡ rounds n w = stays k n (n + k) w s refl h in

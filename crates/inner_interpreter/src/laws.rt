@@ -1,6 +1,6 @@
 //! Laws of machines and of runs.
 
-ghost use Rattle.std.specs.Prelude.{◌≡◌, ℕ, ◌≤◌, List, Some, All, length};
+ghost use Rattle.std.specs.Prelude.{◌≡◌, ℕ, ◌≤◌, List, Some, IsSome, All, length};
 ghost use Rattle.image_loader.specs.Files.{Contents};
 ghost use Rattle.memory.specs.Bytes.{cell};
 ghost use Rattle.primitives.specs.Needs.{most_requests};
@@ -9,7 +9,13 @@ ghost use Rattle.inner_interpreter.specs.Requests.{IsOrderly, AreAsked, IsPage, 
 ghost use Rattle.inner_interpreter.specs.Runs.{World, rounds, stops};
 ghost use Rattle.inner_interpreter.specs.State.{State, start};
 ghost use Rattle.inner_interpreter.specs.Tick.{Runs};
+ghost use Rattle.inner_interpreter.specs.Worlds.{rounds_left};
 ghost use Rattle.inner_interpreter.specs.declared.stop.Stop.{Stop};
+
+/// A run has an end: it stops after two rounds for each tick that is left, and one more where a request stands.
+pub fn end_law()
+    ensures { (w : World) → IsSome (stops (rounds (rounds_left w.left w.state.wait) w)) }
+{}
 
 /// A run has one end.
 pub fn one_end_law()
