@@ -11,3 +11,4 @@ pub mod Uniqueness
 pub mod Orderly
 pub mod Requested
 pub mod Ending
+pub mod Faultless

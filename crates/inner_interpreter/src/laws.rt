@@ -1,6 +1,6 @@
 //! Laws of machines and of runs.
 
-ghost use Rattle.std.specs.Prelude.{◌≡◌, ℕ, ◌≤◌, List, Some, IsSome, All, length};
+ghost use Rattle.std.specs.Prelude.{◌≡◌, ◌≢◌, ℕ, ◌≤◌, List, Some, IsSome, All, length};
 ghost use Rattle.image_loader.specs.Files.{Contents};
 ghost use Rattle.memory.specs.Bytes.{cell};
 ghost use Rattle.primitives.specs.Needs.{most_requests};
@@ -10,7 +10,9 @@ ghost use Rattle.inner_interpreter.specs.Runs.{World, rounds, stops};
 ghost use Rattle.inner_interpreter.specs.State.{State, start};
 ghost use Rattle.inner_interpreter.specs.Tick.{Runs};
 ghost use Rattle.inner_interpreter.specs.Worlds.{rounds_left};
-ghost use Rattle.inner_interpreter.specs.declared.stop.Stop.{Stop};
+
+use crate::act::Cause;
+use crate::stop::Stop;
 
 /// A run has an end: it stops after two rounds for each tick that is left, and one more where a request stands.
 pub fn end_law()
@@ -20,6 +22,11 @@ pub fn end_law()
 /// A run has one end.
 pub fn one_end_law()
     ensures { (w : World) (n m : ℕ) (s t : Stop) → stops (rounds n w) ≡ Some s → stops (rounds m w) ≡ Some t → rounds n w ≡ rounds m w }
+{}
+
+/// Where no reader fails, a run stops with `InputFault` only where the machine had halted so before.
+pub fn input_fault_law()
+    ensures { (w : World) (n : ℕ) → w.state.halt ≢ Some Cause.InputFault → stops (rounds n w) ≢ Some Stop.InputFault }
 {}
 
 /// No block is ever in two buffers of a machine, and none is asked to be read that a buffer has.

@@ -1,0 +1,115 @@
+-- The written rounds tell no machine of a failed reader.
+use Rattle.std.proofs.Common.{◌≡◌, ◌≢◌, ℕ, zero, suc, ◌==◌, ◌∷◌, [], List, length, nat_lt, Option, Some, None, Bool, true, false, refl, ap, sym, subst, ◌∙◌, if◌then◌else◌}
+use Rattle.block_buffers.specs.Disks.{Disk, succeeds}
+use Rattle.memory.specs.Bytes.{cell}
+use Rattle.memory.specs.declared.system.TheConstants.{FAULT}
+use Rattle.plain_rows.specs.Whole.{Whole}
+use Rattle.plain_rows.specs.Row.{After}
+use Rattle.plain_rows.specs.declared.parts.Outcome.TheVariants.{Done, Show, Byte as ByteOut, Ask as AskOut, Fault as FaultOut, Abort, Halt as HaltOut}
+use Rattle.plain_rows.specs.declared.parts.Request.{Request}
+use Rattle.plain_rows.specs.declared.parts.Request.TheVariants as request
+use Rattle.inner_interpreter.specs.declared.act.Act.{Act}
+use Rattle.inner_interpreter.specs.declared.act.Cause.{Cause}
+use Rattle.inner_interpreter.specs.declared.act.Cause.TheVariants as cause
+use Rattle.inner_interpreter.specs.declared.act.Shown.{Shown}
+use Rattle.inner_interpreter.specs.declared.stop.Stop.{Stop}
+use Rattle.inner_interpreter.specs.declared.stop.Stop.TheVariants as stop
+use Rattle.inner_interpreter.specs.State.{State}
+use Rattle.inner_interpreter.specs.Tick.{taken, executed, fault, concluded, ticked, quiet}
+use Rattle.inner_interpreter.specs.Answer as answering
+use Rattle.inner_interpreter.specs.Answer.{Reply, asked_by, answered, answer_of, key_answered, line_answered, read_answered, write_answered}
+use Rattle.inner_interpreter.specs.Lines.{line_of, line_reply}
+use Rattle.inner_interpreter.specs.Runs.{World, Served, served, tick_round, answer_round, round_by, round, rounds, stops, stop_by, next_by}
+
+-- it did not halt for a failed reader
+abbrev HasRead : State → Type 0
+HasRead s = s.halt ≢ Some cause.InputFault
+
+either_read : (b : Bool) (x y : State × Act) → HasRead x.0 → HasRead y.0 → HasRead ((if b then x else y).0)
+either_read true x y h k = h
+either_read false x y h k = k
+
+fault_read : (s : Whole) (shown : Shown) (f : ℕ) → HasRead (fault s shown f).0
+unfolding fault
+fault_read s shown f = either_read (cell s.memory FAULT == 0) _ _ (λ q. cc) (λ q. cc)
+
+concluded_read : (w : ℕ) (x : After) → HasRead (concluded w x).0
+unfolding concluded
+concluded_read w (s, Done) = λ q. cc
+concluded_read w (s, Show span) = λ q. cc
+concluded_read w (s, ByteOut c) = λ q. cc
+concluded_read w (s, AskOut r) = λ q. cc
+concluded_read w (s, FaultOut f) = fault_read s _ f
+concluded_read w (s, Abort span) = fault_read s _ 17
+concluded_read w (s, HaltOut) = λ q. cc
+
+ticked_read : (s : Whole) → HasRead (ticked s).0
+unfolding ticked
+ticked_read s = concluded_read (taken s).0 (executed (taken s).0 (taken s).1)
+
+answered_read : (s : Whole) (p : Request × ℕ) (reply : Reply) → reply ≢ answering.InputFault → HasRead (answered s p reply).0
+unfolding answered key_answered line_answered read_answered write_answered
+answered_read s p (answering.Key c) n = either_read (nat_lt 256 (length (c ∷ s.values))) _ _ (fault_read s _ 2) (λ q. cc)
+answered_read s p (answering.Line bytes returned) n = either_read (nat_lt (length s.values) 2) _ _ (fault_read s _ 1) (λ q. cc)
+answered_read s p answering.InputEnd n = λ q. cc
+answered_read s p answering.InputFault n = absurd (n refl)
+answered_read s p (answering.ReadOk page) n = λ q. cc
+answered_read s p answering.ReadFault n = fault_read s _ 9
+answered_read s p answering.WriteOk n = λ q. cc
+answered_read s p answering.WriteFault n = fault_read s _ 10
+
+answer_read : (s : State) (reply : Reply) → HasRead s → reply ≢ answering.InputFault → HasRead (answer_of s reply).0
+unfolding answer_of
+answer_read s reply h n = by_wait s.wait where
+  came : Option (Request × ℕ) → State × Act
+  came o = elim o [ Some p ↦ answered s.parts p reply | None ↦ (s, quiet) ]
+  by_wait : (o : Option (Request × ℕ)) → HasRead (came o).0
+  by_wait (Some p) = answered_read s.parts p reply n
+  by_wait None = h
+
+-- a line that was typed is no failure
+line_is_typed : (bytes : List ℕ) (returned : Bool) → line_reply bytes returned ≢ answering.InputFault
+line_is_typed [] false q = cc
+line_is_typed [] true q = cc
+line_is_typed (c ∷ bytes) returned q = cc
+
+read_reply : (b : Bool) (page : List ℕ) → (if b then answering.ReadOk page else answering.ReadFault) ≢ answering.InputFault
+read_reply true page q = cc
+read_reply false page q = cc
+
+write_reply : (b : Bool) (x y : Served) → x.reply ≡ answering.WriteOk → y.reply ≡ answering.WriteFault → (if b then x else y).reply ≢ answering.InputFault
+write_reply true x y h k q = cc
+write_reply false x y h k q = cc
+
+served_read : (s : State) (r : Request) (typed : List ℕ) (disk : Disk) → (served s r typed disk).reply ≢ answering.InputFault
+served_read s request.Key [] disk q = cc
+served_read s request.Key (c ∷ typed) disk q = cc
+served_read s (request.Line n) typed disk q = line_is_typed (line_of n typed).bytes (line_of n typed).returned q
+served_read s (request.Read u) typed disk q = read_reply (succeeds disk u) _ q
+served_read s (request.Write u) typed disk q = write_reply (succeeds disk u) _ _ refl refl q
+
+round_read : (w : World) → HasRead w.state → HasRead (round w).state
+unfolding round
+round_read w h = by_wait (asked_by w.state.wait) where
+  by_wait : (o : Option Request) → HasRead (round_by w o).state
+  by_wait None = ticked_read w.state.parts
+  by_wait (Some r) = answer_read w.state (served w.state r w.typed w.disk).reply h (served_read w.state r w.typed w.disk)
+
+rounds_read : (n : ℕ) (w : World) → HasRead w.state → HasRead (rounds n w).state
+unfolding rounds
+rounds_read zero w h = h
+rounds_read (suc n) w h = by_stop (stops (rounds n w)) (rounds_read n w h) where
+  by_stop : (o : Option Stop) → HasRead (rounds n w).state → HasRead (next_by (rounds n w) o).state
+  by_stop None k = round_read (rounds n w) k
+  by_stop (Some s) k = k
+
+stop_read : (c : Option Cause) (left : ℕ) → c ≢ Some cause.InputFault → stop_by c left ≢ Some stop.InputFault
+stop_read (Some cause.Bye) left h q = cc
+stop_read (Some cause.InputEnded) left h q = cc
+stop_read (Some cause.InputFault) left h q = h refl
+stop_read (Some (cause.Fault f)) left h q = cc
+stop_read None zero h q = cc
+stop_read None (suc n) h q = cc
+
+pub input_fault_law : (w : World) (n : ℕ) → w.state.halt ≢ Some cause.InputFault → stops (rounds n w) ≢ Some stop.InputFault
+input_fault_law w n h = stop_read (rounds n w).state.halt (rounds n w).left (rounds_read n w h)
