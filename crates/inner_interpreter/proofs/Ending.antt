@@ -44,6 +44,7 @@ unfolding answer_of
 answer_none s reply = by_wait s.wait refl where
   came : Option (Request × ℕ) → State × Act
   came o = elim o [ Some p ↦ answered s.parts p reply | None ↦ (s, quiet) ]
+
   by_wait : (o : Option (Request × ℕ)) → s.wait ≡ o → (came o).0.wait ≡ None
   by_wait (Some p) q = answered_none s.parts p reply
   by_wait None q = q

@@ -63,6 +63,7 @@ unfolding answer_of
 answer_read s reply h n = by_wait s.wait where
   came : Option (Request × ℕ) → State × Act
   came o = elim o [ Some p ↦ answered s.parts p reply | None ↦ (s, quiet) ]
+
   by_wait : (o : Option (Request × ℕ)) → HasRead (came o).0
   by_wait (Some p) = answered_read s.parts p reply n
   by_wait None = h
