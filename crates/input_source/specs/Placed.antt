@@ -1,6 +1,7 @@
--- WORD: words that are copied to HERE (the cell at 28). >IN is the cell at 20.
+-- WORD: words that are copied to HERE.
 use Rattle.std.specs.Prelude.{◌≡◌, ℕ, ◌<◌, ◌≤◌, List, [], ◌∷◌, ◌++◌, length, Result, Ok, Err}
 use Rattle.memory.specs.Bytes.{cell, put_cell, put_bytes}
+use Rattle.memory.specs.declared.system.TheConstants.{TO_IN, DP}
 use Rattle.input_source.specs.declared.words.Stream.{Stream}
 use Rattle.input_source.specs.declared.words.Word.{Word}
 use Rattle.input_source.specs.declared.placing.TooLong.{TooLong}
@@ -12,8 +13,8 @@ counted bs = length bs ∷ bs ++ 32 ∷ []
 
 -- >IN is written first, then what is at HERE; both, and the word's bytes, are those of the memory before
 unfoldable pub with_word : List ℕ → Stream → Word → List ℕ
-with_word m stream w = put_bytes (put_cell m 20 w.next) (cell m 28) (counted (bytes_in m stream w))
+with_word m stream w = put_bytes (put_cell m TO_IN w.next) (cell m DP) (counted (bytes_in m stream w))
 
 abbrev pub IsPlaced : List ℕ → List ℕ → Stream → Word → Result ℕ TooLong → Type 0
-IsPlaced old new stream w (Ok here) = (w.len ≤ 255) × (here ≡ cell old 28) × (new ≡ with_word old stream w)
+IsPlaced old new stream w (Ok here) = (w.len ≤ 255) × (here ≡ cell old DP) × (new ≡ with_word old stream w)
 IsPlaced old new stream w (Err _) = (255 < w.len) × (new ≡ old)

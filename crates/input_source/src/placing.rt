@@ -5,13 +5,10 @@ ghost use Rattle.memory.specs.Bytes.{bytes, put_bytes};
 ghost use Rattle.input_source.specs.Placed.{counted, IsPlaced};
 ghost use Rattle.input_source.specs.Words.{bytes_in};
 
-use crate::source::IN;
 use crate::words::{Stream, Word};
 use memory::Memory;
+use memory::system::{DP, TO_IN};
 use thiserror::Error;
-
-/// The address of DP, whose value is HERE.
-const DP: u16 = 28;
 
 /// The word has more than 255 bytes, which its count byte can't tell.
 #[derive(Clone, Copy, Debug, PartialEq, Eq, Error)]
@@ -68,7 +65,7 @@ pub fn place_word(memory: &mut Memory, stream: Stream, word: Word) -> Result<u16
     }
     let bytes = word_bytes(memory, stream, word);
     let here = memory.cell(DP);
-    memory.set_cell(IN, word.next);
+    memory.set_cell(TO_IN, word.next);
     place_counted(memory, here, &bytes[..word.len as usize]);
     Ok(here)
 }

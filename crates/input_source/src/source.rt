@@ -5,20 +5,9 @@ ghost use Rattle.input_source.specs.Streams.{IsStream};
 
 use crate::words::Stream;
 use block_buffers::{BLOCK_SIZE, Buffers};
+use memory::system::{BLK, NUMBER_TIB, TIB, TO_IN};
 use memory::{FIRST_BUFFER, Memory};
 use thiserror::Error;
-
-/// The address of >IN.
-pub(crate) const IN: u16 = 20;
-
-/// The address of BLK.
-const BLK: u16 = 22;
-
-/// The address of #TIB.
-const TIB_COUNT: u16 = 24;
-
-/// Where the terminal's buffer begins.
-const TIB: u16 = 128;
 
 /// No buffer has the block that BLK names.
 #[derive(Clone, Copy, Debug, PartialEq, Eq, Error)]
@@ -33,10 +22,10 @@ pub fn stream(memory: &Memory, buffers: &Buffers) -> Result<Stream, NeedsBlock>
     ensures value { IsStream memory.now buffers.now result }
     ensures within { IfOk result (λ s. s.place ≤ s.size) }
 {
-    let place = memory.cell(IN);
+    let place = memory.cell(TO_IN);
     let block = memory.cell(BLK);
     if block == 0 {
-        let size = memory.cell(TIB_COUNT);
+        let size = memory.cell(NUMBER_TIB);
         return Ok(Stream {
             at: TIB,
             size,

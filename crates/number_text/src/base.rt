@@ -3,10 +3,8 @@
 ghost use Rattle.number_text.specs.Base.{IsBaseOf};
 
 use memory::Memory;
+use memory::system::BASE;
 use thiserror::Error;
-
-/// The address of BASE.
-const BASE: u16 = 18;
 
 /// BASE is outside 2 to 72.
 #[derive(Clone, Copy, Debug, PartialEq, Eq, Error)]

@@ -10,12 +10,7 @@ ghost use Rattle.number_text.specs.Picture.{pad, opened, held, signed_picture, p
 use crate::base::{BadBase, base_of};
 use crate::digits::byte_of_digit;
 use memory::Memory;
-
-/// The address of DP, whose value is HERE.
-const DP: u16 = 28;
-
-/// The address of HLD.
-const HLD: u16 = 36;
+use memory::system::{DP, HLD};
 
 /// How far PAD is behind HERE.
 const PAD_OFFSET: u16 = 340;
