@@ -454,17 +454,15 @@ fn forgets_down_to_the_fence(rt: HostRuntime) -> Result<(), Fail> {
 
 /// Behind the three words stand V (header 290, record 298), GO in V (308), TWO in FORTH (317), GO in V again (327) and,
 /// in V, the vocabulary W (header 336, record 344).
-#[test]
-fn forgets_through_two_vocabularies(rt: HostRuntime) -> Result<(), Fail> {
-    let mut memory = three_words(rt.alloc())?;
-    add_voc(&rt, &mut memory, "V");
-    add_to(&rt, &mut memory, 298, "GO");
-    add_to(&rt, &mut memory, FORTH_VOC, "TWO");
-    add_to(&rt, &mut memory, 298, "GO");
-    add_voc(&rt, &mut memory, "W");
+fn add_two_vocabularies(rt: &impl Abort, memory: &mut Memory) {
+    add_voc(rt, memory, "V");
+    add_to(rt, memory, 298, "GO");
+    add_to(rt, memory, FORTH_VOC, "TWO");
+    add_to(rt, memory, 298, "GO");
+    add_voc(rt, memory, "W");
     assert_cells(
-        &rt,
-        &memory,
+        rt,
+        memory,
         &[
             (VOC_LINK, 344),
             (352, 298),
@@ -474,6 +472,13 @@ fn forgets_through_two_vocabularies(rt: HostRuntime) -> Result<(), Fail> {
             (329, 310),
         ],
     );
+}
+
+/// TWO isn't found while V is CURRENT. FORGET of it takes W and the newer GO too; a cut at 290 takes V.
+#[test]
+fn forgets_through_two_vocabularies(rt: HostRuntime) -> Result<(), Fail> {
+    let mut memory = three_words(rt.alloc())?;
+    add_two_vocabularies(&rt, &mut memory);
     assert_forget(&rt, &mut memory, "TWO", Err(ForgetFault::NotFound));
     set_cells(&mut memory, &[(CONTEXT, 344), (CURRENT, FORTH_VOC)]);
     assert_forget(&rt, &mut memory, "TWO", Ok(()));

@@ -23,7 +23,11 @@ pub fn read_image(rt: &HostRuntime, name: &str) -> Result<Option<Vec<u8>>, Alloc
         match file.read(&mut bytes.as_mut_slice()[length..]) {
             Ok(0) => break,
             Ok(count) => length += count,
-            Err(_) => return Ok(None),
+            Err(error) => {
+                if error.kind() != io::ErrorKind::Interrupted {
+                    return Ok(None);
+                }
+            }
         }
     }
     bytes.truncate(length);

@@ -1,6 +1,8 @@
 //! A Forth-83 system with block storage.
 #![tactic(auto)]
 
+#[cfg(test)]
+mod cases;
 mod commands;
 mod file_devices;
 #[cfg(test)]

@@ -3,7 +3,7 @@
 use clap::error::ErrorKind;
 use clap::{Arg, ArgMatches, Command, value_parser};
 use std::alloc::{AllocError, Global};
-use std::env;
+use std::{env, io};
 
 /// How many ticks a run may take where no limit is given.
 const DEFAULT_LIMIT: u64 = 1_000_000_000_000;
@@ -84,8 +84,11 @@ fn print(rt: &HostRuntime, error: &clap::Error) -> Parsed {
     Parsed::Exit(if error.use_stderr() { 2 } else { 0 })
 }
 
-/// An argument that is no text is a usage error.
-fn refuse_bytes(rt: &HostRuntime) -> Parsed {
+/// Why the words can't be read: an argument that is no text is a usage error, and else memory ran out.
+fn refuse_words(rt: &HostRuntime, error: &io::Error) -> Parsed {
+    if error.kind() == io::ErrorKind::OutOfMemory {
+        return Parsed::OutOfMemory;
+    }
     match println!(rt; "error: an argument is no text") {
         Ok(()) => Parsed::Exit(2),
         Err(_) => Parsed::Exit(5),
@@ -95,8 +98,9 @@ fn refuse_bytes(rt: &HostRuntime) -> Parsed {
 /// Reads the words that the program was started with.
 pub fn parse(rt: &HostRuntime) -> Parsed {
     let alloc = rt.alloc();
-    let Ok(words) = env::args(rt) else {
-        return refuse_bytes(rt);
+    let words = match env::args(rt) {
+        Ok(words) => words,
+        Err(error) => return refuse_words(rt, &error),
     };
     let words: Result<Vec<String>, AllocError> = words.collect(alloc);
     let Ok(words) = words else {
