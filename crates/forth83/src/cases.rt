@@ -247,12 +247,13 @@ fn a_loop_ends_where_its_boundary_is_crossed(rt: HostRuntime) -> Result<(), Fail
 }
 
 /// 65,534 * 65,536 + 65,535 = 65,535 * 65,535 + 65,534, so the quotient is 65,535 and the remainder 65,534: two true flags,
-/// of which EMIT shows the low byte, 255. The double one greater, 65,535 * 65,536, has the quotient 65,536: fault 5.
+/// of which EMIT shows the low byte, 255. The double one greater, 65,535 * 65,536, has the quotient 65,536: fault 5, which
+/// no thread handles.
 #[test]
 fn the_greatest_quotient(rt: HostRuntime) -> Result<(), Fail> {
     let thread = [
         LIT, 65535, LIT, 65534, LIT, 65535, UM_DIVMOD, LIT, 65535, EQUALS, EMIT, LIT, 65534,
-        EQUALS, EMIT, LIT, 0, LIT, 65535, LIT, 65535, UM_DIVMOD,
+        EQUALS, EMIT, LIT, 0, LIT, 65535, LIT, 65535, UM_DIVMOD, BYE,
     ];
     assert_plain_run(&rt, &of_thread(&thread), 3, b"\xFF\xFF")
 }
@@ -324,38 +325,39 @@ fn forget_goes_down_to_the_fence(rt: HostRuntime) -> Result<(), Fail> {
     assert_plain_run(&rt, &run, 0, b"\x00\xFF\xFF\x0D")
 }
 
-/// The line has a number that wraps to 4,464, the double -1, whose cells are both -1, the double 2^32, which wraps to 0, and
-/// a text that is no number in base 10: fault 13. FORTH has no word, so each is tried as a number.
+/// The line has a number that wraps to 4,464, the double -1, whose cells are both -1, the double 2^33 + 3, which wraps to 3,
+/// and a text that is no number in base 10: fault 13, which the thread at 16 shows. FORTH has no word, so each is tried as a
+/// number.
 #[test]
 fn numbers_wrap(rt: HostRuntime) -> Result<(), Fail> {
     let thread = [
         INTERPRET, DROP, LIT, 4464, EQUALS, EMIT, INTERPRET, DROP, AND, EMIT, INTERPRET, DROP, OR,
-        EMIT, INTERPRET,
+        EMIT, INTERPRET, BYE, EMIT, BYE,
     ];
     let run = Given {
-        cells: &[(18, 10), (32, 42), (34, 42), (52, 42)],
-        line: b"70000 -1. 4294967296. 1F",
+        cells: &[(18, 10), (32, 42), (34, 42), (40, at(16)), (52, 42)],
+        line: b"70000 -1. 8589934595. 1F",
         ..of_thread(&thread)
     };
-    assert_plain_run(&rt, &run, 3, b"\xFF\xFF\x00")
+    assert_plain_run(&rt, &run, 0, b"\xFF\xFF\x03\x0D")
 }
 
 /// The stream is block 1 from 1,020 on: a blank, which is stored first, and `bbb`. WORD takes these, as the block ends, and
 /// not the letters of block 2; behind them, at 2,004, it lays a blank. >IN is 1,024, so the next word is empty. With block 3,
-/// which isn't there, as the stream, WORD is fault 7.
+/// which isn't there, as the stream, WORD is fault 7, which the thread at 39 shows.
 #[test]
 fn a_word_ends_with_its_block(rt: HostRuntime) -> Result<(), Fail> {
     let thread = [
         LIT, 32, LIT, 1, BLOCK, LIT, 1020, PLUS, C_STORE, LIT, 32, WORD, COUNT, TYPE, LIT, 2004,
         C_FETCH, EMIT, LIT, 20, FETCH, LIT, 1024, EQUALS, EMIT, LIT, 32, WORD, C_FETCH, EMIT, LIT,
-        3, LIT, 22, STORE, LIT, 32, WORD,
+        3, LIT, 22, STORE, LIT, 32, WORD, BYE, EMIT, BYE,
     ];
     let run = Given {
-        cells: &[(20, 1020), (22, 1), (28, 2000)],
+        cells: &[(20, 1020), (22, 1), (28, 2000), (40, at(39))],
         ..of_thread(&thread)
     };
     let mut device = device(&rt, b"abc", false)?;
-    assert_run(&rt, &run, &mut device, 3, b"bbb \xFF\x00")
+    assert_run(&rt, &run, &mut device, 0, b"bbb \xFF\x00\x07")
 }
 
 /// `ab` and a return: `ab` and a blank are shown, SPAN is 2, and the `z` behind them stays. A line of one byte is `c`, and
@@ -374,29 +376,34 @@ fn lines_end_in_three_ways(rt: HostRuntime) -> Result<(), Fail> {
     assert_plain_run(&rt, &run, 0, b"ab \x02zcde\x01")
 }
 
-/// At 65,534 stand `A` and a blank, and behind the end of memory, at 0, two blanks: of the four bytes one is left. Of the
-/// three blanks none is.
+/// At 65,534 stand `A` and a blank, and behind the end of memory, at 0, `B` and a blank: of the four bytes three are left.
+/// Of the one blank at 65,535 none is.
 #[test]
 fn trailing_blanks_over_the_end_of_memory(rt: HostRuntime) -> Result<(), Fail> {
     let thread = [
         LIT, 65, LIT, 65534, C_STORE, LIT, 32, LIT, 65535, C_STORE, LIT, 65534, LIT, 4, TRAILING,
-        TYPE, LIT, 65535, LIT, 3, TRAILING, EMIT, BYE,
+        TYPE, LIT, 65535, LIT, 1, TRAILING, EMIT, BYE,
     ];
     let run = Given {
-        cells: &[(0, 0x2020)],
+        cells: &[(0, 0x2042)],
         ..of_thread(&thread)
     };
-    assert_plain_run(&rt, &run, 0, b"A\x00")
+    assert_plain_run(&rt, &run, 0, b"A B\x00")
 }
 
-/// `2 ROLL` over 1 2 3 4 leaves 1 3 4 2, shown from the top. `1 ROLL` over one cell is fault 1.
+/// `2 ROLL` over 1 2 3 4 leaves 1 3 4 2, shown from the top. `1 ROLL` over one cell is fault 1, which the
+/// thread at 21 shows.
 #[test]
 fn a_roll_needs_one_cell_more(rt: HostRuntime) -> Result<(), Fail> {
     let thread = [
         LIT, 49, LIT, 50, LIT, 51, LIT, 52, LIT, 2, ROLL, EMIT, EMIT, EMIT, EMIT, LIT, 65, LIT, 1,
-        ROLL,
+        ROLL, BYE, EMIT, BYE,
     ];
-    assert_plain_run(&rt, &of_thread(&thread), 3, b"2431")
+    let run = Given {
+        cells: &[(40, at(21))],
+        ..of_thread(&thread)
+    };
+    assert_plain_run(&rt, &run, 0, b"2431\x01")
 }
 
 /// TIB has `abcdef` at 128 and `uvwxyz` at 134. From 128 to 129, three bytes from the first one on: each is the `a` before it.
