@@ -160,20 +160,14 @@ pub fn else_row(parts: &mut Parts) -> Outcome
 pub fn then_row(parts: &mut Parts) -> Outcome
     ensures { (parts.new, result) ≡ then_row parts.old }
 {
-    let Some(a) = parts.values.pick(0) else {
-        return Outcome::Fault(1);
-    };
-    compiling_words::resolve_forward(&mut parts.memory, a);
-    parts.values.lower(1);
-    Outcome::Done
+    resolve_forward(parts)
 }
 
 /// 182 `BEGIN` ( -- a )
 pub fn begin(parts: &mut Parts) -> Outcome
     ensures { (parts.new, result) ≡ begin parts.old }
 {
-    let a = compiling_words::mark_back(&parts.memory);
-    leave(parts, 0, &[a])
+    mark_back(parts)
 }
 
 /// 183 `UNTIL` ( a -- )

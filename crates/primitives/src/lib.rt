@@ -13,6 +13,8 @@ mod names;
 mod numbers;
 pub mod stream;
 mod table;
+#[cfg(test)]
+mod tests;
 mod text;
 
 pub use table::{compile_row, device_row, editor_row, input_row, number_row, row};
