@@ -181,8 +181,9 @@ fn rows_at_the_end_of_the_dictionary(rt: HostRuntime) -> Result<(), Fail> {
     Ok(())
 }
 
-/// The text is `AB `. A header of that name has the view 0, the link 258 (0x0102), the count byte 0x82, the name and the
-/// code. What begins at 61,431 has its link field at 61,433, and class 1 of FORTH is at 44. AB's address 263 is 0x0107.
+/// The text is `AB `. A header of that name has the view 0, the link 258 (0x0102), the count byte 0x82, the name and
+/// the code. What begins at 61,431 has its link field at 61,433, and class 1 of FORTH is at 44. AB's address 263 is
+/// 0x0107.
 #[test]
 fn named_rows_at_the_end_of_the_dictionary(rt: HostRuntime) -> Result<(), Fail> {
     let nine = [(44, 61433), (LAST, 61433), (TO_IN, 3)];
@@ -491,9 +492,9 @@ fn turns_of_the_text_interpreter(rt: HostRuntime) -> Result<(), Fail> {
     Ok(())
 }
 
-/// A name of 31 bytes is the longest; the empty one is fault 15, as is a longer one where a header is made. Behind
-/// 290 such a name is not there (13), and where no name is found BASE is looked at first (12). The chain at 258 that
-/// leads to itself is too long (11).
+/// The empty name is fault 15, and so is one of 32 bytes where a header is to be made. A name that no header has, as one
+/// of 32 bytes, is fault 13; for (INTERPRET) a bad BASE is fault 12 first. A chain that leads to itself is fault 11, and
+/// AB, which begins at 256, is fault 13 where FENCE is 257.
 #[test]
 fn names_that_are_refused(rt: HostRuntime) -> Result<(), Fail> {
     let long = b"AAAAAAAAAAAAAAAAAAAAAAAAAAAAAAAA";
@@ -750,6 +751,75 @@ fn blocks_that_the_editor_needs(rt: HostRuntime) -> Result<(), Fail> {
         assert_row(&rt, &mut parts, number, given, outcome, given);
         assert_same(&rt, &parts.memory, &wanted.memory, number);
         assert!(rt; parts.buffers.first_dirty().is_none(), "row {number}");
+    }
+    Ok(())
+}
+
+/// PUT asks for the editor's block 4, and its stream's block 3 is in front of block 5 from then on. Then block 5 is
+/// updated, and blocks 3, 0 and 1 are referenced, of which the slots 2 and 3 are those of 0 and 1. So block 5 is
+/// written before block 4 is read.
+#[test]
+fn the_editor_asks_for_its_block(rt: HostRuntime) -> Result<(), Fail> {
+    let mut parts = editing(&rt, 5)?;
+    set_cells(&mut parts.memory, &[(BLK, 3), (SCR, 4)]);
+    assert_row(&rt, &mut parts, 201, &[0], read(4), &[0]);
+    assert_front(&rt, &parts, false);
+    assert_row(&rt, &mut parts, 112, &[5], Outcome::Done, &[62464]);
+    assert_row(&rt, &mut parts, 114, &[], Outcome::Done, &[]);
+    assert_row(&rt, &mut parts, 112, &[3], Outcome::Done, &[61440]);
+    assert_row(&rt, &mut parts, 113, &[0], Outcome::Done, &[63488]);
+    assert_row(&rt, &mut parts, 113, &[1], Outcome::Done, &[64512]);
+    let write = Outcome::Ask(Request::Write { block: 5 });
+    for number in [200, 201, 202, 203] {
+        assert_row(&rt, &mut parts, number, &[0], write, &[0]);
+    }
+    assert_row(&rt, &mut parts, 204, &[], write, &[]);
+    Ok(())
+}
+
+/// Texts of 255 bytes from 2,000 on: the runtime cell, 1,016 or 1,017, then the count, and HERE is 2,258. One byte
+/// more is fault 15.
+#[test]
+fn texts_of_the_greatest_length(rt: HostRuntime) -> Result<(), Fail> {
+    for (number, token) in [(190, 1016), (191, 1017)] {
+        let mut parts = parts_of(memory_at(rt.alloc(), 2000)?);
+        let mut wanted = memory_at(rt.alloc(), 2000)?;
+        parts.memory.fill(128, 256, b'x');
+        wanted.fill(128, 256, b'x');
+        parts.memory.set_cell(NUMBER_TIB, 256);
+        wanted.set_cell(NUMBER_TIB, 256);
+        assert_row(&rt, &mut parts, number, &[], Outcome::Fault(15), &[]);
+        assert_same(&rt, &parts.memory, &wanted, number);
+        parts.memory.set_cell(TO_IN, 1);
+        assert_row(&rt, &mut parts, number, &[], Outcome::Done, &[]);
+        set_cells(&mut wanted, &[(TO_IN, 256), (DP, 2258), (2000, token)]);
+        wanted.set_byte(2002, 255);
+        wanted.fill(2003, 255, b'x');
+        assert_same(&rt, &parts.memory, &wanted, number);
+    }
+    Ok(())
+}
+
+/// A name of 31 bytes `A`, in a header that begins at 2,000: its code field is at 2,036, behind a count byte 0x9F
+/// (hidden 0xBF).
+#[test]
+fn names_of_the_greatest_length(rt: HostRuntime) -> Result<(), Fail> {
+    let table = [(150, 0x9F, 2), (168, 0xBF, 1)];
+    for (number, count, code) in table {
+        let name = b"AAAAAAAAAAAAAAAAAAAAAAAAAAAAAAA";
+        assert!(rt; name.len() == 31);
+        let mut parts = parts_of(typed_at(&rt, 2000, name, &[])?);
+        let mut wanted = typed_at(&rt, 2000, name, &[])?;
+        assert_row(&rt, &mut parts, number, &[], Outcome::Done, &[]);
+        set_cells(&mut wanted, &[(2000, 0), (2002, 258), (2036, code)]);
+        wanted.set_byte(2004, count);
+        wanted.set_bytes(2005, name);
+        let cells = [(TO_IN, 31), (44, 2002), (LAST, 2002), (DP, 2038)];
+        set_cells(&mut wanted, &cells);
+        if number == 168 {
+            set_cells(&mut wanted, &[(STATE, 65535), (CONTEXT, 42)]);
+        }
+        assert_same(&rt, &parts.memory, &wanted, number);
     }
     Ok(())
 }
