@@ -2,6 +2,8 @@
 #![tactic(auto)]
 
 mod commands;
+#[cfg(test)]
+mod end_tests;
 mod file_devices;
 #[cfg(test)]
 mod tests;
