@@ -4,6 +4,8 @@
 #[cfg(test)]
 mod cases;
 mod commands;
+#[cfg(test)]
+mod end_tests;
 mod file_devices;
 #[cfg(test)]
 mod tests;
