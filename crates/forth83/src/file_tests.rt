@@ -19,15 +19,15 @@ fn blocks_are_read_and_written_at_their_places(rt: HostRuntime) -> Result<(), Fa
     assert_eq!(rt; device.count(), 2);
     let mut page = [0u8; 1024];
     assert_eq!(rt; device.read(1, &mut page), Ok(()));
-    assert_eq!(rt; page.as_slice(), [2u8; 1024].as_slice());
+    assert!(rt; page == [2; 1024], "block 1 as it was");
     assert_eq!(rt; device.write(0, &[9; 1024]), Ok(()));
     assert_eq!(rt; device.read(0, &mut page), Ok(()));
-    assert_eq!(rt; page.as_slice(), [9u8; 1024].as_slice());
+    assert!(rt; page == [9; 1024], "block 0 as it was written");
     assert_eq!(rt; device.read(2, &mut page), Err(DeviceFault));
     assert_eq!(rt; device.write(2, &page), Err(DeviceFault));
     let kept = fs::read(&rt, NAME)?;
     bytes[..1024].fill(9);
-    assert_eq!(rt; kept.as_slice(), bytes.as_slice());
+    assert!(rt; kept.as_slice() == bytes.as_slice(), "the file");
     fs::remove_file(&rt, NAME)?;
     Ok(())
 }
