@@ -8,6 +8,8 @@ mod commands;
 mod end_tests;
 mod file_devices;
 #[cfg(test)]
+mod file_tests;
+#[cfg(test)]
 mod tests;
 mod words;
 
