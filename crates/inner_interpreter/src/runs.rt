@@ -1,9 +1,9 @@
 //! The run of a machine over a reader, a writer and a device.
 
-ghost use Rattle.std.specs.Prelude.{◌≡◌, ◌↔◌, ◌≤◌, ◌⊎◌, false, true, vec_capacity, IfOk, OnErr};
+ghost use Rattle.std.specs.Prelude.{◌≡◌, ◌↔◌, ◌≤◌, ◌⊎◌, Some, false, true, vec_capacity, IfOk, OnErr};
 ghost use Rattle.std.specs.Io.KnownBytes.{Keeps};
 ghost use Rattle.inner_interpreter.specs.Moves.{HasMoved};
-ghost use Rattle.inner_interpreter.specs.Runs.{World, stop_of};
+ghost use Rattle.inner_interpreter.specs.Runs.{World, stop_by, stop_of};
 ghost use Rattle.inner_interpreter.specs.Worlds.{IsAt, Ends, EndsCut, EndsFaulted};
 
 use crate::act::Cause;
@@ -53,6 +53,7 @@ fn run_with<R: Input, W: Output, D: Device>(
     requires reader { R.failed reader.old ≡ false }
     requires writer { W.failed writer.old ≡ false }
     ensures whole { R.failed reader.new ≡ false → W.failed writer.new ≡ false → (w : World) → IsAt w machine.old (R.unread reader.old) (D.disk device.old) (W.sent writer.old) limit → Ends w machine.new (R.unread reader.new) (D.disk device.new) (W.sent writer.new) result }
+    ensures ended { R.failed reader.new ≡ false → W.failed writer.new ≡ false → stop_by machine.new.halt 0 ≡ Some result }
     ensures output { (result ≡ Stop.OutputFault) ↔ (W.failed writer.new ≡ true) }
     ensures cut { W.failed writer.new ≡ true → (w : World) → IsAt w machine.old (R.unread reader.old) (D.disk device.old) (W.sent writer.old) limit → EndsCut w machine.new (R.unread reader.new) (D.disk device.new) (W.sent writer.new) }
     ensures input { R.failed reader.new ≡ true → W.failed writer.new ≡ false → result ≡ Stop.InputFault }
@@ -91,6 +92,9 @@ pub fn run<R: Input, W: Output, D: Device>(
 
     // Where no end fails, and all tell their bytes, the run ends as the written rounds do.
     ensures whole { IfOk result (λ stop. R.failed reader.new ≡ false → W.failed writer.new ≡ false → (w : World) → IsAt w machine.old (R.unread reader.old) (D.disk device.old) (W.sent writer.old) limit → Ends w machine.new (R.unread reader.new) (D.disk device.new) (W.sent writer.new) stop) }
+
+    // Where no end fails, it stops for what the machine halted, and else for want of ticks.
+    ensures ended { IfOk result (λ stop. R.failed reader.new ≡ false → W.failed writer.new ≡ false → stop_by machine.new.halt 0 ≡ Some stop) }
 
     // It stops for the writer exactly where the writer fails, and then some first rounds were made.
     ensures output { IfOk result (λ stop. (stop ≡ Stop.OutputFault) ↔ (W.failed writer.new ≡ true)) }
