@@ -7,6 +7,8 @@ mod defining;
 mod device;
 mod dictionary_rows;
 mod editor;
+#[cfg(test)]
+mod editor_tests;
 mod interpret;
 pub mod laws;
 mod names;
