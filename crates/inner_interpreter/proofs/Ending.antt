@@ -1,37 +1,35 @@
 -- A run has an end: each round leaves less to do.
-use Rattle.std.proofs.Common.{◌≡◌, ℕ, zero, suc, ◌+◌, ◌*◌, ◌-◌, ◌<◌, ◌≤◌, ◌==◌, ◌∷◌, length, nat_lt, Option, Some, None, Bool, true, false, refl, arith, ap, sym, subst, ◌∙◌, if◌then◌else◌}
+use Rattle.std.proofs.Common.{◌≡◌, ℕ, zero, suc, ◌<◌, ◌≤◌, ◌==◌, ◌∷◌, length, nat_lt, Option, Some, None, refl, arith, ap, sym, subst, ◌∙◌}
 use Rattle.std.specs.Prelude.{IsSome}
 use Rattle.memory.specs.Bytes.{cell}
 use Rattle.memory.specs.declared.system.TheConstants.{FAULT}
 use Rattle.plain_rows.specs.Whole.{Whole}
-use Rattle.plain_rows.specs.Row.{After}
 use Rattle.plain_rows.specs.declared.parts.Request.{Request}
-use Rattle.inner_interpreter.specs.declared.act.Act.{Act}
 use Rattle.inner_interpreter.specs.declared.act.Cause.{Cause}
 use Rattle.inner_interpreter.specs.declared.act.Shown.{Shown}
 use Rattle.inner_interpreter.specs.declared.stop.Stop.{Stop}
 use Rattle.inner_interpreter.specs.State.{State}
-use Rattle.inner_interpreter.specs.Tick.{fault, quiet}
+use Rattle.inner_interpreter.specs.Tick.{fault}
 use Rattle.inner_interpreter.specs.Answer as answering
 use Rattle.inner_interpreter.specs.Answer.{Reply, asked_by, answered, answer_of, key_answered, line_answered, read_answered, write_answered}
 use Rattle.inner_interpreter.specs.Runs.{World, tick_round, answer_round, round_by, round, rounds, stops, stop_by, next_by, served}
 use Rattle.inner_interpreter.specs.Worlds.{waiting, rounds_left}
+use Rattle.inner_interpreter.proofs.Shapes.{either, by_answer}
 use Rattle.inner_interpreter.proofs.Stretches.{rounds_add, round_tick}
 use Rattle.inner_interpreter.proofs.Uniqueness.{stays}
 
--- no request stands behind an answer
-either_none : (b : Bool) (x y : State × Act) → x.0.wait ≡ None → y.0.wait ≡ None → (if b then x else y).0.wait ≡ None
-either_none true x y h k = h
-either_none false x y h k = k
+-- no request stands
+abbrev IsFree : State → Type 0
+IsFree s = s.wait ≡ None
 
 fault_none : (s : Whole) (shown : Shown) (f : ℕ) → (fault s shown f).0.wait ≡ None
 unfolding fault
-fault_none s shown f = either_none (cell s.memory FAULT == 0) _ _ refl refl
+fault_none s shown f = either IsFree (cell s.memory FAULT == 0) _ _ refl refl
 
 answered_none : (s : Whole) (p : Request × ℕ) (reply : Reply) → (answered s p reply).0.wait ≡ None
 unfolding answered key_answered line_answered read_answered write_answered
-answered_none s p (answering.Key c) = either_none (nat_lt 256 (length (c ∷ s.values))) _ _ (fault_none s _ 2) refl
-answered_none s p (answering.Line bytes returned) = either_none (nat_lt (length s.values) 2) _ _ (fault_none s _ 1) refl
+answered_none s p (answering.Key c) = either IsFree (nat_lt 256 (length (c ∷ s.values))) _ _ (fault_none s _ 2) refl
+answered_none s p (answering.Line bytes returned) = either IsFree (nat_lt (length s.values) 2) _ _ (fault_none s _ 1) refl
 answered_none s p answering.InputEnd = refl
 answered_none s p answering.InputFault = refl
 answered_none s p (answering.ReadOk page) = refl
@@ -40,14 +38,7 @@ answered_none s p answering.WriteOk = refl
 answered_none s p answering.WriteFault = fault_none s _ 10
 
 answer_none : (s : State) (reply : Reply) → (answer_of s reply).0.wait ≡ None
-unfolding answer_of
-answer_none s reply = by_wait s.wait refl where
-  came : Option (Request × ℕ) → State × Act
-  came o = elim o [ Some p ↦ answered s.parts p reply | None ↦ (s, quiet) ]
-
-  by_wait : (o : Option (Request × ℕ)) → s.wait ≡ o → (came o).0.wait ≡ None
-  by_wait (Some p) q = answered_none s.parts p reply
-  by_wait None q = q
+answer_none s reply = by_answer IsFree s reply (λ p q. answered_none s.parts p reply) (λ q. q)
 
 one_waits : (o : Option (Request × ℕ)) → waiting o ≤ 1
 one_waits None = omega arith

@@ -1,5 +1,5 @@
 -- The written rounds tell no machine of a failed reader.
-use Rattle.std.proofs.Common.{◌≡◌, ◌≢◌, ℕ, zero, suc, ◌==◌, ◌∷◌, [], List, length, nat_lt, Option, Some, None, Bool, true, false, refl, ap, sym, subst, ◌∙◌, if◌then◌else◌}
+use Rattle.std.proofs.Common.{◌≡◌, ◌≢◌, ℕ, zero, suc, ◌==◌, ◌∷◌, [], List, length, nat_lt, Option, Some, None, Bool, true, false, refl, if◌then◌else◌}
 use Rattle.block_buffers.specs.Disks.{Disk, succeeds}
 use Rattle.memory.specs.Bytes.{cell}
 use Rattle.memory.specs.declared.system.TheConstants.{FAULT}
@@ -8,30 +8,26 @@ use Rattle.plain_rows.specs.Row.{After}
 use Rattle.plain_rows.specs.declared.parts.Outcome.TheVariants.{Done, Show, Byte as ByteOut, Ask as AskOut, Fault as FaultOut, Abort, Halt as HaltOut}
 use Rattle.plain_rows.specs.declared.parts.Request.{Request}
 use Rattle.plain_rows.specs.declared.parts.Request.TheVariants as request
-use Rattle.inner_interpreter.specs.declared.act.Act.{Act}
 use Rattle.inner_interpreter.specs.declared.act.Cause.{Cause}
 use Rattle.inner_interpreter.specs.declared.act.Cause.TheVariants as cause
 use Rattle.inner_interpreter.specs.declared.act.Shown.{Shown}
 use Rattle.inner_interpreter.specs.declared.stop.Stop.{Stop}
 use Rattle.inner_interpreter.specs.declared.stop.Stop.TheVariants as stop
 use Rattle.inner_interpreter.specs.State.{State}
-use Rattle.inner_interpreter.specs.Tick.{taken, executed, fault, concluded, ticked, quiet}
+use Rattle.inner_interpreter.specs.Tick.{taken, executed, fault, concluded, ticked}
 use Rattle.inner_interpreter.specs.Answer as answering
 use Rattle.inner_interpreter.specs.Answer.{Reply, asked_by, answered, answer_of, key_answered, line_answered, read_answered, write_answered}
 use Rattle.inner_interpreter.specs.Lines.{line_of, line_reply}
-use Rattle.inner_interpreter.specs.Runs.{World, Served, served, tick_round, answer_round, round_by, round, rounds, stops, stop_by, next_by}
+use Rattle.inner_interpreter.specs.Runs.{World, Served, served, round_by, round, rounds, stops, stop_by, next_by}
+use Rattle.inner_interpreter.proofs.Shapes.{either, by_answer}
 
 -- it did not halt for a failed reader
 abbrev HasRead : State → Type 0
 HasRead s = s.halt ≢ Some cause.InputFault
 
-either_read : (b : Bool) (x y : State × Act) → HasRead x.0 → HasRead y.0 → HasRead ((if b then x else y).0)
-either_read true x y h k = h
-either_read false x y h k = k
-
 fault_read : (s : Whole) (shown : Shown) (f : ℕ) → HasRead (fault s shown f).0
 unfolding fault
-fault_read s shown f = either_read (cell s.memory FAULT == 0) _ _ (λ q. cc) (λ q. cc)
+fault_read s shown f = either HasRead (cell s.memory FAULT == 0) _ _ (λ q. cc) (λ q. cc)
 
 concluded_read : (w : ℕ) (x : After) → HasRead (concluded w x).0
 unfolding concluded
@@ -49,8 +45,8 @@ ticked_read s = concluded_read (taken s).0 (executed (taken s).0 (taken s).1)
 
 answered_read : (s : Whole) (p : Request × ℕ) (reply : Reply) → reply ≢ answering.InputFault → HasRead (answered s p reply).0
 unfolding answered key_answered line_answered read_answered write_answered
-answered_read s p (answering.Key c) n = either_read (nat_lt 256 (length (c ∷ s.values))) _ _ (fault_read s _ 2) (λ q. cc)
-answered_read s p (answering.Line bytes returned) n = either_read (nat_lt (length s.values) 2) _ _ (fault_read s _ 1) (λ q. cc)
+answered_read s p (answering.Key c) n = either HasRead (nat_lt 256 (length (c ∷ s.values))) _ _ (fault_read s _ 2) (λ q. cc)
+answered_read s p (answering.Line bytes returned) n = either HasRead (nat_lt (length s.values) 2) _ _ (fault_read s _ 1) (λ q. cc)
 answered_read s p answering.InputEnd n = λ q. cc
 answered_read s p answering.InputFault n = absurd (n refl)
 answered_read s p (answering.ReadOk page) n = λ q. cc
@@ -59,14 +55,7 @@ answered_read s p answering.WriteOk n = λ q. cc
 answered_read s p answering.WriteFault n = fault_read s _ 10
 
 answer_read : (s : State) (reply : Reply) → HasRead s → reply ≢ answering.InputFault → HasRead (answer_of s reply).0
-unfolding answer_of
-answer_read s reply h n = by_wait s.wait where
-  came : Option (Request × ℕ) → State × Act
-  came o = elim o [ Some p ↦ answered s.parts p reply | None ↦ (s, quiet) ]
-
-  by_wait : (o : Option (Request × ℕ)) → HasRead (came o).0
-  by_wait (Some p) = answered_read s.parts p reply n
-  by_wait None = h
+answer_read s reply h n = by_answer HasRead s reply (λ p q. answered_read s.parts p reply n) (λ q. h)
 
 -- a line that was typed is no failure
 line_is_typed : (bytes : List ℕ) (returned : Bool) → line_reply bytes returned ≢ answering.InputFault

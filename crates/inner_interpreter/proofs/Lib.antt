@@ -8,6 +8,7 @@ pub mod Moving
 pub mod Running
 pub mod Ended
 pub mod Uniqueness
+pub mod Shapes
 pub mod Orderly
 pub mod Requested
 pub mod Ending

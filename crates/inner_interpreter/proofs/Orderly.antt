@@ -1,10 +1,9 @@
 -- The buffers of a machine stay in order.
-use Rattle.std.proofs.Common.{◌≡◌, ℕ, ◌+◌, ◌==◌, ◌∷◌, length, nat_lt, Option, Some, None, Bool, true, false, refl, ap, ◌∙◌, if◌then◌else◌}
+use Rattle.std.proofs.Common.{◌≡◌, ℕ, ◌==◌, ◌∷◌, length, nat_lt, Option, Some, None, true, false, refl, ap, sym, subst, ◌∙◌}
 use Rattle.block_buffers.specs.Entries.{holds, slot_of}
 use Rattle.block_buffers.proofs.Kept.{are_started, are_assigned, are_cleaned}
 use Rattle.block_buffers.proofs.Blocks.{blocks_started, blocks_assigned, blocks_cleaned}
 use Rattle.image_loader.specs.Files.{Contents}
-use Rattle.cells.specs.Cell.{wrap}
 use Rattle.memory.specs.Bytes.{cell}
 use Rattle.memory.specs.declared.system.TheConstants.{FAULT}
 use Rattle.plain_rows.specs.Whole.{Whole}
@@ -22,26 +21,21 @@ use Rattle.inner_interpreter.specs.declared.act.Cause.{Cause}
 use Rattle.inner_interpreter.specs.declared.act.Cause.TheVariants.{Bye, Fault as FaultCause, InputEnded, InputFault as InputFaulted}
 use Rattle.inner_interpreter.specs.declared.act.Shown.TheVariants.{Nothing}
 use Rattle.inner_interpreter.specs.declared.act.Shown.{Shown}
-use Rattle.inner_interpreter.specs.declared.act.Act.{Act}
 use Rattle.inner_interpreter.specs.State.{State, start}
-use Rattle.inner_interpreter.specs.Tick.{taken, thread, executed, faulted, fault, concluded, ticked, shown_span, quiet}
+use Rattle.inner_interpreter.specs.Tick.{taken, thread, executed, faulted, fault, concluded, ticked, shown_span}
 use Rattle.inner_interpreter.specs.Answer as answering
 use Rattle.inner_interpreter.specs.Answer.{Reply, block_of, answered, answer_of, asked_by, fits, fits_request, key_answered, line_answered, read_answered, write_answered}
 use Rattle.inner_interpreter.specs.Moves.{Turn, Tick, Answer, Accepts, turned}
 use Rattle.inner_interpreter.specs.Requests.{IsOrderly}
+use Rattle.inner_interpreter.proofs.Shapes.{either, by_answer, is_taken}
 
 -- a state that asks nothing
 unasked : (s : Whole) (c : Option Cause) → AreOrderly s.buffers → IsOrderly (record { parts = s; wait = None; halt = c })
 unasked s c h = record { buffers = h.buffers; once = h.once; absent = λ u w q. cc }
 
--- one of two ends
-either_orderly : (b : Bool) (x y : State × Act) → IsOrderly x.0 → IsOrderly y.0 → IsOrderly ((if b then x else y).0)
-either_orderly true x y h k = h
-either_orderly false x y h k = k
-
 faulted_orderly : (s : Whole) (shown : Shown) (f : ℕ) → AreOrderly s.buffers → IsOrderly (fault s shown f).0
 unfolding fault
-faulted_orderly s shown f h = either_orderly (cell s.memory FAULT == 0) _ _ (unasked (faulted s f) (Some (FaultCause f)) h) (unasked (faulted s f) None h)
+faulted_orderly s shown f h = either IsOrderly (cell s.memory FAULT == 0) _ _ (unasked (faulted s f) (Some (FaultCause f)) h) (unasked (faulted s f) None h)
 
 concluded_orderly : (w : ℕ) (x : After) → AreOrderly x.0.buffers → ((u : ℕ) → x.1 ≡ AskOut (request.Read u) → holds x.0.buffers u ≡ false) → IsOrderly (concluded w x).0
 unfolding concluded
@@ -85,17 +79,7 @@ executed_absent w s =
     in by_if ReadsAbsent (nat_lt c 256) _ _ (row_absent c w s) (thread_absent c w s)
 
 taken_orderly : (s : Whole) → AreOrderly s.buffers → AreOrderly (taken s).1.buffers
-unfolding taken
-taken_orderly s h = by_pending s.pending where
-  took : Option ℕ → ℕ × Whole
-  took p = elim p [
-    | Some w ↦ (w, record s { pending = None })
-    | None ↦ (cell s.memory s.ip, record s { ip = wrap (s.ip + 2) })
-  ]
-
-  by_pending : (p : Option ℕ) → AreOrderly (took p).1.buffers
-  by_pending (Some w) = h
-  by_pending None = h
+taken_orderly s h = subst AreOrderly (sym (is_taken s).buffers) h
 
 ticked_orderly : (s : Whole) → AreOrderly s.buffers → IsOrderly (ticked s).0
 unfolding ticked
@@ -105,8 +89,8 @@ ticked_orderly s h =
 
 answered_orderly : (s : Whole) (p : Request × ℕ) (reply : Reply) → AreOrderly s.buffers → ((u w : ℕ) → Some p ≡ Some (request.Read u, w) → holds s.buffers u ≡ false) → fits_request p.0 reply ≡ true → IsOrderly (answered s p reply).0
 unfolding answered key_answered line_answered read_answered write_answered
-answered_orderly s p (answering.Key c) h a f = either_orderly (nat_lt 256 (length (c ∷ s.values))) _ _ (faulted_orderly s Nothing 2 h) (unasked _ None h)
-answered_orderly s p (answering.Line bytes returned) h a f = either_orderly (nat_lt (length s.values) 2) _ _ (faulted_orderly s Nothing 1 h) (unasked _ None h)
+answered_orderly s p (answering.Key c) h a f = either IsOrderly (nat_lt 256 (length (c ∷ s.values))) _ _ (faulted_orderly s Nothing 2 h) (unasked _ None h)
+answered_orderly s p (answering.Line bytes returned) h a f = either IsOrderly (nat_lt (length s.values) 2) _ _ (faulted_orderly s Nothing 1 h) (unasked _ None h)
 answered_orderly s p answering.InputEnd h a f = unasked s (Some InputEnded) h
 answered_orderly s p answering.InputFault h a f = unasked s (Some InputFaulted) h
 answered_orderly s (request.Key, w) (answering.ReadOk page) h a f = cc
@@ -121,14 +105,10 @@ answered_orderly s p answering.WriteOk h a f =
 answered_orderly s p answering.WriteFault h a f = faulted_orderly s Nothing 10 h
 
 answer_orderly : (s : State) (reply : Reply) → fits (asked_by s.wait) reply ≡ true → IsOrderly s → IsOrderly (answer_of s reply).0
-unfolding answer_of
-answer_orderly s reply f h = by_wait s.wait refl f where
-  came : Option (Request × ℕ) → State × Act
-  came o = elim o [ Some p ↦ answered s.parts p reply | None ↦ (s, quiet) ]
-
-  by_wait : (o : Option (Request × ℕ)) → s.wait ≡ o → fits (asked_by o) reply ≡ true → IsOrderly (came o).0
-  by_wait (Some p) q g = answered_orderly s.parts p reply (record { buffers = h.buffers; once = h.once }) (λ u w k. h.absent u w (q ∙ k)) g
-  by_wait None q g = cc
+answer_orderly s reply f h =
+    by_answer IsOrderly s reply
+    (λ p q. answered_orderly s.parts p reply (record { buffers = h.buffers; once = h.once }) (λ u w k. h.absent u w (q ∙ k)) (ap (λ (o : Option (Request × ℕ)). fits (asked_by o) reply) (sym q) ∙ f))
+    (λ q. h)
 
 pub moved_orderly : (s : State) (t : Turn) → Accepts s t → IsOrderly s → IsOrderly (turned s t)
 moved_orderly s Tick a h = ticked_orderly s.parts (record { buffers = h.buffers; once = h.once })

@@ -4,7 +4,6 @@ use Rattle.std.specs.Prelude.{All}
 use Rattle.std.proofs.lemmas.List.Elements.{All-head, All-tail}
 use Rattle.block_buffers.specs.declared.entry.Entry.{Entry}
 use Rattle.block_buffers.specs.Entries.{unassigned_slot, entry_at, victim, AreBuffers, HasNoBlockTwice}
-use Rattle.cells.specs.Cell.{wrap}
 use Rattle.memory.specs.Bytes.{cell, with_page}
 use Rattle.memory.specs.declared.system.TheConstants.{BLK, SCR, FAULT}
 use Rattle.memory.proofs.Pages.{cell_below, length-with_page}
@@ -21,7 +20,6 @@ use Rattle.primitives.specs.Table.{row}
 use Rattle.primitives.proofs.Behaves.{AreOrderly, asks_device as device_asked}
 use Rattle.primitives.proofs.Rows.{behaves_row}
 use Rattle.primitives.proofs.Requests.{answered as buffers_answered, left, left_most, left_same, fewer_requests}
-use Rattle.inner_interpreter.specs.declared.act.Act.{Act}
 use Rattle.inner_interpreter.specs.declared.act.Shown.{Shown}
 use Rattle.inner_interpreter.specs.State.{State}
 use Rattle.inner_interpreter.specs.Tick.{taken, thread, executed, running, fault, concluded, ticked, Runs}
@@ -29,6 +27,7 @@ use Rattle.inner_interpreter.specs.Answer.{fits, answered, answer_of, asked_by, 
 use Rattle.inner_interpreter.specs.Moves.{Tick, Answer, turned}
 use Rattle.inner_interpreter.specs.Requests.{IsOrderly, asks_device, ok_to, AreAsked, IsPage, token_of, IsBelowBuffers}
 use Rattle.inner_interpreter.proofs.Orderly.{moved_orderly}
+use Rattle.inner_interpreter.proofs.Shapes.{IsTaken, is_taken, either}
 
 -- memory behind an Ok
 abbrev memory_behind : Outcome → Whole → List ℕ → List ℕ
@@ -41,10 +40,7 @@ behind w x page = record x.0 { memory = memory_behind x.1 x.0 page; buffers = bu
 
 fault_asks_none : (s : Whole) (shown : Shown) (f : ℕ) → asks_device (asked_by (fault s shown f).0.wait) ≡ false
 unfolding fault
-fault_asks_none s shown f = either (cell s.memory FAULT == 0) _ _ refl refl where
-  either : (b : Bool) (x y : State × Act) → asks_device (asked_by x.0.wait) ≡ false → asks_device (asked_by y.0.wait) ≡ false → asks_device (asked_by ((if b then x else y).0.wait)) ≡ false
-  either true x y h k = h
-  either false x y h k = k
+fault_asks_none s shown f = either (λ t. asks_device (asked_by t.wait) ≡ false) (cell s.memory FAULT == 0) _ _ refl refl
 
 concluded_asks : (w : ℕ) (x : After) → asks_device (asked_by (concluded w x).0.wait) ≡ true → device_asked x.1 ≡ true
 unfolding concluded
@@ -98,25 +94,6 @@ kept s (t, AskOut r) q h = h
 kept s (t, FaultOut f) q h = cc
 kept s (t, Abort span) q h = cc
 kept s (t, HaltOut) q h = cc
-
--- what is taken with a token
-record IsTaken (s t : Whole) : Type 0 where
-  memory : t.memory ≡ s.memory
-  values : t.values ≡ s.values
-  buffers : t.buffers ≡ s.buffers
-
-is_taken : (s : Whole) → IsTaken s (taken s).1
-unfolding taken
-is_taken s = by_pending s.pending where
-  took : Option ℕ → ℕ × Whole
-  took p = elim p [
-    | Some w ↦ (w, record s { pending = None })
-    | None ↦ (cell s.memory s.ip, record s { ip = wrap (s.ip + 2) })
-  ]
-
-  by_pending : (p : Option ℕ) → IsTaken s (took p).1
-  by_pending (Some w) = record { memory = refl; values = refl; buffers = refl }
-  by_pending None = record { memory = refl; values = refl; buffers = refl }
 
 victim_small : (b : List Entry) → AreBuffers b → (victim b).slot < 4
 unfolding entry_at
