@@ -7,35 +7,47 @@ use Rattle.std.proofs.lemmas.List.{get_or-map, get_or_default}
 use Rattle.std.proofs.lemmas.List.Sorted.{list_any-IsPermutation}
 use Rattle.std.proofs.lemmas.List.Sums.{sum_by-cons}
 use Rattle.block_buffers.specs.declared.entry.Entry.{Entry}
-use Rattle.block_buffers.specs.Entries.{unassigned_slot, is_in, is_of, is_updated, holds, slot_of, moved_front, assigned, cleaned_entry, cleaned, victim, entry_at, has_updated, first_updated, AreBuffers, HasNoBlockTwice, IsLowestUpdated}
-use Rattle.block_buffers.proofs.Blocks.{clean_block, moved_permutes, of_from_block, block_of}
+use Rattle.block_buffers.specs.Entries.{unassigned_slot, is_in, is_of, is_updated, holds, slot_of, moved_front, assigned, unmarked_entry, unmarked, victim, entry_at, has_updated, first_updated, AreBuffers, HasNoBlockTwice, IsLowestUpdated}
+use Rattle.block_buffers.proofs.Blocks.{unmark_block, moved_permutes, of_from_block, block_of}
 use Rattle.block_buffers.proofs.Fronts.{moved_at}
 use Rattle.block_buffers.proofs.Places.{position_here, slot_here}
 use Rattle.block_buffers.proofs.Updated.{first_is_lowest}
 
 -- an entry that is no longer marked is of the same block
-clean_of : (slot u : ℕ) (e : Entry) → is_of u (cleaned_entry slot e) ≡ is_of u e
-clean_of slot u e =
-    ap (λ (o : Option ℕ). elim o [ Some v ↦ v == u | None ↦ false ]) (clean_block slot e (is_in slot e) refl)
+unmark_of : (v u : ℕ) (e : Entry) → is_of u (unmarked_entry v e) ≡ is_of u e
+unmark_of v u e =
+    ap (λ (o : Option ℕ). elim o [ Some w ↦ w == u | None ↦ false ]) (unmark_block v e (is_of v e) refl)
 
-pub holds_cleaned : (slot u : ℕ) (b : List Entry) → holds (cleaned slot b) u ≡ holds b u
-unfolding holds cleaned
-holds_cleaned slot u [] = refl
-holds_cleaned slot u (e ∷ es) = rw (clean_of slot u e, holds_cleaned slot u es) refl
+pub holds_unmarked : (v u : ℕ) (b : List Entry) → holds (unmarked v b) u ≡ holds b u
+unfolding holds unmarked
+holds_unmarked v u [] = refl
+holds_unmarked v u (e ∷ es) = rw (unmark_of v u e, holds_unmarked v u es) refl
 
 pub holds_moved : (slot u : ℕ) (b : List Entry) → holds (moved_front slot b) u ≡ holds b u
 unfolding holds
 holds_moved slot u b = sym (list_any-IsPermutation (is_of u) b (moved_front slot b) (moved_permutes slot b))
 
-clean_here : (e : Entry) → (cleaned_entry e.slot e).updated ≡ false
-clean_here e = let yes : (e.slot == e.slot) ≡ true = eq-eqb e.slot e.slot refl in rw yes refl
+unmark_here : (u : ℕ) (e : Entry) → is_of u e ≡ true → (unmarked_entry u e).updated ≡ false
+unmark_here u e h = rw h refl
 
--- the victim is no longer marked once its block is written
-pub victim_cleaned : (b : List Entry) → AreBuffers b → (victim (cleaned (victim b).slot b)).updated ≡ false
-unfolding cleaned entry_at
-victim_cleaned b h =
+some_block : (o : Option ℕ) → IsSome o → o ≡ Some (unwrap_or o 0)
+some_block (Some v) h = refl
+some_block None h = cc
+
+-- an updated entry of the list has a block
+pub of_updated : (b : List Entry) (k : ℕ) (d : Entry) → AreBuffers b → k < length b → (get_or b k d).updated ≡ true → is_of (unwrap_or (get_or b k d).block 0) (get_or b k d) ≡ true
+of_updated b k d h l marked =
+    let e : Entry = get_or b k d
+    in block_of (unwrap_or e.block 0) e (some_block e.block (h.updated_have k d l marked))
+
+-- the victim's buffer is clean once its block is written
+pub victim_saved : (b : List Entry) → AreBuffers b → (victim b).updated ≡ true → (victim (unmarked (unwrap_or (victim b).block 0) b)).updated ≡ false
+unfolding unmarked entry_at
+victim_saved b h q =
     let d : Entry = unassigned_slot 0
-    in ap (λ (e : Entry). e.updated) (get_or-map (cleaned_entry (get_or b 3 d).slot) b 3 d d (omega (arith, h.four))) ∙ clean_here (get_or b 3 d)
+    in let u : ℕ = unwrap_or (get_or b 3 d).block 0
+    in ap (λ (e : Entry). e.updated) (get_or-map (unmarked_entry u) b 3 d d (omega (arith, h.four)))
+    ∙ unmark_here u (get_or b 3 d) (of_updated b 3 d h (omega (arith, h.four)) q)
 
 not_of : (u : ℕ) (e : Entry) (m : Bool) → is_of u e ≡ m → e.block ≢ Some u → is_of u e ≡ false
 not_of u e true q h = absurd (h (of_from_block u e.block q))
@@ -60,31 +72,30 @@ mark e = if e.updated then 1 else 0
 count_more : (e : Entry) (es : List Entry) → count_by is_updated (e ∷ es) ≡ mark e + count_by is_updated es
 count_more e es = sum_by-cons (λ x. if is_updated x then 1 else 0) e es
 
-mark_cleaned : (slot : ℕ) (e : Entry) (m : Bool) → is_in slot e ≡ m → mark (cleaned_entry slot e) ≤ mark e
-mark_cleaned slot e true q = rw q (omega arith)
-mark_cleaned slot e false q = rw q (omega arith)
+mark_unmarked : (u : ℕ) (e : Entry) (m : Bool) → is_of u e ≡ m → mark (unmarked_entry u e) ≤ mark e
+mark_unmarked u e true q = rw q (omega arith)
+mark_unmarked u e false q = rw q (omega arith)
 
 -- never are more entries marked
-no_more_updated : (slot : ℕ) (b : List Entry) → count_by is_updated (cleaned slot b) ≤ count_by is_updated b
-unfolding cleaned
-no_more_updated slot [] = omega arith
-no_more_updated slot (e ∷ es) =
-    rw (count_more e es, count_more (cleaned_entry slot e) (map (cleaned_entry slot) es))
-    (omega (arith, mark_cleaned slot e (is_in slot e) refl, no_more_updated slot es))
+no_more_updated : (u : ℕ) (b : List Entry) → count_by is_updated (unmarked u b) ≤ count_by is_updated b
+unfolding unmarked
+no_more_updated u [] = omega arith
+no_more_updated u (e ∷ es) =
+    rw (count_more e es, count_more (unmarked_entry u e) (map (unmarked_entry u) es))
+    (omega (arith, mark_unmarked u e (is_of u e) refl, no_more_updated u es))
 
 -- one fewer is marked where a marked entry's block is written
-pub fewer_updated : (b : List Entry) (k : ℕ) (d : Entry) → k < length b → (get_or b k d).updated ≡ true → count_by is_updated (cleaned (get_or b k d).slot b) < count_by is_updated b
-unfolding cleaned
-fewer_updated [] k d l h = absurd (omega arith)
-fewer_updated (e ∷ es) zero d l h =
+fewer_updated : (u : ℕ) (b : List Entry) (k : ℕ) (d : Entry) → k < length b → (get_or b k d).updated ≡ true → is_of u (get_or b k d) ≡ true → count_by is_updated (unmarked u b) < count_by is_updated b
+unfolding unmarked
+fewer_updated u [] k d l h has = absurd (omega arith)
+fewer_updated u (e ∷ es) zero d l h has =
     let one : mark e ≡ 1 = rw h refl
-    in let none : mark (cleaned_entry e.slot e) ≡ 0 = rw (clean_here e) refl
-    in rw (count_more e es, count_more (cleaned_entry e.slot e) (map (cleaned_entry e.slot) es))
-    (omega (arith, one, none, no_more_updated e.slot es))
-fewer_updated (e ∷ es) (suc k) d l h =
-    let slot : ℕ = (get_or es k d).slot
-    in rw (count_more e es, count_more (cleaned_entry slot e) (map (cleaned_entry slot) es))
-    (omega (arith, mark_cleaned slot e (is_in slot e) refl, fewer_updated es k d (omega arith) h))
+    in let none : mark (unmarked_entry u e) ≡ 0 = rw (unmark_here u e has) refl
+    in rw (count_more e es, count_more (unmarked_entry u e) (map (unmarked_entry u) es))
+    (omega (arith, one, none, no_more_updated u es))
+fewer_updated u (e ∷ es) (suc k) d l h has =
+    rw (count_more e es, count_more (unmarked_entry u e) (map (unmarked_entry u) es))
+    (omega (arith, mark_unmarked u e (is_of u e) refl, fewer_updated u es k d (omega arith) h has))
 
 -- a reference to the block in front changes nothing
 pub front_stays : (b : List Entry) (u : ℕ) → AreBuffers b → (entry_at b 0).block ≡ Some u → moved_front (slot_of b u) b ≡ b
@@ -106,39 +117,46 @@ front_held (e ∷ es) u v h q = by_test (v == u) refl (block_of u e q) where
   by_test false r has = rw (r, has) refl
 
 -- the block in front is the same once a block is written
-pub front_cleaned : (b : List Entry) (slot : ℕ) → AreBuffers b → (entry_at (cleaned slot b) 0).block ≡ (entry_at b 0).block
-unfolding cleaned entry_at
-front_cleaned [] slot h = absurd (omega (arith, h.four))
-front_cleaned (e ∷ es) slot h = clean_block slot e (is_in slot e) refl
-
-some_block : (o : Option ℕ) → IsSome o → o ≡ Some (unwrap_or o 0)
-some_block (Some v) h = refl
-some_block None h = cc
-
--- an updated entry's buffer is found by its block
-pub slot_of_updated : (b : List Entry) (e : Entry) → AreBuffers b → HasNoBlockTwice b → Contains b e → e.updated ≡ true → slot_of b (unwrap_or e.block 0) ≡ e.slot
-slot_of_updated b e h once (k, l, q) marked =
-    let at : get_or b k e ≡ e = q
-    in let has : IsSome e.block = subst (λ (x : Entry). IsSome x.block) at (h.updated_have k e l (ap (λ (x : Entry). x.updated) at ∙ marked))
-    in slot_of_held b e (unwrap_or e.block 0) (k, l, q) (some_block e.block has) once
-
-pub victim_one_of : (b : List Entry) → AreBuffers b → Contains b (victim b)
-unfolding entry_at
-victim_one_of b h = (3, omega (arith, h.four), get_or_default b 3 (victim b) (unassigned_slot 0) (omega (arith, h.four)))
+pub front_unmarked : (b : List Entry) (u : ℕ) → AreBuffers b → (entry_at (unmarked u b) 0).block ≡ (entry_at b 0).block
+unfolding unmarked entry_at
+front_unmarked [] u h = absurd (omega (arith, h.four))
+front_unmarked (e ∷ es) u h = unmark_block u e (is_of u e) refl
 
 -- the updated entry that is saved first is no longer marked
-pub fewer_saved : (b : List Entry) → AreBuffers b → HasNoBlockTwice b → has_updated b ≡ true → count_by is_updated (cleaned (slot_of b (unwrap_or (first_updated b).block 0)) b) < count_by is_updated b
-fewer_saved b h once q =
+pub fewer_saved : (b : List Entry) → AreBuffers b → has_updated b ≡ true → count_by is_updated (unmarked (unwrap_or (first_updated b).block 0) b) < count_by is_updated b
+fewer_saved b h q =
     let e : Entry = first_updated b
     in let low : IsLowestUpdated b e = first_is_lowest b h q
     in let one : Contains b e = low.one
-    in let P : ℕ → Type 0 = λ slot. count_by is_updated (cleaned slot b) < count_by is_updated b
     in let at : get_or b one.0 e ≡ e = one.2
-    in let less : count_by is_updated (cleaned (get_or b one.0 e).slot b) < count_by is_updated b = fewer_updated b one.0 e one.1 (ap (λ (x : Entry). x.updated) at ∙ low.marked)
-    in subst P (ap (λ (x : Entry). x.slot) at ∙ sym (slot_of_updated b e h once one low.marked)) less
+    in let P : Entry → Type 0 = λ x. count_by is_updated (unmarked (unwrap_or x.block 0) b) < count_by is_updated b
+    in let marked : (get_or b one.0 e).updated ≡ true = ap (λ (x : Entry). x.updated) at ∙ low.marked
+    in subst P at (fewer_updated (unwrap_or (get_or b one.0 e).block 0) b one.0 e one.1 marked (of_updated b one.0 e h one.1 marked))
 
--- the victim's buffer is clean once its block is written
-pub victim_saved : (b : List Entry) → AreBuffers b → HasNoBlockTwice b → (victim b).updated ≡ true → (victim (cleaned (slot_of b (unwrap_or (victim b).block 0)) b)).updated ≡ false
-victim_saved b h once q =
-    let P : ℕ → Type 0 = λ slot. (victim (cleaned slot b)).updated ≡ false
-    in subst P (sym (slot_of_updated b (victim b) h once (victim_one_of b h) q)) (victim_cleaned b h)
+held_at : (u : ℕ) (b : List Entry) (k : ℕ) (d : Entry) → k < length b → is_of u (get_or b k d) ≡ true → holds b u ≡ true
+unfolding holds
+held_at u [] k d l h = absurd (omega arith)
+held_at u (e ∷ es) zero d l h = rw h refl
+held_at u (e ∷ es) (suc k) d l h = by_test (is_of u e) refl (held_at u es k d (omega arith) h) where
+  by_test : (m : Bool) → is_of u e ≡ m → holds es u ≡ true → list_any (is_of u) (e ∷ es) ≡ true
+  by_test true q rest = rw q refl
+  by_test false q rest = rw q rest
+
+-- the block of an updated victim is in a buffer
+pub victim_held : (b : List Entry) → AreBuffers b → (victim b).updated ≡ true → holds b (unwrap_or (victim b).block 0) ≡ true
+unfolding entry_at
+victim_held b h q =
+    let d : Entry = unassigned_slot 0
+    in let four : 3 < length b = omega (arith, h.four)
+    in held_at (unwrap_or (get_or b 3 d).block 0) b 3 d four (of_updated b 3 d h four q)
+
+-- and so is the block of the updated entry that is saved first
+pub first_held : (b : List Entry) → AreBuffers b → has_updated b ≡ true → holds b (unwrap_or (first_updated b).block 0) ≡ true
+first_held b h q =
+    let e : Entry = first_updated b
+    in let low : IsLowestUpdated b e = first_is_lowest b h q
+    in let one : Contains b e = low.one
+    in let at : get_or b one.0 e ≡ e = one.2
+    in let marked : (get_or b one.0 e).updated ≡ true = ap (λ (x : Entry). x.updated) at ∙ low.marked
+    in subst (λ (x : Entry). holds b (unwrap_or x.block 0) ≡ true) at
+    (held_at (unwrap_or (get_or b one.0 e).block 0) b one.0 e one.1 (of_updated b one.0 e h one.1 marked))

@@ -9,7 +9,7 @@ use Rattle.std.proofs.lemmas.List.Kept.{AllPairs-cons}
 use Rattle.std.proofs.lemmas.List.Sorted.{IsPermutation-filter_both}
 use Rattle.std.proofs.lemmas.List.Sums.{passes_at_first}
 use Rattle.block_buffers.specs.declared.entry.Entry.{Entry}
-use Rattle.block_buffers.specs.Entries.{unassigned_slot, start, is_in, is_elsewhere, is_of, holds, slot_of, moved_front, assigned, front_marked, cleaned_entry, cleaned, unassigned_entry, unassigned, victim, entry_at, AreBuffers, HasNoBlockTwice}
+use Rattle.block_buffers.specs.Entries.{unassigned_slot, start, is_in, is_elsewhere, is_of, holds, slot_of, moved_front, assigned, front_marked, cleaned_entry, cleaned, unmarked_entry, unmarked, unassigned_entry, unassigned, victim, entry_at, AreBuffers, HasNoBlockTwice}
 use Rattle.block_buffers.proofs.Fronts.{moved_at, front_some, front_none}
 use Rattle.block_buffers.proofs.Kept.{BlocksDiffer}
 use Rattle.block_buffers.proofs.Pairs.{pairs_head, pairs_tail, pairs_map}
@@ -68,6 +68,16 @@ unfolding cleaned
 blocks_cleaned slot b h =
     pairs_map BlocksDiffer (cleaned_entry slot)
     (λ d e r u q k. r u (sym (clean_block slot d (is_in slot d) refl) ∙ q) (sym (clean_block slot e (is_in slot e) refl) ∙ k)) b h
+
+pub unmark_block : (u : ℕ) (e : Entry) (m : Bool) → is_of u e ≡ m → (unmarked_entry u e).block ≡ e.block
+unmark_block u e true q = rw q refl
+unmark_block u e false q = rw q refl
+
+pub blocks_unmarked : (u : ℕ) (b : List Entry) → HasNoBlockTwice b → HasNoBlockTwice (unmarked u b)
+unfolding unmarked
+blocks_unmarked u b h =
+    pairs_map BlocksDiffer (unmarked_entry u)
+    (λ d e r v q k. r v (sym (unmark_block u d (is_of u d) refl) ∙ q) (sym (unmark_block u e (is_of u e) refl) ∙ k)) b h
 
 pairs_take : (n : ℕ) (b : List Entry) → HasNoBlockTwice b → HasNoBlockTwice (take n b)
 pairs_take zero b h = λ i j d l m. absurd (omega arith)

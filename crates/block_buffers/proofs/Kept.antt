@@ -6,7 +6,7 @@ use Rattle.std.proofs.lemmas.List.Elements.{All-nil, All-cons, All-head, All-tai
 use Rattle.std.proofs.lemmas.List.Filters.{length-filter_both}
 use Rattle.std.proofs.lemmas.List.Kept.{AllPairs-cons}
 use Rattle.block_buffers.specs.declared.entry.Entry.{Entry}
-use Rattle.block_buffers.specs.Entries.{unassigned_slot, start, is_in, is_elsewhere, moved_front, assigned, front_marked, cleaned_entry, cleaned, unassigned_entry, unassigned, AreBuffers, HasNoBlockTwice}
+use Rattle.block_buffers.specs.Entries.{unassigned_slot, start, is_in, is_elsewhere, moved_front, assigned, front_marked, is_of, cleaned_entry, cleaned, unmarked_entry, unmarked, unassigned_entry, unassigned, AreBuffers, HasNoBlockTwice}
 use Rattle.block_buffers.proofs.Fronts.{moved_at, assigned_at, front_some, front_none}
 use Rattle.block_buffers.proofs.Pairs.{pairs_head, pairs_tail, pairs_map, pairs_parted}
 
@@ -104,6 +104,18 @@ pub are_cleaned : (slot : ℕ) (b : List Entry) → AreBuffers b → AreBuffers 
 unfolding cleaned
 are_cleaned slot b h = are_mapped (cleaned_entry slot) (λ e. clean_slot slot e (is_in slot e) refl) (λ e. clean_up slot e (is_in slot e) refl) b h
 
+unmarked_slot : (u : ℕ) (e : Entry) (b : Bool) → is_of u e ≡ b → (unmarked_entry u e).slot ≡ e.slot
+unmarked_slot u e true q = rw q refl
+unmarked_slot u e false q = rw q refl
+
+unmarked_up : (u : ℕ) (e : Entry) (b : Bool) → is_of u e ≡ b → HasWhereUpdated e → HasWhereUpdated (unmarked_entry u e)
+unmarked_up u e true q h = rw q (λ r. cc)
+unmarked_up u e false q h = rw q h
+
+pub are_unmarked : (u : ℕ) (b : List Entry) → AreBuffers b → AreBuffers (unmarked u b)
+unfolding unmarked
+are_unmarked u b h = are_mapped (unmarked_entry u) (λ e. unmarked_slot u e (is_of u e) refl) (λ e. unmarked_up u e (is_of u e) refl) b h
+
 pub are_unassigned : (b : List Entry) → AreBuffers b → AreBuffers (unassigned b)
 unfolding unassigned
 are_unassigned b h = are_mapped unassigned_entry (λ e. refl) (λ e h q. cc) b h
@@ -139,4 +151,4 @@ are_started = record {
   updated_have = down_unmarked 4;
 }
 
-pub ruleset buffers = (are_moved, are_assigned, are_marked, are_cleaned, are_unassigned)
+pub ruleset buffers = (are_moved, are_assigned, are_marked, are_cleaned, are_unmarked, are_unassigned)

@@ -1,12 +1,12 @@
 -- What a call does to a device.
-use Rattle.std.specs.Prelude.{◌≡◌, ℕ, ◌+◌, true, false, List, Option, Some, Result, Ok, Err, IfSome, IsSomeAnd}
+use Rattle.std.specs.Prelude.{◌≡◌, ℕ, Bool, true, false, List, [], ◌∷◌, ◌++◌, Option, Some, Result, Ok, Err, IfSome, IsSomeAnd}
 use Rattle.block_buffers.specs.declared.devices.DeviceFault.{DeviceFault}
 use Rattle.block_buffers.specs.Disks.{Disk, succeeds, block_at, called, written}
 
--- a call fails exactly where the count of failures rises, and then it rises by one
-abbrev pub Counts : ℕ → ℕ → Result Unit DeviceFault → Type 0
-Counts old new (Ok _) = new ≡ old
-Counts old new (Err _) = new ≡ old + 1
+-- a call joins the list of calls, as one that failed exactly where it did
+abbrev pub Logs : List Bool → List Bool → Result Unit DeviceFault → Type 0
+Logs old new (Ok _) = new ≡ old ++ (false ∷ [])
+Logs old new (Err _) = new ≡ old ++ (true ∷ [])
 
 -- a read that succeeds gives the block's bytes; no read changes a block
 abbrev pub Reads : Disk → ℕ → Option Disk → List ℕ → Result Unit DeviceFault → Type 0

@@ -62,6 +62,13 @@ cleaned_entry slot e = if is_in slot e then record e { updated = false } else e
 unfoldable pub cleaned : ℕ → List Entry → List Entry
 cleaned slot b = map (cleaned_entry slot) b
 
+-- the entry of block u is no longer marked
+abbrev pub unmarked_entry : ℕ → Entry → Entry
+unmarked_entry u e = if is_of u e then record e { updated = false } else e
+
+unfoldable pub unmarked : ℕ → List Entry → List Entry
+unmarked u b = map (unmarked_entry u) b
+
 -- no buffer has a block; the order stays
 abbrev pub unassigned_entry : Entry → Entry
 unassigned_entry e = unassigned_slot e.slot

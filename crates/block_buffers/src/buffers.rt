@@ -1,7 +1,7 @@
 //! The buffers in order of recency.
 
 ghost use Rattle.std.specs.Prelude.{◌≡◌, ◌<◌, MatchOption, IfSome, IsTrue, IsFalse, IsSome};
-ghost use Rattle.block_buffers.specs.Entries.{start, entry_at, victim, holds, slot_of, IsSlotOf, moved_front, assigned, front_marked, cleaned, unassigned, has_updated, IsFirstUpdated};
+ghost use Rattle.block_buffers.specs.Entries.{start, entry_at, victim, holds, slot_of, IsSlotOf, moved_front, assigned, front_marked, cleaned, unmarked, unassigned, has_updated, IsFirstUpdated};
 
 use crate::entries;
 use crate::entries::unassigned_slot;
@@ -111,6 +111,15 @@ impl Buffers {
         ensures { self.new ≡ cleaned slot self.old }
     {
         entries::clean(&mut self.entries, slot);
+    }
+
+    /// Takes the mark from the entry of block `u`, which was written; where no buffer has the block,
+    /// nothing changes.
+    #[tactic(auto, using(crate::proofs::Kept::buffers))]
+    pub fn unmark(&mut self, u: u16)
+        ensures { self.new ≡ unmarked u self.old }
+    {
+        entries::unmark(&mut self.entries, u);
     }
 
     /// Takes the blocks and the marks from all entries; their order stays. (Forth-83 Standard,

@@ -1,5 +1,5 @@
 //! Devices of blocks.
-ghost use Rattle.std.specs.Prelude.{◌≡◌, ◌≤◌, ℕ, Option, length, IfSome, OnErr};
+ghost use Rattle.std.specs.Prelude.{◌≡◌, ◌≤◌, Bool, List, Option, length, IfSome, OnErr};
 
 /// How many bytes a block has.
 pub const BLOCK_SIZE: usize = 1024;
@@ -9,16 +9,16 @@ pub const BLOCK_SIZE: usize = 1024;
 pub struct DeviceFault;
 
 /// Blocks of 1,024 bytes, numbered from 0. A device may tell its blocks to contracts, as a
-/// [`crate::MemoryDevice`] does; a file doesn't. Every device counts its failures for them.
+/// [`crate::MemoryDevice`] does; a file doesn't. Every device keeps for them which of its calls failed.
 pub trait Device {
     ghost use Rattle.block_buffers.specs.Disks.{Disk};
-    ghost use Rattle.block_buffers.specs.Calls.{Counts, Reads, Writes, KeepsBlocks};
+    ghost use Rattle.block_buffers.specs.Calls.{Logs, Reads, Writes, KeepsBlocks};
 
     // its blocks and its coming results, where it tells them
     ghost disk: { Self → Option Disk };
 
-    // how many calls have failed
-    ghost failures: { Self → ℕ };
+    // for each call so far, in order, whether it failed
+    ghost calls: { Self → List Bool };
 
     /// How many blocks there are, at most 65,536.
     fn count(&self) -> u32
@@ -29,11 +29,11 @@ pub trait Device {
     fn read(&mut self, block: u16, page: &mut [u8; BLOCK_SIZE]) -> Result<(), DeviceFault>
         ensures told { IfSome (disk self.old) (λ d. Reads d block (disk self.new) page.new result) }
         ensures kept { KeepsBlocks (disk self.old) (disk self.new) }
-        ensures counted { Counts (failures self.old) (failures self.new) result };
+        ensures logged { Logs (calls self.old) (calls self.new) result };
 
     /// Writes `page` to a block. Where it fails, no block has changed.
     fn write(&mut self, block: u16, page: &[u8; BLOCK_SIZE]) -> Result<(), DeviceFault>
         ensures told { IfSome (disk self.old) (λ d. Writes d block page.now (disk self.new) result) }
         ensures kept { OnErr result (KeepsBlocks (disk self.old) (disk self.new)) }
-        ensures counted { Counts (failures self.old) (failures self.new) result };
+        ensures logged { Logs (calls self.old) (calls self.new) result };
 }

@@ -1,7 +1,7 @@
 //! Work on a list of entries, the most recently referenced first.
 ghost use Rattle.std.specs.Prelude.{◌≡◌, ◌≢◌, ◌<◌, ◌∷◌, if◌then◌else◌, length, slice_index_or, remove, MatchOption, IsTrue, IsFalse, IfSome, All, AllPairs};
 ghost use Rattle.std.specs.List.{position_or_len};
-ghost use Rattle.block_buffers.specs.Entries.{is_of, holds, slot_of, unassigned_slot, moved_front, assigned, front_marked, cleaned_entry, cleaned, unassigned, first_updated, is_updated, lower_of, IsSlotOf};
+ghost use Rattle.block_buffers.specs.Entries.{is_of, holds, slot_of, unassigned_slot, moved_front, assigned, front_marked, cleaned_entry, cleaned, unmarked_entry, unmarked, unassigned, first_updated, is_updated, lower_of, IsSlotOf};
 
 use crate::entry::Entry;
 
@@ -115,6 +115,26 @@ pub fn clean(entries: &mut [Entry], slot: usize)
 {
     for entry in entries.iter_mut() {
         *entry = cleaned_entry(entry, slot);
+    }
+}
+
+/// The entry without its mark, where it has block `u`.
+fn unmarked_entry(entry: &Entry, u: u16) -> Entry
+    ensures { result ≡ unmarked_entry u entry.now }
+{
+    Entry {
+        updated: entry.updated && !is_of(entry, u),
+        ..*entry
+    }
+}
+
+/// Takes the mark from the entry of block `u`.
+#[tactic(auto, unfolding(crate::specs::Entries::unmarked))]
+pub fn unmark(entries: &mut [Entry], u: u16)
+    ensures { entries.new ≡ unmarked u entries.old }
+{
+    for entry in entries.iter_mut() {
+        *entry = unmarked_entry(entry, u);
     }
 }
 

@@ -1,7 +1,7 @@
 //! What the definitions come to, in the words of their subjects: entries, blocks of a device, lines of a screen.
 ghost use Rattle.std.specs.Prelude.{◌≡◌, ◌≢◌, ℕ, ◌+◌, ◌<◌, ◌≤◌, ◌∷◌, List, Some, IsTrue, IsFalse, remove, IsPermutation, count_by, length};
 ghost use Rattle.block_buffers.specs.declared.entry.Entry.{Entry};
-ghost use Rattle.block_buffers.specs.Entries.{start, is_in, entry_at, victim, holds, slot_of, moved_front, assigned, front_marked, cleaned, unassigned, has_updated, first_updated, AreBuffers, HasNoBlockTwice, IsLowestUpdated};
+ghost use Rattle.block_buffers.specs.Entries.{start, is_in, entry_at, victim, holds, slot_of, moved_front, assigned, front_marked, cleaned, unmarked, unassigned, has_updated, first_updated, AreBuffers, HasNoBlockTwice, IsLowestUpdated};
 ghost use Rattle.block_buffers.specs.Disks.{Disk, block_at, written};
 ghost use Rattle.block_buffers.specs.Screens.{IsScreen, IsLine, blank_line, blank_screen, line_at, with_line, line_inserted, line_deleted};
 
@@ -36,6 +36,7 @@ pub fn no_block_twice_law()
     ensures assigned { (b : List Entry) (u : ℕ) → IsFalse (holds b u) → HasNoBlockTwice b → HasNoBlockTwice (assigned u b) }
     ensures marked { (b : List Entry) → HasNoBlockTwice b → HasNoBlockTwice (front_marked b) }
     ensures cleaned { (b : List Entry) (slot : ℕ) → HasNoBlockTwice b → HasNoBlockTwice (cleaned slot b) }
+    ensures unmarked { (b : List Entry) (u : ℕ) → HasNoBlockTwice b → HasNoBlockTwice (unmarked u b) }
     ensures unassigned { (b : List Entry) → HasNoBlockTwice (unassigned b) }
 {}
 
@@ -47,6 +48,7 @@ pub fn four_buffers_law()
     ensures assigned { (b : List Entry) (u : ℕ) → AreBuffers b → AreBuffers (assigned u b) }
     ensures marked { (b : List Entry) → AreBuffers b → AreBuffers (front_marked b) }
     ensures cleaned { (b : List Entry) (slot : ℕ) → AreBuffers b → AreBuffers (cleaned slot b) }
+    ensures unmarked { (b : List Entry) (u : ℕ) → AreBuffers b → AreBuffers (unmarked u b) }
     ensures unassigned { (b : List Entry) → AreBuffers b → AreBuffers (unassigned b) }
 {}
 

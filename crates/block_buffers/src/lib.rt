@@ -2,7 +2,7 @@
 #![tactic(auto)]
 
 pub mod buffers;
-mod counts;
+mod call_log;
 mod devices;
 mod entries;
 pub mod entry;
@@ -14,7 +14,7 @@ mod screens;
 mod tests;
 
 pub use buffers::Buffers;
-pub use counts::Count;
+pub use call_log::CallLog;
 pub use devices::{BLOCK_SIZE, Device, DeviceFault};
 pub use entry::Entry;
 pub use memory_devices::MemoryDevice;

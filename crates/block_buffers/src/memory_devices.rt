@@ -1,8 +1,8 @@
 //! A device in memory, whose coming faults are chosen.
-ghost use Rattle.std.specs.Prelude.{◌≡◌, ◌≤◌, Some, drop, vec_len, IsSomeAnd};
+ghost use Rattle.std.specs.Prelude.{◌≡◌, ◌≤◌, Some, [], drop, vec_len, IsSomeAnd};
 ghost use Rattle.block_buffers.specs.Disks.{next_fails};
 
-use crate::counts::Count;
+use crate::call_log::CallLog;
 use crate::devices::{BLOCK_SIZE, Device, DeviceFault};
 
 /// The results of the coming calls. `true` fails; where none is left, a call doesn't fail.
@@ -33,7 +33,7 @@ impl Coming {
 pub struct MemoryDevice {
     blocks: Vec<[u8; BLOCK_SIZE]>,
     coming: Coming,
-    failures: Count,
+    log: CallLog,
     ghost few: { vec_len blocks ≤ 65536 },
 }
 
@@ -43,7 +43,7 @@ impl MemoryDevice {
     pub fn new(blocks: Vec<[u8; BLOCK_SIZE]>, coming: Vec<bool>) -> MemoryDevice
         requires { vec_len blocks ≤ 65536 }
         ensures told { ⟦<MemoryDevice as Device>⟧.disk result ≡ Some (record { blocks = blocks.items; coming = coming.items }) }
-        ensures unfailed { ⟦<MemoryDevice as Device>⟧.failures result ≡ 0 }
+        ensures uncalled { ⟦<MemoryDevice as Device>⟧.calls result ≡ [] }
     {
         MemoryDevice {
             blocks,
@@ -51,7 +51,7 @@ impl MemoryDevice {
                 results: coming,
                 next: 0,
             },
-            failures: Count::zero(),
+            log: CallLog::new(),
         }
     }
 
@@ -66,7 +66,7 @@ impl MemoryDevice {
 impl Device for MemoryDevice {
     ghost disk = { λ d. Some (record { blocks = d.blocks.items; coming = drop d.coming.next d.coming.results.items }) };
 
-    ghost failures = { λ d. d.failures.times };
+    ghost calls = { λ d. d.log.calls };
 
     fn count(&self) -> u32 {
         self.blocks.len() as u32
@@ -76,10 +76,11 @@ impl Device for MemoryDevice {
         let fails = self.coming.take();
         let at = block as usize;
         if fails || at >= self.blocks.len() {
-            self.failures = Count::next(&self.failures);
+            self.log = CallLog::failed(&self.log);
             return Err(DeviceFault);
         }
         *page = self.blocks[at];
+        self.log = CallLog::succeeded(&self.log);
         Ok(())
     }
 
@@ -87,10 +88,11 @@ impl Device for MemoryDevice {
         let fails = self.coming.take();
         let at = block as usize;
         if fails || at >= self.blocks.len() {
-            self.failures = Count::next(&self.failures);
+            self.log = CallLog::failed(&self.log);
             return Err(DeviceFault);
         }
         self.blocks[at] = *page;
+        self.log = CallLog::succeeded(&self.log);
         Ok(())
     }
 }

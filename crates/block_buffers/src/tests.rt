@@ -74,6 +74,10 @@ fn lowest_slot_is_written_first(rt: HostRuntime) {
     assert_eq!(rt; buffers.first_dirty(), Some(entry(0, Some(1), true)));
     buffers.clean(0);
     assert_eq!(rt; buffers.first_dirty(), Some(entry(1, Some(2), true)));
+    buffers.unmark(9);
+    assert_eq!(rt; buffers.first_dirty(), Some(entry(1, Some(2), true)));
+    buffers.unmark(2);
+    assert_eq!(rt; buffers.first_dirty(), Some(entry(2, Some(3), true)));
     buffers.unassign_all();
     assert_eq!(rt; buffers.first_dirty(), None);
     buffers.mark_front();

@@ -2,10 +2,10 @@
 use Rattle.std.proofs.Common.{◌≡◌, ℕ, ◌+◌, ◌*◌, ◌<◌, ◌≤◌, ◌==◌, ◌||◌, ◌&&◌, List, [], ◌∷◌, ◌++◌, Some, None, unwrap_or, length, nat_lt, take, Bool, true, false, refl, ap, sym, subst, ◌∙◌, arith, if◌then◌else◌}
 use Rattle.std.specs.Prelude.{count_by}
 use Rattle.block_buffers.specs.declared.entry.Entry.{Entry}
-use Rattle.block_buffers.specs.Entries.{holds, slot_of, victim, entry_at, moved_front, assigned, cleaned, is_updated, has_updated, first_updated}
-use Rattle.block_buffers.proofs.Asking.{holds_cleaned, holds_moved, front_stays, front_held, front_cleaned, fewer_saved, victim_saved}
+use Rattle.block_buffers.specs.Entries.{holds, slot_of, victim, entry_at, moved_front, assigned, unmarked, is_updated, has_updated, first_updated}
+use Rattle.block_buffers.proofs.Asking.{holds_unmarked, holds_moved, front_stays, front_held, front_unmarked, fewer_saved, victim_saved, victim_held, first_held}
 use Rattle.block_buffers.proofs.Blocks.{holds_assigned, touched_block}
-use Rattle.block_buffers.proofs.Kept.{are_cleaned}
+use Rattle.block_buffers.proofs.Kept.{are_unmarked}
 use Rattle.memory.specs.Bytes.{cell}
 use Rattle.memory.specs.declared.system.TheConstants.{BLK, SCR}
 use Rattle.plain_rows.specs.Whole.{Whole}
@@ -22,7 +22,7 @@ use Rattle.primitives.proofs.Rows.{asks, behaves_row}
 -- the buffers behind an Ok
 abbrev pub answered : Outcome → List Entry → List Entry
 answered (outcome.Ask (request.Read u)) b = assigned u b
-answered (outcome.Ask (request.Write u)) b = cleaned (slot_of b u) b
+answered (outcome.Ask (request.Write u)) b = unmarked u b
 answered _ b = b
 
 -- what the victim's buffer costs, and what these blocks cost
@@ -73,10 +73,10 @@ asked s u h a = by_count (nat_lt u s.block_count) refl where
 fewer_absent : (s : Whole) (u : ℕ) (us : List ℕ) (o : Outcome) → AreOrderly s.buffers → Asked s u o → cost (u ∷ us) (answered o s.buffers) < cost (u ∷ us) s.buffers
 fewer_absent s u us o h (Writes k q r) =
     let b : List Entry = s.buffers
-    in let c : List Entry = cleaned (slot_of b (unwrap_or (victim b).block 0)) b
+    in let c : List Entry = unmarked (unwrap_or (victim b).block 0) b
     in let P : Outcome → Type 0 = λ x. cost (u ∷ us) (answered x b) < cost (u ∷ us) b
     in let before : cost (u ∷ us) b ≡ 2 + 2 * length us = cost_absent u us b true k q
-    in let behind : cost (u ∷ us) c ≡ 1 + 2 * length us = cost_absent u us c false (holds_cleaned (slot_of b (unwrap_or (victim b).block 0)) u b ∙ k) (victim_saved b h.buffers h.once q)
+    in let behind : cost (u ∷ us) c ≡ 1 + 2 * length us = cost_absent u us c false (holds_unmarked (unwrap_or (victim b).block 0) u b ∙ k) (victim_saved b h.buffers q)
     in let less : cost (u ∷ us) c < cost (u ∷ us) b = omega (arith, before, behind)
     in subst P (sym r) less
 fewer_absent s u us o h (Reads k q r) =
@@ -92,13 +92,13 @@ fewer_absent s u us o h (Reads k q r) =
 fewer_behind : (s : Whole) (u v : ℕ) (o : Outcome) → AreOrderly s.buffers → holds s.buffers u ≡ true → Asked (with_block s u) v o → cost (u ∷ v ∷ []) (answered o (with_block s u).buffers) < cost (u ∷ v ∷ []) s.buffers
 fewer_behind s u v o h k (Writes j q r) =
     let b : List Entry = (with_block s u).buffers
-    in let slot : ℕ = slot_of b (unwrap_or (victim b).block 0)
-    in let c : List Entry = cleaned slot b
+    in let x : ℕ = unwrap_or (victim b).block 0
+    in let c : List Entry = unmarked x b
     in let moved : AreOrderly b = orderly_moved (slot_of s.buffers u) s.buffers h
-    in let P : Outcome → Type 0 = λ x. cost (u ∷ v ∷ []) (answered x b) < cost (u ∷ v ∷ []) s.buffers
-    in let here : holds c u ≡ true = holds_cleaned slot u b ∙ holds_moved (slot_of s.buffers u) u s.buffers ∙ k
-    in let front : (entry_at c 0).block ≡ Some u = front_cleaned b slot moved.buffers ∙ touched_block u s.buffers h.buffers k
-    in let stays : moved_front (slot_of c u) c ≡ c = front_stays c u (are_cleaned slot b moved.buffers) front
+    in let P : Outcome → Type 0 = λ y. cost (u ∷ v ∷ []) (answered y b) < cost (u ∷ v ∷ []) s.buffers
+    in let here : holds c u ≡ true = holds_unmarked x u b ∙ holds_moved (slot_of s.buffers u) u s.buffers ∙ k
+    in let front : (entry_at c 0).block ≡ Some u = front_unmarked b x moved.buffers ∙ touched_block u s.buffers h.buffers k
+    in let stays : moved_front (slot_of c u) c ≡ c = front_stays c u (are_unmarked x b moved.buffers) front
     in let behind : cost (u ∷ v ∷ []) c ≡ cost (v ∷ []) c = cost_held u (v ∷ []) c here ∙ ap (λ (es : List Entry). cost (v ∷ []) es) stays
     in let before : cost (u ∷ v ∷ []) s.buffers ≡ cost (v ∷ []) b = cost_held u (v ∷ []) s.buffers k
     in let one : cost (v ∷ []) c < cost (v ∷ []) b = fewer_absent (with_block s u) v [] (write_of (victim b)) moved (Writes j q refl)
@@ -236,8 +236,8 @@ fewer_given s x h q = by_victim (victim s.buffers).updated refl q where
   by_victim true r k =
       let P : After → Type 0 = λ y. mark (answered y.1 y.0.buffers) < mark b
       in let one : mark b ≡ 1 = rw r refl
-      in let none : mark (cleaned (slot_of b (unwrap_or (victim b).block 0)) b) ≡ 0 = rw (victim_saved b h.buffers h.once r) refl
-      in let less : mark (cleaned (slot_of b (unwrap_or (victim b).block 0)) b) < mark b = omega (arith, one, none)
+      in let none : mark (unmarked (unwrap_or (victim b).block 0) b) ≡ 0 = rw (victim_saved b h.buffers r) refl
+      in let less : mark (unmarked (unwrap_or (victim b).block 0) b) < mark b = omega (arith, one, none)
       in subst P (the_some (s, write_of (victim b)) x k) less
   by_victim false r k = cc
 
@@ -250,7 +250,7 @@ fewer_updated s x h q = by_any (has_updated s.buffers) refl q where
   by_any : (m : Bool) → has_updated b ≡ m → (if m then Some (s, write_of (first_updated b)) else None) ≡ Some x → count_by is_updated (answered x.1 x.0.buffers) < count_by is_updated b
   by_any true r k =
       let P : After → Type 0 = λ y. count_by is_updated (answered y.1 y.0.buffers) < count_by is_updated b
-      in subst P (the_some (s, write_of (first_updated b)) x k) (fewer_saved b h.buffers h.once r)
+      in subst P (the_some (s, write_of (first_updated b)) x k) (fewer_saved b h.buffers r)
   by_any false r k = cc
 
 fewer_left : (n : ℕ) (s t : Whole) (x : After) → AreOrderly s.buffers → asks n s ≡ Some x → asks_device x.1 ≡ true → t.buffers ≡ answered x.1 x.0.buffers → needed n t ≡ needed n s → left n t < left n s
@@ -304,3 +304,42 @@ absent_read n w s t u q = by_buffer (n == 113) ((n == 115) || (n == 116)) (victi
   by_buffer false true m true e = absurd (not_written (first_updated s.buffers) s (t, outcome.Ask (request.Read u)) u refl e)
   by_buffer false true m false e = cc
   by_buffer false false m k e = absent_missing (needed n s) s t u e
+
+the_block : (e : Entry) (u : ℕ) → write_of e ≡ outcome.Ask (request.Write u) → unwrap_or e.block 0 ≡ u
+the_block e u q = cc
+
+held_without : (t : Whole) (u v : ℕ) → AreOrderly t.buffers → has_block t v ≡ false → without_block t v ≡ outcome.Ask (request.Write u) → holds t.buffers u ≡ true
+held_without t u v h k q = by_asked (asked t v k (ap asks_device q)) where
+  by_asked : Asked t v (without_block t v) → holds t.buffers u ≡ true
+  by_asked (Writes i r j) = subst (λ (x : ℕ). holds t.buffers x ≡ true) (the_block (victim t.buffers) u (sym j ∙ q)) (victim_held t.buffers h.buffers r)
+  by_asked (Reads i r j) = let no : outcome.Ask (request.Read v) ≡ outcome.Ask (request.Write u) = sym j ∙ q in cc
+
+held_missing : (us : List ℕ) (s t : Whole) (u : ℕ) → AreOrderly s.buffers → missing us s ≡ Some (t, outcome.Ask (request.Write u)) → holds t.buffers u ≡ true
+held_missing [] s t u h q = absurd (nothing s (t, outcome.Ask (request.Write u)) q)
+held_missing (v ∷ us) s t u h q = by_block (has_block s v) refl (held_missing us (with_block s v) t u (orderly_moved (slot_of s.buffers v) s.buffers h)) where
+  by_block : (b : Bool) → has_block s v ≡ b → (missing us (with_block s v) ≡ Some (t, outcome.Ask (request.Write u)) → holds t.buffers u ≡ true) → holds t.buffers u ≡ true
+  by_block true k rest = rest (sym (missing_held v us s k) ∙ q)
+  by_block false k rest =
+      let here : (s, without_block s v) ≡ (t, outcome.Ask (request.Write u)) = the_some (s, without_block s v) (t, outcome.Ask (request.Write u)) (sym (missing_absent v us s k) ∙ q)
+      in let same : s ≡ t = ap (λ (x : After). x.0) here
+      in subst (λ (x : Whole). holds x.buffers u ≡ true) same (held_without s u v h k (ap (λ (x : After). x.1) here))
+
+-- the entry whose block is written is in the list
+held_written : (e : Entry) (s t : Whole) (x : After) (u : ℕ) → x ≡ (t, outcome.Ask (request.Write u)) → holds s.buffers (unwrap_or e.block 0) ≡ true → Some (s, write_of e) ≡ Some x → holds t.buffers u ≡ true
+held_written e s t x u r h q =
+    let here : (s, write_of e) ≡ x = the_some (s, write_of e) x q
+    in let same : s ≡ t = ap (λ (y : After). y.0) (here ∙ r)
+    in subst (λ (y : Whole). holds y.buffers u ≡ true) same
+    (subst (λ (v : ℕ). holds s.buffers v ≡ true) (the_block e u (ap (λ (y : After). y.1) (here ∙ r))) h)
+
+-- a block that a row asks to be written is in a buffer
+pub held_write : (n w : ℕ) (s t : Whole) (u : ℕ) → AreOrderly s.buffers → row n w s ≡ (t, outcome.Ask (request.Write u)) → holds t.buffers u ≡ true
+unfolding asks given saved
+held_write n w s t u h q = by_buffer (n == 113) ((n == 115) || (n == 116)) (victim s.buffers).updated (has_updated s.buffers) refl refl ((behaves_row n w s).asks (ap (λ (x : After). asks_device x.1) q) ∙ ap (λ (x : After). Some x) q) where
+  by_buffer : (c b m k : Bool) → (victim s.buffers).updated ≡ m → has_updated s.buffers ≡ k
+      → (if c then (if m then Some (s, write_of (victim s.buffers)) else None) else if b then (if k then Some (s, write_of (first_updated s.buffers)) else None) else missing (needed n s) s) ≡ Some (t, outcome.Ask (request.Write u)) → holds t.buffers u ≡ true
+  by_buffer true b true k r i e = held_written (victim s.buffers) s t (t, outcome.Ask (request.Write u)) u refl (victim_held s.buffers h.buffers r) e
+  by_buffer true b false k r i e = cc
+  by_buffer false true m true r i e = held_written (first_updated s.buffers) s t (t, outcome.Ask (request.Write u)) u refl (first_held s.buffers h.buffers i) e
+  by_buffer false true m false r i e = cc
+  by_buffer false false m k r i e = held_missing (needed n s) s t u h e

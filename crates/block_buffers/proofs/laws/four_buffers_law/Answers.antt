@@ -1,4 +1,4 @@
-use Rattle.block_buffers.proofs.Kept.{are_started, are_moved, are_assigned, are_marked, are_cleaned, are_unassigned}
+use Rattle.block_buffers.proofs.Kept.{are_started, are_moved, are_assigned, are_marked, are_cleaned, are_unmarked, are_unassigned}
 use Rattle.block_buffers.proofs.Slots.{slot_once}
 use Rattle.block_buffers.proofs.laws.four_buffers_law.Goals as goal
 
@@ -19,6 +19,9 @@ returns-clause-marked c = are_marked
 
 pub returns-clause-cleaned : goal.returns-clause-cleaned
 returns-clause-cleaned c = λ b slot. are_cleaned slot b
+
+pub returns-clause-unmarked : goal.returns-clause-unmarked
+returns-clause-unmarked c = λ b u. are_unmarked u b
 
 pub returns-clause-unassigned : goal.returns-clause-unassigned
 returns-clause-unassigned c = are_unassigned

@@ -1,4 +1,4 @@
-use Rattle.block_buffers.proofs.Blocks.{blocks_started, blocks_assigned, blocks_marked, blocks_cleaned, blocks_unassigned}
+use Rattle.block_buffers.proofs.Blocks.{blocks_started, blocks_assigned, blocks_marked, blocks_cleaned, blocks_unmarked, blocks_unassigned}
 use Rattle.block_buffers.proofs.Kept.{blocks_moved}
 use Rattle.block_buffers.proofs.laws.no_block_twice_law.Goals as goal
 
@@ -16,6 +16,9 @@ returns-clause-marked c = blocks_marked
 
 pub returns-clause-cleaned : goal.returns-clause-cleaned
 returns-clause-cleaned c = λ b slot. blocks_cleaned slot b
+
+pub returns-clause-unmarked : goal.returns-clause-unmarked
+returns-clause-unmarked c = λ b u. blocks_unmarked u b
 
 pub returns-clause-unassigned : goal.returns-clause-unassigned
 returns-clause-unassigned c = blocks_unassigned

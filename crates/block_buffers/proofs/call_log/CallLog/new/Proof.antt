@@ -1,4 +1,4 @@
--- `zero` makes the empty struct, with the number that its clause names.
+-- `new` makes the empty struct, with the list that its clause names.
 use mathlib.Core.Path.{refl}
 use mathlib.Core.List.{[], ◌∷◌}
 use seplogic.Ra.Ura.{Ura}
@@ -21,11 +21,11 @@ use denote.Triple.Entry.{on_entry, alive}
 use denote.Triple.Spec.{Meets, triple_of}
 use denote.Triple.Table.{entered}
 use denote.Triple.Walked.{says, Stays, walk_of, Walks, ends_at, walked, walk_Meets}
-use Rattle.block_buffers.specs.contracts.counts.Count.zero.Key.{name as key}
-use Rattle.block_buffers.specs.contracts.counts.Count.zero as f
-use Rattle.block_buffers.proofs.counts.Count.zero.Statement as stated
-use Rattle.block_buffers.proofs.counts.Count.zero.Code as code
-use Rattle.block_buffers.specs.contracts.counts.Count as made
+use Rattle.block_buffers.specs.contracts.call_log.CallLog.new.Key.{name as key}
+use Rattle.block_buffers.specs.contracts.call_log.CallLog.new as f
+use Rattle.block_buffers.proofs.call_log.CallLog.new.Statement as stated
+use Rattle.block_buffers.proofs.call_log.CallLog.new.Code as code
+use Rattle.block_buffers.specs.contracts.call_log.CallLog as made
 
 abbrev stayed : Stays (f.ended).signature.params (f.ended).kept
 stayed = tt
@@ -41,8 +41,8 @@ module _ {M : Type 1} {𝓤 : Ura M} (𝓛 : Logic 𝓤) (mem : Memory → SProp
       qed 𝓛 (raw (alive 𝓛 f.signature tt tt) ∷ ‵ (owns [] tt tt) ∷ []) ∵ enter ! C Λ code.function [] _ $
       alloc_all ! (λ l. pass_all ! refl tt $ sets ! (agg ! (no_more !)) refl (tt, tt) $
       returns ! (look_at ! 0 refl) $ free_all ! refl $
-      suffices ! _ (ends_at 𝓛 f.ended stayed (f.clauses 𝓛 mem run) bound (vstruct vnil) (record { times = 0 }) tt tt) $
-      says ! refl $ pure_i ! (made.the_row.own_val (record { times = 0 }) (vstruct vnil ∷ [])) ((λ vss. (tt, tt)), tt) ((tt, (refl, tt)), tt) $
+      suffices ! _ (ends_at 𝓛 f.ended stayed (f.clauses 𝓛 mem run) bound (vstruct vnil) (record { calls = [] }) tt tt) $
+      says ! refl $ pure_i ! (made.the_row.own_val (record { calls = [] }) (vstruct vnil ∷ [])) ((λ vss. (tt, tt)), tt) ((tt, (refl, tt)), tt) $
       move ! (1 ∷ 2 ∷ 0 ∷ []) $ done !)
 
   walks : Walks 𝓛 f.ended stayed (WpFn 𝓤 H C Λ code.function) (f.clauses 𝓛 mem run)
@@ -56,9 +56,9 @@ meets {𝓤 = 𝓤} 𝓛 mem run 𝓣 =
     walk_Meets 𝓛 f.ended stayed tt (f.clauses 𝓛 mem run) (WpFn 𝓤 𝓛.H 𝓣.C 𝓣.Λ code.function)
     (WpFn-mono 𝓤 𝓛.H 𝓛.laws 𝓣 code.function) (walks 𝓛 mem run 𝓣.C 𝓣.Λ)
 
-pub zero_spec : {M : Type 1} → stated.statement M
+pub new_spec : {M : Type 1} → stated.statement M
 unfolding tables_of
-zero_spec 𝓤 𝓛 𝓜 𝓡 wired =
+new_spec 𝓤 𝓛 𝓜 𝓡 wired =
     entered 𝓤 𝓛.H (triple_of 𝓛 f.signature (f.spec 𝓛 𝓜.mem 𝓡.returns))
     (tables 𝓤 𝓛.H 𝓜 𝓡 𝓡.env).C (tables 𝓤 𝓛.H 𝓜 𝓡 𝓡.env).Λ key code.function (code.unfolded 𝓤 𝓛.H 𝓜 𝓡 wired)
     (meets 𝓛 𝓜.mem 𝓡.returns (tables_of 𝓤 𝓛.H 𝓜 (tables 𝓤 𝓛.H 𝓜 𝓡 𝓡.env)))

@@ -1,5 +1,5 @@
--- `next` makes the empty struct, with the number that its clause names.
-use Rattle.std.proofs.Common.{◌+◌}
+-- `succeeded` makes the empty struct, with the list that its clause names.
+use Rattle.std.specs.Prelude.{◌++◌, false}
 use mathlib.Core.Path.{refl}
 use mathlib.Core.List.{[], ◌∷◌}
 use seplogic.Ra.Ura.{Ura}
@@ -28,11 +28,11 @@ use denote.Triple.Entry.{on_entry, alive, Args}
 use denote.Triple.Spec.{Meets, triple_of}
 use denote.Triple.Table.{entered}
 use denote.Triple.Walked.{says, stay_none_ref, Stays, walk_of, Walks, ends_at, walked, Goes-none_ref, walk_Meets}
-use Rattle.block_buffers.specs.contracts.counts.Count.next.Key.{name as key}
-use Rattle.block_buffers.specs.contracts.counts.Count.next as f
-use Rattle.block_buffers.proofs.counts.Count.next.Statement as stated
-use Rattle.block_buffers.proofs.counts.Count.next.Code as code
-use Rattle.block_buffers.specs.contracts.counts.Count as trail
+use Rattle.block_buffers.specs.contracts.call_log.CallLog.succeeded.Key.{name as key}
+use Rattle.block_buffers.specs.contracts.call_log.CallLog.succeeded as f
+use Rattle.block_buffers.proofs.call_log.CallLog.succeeded.Statement as stated
+use Rattle.block_buffers.proofs.call_log.CallLog.succeeded.Code as code
+use Rattle.block_buffers.specs.contracts.call_log.CallLog as trail
 
 abbrev stayed : Stays (f.ended).signature.params (f.ended).kept
 stayed = (stay_none_ref (0 ∷ []) tt (plain (λ _. trail.the_row)) yes, tt)
@@ -56,8 +56,8 @@ module _ {M : Type 1} {𝓤 : Ura M} (𝓛 : Logic 𝓤) (mem : Memory → SProp
         qed 𝓛 (raw (alive 𝓛 f.signature κs qs) ∷ ‵ passed ∷ []) ∵ enter ! C Λ code.function (before ∷ []) _ $
         alloc_all ! (λ l. pass_all ! refl ((tt, tt), tt) $ sets ! (agg ! (no_more !)) refl (tt, tt) $
         returns ! (look_at ! 0 refl) $ free_all ! refl $
-        suffices ! _ (ends_at 𝓛 f.ended stayed (f.clauses 𝓛 mem run) bound (vstruct vnil) (record { times = a.0.now.times + 1 }) (tt, tt) (tt, tt)) $
-        says ! refl $ pure_i ! (trail.the_row.own_val (record { times = a.0.now.times + 1 }) (vstruct vnil ∷ [])) ((λ vss. (tt, tt)), tt) ((tt, (refl, tt)), tt) $
+        suffices ! _ (ends_at 𝓛 f.ended stayed (f.clauses 𝓛 mem run) bound (vstruct vnil) (record { calls = a.0.now.calls ++ (false ∷ []) }) (tt, tt) (tt, tt)) $
+        says ! refl $ pure_i ! (trail.the_row.own_val (record { calls = a.0.now.calls ++ (false ∷ []) }) (vstruct vnil ∷ [])) ((λ vss. (tt, tt)), tt) ((tt, (refl, tt)), tt) $
         move ! (1 ∷ 2 ∷ 0 ∷ []) $ done !)
 
   walks : Walks 𝓛 f.ended stayed (WpFn 𝓤 H C Λ code.function) (f.clauses 𝓛 mem run)
@@ -72,9 +72,9 @@ meets {𝓤 = 𝓤} 𝓛 mem run 𝓣 =
     walk_Meets 𝓛 f.ended stayed (Goes-none_ref 𝓛 1 (0 ∷ []) tt (plain (λ _. trail.the_row)) yes, tt) (f.clauses 𝓛 mem run) (WpFn 𝓤 𝓛.H 𝓣.C 𝓣.Λ code.function)
     (WpFn-mono 𝓤 𝓛.H 𝓛.laws 𝓣 code.function) (walks 𝓛 mem run 𝓣.C 𝓣.Λ)
 
-pub next_spec : {M : Type 1} → stated.statement M
+pub succeeded_spec : {M : Type 1} → stated.statement M
 unfolding tables_of
-next_spec 𝓤 𝓛 𝓜 𝓡 wired =
+succeeded_spec 𝓤 𝓛 𝓜 𝓡 wired =
     entered 𝓤 𝓛.H (triple_of 𝓛 f.signature (f.spec 𝓛 𝓜.mem 𝓡.returns))
     (tables 𝓤 𝓛.H 𝓜 𝓡 𝓡.env).C (tables 𝓤 𝓛.H 𝓜 𝓡 𝓡.env).Λ key code.function (code.unfolded 𝓤 𝓛.H 𝓜 𝓡 wired)
     (meets 𝓛 𝓜.mem 𝓡.returns (tables_of 𝓤 𝓛.H 𝓜 (tables 𝓤 𝓛.H 𝓜 𝓡 𝓡.env)))
