@@ -3,10 +3,12 @@ use Rattle.std.proofs.Common.{◌≡◌, ◌⊎◌, ℕ, ◌+◌, Bool, true, fa
 use Rattle.std.specs.Io.KnownBytes.{Keeps}
 use Rattle.block_buffers.specs.Disks.{Disk}
 use Rattle.inner_interpreter.specs.declared.act.Cause.{Cause}
+use Rattle.inner_interpreter.specs.declared.act.Cause.TheVariants as causes
 use Rattle.inner_interpreter.specs.declared.stop.Stop.{Stop}
 use Rattle.inner_interpreter.specs.declared.stop.Stop.TheVariants as stop
 use Rattle.inner_interpreter.specs.State.{State}
 use Rattle.inner_interpreter.specs.Runs.{World, rounds, stop_by, stop_of}
+use Rattle.inner_interpreter.specs.Served.{is_input_fault}
 use Rattle.inner_interpreter.specs.Worlds.{IsAt, IsFaulted, Ends, EndsCut, EndsFaulted, Made, MadeCut}
 use Rattle.inner_interpreter.proofs.Running.{kept_at, kept_cut}
 use Rattle.inner_interpreter.proofs.Stretches.{rounds_add}
@@ -68,3 +70,20 @@ rounds_faulted w s s' unread disk disk' sent sent' left step made = record { cou
 pub done_so : (r s : Stop) (failed before : Bool) (P : Stop → Type 0) → ((r ≡ s) × (failed ≡ before)) ⊎ ((r ≡ stop.OutputFault) × (failed ≡ true)) → failed ≡ false → P s → P r
 done_so r s failed before P (inl h) f p = rw (h.0) p
 done_so r s failed before P (inr h) f p = absurd (let g : failed ≡ true = h.1 in cc)
+
+-- a halted machine doesn't stop for want of ticks
+pub not_limit : (c : Cause) (s r : Stop) (failed before : Bool) → s ≡ stop_of c → ((r ≡ s) × (failed ≡ before)) ⊎ ((r ≡ stop.OutputFault) × (failed ≡ true)) → r ≡ stop.Limit → ⊥
+not_limit causes.Bye s r failed before e (inl h) q = let no : stop.Bye ≡ stop.Limit = sym e ∙ sym h.0 ∙ q in cc
+not_limit causes.InputEnded s r failed before e (inl h) q = let no : stop.InputEnded ≡ stop.Limit = sym e ∙ sym h.0 ∙ q in cc
+not_limit causes.InputFault s r failed before e (inl h) q = let no : stop.InputFault ≡ stop.Limit = sym e ∙ sym h.0 ∙ q in cc
+not_limit (causes.Fault f) s r failed before e (inl h) q = let no : stop.Fault f ≡ stop.Limit = sym e ∙ sym h.0 ∙ q in cc
+not_limit c s r failed before e (inr h) q = let no : stop.OutputFault ≡ stop.Limit = sym h.0 ∙ q in cc
+
+-- a machine that halted for another cause doesn't stop for a failed reader
+pub not_input_fault : (c : Cause) (h : Option Cause) (s r : Stop) (failed before : Bool) → is_input_fault h ≡ false → h ≡ Some c → s ≡ stop_of c → ((r ≡ s) × (failed ≡ before)) ⊎ ((r ≡ stop.OutputFault) × (failed ≡ true)) → r ≡ stop.InputFault → ⊥
+unfolding is_input_fault
+not_input_fault causes.Bye h s r failed before n k e (inl d) q = let no : stop.Bye ≡ stop.InputFault = sym e ∙ sym d.0 ∙ q in cc
+not_input_fault causes.InputEnded h s r failed before n k e (inl d) q = let no : stop.InputEnded ≡ stop.InputFault = sym e ∙ sym d.0 ∙ q in cc
+not_input_fault causes.InputFault h s r failed before n k e (inl d) q = let no : true ≡ false = sym (ap is_input_fault k) ∙ n in cc
+not_input_fault (causes.Fault f) h s r failed before n k e (inl d) q = let no : stop.Fault f ≡ stop.InputFault = sym e ∙ sym d.0 ∙ q in cc
+not_input_fault c h s r failed before n k e (inr d) q = let no : stop.OutputFault ≡ stop.InputFault = sym d.0 ∙ q in cc

@@ -37,10 +37,10 @@ answered_none s p answering.ReadFault = fault_none s _ 9
 answered_none s p answering.WriteOk = refl
 answered_none s p answering.WriteFault = fault_none s _ 10
 
-answer_none : (s : State) (reply : Reply) → (answer_of s reply).0.wait ≡ None
+pub answer_none : (s : State) (reply : Reply) → (answer_of s reply).0.wait ≡ None
 answer_none s reply = by_answer IsFree s reply (λ p q. answered_none s.parts p reply) (λ q. q)
 
-one_waits : (o : Option (Request × ℕ)) → waiting o ≤ 1
+pub one_waits : (o : Option (Request × ℕ)) → waiting o ≤ 1
 one_waits None = omega arith
 one_waits (Some p) = omega arith
 

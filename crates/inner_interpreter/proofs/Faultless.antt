@@ -1,5 +1,5 @@
 -- The written rounds tell no machine of a failed reader.
-use Rattle.std.proofs.Common.{◌≡◌, ◌≢◌, ℕ, zero, suc, ◌==◌, ◌∷◌, [], List, length, nat_lt, Option, Some, None, Bool, true, false, refl, if◌then◌else◌}
+use Rattle.std.proofs.Common.{◌≡◌, ◌≢◌, ℕ, zero, suc, ◌+◌, ◌==◌, ◌∷◌, [], List, length, nat_lt, Option, Some, None, Bool, true, false, Result, Ok, Err, IsOkAnd, IsErrOf, refl, ap, sym, subst, ◌∙◌, if◌then◌else◌}
 use Rattle.block_buffers.specs.Disks.{Disk, succeeds}
 use Rattle.memory.specs.Bytes.{cell}
 use Rattle.memory.specs.declared.system.TheConstants.{FAULT}
@@ -8,22 +8,35 @@ use Rattle.plain_rows.specs.Row.{After}
 use Rattle.plain_rows.specs.declared.parts.Outcome.TheVariants.{Done, Show, Byte as ByteOut, Ask as AskOut, Fault as FaultOut, Abort, Halt as HaltOut}
 use Rattle.plain_rows.specs.declared.parts.Request.{Request}
 use Rattle.plain_rows.specs.declared.parts.Request.TheVariants as request
+use Rattle.inner_interpreter.specs.declared.act.Act.{Act}
 use Rattle.inner_interpreter.specs.declared.act.Cause.{Cause}
 use Rattle.inner_interpreter.specs.declared.act.Cause.TheVariants as cause
+use Rattle.inner_interpreter.specs.declared.act.Refused.{Refused}
+use Rattle.inner_interpreter.specs.declared.act.Refused.TheVariants.{NotAsked}
 use Rattle.inner_interpreter.specs.declared.act.Shown.{Shown}
 use Rattle.inner_interpreter.specs.declared.stop.Stop.{Stop}
 use Rattle.inner_interpreter.specs.declared.stop.Stop.TheVariants as stop
 use Rattle.inner_interpreter.specs.State.{State}
-use Rattle.inner_interpreter.specs.Tick.{taken, executed, fault, concluded, ticked}
+use Rattle.inner_interpreter.specs.Tick.{taken, executed, fault, concluded, ticked, ran, is_quiet}
 use Rattle.inner_interpreter.specs.Answer as answering
-use Rattle.inner_interpreter.specs.Answer.{Reply, asked_by, answered, answer_of, key_answered, line_answered, read_answered, write_answered}
+use Rattle.inner_interpreter.specs.Answer.{Reply, asked_by, fits, answered, answer_of, key_answered, line_answered, read_answered, write_answered}
 use Rattle.inner_interpreter.specs.Lines.{line_of, line_reply}
+use Rattle.inner_interpreter.specs.Served.{is_input_fault, HasNotFailed}
 use Rattle.inner_interpreter.specs.Runs.{World, Served, served, round_by, round, rounds, stops, stop_by, next_by}
+use Rattle.inner_interpreter.specs.Worlds.{stretch}
 use Rattle.inner_interpreter.proofs.Shapes.{either, by_answer}
 
 -- it did not halt for a failed reader
 abbrev HasRead : State → Type 0
 HasRead s = s.halt ≢ Some cause.InputFault
+
+as_test : (c : Option Cause) → c ≢ Some cause.InputFault → is_input_fault c ≡ false
+unfolding is_input_fault
+as_test (Some cause.InputFault) h = absurd (h refl)
+as_test (Some cause.Bye) h = refl
+as_test (Some cause.InputEnded) h = refl
+as_test (Some (cause.Fault f)) h = refl
+as_test None h = refl
 
 fault_read : (s : Whole) (shown : Shown) (f : ℕ) → HasRead (fault s shown f).0
 unfolding fault
@@ -54,14 +67,58 @@ answered_read s p answering.ReadFault n = fault_read s _ 9
 answered_read s p answering.WriteOk n = λ q. cc
 answered_read s p answering.WriteFault n = fault_read s _ 10
 
-answer_read : (s : State) (reply : Reply) → HasRead s → reply ≢ answering.InputFault → HasRead (answer_of s reply).0
+pub answer_read : (s : State) (reply : Reply) → HasRead s → reply ≢ answering.InputFault → HasRead (answer_of s reply).0
 answer_read s reply h n = by_answer HasRead s reply (λ p q. answered_read s.parts p reply n) (λ q. h)
+
+-- whether a reply tells of a failed reader
+abbrev pub tells_fault : Reply → Bool
+tells_fault answering.InputFault = true
+tells_fault _ = false
+
+not_told : (reply : Reply) → tells_fault reply ≡ false → reply ≢ answering.InputFault
+not_told reply h q = let no : tells_fault reply ≡ true = ap tells_fault q in cc
+
+pub told_read : (old new : State) (act : Act) (reply : Reply) → old.halt ≡ None → (new, act) ≡ answer_of old reply → tells_fault reply ≡ false → HasNotFailed new
+told_read old new act reply h q k =
+    let goes : HasRead old = λ r. let no : Some cause.InputFault ≡ None = sym r ∙ h in cc in
+    let same : new ≡ (answer_of old reply).0 = ap (λ (t : State × Act). t.0) q in
+    subst HasNotFailed (sym same) (as_test (answer_of old reply).0.halt (answer_read old reply goes (not_told reply k)))
+
+-- an answer that was taken, and tells of no failed reader
+pub told_ok : (old new : State) (reply : Reply) (r : Result Act Refused) (x : Act) → old.halt ≡ None
+    → (old.halt ≡ None → fits (asked_by old.wait) reply ≡ true → IsOkAnd r (λ act. (new, act) ≡ answer_of old reply))
+    → (old.halt ≡ None → fits (asked_by old.wait) reply ≡ false → IsErrOf r NotAsked)
+    → r ≡ Ok x → tells_fault reply ≡ false → HasNotFailed new
+told_ok old new reply r x h done refused e k = by_fits (fits (asked_by old.wait) reply) refl where
+  taken_so : (r : Result Act Refused) → IsOkAnd r (λ act. (new, act) ≡ answer_of old reply) → HasNotFailed new
+  taken_so (Ok act) q = told_read old new act reply h q k
+  taken_so (Err refusal) q = absurd q
+
+  not_err : (r : Result Act Refused) → r ≡ Ok x → IsErrOf r NotAsked → HasNotFailed new
+  not_err (Ok act) q n = cc
+  not_err (Err refusal) q n = cc
+
+  by_fits : (b : Bool) → fits (asked_by old.wait) reply ≡ b → HasNotFailed new
+  by_fits true q = taken_so r (done h q)
+  by_fits false q = not_err r e (refused h q)
 
 -- a line that was typed is no failure
 line_is_typed : (bytes : List ℕ) (returned : Bool) → line_reply bytes returned ≢ answering.InputFault
 line_is_typed [] false q = cc
 line_is_typed [] true q = cc
 line_is_typed (c ∷ bytes) returned q = cc
+
+ran_read : (n k : ℕ) (s : Whole) → HasRead (ran k n s).1
+unfolding ran
+ran_read zero k s = λ q. cc
+ran_read (suc n) k s = by_quiet (is_quiet (ticked s).1) (ran_read n (k + 1) (ticked s).0.parts) where
+  by_quiet : (b : Bool) → HasRead (ran (k + 1) n (ticked s).0.parts).1
+      → HasRead (if b then ran (k + 1) n (ticked s).0.parts else (k + 1, (ticked s).0, (ticked s).1)).1
+  by_quiet true rest = rest
+  by_quiet false rest = ticked_read s
+
+pub stretch_read : (n : ℕ) (s t : State) → t ≡ (stretch n s).1 → HasNotFailed t
+stretch_read n s t e = rw e (as_test (stretch n s).1.halt (ran_read n 0 s.parts))
 
 read_reply : (b : Bool) (page : List ℕ) → (if b then answering.ReadOk page else answering.ReadFault) ≢ answering.InputFault
 read_reply true page q = cc

@@ -13,3 +13,4 @@ pub mod Orderly
 pub mod Requested
 pub mod Ending
 pub mod Faultless
+pub mod Hosting

@@ -1,12 +1,26 @@
 -- Moves that were made.
-use Rattle.std.proofs.Common.{◌≡◌, ℕ, zero, suc, ◌+◌, ◌-◌, List, [], ◌∷◌, ◌++◌, Bool, true, false, refl, sym, ap, ◌∙◌, arith}
+use Rattle.std.proofs.Common.{◌≡◌, ℕ, zero, suc, ◌+◌, ◌-◌, ◌≤◌, List, [], ◌∷◌, ◌++◌, Option, Some, None, Bool, true, false, not, refl, sym, ap, subst, ◌∙◌, arith, append-nil, append_assoc, if◌then◌else◌}
+use Rattle.std.proofs.lemmas.List.Sums.{sum_by-cons, sum_by-append}
 use Rattle.plain_rows.specs.Whole.{Whole}
+use Rattle.plain_rows.specs.declared.parts.Request.{Request}
+use Rattle.inner_interpreter.specs.declared.stop.Stop.{Stop}
+use Rattle.inner_interpreter.specs.declared.stop.Stop.TheVariants.{Limit}
 use Rattle.inner_interpreter.specs.State.{State}
 use Rattle.inner_interpreter.specs.Tick.{ran, ticked, is_quiet, running}
-use Rattle.inner_interpreter.specs.Moves.{Turn, Tick, Answer, after, turned, AreAccepted, device_faults, HasMoved}
+use Rattle.inner_interpreter.specs.Answer.{Reply, fits, asked_by}
+use Rattle.inner_interpreter.specs.Moves.{Turn, Tick, Answer, after, turned, AreAccepted, device_call, device_calls, is_tick, ticks_in, answers_in, HasMoved, HasRun}
 use Rattle.inner_interpreter.specs.Served.{HasAnswered}
+use Rattle.inner_interpreter.specs.Worlds.{waiting}
+use Rattle.inner_interpreter.proofs.Ending.{answer_none, one_waits}
 use Rattle.inner_interpreter.proofs.Quiet.{ticked_runs}
 use Rattle.inner_interpreter.proofs.Ran.{ran_quiet, ran_loud}
+
+-- an answer fits only where a request stands
+asked_waits : (s : State) (reply : Reply) → fits (asked_by s.wait) reply ≡ true → waiting s.wait ≡ 1
+asked_waits s reply h = by_wait s.wait h where
+  by_wait : (o : Option (Request × ℕ)) → fits (asked_by o) reply ≡ true → waiting o ≡ 1
+  by_wait None q = cc
+  by_wait (Some p) q = refl
 
 after-append : (ts us : List Turn) (s : State) → after s (ts ++ us) ≡ after (after s ts) us
 unfolding after
@@ -18,45 +32,101 @@ unfolding after AreAccepted
 accepted-append [] us s h k = k
 accepted-append (t ∷ ts) us s h k = (h.0, accepted-append ts us (turned s t) h.1 k)
 
-device_faults-append : (ts us : List Turn) → device_faults (ts ++ us) ≡ device_faults ts + device_faults us
-unfolding device_faults
-device_faults-append [] us = omega arith
-device_faults-append (t ∷ ts) us = let e : device_faults (ts ++ us) ≡ device_faults ts + device_faults us = device_faults-append ts us in omega arith
+device_calls-append : (ts us : List Turn) → device_calls (ts ++ us) ≡ device_calls ts ++ device_calls us
+unfolding device_calls
+device_calls-append [] us = refl
+device_calls-append (t ∷ ts) us = ap (λ cs. device_call t ++ cs) (device_calls-append ts us) ∙ sym (append_assoc (device_call t) (device_calls ts) (device_calls us))
 
-pub moved_none : (s : State) (f : ℕ) → HasMoved s s f f
-unfolding after device_faults AreAccepted
-moved_none s f = record { turns = []; accepted = tt; state_is = refl; faults_are = omega arith }
+pub moved_none : (s : State) (c : List Bool) → HasMoved s s c c 0
+unfolding after device_calls AreAccepted
+moved_none s c = record { turns = []; accepted = tt; state_is = refl; calls_are = sym (append-nil c); ticks_are = refl }
 
-pub moved_add : (a b c : State) (f g h : ℕ) → HasMoved a b f g → HasMoved b c g h → HasMoved a c f h
-moved_add a b c f g h x y = record {
+pub moved_add : (a b c : State) (f g h : List Bool) (m n : ℕ) → HasMoved a b f g m → HasMoved b c g h n → HasMoved a c f h (m + n)
+moved_add a b c f g h m n x y = record {
   turns = x.turns ++ y.turns;
   accepted = accepted-append x.turns y.turns a x.accepted (rw (← x.state_is) y.accepted);
   state_is = y.state_is ∙ ap (λ s. after s y.turns) x.state_is ∙ sym (after-append x.turns y.turns a);
-  faults_are = omega (arith, device_faults-append x.turns y.turns, x.faults_are, y.faults_are);
+  calls_are = y.calls_are ∙ ap (λ cs. cs ++ device_calls y.turns) x.calls_are ∙ append_assoc f (device_calls x.turns) (device_calls y.turns) ∙ ap (λ cs. f ++ cs) (sym (device_calls-append x.turns y.turns));
+  ticks_are = sum_by-append (λ t. if is_tick t then 1 else 0) x.turns y.turns ∙ omega (arith, x.ticks_are, y.ticks_are);
 }
 
-pub moved_answer : (a b : State) (f g : ℕ) → HasAnswered a b f g → HasMoved a b f g
-unfolding after device_faults AreAccepted
-moved_answer a b f g x = record { turns = Answer x.reply ∷ []; accepted = (x.fits_so, tt); state_is = x.state_is; faults_are = omega (arith, x.faults_are) }
+pub moved_answer : (a b : State) (f g : List Bool) → HasAnswered a b f g → HasMoved a b f g 0
+unfolding after device_calls AreAccepted
+moved_answer a b f g x = record {
+  turns = Answer x.reply ∷ [];
+  accepted = (x.accepted, tt);
+  state_is = x.state_is;
+  calls_are = x.calls_are ∙ ap (λ cs. f ++ cs) (sym (append-nil (device_call (Answer x.reply))));
+  ticks_are = refl;
+}
 
-moved_tick : (p : Whole) (f : ℕ) → HasMoved (running p) (ticked p).0 f f
-unfolding after device_faults AreAccepted
-moved_tick p f = record { turns = Tick ∷ []; accepted = ((refl, refl), tt); state_is = refl; faults_are = omega arith }
+moved_tick : (p : Whole) (c : List Bool) → HasMoved (running p) (ticked p).0 c c 1
+unfolding after device_calls AreAccepted
+moved_tick p c = record { turns = Tick ∷ []; accepted = ((refl, refl), tt); state_is = refl; calls_are = sym (append-nil c); ticks_are = refl }
 
-by_tick : (n k : ℕ) (p : Whole) (f : ℕ) → HasMoved (running (ticked p).0.parts) (ran (k + 1) n (ticked p).0.parts).1 f f
-    → (b : Bool) → is_quiet (ticked p).1 ≡ b → HasMoved (running p) (ran k (suc n) p).1 f f
-by_tick n k p f more false q = rw (ran_loud k (suc n) p (omega arith) q) (moved_tick p f)
-by_tick n k p f more true q =
+-- n ticks, which k more make m
+record RanSo (n k : ℕ) (p : Whole) (c : List Bool) : Type 0 where
+  ticks : ℕ
+  count : (ran k n p).0 ≡ k + ticks
+  moved : HasMoved (running p) (ran k n p).1 c c ticks
+
+by_tick : (n k : ℕ) (p : Whole) (c : List Bool) → RanSo n (k + 1) (ticked p).0.parts c
+    → (b : Bool) → is_quiet (ticked p).1 ≡ b → RanSo (suc n) k p c
+by_tick n k p c more false q =
+    let loud : ran k (suc n) p ≡ (k + 1, (ticked p).0, (ticked p).1) = ran_loud k (suc n) p (omega arith) q in
+    record { ticks = 1; count = ap (λ r. r.0) loud; moved = rw loud (moved_tick p c) }
+by_tick n k p c more true q =
     let less : suc n - 1 ≡ n = omega arith in
     let same : ran k (suc n) p ≡ ran (k + 1) n (ticked p).0.parts = ran_quiet k (suc n) p (omega arith) q ∙ ap (λ i. ran (k + 1) i (ticked p).0.parts) less in
     let runs : (ticked p).0 ≡ running (ticked p).0.parts = ticked_runs p q in
-    let first : HasMoved (running p) (running (ticked p).0.parts) f f = rw (← runs) (moved_tick p f) in
-    rw same (moved_add (running p) (running (ticked p).0.parts) (ran (k + 1) n (ticked p).0.parts).1 f f f first more)
+    let first : HasMoved (running p) (running (ticked p).0.parts) c c 1 = rw (← runs) (moved_tick p c) in
+    record {
+      ticks = 1 + more.ticks;
+      count = ap (λ r. r.0) same ∙ more.count ∙ omega arith;
+      moved = rw same (moved_add (running p) (running (ticked p).0.parts) (ran (k + 1) n (ticked p).0.parts).1 c c c 1 more.ticks first more.moved);
+    }
 
-moved_ran : (n k : ℕ) (p : Whole) (f : ℕ) → HasMoved (running p) (ran k n p).1 f f
+ran_so : (n k : ℕ) (p : Whole) (c : List Bool) → RanSo n k p c
 unfolding ran
-moved_ran zero k p f = moved_none (running p) f
-moved_ran (suc n) k p f = by_tick n k p f (moved_ran n (k + 1) (ticked p).0.parts f) (is_quiet (ticked p).1) refl
+ran_so zero k p c = record { ticks = 0; count = omega arith; moved = moved_none (running p) c }
+ran_so (suc n) k p c = by_tick n k p c (ran_so n (k + 1) (ticked p).0.parts c) (is_quiet (ticked p).1) refl
 
-pub moved_stretch : (n : ℕ) (s t : State) (f : ℕ) → s ≡ running s.parts → t ≡ (ran 0 n s.parts).1 → HasMoved s t f f
-moved_stretch n s t f e h = rw (e, h) (moved_ran n 0 s.parts f)
+-- a stretch of ticks, of which so many are left behind it
+pub moved_stretch : (n m : ℕ) (s t : State) (c : List Bool) → s ≡ running s.parts → t ≡ (ran 0 n s.parts).1 → m ≡ n - (ran 0 n s.parts).0 → (ran 0 n s.parts).0 ≤ n → HasMoved s t c c (n - m)
+moved_stretch n m s t c e h l most =
+    let r : RanSo n 0 s.parts c = ran_so n 0 s.parts c in
+    let same : n - m ≡ r.ticks = omega (arith, l, most, r.count) in
+    rw (e, h, same) r.moved
+
+-- where moves are accepted, no more answers are made than ticks, but one where a request stood
+pub few_answers : (ts : List Turn) (s : State) → AreAccepted s ts → answers_in ts + waiting (after s ts).wait ≤ ticks_in ts + waiting s.wait
+unfolding after AreAccepted
+few_answers [] s h = omega arith
+few_answers (Tick ∷ ts) s h =
+    let rest = few_answers ts (turned s Tick) h.1 in
+    let free : waiting s.wait ≡ 0 = ap waiting h.0.1 in
+    omega (arith, rest, free, one_waits (turned s Tick).wait, sum_by-cons (λ t. if is_tick t then 1 else 0) Tick ts, sum_by-cons (λ t. if not (is_tick t) then 1 else 0) Tick ts)
+few_answers (Answer reply ∷ ts) s h =
+    let rest = few_answers ts (turned s (Answer reply)) h.1 in
+    let free : waiting (turned s (Answer reply)).wait ≡ 0 = ap waiting (answer_none s reply) in
+    omega (arith, rest, free, asked_waits s reply h.0.2, sum_by-cons (λ t. if is_tick t then 1 else 0) (Answer reply) ts, sum_by-cons (λ t. if not (is_tick t) then 1 else 0) (Answer reply) ts)
+
+-- moves that are no ticks
+pub moved_still : (a b : State) (f g : List Bool) (left : ℕ) → HasMoved a b f g 0 → HasMoved a b f g (left - left)
+moved_still a b f g left h = let none : left - left ≡ 0 = omega arith in rw none h
+
+-- a run that goes on
+pub moved_on : (a b c : State) (f g h : List Bool) (limit left left' : ℕ) → left ≤ limit → left' ≤ left → HasMoved a b f g (limit - left) → HasMoved b c g h (left - left') → HasMoved a c f h (limit - left')
+moved_on a b c f g h limit left left' most fewer x y =
+    let sum : limit - left + (left - left') ≡ limit - left' = omega arith in
+    subst (λ n. HasMoved a c f h n) sum (moved_add a b c f g h (limit - left) (left - left') x y)
+
+-- a run that stopped
+pub has_run : (a b : State) (c d : List Bool) (limit left : ℕ) (stop : Stop) → left ≤ limit → (stop ≡ Limit → left ≡ 0) → HasMoved a b c d (limit - left) → HasRun a b c d limit stop
+has_run a b c d limit left stop most none moved = record {
+  ticks = limit - left;
+  few = omega arith;
+  all = λ q. omega (arith, none q, most);
+  moved = moved;
+  few_answers = omega (arith, few_answers moved.turns a moved.accepted, moved.ticks_are, one_waits a.wait);
+}

@@ -1,8 +1,8 @@
 -- The buffers of a machine stay in order.
 use Rattle.std.proofs.Common.{◌≡◌, ℕ, ◌==◌, ◌∷◌, length, nat_lt, Option, Some, None, true, false, refl, ap, sym, subst, ◌∙◌}
-use Rattle.block_buffers.specs.Entries.{holds, slot_of}
-use Rattle.block_buffers.proofs.Kept.{are_started, are_assigned, are_cleaned}
-use Rattle.block_buffers.proofs.Blocks.{blocks_started, blocks_assigned, blocks_cleaned}
+use Rattle.block_buffers.specs.Entries.{holds}
+use Rattle.block_buffers.proofs.Kept.{are_started, are_assigned, are_unmarked}
+use Rattle.block_buffers.proofs.Blocks.{blocks_started, blocks_assigned, blocks_unmarked}
 use Rattle.image_loader.specs.Files.{Contents}
 use Rattle.memory.specs.Bytes.{cell}
 use Rattle.memory.specs.declared.system.TheConstants.{FAULT}
@@ -16,7 +16,7 @@ use Rattle.plain_rows.proofs.Shapes.{by_if, by_room, by_room_r}
 use Rattle.primitives.specs.Table.{row}
 use Rattle.primitives.proofs.Behaves.{AreOrderly}
 use Rattle.primitives.proofs.Rows.{behaves_row}
-use Rattle.primitives.proofs.Requests.{absent_read}
+use Rattle.primitives.proofs.Requests.{absent_read, held_write}
 use Rattle.inner_interpreter.specs.declared.act.Cause.{Cause}
 use Rattle.inner_interpreter.specs.declared.act.Cause.TheVariants.{Bye, Fault as FaultCause, InputEnded, InputFault as InputFaulted}
 use Rattle.inner_interpreter.specs.declared.act.Shown.TheVariants.{Nothing}
@@ -31,25 +31,34 @@ use Rattle.inner_interpreter.proofs.Shapes.{either, by_answer, is_taken}
 
 -- a state that asks nothing
 unasked : (s : Whole) (c : Option Cause) → AreOrderly s.buffers → IsOrderly (record { parts = s; wait = None; halt = c })
-unasked s c h = record { buffers = h.buffers; once = h.once; absent = λ u w q. cc }
+unasked s c h = record { buffers = h.buffers; once = h.once; absent = λ u w q. cc; held = λ u w q. cc }
 
 faulted_orderly : (s : Whole) (shown : Shown) (f : ℕ) → AreOrderly s.buffers → IsOrderly (fault s shown f).0
 unfolding fault
 faulted_orderly s shown f h = either IsOrderly (cell s.memory FAULT == 0) _ _ (unasked (faulted s f) (Some (FaultCause f)) h) (unasked (faulted s f) None h)
 
-concluded_orderly : (w : ℕ) (x : After) → AreOrderly x.0.buffers → ((u : ℕ) → x.1 ≡ AskOut (request.Read u) → holds x.0.buffers u ≡ false) → IsOrderly (concluded w x).0
+-- no block is asked to be read that a buffer has
+abbrev ReadsAbsent : After → Type 0
+ReadsAbsent x = (u : ℕ) → x.1 ≡ AskOut (request.Read u) → holds x.0.buffers u ≡ false
+
+-- each block that is asked to be written is in a buffer
+abbrev WritesHeld : After → Type 0
+WritesHeld x = (u : ℕ) → x.1 ≡ AskOut (request.Write u) → holds x.0.buffers u ≡ true
+
+concluded_orderly : (w : ℕ) (x : After) → AreOrderly x.0.buffers → ReadsAbsent x → WritesHeld x → IsOrderly (concluded w x).0
 unfolding concluded
-concluded_orderly w (s, Done) h a = unasked s None h
-concluded_orderly w (s, Show span) h a = unasked s None h
-concluded_orderly w (s, ByteOut c) h a = unasked s None h
-concluded_orderly w (s, AskOut r) h a = record {
+concluded_orderly w (s, Done) h a k = unasked s None h
+concluded_orderly w (s, Show span) h a k = unasked s None h
+concluded_orderly w (s, ByteOut c) h a k = unasked s None h
+concluded_orderly w (s, AskOut r) h a k = record {
   buffers = h.buffers;
   once = h.once;
   absent = λ u v q. a u (ap (λ (o : Option (Request × ℕ)). AskOut (elim o [ Some p ↦ p.0 | None ↦ r ])) q);
+  held = λ u v q. k u (ap (λ (o : Option (Request × ℕ)). AskOut (elim o [ Some p ↦ p.0 | None ↦ r ])) q);
 }
-concluded_orderly w (s, FaultOut f) h a = faulted_orderly s Nothing f h
-concluded_orderly w (s, Abort span) h a = faulted_orderly s (shown_span span) 17 h
-concluded_orderly w (s, HaltOut) h a = unasked s (Some Bye) h
+concluded_orderly w (s, FaultOut f) h a k = faulted_orderly s Nothing f h
+concluded_orderly w (s, Abort span) h a k = faulted_orderly s (shown_span span) 17 h
+concluded_orderly w (s, HaltOut) h a k = unasked s (Some Bye) h
 
 thread_orderly : (c w : ℕ) (s : Whole) → AreOrderly s.buffers → AreOrderly (thread c w s).0.buffers
 thread_orderly c w s h = by_room P s _ _ h (by_room_r P s _ _ h h) where
@@ -61,10 +70,6 @@ unfolding executed
 executed_orderly w s h =
     let c : ℕ = cell s.memory w
     in by_if (λ x. AreOrderly x.0.buffers) (nat_lt c 256) _ _ ((behaves_row c w s).keeps h) (thread_orderly c w s h)
-
--- no block is asked to be read that a buffer has
-abbrev ReadsAbsent : After → Type 0
-ReadsAbsent x = (u : ℕ) → x.1 ≡ AskOut (request.Read u) → holds x.0.buffers u ≡ false
 
 thread_absent : (c w : ℕ) (s : Whole) → ReadsAbsent (thread c w s)
 thread_absent c w s = by_room ReadsAbsent s _ _ (λ u q. cc) (by_room_r ReadsAbsent s _ _ (λ u q. cc) (λ u q. cc))
@@ -78,6 +83,18 @@ executed_absent w s =
     let c : ℕ = cell s.memory w
     in by_if ReadsAbsent (nat_lt c 256) _ _ (row_absent c w s) (thread_absent c w s)
 
+thread_held : (c w : ℕ) (s : Whole) → WritesHeld (thread c w s)
+thread_held c w s = by_room WritesHeld s _ _ (λ u q. cc) (by_room_r WritesHeld s _ _ (λ u q. cc) (λ u q. cc))
+
+row_held : (c w : ℕ) (s : Whole) → AreOrderly s.buffers → WritesHeld (row c w s)
+row_held c w s h u q = held_write c w s (row c w s).0 u h (ap (λ (o : Outcome). ((row c w s).0, o)) q)
+
+executed_held : (w : ℕ) (s : Whole) → AreOrderly s.buffers → WritesHeld (executed w s)
+unfolding executed
+executed_held w s h =
+    let c : ℕ = cell s.memory w
+    in by_if WritesHeld (nat_lt c 256) _ _ (row_held c w s h) (thread_held c w s)
+
 taken_orderly : (s : Whole) → AreOrderly s.buffers → AreOrderly (taken s).1.buffers
 taken_orderly s h = subst AreOrderly (sym (is_taken s).buffers) h
 
@@ -86,6 +103,7 @@ unfolding ticked
 ticked_orderly s h =
     concluded_orderly (taken s).0 (executed (taken s).0 (taken s).1)
     (executed_orderly (taken s).0 (taken s).1 (taken_orderly s h)) (executed_absent (taken s).0 (taken s).1)
+    (executed_held (taken s).0 (taken s).1 (taken_orderly s h))
 
 answered_orderly : (s : Whole) (p : Request × ℕ) (reply : Reply) → AreOrderly s.buffers → ((u w : ℕ) → Some p ≡ Some (request.Read u, w) → holds s.buffers u ≡ false) → fits_request p.0 reply ≡ true → IsOrderly (answered s p reply).0
 unfolding answered key_answered line_answered read_answered write_answered
@@ -100,8 +118,8 @@ answered_orderly s (request.Read u, w) (answering.ReadOk page) h a f =
 answered_orderly s (request.Write u, w) (answering.ReadOk page) h a f = cc
 answered_orderly s p answering.ReadFault h a f = faulted_orderly s Nothing 9 h
 answered_orderly s p answering.WriteOk h a f =
-    let slot : ℕ = slot_of s.buffers (block_of p.0)
-    in unasked _ None (record { buffers = are_cleaned slot s.buffers h.buffers; once = blocks_cleaned slot s.buffers h.once })
+    let u : ℕ = block_of p.0
+    in unasked _ None (record { buffers = are_unmarked u s.buffers h.buffers; once = blocks_unmarked u s.buffers h.once })
 answered_orderly s p answering.WriteFault h a f = faulted_orderly s Nothing 10 h
 
 answer_orderly : (s : State) (reply : Reply) → fits (asked_by s.wait) reply ≡ true → IsOrderly s → IsOrderly (answer_of s reply).0
@@ -112,7 +130,7 @@ answer_orderly s reply f h =
 
 pub moved_orderly : (s : State) (t : Turn) → Accepts s t → IsOrderly s → IsOrderly (turned s t)
 moved_orderly s Tick a h = ticked_orderly s.parts (record { buffers = h.buffers; once = h.once })
-moved_orderly s (Answer reply) a h = answer_orderly s reply a h
+moved_orderly s (Answer reply) a h = answer_orderly s reply a.2 h
 
 pub start_orderly : (image : Contents) (block_count : ℕ) → IsOrderly (start image block_count)
 start_orderly image block_count = unasked _ None (record { buffers = are_started; once = blocks_started })

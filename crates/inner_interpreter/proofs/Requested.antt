@@ -23,7 +23,7 @@ use Rattle.primitives.proofs.Requests.{answered as buffers_answered, left, left_
 use Rattle.inner_interpreter.specs.declared.act.Shown.{Shown}
 use Rattle.inner_interpreter.specs.State.{State}
 use Rattle.inner_interpreter.specs.Tick.{taken, thread, executed, running, fault, concluded, ticked, Runs}
-use Rattle.inner_interpreter.specs.Answer.{fits, answered, answer_of, asked_by, read_answered, write_answered}
+use Rattle.inner_interpreter.specs.Answer.{fits, IsSpelled, answered, answer_of, asked_by, read_answered, write_answered}
 use Rattle.inner_interpreter.specs.Moves.{Tick, Answer, turned}
 use Rattle.inner_interpreter.specs.Requests.{IsOrderly, asks_device, ok_to, AreAsked, IsPage, token_of, IsBelowBuffers}
 use Rattle.inner_interpreter.proofs.Orderly.{moved_orderly}
@@ -151,6 +151,23 @@ ok_fits (Some (request.Line n)) page q = cc
 ok_fits (Some (request.Read u)) page q = refl
 ok_fits (Some (request.Write u)) page q = refl
 
+ok_spelled : (r : Option Request) (page : List ℕ) → IsPage page → IsSpelled (ok_to r page)
+ok_spelled None page h = h
+ok_spelled (Some request.Key) page h = h
+ok_spelled (Some (request.Line n)) page h = h
+ok_spelled (Some (request.Read u)) page h = h
+ok_spelled (Some (request.Write u)) page h = tt
+
+concluded_goes : (w : ℕ) (x : After) → device_asked x.1 ≡ true → (concluded w x).0.halt ≡ None
+unfolding concluded
+concluded_goes w (s, Done) q = cc
+concluded_goes w (s, Show span) q = cc
+concluded_goes w (s, ByteOut c) q = cc
+concluded_goes w (s, AskOut r) q = refl
+concluded_goes w (s, FaultOut f) q = cc
+concluded_goes w (s, Abort span) q = cc
+concluded_goes w (s, HaltOut) q = cc
+
 most : (pages : List (List ℕ)) (s : State) (n w : ℕ) → IsOrderly s → Runs s → length s.parts.memory ≡ 65536 → token_of s ≡ w → cell s.parts.memory w ≡ n → w + 2 ≤ 61440 → All IsPage pages → AreAsked s pages → length pages ≤ left n s.parts
 unfolding AreAsked ticked taken
 most [] s n w h runs l tok code below all asked = omega arith
@@ -162,9 +179,9 @@ most (page ∷ pages) s n w h runs l tok code below all asked =
     in let device : device_asked (executed v q).1 ≡ true = concluded_asks v (executed v q) asked.0
     in let next : State = running (behind v (executed v q) page)
     in let is_next : ok_state t page ≡ next = concluded_behind v (executed v q) page device
-    in let orderly : IsOrderly next = subst IsOrderly is_next (moved_orderly t (Answer (ok_to (asked_by t.wait) page)) (ok_fits (asked_by t.wait) page asked.0) (moved_orderly s Tick runs h))
+    in let orderly : IsOrderly next = subst IsOrderly is_next (moved_orderly t (Answer (ok_to (asked_by t.wait) page)) (concluded_goes v (executed v q) device, ok_spelled (asked_by t.wait) page (All-head IsPage page pages all), ok_fits (asked_by t.wait) page asked.0) (moved_orderly s Tick runs h))
     in let code_q : cell q.memory v ≡ n = ap (λ (m : List ℕ). cell m v) same.memory ∙ ap (λ (a : ℕ). cell s.parts.memory a) tok ∙ code
-    in let near : IsNearer n v q (behind v (executed v q) page) = nearer_token n v q page (record { buffers = subst AreBuffers (sym same.buffers) h.buffers; once = subst HasNoBlockTwice (sym same.buffers) h.once }) (ap length same.memory ∙ l) code_q (subst IsBelowBuffers (sym tok) below) (All-head IsPage page pages all) device
+    in let near : IsNearer n v q (behind v (executed v q) page) = nearer_token n v q page (record { buffers = subst AreBuffers (sym same.buffers) h.buffers; once = subst HasNoBlockTwice (sym same.buffers) h.once }) (ap length same.memory ∙ l) code_q (subst IsBelowBuffers (sym tok) below) (All-head IsPage page pages all).0 device
     in let rest : length pages ≤ left n next.parts = most pages next n v orderly (refl, refl) near.size refl near.code (subst IsBelowBuffers (sym tok) below) (All-tail IsPage page pages all) (subst (λ (x : State). AreAsked x pages) is_next asked.1)
     in omega (arith, rest, near.fewer, left_same n s.parts q same.memory same.values same.buffers)
 

@@ -12,7 +12,7 @@ use Rattle.inner_interpreter.specs.Sent.{AppendsPart, IsFront}
 use Rattle.inner_interpreter.specs.Runs.{World, round, round_by, rounds, answer_round, served}
 use Rattle.inner_interpreter.specs.Worlds.{IsAt, IsCut, IsFaulted, Made, MadeCut, stretch}
 use Rattle.inner_interpreter.proofs.Sending.{front_of}
-use Rattle.inner_interpreter.proofs.Stretches.{one_round, stretched, behind}
+use Rattle.inner_interpreter.proofs.Stretches.{one_round, runs_on, stretched, behind}
 
 pub asked_none : (wait : Option (Request × ℕ)) → asked_by wait ≡ None → wait ≡ None
 asked_none None e = refl
@@ -147,8 +147,9 @@ kept_at w s unread disk sent sent' left k at = record {
 }
 
 pub faulted_at : (w : World) (s s' : State) (unread : Option (List ℕ)) (disk disk' : Option Disk) (sent sent' : Option (List ℕ)) (left : ℕ)
-    → Faults s s' → disk' ≡ disk → sent' ≡ sent → IsAt w s unread disk sent left → IsFaulted w s' disk' sent'
-faulted_at w s s' unread disk disk' sent sent' left f d t at = record {
+    → s.halt ≡ None → 0 < left → Faults s s' → disk' ≡ disk → sent' ≡ sent → IsAt w s unread disk sent left → IsFaulted w s' disk' sent'
+faulted_at w s s' unread disk disk' sent sent' left halt some f d t at = record {
+  goes = runs_on w (ap (λ (v : State). v.halt) (sym at.state_is) ∙ halt) (omega (arith, at.left_is));
   asked = ap (λ (v : State). fits (asked_by v.wait) InputFault) (sym at.state_is) ∙ f.asked;
   state_is = f.state_is ∙ ap (λ v. (answer_of v InputFault).0) at.state_is;
   disk_is = d ∙ at.disk_is;

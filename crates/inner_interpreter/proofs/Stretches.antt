@@ -21,13 +21,16 @@ rounds_add (suc n) m w =
 goes_on : (left m : ℕ) → left ≡ suc m → stop_by None left ≡ None
 goes_on left m e = rw e refl
 
--- where the machine has not halted and ticks are left, a round is made
+-- where the machine has not halted and ticks are left, the run goes on
+pub runs_on : (w : World) → w.state.halt ≡ None → 0 < w.left → stops w ≡ None
+runs_on w h l =
+    let more : w.left ≡ suc (w.left - 1) = omega arith in
+    ap (λ o. stop_by o w.left) h ∙ goes_on w.left (w.left - 1) more
+
+-- and a round is made
 pub one_round : (w : World) → w.state.halt ≡ None → 0 < w.left → rounds 1 w ≡ round w
 unfolding rounds
-one_round w h l =
-    let more : w.left ≡ suc (w.left - 1) = omega arith in
-    let goes : stops w ≡ None = ap (λ o. stop_by o w.left) h ∙ goes_on w.left (w.left - 1) more in
-    ap (next_by w) goes
+one_round w h l = ap (next_by w) (runs_on w h l)
 
 pub round_tick : (w : World) → w.state.wait ≡ None → round w ≡ tick_round w
 unfolding round

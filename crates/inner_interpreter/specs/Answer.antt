@@ -1,7 +1,7 @@
 -- An answer to the request that stands.
-use Rattle.std.specs.Prelude.{ℕ, List, ◌∷◌, Option, Some, None, Bool, true, false, not, ◌&&◌, ◌||◌, ◌==◌, length, nat_lt, nat_le, slice_index, drop, if◌then◌else◌}
+use Rattle.std.specs.Prelude.{◌≡◌, ℕ, ◌<◌, All, List, ◌∷◌, Option, Some, None, Bool, true, false, not, ◌&&◌, ◌||◌, ◌==◌, length, nat_lt, nat_le, slice_index, drop, if◌then◌else◌}
 use Rattle.std.specs.List.{list_all}
-use Rattle.block_buffers.specs.Entries.{victim, assigned, cleaned, slot_of}
+use Rattle.block_buffers.specs.Entries.{victim, assigned, unmarked, slot_of}
 use Rattle.memory.specs.Bytes.{put_cell, put_bytes, page, with_page}
 use Rattle.memory.specs.declared.system.TheConstants.{SPAN}
 use Rattle.plain_rows.specs.Whole.{Whole}
@@ -38,6 +38,13 @@ seen (answer.ReadOk page) = ReadOk page.now
 seen answer.ReadFault = ReadFault
 seen answer.WriteOk = WriteOk
 seen answer.WriteFault = WriteFault
+
+-- what an `Answer` can spell: bytes are below 256, and a page has 1,024 of them
+abbrev pub IsSpelled : Reply → Type 0
+IsSpelled (Key c) = c < 256
+IsSpelled (Line bytes returned) = All (λ b. b < 256) bytes
+IsSpelled (ReadOk page) = (length page ≡ 1024) × All (λ b. b < 256) page
+IsSpelled _ = Unit {0}
 
 -- a byte 10 or 13 ends a line
 abbrev pub is_return : ℕ → Bool
@@ -106,7 +113,7 @@ read_answered s u w page =
 -- a block was written: it is no longer marked as updated; the token comes again
 unfoldable pub write_answered : Whole → ℕ → ℕ → State × Act
 write_answered s u w =
-    (running (record s { buffers = cleaned (slot_of s.buffers u) s.buffers; pending = Some w }), quiet)
+    (running (record s { buffers = unmarked u s.buffers; pending = Some w }), quiet)
 
 -- the block that a request is about
 abbrev pub block_of : Request → ℕ

@@ -3,6 +3,7 @@ pub mod Tick
 pub mod Answer
 pub mod Ends
 pub mod Moves
+pub mod Histories
 pub mod Requests
 pub mod Lines
 pub mod Sent

@@ -1,5 +1,5 @@
 -- Requests of the device that are answered Ok, one after another.
-use Rattle.std.specs.Prelude.{ℕ, ◌+◌, ◌≡◌, ◌≤◌, List, [], ◌∷◌, Option, Some, Bool, true, false, IsTrue, IsFalse, length}
+use Rattle.std.specs.Prelude.{ℕ, ◌+◌, ◌≡◌, ◌<◌, ◌≤◌, All, List, [], ◌∷◌, Option, Some, Bool, true, false, IsTrue, IsFalse, length}
 use Rattle.block_buffers.specs.Entries.{holds, AreBuffers, HasNoBlockTwice}
 use Rattle.plain_rows.specs.declared.parts.Request.{Request}
 use Rattle.plain_rows.specs.declared.parts.Request.TheVariants as request
@@ -8,11 +8,13 @@ use Rattle.inner_interpreter.specs.Tick.{taken}
 use Rattle.inner_interpreter.specs.Answer.{Reply, ReadOk, WriteOk, asked_by}
 use Rattle.inner_interpreter.specs.Moves.{Tick, Answer, turned}
 
--- the machine's buffers are in order: no block is in two of them, and none is asked to be read that one of them has
+-- the machine's buffers are in order: no block is in two of them, none is asked to be read that one of them has, and each
+-- that is asked to be written is in one of them
 pub record IsOrderly (s : State) : Type 0 where
   pub buffers : AreBuffers s.parts.buffers
   pub once : HasNoBlockTwice s.parts.buffers
   pub absent : (u w : ℕ) → s.wait ≡ Some (request.Read u, w) → IsFalse (holds s.parts.buffers u)
+  pub held : (u w : ℕ) → s.wait ≡ Some (request.Write u, w) → IsTrue (holds s.parts.buffers u)
 
 -- a request of the device stands
 abbrev pub asks_device : Option Request → Bool
@@ -34,7 +36,7 @@ AreAsked s (page ∷ pages) =
 
 -- the bytes of a block
 abbrev pub IsPage : List ℕ → Type 0
-IsPage page = length page ≡ 1024
+IsPage page = (length page ≡ 1024) × All (λ b. b < 256) page
 
 -- the token that the next tick takes
 abbrev pub token_of : State → ℕ

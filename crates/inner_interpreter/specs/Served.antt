@@ -1,11 +1,13 @@
 -- A request that was answered.
-use Rattle.std.specs.Prelude.{◌≡◌, ℕ, ◌+◌, true, List, Option, Some}
+use Rattle.std.specs.Prelude.{◌≡◌, ℕ, true, false, Bool, List, ◌++◌, Option, Some}
 use Rattle.block_buffers.specs.Disks.{Disk}
 use Rattle.plain_rows.specs.declared.parts.Request.{Request}
 use Rattle.inner_interpreter.specs.declared.act.Act.{Act}
+use Rattle.inner_interpreter.specs.declared.act.Cause.{Cause}
+use Rattle.inner_interpreter.specs.declared.act.Cause.TheVariants.{InputFault as InputFaulted}
 use Rattle.inner_interpreter.specs.State.{State}
 use Rattle.inner_interpreter.specs.Answer.{Reply, InputFault, answer_of, asked_by, fits}
-use Rattle.inner_interpreter.specs.Moves.{Move, answer_move, Answer, device_fault}
+use Rattle.inner_interpreter.specs.Moves.{Move, answer_move, Answer, Accepts, device_call}
 use Rattle.inner_interpreter.specs.Runs.{served}
 
 -- the request was answered from these typed bytes and this device
@@ -29,9 +31,19 @@ pub record Faults (s after : State) : Type 0 where
   pub asked : fits (asked_by s.wait) InputFault ≡ true
   pub state_is : after ≡ (answer_of s InputFault).0
 
--- the machine was given an answer that fits what it asked, which tells of a device fault where the device counted one
-pub record HasAnswered (old new : State) (failures failures' : ℕ) : Type 0 where
+-- whether a machine halted for a failed reader
+unfoldable pub is_input_fault : Option Cause → Bool
+is_input_fault (Some InputFaulted) = true
+is_input_fault _ = false
+
+-- the machine did not halt for a failed reader
+abbrev pub HasNotFailed : State → Type 0
+HasNotFailed s = is_input_fault s.halt ≡ false
+
+-- the machine was given an answer that it accepted; where it comes from a call of the device, the device was given that
+-- call, which failed exactly where the machine was told so
+pub record HasAnswered (old new : State) (calls calls' : List Bool) : Type 0 where
   pub reply : Reply
-  pub fits_so : fits (asked_by old.wait) reply ≡ true
+  pub accepted : Accepts old (Answer reply)
   pub state_is : new ≡ (answer_of old reply).0
-  pub faults_are : failures' ≡ failures + device_fault (Answer reply)
+  pub calls_are : calls' ≡ calls ++ device_call (Answer reply)

@@ -27,8 +27,9 @@ pub record IsCut (w : World) (state : State) (unread : Option (List ℕ)) (disk 
   pub shown_is : w.shown ≡ front ++ back
   pub sent_is : sent ≡ Some front
 
--- the same, but that the reader failed where a key or a line was asked, and the machine was told so
+-- the same, but that the run went on there, the reader failed where a key or a line was asked, and the machine was told so
 pub record IsFaulted (w : World) (state : State) (disk : Option Disk) (sent : Option (List ℕ)) : Type 0 where
+  pub goes : stops w ≡ None
   pub asked : fits (asked_by w.state.wait) InputFault ≡ true
   pub state_is : state ≡ (answer_of w.state InputFault).0
   pub disk_is : disk ≡ Some w.disk

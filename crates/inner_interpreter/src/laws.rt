@@ -4,6 +4,7 @@ ghost use Rattle.std.specs.Prelude.{◌≡◌, ◌≢◌, ℕ, ◌≤◌, List, 
 ghost use Rattle.image_loader.specs.Files.{Contents};
 ghost use Rattle.memory.specs.Bytes.{cell};
 ghost use Rattle.primitives.specs.Needs.{most_requests};
+ghost use Rattle.inner_interpreter.specs.Histories.{Call, Made, IsHistory, made, moves_made};
 ghost use Rattle.inner_interpreter.specs.Moves.{Turn, Accepts, turned};
 ghost use Rattle.inner_interpreter.specs.Requests.{IsOrderly, AreAsked, IsPage, IsBelowBuffers, token_of};
 ghost use Rattle.inner_interpreter.specs.Runs.{World, rounds, stops};
@@ -39,4 +40,10 @@ pub fn orderly_law()
 /// each block that its row needs; BUFFER once; SAVE-BUFFERS and FLUSH once for each updated buffer.
 pub fn requests_law()
     ensures { (s : State) (pages : List (List ℕ)) → Runs s → IsOrderly s → length s.parts.memory ≡ 65536 → IsBelowBuffers (token_of s) → All IsPage pages → AreAsked s pages → length pages ≤ most_requests (cell s.parts.memory (token_of s)) s.parts }
+{}
+
+/// What a host sees of a machine is what the written moves leave: whatever calls it makes of `tick`, `answer` and
+/// `ticks`, in any order and with any answers, from a loaded image on.
+pub fn history_law()
+    ensures { (image : Contents) (block_count : ℕ) (calls : List Call) (seen : Made) → IsHistory (start image block_count) calls seen → seen ≡ made (start image block_count) (moves_made calls) }
 {}

@@ -1,10 +1,10 @@
 //! Answering what a machine asks, by a reader and a device.
 
-ghost use Rattle.std.specs.Prelude.{◌≡◌, ◌≤◌, ℕ, List, Some, None, vec_capacity, IfOk, IfErr, Result};
+ghost use Rattle.std.specs.Prelude.{◌≡◌, ◌≤◌, ℕ, List, Some, None, vec_capacity, IfOk, IfErr, OnOk, Bool};
 ghost use Rattle.block_buffers.specs.Disks.{Disk};
 ghost use Rattle.inner_interpreter.specs.Answer.{asked_by};
 ghost use Rattle.inner_interpreter.specs.Ends.{Marks};
-ghost use Rattle.inner_interpreter.specs.Served.{Serves, Faults, HasAnswered};
+ghost use Rattle.inner_interpreter.specs.Served.{Serves, Faults, HasAnswered, HasNotFailed};
 
 use crate::act::{Act, Answer};
 use crate::ends::{EndFault, Input};
@@ -18,8 +18,9 @@ pub fn answer_key<R: Input>(machine: &mut Machine, reader: &mut R) -> Result<Act
     requires waits { asked_by machine.old.wait ≡ Some Request.Key }
     requires goes { machine.old.halt ≡ None }
     ensures told { (typed : List ℕ) → R.unread reader.old ≡ Some typed → (disk : Disk) → IfOk result (λ act. Serves machine.old Request.Key typed disk machine.new (R.unread reader.new) (Some disk) act) }
-    ensures answered { HasAnswered machine.old machine.new 0 0 }
+    ensures answered { (calls : List Bool) → HasAnswered machine.old machine.new calls calls }
     ensures settled { machine.new.wait ≡ None }
+    ensures read { OnOk result (HasNotFailed machine.new) }
     ensures fault { IfErr result (λ _. Faults machine.old machine.new) }
     ensures mark { Marks (R.failed reader.old) (R.failed reader.new) result }
 {
@@ -45,9 +46,10 @@ pub fn answer_line<R: Input>(
     requires goes { machine.old.halt ≡ None }
     requires room { 65535 ≤ vec_capacity line.old }
     ensures told { (typed : List ℕ) → R.unread reader.old ≡ Some typed → (disk : Disk) → IfOk result (λ act. Serves machine.old (Request.Line n) typed disk machine.new (R.unread reader.new) (Some disk) act) }
-    ensures answered { HasAnswered machine.old machine.new 0 0 }
+    ensures answered { (calls : List Bool) → HasAnswered machine.old machine.new calls calls }
     ensures settled { machine.new.wait ≡ None }
     ensures room { 65535 ≤ vec_capacity line.new }
+    ensures read { OnOk result (HasNotFailed machine.new) }
     ensures fault { IfErr result (λ _. Faults machine.old machine.new) }
     ensures mark { Marks (R.failed reader.old) (R.failed reader.new) result }
 {
@@ -71,8 +73,9 @@ pub fn answer_read<D: Device>(machine: &mut Machine, device: &mut D, block: u16)
     requires waits { asked_by machine.old.wait ≡ Some (Request.Read block) }
     requires goes { machine.old.halt ≡ None }
     ensures told { (disk : Disk) → D.disk device.old ≡ Some disk → (typed : List ℕ) → Serves machine.old (Request.Read block) typed disk machine.new (Some typed) (D.disk device.new) result }
-    ensures answered { HasAnswered machine.old machine.new (D.failures device.old) (D.failures device.new) }
+    ensures answered { HasAnswered machine.old machine.new (D.calls device.old) (D.calls device.new) }
     ensures settled { machine.new.wait ≡ None }
+    ensures read { HasNotFailed machine.new }
 {
     let mut page = [0u8; 1024];
     match device.read(block, &mut page) {
@@ -86,8 +89,9 @@ pub fn answer_write<D: Device>(machine: &mut Machine, device: &mut D, block: u16
     requires waits { asked_by machine.old.wait ≡ Some (Request.Write block) }
     requires goes { machine.old.halt ≡ None }
     ensures told { (disk : Disk) → D.disk device.old ≡ Some disk → (typed : List ℕ) → Serves machine.old (Request.Write block) typed disk machine.new (Some typed) (D.disk device.new) result }
-    ensures answered { HasAnswered machine.old machine.new (D.failures device.old) (D.failures device.new) }
+    ensures answered { HasAnswered machine.old machine.new (D.calls device.old) (D.calls device.new) }
     ensures settled { machine.new.wait ≡ None }
+    ensures read { HasNotFailed machine.new }
 {
     let Some(page) = machine.asked_page() else {
         unreachable!()
@@ -110,9 +114,10 @@ pub fn settle<R: Input, D: Device>(
     requires goes { machine.old.halt ≡ None }
     requires room { 65535 ≤ vec_capacity line.old }
     ensures told { (typed : List ℕ) → R.unread reader.old ≡ Some typed → (disk : Disk) → D.disk device.old ≡ Some disk → IfOk result (λ act. Serves machine.old request typed disk machine.new (R.unread reader.new) (D.disk device.new) act) }
-    ensures answered { HasAnswered machine.old machine.new (D.failures device.old) (D.failures device.new) }
+    ensures answered { HasAnswered machine.old machine.new (D.calls device.old) (D.calls device.new) }
     ensures settled { machine.new.wait ≡ None }
     ensures room { 65535 ≤ vec_capacity line.new }
+    ensures read { OnOk result (HasNotFailed machine.new) }
     ensures fault { IfErr result (λ _. Faults machine.old machine.new) }
     ensures device { IfErr result (λ _. D.disk device.new ≡ D.disk device.old) }
     ensures mark { Marks (R.failed reader.old) (R.failed reader.new) result }

@@ -8,7 +8,7 @@ ghost use Rattle.inner_interpreter.specs.Ends.{Marks};
 ghost use Rattle.inner_interpreter.specs.Moves.{HasMoved, shown_bytes};
 ghost use Rattle.inner_interpreter.specs.Runs.{World};
 ghost use Rattle.inner_interpreter.specs.Sent.{AppendsPart};
-ghost use Rattle.inner_interpreter.specs.Served.{Answered, served_move, Faults, HasAnswered};
+ghost use Rattle.inner_interpreter.specs.Served.{Answered, served_move, Faults, HasAnswered, HasNotFailed};
 ghost use Rattle.inner_interpreter.specs.Tick.{Runs};
 ghost use Rattle.inner_interpreter.specs.Worlds.{IsAt, IsCut, IsFaulted, rounds_left, stretch, Made, MadeCut};
 
@@ -27,6 +27,7 @@ pub enum Failed {
 }
 
 /// Ticks up to the first that isn't quiet, and what it shows.
+#[tactic(auto, using(crate::proofs::Faultless::stretch_read))]
 fn make_stretch<W: Output>(
     machine: &mut Machine,
     writer: &mut W,
@@ -37,6 +38,8 @@ fn make_stretch<W: Output>(
     ensures state { machine.new ≡ (stretch left.old machine.old).1 }
     ensures left { left.new ≡ left.old - (stretch left.old machine.old).0 }
     ensures fewer { left.new < left.old }
+    ensures most { (stretch left.old machine.old).0 ≤ left.old }
+    ensures read { HasNotFailed machine.new }
     ensures ok { OnOk result (Appends (W.sent writer.old) (W.sent writer.new) (shown_bytes (stretch left.old machine.old).1.parts.memory (stretch left.old machine.old).2.shown)) }
     ensures err { OnErr result (AppendsPart (W.sent writer.old) (W.sent writer.new) (shown_bytes (stretch left.old machine.old).1.parts.memory (stretch left.old machine.old).2.shown)) }
     ensures mark { Marks (W.failed writer.old) (W.failed writer.new) result }
@@ -60,13 +63,14 @@ fn make_answer<R: Input, W: Output, D: Device>(
     requires room { 65535 ≤ vec_capacity line.old }
     ensures settled { machine.new.wait ≡ None }
     ensures room { 65535 ≤ vec_capacity line.new }
-    ensures answered { HasAnswered machine.old machine.new (D.failures device.old) (D.failures device.new) }
+    ensures answered { HasAnswered machine.old machine.new (D.calls device.old) (D.calls device.new) }
     ensures ok { OnOk result ((typed : List ℕ) → R.unread reader.old ≡ Some typed → (disk : Disk) → D.disk device.old ≡ Some disk → Answered machine.old request typed disk machine.new (R.unread reader.new) (D.disk device.new) × Appends (W.sent writer.old) (W.sent writer.new) (served_move machine.old request typed disk).bytes) }
     ensures cut { IsErrOf result Failed.Writer → (typed : List ℕ) → R.unread reader.old ≡ Some typed → (disk : Disk) → D.disk device.old ≡ Some disk → Answered machine.old request typed disk machine.new (R.unread reader.new) (D.disk device.new) × AppendsPart (W.sent writer.old) (W.sent writer.new) (served_move machine.old request typed disk).bytes }
     ensures faulted { IsErrOf result Failed.Reader → Faults machine.old machine.new × (D.disk device.new ≡ D.disk device.old) × (W.sent writer.new ≡ W.sent writer.old) }
     ensures reader { IsErrOf result Failed.Reader → (R.failed reader.new ≡ true) × (W.failed writer.new ≡ W.failed writer.old) }
     ensures writer { IsErrOf result Failed.Writer → (W.failed writer.new ≡ true) × (R.failed reader.new ≡ R.failed reader.old) }
     ensures good { OnOk result ((R.failed reader.new ≡ R.failed reader.old) × (W.failed writer.new ≡ W.failed writer.old)) }
+    ensures read { OnOk result (HasNotFailed machine.new) }
 {
     match settle(line, machine, reader, device, request) {
         Ok(act) => match show(machine, writer, act.shown) {
@@ -103,7 +107,9 @@ pub fn make_rounds<R: Input, W: Output, D: Device>(
     requires room { 65535 ≤ vec_capacity line.old }
     ensures room { 65535 ≤ vec_capacity line.new }
     ensures fewer { OnOk result (rounds_left left.new machine.new.wait < rounds_left left.old machine.old.wait) }
-    ensures moved { HasMoved machine.old machine.new (D.failures device.old) (D.failures device.new) }
+    ensures moved { HasMoved machine.old machine.new (D.calls device.old) (D.calls device.new) (left.old - left.new) }
+    ensures left { left.new ≤ left.old }
+    ensures read { OnOk result (HasNotFailed machine.new) }
     ensures ok { OnOk result ((w : World) → IsAt w machine.old (R.unread reader.old) (D.disk device.old) (W.sent writer.old) left.old → Made w machine.new (R.unread reader.new) (D.disk device.new) (W.sent writer.new) left.new) }
     ensures cut { IsErrOf result Failed.Writer → (w : World) → IsAt w machine.old (R.unread reader.old) (D.disk device.old) (W.sent writer.old) left.old → MadeCut w machine.new (R.unread reader.new) (D.disk device.new) (W.sent writer.new) }
     ensures faulted { IsErrOf result Failed.Reader → (w : World) → IsAt w machine.old (R.unread reader.old) (D.disk device.old) (W.sent writer.old) left.old → IsFaulted w machine.new (D.disk device.new) (W.sent writer.new) }

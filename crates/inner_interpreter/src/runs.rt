@@ -1,9 +1,10 @@
 //! The run of a machine over a reader, a writer and a device.
 
-ghost use Rattle.std.specs.Prelude.{◌≡◌, ◌↔◌, ◌≤◌, ◌⊎◌, Some, false, true, vec_capacity, IfOk, OnErr};
+ghost use Rattle.std.specs.Prelude.{◌≡◌, ◌≢◌, ◌↔◌, ◌≤◌, ◌⊎◌, Some, false, true, vec_capacity, IfOk, OnErr};
 ghost use Rattle.std.specs.Io.KnownBytes.{Keeps};
-ghost use Rattle.inner_interpreter.specs.Moves.{HasMoved};
+ghost use Rattle.inner_interpreter.specs.Moves.{HasRun};
 ghost use Rattle.inner_interpreter.specs.Runs.{World, stop_by, stop_of};
+ghost use Rattle.inner_interpreter.specs.Served.{HasNotFailed};
 ghost use Rattle.inner_interpreter.specs.Worlds.{IsAt, Ends, EndsCut, EndsFaulted};
 
 use crate::act::Cause;
@@ -50,15 +51,15 @@ fn run_with<R: Input, W: Output, D: Device>(
     limit: u64,
 ) -> Stop
     requires room { 65535 ≤ vec_capacity line.old }
-    requires reader { R.failed reader.old ≡ false }
-    requires writer { W.failed writer.old ≡ false }
     ensures whole { R.failed reader.new ≡ false → W.failed writer.new ≡ false → (w : World) → IsAt w machine.old (R.unread reader.old) (D.disk device.old) (W.sent writer.old) limit → Ends w machine.new (R.unread reader.new) (D.disk device.new) (W.sent writer.new) result }
     ensures ended { R.failed reader.new ≡ false → W.failed writer.new ≡ false → stop_by machine.new.halt 0 ≡ Some result }
-    ensures output { (result ≡ Stop.OutputFault) ↔ (W.failed writer.new ≡ true) }
-    ensures cut { W.failed writer.new ≡ true → (w : World) → IsAt w machine.old (R.unread reader.old) (D.disk device.old) (W.sent writer.old) limit → EndsCut w machine.new (R.unread reader.new) (D.disk device.new) (W.sent writer.new) }
-    ensures input { R.failed reader.new ≡ true → W.failed writer.new ≡ false → result ≡ Stop.InputFault }
-    ensures faulted { R.failed reader.new ≡ true → W.failed writer.new ≡ false → (w : World) → IsAt w machine.old (R.unread reader.old) (D.disk device.old) (W.sent writer.old) limit → EndsFaulted w machine.new (D.disk device.new) (W.sent writer.new) }
-    ensures moved { HasMoved machine.old machine.new (D.failures device.old) (D.failures device.new) }
+    ensures output { W.failed writer.old ≡ false → (result ≡ Stop.OutputFault) ↔ (W.failed writer.new ≡ true) }
+    ensures cut { W.failed writer.old ≡ false → W.failed writer.new ≡ true → (w : World) → IsAt w machine.old (R.unread reader.old) (D.disk device.old) (W.sent writer.old) limit → EndsCut w machine.new (R.unread reader.new) (D.disk device.new) (W.sent writer.new) }
+    ensures input { R.failed reader.old ≡ false → R.failed reader.new ≡ true → result ≡ Stop.InputFault }
+    ensures faulted { R.failed reader.old ≡ false → R.failed reader.new ≡ true → (w : World) → IsAt w machine.old (R.unread reader.old) (D.disk device.old) (W.sent writer.old) limit → EndsFaulted w machine.new (D.disk device.new) (W.sent writer.new) }
+    ensures one { R.failed reader.old ≡ false → R.failed reader.new ≡ true → W.failed writer.new ≡ W.failed writer.old }
+    ensures told { HasNotFailed machine.old → R.failed reader.new ≡ false → result ≢ Stop.InputFault }
+    ensures moved { HasRun machine.old machine.new (D.calls device.old) (D.calls device.new) limit result }
 {
     let mut left = limit;
     loop {
@@ -78,7 +79,8 @@ fn run_with<R: Input, W: Output, D: Device>(
 
 /// Runs the machine until it halts, `limit` ticks are done or an end fails, and answers why it stopped. All that the
 /// machine shows is sent; what it asks is answered by the reader and the device. The writer is flushed before each
-/// key or line is read, and at the end. On want of memory the machine is unchanged.
+/// key or line is read, and at the end. A run may be made over an end that failed before. On want of memory nothing was
+/// done: the machine is unchanged, and no end nor the device was called.
 pub fn run<R: Input, W: Output, D: Device>(
     alloc: Global,
     machine: &mut Machine,
@@ -87,9 +89,6 @@ pub fn run<R: Input, W: Output, D: Device>(
     device: &mut D,
     limit: u64,
 ) -> Result<Stop, OutOfMemory>
-    requires reader { R.failed reader.old ≡ false }
-    requires writer { W.failed writer.old ≡ false }
-
     // Where no end fails, and all tell their bytes, the run ends as the written rounds do.
     ensures whole { IfOk result (λ stop. R.failed reader.new ≡ false → W.failed writer.new ≡ false → (w : World) → IsAt w machine.old (R.unread reader.old) (D.disk device.old) (W.sent writer.old) limit → Ends w machine.new (R.unread reader.new) (D.disk device.new) (W.sent writer.new) stop) }
 
@@ -97,17 +96,25 @@ pub fn run<R: Input, W: Output, D: Device>(
     ensures ended { IfOk result (λ stop. R.failed reader.new ≡ false → W.failed writer.new ≡ false → stop_by machine.new.halt 0 ≡ Some stop) }
 
     // It stops for the writer exactly where the writer fails, and then some first rounds were made.
-    ensures output { IfOk result (λ stop. (stop ≡ Stop.OutputFault) ↔ (W.failed writer.new ≡ true)) }
-    ensures cut { IfOk result (λ stop. W.failed writer.new ≡ true → (w : World) → IsAt w machine.old (R.unread reader.old) (D.disk device.old) (W.sent writer.old) limit → EndsCut w machine.new (R.unread reader.new) (D.disk device.new) (W.sent writer.new)) }
+    ensures output { IfOk result (λ stop. W.failed writer.old ≡ false → (stop ≡ Stop.OutputFault) ↔ (W.failed writer.new ≡ true)) }
+    ensures cut { IfOk result (λ stop. W.failed writer.old ≡ false → W.failed writer.new ≡ true → (w : World) → IsAt w machine.old (R.unread reader.old) (D.disk device.old) (W.sent writer.old) limit → EndsCut w machine.new (R.unread reader.new) (D.disk device.new) (W.sent writer.new)) }
 
-    // Where the reader fails, some first rounds were made, and then the machine was told so.
-    ensures input { IfOk result (λ stop. R.failed reader.new ≡ true → W.failed writer.new ≡ false → stop ≡ Stop.InputFault) }
-    ensures faulted { IfOk result (λ stop. R.failed reader.new ≡ true → W.failed writer.new ≡ false → (w : World) → IsAt w machine.old (R.unread reader.old) (D.disk device.old) (W.sent writer.old) limit → EndsFaulted w machine.new (D.disk device.new) (W.sent writer.new)) }
+    // Where the reader fails, it stops for the reader: some first rounds were made, and then the machine was told so.
+    // Both can't fail in one run. Of a machine that hadn't halted so before, it stops for the reader only there.
+    ensures input { IfOk result (λ stop. R.failed reader.old ≡ false → R.failed reader.new ≡ true → stop ≡ Stop.InputFault) }
+    ensures faulted { IfOk result (λ stop. R.failed reader.old ≡ false → R.failed reader.new ≡ true → (w : World) → IsAt w machine.old (R.unread reader.old) (D.disk device.old) (W.sent writer.old) limit → EndsFaulted w machine.new (D.disk device.new) (W.sent writer.new)) }
+    ensures one { IfOk result (λ stop. R.failed reader.old ≡ false → R.failed reader.new ≡ true → W.failed writer.new ≡ W.failed writer.old) }
+    ensures told { IfOk result (λ stop. HasNotFailed machine.old → R.failed reader.new ≡ false → stop ≢ Stop.InputFault) }
 
-    // Whatever the ends are: the machine moved by ticks and answers alone, and was told of a device fault just as
-    // often as the device counted one.
-    ensures moved { HasMoved machine.old machine.new (D.failures device.old) (D.failures device.new) }
-    ensures err { OnErr result (machine.new ≡ machine.old) }
+    // Whatever the ends are: the machine moved by ticks and answers alone, at most `limit` and one more; and it was told
+    // of a device fault just where the very call of its device failed.
+    ensures moved { IfOk result (λ stop. HasRun machine.old machine.new (D.calls device.old) (D.calls device.new) limit stop) }
+
+    // On want of memory nothing was done.
+    ensures machine { OnErr result (machine.new ≡ machine.old) }
+    ensures reader { OnErr result (reader.new ≡ reader.old) }
+    ensures writer { OnErr result (writer.new ≡ writer.old) }
+    ensures device { OnErr result (device.new ≡ device.old) }
 {
     match Vec::with_capacity(alloc, LINE_SIZE) {
         Ok(line) => {

@@ -1,8 +1,8 @@
 //! Answers to what a machine asks.
 
-ghost use Rattle.std.specs.Prelude.{◌≡◌, ℕ, None, Some, true, false, IsTrue, IsSome, IsOkAnd, IsErrOf, OnOk, OnErr, ◌≤◌, length};
+ghost use Rattle.std.specs.Prelude.{◌≡◌, ℕ, None, Some, true, false, IsTrue, IsSome, IsOkAnd, IsErrOf, OnOk, OnErr, ◌≤◌, ◌<◌, All, length};
 ghost use Rattle.std.specs.List.{list_all};
-ghost use Rattle.inner_interpreter.specs.Answer.{asked_by, fits, fits_request, seen, answered, answer_of, is_line, line_shown, key_answered, line_answered, read_answered, write_answered, input_stopped, is_typed};
+ghost use Rattle.inner_interpreter.specs.Answer.{asked_by, fits, fits_request, seen, IsSpelled, answered, answer_of, is_line, line_shown, key_answered, line_answered, read_answered, write_answered, input_stopped, is_typed};
 
 use super::{Machine, quiet};
 use crate::act::{Act, Answer, Cause, Event, Refused, Shown};
@@ -48,6 +48,7 @@ impl Machine {
     #[tactic(auto, unfolding(crate::specs::Answer::answer_of))]
     pub fn answer(&mut self, answer: Answer<'_>) -> Result<Act, Refused>
         ensures done { self.old.halt ≡ None → fits (asked_by self.old.wait) (seen answer.entry) ≡ true → IsOkAnd result (λ act. (self.new, act) ≡ answer_of self.old (seen answer.entry)) }
+        ensures spelled { OnOk result (IsSpelled (seen answer.entry)) }
         ensures settled { OnOk result (self.new.wait ≡ None) }
         ensures halted { IsSome self.old.halt → IsErrOf result Refused.Halted }
         ensures not_asked { self.old.halt ≡ None → fits (asked_by self.old.wait) (seen answer.entry) ≡ false → IsErrOf result Refused.NotAsked }
@@ -69,6 +70,7 @@ impl Machine {
     fn answer_key(&mut self, _token: u16, answer: Answer<'_>) -> Result<Act, Refused>
         requires { self.old.halt ≡ None }
         ensures done { fits_request Request.Key (seen answer.entry) ≡ true → IsOkAnd result (λ act. (self.new, act) ≡ answered self.old.parts (Request.Key, _token) (seen answer.entry)) }
+        ensures spelled { OnOk result (IsSpelled (seen answer.entry)) }
         ensures settled { OnOk result (self.new.wait ≡ None) }
         ensures not_asked { fits_request Request.Key (seen answer.entry) ≡ false → IsErrOf result Refused.NotAsked }
         ensures stays { OnErr result (self.new ≡ self.old) }
@@ -86,6 +88,7 @@ impl Machine {
     fn push_key(&mut self, byte: u8) -> Act
         requires { self.old.halt ≡ None }
         ensures done { (self.new, result) ≡ key_answered self.old.parts byte }
+        ensures spelled { byte < 256 }
         ensures settled { self.new.wait ≡ None }
     {
         self.wait = None;
@@ -99,6 +102,7 @@ impl Machine {
     fn answer_line(&mut self, n: u16, _token: u16, answer: Answer<'_>) -> Result<Act, Refused>
         requires { self.old.halt ≡ None }
         ensures done { fits_request (Request.Line n) (seen answer.entry) ≡ true → IsOkAnd result (λ act. (self.new, act) ≡ answered self.old.parts (Request.Line n, _token) (seen answer.entry)) }
+        ensures spelled { OnOk result (IsSpelled (seen answer.entry)) }
         ensures settled { OnOk result (self.new.wait ≡ None) }
         ensures not_asked { fits_request (Request.Line n) (seen answer.entry) ≡ false → IsErrOf result Refused.NotAsked }
         ensures stays { OnErr result (self.new ≡ self.old) }
@@ -122,6 +126,7 @@ impl Machine {
         requires halt { self.old.halt ≡ None }
         requires few { length bytes.now ≤ 65535 }
         ensures done { (self.new, result) ≡ line_answered self.old.parts bytes.now returned }
+        ensures spelled { All (λ b. b < 256) bytes.now }
         ensures settled { self.new.wait ≡ None }
     {
         self.wait = None;
@@ -138,23 +143,17 @@ impl Machine {
         }
     }
 
-    #[tactic(auto, unfolding(crate::specs::Answer::answered, crate::specs::Answer::read_answered))]
+    #[tactic(auto, unfolding(crate::specs::Answer::answered))]
     fn answer_read(&mut self, block: u16, token: u16, answer: Answer<'_>) -> Result<Act, Refused>
         requires { self.old.halt ≡ None }
         ensures done { fits_request (Request.Read block) (seen answer.entry) ≡ true → IsOkAnd result (λ act. (self.new, act) ≡ answered self.old.parts (Request.Read block, token) (seen answer.entry)) }
+        ensures spelled { OnOk result (IsSpelled (seen answer.entry)) }
         ensures settled { OnOk result (self.new.wait ≡ None) }
         ensures not_asked { fits_request (Request.Read block) (seen answer.entry) ≡ false → IsErrOf result Refused.NotAsked }
         ensures stays { OnErr result (self.new ≡ self.old) }
     {
         match answer {
-            Answer::ReadOk(page) => {
-                let slot = self.parts.buffers.victim().slot;
-                self.parts.memory.set_page(slot, page);
-                self.parts.buffers.assign(block);
-                self.parts.pending = Some(token);
-                self.wait = None;
-                Ok(quiet())
-            }
+            Answer::ReadOk(page) => Ok(self.bring(block, token, page)),
             Answer::ReadFault => {
                 self.wait = None;
                 Ok(self.fault(Shown::Nothing, 9))
@@ -163,18 +162,34 @@ impl Machine {
         }
     }
 
+    /// A block's bytes go to the victim's buffer.
+    #[tactic(auto, unfolding(crate::specs::Answer::read_answered))]
+    fn bring(&mut self, block: u16, token: u16, page: &[u8; 1024]) -> Act
+        requires { self.old.halt ≡ None }
+        ensures done { (self.new, result) ≡ read_answered self.old.parts block token page.now }
+        ensures spelled { (length page.now ≡ 1024) × All (λ b. b < 256) page.now }
+        ensures settled { self.new.wait ≡ None }
+    {
+        let slot = self.parts.buffers.victim().slot;
+        self.parts.memory.set_page(slot, page);
+        self.parts.buffers.assign(block);
+        self.parts.pending = Some(token);
+        self.wait = None;
+        quiet()
+    }
+
     #[tactic(auto, unfolding(crate::specs::Answer::answered, crate::specs::Answer::write_answered))]
     fn answer_write(&mut self, block: u16, token: u16, answer: Answer<'_>) -> Result<Act, Refused>
         requires { self.old.halt ≡ None }
         ensures done { fits_request (Request.Write block) (seen answer.entry) ≡ true → IsOkAnd result (λ act. (self.new, act) ≡ answered self.old.parts (Request.Write block, token) (seen answer.entry)) }
+        ensures spelled { OnOk result (IsSpelled (seen answer.entry)) }
         ensures settled { OnOk result (self.new.wait ≡ None) }
         ensures not_asked { fits_request (Request.Write block) (seen answer.entry) ≡ false → IsErrOf result Refused.NotAsked }
         ensures stays { OnErr result (self.new ≡ self.old) }
     {
         match answer {
             Answer::WriteOk => {
-                let slot = self.parts.buffers.slot_of(block);
-                self.parts.buffers.clean(slot);
+                self.parts.buffers.unmark(block);
                 self.parts.pending = Some(token);
                 self.wait = None;
                 Ok(quiet())

@@ -1,18 +1,18 @@
 use Rattle.std.proofs.Common.{rules, ◌≡◌, None, Some}
 use Rattle.inner_interpreter.specs.Answer.{asked_by}
-use Rattle.inner_interpreter.proofs.Moving.{moved_none, moved_answer, moved_stretch}
+use Rattle.inner_interpreter.proofs.Moving.{moved_none, moved_still, moved_answer, moved_stretch}
 use Rattle.inner_interpreter.proofs.Running.{asked_none, runs_running, stretch_at, stretch_cut, answer_at, answer_cut, flush_cut, kept_at, on_ok_then}
 use Rattle.inner_interpreter.proofs.rounds.make_rounds.Goals as goal
 
 pub returns-in-Ok-clause-moved : goal.returns-in-Ok-clause-moved
 returns-in-Ok-clause-moved g c =
     let free : c.args.machine.now.wait ≡ None = asked_none _ (search rules) in
-    moved_stretch _ _ _ _ (runs_running _ c.requires.goes free) c.in-Ok.ensures.state
+    moved_stretch _ _ _ _ _ (runs_running _ c.requires.goes free) c.in-Ok.ensures.state c.in-Ok.ensures.left c.in-Ok.ensures.most
 
 pub returns-in-Err-clause-moved : goal.returns-in-Err-clause-moved
 returns-in-Err-clause-moved g c =
     let free : c.args.machine.now.wait ≡ None = asked_none _ (search rules) in
-    moved_stretch _ _ _ _ (runs_running _ c.requires.goes free) c.in-Err.ensures.state
+    moved_stretch _ _ _ _ _ (runs_running _ c.requires.goes free) c.in-Err.ensures.state c.in-Err.ensures.left c.in-Err.ensures.most
 
 pub returns-in-Ok-clause-ok : goal.returns-in-Ok-clause-ok
 returns-in-Ok-clause-ok g c = λ w at.
@@ -25,7 +25,7 @@ returns-in-Err-clause-cut g c = λ failed w at.
     stretch_cut w _ _ _ _ _ _ _ c.requires.goes free c.in-Err.ensures.state c.in-Err.ensures.err at
 
 pub returns-in-Ok-flush_before-clause-moved : goal.returns-in-Ok-flush_before-clause-moved
-returns-in-Ok-flush_before-clause-moved g c = moved_answer _ _ _ _ c.make_answer.ensures.answered
+returns-in-Ok-flush_before-clause-moved g c = moved_still _ _ _ _ _ (moved_answer _ _ _ _ c.make_answer.ensures.answered)
 
 pub returns-in-Ok-flush_before-clause-ok : goal.returns-in-Ok-flush_before-clause-ok
 returns-in-Ok-flush_before-clause-ok g c =
@@ -38,7 +38,7 @@ returns-in-Ok-flush_before-clause-cut g c = λ failed w at.
     answer_cut w _ _ _ _ _ _ _ _ _ _ c.requires.goes c.requires.some waits (c.make_answer.ensures.cut failed) (kept_at w _ _ _ _ _ _ c.in-Ok-flush_before.ensures.bytes at)
 
 pub returns-in-Err-flush_before-clause-moved : goal.returns-in-Err-flush_before-clause-moved
-returns-in-Err-flush_before-clause-moved g c = moved_none _ _
+returns-in-Err-flush_before-clause-moved g c = moved_still _ _ _ _ _ (moved_none _ _)
 
 pub returns-in-Err-flush_before-clause-cut : goal.returns-in-Err-flush_before-clause-cut
 returns-in-Err-flush_before-clause-cut g c = λ failed w at. flush_cut w _ _ _ _ _ _ c.in-Err-flush_before.ensures.bytes at

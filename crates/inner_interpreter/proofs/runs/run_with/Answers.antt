@@ -1,8 +1,8 @@
-use Rattle.std.proofs.Common.{rules, ◌≡◌, None, Some, ap, Err, ◌∙◌}
+use Rattle.std.proofs.Common.{rules, arith, ◌≡◌, None, Some, ap, Err, ◌∙◌}
 use Rattle.inner_interpreter.specs.declared.stop.Stop.TheVariants as stop
 use Rattle.inner_interpreter.specs.Worlds.{Ends}
-use Rattle.inner_interpreter.proofs.Moving.{moved_none, moved_add}
-use Rattle.inner_interpreter.proofs.Ended.{none_made, more_made, made_cause, made_limit, made_cut, rounds_cut, rounds_faulted, done_so}
+use Rattle.inner_interpreter.proofs.Moving.{moved_none, moved_still, moved_on, has_run}
+use Rattle.inner_interpreter.proofs.Ended.{none_made, more_made, made_cause, made_limit, made_cut, rounds_cut, rounds_faulted, done_so, not_limit, not_input_fault}
 use Rattle.inner_interpreter.proofs.runs.run_with.Goals as goal
 
 pub loop-cause-init : goal.loop-cause-init
@@ -10,7 +10,9 @@ loop-cause-init g c = record {
   room = search rules;
   reader = search rules;
   writer = search rules;
-  moved = moved_none _ _;
+  few = omega arith;
+  read = λ h. h;
+  moved = moved_still _ _ _ _ _ (moved_none _ _);
   made = λ w at. none_made w _ _ _ _ _ at;
 }
 
@@ -23,7 +25,7 @@ returns-in-Some-clause-whole g c = λ fine good w at.
     c.finish.ensures.done good (rw c.stop_by_cause.ensures ends)
 
 pub returns-in-Some-clause-cut : goal.returns-in-Some-clause-cut
-returns-in-Some-clause-cut g c = λ failed w at. made_cut w _ _ _ _ _ _ c.finish.ensures.bytes (c.loop-cause.invariant.made w at)
+returns-in-Some-clause-cut g c = λ fine failed w at. made_cut w _ _ _ _ _ _ c.finish.ensures.bytes (c.loop-cause.invariant.made w at)
 
 pub returns-then-left-eq0-clause-whole : goal.returns-then-left-eq0-clause-whole
 returns-then-left-eq0-clause-whole g c = λ fine good w at.
@@ -34,27 +36,44 @@ returns-then-left-eq0-clause-whole g c = λ fine good w at.
     c.finish-then-left-eq0.ensures.done good ends
 
 pub returns-then-left-eq0-clause-cut : goal.returns-then-left-eq0-clause-cut
-returns-then-left-eq0-clause-cut g c = λ failed w at. made_cut w _ _ _ _ _ _ c.finish-then-left-eq0.ensures.bytes (c.loop-cause.invariant.made w at)
+returns-then-left-eq0-clause-cut g c = λ fine failed w at. made_cut w _ _ _ _ _ _ c.finish-then-left-eq0.ensures.bytes (c.loop-cause.invariant.made w at)
 
 pub loop-cause-preserved : goal.loop-cause-preserved
 loop-cause-preserved g c = record {
   room = search rules;
   reader = search rules;
   writer = search rules;
-  moved = moved_add _ _ _ _ _ _ c.loop-cause.invariant.moved c.make_rounds.ensures.moved;
+  few = omega (arith, c.loop-cause.invariant.few, c.make_rounds.ensures.left);
+  read = λ h. search rules;
+  moved = moved_on _ _ _ _ _ _ _ _ _ c.loop-cause.invariant.few c.make_rounds.ensures.left c.loop-cause.invariant.moved c.make_rounds.ensures.moved;
   made = λ w at. more_made w _ _ _ _ _ _ _ _ _ _ c.in-Ok.ensures.ok (c.loop-cause.invariant.made w at);
 }
 
 pub returns-in-Err-Reader-clause-faulted : goal.returns-in-Err-Reader-clause-faulted
-returns-in-Err-Reader-clause-faulted g c = λ fails fine w at.
+returns-in-Err-Reader-clause-faulted g c = λ fine fails w at.
     rounds_faulted w c.loop-cause.machine _ _ _ _ _ _ _ (c.make_rounds.ensures.faulted (c.in-Err-Reader.is ∙ ap Err c.in-Err-Reader.field-0-is)) (c.loop-cause.invariant.made w at)
 
 pub returns-in-Err-Writer-clause-cut : goal.returns-in-Err-Writer-clause-cut
-returns-in-Err-Writer-clause-cut g c = λ fails w at.
+returns-in-Err-Writer-clause-cut g c = λ fine fails w at.
     rounds_cut w c.loop-cause.machine _ _ _ _ _ _ _ _ (c.make_rounds.ensures.cut (c.in-Err-Writer.is ∙ ap Err c.in-Err-Writer.field-0-is)) (c.loop-cause.invariant.made w at)
 
 pub returns-in-Err-Reader-clause-moved : goal.returns-in-Err-Reader-clause-moved
-returns-in-Err-Reader-clause-moved g c = moved_add _ _ _ _ _ _ c.loop-cause.invariant.moved c.make_rounds.ensures.moved
+returns-in-Err-Reader-clause-moved g c =
+    has_run _ _ _ _ _ _ _ (omega (arith, c.loop-cause.invariant.few, c.make_rounds.ensures.left)) (λ q. cc)
+    (moved_on _ _ _ _ _ _ _ _ _ c.loop-cause.invariant.few c.make_rounds.ensures.left c.loop-cause.invariant.moved c.make_rounds.ensures.moved)
 
 pub returns-in-Err-Writer-clause-moved : goal.returns-in-Err-Writer-clause-moved
-returns-in-Err-Writer-clause-moved g c = moved_add _ _ _ _ _ _ c.loop-cause.invariant.moved c.make_rounds.ensures.moved
+returns-in-Err-Writer-clause-moved g c =
+    has_run _ _ _ _ _ _ _ (omega (arith, c.loop-cause.invariant.few, c.make_rounds.ensures.left)) (λ q. cc)
+    (moved_on _ _ _ _ _ _ _ _ _ c.loop-cause.invariant.few c.make_rounds.ensures.left c.loop-cause.invariant.moved c.make_rounds.ensures.moved)
+
+pub returns-in-Some-clause-moved : goal.returns-in-Some-clause-moved
+returns-in-Some-clause-moved g c =
+    has_run _ _ _ _ _ _ _ c.loop-cause.invariant.few (λ q. absurd (not_limit c.in-Some.cause _ _ _ _ c.stop_by_cause.ensures c.finish.ensures.done q)) c.loop-cause.invariant.moved
+
+pub returns-then-left-eq0-clause-moved : goal.returns-then-left-eq0-clause-moved
+returns-then-left-eq0-clause-moved g c = has_run _ _ _ _ _ _ _ c.loop-cause.invariant.few (λ q. c.if-left-eq0.true) c.loop-cause.invariant.moved
+
+pub returns-in-Some-clause-told : goal.returns-in-Some-clause-told
+returns-in-Some-clause-told g c = λ h fine q.
+    absurd (not_input_fault c.in-Some.cause _ _ _ _ _ (c.loop-cause.invariant.read h) (search rules) c.stop_by_cause.ensures c.finish.ensures.done q)

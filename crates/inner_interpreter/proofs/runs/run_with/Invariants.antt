@@ -1,6 +1,7 @@
-use Rattle.std.proofs.Common.{◌≡◌, ◌≤◌, false, vec_capacity}
+use Rattle.std.proofs.Common.{◌≡◌, ◌≤◌, ◌-◌, vec_capacity}
 use Rattle.inner_interpreter.specs.Moves.{HasMoved}
 use Rattle.inner_interpreter.specs.Runs.{World}
+use Rattle.inner_interpreter.specs.Served.{HasNotFailed}
 use Rattle.inner_interpreter.specs.Worlds.{IsAt, Made, rounds_left}
 use Rattle.inner_interpreter.proofs.runs.run_with.Given as goal
 
@@ -8,9 +9,11 @@ use Rattle.inner_interpreter.proofs.runs.run_with.Given as goal
 abbrev pub invariant-loop-cause : goal.invariant-loop-cause
 invariant-loop-cause g l = record {
   room : 65535 ≤ vec_capacity l.line;
-  reader : g.R.Input.failed l.reader ≡ false;
-  writer : g.W.Output.failed l.writer ≡ false;
-  moved : HasMoved l.fn.machine l.machine (g.D.Device.failures l.fn.device) (g.D.Device.failures l.device);
+  reader : g.R.Input.failed l.reader ≡ g.R.Input.failed l.fn.reader;
+  writer : g.W.Output.failed l.writer ≡ g.W.Output.failed l.fn.writer;
+  few : l.left ≤ l.fn.limit;
+  read : HasNotFailed l.fn.machine → HasNotFailed l.machine;
+  moved : HasMoved l.fn.machine l.machine (g.D.Device.calls l.fn.device) (g.D.Device.calls l.device) (l.fn.limit - l.left);
   made : (w : World) → IsAt w l.fn.machine (g.R.Input.unread l.fn.reader) (g.D.Device.disk l.fn.device) (g.W.Output.sent l.fn.writer) l.fn.limit
       → Made w l.machine (g.R.Input.unread l.reader) (g.D.Device.disk l.device) (g.W.Output.sent l.writer) l.left;
 }

@@ -1,0 +1,130 @@
+-- What a host sees of its calls is what the moves of a list leave.
+use Rattle.std.proofs.Common.{◌≡◌, ℕ, zero, suc, ◌+◌, ◌-◌, ◌≤◌, List, [], ◌∷◌, ◌++◌, Option, Some, None, Bool, true, false, is_none, IsSome, ◌&&◌, IsOkAnd, IsErrOf, OnErr, Result, Ok, Err, refl, sym, ap, subst, ◌∙◌, arith, append-nil, append_assoc, replicate, if◌then◌else◌}
+use Rattle.plain_rows.specs.Whole.{Whole}
+use Rattle.plain_rows.specs.declared.parts.Request.{Request}
+use Rattle.inner_interpreter.specs.declared.act.Act.{Act}
+use Rattle.inner_interpreter.specs.declared.act.Cause.{Cause}
+use Rattle.inner_interpreter.specs.declared.act.Event.{Event}
+use Rattle.inner_interpreter.specs.declared.act.Event.TheVariants.{Went, Ask, Fault, Halt}
+use Rattle.inner_interpreter.specs.declared.act.Shown.{Shown}
+use Rattle.inner_interpreter.specs.declared.act.Shown.TheVariants.{Nothing, Byte, Span, Line}
+use Rattle.inner_interpreter.specs.declared.act.Refused.{Refused}
+use Rattle.inner_interpreter.specs.declared.act.Refused.TheVariants.{Waiting, Halted, NotAsked}
+use Rattle.inner_interpreter.specs.State.{State}
+use Rattle.inner_interpreter.specs.Tick.{Runs, running, is_running, is_quiet, quiet, ran, ticked, IsRefused}
+use Rattle.inner_interpreter.specs.Answer.{Reply, answer_of, asked_by, fits}
+use Rattle.inner_interpreter.specs.Moves.{Turn, Tick, Answer, shown_bytes}
+use Rattle.inner_interpreter.specs.Histories.{Made, Call, Ticked, Answered, ManyTicked, Answers, Ensures, IsHistory, acted, behind, made, moves_of, moves_made, seen_bytes, seen_events, takes, told_event}
+use Rattle.inner_interpreter.proofs.Quiet.{ticked_runs, quiet_shows}
+use Rattle.inner_interpreter.proofs.Ran.{ran_quiet, ran_loud}
+
+taken_move : (s : State) (t : Turn) (ts : List Turn) → takes s t ≡ true → made s (t ∷ ts) ≡ behind (shown_bytes (acted s t).0.parts.memory (acted s t).1.shown) (told_event (acted s t).1.event) (made (acted s t).0 ts)
+unfolding made
+taken_move s t ts h = rw h refl
+
+left_move : (s : State) (t : Turn) (ts : List Turn) → takes s t ≡ false → made s (t ∷ ts) ≡ made s ts
+unfolding made
+left_move s t ts h = rw h refl
+
+tick_taken : (s : State) → Runs s → takes s Tick ≡ true
+tick_taken s h = rw (h.0, h.1) refl
+
+tick_left : (s : State) (t : State) (refused : Refused) → IsRefused s t refused → takes s Tick ≡ false
+tick_left s t Halted h = by_halt s.halt h.0 where
+  by_halt : (o : Option Cause) → IsSome o → (is_none o && is_none s.wait) ≡ false
+  by_halt (Some c) q = refl
+  by_halt None q = cc
+tick_left s t Waiting h = by_wait s.wait h.1 where
+  by_wait : (o : Option (Request × ℕ)) → IsSome o → (is_none s.halt && is_none o) ≡ false
+  by_wait (Some p) q = rw (h.0) refl
+  by_wait None q = cc
+tick_left s t NotAsked h = absurd h
+
+-- a refused move leaves the state
+stays_refused : (s t : State) (refused : Refused) → IsRefused s t refused → t ≡ s
+stays_refused s t Halted h = h.1
+stays_refused s t Waiting h = h.2
+stays_refused s t NotAsked h = absurd h
+
+-- a quiet act tells of nothing
+at_quiet : (act : Act) (shown : Shown) (event : Event) → act.shown ≡ shown → act.event ≡ event → is_quiet act ≡ true → told_event act.event ≡ []
+at_quiet act shown Went e f q = rw f refl
+at_quiet act Nothing (Ask r) e f q = let no : is_quiet act ≡ false = rw (e, f) refl in cc
+at_quiet act Nothing (Fault n) e f q = let no : is_quiet act ≡ false = rw (e, f) refl in cc
+at_quiet act Nothing (Halt c) e f q = let no : is_quiet act ≡ false = rw (e, f) refl in cc
+at_quiet act (Byte c) event e f q = let no : is_quiet act ≡ false = rw e refl in cc
+at_quiet act (Span c) event e f q = let no : is_quiet act ≡ false = rw e refl in cc
+at_quiet act (Line c) event e f q = let no : is_quiet act ≡ false = rw e refl in cc
+
+quiet_tells : (act : Act) → is_quiet act ≡ true → told_event act.event ≡ []
+quiet_tells act q = at_quiet act act.shown act.event refl refl q
+
+-- so many ticks, one after another
+record Many (n k : ℕ) (p : Whole) (ts : List Turn) : Type 0 where
+  ticks : ℕ
+  count : (ran k n p).0 ≡ k + ticks
+  leave : made (running p) (replicate ticks Tick ++ ts) ≡ behind (shown_bytes (ran k n p).1.parts.memory (ran k n p).2.shown) (told_event (ran k n p).2.event) (made (ran k n p).1 ts)
+
+by_tick : (n k : ℕ) (p : Whole) (ts : List Turn) → Many n (k + 1) (ticked p).0.parts ts → (b : Bool) → is_quiet (ticked p).1 ≡ b → Many (suc n) k p ts
+by_tick n k p ts more false q =
+    let loud : ran k (suc n) p ≡ (k + 1, (ticked p).0, (ticked p).1) = ran_loud k (suc n) p (omega arith) q in
+    record { ticks = 1; count = ap (λ r. r.0) loud; leave = rw loud (taken_move (running p) Tick ts refl) }
+by_tick n k p ts more true q =
+    let less : suc n - 1 ≡ n = omega arith in
+    let same : ran k (suc n) p ≡ ran (k + 1) n (ticked p).0.parts = ran_quiet k (suc n) p (omega arith) q ∙ ap (λ i. ran (k + 1) i (ticked p).0.parts) less in
+    let runs : (ticked p).0 ≡ running (ticked p).0.parts = ticked_runs p q in
+    let nothing : shown_bytes (ticked p).0.parts.memory (ticked p).1.shown ≡ [] = quiet_shows (ticked p).0.parts.memory (ticked p).1 q in
+    let first : made (running p) (Tick ∷ (replicate more.ticks Tick ++ ts)) ≡ made (ticked p).0 (replicate more.ticks Tick ++ ts) =
+    taken_move (running p) Tick (replicate more.ticks Tick ++ ts) refl
+    ∙ ap (λ bs. behind bs (told_event (ticked p).1.event) (made (ticked p).0 (replicate more.ticks Tick ++ ts))) nothing
+    ∙ ap (λ es. behind [] es (made (ticked p).0 (replicate more.ticks Tick ++ ts))) (quiet_tells (ticked p).1 q) in
+    record {
+      ticks = suc more.ticks;
+      count = ap (λ r. r.0) same ∙ more.count ∙ omega arith;
+      leave = rw same (first ∙ ap (λ s. made s (replicate more.ticks Tick ++ ts)) runs ∙ more.leave);
+    }
+
+many : (n k : ℕ) (p : Whole) (ts : List Turn) → Many n k p ts
+unfolding ran shown_bytes
+many zero k p ts = record { ticks = 0; count = omega arith; leave = refl }
+many (suc n) k p ts = by_tick n k p ts (many n (k + 1) (ticked p).0.parts ts) (is_quiet (ticked p).1) refl
+
+runs_running : (s : State) → Runs s → s ≡ running s.parts
+runs_running s h = rw (h.0, h.1) refl
+
+-- what a call's host sees is what its moves leave
+one_call : (s t : State) (c : Call) (ts : List Turn) → Ensures s c t → made s (moves_of c ++ ts) ≡ behind (seen_bytes t c) (seen_events c) (made t ts)
+one_call s t (Ticked (Ok act)) ts h =
+    let P : State × Act → Type 0 = λ x. made s (Tick ∷ ts) ≡ behind (shown_bytes x.0.parts.memory x.1.shown) (told_event x.1.event) (made x.0 ts) in
+    subst P (sym h.1) (taken_move s Tick ts (tick_taken s h.0))
+one_call s t (Ticked (Err refused)) ts h = left_move s Tick ts (tick_left s t refused h) ∙ ap (λ u. made u ts) (sym (stays_refused s t refused h))
+one_call s t (Answered reply (Ok act)) ts h = by_halt s.halt refl (fits (asked_by s.wait) reply) refl where
+  by_halt : (o : Option Cause) → s.halt ≡ o → (b : Bool) → fits (asked_by s.wait) reply ≡ b → made s (Answer reply ∷ ts) ≡ behind (shown_bytes t.parts.memory act.shown) (told_event act.event) (made t ts)
+  by_halt (Some c) q b f = let no : Ok act ≡ Err Halted = h.halted (rw q refl) in cc
+  by_halt None q false f = let no : Ok act ≡ Err NotAsked = h.not_asked q f in cc
+  by_halt None q true f =
+      let P : State × Act → Type 0 = λ x. made s (Answer reply ∷ ts) ≡ behind (shown_bytes x.0.parts.memory x.1.shown) (told_event x.1.event) (made x.0 ts) in
+      subst P (sym (h.done q f)) (taken_move s (Answer reply) ts (rw (q, f) refl))
+one_call s t (Answered reply (Err refused)) ts h = by_halt s.halt refl (fits (asked_by s.wait) reply) refl where
+  same : made s ts ≡ made t ts
+  same = ap (λ u. made u ts) (sym h.stays)
+
+  by_halt : (o : Option Cause) → s.halt ≡ o → (b : Bool) → fits (asked_by s.wait) reply ≡ b → made s (Answer reply ∷ ts) ≡ behind [] [] (made t ts)
+  by_halt (Some c) q b f = left_move s (Answer reply) ts (rw q refl) ∙ same
+  by_halt None q false f = left_move s (Answer reply) ts (rw (q, f) refl) ∙ same
+  by_halt None q true f = absurd (h.done q f)
+one_call s t (ManyTicked n (Ok r)) ts h =
+    let m : Many n 0 s.parts ts = many n 0 s.parts ts in
+    let P : ℕ × State × Act → Type 0 = λ x. made s (replicate x.0 Tick ++ ts) ≡ behind (shown_bytes x.1.parts.memory x.2.shown) (told_event x.2.event) (made x.1 ts) in
+    let count : (ran 0 n s.parts).0 ≡ m.ticks = m.count ∙ omega arith in
+    subst P (sym h.1)
+    (ap (λ (k : ℕ). made s (replicate k Tick ++ ts)) count
+    ∙ ap (λ u. made u (replicate m.ticks Tick ++ ts)) (runs_running s h.0) ∙ m.leave)
+one_call s t (ManyTicked n (Err refused)) ts h = ap (λ u. made u ts) (sym (stays_refused s t refused h))
+
+-- and so it is for all calls
+pub history_law : (calls : List Call) (s : State) (m : Made) → IsHistory s calls m → m ≡ made s (moves_made calls)
+unfolding IsHistory made
+history_law [] s m h = h
+history_law (c ∷ cs) s m h =
+    h.4 ∙ ap (behind (seen_bytes h.0 c) (seen_events c)) (history_law cs h.0 h.1 h.3) ∙ sym (one_call s h.0 c (moves_made cs) h.2)
