@@ -1,7 +1,7 @@
 -- What a row asks of its device, what it leaves of the buffers, and what it keeps where it stops: by its shape.
 use Rattle.std.proofs.Common.{◌≡◌, ℕ, ◌==◌, ◌||◌, List, [], ◌∷◌, ◌++◌, Option, Some, None, Bool, true, false, refl, sym, subst, if◌then◌else◌}
 use Rattle.block_buffers.specs.declared.entry.Entry.{Entry}
-use Rattle.block_buffers.specs.Entries.{holds, slot_of, victim, has_updated, first_updated, moved_front, assigned, front_marked, unassigned, AreBuffers, HasNoBlockTwice}
+use Rattle.block_buffers.specs.Entries.{holds, slot_of, victim, has_updated, first_updated, moved_front, after_references, assigned, front_marked, unassigned, AreBuffers, HasNoBlockTwice}
 use Rattle.block_buffers.proofs.Kept.{are_moved, are_assigned, are_marked, are_unassigned, blocks_moved}
 use Rattle.block_buffers.proofs.Blocks.{blocks_assigned, blocks_marked, blocks_unassigned}
 use Rattle.input_source.specs.declared.words.Stream.{Stream}
@@ -57,7 +57,8 @@ pub orderly_unassigned : (b : List Entry) → AreOrderly b → AreOrderly (unass
 orderly_unassigned b h = record { buffers = are_unassigned b h.buffers; once = blocks_unassigned b }
 
 keeps_all : (s : Whole) → Keeps s s
-keeps_all s = record { memory = refl; values = refl; returns = refl; ip = refl; pending = refl }
+unfolding after_references
+keeps_all s = record { memory = refl; values = refl; returns = refl; ip = refl; pending = refl; buffers = ([], refl); block_count = refl }
 
 stops_same : (s : Whole) (o : Outcome) → StopsKeeping s (s, o)
 stops_same s outcome.Done = tt
@@ -105,18 +106,30 @@ pub behaves_takes3 : (m : Option After) (s : Whole) (f : ℕ → ℕ → ℕ →
 behaves_takes3 m s f h = by_takes3 (Behaves m s) s f (behaves_fault m s 1) h
 
 -- behind a reference, which keeps all but the order of the buffers
-referenced : (s : Whole) (b : List Entry) (x : After) → StopsKeeping (record s { buffers = b }) x → StopsKeeping s x
-referenced s b (t, outcome.Done) h = tt
-referenced s b (t, outcome.Show span) h = tt
-referenced s b (t, outcome.Byte c) h = tt
-referenced s b (t, outcome.Ask r) h = record { memory = h.memory; values = h.values; returns = h.returns; ip = h.ip; pending = h.pending }
-referenced s b (t, outcome.Fault f) h = record { memory = h.memory; values = h.values; returns = h.returns; ip = h.ip; pending = h.pending }
-referenced s b (t, outcome.Abort span) h = record { memory = h.memory; values = h.values; returns = h.returns; ip = h.ip; pending = h.pending }
-referenced s b (t, outcome.Halt) h = tt
+keeps_behind : (s t : Whole) (slot : ℕ) → Keeps (record s { buffers = moved_front slot s.buffers }) t → Keeps s t
+unfolding after_references
+keeps_behind s t slot h = record {
+  memory = h.memory;
+  values = h.values;
+  returns = h.returns;
+  ip = h.ip;
+  pending = h.pending;
+  buffers = (slot ∷ h.buffers.0, h.buffers.1);
+  block_count = h.block_count;
+}
+
+stops_behind : (s : Whole) (slot : ℕ) (x : After) → StopsKeeping (record s { buffers = moved_front slot s.buffers }) x → StopsKeeping s x
+stops_behind s slot (t, outcome.Done) h = tt
+stops_behind s slot (t, outcome.Show span) h = tt
+stops_behind s slot (t, outcome.Byte c) h = tt
+stops_behind s slot (t, outcome.Ask r) h = keeps_behind s t slot h
+stops_behind s slot (t, outcome.Fault f) h = keeps_behind s t slot h
+stops_behind s slot (t, outcome.Abort span) h = keeps_behind s t slot h
+stops_behind s slot (t, outcome.Halt) h = tt
 
 behaves_referenced : (m : Option After) (s : Whole) (u : ℕ) (x : After) → Behaves m (with_block s u) x → Behaves m s x
 behaves_referenced m s u x h = record {
-  stops = referenced s (moved_front (slot_of s.buffers u) s.buffers) x h.stops;
+  stops = stops_behind s (slot_of s.buffers u) x h.stops;
   asks = h.asks;
   keeps = λ k. h.keeps (orderly_moved (slot_of s.buffers u) s.buffers k);
 }
