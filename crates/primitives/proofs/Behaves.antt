@@ -17,7 +17,9 @@ use Rattle.plain_rows.specs.declared.parts.Request.TheVariants as request
 use Rattle.plain_rows.specs.declared.parts.Span.{Span}
 use Rattle.plain_rows.proofs.Shapes.{by_if, by_room, by_takes1, by_takes2, by_takes3}
 use Rattle.primitives.specs.Blocks.{has_block, without_block, write_of, with_block, fetches}
-use Rattle.primitives.specs.Devices.{gives, saves}
+use Rattle.primitives.specs.Devices.{saves_victim, saves}
+use Rattle.primitives.specs.Names.{searches}
+use Rattle.dictionary.specs.Search.{Sought, Found, Nowhere, TooLong}
 use Rattle.primitives.specs.Needs.{stream_needs}
 use Rattle.primitives.specs.Stops.{Keeps, StopsKeeping}
 use Rattle.primitives.specs.Streams.{has_stream, stream_buffers, with_stream, reads}
@@ -105,6 +107,12 @@ behaves_takes2 m s f h = by_takes2 (Behaves m s) s f (behaves_fault m s 1) h
 pub behaves_takes3 : (m : Option After) (s : Whole) (f : ℕ → ℕ → ℕ → List ℕ → After) → ((c0 c1 c2 : ℕ) (d : List ℕ) → Behaves m s (f c0 c1 c2 d)) → Behaves m s (takes3 s f)
 behaves_takes3 m s f h = by_takes3 (Behaves m s) s f (behaves_fault m s 1) h
 
+pub behaves_searches : (m : Option After) (s : Whole) (x : Sought) (nowhere : After) (found : ℕ → After) → Behaves m s nowhere → ((l : ℕ) → Behaves m s (found l)) → Behaves m s (searches s x nowhere found)
+unfolding searches
+behaves_searches m s (Found l) nowhere found h k = k l
+behaves_searches m s Nowhere nowhere found h k = h
+behaves_searches m s TooLong nowhere found h k = behaves_fault m s 11
+
 -- behind a reference, which keeps all but the order of the buffers
 keeps_behind : (s t : Whole) (slot : ℕ) → Keeps (record s { buffers = moved_front slot s.buffers }) t → Keeps s t
 unfolding after_references
@@ -159,9 +167,9 @@ behaves_reads us s f h = by_zero (cell s.memory BLK == 0) h where
 unfoldable pub given : Whole → Option After
 given s = if (victim s.buffers).updated then Some (s, write_of (victim s.buffers)) else None
 
-pub behaves_gives : (s : Whole) (x : After) → Behaves None s x → Behaves (given s) s (gives s x)
-unfolding gives given
-behaves_gives s x h = by_test (victim s.buffers).updated where
+pub behaves_saves_victim : (s : Whole) (x : After) → Behaves None s x → Behaves (given s) s (saves_victim s x)
+unfolding saves_victim given
+behaves_saves_victim s x h = by_test (victim s.buffers).updated where
   by_test : (b : Bool) → Behaves (if b then Some (s, write_of (victim s.buffers)) else None) s (if b then (s, write_of (victim s.buffers)) else x)
   by_test true = stopped s (write_of (victim s.buffers))
   by_test false = h
@@ -187,4 +195,4 @@ behaves_plain m s (t, outcome.Fault f) h = subst (λ (w : Whole). Behaves m s (w
 behaves_plain m s (t, outcome.Abort span) h = subst (λ (w : Whole). Behaves m s (w, outcome.Abort span)) (sym h) (behaves_same m s (outcome.Abort span) refl)
 behaves_plain m s (t, outcome.Halt) h = record { stops = tt; asks = λ q. cc; keeps = subst AreOrderly (sym h) }
 
-pub ruleset behaves = (behaves_fault, behaves_key, behaves_line, behaves_done, behaves_show, behaves_byte, behaves_if, behaves_room, behaves_takes1, behaves_takes2, behaves_takes3, behaves_fetches, behaves_reads, orderly_marked, orderly_unassigned)
+pub ruleset behaves = (behaves_fault, behaves_key, behaves_line, behaves_done, behaves_show, behaves_byte, behaves_if, behaves_room, behaves_takes1, behaves_takes2, behaves_takes3, behaves_searches, behaves_fetches, behaves_reads, orderly_marked, orderly_unassigned)
