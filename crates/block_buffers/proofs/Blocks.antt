@@ -6,10 +6,10 @@ use Rattle.std.specs.List.Sorted.{IsPermutation}
 use Rattle.std.proofs.lemmas.Bool.{eq-eqb, eqb-true}
 use Rattle.std.proofs.lemmas.List.Elements.{All-cons, All-take}
 use Rattle.std.proofs.lemmas.List.Kept.{AllPairs-cons}
-use Rattle.std.proofs.lemmas.List.Sorted.{IsPermutation-filter_both}
+use Rattle.std.proofs.lemmas.List.Sorted.{IsPermutation-refl, IsPermutation-trans, IsPermutation-filter_both}
 use Rattle.std.proofs.lemmas.List.Sums.{passes_at_first}
 use Rattle.block_buffers.specs.declared.entry.Entry.{Entry}
-use Rattle.block_buffers.specs.Entries.{unassigned_slot, start, is_in, is_elsewhere, is_of, holds, slot_of, moved_front, assigned, front_marked, cleaned_entry, cleaned, unmarked_entry, unmarked, unassigned_entry, unassigned, victim, entry_at, AreBuffers, HasNoBlockTwice}
+use Rattle.block_buffers.specs.Entries.{unassigned_slot, start, is_in, is_elsewhere, is_of, holds, slot_of, moved_front, after_references, assigned, front_marked, cleaned_entry, cleaned, unmarked_entry, unmarked, unassigned_entry, unassigned, victim, entry_at, AreBuffers, HasNoBlockTwice}
 use Rattle.block_buffers.proofs.Fronts.{moved_at, front_some, front_none}
 use Rattle.block_buffers.proofs.Kept.{BlocksDiffer}
 use Rattle.block_buffers.proofs.Pairs.{pairs_head, pairs_tail, pairs_map}
@@ -113,3 +113,10 @@ slot_assigned u b = let yes : (u == u) ≡ true = eq-eqb u u refl in rw (slot_of
 pub moved_permutes : (slot : ℕ) (b : List Entry) → IsPermutation b (moved_front slot b)
 unfolding moved_front
 moved_permutes slot b = IsPermutation-filter_both (is_in slot) (is_elsewhere slot) (λ e. refl) b
+
+-- so do references one after the other
+pub references_permute : (b : List Entry) (slots : List ℕ) → IsPermutation b (after_references slots b)
+unfolding after_references
+references_permute b [] = IsPermutation-refl b
+references_permute b (slot ∷ slots) =
+    IsPermutation-trans b (moved_front slot b) (after_references slots (moved_front slot b)) (moved_permutes slot b) (references_permute (moved_front slot b) slots)

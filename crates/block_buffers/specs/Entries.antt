@@ -46,6 +46,15 @@ is_elsewhere slot e = not (is_in slot e)
 unfoldable pub moved_front : ℕ → List Entry → List Entry
 moved_front slot b = filter (is_in slot) b ++ filter (is_elsewhere slot) b
 
+-- the buffers after references to these slots, one after the other
+unfoldable pub after_references : List ℕ → List Entry → List Entry
+after_references [] b = b
+after_references (slot ∷ slots) b = after_references slots (moved_front slot b)
+
+-- references alone made the new list of the old one: the same entries, in another order
+abbrev pub IsReordered : List Entry → List Entry → Type 0
+IsReordered old new = (slots : List ℕ) × (new ≡ after_references slots old)
+
 -- the victim's buffer is given to block u, and is referenced; it is not updated
 unfoldable pub assigned : ℕ → List Entry → List Entry
 assigned u b = record { slot = (victim b).slot; block = Some u; updated = false } ∷ take 3 b

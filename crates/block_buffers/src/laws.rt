@@ -1,7 +1,7 @@
 //! What the definitions come to, in the words of their subjects: entries, blocks of a device, lines of a screen.
 ghost use Rattle.std.specs.Prelude.{◌≡◌, ◌≢◌, ℕ, ◌+◌, ◌<◌, ◌≤◌, ◌∷◌, List, Some, IsTrue, IsFalse, remove, IsPermutation, count_by, length};
 ghost use Rattle.block_buffers.specs.declared.entry.Entry.{Entry};
-ghost use Rattle.block_buffers.specs.Entries.{start, is_in, entry_at, victim, holds, slot_of, moved_front, assigned, front_marked, cleaned, unmarked, unassigned, has_updated, first_updated, AreBuffers, HasNoBlockTwice, IsLowestUpdated};
+ghost use Rattle.block_buffers.specs.Entries.{start, is_in, entry_at, victim, holds, slot_of, moved_front, after_references, assigned, front_marked, cleaned, unmarked, unassigned, has_updated, first_updated, AreBuffers, HasNoBlockTwice, IsLowestUpdated};
 ghost use Rattle.block_buffers.specs.Disks.{Disk, block_at, written};
 ghost use Rattle.block_buffers.specs.Screens.{IsScreen, IsLine, blank_line, blank_screen, line_at, with_line, line_inserted, line_deleted};
 
@@ -10,6 +10,11 @@ pub fn moved_front_law()
     ensures order { (b : List Entry) (place : ℕ) → AreBuffers b → place < 4 → moved_front (entry_at b place).slot b ≡ entry_at b place ∷ remove b place }
     ensures front { (b : List Entry) (slot : ℕ) → AreBuffers b → slot < 4 → (entry_at (moved_front slot b) 0).slot ≡ slot }
     ensures same { (b : List Entry) (slot : ℕ) → IsPermutation b (moved_front slot b) }
+{}
+
+/// References change the order alone: no entry is lost, changed or doubled.
+pub fn reordered_law()
+    ensures { (b : List Entry) (slots : List ℕ) → IsPermutation b (after_references slots b) }
 {}
 
 /// A reference to a block that a buffer has brings its entry to the front.

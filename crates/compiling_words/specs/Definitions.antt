@@ -1,20 +1,26 @@
 -- How a colon definition begins and ends.
-use Rattle.std.specs.Prelude.{◌≡◌, ℕ, ◌+◌, List, [], length, true, Result, Ok, Err, IsTrue, IsFalse}
-use Rattle.memory.specs.Bytes.{byte, cell, put_byte, put_cell, cell_bytes}
+use Rattle.std.specs.Prelude.{◌≡◌, ℕ, ◌+◌, List, [], ◌∷◌, ◌++◌, length, Result, Ok, Err, IsTrue, IsFalse}
+use Rattle.memory.specs.Bytes.{byte, cell, put_byte, put_cell, cell_bytes, Write, PutCell, written}
 use Rattle.memory.specs.declared.system.TheConstants.{STATE, CONTEXT, CURRENT}
 use Rattle.dictionary.specs.declared.fault.AddFault.{AddFault}
 use Rattle.dictionary.specs.declared.fault.AddFault.TheVariants.{NameLength, Full}
-use Rattle.dictionary.specs.Adding.{is_name, with_header}
+use Rattle.dictionary.specs.declared.site.Site.{Site}
+use Rattle.dictionary.specs.Adding.{is_name, site_of, header_writes}
 use Rattle.dictionary.specs.Laying.{fits}
 use Rattle.dictionary.specs.Newest.{newest_count, revealed}
 use Rattle.compiling_words.specs.declared.laying.Full.{Full as Refused}
 use Rattle.compiling_words.specs.Code.{runtime}
 use Rattle.compiling_words.specs.Laying.{laid}
 
--- memory with a definition begun: a hidden header with the code field of a colon word; then words are compiled, and
--- CURRENT is searched first
-abbrev pub begun : List ℕ → List ℕ → List ℕ
-begun m name = put_cell (put_cell (with_header m name 1 [] true) STATE 65535) CONTEXT (cell m CURRENT)
+-- the writes that begin a definition at a site: a hidden header with the code field of a colon word; then words are
+-- compiled, and the vocabulary CURRENT is searched first
+abbrev pub begun_writes : Site → ℕ → List ℕ → List Write
+begun_writes site current name =
+    header_writes site name (160 + length name) 1 [] ++ (PutCell STATE 65535 ∷ PutCell CONTEXT current ∷ [])
+
+-- memory with a definition begun
+unfoldable pub begun : List ℕ → List ℕ → List ℕ
+begun m name = written m (begun_writes (site_of m name) (cell m CURRENT) name)
 
 abbrev pub IsBegun : List ℕ → List ℕ → List ℕ → Result Unit AddFault → Type 0
 IsBegun old new name (Ok _) = IsTrue (is_name name) × IsTrue (fits old (7 + length name)) × (new ≡ begun old name)

@@ -16,6 +16,7 @@ const COLON: u16 = 1;
 ///
 /// `NameLength` for a name of 0 or over 31 bytes, then `Full` where the header would end behind 61,440: nothing is
 /// written.
+#[tactic(auto, unfolding(crate::specs::Definitions::begun, dictionary::specs::Adding::with_header, dictionary::specs::Adding::with_header_at, memory::specs::Bytes::written))]
 pub fn begin_definition(memory: &mut Memory, name: &[u8]) -> Result<(), AddFault>
     ensures { IsBegun memory.old memory.new name.now result }
 {

@@ -1,10 +1,11 @@
-use Rattle.std.proofs.Common.{◌≡◌, ◌≢◌, ℕ, zero, suc, ◌+◌, ◌-◌, ◌<◌, ◌≤◌, List, [], ◌∷◌, ◌++◌, refl, arith}
+use Rattle.std.proofs.Common.{◌≡◌, ◌≢◌, ℕ, zero, suc, ◌+◌, ◌-◌, ◌<◌, ◌≤◌, List, refl, arith}
 use Rattle.std.proofs.lemmas.Grind.{common_steps}
 use Rattle.cells.specs.Cell.{wrap}
-use Rattle.memory.specs.Bytes.{cell, put_cell}
+use Rattle.memory.specs.Bytes.{cell, put_cell, written}
+use Rattle.memory.proofs.Kept.{written-append}
 use Rattle.dictionary.specs.Chain.{chain}
 use Rattle.dictionary.specs.Order.{records, members}
-use Rattle.dictionary.specs.Forget.{written, first_below, cut_all, kept_record, cut_vocabulary, cuts}
+use Rattle.dictionary.specs.Forget.{first_below, cut_all, kept_record, cut_vocabulary, cuts}
 
 pub below_at_end : (m : List ℕ) (t n l : ℕ) → l ≡ 0 → first_below t (chain m n l) ≡ 0
 unfolding first_below chain
@@ -68,11 +69,6 @@ cut_more m t zero r now h k = absurd (omega arith)
 cut_more m t (suc n) r now h k = let e : suc n - 1 ≡ n = omega arith in rw e (grind arith)
 
 pub ruleset cutting = (cut_at_end, cut_none, cut_more)
-
-written-append : (m : List ℕ) (vs ws : List (ℕ × ℕ)) → written m (vs ++ ws) ≡ written (written m vs) ws
-unfolding written
-written-append m [] ws = refl
-written-append m (v ∷ vs) ws = written-append (put_cell m v.0 v.1) vs ws
 
 pub written_cuts : (m now : List ℕ) (t : ℕ) → written now (cuts m t) ≡
     put_cell (written (written (put_cell (cut_all m t 32769 (kept_record m t) (put_cell now 52 (kept_record m t))) 28 t)

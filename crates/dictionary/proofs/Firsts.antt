@@ -78,7 +78,7 @@ one_step : (l : ℕ) (b : Bool) → length (if b then [] else l ∷ []) ≤ 0 �
 one_step l true h = refl
 one_step l false h = absurd (omega arith)
 
-chain_cut : (m : List ℕ) (n l : ℕ) → length (chain m (suc n) l) ≤ n → chain m (suc n) l ≡ chain m n l
+pub chain_cut : (m : List ℕ) (n l : ℕ) → length (chain m (suc n) l) ≤ n → chain m (suc n) l ≡ chain m n l
 unfolding chain
 chain_cut m zero l h = one_step l (l == 0) h
 chain_cut m (suc n) l h = cut_step n l (chain m (suc n) (cell m l)) (chain m n (cell m l)) (l == 0) (chain_cut m n (cell m l)) h

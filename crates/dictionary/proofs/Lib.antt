@@ -8,5 +8,8 @@ pub mod Marking
 pub mod Firsts
 pub mod Unnamed
 pub mod Ascending
-pub mod Cleared
+pub mod NewCounts
 pub mod Kept
+pub mod Searches
+pub mod Fronted
+pub mod Laid

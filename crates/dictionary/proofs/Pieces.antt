@@ -1,10 +1,10 @@
-use Rattle.std.proofs.Common.{◌≡◌, ℕ, ◌+◌, ◌<◌, List, [], ◌∷◌, ◌++◌, length, length-append, refl, arith, ◌∙◌}
+use Rattle.std.proofs.Common.{◌≡◌, ℕ, ◌+◌, ◌<◌, List, [], ◌∷◌, ◌++◌, length, length-append, append_assoc, refl, ap, arith, ◌∙◌}
 use Rattle.cells.specs.Cell.{wrap}
 use Rattle.memory.specs.Bytes.{put_byte, put_cell, put_bytes, cell_bytes}
 use Rattle.memory.proofs.Puts.{put_bytes_on}
 use Rattle.dictionary.specs.Adding.{header_bytes}
 
-length-cell_bytes : (x : ℕ) → length (cell_bytes x) ≡ 2
+pub length-cell_bytes : (x : ℕ) → length (cell_bytes x) ≡ 2
 unfolding cell_bytes
 length-cell_bytes x = refl
 
@@ -46,5 +46,7 @@ put_header m a v k c x a2 a4 a5 a6 a7 name extra h e2 e4 e5 e6 e7 =
     let p4 = then_put m a a5 (cell_bytes v ++ cell_bytes k ++ (c ∷ [])) name (put_byte (put_cell (put_cell m a v) a2 k) a4 c) p3 h (omega arith) in
     let p5 = cell_put (put_bytes (put_byte (put_cell (put_cell m a v) a2 k) a4 c) a5 name) a6 x
     ∙ then_put m a a6 (cell_bytes v ++ cell_bytes k ++ (c ∷ []) ++ name) (cell_bytes x) (put_bytes (put_byte (put_cell (put_cell m a v) a2 k) a4 c) a5 name) p4 h (omega arith) in
+    let flat : cell_bytes v ++ cell_bytes k ++ (c ∷ []) ++ name ++ cell_bytes x ++ extra ≡ cell_bytes v ++ (cell_bytes k ++ (c ∷ (name ++ (cell_bytes x ++ extra)))) = simp append_assoc in
     then_put m a a7 (cell_bytes v ++ cell_bytes k ++ (c ∷ []) ++ name ++ cell_bytes x) extra
     (put_cell (put_bytes (put_byte (put_cell (put_cell m a v) a2 k) a4 c) a5 name) a6 x) p5 h (omega arith)
+    ∙ ap (put_bytes m a) flat

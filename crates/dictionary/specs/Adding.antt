@@ -1,12 +1,12 @@
-use Rattle.std.specs.Prelude.{ℕ, ◌+◌, List, [], ◌∷◌, ◌++◌, ◌≡◌, Bool, false, ◌&&◌, if◌then◌else◌, nat_le, length, Result, Ok, Err, IsTrue, IsFalse}
+use Rattle.std.specs.Prelude.{ℕ, ◌+◌, List, [], ◌∷◌, ◌++◌, ◌≡◌, Bool, ◌&&◌, if◌then◌else◌, nat_le, length, Result, Ok, Err, IsTrue, IsFalse}
 use Rattle.cells.specs.Cell.{wrap}
-use Rattle.memory.specs.Bytes.{cell, put_cell, cell_bytes}
+use Rattle.memory.specs.Bytes.{cell, cell_bytes, Write, PutCell, PutBytes, written}
 use Rattle.memory.specs.declared.system.TheConstants.{BLK, DP, LAST, CURRENT, VOC_LINK}
 use Rattle.dictionary.specs.declared.fault.AddFault.{AddFault}
 use Rattle.dictionary.specs.declared.fault.AddFault.TheVariants.{NameLength, Full}
 use Rattle.dictionary.specs.declared.site.Site.{Site}
 use Rattle.dictionary.specs.Search.{head_of}
-use Rattle.dictionary.specs.Laying.{fits, laid_at}
+use Rattle.dictionary.specs.Laying.{fits}
 
 -- a name has 1 to 31 bytes
 unfoldable pub is_name : List ℕ → Bool
@@ -19,7 +19,7 @@ new_count hidden name = (if hidden then 160 else 128) + length name
 -- a header: view, link, count byte, name, code field, and what is laid with it
 unfoldable pub header_bytes : ℕ → ℕ → ℕ → List ℕ → ℕ → List ℕ → List ℕ
 header_bytes view link count name code extra =
-    cell_bytes view ++ cell_bytes link ++ (count ∷ []) ++ name ++ cell_bytes code ++ extra
+    cell_bytes view ++ (cell_bytes link ++ (count ∷ (name ++ (cell_bytes code ++ extra))))
 
 -- what a new header takes from memory: HERE, the block of its view, the head of the chain of its name's class in
 -- CURRENT, and the newest header of that chain
@@ -31,13 +31,21 @@ site_of m name = record {
   head = head_of (cell m CURRENT) name;
 }
 
--- memory with a header laid at its site, then in its chain, then in LAST
+-- the writes of a new header at its site: its bytes and DP behind them; then its link field, in the head of its chain and
+-- in LAST
+abbrev pub header_writes : Site → List ℕ → ℕ → ℕ → List ℕ → List Write
+header_writes site name count code extra =
+    let header = header_bytes site.view site.link count name code extra in
+    PutBytes site.here header
+    ∷ PutCell DP (wrap (site.here + length header))
+    ∷ PutCell site.head (wrap (site.here + 2))
+    ∷ PutCell LAST (wrap (site.here + 2))
+    ∷ []
+
+-- memory with a header at its site
 unfoldable pub with_header_at : Site → List ℕ → List ℕ → ℕ → List ℕ → Bool → List ℕ
 with_header_at site m name code extra hidden =
-    put_cell (put_cell
-    (laid_at site.here m (header_bytes site.view site.link (new_count hidden name) name code extra))
-    site.head (wrap (site.here + 2)))
-    LAST (wrap (site.here + 2))
+    written m (header_writes site name (new_count hidden name) code extra)
 
 -- memory with a header at HERE
 unfoldable pub with_header : List ℕ → List ℕ → ℕ → List ℕ → Bool → List ℕ
@@ -62,11 +70,15 @@ IsAdded old new name code extra hidden (Err fault) = IsAddable old name extra (E
 unfoldable pub record_bytes : ℕ → List ℕ
 record_bytes newest = cell_bytes 0 ++ cell_bytes 0 ++ cell_bytes 0 ++ cell_bytes 0 ++ cell_bytes newest
 
--- memory with a vocabulary's header and record at a site, and last its record in VOC-LINK
+-- the writes of a new vocabulary at its site: its header with its record laid with it, and last the record, in VOC-LINK
+abbrev pub vocabulary_writes : Site → ℕ → List ℕ → List Write
+vocabulary_writes site newest name =
+    header_writes site name (128 + length name) 4 (record_bytes newest)
+    ++ (PutCell VOC_LINK (wrap (site.here + (7 + length name))) ∷ [])
+
+-- memory with a vocabulary at its site
 unfoldable pub with_vocabulary_at : Site → ℕ → List ℕ → List ℕ → List ℕ
-with_vocabulary_at site newest m name =
-    put_cell (with_header_at site m name 4 (record_bytes newest) false)
-    VOC_LINK (wrap (site.here + (7 + length name)))
+with_vocabulary_at site newest m name = written m (vocabulary_writes site newest name)
 
 -- memory with a vocabulary at HERE
 unfoldable pub with_vocabulary : List ℕ → List ℕ → List ℕ

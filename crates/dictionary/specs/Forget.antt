@@ -1,6 +1,6 @@
 use Rattle.std.specs.Prelude.{ℕ, ◌+◌, ◌<◌, List, [], ◌∷◌, ◌++◌, ◌≡◌, ◌==◌, Bool, not, ◌&&◌, ◌||◌, nat_lt, nat_le, if◌then◌else◌, length, flat_map, find, unwrap_or, Result, Ok, Err, IsTrue, IsFalse}
 use Rattle.cells.specs.Cell.{wrap, difference}
-use Rattle.memory.specs.Bytes.{cell, put_cell}
+use Rattle.memory.specs.Bytes.{cell, Write, PutCell, written}
 use Rattle.memory.specs.declared.system.TheConstants.{DP, LAST, CONTEXT, CURRENT, FORTH_VOC, VOC_LINK, FENCE}
 use Rattle.dictionary.specs.declared.fault.ForgetFault.{ForgetFault}
 use Rattle.dictionary.specs.declared.fault.ForgetFault.TheVariants.{NameLength, NotFound, ChainTooLong}
@@ -12,24 +12,19 @@ unfoldable pub target : List ℕ → List ℕ → ℕ
 target m name = difference (found_in m (cell m CURRENT) name) 2
 
 -- the name means no header there, or one that begins below FENCE
-unfoldable pub is_kept : List ℕ → List ℕ → Bool
-is_kept m name = (found_in m (cell m CURRENT) name == 0) || nat_lt (target m name) (cell m FENCE)
+unfoldable pub is_missing_or_fenced : List ℕ → List ℕ → Bool
+is_missing_or_fenced m name = (found_in m (cell m CURRENT) name == 0) || nat_lt (target m name) (cell m FENCE)
 
 -- where the header begins that can be forgotten, or why there is none
 abbrev pub IsTarget : List ℕ → List ℕ → Result ℕ ForgetFault → Type 0
 IsTarget m name (Err NameLength) = length name ≡ 0
 IsTarget m name (Err NotFound) =
-    (0 < length name) × IsFalse (is_too_long_in m (cell m CURRENT) name) × IsTrue (is_kept m name)
+    (0 < length name) × IsFalse (is_too_long_in m (cell m CURRENT) name) × IsTrue (is_missing_or_fenced m name)
 IsTarget m name (Err ChainTooLong) =
-    (0 < length name) × IsTrue (is_too_long_in m (cell m CURRENT) name || (not (is_kept m name) && is_beyond_limit m))
+    (0 < length name) × IsTrue (is_too_long_in m (cell m CURRENT) name || (not (is_missing_or_fenced m name) && is_beyond_limit m))
 IsTarget m name (Ok t) =
-    (0 < length name) × IsFalse (is_too_long_in m (cell m CURRENT) name) × IsFalse (is_kept m name)
+    (0 < length name) × IsFalse (is_too_long_in m (cell m CURRENT) name) × IsFalse (is_missing_or_fenced m name)
     × IsFalse (is_beyond_limit m) × (t ≡ target m name)
-
--- cells written in turn, each an address and what goes there
-unfoldable pub written : List ℕ → List (ℕ × ℕ) → List ℕ
-written m [] = m
-written m (w ∷ ws) = written (put_cell m w.0 w.1) ws
 
 -- the first of a list that is below t, 0 where there is none
 unfoldable pub first_below : ℕ → List ℕ → ℕ
@@ -40,23 +35,23 @@ unfoldable pub kept_record : List ℕ → ℕ → ℕ
 kept_record m t = first_below t (records m 32769 (cell m VOC_LINK))
 
 -- a head goes to the first link field of its chain below t
-abbrev pub cut_head : List ℕ → ℕ → ℕ → ℕ × ℕ
-cut_head m t head = (head, first_below t (members m head))
+abbrev pub cut_head : List ℕ → ℕ → ℕ → Write
+cut_head m t head = PutCell head (first_below t (members m head))
 
 -- so do the four heads of a record
-abbrev pub cut_heads : List ℕ → ℕ → ℕ → List (ℕ × ℕ)
+abbrev pub cut_heads : List ℕ → ℕ → ℕ → List Write
 cut_heads m t r =
     cut_head m t r ∷ cut_head m t (wrap (r + 2)) ∷ cut_head m t (wrap (r + 4)) ∷ cut_head m t (wrap (r + 6)) ∷ []
 
 -- a cell that names a vocabulary at t or above goes to FORTH's
-unfoldable pub cut_vocabulary : List ℕ → ℕ → ℕ → List (ℕ × ℕ)
-cut_vocabulary m t place = if nat_le t (cell m place) then (place, FORTH_VOC) ∷ [] else []
+unfoldable pub cut_vocabulary : List ℕ → ℕ → ℕ → List Write
+cut_vocabulary m t place = if nat_le t (cell m place) then PutCell place FORTH_VOC ∷ [] else []
 
 -- all that is written where what stands at t and above is forgotten, in order, out of the memory before
-unfoldable pub cuts : List ℕ → ℕ → List (ℕ × ℕ)
+unfoldable pub cuts : List ℕ → ℕ → List Write
 cuts m t =
-    (VOC_LINK, kept_record m t) ∷ (flat_map (cut_heads m t) (records m 32769 (kept_record m t))
-    ++ ((DP, t) ∷ (cut_vocabulary m t CONTEXT ++ (cut_vocabulary m t CURRENT ++ ((LAST, 0) ∷ [])))))
+    PutCell VOC_LINK (kept_record m t) ∷ (flat_map (cut_heads m t) (records m 32769 (kept_record m t))
+    ++ (PutCell DP t ∷ (cut_vocabulary m t CONTEXT ++ (cut_vocabulary m t CURRENT ++ (PutCell LAST 0 ∷ [])))))
 
 unfoldable pub forgotten : List ℕ → ℕ → List ℕ
 forgotten m t = written m (cuts m t)

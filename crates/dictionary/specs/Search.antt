@@ -61,6 +61,19 @@ found_hiding m name hidden = first_from (is_named_but m name hidden) m (cell m C
 unfoldable pub is_too_long_hiding : List ℕ → List ℕ → ℕ → Bool
 is_too_long_hiding m name hidden = is_missed_from (is_named_but m name hidden) m (cell m CONTEXT) name
 
+-- what a search comes to: a header's link field, none, or a chain of more than 32,768 headers without it
+pub data Sought : Type 0 where
+  Found : ℕ → Sought
+  Nowhere : Sought
+  TooLong : Sought
+
+abbrev pub sought_as : ℕ → Bool → Sought
+sought_as l long = if long then TooLong else if l == 0 then Nowhere else Found l
+
+-- the machine's own search
+unfoldable pub sought : List ℕ → List ℕ → Sought
+sought m name = sought_as (found m name) (is_too_long m name)
+
 -- a name's chain in a vocabulary, cut after 32,769 members
 unfoldable pub chain_in : List ℕ → ℕ → List ℕ → List ℕ
 chain_in m voc name = chain m 32769 (cell m (head_of voc name))

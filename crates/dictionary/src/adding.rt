@@ -62,7 +62,7 @@ impl Site {
 
     /// Writes a header here: its bytes with the code field `code` and `extra` behind it, then DP, then the head of its
     /// chain and LAST. Whether it fits isn't asked.
-    #[tactic(auto, using(crate::proofs::Pieces::length_header), unfolding(crate::specs::Adding::with_header_at, crate::specs::Laying::laid_at))]
+    #[tactic(auto, using(crate::proofs::Pieces::length_header), unfolding(crate::specs::Adding::with_header_at, memory::specs::Bytes::written))]
     pub fn write(self, memory: &mut Memory, name: &[u8], code: u16, extra: &[u8], hidden: bool)
         requires name { length name.now ≤ 31 }
         requires extra { length extra.now ≤ 61440 }
@@ -78,7 +78,7 @@ impl Site {
 
     /// Writes a vocabulary here: its header and its record, which links to the record `newest`, and last the record's
     /// address in VOC-LINK. Whether it fits isn't asked.
-    #[tactic(auto, unfolding(crate::specs::Adding::with_vocabulary_at))]
+    #[tactic(auto, unfolding(crate::specs::Adding::with_vocabulary_at, crate::specs::Adding::with_header_at, memory::specs::Bytes::written))]
     pub fn write_vocabulary(self, memory: &mut Memory, name: &[u8], newest: u16)
         requires { length name.now ≤ 31 }
         ensures { memory.new ≡ with_vocabulary_at self newest memory.old name.now }

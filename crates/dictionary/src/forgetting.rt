@@ -1,9 +1,9 @@
 //! Forgetting.
 
 ghost use Rattle.std.specs.Prelude.{◌≡◌};
-ghost use Rattle.memory.specs.Bytes.{put_cell};
+ghost use Rattle.memory.specs.Bytes.{put_cell, written};
 ghost use Rattle.dictionary.specs.Order.{members};
-ghost use Rattle.dictionary.specs.Forget.{target, IsTarget, written, first_below, kept_record, cut_vocabulary, cuts, forgotten, IsForgotten, cut_all};
+ghost use Rattle.dictionary.specs.Forget.{target, IsTarget, first_below, kept_record, cut_vocabulary, cuts, forgotten, IsForgotten, cut_all};
 
 use crate::counting::{CUT, is_beyond_limit};
 use crate::fault::ForgetFault;
@@ -16,7 +16,7 @@ use memory::{Memory, Snapshot};
 /// In this order: `NameLength` for the empty name; `ChainTooLong` where the search passes its limit; `NotFound` where
 /// there is no such header, or it begins below FENCE; `ChainTooLong` where more than 32,768 headers and records are
 /// reached in all vocabularies.
-#[tactic(auto, unfolding(crate::specs::Forget::target, crate::specs::Forget::is_kept))]
+#[tactic(auto, unfolding(crate::specs::Forget::target, crate::specs::Forget::is_missing_or_fenced))]
 pub fn forget_target(memory: &Memory, name: &[u8]) -> Result<u16, ForgetFault>
     ensures { IsTarget memory.now name.now result }
 {
@@ -98,7 +98,7 @@ fn cut_all(memory: &mut Memory, before: &Snapshot, t: u16, start: u16)
 }
 
 /// A cell that names a vocabulary at `t` or above goes to FORTH's. Any other isn't written.
-#[tactic(auto, unfolding(crate::specs::Forget::cut_vocabulary, crate::specs::Forget::written))]
+#[tactic(auto, unfolding(crate::specs::Forget::cut_vocabulary, memory::specs::Bytes::written))]
 fn cut_vocabulary(memory: &mut Memory, before: &Snapshot, t: u16, place: u16)
     ensures { memory.new ≡ written memory.old (cut_vocabulary before.now t place) }
 {

@@ -1,10 +1,10 @@
 //! Laws of the dictionary.
 
-ghost use Rattle.std.specs.Prelude.{◌≡◌, ◌<◌, ◌≤◌, ◌↔◌, ℕ, List, length, slice_index, All, Contains, IsTrue, IsFalse, true, false, nat_lt};
+ghost use Rattle.std.specs.Prelude.{◌≡◌, ◌<◌, ◌≤◌, ◌↔◌, ℕ, Bool, List, length, slice_index, All, Contains, IsTrue, IsFalse, true, false, nat_lt};
 ghost use Rattle.std.specs.List.Sorted.{IsStrictlyIncreasing};
 ghost use Rattle.memory.specs.Bytes.{cell};
 ghost use Rattle.memory.specs.declared.system.TheConstants.{FORTH_VOC, VOC_LINK};
-ghost use Rattle.dictionary.specs.Header.{is_named};
+ghost use Rattle.dictionary.specs.Header.{count_byte, name_length, is_hidden, is_immediate, is_named};
 ghost use Rattle.dictionary.specs.Chain.{IsNewest};
 ghost use Rattle.dictionary.specs.Search.{chain_in, searched_in, goes_on_in, found_in, is_too_long_in, found_from, is_too_long_from};
 ghost use Rattle.dictionary.specs.Adding.{is_name, new_count};
@@ -68,4 +68,14 @@ pub fn forget_law()
 /// What is revealed has the count byte that it would have had unhidden.
 pub fn reveal_law()
     ensures { (name : List ℕ) → length name ≤ 31 → revealed (new_count true name) ≡ new_count false name }
+{}
+
+/// A new header's count byte says the length of its name, whether it is hidden, and that it isn't immediate.
+pub fn count_byte_law()
+    ensures length { (m name : List ℕ) (l : ℕ) (hidden : Bool) → length name ≤ 31
+        → count_byte m l ≡ new_count hidden name → name_length m l ≡ length name }
+    ensures hidden { (m name : List ℕ) (l : ℕ) (hidden : Bool) → length name ≤ 31
+        → count_byte m l ≡ new_count hidden name → is_hidden m l ≡ hidden }
+    ensures immediate { (m name : List ℕ) (l : ℕ) (hidden : Bool) → length name ≤ 31
+        → count_byte m l ≡ new_count hidden name → is_immediate m l ≡ false }
 {}

@@ -8,7 +8,8 @@ use Rattle.cells.specs.Cell.{wrap}
 front_length : (m : List ℕ) (slot : ℕ) → length m ≡ 65536 → slot < 4 → length (take (61440 + 1024 * slot) m) ≡ 61440 + 1024 * slot
 front_length m slot l h = length-take-le (61440 + 1024 * slot) m (omega (arith, l, h))
 
-byte_below : (m bs : List ℕ) (slot a : ℕ) → length m ≡ 65536 → slot < 4 → a < 61440 → byte (with_page m slot bs) a ≡ byte m a
+-- a byte below the buffers
+pub byte_below : (m bs : List ℕ) (slot a : ℕ) → length m ≡ 65536 → slot < 4 → a < 61440 → byte (with_page m slot bs) a ≡ byte m a
 unfolding with_page byte
 byte_below m bs slot a l h k =
     get_or-append (take (61440 + 1024 * slot) m) (bs ++ drop (61440 + 1024 * slot + 1024) m) 0 a (omega (arith, front_length m slot l h, k))

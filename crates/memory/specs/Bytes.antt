@@ -61,3 +61,17 @@ put_bytes m a (b ∷ bs) = put_bytes (put_byte m a b) (wrap (a + 1)) bs
 -- the two bytes of a cell, the low one first
 unfoldable pub cell_bytes : ℕ → List ℕ
 cell_bytes x = x % 256 ∷ x / 256 ∷ []
+
+-- what is written: a cell, or bytes from an address on
+pub data Write : Type 0 where
+  PutCell : ℕ → ℕ → Write
+  PutBytes : ℕ → List ℕ → Write
+
+abbrev pub with_write : List ℕ → Write → List ℕ
+with_write m (PutCell a x) = put_cell m a x
+with_write m (PutBytes a bs) = put_bytes m a bs
+
+-- the writes made in turn
+unfoldable pub written : List ℕ → List Write → List ℕ
+written m [] = m
+written m (w ∷ ws) = written (with_write m w) ws

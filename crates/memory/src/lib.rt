@@ -2,6 +2,7 @@
 #![tactic(auto)]
 
 mod access;
+pub mod laws;
 mod snapshot;
 pub mod system;
 

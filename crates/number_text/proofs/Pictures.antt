@@ -1,8 +1,9 @@
 use Rattle.std.proofs.Common.{◌≡◌, ◌≢◌, ℕ, suc, ◌+◌, ◌-◌, ◌<◌, ◌≤◌, List, [], ◌∷◌, ◌++◌, ◌∙◌, length, length-append, take, drop, map, reverse, get_or, refl, ap, arith, sym}
-use Rattle.std.proofs.lemmas.List.{length-set, length-reverse, reverse-reverse, reverse-append, map-append, get_or-set_same, get_or-set_other, get_or-take}
+use Rattle.std.proofs.lemmas.List.{length-set, length-reverse, reverse-reverse, reverse-append, map-append, length-map, set_comm, get_or-set_same, get_or-set_other, get_or-take}
 use Rattle.std.proofs.Math.Seq.{take-suc}
 use Rattle.cells.specs.Cell.{wrap, difference}
-use Rattle.memory.specs.Bytes.{byte, bytes, put_byte}
+use Rattle.memory.specs.Bytes.{byte, bytes, put_byte, put_bytes}
+use Rattle.memory.proofs.Puts.{put_bytes-append}
 use Rattle.memory.proofs.Ranges.{byte-bytes}
 use Rattle.number_text.specs.Digits.{byte_of}
 use Rattle.number_text.specs.Picture.{put_down}
@@ -73,3 +74,43 @@ picture_shows m end ds l h k =
     let s : bytes (put_down m end (reverse ds)) (difference end (length (reverse ds))) (length (reverse ds)) ≡ map byte_of (reverse (reverse ds)) =
     put_down_shows m end (reverse ds) l h (omega arith) in
     rw (e, reverse-reverse ds) at s
+
+apart : (m : List ℕ) (i j x y : ℕ) → i ≢ j → put_byte (put_byte m i x) j y ≡ put_byte (put_byte m j y) i x
+unfolding put_byte
+apart m i j x y h = set_comm m i j x y h
+
+-- a byte behind bytes may be put before them
+put_later : (m : List ℕ) (a n p b : ℕ) (bs : List ℕ) → a < 65536 → n < 65536 → p ≡ wrap (a + n) → length bs ≤ n → put_bytes (put_byte m p b) a bs ≡ put_byte (put_bytes m a bs) p b
+unfolding put_bytes
+put_later m a n p b [] h k e l = refl
+put_later m a n p b (c ∷ bs) h k e l =
+    let ne : p ≢ a = omega arith in
+    ap (λ (x : List ℕ). put_bytes x (wrap (a + 1)) bs) (apart m p a b c ne)
+    ∙ put_later (put_byte m a c) (wrap (a + 1)) (n - 1) p b bs (omega arith) (omega arith) (omega arith) (omega arith)
+
+put_last : (m : List ℕ) (a p b : ℕ) (bs : List ℕ) → a < 65536 → p ≡ wrap (a + length bs) → put_bytes m a (bs ++ b ∷ []) ≡ put_byte (put_bytes m a bs) p b
+unfolding put_bytes
+put_last m a p b bs h e = put_bytes-append m a p bs (b ∷ []) e h
+
+-- digits that are put down, the lowest first, stand as those that are put from their place on
+put_down_up : (m : List ℕ) (end : ℕ) (ds : List ℕ) → end < 65536 → length ds < 65536 → put_down m end ds ≡ put_bytes m (difference end (length ds)) (map byte_of (reverse ds))
+unfolding put_down put_bytes
+put_down_up m end [] h k = refl
+put_down_up m end (d ∷ ds) h k =
+    let place : ℕ = difference end 1 in
+    let n : ℕ = length ds in
+    let start : difference end (suc n) ≡ difference place n = omega arith in
+    let size : length (map byte_of (reverse ds)) ≡ n = length-map (reverse ds) byte_of ∙ length-reverse ds in
+    let last : place ≡ wrap (difference place n + length (map byte_of (reverse ds))) = rw size (omega arith) in
+    let rest : put_down (put_byte m place (byte_of d)) place ds ≡ put_bytes (put_byte m place (byte_of d)) (difference place n) (map byte_of (reverse ds)) = put_down_up (put_byte m place (byte_of d)) place ds (omega arith) (omega arith) in
+    let later : put_bytes (put_byte m place (byte_of d)) (difference place n) (map byte_of (reverse ds)) ≡ put_byte (put_bytes m (difference place n) (map byte_of (reverse ds))) place (byte_of d) = put_later m (difference place n) n place (byte_of d) (map byte_of (reverse ds)) (omega arith) (omega arith) (omega arith) (omega (arith, size)) in
+    rw (start, map-reverse_cons d ds) (rest ∙ later ∙ sym (put_last m (difference place n) place (byte_of d) (map byte_of (reverse ds)) (omega arith) last))
+
+-- the same for a picture, whose digits come the highest first
+pub picture_put : (m : List ℕ) (end : ℕ) (ds : List ℕ) → end < 65536 → length ds < 65536 → put_down m end (reverse ds) ≡ put_bytes m (difference end (length ds)) (map byte_of ds)
+picture_put m end ds h k =
+    let e : length (reverse ds) ≡ length ds = length-reverse ds in
+    let s : put_down m end (reverse ds) ≡ put_bytes m (difference end (length (reverse ds))) (map byte_of (reverse (reverse ds))) = put_down_up m end (reverse ds) h (omega arith) in
+    rw (e, reverse-reverse ds) at s
+
+pub ruleset pictures = (picture_shows, picture_put)

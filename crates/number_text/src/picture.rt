@@ -99,7 +99,7 @@ fn put_digits(memory: &mut Memory, end: u16, number: u32, base: u32)
 /// they are written from its old value down, the lowest first.
 ///
 /// `BadBase`, with memory as it was, where BASE is outside 2 to 72. This is `#S` of the Standard.
-#[tactic(auto, using(crate::proofs::Pictures::picture_shows), unfolding(crate::specs::Picture::with_digits))]
+#[tactic(auto, using(crate::proofs::Pictures::pictures), unfolding(crate::specs::Picture::with_digits))]
 pub fn picture_digits(memory: &mut Memory, number: u32) -> Result<(), BadBase>
     ensures written { AreDigitsPictured memory.old memory.new number result }
     ensures shown { OnOk result (Shows memory.old memory.new number) }

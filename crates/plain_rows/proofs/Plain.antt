@@ -4,7 +4,7 @@ use Rattle.plain_rows.specs.Whole.{Whole}
 use Rattle.plain_rows.specs.Row.{After, takes1, takes2, takes3, takes4, takes6, takes_r1, takes_r3, takes_r4, fault, room, room_r}
 use Rattle.plain_rows.specs.Plain.{IsPlain}
 use Rattle.plain_rows.proofs.Shapes.{by_if, by_room, by_room_r, by_takes1, by_takes2, by_takes3, by_takes4, by_takes6, by_takes_r1, by_takes_r3, by_takes_r4}
-use Rattle.plain_rows.specs.Control.{colon, variable, constant, vocabulary, exit, lit, branch, zero_branch, begin_loop, next_loop, plus_loop, leave_loop, index, outer_index, execute, show_inline, abort_inline, does, compile, to_r, from_r, r_fetch, bye, r_clear, s_clear, raise, noop}
+use Rattle.plain_rows.specs.Control.{colon_code, variable_code, constant_code, vocabulary_code, exit, lit, branch, zero_branch, begin_loop, next_loop, step_loop, leave_loop, index, outer_index, execute, show_inline, abort_inline, run_does, compile, to_r, from_r, r_fetch, bye, r_clear, s_clear, raise, noop}
 use Rattle.plain_rows.specs.Stack.{dup, drop_cell, swap, over, rot, pick, roll, question_dup, depth, two_drop, two_dup, two_over, two_rot, two_swap}
 use Rattle.plain_rows.specs.Cells.{plus, minus, times, slash, modulo, slash_mod, times_slash, times_slash_mod, one_plus, one_minus, two_plus, two_minus, two_times, two_slash, negate, absolute, min, max, and, or, xor, turned, equals, differs, less, greater, u_less, zero_equals, zero_less, zero_greater, um_times, um_slash_mod}
 use Rattle.plain_rows.specs.Doubles.{d_plus, d_minus, d_negate, d_absolute, d_two_slash, d_min, d_max, d_equals, d_zero_equals, d_less, du_less}
@@ -49,16 +49,16 @@ plain_takes_r4 s f h = by_takes_r4 (IsPlain s) s f refl h
 
 ruleset plain = (plain_fault, plain_if, plain_room, plain_room_r, plain_takes1, plain_takes2, plain_takes3, plain_takes4, plain_takes6, plain_takes_r1, plain_takes_r3, plain_takes_r4)
 
-plain_1 : (w : ℕ) (s : Whole) → IsPlain s (colon w s)
+plain_1 : (w : ℕ) (s : Whole) → IsPlain s (colon_code w s)
 plain_1 w s = search (rules, plain)
 
-plain_2 : (w : ℕ) (s : Whole) → IsPlain s (variable w s)
+plain_2 : (w : ℕ) (s : Whole) → IsPlain s (variable_code w s)
 plain_2 w s = search (rules, plain)
 
-plain_3 : (w : ℕ) (s : Whole) → IsPlain s (constant w s)
+plain_3 : (w : ℕ) (s : Whole) → IsPlain s (constant_code w s)
 plain_3 w s = search (rules, plain)
 
-plain_4 : (w : ℕ) (s : Whole) → IsPlain s (vocabulary w s)
+plain_4 : (w : ℕ) (s : Whole) → IsPlain s (vocabulary_code w s)
 plain_4 w s = search (rules, plain)
 
 plain_5 : (s : Whole) → IsPlain s (exit s)
@@ -79,7 +79,7 @@ plain_9 s = search (rules, plain)
 plain_10 : (s : Whole) → IsPlain s (next_loop s)
 plain_10 s = search (rules, plain)
 
-plain_11 : (s : Whole) → IsPlain s (plus_loop s)
+plain_11 : (s : Whole) → IsPlain s (step_loop s)
 plain_11 s = search (rules, plain)
 
 plain_12 : (s : Whole) → IsPlain s (leave_loop s)
@@ -100,7 +100,7 @@ plain_16 s = search (rules, plain)
 plain_17 : (s : Whole) → IsPlain s (abort_inline s)
 plain_17 s = search (rules, plain)
 
-plain_18 : (s : Whole) → IsPlain s (does s)
+plain_18 : (s : Whole) → IsPlain s (run_does s)
 plain_18 s = search (rules, plain)
 
 plain_19 : (s : Whole) → IsPlain s (compile s)

@@ -7,6 +7,7 @@ ghost use Rattle.plain_rows.specs.Doubles.{double, leaves_double, d_magnitude, d
 
 use crate::cell::flag;
 use crate::ending::{from_one, from_two, leave};
+use crate::faults::DATA_UNDERFLOW;
 use crate::parts::{Outcome, Parts};
 
 /// The double of a low and a high cell.
@@ -65,7 +66,7 @@ fn greater(m: u32, n: u32) -> u32
 macro_rules! double_from_one {
     ($parts:ident, $n:ident, $given:expr) => {{
         let Some((low, high)) = $parts.values.top2() else {
-            return Outcome::Fault(1);
+            return Outcome::Fault(DATA_UNDERFLOW);
         };
         let $n = double_of(low, high);
         leave_double($parts, 2, $given)
@@ -76,7 +77,7 @@ macro_rules! double_from_one {
 macro_rules! double_from_two {
     ($parts:ident, $m:ident, $n:ident, $given:expr) => {{
         let Some((low1, high1, low2, high2)) = $parts.values.top4() else {
-            return Outcome::Fault(1);
+            return Outcome::Fault(DATA_UNDERFLOW);
         };
         let ($m, $n) = (double_of(low1, high1), double_of(low2, high2));
         leave_double($parts, 4, $given)
@@ -87,7 +88,7 @@ macro_rules! double_from_two {
 macro_rules! cell_from_doubles {
     ($parts:ident, $m:ident, $n:ident, $given:expr) => {{
         let Some((low1, high1, low2, high2)) = $parts.values.top4() else {
-            return Outcome::Fault(1);
+            return Outcome::Fault(DATA_UNDERFLOW);
         };
         let ($m, $n) = (double_of(low1, high1), double_of(low2, high2));
         leave($parts, 4, &[$given])

@@ -3,6 +3,7 @@
 ghost use Rattle.std.specs.Prelude.{◌≡◌, ◌≤◌, ◌++◌, length, drop};
 ghost use Rattle.plain_rows.specs.Row.{leaves};
 
+use crate::faults::DATA_OVERFLOW;
 use crate::parts::{Outcome, Parts};
 
 /// The data stack gets the cells `given`, the new top first, in place of its `taken` top cells; fault 2 where
@@ -14,7 +15,7 @@ pub fn leave(parts: &mut Parts, taken: usize, given: &[u16]) -> Outcome
 {
     match parts.values.replace(taken, given) {
         Ok(()) => Outcome::Done,
-        Err(_) => Outcome::Fault(2),
+        Err(_) => Outcome::Fault(DATA_OVERFLOW),
     }
 }
 
@@ -22,7 +23,7 @@ pub fn leave(parts: &mut Parts, taken: usize, given: &[u16]) -> Outcome
 macro_rules! from_one {
     ($parts:ident, $x:ident, [$($given:expr),*]) => {{
         let Some($x) = $parts.values.pick(0) else {
-            return Outcome::Fault(1);
+            return Outcome::Fault(DATA_UNDERFLOW);
         };
         leave($parts, 1, &[$($given),*])
     }};
@@ -32,7 +33,7 @@ macro_rules! from_one {
 macro_rules! from_two {
     ($parts:ident, $x:ident, $y:ident, [$($given:expr),*]) => {{
         let Some(($x, $y)) = $parts.values.top2() else {
-            return Outcome::Fault(1);
+            return Outcome::Fault(DATA_UNDERFLOW);
         };
         leave($parts, 2, &[$($given),*])
     }};
@@ -42,7 +43,7 @@ macro_rules! from_two {
 macro_rules! from_four {
     ($parts:ident, $w:ident, $x:ident, $y:ident, $z:ident, [$($given:expr),*]) => {{
         let Some(($w, $x, $y, $z)) = $parts.values.top4() else {
-            return Outcome::Fault(1);
+            return Outcome::Fault(DATA_UNDERFLOW);
         };
         leave($parts, 4, &[$($given),*])
     }};

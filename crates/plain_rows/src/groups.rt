@@ -3,6 +3,7 @@
 ghost use Rattle.std.specs.Prelude.{◌≡◌};
 ghost use Rattle.plain_rows.specs.Table.{control, stack, cells, memory, doubles};
 
+use crate::faults::UNKNOWN_CODE;
 use crate::parts::{Outcome, Parts};
 use crate::{cell, control, double, memory_rows, stack};
 
@@ -12,24 +13,24 @@ pub fn control_row(parts: &mut Parts, number: u8, token: u16) -> Outcome
     ensures { (parts.new, result) ≡ control number token parts.old }
 {
     match number {
-        1 => control::colon(parts, token),
-        2 => control::variable(parts, token),
-        3 => control::constant(parts, token),
-        4 => control::vocabulary(parts, token),
+        1 => control::colon_code(parts, token),
+        2 => control::variable_code(parts, token),
+        3 => control::constant_code(parts, token),
+        4 => control::vocabulary_code(parts, token),
         5 => control::exit(parts),
         6 => control::lit(parts),
         7 => control::branch(parts),
         8 => control::zero_branch(parts),
         9 => control::begin_loop(parts),
         10 => control::next_loop(parts),
-        11 => control::plus_loop(parts),
+        11 => control::step_loop(parts),
         12 => control::leave_loop(parts),
         13 => control::index(parts),
         14 => control::outer_index(parts),
         15 => control::execute(parts),
         16 => control::show_inline(parts),
         17 => control::abort_inline(parts),
-        18 => control::does(parts),
+        18 => control::run_does(parts),
         19 => control::compile(parts),
         20 => control::to_r(parts),
         21 => control::from_r(parts),
@@ -39,7 +40,7 @@ pub fn control_row(parts: &mut Parts, number: u8, token: u16) -> Outcome
         25 => control::s_clear(parts),
         26 => control::raise(parts),
         27 => control::noop(parts),
-        _ => Outcome::Fault(6),
+        _ => Outcome::Fault(UNKNOWN_CODE),
     }
 }
 
@@ -63,7 +64,7 @@ pub fn stack_row(parts: &mut Parts, number: u8, _token: u16) -> Outcome
         43 => stack::two_over(parts),
         44 => stack::two_rot(parts),
         45 => stack::two_swap(parts),
-        _ => Outcome::Fault(6),
+        _ => Outcome::Fault(UNKNOWN_CODE),
     }
 }
 
@@ -105,7 +106,7 @@ pub fn cell_row(parts: &mut Parts, number: u8, _token: u16) -> Outcome
         77 => cell::zero_greater(parts),
         78 => cell::um_times(parts),
         79 => cell::um_slash_mod(parts),
-        _ => Outcome::Fault(6),
+        _ => Outcome::Fault(UNKNOWN_CODE),
     }
 }
 
@@ -126,7 +127,7 @@ pub fn double_row(parts: &mut Parts, number: u8, _token: u16) -> Outcome
         88 => double::d_zero_equals(parts),
         89 => double::d_less(parts),
         90 => double::du_less(parts),
-        _ => Outcome::Fault(6),
+        _ => Outcome::Fault(UNKNOWN_CODE),
     }
 }
 
@@ -148,6 +149,6 @@ pub fn memory_row(parts: &mut Parts, number: u8, _token: u16) -> Outcome
         105 => memory_rows::fill(parts),
         106 => memory_rows::count(parts),
         107 => memory_rows::dash_trailing(parts),
-        _ => Outcome::Fault(6),
+        _ => Outcome::Fault(UNKNOWN_CODE),
     }
 }

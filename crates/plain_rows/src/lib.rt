@@ -5,6 +5,7 @@ mod cell;
 mod control;
 mod double;
 mod ending;
+pub mod faults;
 mod groups;
 pub mod laws;
 mod memory_rows;

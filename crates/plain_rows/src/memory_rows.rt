@@ -6,6 +6,7 @@ ghost use Rattle.std.specs.Prelude.{◌≡◌};
 ghost use Rattle.plain_rows.specs.Memory.{fetch, store, plus_store, two_store, cmove, dash_trailing, trimmed, c_fetch, c_store, two_fetch, cmove_down, fill, count};
 
 use crate::ending::leave;
+use crate::faults::DATA_UNDERFLOW;
 use crate::parts::{Outcome, Parts};
 use memory::Memory;
 
@@ -25,7 +26,7 @@ pub fn fetch(parts: &mut Parts) -> Outcome
     ensures { (parts.new, result) ≡ fetch parts.old }
 {
     let Some(a) = parts.values.pick(0) else {
-        return Outcome::Fault(1);
+        return Outcome::Fault(DATA_UNDERFLOW);
     };
     let x = parts.memory.cell(a);
     leave(parts, 1, &[x])
@@ -36,7 +37,7 @@ pub fn store(parts: &mut Parts) -> Outcome
     ensures { (parts.new, result) ≡ store parts.old }
 {
     let Some((x, a)) = parts.values.top2() else {
-        return Outcome::Fault(1);
+        return Outcome::Fault(DATA_UNDERFLOW);
     };
     parts.values.lower(2);
     parts.memory.set_cell(a, x);
@@ -48,7 +49,7 @@ pub fn c_fetch(parts: &mut Parts) -> Outcome
     ensures { (parts.new, result) ≡ c_fetch parts.old }
 {
     let Some(a) = parts.values.pick(0) else {
-        return Outcome::Fault(1);
+        return Outcome::Fault(DATA_UNDERFLOW);
     };
     let c = u16::from(parts.memory.byte(a));
     leave(parts, 1, &[c])
@@ -59,7 +60,7 @@ pub fn c_store(parts: &mut Parts) -> Outcome
     ensures { (parts.new, result) ≡ c_store parts.old }
 {
     let Some((c, a)) = parts.values.top2() else {
-        return Outcome::Fault(1);
+        return Outcome::Fault(DATA_UNDERFLOW);
     };
     parts.values.lower(2);
     parts.memory.set_byte(a, (c % 256) as u8);
@@ -71,7 +72,7 @@ pub fn plus_store(parts: &mut Parts) -> Outcome
     ensures { (parts.new, result) ≡ plus_store parts.old }
 {
     let Some((x, a)) = parts.values.top2() else {
-        return Outcome::Fault(1);
+        return Outcome::Fault(DATA_UNDERFLOW);
     };
     parts.values.lower(2);
     let sum = parts.memory.cell(a).wrapping_add(x);
@@ -84,7 +85,7 @@ pub fn two_fetch(parts: &mut Parts) -> Outcome
     ensures { (parts.new, result) ≡ two_fetch parts.old }
 {
     let Some(a) = parts.values.pick(0) else {
-        return Outcome::Fault(1);
+        return Outcome::Fault(DATA_UNDERFLOW);
     };
     let high = parts.memory.cell(a);
     let low = parts.memory.cell(a.wrapping_add(2));
@@ -96,7 +97,7 @@ pub fn two_store(parts: &mut Parts) -> Outcome
     ensures { (parts.new, result) ≡ two_store parts.old }
 {
     let Some((low, high, a)) = parts.values.top3() else {
-        return Outcome::Fault(1);
+        return Outcome::Fault(DATA_UNDERFLOW);
     };
     parts.values.lower(3);
     parts.memory.set_cell(a, high);
@@ -109,7 +110,7 @@ pub fn cmove(parts: &mut Parts) -> Outcome
     ensures { (parts.new, result) ≡ cmove parts.old }
 {
     let Some((from, to, n)) = parts.values.top3() else {
-        return Outcome::Fault(1);
+        return Outcome::Fault(DATA_UNDERFLOW);
     };
     parts.values.lower(3);
     parts.memory.move_up(from, to, n);
@@ -121,7 +122,7 @@ pub fn cmove_down(parts: &mut Parts) -> Outcome
     ensures { (parts.new, result) ≡ cmove_down parts.old }
 {
     let Some((from, to, n)) = parts.values.top3() else {
-        return Outcome::Fault(1);
+        return Outcome::Fault(DATA_UNDERFLOW);
     };
     parts.values.lower(3);
     parts.memory.move_down(from, to, n);
@@ -133,7 +134,7 @@ pub fn fill(parts: &mut Parts) -> Outcome
     ensures { (parts.new, result) ≡ fill parts.old }
 {
     let Some((a, u, c)) = parts.values.top3() else {
-        return Outcome::Fault(1);
+        return Outcome::Fault(DATA_UNDERFLOW);
     };
     parts.values.lower(3);
     parts.memory.fill(a, u, (c % 256) as u8);
@@ -145,7 +146,7 @@ pub fn count(parts: &mut Parts) -> Outcome
     ensures { (parts.new, result) ≡ count parts.old }
 {
     let Some(a) = parts.values.pick(0) else {
-        return Outcome::Fault(1);
+        return Outcome::Fault(DATA_UNDERFLOW);
     };
     let c = u16::from(parts.memory.byte(a));
     leave(parts, 1, &[c, a.wrapping_add(1)])
@@ -156,7 +157,7 @@ pub fn dash_trailing(parts: &mut Parts) -> Outcome
     ensures { (parts.new, result) ≡ dash_trailing parts.old }
 {
     let Some((a, u)) = parts.values.top2() else {
-        return Outcome::Fault(1);
+        return Outcome::Fault(DATA_UNDERFLOW);
     };
     let n = trim(&parts.memory, a, u);
     leave(parts, 2, &[n, a])

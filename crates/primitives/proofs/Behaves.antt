@@ -1,7 +1,7 @@
 -- What a row asks of its device, what it leaves of the buffers, and what it keeps where it stops: by its shape.
 use Rattle.std.proofs.Common.{◌≡◌, ℕ, ◌==◌, ◌||◌, List, [], ◌∷◌, ◌++◌, Option, Some, None, Bool, true, false, refl, sym, subst, if◌then◌else◌}
 use Rattle.block_buffers.specs.declared.entry.Entry.{Entry}
-use Rattle.block_buffers.specs.Entries.{holds, slot_of, victim, has_updated, first_updated, moved_front, assigned, front_marked, unassigned, AreBuffers, HasNoBlockTwice}
+use Rattle.block_buffers.specs.Entries.{holds, slot_of, victim, has_updated, first_updated, moved_front, after_references, assigned, front_marked, unassigned, AreBuffers, HasNoBlockTwice}
 use Rattle.block_buffers.proofs.Kept.{are_moved, are_assigned, are_marked, are_unassigned, blocks_moved}
 use Rattle.block_buffers.proofs.Blocks.{blocks_assigned, blocks_marked, blocks_unassigned}
 use Rattle.input_source.specs.declared.words.Stream.{Stream}
@@ -17,7 +17,9 @@ use Rattle.plain_rows.specs.declared.parts.Request.TheVariants as request
 use Rattle.plain_rows.specs.declared.parts.Span.{Span}
 use Rattle.plain_rows.proofs.Shapes.{by_if, by_room, by_takes1, by_takes2, by_takes3}
 use Rattle.primitives.specs.Blocks.{has_block, without_block, write_of, with_block, fetches}
-use Rattle.primitives.specs.Devices.{gives, saves}
+use Rattle.primitives.specs.Devices.{saves_victim, saves}
+use Rattle.primitives.specs.Names.{searches}
+use Rattle.dictionary.specs.Search.{Sought, Found, Nowhere, TooLong}
 use Rattle.primitives.specs.Needs.{stream_needs}
 use Rattle.primitives.specs.Stops.{Keeps, StopsKeeping}
 use Rattle.primitives.specs.Streams.{has_stream, stream_buffers, with_stream, reads}
@@ -57,7 +59,8 @@ pub orderly_unassigned : (b : List Entry) → AreOrderly b → AreOrderly (unass
 orderly_unassigned b h = record { buffers = are_unassigned b h.buffers; once = blocks_unassigned b }
 
 keeps_all : (s : Whole) → Keeps s s
-keeps_all s = record { memory = refl; values = refl; returns = refl; ip = refl; pending = refl }
+unfolding after_references
+keeps_all s = record { memory = refl; values = refl; returns = refl; ip = refl; pending = refl; buffers = ([], refl); block_count = refl }
 
 stops_same : (s : Whole) (o : Outcome) → StopsKeeping s (s, o)
 stops_same s outcome.Done = tt
@@ -104,19 +107,37 @@ behaves_takes2 m s f h = by_takes2 (Behaves m s) s f (behaves_fault m s 1) h
 pub behaves_takes3 : (m : Option After) (s : Whole) (f : ℕ → ℕ → ℕ → List ℕ → After) → ((c0 c1 c2 : ℕ) (d : List ℕ) → Behaves m s (f c0 c1 c2 d)) → Behaves m s (takes3 s f)
 behaves_takes3 m s f h = by_takes3 (Behaves m s) s f (behaves_fault m s 1) h
 
+pub behaves_searches : (m : Option After) (s : Whole) (x : Sought) (nowhere : After) (found : ℕ → After) → Behaves m s nowhere → ((l : ℕ) → Behaves m s (found l)) → Behaves m s (searches s x nowhere found)
+unfolding searches
+behaves_searches m s (Found l) nowhere found h k = k l
+behaves_searches m s Nowhere nowhere found h k = h
+behaves_searches m s TooLong nowhere found h k = behaves_fault m s 11
+
 -- behind a reference, which keeps all but the order of the buffers
-referenced : (s : Whole) (b : List Entry) (x : After) → StopsKeeping (record s { buffers = b }) x → StopsKeeping s x
-referenced s b (t, outcome.Done) h = tt
-referenced s b (t, outcome.Show span) h = tt
-referenced s b (t, outcome.Byte c) h = tt
-referenced s b (t, outcome.Ask r) h = record { memory = h.memory; values = h.values; returns = h.returns; ip = h.ip; pending = h.pending }
-referenced s b (t, outcome.Fault f) h = record { memory = h.memory; values = h.values; returns = h.returns; ip = h.ip; pending = h.pending }
-referenced s b (t, outcome.Abort span) h = record { memory = h.memory; values = h.values; returns = h.returns; ip = h.ip; pending = h.pending }
-referenced s b (t, outcome.Halt) h = tt
+keeps_behind : (s t : Whole) (slot : ℕ) → Keeps (record s { buffers = moved_front slot s.buffers }) t → Keeps s t
+unfolding after_references
+keeps_behind s t slot h = record {
+  memory = h.memory;
+  values = h.values;
+  returns = h.returns;
+  ip = h.ip;
+  pending = h.pending;
+  buffers = (slot ∷ h.buffers.0, h.buffers.1);
+  block_count = h.block_count;
+}
+
+stops_behind : (s : Whole) (slot : ℕ) (x : After) → StopsKeeping (record s { buffers = moved_front slot s.buffers }) x → StopsKeeping s x
+stops_behind s slot (t, outcome.Done) h = tt
+stops_behind s slot (t, outcome.Show span) h = tt
+stops_behind s slot (t, outcome.Byte c) h = tt
+stops_behind s slot (t, outcome.Ask r) h = keeps_behind s t slot h
+stops_behind s slot (t, outcome.Fault f) h = keeps_behind s t slot h
+stops_behind s slot (t, outcome.Abort span) h = keeps_behind s t slot h
+stops_behind s slot (t, outcome.Halt) h = tt
 
 behaves_referenced : (m : Option After) (s : Whole) (u : ℕ) (x : After) → Behaves m (with_block s u) x → Behaves m s x
 behaves_referenced m s u x h = record {
-  stops = referenced s (moved_front (slot_of s.buffers u) s.buffers) x h.stops;
+  stops = stops_behind s (slot_of s.buffers u) x h.stops;
   asks = h.asks;
   keeps = λ k. h.keeps (orderly_moved (slot_of s.buffers u) s.buffers k);
 }
@@ -146,9 +167,9 @@ behaves_reads us s f h = by_zero (cell s.memory BLK == 0) h where
 unfoldable pub given : Whole → Option After
 given s = if (victim s.buffers).updated then Some (s, write_of (victim s.buffers)) else None
 
-pub behaves_gives : (s : Whole) (x : After) → Behaves None s x → Behaves (given s) s (gives s x)
-unfolding gives given
-behaves_gives s x h = by_test (victim s.buffers).updated where
+pub behaves_saves_victim : (s : Whole) (x : After) → Behaves None s x → Behaves (given s) s (saves_victim s x)
+unfolding saves_victim given
+behaves_saves_victim s x h = by_test (victim s.buffers).updated where
   by_test : (b : Bool) → Behaves (if b then Some (s, write_of (victim s.buffers)) else None) s (if b then (s, write_of (victim s.buffers)) else x)
   by_test true = stopped s (write_of (victim s.buffers))
   by_test false = h
@@ -174,4 +195,4 @@ behaves_plain m s (t, outcome.Fault f) h = subst (λ (w : Whole). Behaves m s (w
 behaves_plain m s (t, outcome.Abort span) h = subst (λ (w : Whole). Behaves m s (w, outcome.Abort span)) (sym h) (behaves_same m s (outcome.Abort span) refl)
 behaves_plain m s (t, outcome.Halt) h = record { stops = tt; asks = λ q. cc; keeps = subst AreOrderly (sym h) }
 
-pub ruleset behaves = (behaves_fault, behaves_key, behaves_line, behaves_done, behaves_show, behaves_byte, behaves_if, behaves_room, behaves_takes1, behaves_takes2, behaves_takes3, behaves_fetches, behaves_reads, orderly_marked, orderly_unassigned)
+pub ruleset behaves = (behaves_fault, behaves_key, behaves_line, behaves_done, behaves_show, behaves_byte, behaves_if, behaves_room, behaves_takes1, behaves_takes2, behaves_takes3, behaves_searches, behaves_fetches, behaves_reads, orderly_marked, orderly_unassigned)

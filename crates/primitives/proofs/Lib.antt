@@ -1,3 +1,4 @@
+pub mod Searching
 pub mod Pieces
 pub mod Behaves
 pub mod Rows

@@ -2,7 +2,7 @@
 use Rattle.std.proofs.Common.{◌≡◌, ℕ, ◌==◌, ◌||◌, List, [], ◌∷◌, ◌++◌, Option, None, nat_lt, take, Bool, true, false, refl, sym, subst, rules, if◌then◌else◌}
 use Rattle.std.proofs.lemmas.Bool.{eqb-true}
 use Rattle.block_buffers.specs.Entries.{holds, slot_of, victim, assigned, unassigned}
-use Rattle.input_source.specs.declared.words.Stream.{Stream}
+use Rattle.input_source.specs.declared.words.Word.{Word}
 use Rattle.memory.specs.Bytes.{cell}
 use Rattle.memory.specs.declared.system.TheConstants.{SCR}
 use Rattle.plain_rows.specs.Whole.{Whole}
@@ -11,18 +11,19 @@ use Rattle.plain_rows.proofs.Shapes.{by_if, by_takes1}
 use Rattle.plain_rows.proofs.Plain.{plain_control, plain_stack, plain_cells, plain_doubles, plain_memory}
 use Rattle.primitives.specs.Blocks.{address_of, with_block, fetches}
 use Rattle.primitives.specs.Needs.{reads_stream, is_about_screen, stream_needs, needed}
-use Rattle.primitives.specs.Devices.{gives}
-use Rattle.primitives.specs.Dictionary.{finds_at, defines}
-use Rattle.primitives.specs.Interpret.{pushes, lays, finds, singles, doubles as doubles_number, counts}
+use Rattle.primitives.specs.Devices.{saves_victim}
+use Rattle.primitives.specs.Dictionary.{leaves_past, creates}
+use Rattle.primitives.specs.Interpret.{compiles_past}
+use Rattle.primitives.specs.Defining.{lays_past}
 use Rattle.primitives.specs.Compiling.{compiles, resolves}
-use Rattle.primitives.proofs.Behaves.{Behaves, behaves, behaves_fault, behaves_done, behaves_if, behaves_fetches, behaves_gives, behaves_saves, behaves_plain, missing, given, saved, orderly_assigned, orderly_moved, orderly_unassigned}
+use Rattle.primitives.proofs.Behaves.{Behaves, behaves, behaves_fault, behaves_done, behaves_if, behaves_fetches, behaves_saves_victim, behaves_saves, behaves_plain, missing, given, saved, orderly_assigned, orderly_moved, orderly_unassigned}
 use Rattle.primitives.specs.Devices.{block as row_112, buffer as row_113, update as row_114, save_buffers as row_115, flush as row_116, empty_buffers as row_117, key as row_118, expect as row_119, emit as row_120, type_out as row_121}
 use Rattle.primitives.specs.Numbers.{open_picture as row_128, picture_digit as row_129, picture_digits as row_130, close_picture as row_131, hold as row_132, sign as row_133, convert as row_134}
 use Rattle.primitives.specs.Streams.{word as row_144, paren as row_145, dot_paren as row_146}
 use Rattle.primitives.specs.Dictionary.{find as row_147, tick as row_148, create as row_150, immediate as row_151, forget as row_152, to_body as row_153, here as row_154, pad_row as row_155, vocabulary as row_156, definitions as row_157}
 use Rattle.primitives.specs.Interpret.{interpret as row_149}
 use Rattle.primitives.specs.Defining.{colon as row_168, bracket_tick as row_176, bracket_compile as row_177, dot_quote as row_190, abort_quote as row_191, constant as row_192, variable as row_193}
-use Rattle.primitives.specs.Compiling.{semicolon as row_169, left_bracket as row_170, right_bracket as row_171, comma as row_172, c_comma as row_173, allot as row_174, literal as row_175, does as row_178, if_row as row_179, else_row as row_180, then_row as row_181, begin as row_182, until as row_183, while_row as row_184, repeat as row_185, again as row_186, do_row as row_187, loop_row as row_188, plus_loop as row_189, mark_back as row_194, resolve_back as row_195, mark_forward as row_196, resolve_forward as row_197}
+use Rattle.primitives.specs.Compiling.{semicolon as row_169, left_bracket as row_170, right_bracket as row_171, comma as row_172, c_comma as row_173, allot as row_174, literal as row_175, compile_does as row_178, if_row as row_179, else_row as row_180, then_row as row_181, begin as row_182, until as row_183, while_row as row_184, repeat as row_185, again as row_186, do_row as row_187, loop_row as row_188, plus_loop as row_189, mark_back as row_194, resolve_back as row_195, mark_forward as row_196, resolve_forward as row_197}
 use Rattle.primitives.specs.Editor.{line as row_200, put as row_201, insert as row_202, delete as row_203, wipe as row_204}
 use Rattle.primitives.specs.Table.{devices, numbers, input, compiling, editor, row}
 
@@ -30,37 +31,21 @@ use Rattle.primitives.specs.Table.{devices, numbers, input, compiling, editor, r
 unfoldable pub asks : ℕ → Whole → Option After
 asks n s = if n == 113 then given s else if (n == 115) || (n == 116) then saved s else missing (needed n s) s
 
-pub behaves_finds_at : (m : Option After) (s : Whole) (a : ℕ) (name d : List ℕ) → Behaves m s (finds_at s a name d)
-unfolding finds_at
-behaves_finds_at m s a name d = search (rules, behaves)
+pub behaves_leaves_past : (m : Option After) (s : Whole) (w : Word) (d : List ℕ) → Behaves m s (leaves_past s w d)
+unfolding leaves_past
+behaves_leaves_past m s w d = search (rules, behaves)
 
-pub behaves_defines : (m : Option After) (s : Whole) (stream : Stream) (code : ℕ) (extra d : List ℕ) → Behaves m s (defines s stream code extra d)
-unfolding defines
-behaves_defines m s stream code extra d = search (rules, behaves)
+pub behaves_creates : (m : Option After) (s : Whole) (w : Word) (name : List ℕ) (code : ℕ) (extra d : List ℕ) → Behaves m s (creates s w name code extra d)
+unfolding creates
+behaves_creates m s w name code extra d = search (rules, behaves)
 
-pub behaves_pushes : (m : Option After) (s : Whole) (next : ℕ) (cells : List ℕ) → Behaves m s (pushes s next cells)
-unfolding pushes
-behaves_pushes m s next cells = search (rules, behaves)
+pub behaves_compiles_past : (m : Option After) (s : Whole) (w : Word) (bs : List ℕ) → Behaves m s (compiles_past s w bs)
+unfolding compiles_past
+behaves_compiles_past m s w bs = search (rules, behaves)
 
-pub behaves_lays : (m : Option After) (s : Whole) (next : ℕ) (bs : List ℕ) → Behaves m s (lays s next bs)
-unfolding lays
-behaves_lays m s next bs = search (rules, behaves)
-
-pub behaves_finds : (m : Option After) (s : Whole) (l next : ℕ) → Behaves m s (finds s l next)
-unfolding finds
-behaves_finds m s l next = search (rules, behaves, behaves_pushes, behaves_lays)
-
-pub behaves_singles : (m : Option After) (s : Whole) (x next : ℕ) → Behaves m s (singles s x next)
-unfolding singles
-behaves_singles m s x next = search (rules, behaves, behaves_pushes, behaves_lays)
-
-pub behaves_doubles_number : (m : Option After) (s : Whole) (n next : ℕ) → Behaves m s (doubles_number s n next)
-unfolding doubles_number
-behaves_doubles_number m s n next = search (rules, behaves, behaves_pushes, behaves_lays)
-
-pub behaves_counts : (m : Option After) (s : Whole) (name : List ℕ) (next : ℕ) → Behaves m s (counts s name next)
-unfolding counts
-behaves_counts m s name next = search (rules, behaves, behaves_singles, behaves_doubles_number)
+pub behaves_lays_past : (m : Option After) (s : Whole) (w : Word) (bs : List ℕ) → Behaves m s (lays_past s w bs)
+unfolding lays_past
+behaves_lays_past m s w bs = search (rules, behaves)
 
 pub behaves_compiles : (m : Option After) (s : Whole) (bs d : List ℕ) → Behaves m s (compiles s bs d)
 unfolding compiles
@@ -70,7 +55,7 @@ pub behaves_resolves : (m : Option After) (s : Whole) (bs : List ℕ) (a : ℕ) 
 unfolding resolves
 behaves_resolves m s bs a d = search (rules, behaves)
 
-ruleset more = (behaves_finds_at, behaves_defines, behaves_pushes, behaves_finds, behaves_counts, behaves_compiles, behaves_resolves)
+ruleset more = (behaves_leaves_past, behaves_creates, behaves_compiles_past, behaves_lays_past, behaves_compiles, behaves_resolves)
 
 behaves_112 : (s : Whole) → Behaves (missing (take 1 s.values) s) s (row_112 s)
 unfolding takes1
@@ -85,11 +70,11 @@ behaves_113 : (s : Whole) → Behaves (given s) s (row_113 s)
 behaves_113 s =
     by_takes1 (Behaves (given s) s) s _ (behaves_fault (given s) s 1)
     (λ u d. behaves_if (given s) s (nat_lt u s.block_count) _ _ (by_held u d (holds s.buffers u) refl) (behaves_fault (given s) s 7)) where
-      by_held : (u : ℕ) (d : List ℕ) (b : Bool) → holds s.buffers u ≡ b → Behaves (given s) s (if b then done (record (with_block s u) { values = address_of (slot_of s.buffers u) ∷ d }) else gives s (done (record s { values = address_of (victim s.buffers).slot ∷ d; buffers = assigned u s.buffers })))
+      by_held : (u : ℕ) (d : List ℕ) (b : Bool) → holds s.buffers u ≡ b → Behaves (given s) s (if b then done (record (with_block s u) { values = address_of (slot_of s.buffers u) ∷ d }) else saves_victim s (done (record s { values = address_of (victim s.buffers).slot ∷ d; buffers = assigned u s.buffers })))
       by_held u d true q =
           behaves_done (given s) s (record (with_block s u) { values = address_of (slot_of s.buffers u) ∷ d }) (orderly_moved (slot_of s.buffers u) s.buffers)
       by_held u d false q =
-          behaves_gives s (done (record s { values = address_of (victim s.buffers).slot ∷ d; buffers = assigned u s.buffers }))
+          behaves_saves_victim s (done (record s { values = address_of (victim s.buffers).slot ∷ d; buffers = assigned u s.buffers }))
           (behaves_done None s (record s { values = address_of (victim s.buffers).slot ∷ d; buffers = assigned u s.buffers }) (orderly_assigned u s.buffers q))
 
 behaves_115 : (s : Whole) → Behaves (saved s) s (row_115 s)

@@ -4,6 +4,7 @@ use Rattle.plain_rows.specs.Whole.{Whole}
 use Rattle.plain_rows.specs.declared.parts.Outcome.{Outcome}
 use Rattle.plain_rows.specs.declared.parts.Outcome.TheVariants.{Fault, Ask}
 use Rattle.plain_rows.specs.declared.parts.Request.TheVariants.{Read, Write}
+use Rattle.plain_rows.specs.declared.faults.TheConstants.{NO_BLOCK}
 use Rattle.plain_rows.specs.Row.{After}
 use Rattle.block_buffers.specs.declared.entry.Entry.{Entry}
 use Rattle.block_buffers.specs.Entries.{holds, slot_of, victim, moved_front}
@@ -24,7 +25,7 @@ has_block s u = nat_lt u s.block_count && holds s.buffers u
 unfoldable pub without_block : Whole → ℕ → Outcome
 without_block s u =
     if nat_lt u s.block_count then (if (victim s.buffers).updated then write_of (victim s.buffers) else Ask (Read u))
-    else Fault 7
+    else Fault NO_BLOCK
 
 -- block u is referenced
 abbrev pub with_block : Whole → ℕ → Whole

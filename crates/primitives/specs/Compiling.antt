@@ -6,18 +6,20 @@ use Rattle.compiling_words.specs.Laying.{laid, can_allot, allotted, resolved}
 use Rattle.dictionary.specs.Laying.{fits}
 use Rattle.memory.specs.Bytes.{cell, put_cell, cell_bytes}
 use Rattle.memory.specs.declared.system.TheConstants.{STATE, DP}
+use Rattle.plain_rows.specs.declared.faults.TheConstants.{DICTIONARY_FULL}
+use Rattle.stacks.specs.Cells.{◌▸◌}
 use Rattle.plain_rows.specs.Whole.{Whole}
 use Rattle.plain_rows.specs.Row.{After, done, takes1, takes2, needs, leaves, room}
 
 -- lays the bytes, and leaves d on the data stack
 unfoldable pub compiles : Whole → List ℕ → List ℕ → After
 compiles s bs d =
-    needs s 8 (fits s.memory (length bs)) (room s d (done (record s { values = d; memory = laid s.memory bs })))
+    needs s DICTIONARY_FULL (fits s.memory (length bs)) (room s d (done (record s { values = d; memory = laid s.memory bs })))
 
 -- the same, and then the cell at a is the new HERE
 unfoldable pub resolves : Whole → List ℕ → ℕ → List ℕ → After
 resolves s bs a d =
-    needs s 8 (fits s.memory (length bs)) (room s d (done (record s {
+    needs s DICTIONARY_FULL (fits s.memory (length bs)) (room s d (done (record s {
       values = d;
       memory = put_cell (laid s.memory bs) a (wrap (cell s.memory DP + length bs));
     })))
@@ -28,7 +30,7 @@ ahead s n = wrap (cell s.memory DP + n)
 
 -- 169 ; ( -- ): the runtime cell of EXIT; then the newest header isn't hidden, and STATE := 0
 abbrev pub semicolon : Whole → After
-semicolon s = needs s 8 (fits s.memory 2) (done (record s { memory = ended s.memory }))
+semicolon s = needs s DICTIONARY_FULL (fits s.memory 2) (done (record s { memory = ended s.memory }))
 
 -- 170 [ ( -- )
 abbrev pub left_bracket : Whole → After
@@ -48,23 +50,23 @@ c_comma s = takes1 s (λ c d. compiles s (c % 256 ∷ []) d)
 
 -- 174 ALLOT ( n -- )
 abbrev pub allot : Whole → After
-allot s = takes1 s (λ n d. needs s 8 (can_allot s.memory n) (done (record s { values = d; memory = allotted s.memory n })))
+allot s = takes1 s (λ n d. needs s DICTIONARY_FULL (can_allot s.memory n) (done (record s { values = d; memory = allotted s.memory n })))
 
 -- 175 LITERAL ( x -- )
 abbrev pub literal : Whole → After
 literal s = takes1 s (λ x d. compiles s (literal_code s.memory x) d)
 
 -- 178 DOES> ( -- )
-abbrev pub does : Whole → After
-does s = compiles s (cell_bytes (runtime s.memory 18)) s.values
+abbrev pub compile_does : Whole → After
+compile_does s = compiles s (cell_bytes (runtime s.memory 18)) s.values
 
 -- 179 IF ( -- a ): a is where the branch's target will be
 abbrev pub if_row : Whole → After
-if_row s = compiles s (control_code s.memory 8 0) (ahead s 2 ∷ s.values)
+if_row s = compiles s (control_code s.memory 8 0) (s.values ▸ ahead s 2)
 
 -- 180 ELSE ( a -- a2 ): the IF goes behind the branch, and a2 is where the branch's target will be
 abbrev pub else_row : Whole → After
-else_row s = takes1 s (λ a d. resolves s (control_code s.memory 7 0) a (ahead s 2 ∷ d))
+else_row s = takes1 s (λ a d. resolves s (control_code s.memory 7 0) a (d ▸ ahead s 2))
 
 -- 181 THEN ( a -- )
 abbrev pub then_row : Whole → After
@@ -72,7 +74,7 @@ then_row s = takes1 s (λ a d. done (record s { values = d; memory = resolved s.
 
 -- 182 BEGIN ( -- a )
 abbrev pub begin : Whole → After
-begin s = leaves s (cell s.memory DP ∷ s.values)
+begin s = leaves s (s.values ▸ cell s.memory DP)
 
 -- 183 UNTIL ( a -- )
 abbrev pub until : Whole → After
@@ -92,7 +94,7 @@ again s = takes1 s (λ a d. compiles s (control_code s.memory 7 a) d)
 
 -- 187 DO ( -- a b ): a is where the loop's end will be, and b is its body
 abbrev pub do_row : Whole → After
-do_row s = compiles s (control_code s.memory 9 0) (ahead s 4 ∷ ahead s 2 ∷ s.values)
+do_row s = compiles s (control_code s.memory 9 0) (s.values ▸ ahead s 2 ▸ ahead s 4)
 
 -- 188 LOOP ( a b -- )
 abbrev pub loop_row : Whole → After
@@ -104,7 +106,7 @@ plus_loop s = takes2 s (λ a b d. resolves s (control_code s.memory 11 b) a d)
 
 -- 194 <MARK ( -- a )
 abbrev pub mark_back : Whole → After
-mark_back s = leaves s (cell s.memory DP ∷ s.values)
+mark_back s = leaves s (s.values ▸ cell s.memory DP)
 
 -- 195 <RESOLVE ( a -- )
 abbrev pub resolve_back : Whole → After
@@ -112,7 +114,7 @@ resolve_back s = takes1 s (λ a d. compiles s (cell_bytes a) d)
 
 -- 196 >MARK ( -- a )
 abbrev pub mark_forward : Whole → After
-mark_forward s = compiles s (cell_bytes 0) (cell s.memory DP ∷ s.values)
+mark_forward s = compiles s (cell_bytes 0) (s.values ▸ cell s.memory DP)
 
 -- 197 >RESOLVE ( a -- )
 abbrev pub resolve_forward : Whole → After

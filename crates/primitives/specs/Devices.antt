@@ -1,26 +1,28 @@
-use Rattle.std.specs.Prelude.{◌%◌, ◌∷◌, ◌==◌, nat_lt, if◌then◌else◌}
+use Rattle.std.specs.Prelude.{◌%◌, ◌==◌, nat_lt, if◌then◌else◌}
 use Rattle.plain_rows.specs.Whole.{Whole}
 use Rattle.plain_rows.specs.declared.parts.Outcome.TheVariants.{Byte, Show, Ask}
 use Rattle.plain_rows.specs.declared.parts.Request.TheVariants.{Key, Line}
 use Rattle.plain_rows.specs.Row.{After, done, takes1, takes2, room, needs}
+use Rattle.plain_rows.specs.declared.faults.TheConstants.{NO_BLOCK}
 use Rattle.block_buffers.specs.Entries.{holds, slot_of, victim, assigned, front_marked, has_updated, first_updated, unassigned}
 use Rattle.memory.specs.Bytes.{put_cell}
 use Rattle.memory.specs.declared.system.TheConstants.{SPAN}
+use Rattle.stacks.specs.Cells.{◌▸◌}
 use Rattle.primitives.specs.Blocks.{address_of, write_of, fetches, with_block}
 
 -- 112 BLOCK ( u -- a ): a is where block u is, which is fetched and referenced
 abbrev pub block : Whole → After
-block s = takes1 s (λ u d. fetches s u (λ t slot. done (record t { values = address_of slot ∷ d })))
+block s = takes1 s (λ u d. fetches s u (λ t slot. done (record t { values = d ▸ address_of slot })))
 
--- where a buffer is given to block u: the victim's is written first where it is updated
-unfoldable pub gives : Whole → After → After
-gives s after = if (victim s.buffers).updated then (s, write_of (victim s.buffers)) else after
+-- goes on where the victim isn't updated; else its write is asked
+unfoldable pub saves_victim : Whole → After → After
+saves_victim s after = if (victim s.buffers).updated then (s, write_of (victim s.buffers)) else after
 
 -- 113 BUFFER ( u -- a ): as BLOCK, but that no bytes are read
 abbrev pub buffer : Whole → After
-buffer s = takes1 s (λ u d. needs s 7 (nat_lt u s.block_count) (
-    if holds s.buffers u then done (record (with_block s u) { values = address_of (slot_of s.buffers u) ∷ d })
-    else gives s (done (record s { values = address_of (victim s.buffers).slot ∷ d; buffers = assigned u s.buffers }))))
+buffer s = takes1 s (λ u d. needs s NO_BLOCK (nat_lt u s.block_count) (
+    if holds s.buffers u then done (record (with_block s u) { values = d ▸ address_of (slot_of s.buffers u) })
+    else saves_victim s (done (record s { values = d ▸ address_of (victim s.buffers).slot; buffers = assigned u s.buffers }))))
 
 -- 114 UPDATE ( -- )
 abbrev pub update : Whole → After
@@ -44,7 +46,7 @@ empty_buffers s = done (record s { buffers = unassigned s.buffers })
 
 -- 118 KEY ( -- c ): where c will have room, its byte is asked
 abbrev pub key : Whole → After
-key s = room s (0 ∷ s.values) (s, Ask Key)
+key s = room s (s.values ▸ 0) (s, Ask Key)
 
 -- 119 EXPECT ( a u -- ): a line is asked; where u is 0 none is, and SPAN := 0
 abbrev pub expect : Whole → After

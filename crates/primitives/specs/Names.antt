@@ -1,41 +1,58 @@
--- Names that rows take out of the stream, and what a search answers them.
-use Rattle.std.specs.Prelude.{◌≡◌, ℕ, ◌+◌, List, Bool, ◌&&◌, nat_le, Result, Ok, Err, IsTrue, IsFalse}
+-- Names and texts that rows take out of the stream, and what a search of a name comes to.
+use Rattle.std.specs.Prelude.{◌≡◌, ℕ, ◌+◌, List, Bool, not, ◌==◌, ◌&&◌, nat_le, Option, Some, None, Result, Ok, Err}
 use Rattle.cells.specs.Cell.{wrap}
 use Rattle.dictionary.specs.declared.fault.ChainTooLong.{ChainTooLong}
+use Rattle.dictionary.specs.Header.{compilation_address}
 use Rattle.dictionary.specs.Laying.{fits}
-use Rattle.dictionary.specs.Search.{found, is_too_long}
+use Rattle.dictionary.specs.Search.{Sought, Found, Nowhere, TooLong, sought}
 use Rattle.input_source.specs.declared.words.Stream.{Stream}
 use Rattle.input_source.specs.declared.words.Word.{Word}
-use Rattle.input_source.specs.Words.{word_in, bytes_in}
+use Rattle.input_source.specs.Words.{word_in, parsed_in, bytes_in}
 use Rattle.memory.specs.Bytes.{byte, bytes}
 use Rattle.plain_rows.specs.Whole.{Whole}
-use Rattle.plain_rows.specs.Row.{After, needs}
+use Rattle.plain_rows.specs.Row.{After, fault, needs}
+use Rattle.plain_rows.specs.declared.faults.TheConstants.{DICTIONARY_FULL, CHAIN_TOO_LONG, NOT_FOUND, BAD_LENGTH}
+use Rattle.primitives.specs.Streams.{reads}
 
--- the next word with delimiter 32, its bytes, and the place behind it
+-- the next word with delimiter 32, and its bytes
 abbrev pub name_word : List ℕ → Stream → Word
 name_word m stream = word_in m stream 32
 
 abbrev pub name_in : List ℕ → Stream → List ℕ
 name_in m stream = bytes_in m stream (name_word m stream)
 
-abbrev pub next_in : List ℕ → Stream → ℕ
-next_in m stream = (name_word m stream).next
+-- a row that takes a name out of the stream: goes on with its word and its bytes
+abbrev pub reads_name : Whole → (Whole → Word → List ℕ → After) → After
+reads_name s after = reads s (λ t stream. after t (name_word t.memory stream) (name_in t.memory stream))
+
+-- a row that parses to c: goes on with what stands before it, as a word and its bytes
+abbrev pub parses : Whole → ℕ → (Whole → Word → List ℕ → After) → After
+parses s c after = reads s (λ t stream. let w = parsed_in t.memory stream c in after t w (bytes_in t.memory stream w))
 
 -- the counted string at a
 unfoldable pub counted_string : List ℕ → ℕ → List ℕ
 counted_string m a = bytes m (wrap (a + 1)) (byte m a)
 
--- a new header's name has 1 to 31 bytes
-abbrev pub is_name_length : ℕ → Bool
-is_name_length n = nat_le 1 n && nat_le n 31
+-- goes on with what a search came to: nowhere, or a header's link field; a chain that is too long is fault 11
+unfoldable pub searches : Whole → Sought → After → (ℕ → After) → After
+searches s (Found l) nowhere found = found l
+searches s Nowhere nowhere found = nowhere
+searches s TooLong nowhere found = fault s CHAIN_TOO_LONG
 
--- a row that makes a header: goes on where its name is one (15), and the header fits with n bytes behind it (8)
-abbrev pub names : Whole → Stream → ℕ → After → After
-names t stream n after =
-    needs t 15 (is_name_length (name_word t.memory stream).len)
-    (needs t 8 (fits t.memory (7 + (name_word t.memory stream).len + n)) after)
+-- goes on with the compilation address of the word that a name means; the name has one byte at least (15), and is found (11, 13)
+abbrev pub finds_word : Whole → Word → List ℕ → (ℕ → After) → After
+finds_word t w name after =
+    needs t BAD_LENGTH (not (w.len == 0))
+    (searches t (sought t.memory name) (fault t NOT_FOUND) (λ l. after (compilation_address t.memory l)))
 
--- what the code's search answers: the link field that a name means, or 0
-abbrev pub IsSoughtIn : List ℕ → List ℕ → Result ℕ ChainTooLong → Type 0
-IsSoughtIn m name (Ok l) = (l ≡ found m name) × IsFalse (is_too_long m name)
-IsSoughtIn m name (Err _) = IsTrue (is_too_long m name)
+-- goes on where a new header's name has 1 to 31 bytes (15), and the header fits with n bytes behind it (8)
+abbrev pub admits_header : Whole → Word → ℕ → After → After
+admits_header t w n after =
+    needs t BAD_LENGTH (nat_le 1 w.len && nat_le w.len 31)
+    (needs t DICTIONARY_FULL (fits t.memory (7 + w.len + n)) after)
+
+-- what the code's search answers
+abbrev pub IsSoughtAs : Sought → Result (Option ℕ) ChainTooLong → Type 0
+IsSoughtAs s (Ok (Some l)) = s ≡ Found l
+IsSoughtAs s (Ok None) = s ≡ Nowhere
+IsSoughtAs s (Err _) = s ≡ TooLong

@@ -1,6 +1,8 @@
-use Rattle.std.specs.Prelude.{ℕ, ◌/◌, ◌%◌, List, ◌∷◌}
+use Rattle.std.specs.Prelude.{◌/◌, ◌%◌}
 use Rattle.plain_rows.specs.Whole.{Whole}
 use Rattle.plain_rows.specs.Row.{After, done, takes1, takes2, takes3, leaves, needs}
+use Rattle.plain_rows.specs.declared.faults.TheConstants.{BAD_BASE}
+use Rattle.stacks.specs.Cells.{◌▸◌}
 use Rattle.plain_rows.specs.Doubles.{double}
 use Rattle.cells.specs.Cell.{difference}
 use Rattle.memory.specs.Bytes.{cell}
@@ -10,27 +12,24 @@ use Rattle.number_text.specs.Digits.{continued}
 use Rattle.number_text.specs.Conversion.{digits_behind, address_behind}
 use Rattle.number_text.specs.Picture.{pad, opened, held, signed_picture, with_digit, with_digits}
 
--- a double on the data stack, its high cell on top
-abbrev pub two_cells : ℕ → List ℕ → List ℕ
-two_cells n d = n / 65536 ∷ n % 65536 ∷ d
-
 -- 128 <# ( -- ): HLD := PAD
 abbrev pub open_picture : Whole → After
 open_picture s = done (record s { memory = opened s.memory })
 
 -- 129 # ( ud -- ud2 ): the digit of the remainder by BASE is held
 abbrev pub picture_digit : Whole → After
-picture_digit s = takes2 s (λ low high d. needs s 12 (has_base s.memory)
-    (done (record s { values = two_cells (double low high / cell s.memory BASE) d; memory = with_digit s.memory (double low high) })))
+picture_digit s = takes2 s (λ low high d. let ud2 = double low high / cell s.memory BASE in
+    needs s BAD_BASE (has_base s.memory)
+    (done (record s { values = d ▸ ud2 % 65536 ▸ ud2 / 65536; memory = with_digit s.memory (double low high) })))
 
 -- 130 #S ( ud -- 0 0 ): the digits of ud in BASE are put below HLD
 abbrev pub picture_digits : Whole → After
-picture_digits s = takes2 s (λ low high d. needs s 12 (has_base s.memory)
-    (done (record s { values = 0 ∷ 0 ∷ d; memory = with_digits s.memory (double low high) })))
+picture_digits s = takes2 s (λ low high d. needs s BAD_BASE (has_base s.memory)
+    (done (record s { values = d ▸ 0 ▸ 0; memory = with_digits s.memory (double low high) })))
 
 -- 131 #> ( d -- a u ): from HLD to PAD
 abbrev pub close_picture : Whole → After
-close_picture s = takes2 s (λ low high d. leaves s (difference (pad s.memory) (cell s.memory HLD) ∷ cell s.memory HLD ∷ d))
+close_picture s = takes2 s (λ low high d. leaves s (d ▸ cell s.memory HLD ▸ difference (pad s.memory) (cell s.memory HLD)))
 
 -- 132 HOLD ( c -- )
 abbrev pub hold : Whole → After
@@ -42,5 +41,6 @@ sign s = takes1 s (λ n d. done (record s { values = d; memory = signed_picture 
 
 -- 134 CONVERT ( ud a -- ud2 a2 ): ud goes on with the digits behind a, and a2 is behind them
 abbrev pub convert : Whole → After
-convert s = takes3 s (λ low high a d. needs s 12 (has_base s.memory)
-    (leaves s (address_behind s.memory a ∷ two_cells (continued (cell s.memory BASE) (double low high) (digits_behind s.memory a)) d)))
+convert s = takes3 s (λ low high a d. let ud2 = continued (cell s.memory BASE) (double low high) (digits_behind s.memory a) in
+    needs s BAD_BASE (has_base s.memory)
+    (leaves s (d ▸ ud2 % 65536 ▸ ud2 / 65536 ▸ address_behind s.memory a)))

@@ -1,5 +1,6 @@
 -- What a row that stops leaves as it was.
 use Rattle.std.specs.Prelude.{◌≡◌}
+use Rattle.block_buffers.specs.Entries.{IsReordered}
 use Rattle.plain_rows.specs.Whole.{Whole}
 use Rattle.plain_rows.specs.Row.{After}
 use Rattle.plain_rows.specs.declared.parts.Outcome.TheVariants.{Fault, Abort, Ask}
@@ -11,6 +12,8 @@ pub record Keeps (old new : Whole) : Type 0 where
   pub returns : new.returns ≡ old.returns
   pub ip : new.ip ≡ old.ip
   pub pending : new.pending ≡ old.pending
+  pub buffers : IsReordered old.buffers new.buffers
+  pub block_count : new.block_count ≡ old.block_count
 
 -- a row that ends with a fault, with an abort or with a request writes nothing and takes nothing
 abbrev pub StopsKeeping : Whole → After → Type 0

@@ -1,5 +1,5 @@
 -- Rows that need the input stream.
-use Rattle.std.specs.Prelude.{◌≡◌, ℕ, ◌+◌, ◌%◌, ◌≤◌, List, ◌∷◌, ◌==◌, ◌||◌, nat_le, Bool, if◌then◌else◌, IsTrue, IsFalse, Result, Ok, Err}
+use Rattle.std.specs.Prelude.{◌≡◌, ℕ, ◌+◌, ◌%◌, ◌≤◌, List, ◌==◌, ◌||◌, nat_le, Bool, if◌then◌else◌, IsTrue, IsFalse, Result, Ok, Err}
 use Rattle.block_buffers.specs.declared.entry.Entry.{Entry}
 use Rattle.block_buffers.specs.Entries.{moved_front, slot_of}
 use Rattle.cells.specs.Cell.{wrap}
@@ -14,6 +14,8 @@ use Rattle.plain_rows.specs.Whole.{Whole}
 use Rattle.plain_rows.specs.declared.parts.Outcome.{Outcome}
 use Rattle.plain_rows.specs.declared.parts.Outcome.TheVariants.{Show}
 use Rattle.plain_rows.specs.Row.{After, done, takes1, needs}
+use Rattle.plain_rows.specs.declared.faults.TheConstants.{BAD_LENGTH}
+use Rattle.stacks.specs.Cells.{◌▸◌}
 use Rattle.primitives.specs.Blocks.{has_block, without_block}
 
 -- the stream is there: BLK is 0, or its block is in a buffer
@@ -43,7 +45,7 @@ past m w = put_cell m TO_IN w.next
 -- 144 WORD ( c -- a ): the next word, at HERE with its count before it and a blank behind it
 abbrev pub word : Whole → After
 word s = takes1 s (λ c d. reads s (λ t stream. let w = word_in t.memory stream (c % 256) in
-    needs t 15 (nat_le w.len 255) (done (record t { values = cell t.memory DP ∷ d; memory = with_word t.memory stream w }))))
+    needs t BAD_LENGTH (nat_le w.len 255) (done (record t { values = d ▸ cell t.memory DP; memory = with_word t.memory stream w }))))
 
 -- 145 ( ( -- ): parses to )
 abbrev pub paren : Whole → After

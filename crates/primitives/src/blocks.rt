@@ -4,6 +4,7 @@ ghost use Rattle.std.specs.Prelude.{◌≡◌, ◌<◌};
 ghost use Rattle.primitives.specs.Blocks.{IsFetched, address_of, write_of, without_block};
 
 use block_buffers::entry::Entry;
+use plain_rows::faults::NO_BLOCK;
 use plain_rows::parts::{Outcome, Parts, Request};
 
 /// References block `u`, and gives its slot; or says what stops the row, which is then unchanged: fault 7, or the
@@ -28,7 +29,7 @@ pub fn without_block(parts: &Parts, u: u16) -> Outcome
     ensures { result ≡ without_block parts.now u }
 {
     if u32::from(u) >= parts.block_count {
-        return Outcome::Fault(7);
+        return Outcome::Fault(NO_BLOCK);
     }
     let victim = parts.buffers.victim();
     if victim.updated {

@@ -3,12 +3,13 @@
 #![tactic(auto, using(plain_rows::proofs::Takes::takes))]
 
 ghost use Rattle.std.specs.Prelude.{◌≡◌, ◌≤◌, ◌++◌, length, drop};
-ghost use Rattle.primitives.specs.Compiling.{compiles, resolves, ahead, semicolon, left_bracket, right_bracket, comma, c_comma, allot, literal, does, if_row, else_row, then_row, begin, until, while_row, repeat, again, do_row, loop_row, plus_loop, mark_back, resolve_back, mark_forward, resolve_forward};
+ghost use Rattle.primitives.specs.Compiling.{compiles, resolves, ahead, semicolon, left_bracket, right_bracket, comma, c_comma, allot, literal, compile_does, if_row, else_row, then_row, begin, until, while_row, repeat, again, do_row, loop_row, plus_loop, mark_back, resolve_back, mark_forward, resolve_forward};
 
 use compiling_words::{Control, control_code, end_definition, literal_code, runtime};
 use dictionary::{fits, lay_at};
 use memory::cell_bytes;
 use memory::system::{DP, STATE};
+use plain_rows::faults::{DATA_OVERFLOW, DATA_UNDERFLOW, DICTIONARY_FULL};
 use plain_rows::leave;
 use plain_rows::parts::{Outcome, Parts};
 
@@ -19,10 +20,10 @@ pub fn compile(parts: &mut Parts, bytes: &[u8], taken: usize, given: &[u16]) -> 
     ensures { (parts.new, result) ≡ compiles parts.old bytes.now (given.now ++ drop taken parts.old.values) }
 {
     if !fits(&parts.memory, bytes.len()) {
-        return Outcome::Fault(8);
+        return Outcome::Fault(DICTIONARY_FULL);
     }
     if parts.values.replace(taken, given).is_err() {
-        return Outcome::Fault(2);
+        return Outcome::Fault(DATA_OVERFLOW);
     }
     let here = parts.memory.cell(DP);
     lay_at(&mut parts.memory, here, bytes);
@@ -36,10 +37,10 @@ fn resolve(parts: &mut Parts, bytes: &[u8], a: u16, taken: usize, given: &[u16])
     ensures { (parts.new, result) ≡ resolves parts.old bytes.now a (given.now ++ drop taken parts.old.values) }
 {
     if !fits(&parts.memory, bytes.len()) {
-        return Outcome::Fault(8);
+        return Outcome::Fault(DICTIONARY_FULL);
     }
     if parts.values.replace(taken, given).is_err() {
-        return Outcome::Fault(2);
+        return Outcome::Fault(DATA_OVERFLOW);
     }
     let here = parts.memory.cell(DP);
     lay_at(&mut parts.memory, here, bytes);
@@ -62,7 +63,7 @@ pub fn semicolon(parts: &mut Parts) -> Outcome
 {
     match end_definition(&mut parts.memory) {
         Ok(()) => Outcome::Done,
-        Err(_) => Outcome::Fault(8),
+        Err(_) => Outcome::Fault(DICTIONARY_FULL),
     }
 }
 
@@ -87,7 +88,7 @@ pub fn comma(parts: &mut Parts) -> Outcome
     ensures { (parts.new, result) ≡ comma parts.old }
 {
     let Some(x) = parts.values.pick(0) else {
-        return Outcome::Fault(1);
+        return Outcome::Fault(DATA_UNDERFLOW);
     };
     compile(parts, &cell_bytes(x), 1, &[])
 }
@@ -97,7 +98,7 @@ pub fn c_comma(parts: &mut Parts) -> Outcome
     ensures { (parts.new, result) ≡ c_comma parts.old }
 {
     let Some(c) = parts.values.pick(0) else {
-        return Outcome::Fault(1);
+        return Outcome::Fault(DATA_UNDERFLOW);
     };
     compile(parts, &[(c % 256) as u8], 1, &[])
 }
@@ -107,10 +108,10 @@ pub fn allot(parts: &mut Parts) -> Outcome
     ensures { (parts.new, result) ≡ allot parts.old }
 {
     let Some(n) = parts.values.pick(0) else {
-        return Outcome::Fault(1);
+        return Outcome::Fault(DATA_UNDERFLOW);
     };
     if compiling_words::allot(&mut parts.memory, n).is_err() {
-        return Outcome::Fault(8);
+        return Outcome::Fault(DICTIONARY_FULL);
     }
     parts.values.lower(1);
     Outcome::Done
@@ -121,15 +122,15 @@ pub fn literal(parts: &mut Parts) -> Outcome
     ensures { (parts.new, result) ≡ literal parts.old }
 {
     let Some(x) = parts.values.pick(0) else {
-        return Outcome::Fault(1);
+        return Outcome::Fault(DATA_UNDERFLOW);
     };
     let code = literal_code(&parts.memory, x);
     compile(parts, &code, 1, &[])
 }
 
 /// 178 `DOES>` ( -- )
-pub fn does(parts: &mut Parts) -> Outcome
-    ensures { (parts.new, result) ≡ does parts.old }
+pub fn compile_does(parts: &mut Parts) -> Outcome
+    ensures { (parts.new, result) ≡ compile_does parts.old }
 {
     let code = cell_bytes(runtime(&parts.memory, Control::Does));
     compile(parts, &code, 0, &[])
@@ -149,7 +150,7 @@ pub fn else_row(parts: &mut Parts) -> Outcome
     ensures { (parts.new, result) ≡ else_row parts.old }
 {
     let Some(a) = parts.values.pick(0) else {
-        return Outcome::Fault(1);
+        return Outcome::Fault(DATA_UNDERFLOW);
     };
     let code = control_code(&parts.memory, Control::Branch, 0);
     let a2 = ahead(parts, 2);
@@ -175,7 +176,7 @@ pub fn until(parts: &mut Parts) -> Outcome
     ensures { (parts.new, result) ≡ until parts.old }
 {
     let Some(a) = parts.values.pick(0) else {
-        return Outcome::Fault(1);
+        return Outcome::Fault(DATA_UNDERFLOW);
     };
     let code = control_code(&parts.memory, Control::ZeroBranch, a);
     compile(parts, &code, 1, &[])
@@ -193,7 +194,7 @@ pub fn repeat(parts: &mut Parts) -> Outcome
     ensures { (parts.new, result) ≡ repeat parts.old }
 {
     let Some((a, b)) = parts.values.top2() else {
-        return Outcome::Fault(1);
+        return Outcome::Fault(DATA_UNDERFLOW);
     };
     let code = control_code(&parts.memory, Control::Branch, a);
     resolve(parts, &code, b, 2, &[])
@@ -204,7 +205,7 @@ pub fn again(parts: &mut Parts) -> Outcome
     ensures { (parts.new, result) ≡ again parts.old }
 {
     let Some(a) = parts.values.pick(0) else {
-        return Outcome::Fault(1);
+        return Outcome::Fault(DATA_UNDERFLOW);
     };
     let code = control_code(&parts.memory, Control::Branch, a);
     compile(parts, &code, 1, &[])
@@ -225,7 +226,7 @@ pub fn loop_row(parts: &mut Parts) -> Outcome
     ensures { (parts.new, result) ≡ loop_row parts.old }
 {
     let Some((a, b)) = parts.values.top2() else {
-        return Outcome::Fault(1);
+        return Outcome::Fault(DATA_UNDERFLOW);
     };
     let code = control_code(&parts.memory, Control::Loop, b);
     resolve(parts, &code, a, 2, &[])
@@ -236,7 +237,7 @@ pub fn plus_loop(parts: &mut Parts) -> Outcome
     ensures { (parts.new, result) ≡ plus_loop parts.old }
 {
     let Some((a, b)) = parts.values.top2() else {
-        return Outcome::Fault(1);
+        return Outcome::Fault(DATA_UNDERFLOW);
     };
     let code = control_code(&parts.memory, Control::PlusLoop, b);
     resolve(parts, &code, a, 2, &[])
@@ -255,7 +256,7 @@ pub fn resolve_back(parts: &mut Parts) -> Outcome
     ensures { (parts.new, result) ≡ resolve_back parts.old }
 {
     let Some(a) = parts.values.pick(0) else {
-        return Outcome::Fault(1);
+        return Outcome::Fault(DATA_UNDERFLOW);
     };
     compile(parts, &cell_bytes(a), 1, &[])
 }
@@ -273,7 +274,7 @@ pub fn resolve_forward(parts: &mut Parts) -> Outcome
     ensures { (parts.new, result) ≡ resolve_forward parts.old }
 {
     let Some(a) = parts.values.pick(0) else {
-        return Outcome::Fault(1);
+        return Outcome::Fault(DATA_UNDERFLOW);
     };
     compiling_words::resolve_forward(&mut parts.memory, a);
     parts.values.lower(1);

@@ -1,24 +1,23 @@
 //! Compiling rows that need the input stream: 168, 176, 177 and 190 to 193.
 
-#![tactic(auto, using(plain_rows::proofs::Takes::takes))]
+#![tactic(auto, using(plain_rows::proofs::Takes::takes, crate::proofs::Searching::searching))]
 
-ghost use Rattle.std.specs.Prelude.{◌≡◌, ◌≤◌, length, drop};
-ghost use Rattle.dictionary.specs.Laying.{laid_at};
-ghost use Rattle.memory.specs.Bytes.{cell};
-ghost use Rattle.primitives.specs.Defining.{colon, bracket_tick, bracket_compile, quotes, dot_quote, abort_quote, constant, variable};
-ghost use Rattle.primitives.specs.Streams.{past};
+ghost use Rattle.std.specs.Prelude.{◌≡◌};
+ghost use Rattle.primitives.specs.Defining.{colon, lays_past, bracket_tick, bracket_compile, quotes, dot_quote, abort_quote, constant, variable};
 
-use crate::dictionary_rows::define;
+use crate::dictionary_rows::create_with;
 use crate::names::sought;
 use crate::stream::{open, pass};
 use compiling_words::{TextWord, lay_text, literal_code, runtime_of};
 use dictionary::{Site, compilation_address, fits, lay_at};
 use input_source::{Word, next_word, parse_to, word_bytes};
+use memory::cell_bytes;
 use memory::system::{CONTEXT, CURRENT, DP, STATE};
-use memory::{Memory, cell_bytes};
+use plain_rows::faults::{BAD_LENGTH, CHAIN_TOO_LONG, DATA_UNDERFLOW, DICTIONARY_FULL, NOT_FOUND};
 use plain_rows::parts::{Outcome, Parts};
 
 /// 168 `:` ( -- )
+#[tactic(auto, unfolding(dictionary::specs::Adding::with_header_at, memory::specs::Bytes::written))]
 pub fn colon(parts: &mut Parts) -> Outcome
     ensures { (parts.new, result) ≡ colon parts.old }
 {
@@ -28,10 +27,10 @@ pub fn colon(parts: &mut Parts) -> Outcome
     };
     let word = next_word(&parts.memory, stream, b' ');
     if word.len == 0 || word.len > 31 {
-        return Outcome::Fault(15);
+        return Outcome::Fault(BAD_LENGTH);
     }
     if !fits(&parts.memory, 7 + word.len as usize) {
-        return Outcome::Fault(8);
+        return Outcome::Fault(DICTIONARY_FULL);
     }
     let bytes = word_bytes(&parts.memory, stream, word);
     let name = &bytes[..word.len as usize];
@@ -41,6 +40,20 @@ pub fn colon(parts: &mut Parts) -> Outcome
     site.write(&mut parts.memory, name, 1, &[], true);
     parts.memory.set_cell(STATE, 65535);
     parts.memory.set_cell(CONTEXT, current);
+    Outcome::Done
+}
+
+/// Lays bytes, and makes `>IN` the place behind a word.
+#[tactic(auto, unfolding(crate::specs::Defining::lays_past))]
+fn lay_past(parts: &mut Parts, word: Word, bytes: &[u8]) -> Outcome
+    ensures { (parts.new, result) ≡ lays_past parts.old word bytes.now }
+{
+    if !fits(&parts.memory, bytes.len()) {
+        return Outcome::Fault(DICTIONARY_FULL);
+    }
+    let here = parts.memory.cell(DP);
+    pass(&mut parts.memory, word);
+    lay_at(&mut parts.memory, here, bytes);
     Outcome::Done
 }
 
@@ -54,23 +67,17 @@ pub fn bracket_tick(parts: &mut Parts) -> Outcome
     };
     let word = next_word(&parts.memory, stream, b' ');
     if word.len == 0 {
-        return Outcome::Fault(15);
+        return Outcome::Fault(BAD_LENGTH);
     }
-    let Ok(link_field) = sought(&parts.memory, stream, word) else {
-        return Outcome::Fault(11);
-    };
-    if link_field == 0 {
-        return Outcome::Fault(13);
+    match sought(&parts.memory, stream, word) {
+        Ok(Some(link_field)) => {
+            let w = compilation_address(&parts.memory, link_field);
+            let code = literal_code(&parts.memory, w);
+            lay_past(parts, word, &code)
+        }
+        Ok(None) => Outcome::Fault(NOT_FOUND),
+        Err(_) => Outcome::Fault(CHAIN_TOO_LONG),
     }
-    if !fits(&parts.memory, 4) {
-        return Outcome::Fault(8);
-    }
-    let code = literal_code(
-        &parts.memory,
-        compilation_address(&parts.memory, link_field),
-    );
-    lay_past(&mut parts.memory, word, &code);
-    Outcome::Done
 }
 
 /// 177 `[COMPILE]` ( -- )
@@ -83,30 +90,16 @@ pub fn bracket_compile(parts: &mut Parts) -> Outcome
     };
     let word = next_word(&parts.memory, stream, b' ');
     if word.len == 0 {
-        return Outcome::Fault(15);
+        return Outcome::Fault(BAD_LENGTH);
     }
-    let Ok(link_field) = sought(&parts.memory, stream, word) else {
-        return Outcome::Fault(11);
-    };
-    if link_field == 0 {
-        return Outcome::Fault(13);
+    match sought(&parts.memory, stream, word) {
+        Ok(Some(link_field)) => {
+            let w = compilation_address(&parts.memory, link_field);
+            lay_past(parts, word, &cell_bytes(w))
+        }
+        Ok(None) => Outcome::Fault(NOT_FOUND),
+        Err(_) => Outcome::Fault(CHAIN_TOO_LONG),
     }
-    if !fits(&parts.memory, 2) {
-        return Outcome::Fault(8);
-    }
-    let code = cell_bytes(compilation_address(&parts.memory, link_field));
-    lay_past(&mut parts.memory, word, &code);
-    Outcome::Done
-}
-
-/// Makes `>IN` the place behind a word, and lays bytes at HERE as it was before.
-fn lay_past(memory: &mut Memory, word: Word, bytes: &[u8])
-    requires { length bytes.now ≤ 61440 }
-    ensures { memory.new ≡ laid_at (cell memory.old DP) (past memory.old word) bytes.now }
-{
-    let here = memory.cell(DP);
-    pass(memory, word);
-    lay_at(memory, here, bytes);
 }
 
 /// A row that lays what shows a text, and the text up to the next quote.
@@ -119,10 +112,10 @@ fn quote(parts: &mut Parts, shows: TextWord) -> Outcome
     };
     let word = parse_to(&parts.memory, stream, b'"');
     if word.len > 255 {
-        return Outcome::Fault(15);
+        return Outcome::Fault(BAD_LENGTH);
     }
     if !fits(&parts.memory, 3 + word.len as usize) {
-        return Outcome::Fault(8);
+        return Outcome::Fault(DICTIONARY_FULL);
     }
     let bytes = word_bytes(&parts.memory, stream, word);
     let token = runtime_of(&parts.memory, shows);
@@ -151,10 +144,10 @@ pub fn constant(parts: &mut Parts) -> Outcome
     ensures { (parts.new, result) ≡ constant parts.old }
 {
     let Some(x) = parts.values.pick(0) else {
-        return Outcome::Fault(1);
+        return Outcome::Fault(DATA_UNDERFLOW);
     };
     match open(parts) {
-        Ok(stream) => define(parts, stream, 3, &cell_bytes(x), 1),
+        Ok(stream) => create_with(parts, stream, 3, &cell_bytes(x), 1),
         Err(outcome) => outcome,
     }
 }
@@ -164,7 +157,7 @@ pub fn variable(parts: &mut Parts) -> Outcome
     ensures { (parts.new, result) ≡ variable parts.old }
 {
     match open(parts) {
-        Ok(stream) => define(parts, stream, 2, &cell_bytes(0), 0),
+        Ok(stream) => create_with(parts, stream, 2, &cell_bytes(0), 0),
         Err(outcome) => outcome,
     }
 }

@@ -7,6 +7,7 @@ ghost use Rattle.primitives.specs.Devices.{block, buffer, update, save_buffers, 
 
 use crate::blocks::{address_of, fetch, write_of};
 use memory::system::SPAN;
+use plain_rows::faults::{DATA_OVERFLOW, DATA_UNDERFLOW, NO_BLOCK};
 use plain_rows::parts::{Outcome, Parts, Request, Span};
 
 /// 112 `BLOCK` ( u -- a )
@@ -14,7 +15,7 @@ pub fn block(parts: &mut Parts) -> Outcome
     ensures { (parts.new, result) ≡ block parts.old }
 {
     let Some(u) = parts.values.pick(0) else {
-        return Outcome::Fault(1);
+        return Outcome::Fault(DATA_UNDERFLOW);
     };
     match fetch(parts, u) {
         Ok(slot) => {
@@ -27,15 +28,15 @@ pub fn block(parts: &mut Parts) -> Outcome
 }
 
 /// 113 `BUFFER` ( u -- a )
-#[tactic(auto, using(plain_rows::proofs::Takes::takes), unfolding(crate::specs::Devices::gives))]
+#[tactic(auto, using(plain_rows::proofs::Takes::takes), unfolding(crate::specs::Devices::saves_victim))]
 pub fn buffer(parts: &mut Parts) -> Outcome
     ensures { (parts.new, result) ≡ buffer parts.old }
 {
     let Some(u) = parts.values.pick(0) else {
-        return Outcome::Fault(1);
+        return Outcome::Fault(DATA_UNDERFLOW);
     };
     if u32::from(u) >= parts.block_count {
-        return Outcome::Fault(7);
+        return Outcome::Fault(NO_BLOCK);
     }
     if let Some(slot) = parts.buffers.find(u) {
         parts.buffers.touch(u);
@@ -100,7 +101,7 @@ pub fn key(parts: &mut Parts) -> Outcome
     ensures { (parts.new, result) ≡ key parts.old }
 {
     if parts.values.is_full() {
-        return Outcome::Fault(2);
+        return Outcome::Fault(DATA_OVERFLOW);
     }
     Outcome::Ask(Request::Key)
 }
@@ -110,7 +111,7 @@ pub fn expect(parts: &mut Parts) -> Outcome
     ensures { (parts.new, result) ≡ expect parts.old }
 {
     let Some((_a, u)) = parts.values.top2() else {
-        return Outcome::Fault(1);
+        return Outcome::Fault(DATA_UNDERFLOW);
     };
     if u != 0 {
         return Outcome::Ask(Request::Line { n: u });
@@ -125,7 +126,7 @@ pub fn emit(parts: &mut Parts) -> Outcome
     ensures { (parts.new, result) ≡ emit parts.old }
 {
     let Some(c) = parts.values.pick(0) else {
-        return Outcome::Fault(1);
+        return Outcome::Fault(DATA_UNDERFLOW);
     };
     parts.values.lower(1);
     Outcome::Byte((c % 256) as u8)
@@ -136,7 +137,7 @@ pub fn type_out(parts: &mut Parts) -> Outcome
     ensures { (parts.new, result) ≡ type_out parts.old }
 {
     let Some((at, len)) = parts.values.top2() else {
-        return Outcome::Fault(1);
+        return Outcome::Fault(DATA_UNDERFLOW);
     };
     parts.values.lower(2);
     Outcome::Show(Span { at, len })

@@ -1,40 +1,56 @@
 //! Rows 147 to 157, but for (INTERPRET): names, new headers, vocabularies, FORGET.
 
-#![tactic(auto, using(plain_rows::proofs::Takes::takes), unfolding(plain_rows::specs::Row::room))]
+#![tactic(auto, using(plain_rows::proofs::Takes::takes, crate::proofs::Searching::searching))]
 
-ghost use Rattle.std.specs.Prelude.{◌≡◌, ◌≤◌, length, drop};
-ghost use Rattle.primitives.specs.Dictionary.{finds_at, find, tick, defines, create, immediate, forget, to_body, here, pad_row, vocabulary, definitions};
-ghost use Rattle.primitives.specs.Names.{counted_string};
+ghost use Rattle.std.specs.Prelude.{◌≡◌, ◌≤◌, ◌++◌, length, drop};
+ghost use Rattle.primitives.specs.Dictionary.{find, leaves_past, tick, creates, create, immediate, forget, to_body, here, pad_row, vocabulary, definitions};
+ghost use Rattle.primitives.specs.Names.{name_word, name_in, counted_string};
 
 use crate::names::{sought, sought_at, target_in};
 use crate::stream::{open, pass};
 use dictionary::{
     ForgetFault, Site, compilation_address, cut_by, fits, is_immediate, set_immediate,
 };
-use input_source::{Stream, next_word, word_bytes};
+use input_source::{Stream, Word, next_word, word_bytes};
 use memory::system::{CONTEXT, CURRENT, DP, VOC_LINK};
+use plain_rows::faults::{
+    BAD_LENGTH, CHAIN_TOO_LONG, DATA_OVERFLOW, DATA_UNDERFLOW, DICTIONARY_FULL, NOT_FOUND,
+};
 use plain_rows::leave;
 use plain_rows::parts::{Outcome, Parts};
 
 /// 147 `FIND` ( a -- a 0, w -1, w 1 )
-#[tactic(auto, using(plain_rows::proofs::Takes::takes), unfolding(crate::specs::Dictionary::finds_at))]
 pub fn find(parts: &mut Parts) -> Outcome
     ensures { (parts.new, result) ≡ find parts.old }
 {
     let Some(a) = parts.values.pick(0) else {
-        return Outcome::Fault(1);
+        return Outcome::Fault(DATA_UNDERFLOW);
     };
-    let Ok(link_field) = sought_at(&parts.memory, a) else {
-        return Outcome::Fault(11);
-    };
-    if link_field == 0 {
-        return leave(parts, 1, &[0, a]);
+    match sought_at(&parts.memory, a) {
+        Ok(Some(link_field)) => {
+            let w = compilation_address(&parts.memory, link_field);
+            let flag = if is_immediate(&parts.memory, link_field) {
+                1
+            } else {
+                65535
+            };
+            leave(parts, 1, &[flag, w])
+        }
+        Ok(None) => leave(parts, 1, &[0, a]),
+        Err(_) => Outcome::Fault(CHAIN_TOO_LONG),
     }
-    let w = compilation_address(&parts.memory, link_field);
-    if is_immediate(&parts.memory, link_field) {
-        return leave(parts, 1, &[1, w]);
+}
+
+/// Leaves cells on the data stack, the first of them on top, and makes `>IN` the place behind a word.
+#[tactic(auto, unfolding(plain_rows::specs::Row::room, crate::specs::Dictionary::leaves_past))]
+pub fn leave_past(parts: &mut Parts, word: Word, cells: &[u16]) -> Outcome
+    ensures { (parts.new, result) ≡ leaves_past parts.old word (cells.now ++ parts.old.values) }
+{
+    if parts.values.replace(0, cells).is_err() {
+        return Outcome::Fault(DATA_OVERFLOW);
     }
-    leave(parts, 1, &[65535, w])
+    pass(&mut parts.memory, word);
+    Outcome::Done
 }
 
 /// 148 `'` ( -- w )
@@ -47,35 +63,37 @@ pub fn tick(parts: &mut Parts) -> Outcome
     };
     let word = next_word(&parts.memory, stream, b' ');
     if word.len == 0 {
-        return Outcome::Fault(15);
+        return Outcome::Fault(BAD_LENGTH);
     }
-    let Ok(link_field) = sought(&parts.memory, stream, word) else {
-        return Outcome::Fault(11);
-    };
-    if link_field == 0 {
-        return Outcome::Fault(13);
+    match sought(&parts.memory, stream, word) {
+        Ok(Some(link_field)) => {
+            let w = compilation_address(&parts.memory, link_field);
+            leave_past(parts, word, &[w])
+        }
+        Ok(None) => Outcome::Fault(NOT_FOUND),
+        Err(_) => Outcome::Fault(CHAIN_TOO_LONG),
     }
-    let w = compilation_address(&parts.memory, link_field);
-    if parts.values.push(w).is_err() {
-        return Outcome::Fault(2);
-    }
-    pass(&mut parts.memory, word);
-    Outcome::Done
 }
 
 /// Makes a header of the next word's name; `taken` cells leave the data stack.
-#[tactic(auto, unfolding(crate::specs::Dictionary::defines))]
-pub fn define(parts: &mut Parts, stream: Stream, code: u16, extra: &[u8], taken: usize) -> Outcome
+#[tactic(auto, unfolding(crate::specs::Dictionary::creates, dictionary::specs::Adding::with_header_at, memory::specs::Bytes::written))]
+pub fn create_with(
+    parts: &mut Parts,
+    stream: Stream,
+    code: u16,
+    extra: &[u8],
+    taken: usize,
+) -> Outcome
     requires extra { length extra.now ≤ 2 }
     requires taken { taken ≤ length parts.old.values }
-    ensures { (parts.new, result) ≡ defines parts.old stream code extra.now (drop taken parts.old.values) }
+    ensures { (parts.new, result) ≡ creates parts.old (name_word parts.old.memory stream) (name_in parts.old.memory stream) code extra.now (drop taken parts.old.values) }
 {
     let word = next_word(&parts.memory, stream, b' ');
     if word.len == 0 || word.len > 31 {
-        return Outcome::Fault(15);
+        return Outcome::Fault(BAD_LENGTH);
     }
     if !fits(&parts.memory, 7 + word.len as usize + extra.len()) {
-        return Outcome::Fault(8);
+        return Outcome::Fault(DICTIONARY_FULL);
     }
     let bytes = word_bytes(&parts.memory, stream, word);
     let name = &bytes[..word.len as usize];
@@ -91,7 +109,7 @@ pub fn create(parts: &mut Parts) -> Outcome
     ensures { (parts.new, result) ≡ create parts.old }
 {
     match open(parts) {
-        Ok(stream) => define(parts, stream, 2, &[], 0),
+        Ok(stream) => create_with(parts, stream, 2, &[], 0),
         Err(outcome) => outcome,
     }
 }
@@ -105,6 +123,7 @@ pub fn immediate(parts: &mut Parts) -> Outcome
 }
 
 /// 152 `FORGET` ( -- )
+#[tactic(auto, unfolding(dictionary::specs::Forget::target, dictionary::specs::Forget::is_missing_or_fenced, memory::specs::Bytes::written))]
 pub fn forget(parts: &mut Parts) -> Outcome
     ensures { (parts.new, result) ≡ forget parts.old }
 {
@@ -114,7 +133,7 @@ pub fn forget(parts: &mut Parts) -> Outcome
     };
     let word = next_word(&parts.memory, stream, b' ');
     if word.len == 0 {
-        return Outcome::Fault(15);
+        return Outcome::Fault(BAD_LENGTH);
     }
     match target_in(&parts.memory, stream, word) {
         Ok(target) => {
@@ -123,9 +142,9 @@ pub fn forget(parts: &mut Parts) -> Outcome
             cut_by(&mut parts.memory, &before, target);
             Outcome::Done
         }
-        Err(ForgetFault::NameLength) => Outcome::Fault(15),
-        Err(ForgetFault::NotFound) => Outcome::Fault(13),
-        Err(ForgetFault::ChainTooLong) => Outcome::Fault(11),
+        Err(ForgetFault::NameLength) => Outcome::Fault(BAD_LENGTH),
+        Err(ForgetFault::NotFound) => Outcome::Fault(NOT_FOUND),
+        Err(ForgetFault::ChainTooLong) => Outcome::Fault(CHAIN_TOO_LONG),
     }
 }
 
@@ -134,7 +153,7 @@ pub fn to_body(parts: &mut Parts) -> Outcome
     ensures { (parts.new, result) ≡ to_body parts.old }
 {
     let Some(w) = parts.values.pick(0) else {
-        return Outcome::Fault(1);
+        return Outcome::Fault(DATA_UNDERFLOW);
     };
     leave(parts, 1, &[w.wrapping_add(2)])
 }
@@ -156,6 +175,7 @@ pub fn pad_row(parts: &mut Parts) -> Outcome
 }
 
 /// 156 `VOCABULARY` ( -- )
+#[tactic(auto, unfolding(dictionary::specs::Adding::with_vocabulary_at, memory::specs::Bytes::written))]
 pub fn vocabulary(parts: &mut Parts) -> Outcome
     ensures { (parts.new, result) ≡ vocabulary parts.old }
 {
@@ -165,10 +185,10 @@ pub fn vocabulary(parts: &mut Parts) -> Outcome
     };
     let word = next_word(&parts.memory, stream, b' ');
     if word.len == 0 || word.len > 31 {
-        return Outcome::Fault(15);
+        return Outcome::Fault(BAD_LENGTH);
     }
     if !fits(&parts.memory, 7 + word.len as usize + 10) {
-        return Outcome::Fault(8);
+        return Outcome::Fault(DICTIONARY_FULL);
     }
     let bytes = word_bytes(&parts.memory, stream, word);
     let name = &bytes[..word.len as usize];

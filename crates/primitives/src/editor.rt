@@ -4,17 +4,17 @@
 
 ghost use Rattle.std.specs.Prelude.{◌≡◌, ◌≤◌, ◌<◌, ◌+◌, length};
 ghost use Rattle.block_buffers.specs.Screens.{blank_screen, line_start, with_line, line_inserted, line_deleted};
-ghost use Rattle.memory.specs.Bytes.{cell, front_put, page, with_page};
+ghost use Rattle.memory.specs.Bytes.{cell, front_put, page, put_cell, with_page};
 ghost use Rattle.primitives.specs.Blocks.{IsFetched, address_of};
-ghost use Rattle.primitives.specs.Editor.{line_word, line_text, line, put, insert, delete, wipe};
-ghost use Rattle.primitives.specs.Streams.{past};
+ghost use Rattle.primitives.specs.Editor.{line_text, line, put, insert, delete, wipe};
 
 use crate::blocks::{address_of, fetch};
-use crate::stream::{open, pass};
+use crate::stream::open;
 use block_buffers::{delete_line, insert_line, put_line};
 use input_source::{Stream, Word, word_bytes};
 use memory::Memory;
-use memory::system::SCR;
+use memory::system::{SCR, TO_IN};
+use plain_rows::faults::DATA_UNDERFLOW;
 use plain_rows::leave;
 use plain_rows::parts::{Outcome, Parts};
 
@@ -26,20 +26,6 @@ fn open_screen(parts: &mut Parts) -> Result<usize, Outcome>
     fetch(parts, block)
 }
 
-/// What the editor takes of a stream: all from its place on, at most 64 bytes.
-#[tactic(auto, unfolding(crate::specs::Editor::line_word))]
-fn line_word(stream: Stream) -> Word
-    requires { stream.place ≤ stream.size }
-    ensures value { result ≡ line_word stream }
-    ensures bound { (line_word stream).len ≤ 64 }
-{
-    Word {
-        at: stream.place,
-        len: (stream.size - stream.place).min(64),
-        next: stream.size,
-    }
-}
-
 /// Writes bytes over the beginning of a line.
 #[tactic(auto, unfolding(memory::specs::Bytes::front_put))]
 fn put_front(line: &mut [u8], bytes: &[u8])
@@ -49,13 +35,17 @@ fn put_front(line: &mut [u8], bytes: &[u8])
     line[..bytes.len()].copy_from_slice(bytes);
 }
 
-/// The text that the editor takes of a stream, filled with blanks.
-#[tactic(auto, unfolding(crate::specs::Editor::line_text, block_buffers::specs::Screens::blank_line))]
+/// The text that the editor takes of a stream: all from its place on, at most 64 bytes, filled with blanks.
+#[tactic(auto, unfolding(crate::specs::Editor::line_text, block_buffers::specs::Screens::blank_line, input_source::specs::Words::bytes_in))]
 fn line_text(memory: &Memory, stream: Stream) -> [u8; 64]
     requires { stream.place ≤ stream.size }
     ensures { result ≡ line_text memory.now stream }
 {
-    let word = line_word(stream);
+    let word = Word {
+        at: stream.place,
+        len: (stream.size - stream.place).min(64),
+        next: stream.size,
+    };
     let bytes = word_bytes(memory, stream, word);
     let mut line = [b' '; 64];
     put_front(&mut line, &bytes[..word.len as usize]);
@@ -86,13 +76,13 @@ fn wipe_in(memory: &mut Memory, slot: usize)
 fn put_in(memory: &mut Memory, slot: usize, n: u16, stream: Stream)
     requires slot { slot < 4 }
     requires place { stream.place ≤ stream.size }
-    ensures { memory.new ≡ with_page (past memory.old (line_word stream)) slot
+    ensures { memory.new ≡ with_page (put_cell memory.old TO_IN stream.size) slot
         (with_line (page memory.old slot) n (line_text memory.old stream)) }
 {
     let text = line_text(memory, stream);
     let mut screen = *memory.page(slot);
     put_line(&mut screen, n, &text);
-    pass(memory, line_word(stream));
+    memory.set_cell(TO_IN, stream.size);
     memory.set_page(slot, &screen);
 }
 
@@ -100,13 +90,13 @@ fn put_in(memory: &mut Memory, slot: usize, n: u16, stream: Stream)
 fn insert_in(memory: &mut Memory, slot: usize, n: u16, stream: Stream)
     requires slot { slot < 4 }
     requires place { stream.place ≤ stream.size }
-    ensures { memory.new ≡ with_page (past memory.old (line_word stream)) slot
+    ensures { memory.new ≡ with_page (put_cell memory.old TO_IN stream.size) slot
         (line_inserted (page memory.old slot) n (line_text memory.old stream)) }
 {
     let text = line_text(memory, stream);
     let mut screen = *memory.page(slot);
     insert_line(&mut screen, n, &text);
-    pass(memory, line_word(stream));
+    memory.set_cell(TO_IN, stream.size);
     memory.set_page(slot, &screen);
 }
 
@@ -115,7 +105,7 @@ pub fn line(parts: &mut Parts) -> Outcome
     ensures { (parts.new, result) ≡ line parts.old }
 {
     let Some(n) = parts.values.pick(0) else {
-        return Outcome::Fault(1);
+        return Outcome::Fault(DATA_UNDERFLOW);
     };
     match open_screen(parts) {
         Ok(slot) => leave(parts, 1, &[64, line_address(slot, n)]),
@@ -136,7 +126,7 @@ pub fn put(parts: &mut Parts) -> Outcome
     ensures { (parts.new, result) ≡ put parts.old }
 {
     let Some(n) = parts.values.pick(0) else {
-        return Outcome::Fault(1);
+        return Outcome::Fault(DATA_UNDERFLOW);
     };
     let stream = match open(parts) {
         Ok(stream) => stream,
@@ -157,7 +147,7 @@ pub fn insert(parts: &mut Parts) -> Outcome
     ensures { (parts.new, result) ≡ insert parts.old }
 {
     let Some(n) = parts.values.pick(0) else {
-        return Outcome::Fault(1);
+        return Outcome::Fault(DATA_UNDERFLOW);
     };
     let stream = match open(parts) {
         Ok(stream) => stream,
@@ -178,7 +168,7 @@ pub fn delete(parts: &mut Parts) -> Outcome
     ensures { (parts.new, result) ≡ delete parts.old }
 {
     let Some(n) = parts.values.pick(0) else {
-        return Outcome::Fault(1);
+        return Outcome::Fault(DATA_UNDERFLOW);
     };
     let slot = match open_screen(parts) {
         Ok(slot) => slot,

@@ -1,10 +1,20 @@
 //! Row 149: one turn of the text interpreter.
 
-ghost use Rattle.std.specs.Prelude.{◌≡◌, ◌≤◌, ◌++◌, length};
+#![tactic(auto, using(crate::proofs::Searching::searching))]
+
+ghost use Rattle.std.specs.Prelude.{◌≡◌, ◌≤◌, ◌++◌, ◌%◌, ◌/◌, ◌||◌, ◌==◌, length, if◌then◌else◌};
 ghost use Rattle.input_source.specs.Words.{bytes_in};
 ghost use Rattle.compiling_words.specs.Code.{literal_code};
-ghost use Rattle.primitives.specs.Interpret.{pushes, lays, finds, singles, doubles, counts, interpret};
+ghost use Rattle.dictionary.specs.Header.{compilation_address, is_immediate};
+ghost use Rattle.memory.specs.Bytes.{cell, cell_bytes};
+ghost use Rattle.number_text.specs.Base.{has_base};
+ghost use Rattle.number_text.specs.Numbers.{is_number, is_double, number_value};
+ghost use Rattle.plain_rows.specs.Row.{needs};
+ghost use Rattle.primitives.specs.Dictionary.{leaves_past};
+ghost use Rattle.primitives.specs.Interpret.{compiles_past, interpret};
+ghost use Rattle.stacks.specs.Cells.{◌▸◌};
 
+use crate::dictionary_rows::leave_past;
 use crate::names::{number_in, sought};
 use crate::stream::open;
 use compiling_words::literal_code;
@@ -13,50 +23,41 @@ use input_source::{Stream, Word, next_word};
 use memory::system::{BASE, DP, STATE, TO_IN};
 use memory::{Memory, cell_bytes};
 use number_text::Number;
+use plain_rows::faults::{BAD_BASE, CHAIN_TOO_LONG, DATA_OVERFLOW, DICTIONARY_FULL, NOT_FOUND};
 use plain_rows::parts::{Outcome, Parts};
 
-/// Leaves cells on the data stack, the first of them on top, and makes `>IN` `next`.
-#[tactic(auto, unfolding(plain_rows::specs::Row::room, crate::specs::Interpret::pushes))]
-fn push_all(parts: &mut Parts, next: u16, cells: &[u16]) -> Outcome
-    ensures { (parts.new, result) ≡ pushes parts.old next cells.now }
-{
-    if parts.values.replace(0, cells).is_err() {
-        return Outcome::Fault(2);
-    }
-    parts.memory.set_cell(TO_IN, next);
-    Outcome::Done
-}
-
-/// Lays bytes, leaves -1, and makes `>IN` `next`.
-#[tactic(auto, unfolding(plain_rows::specs::Row::room, crate::specs::Interpret::lays))]
-fn lay(parts: &mut Parts, next: u16, bytes: &[u8]) -> Outcome
-    ensures { (parts.new, result) ≡ lays parts.old next bytes.now }
+/// Lays bytes, leaves -1, and makes `>IN` the place behind a word.
+#[tactic(auto, unfolding(plain_rows::specs::Row::room, crate::specs::Interpret::compiles_past))]
+fn compile_past(parts: &mut Parts, word: Word, bytes: &[u8]) -> Outcome
+    ensures { (parts.new, result) ≡ compiles_past parts.old word bytes.now }
 {
     if !fits(&parts.memory, bytes.len()) {
-        return Outcome::Fault(8);
+        return Outcome::Fault(DICTIONARY_FULL);
     }
     if parts.values.push(65535).is_err() {
-        return Outcome::Fault(2);
+        return Outcome::Fault(DATA_OVERFLOW);
     }
     let here = parts.memory.cell(DP);
-    parts.memory.set_cell(TO_IN, next);
+    parts.memory.set_cell(TO_IN, word.next);
     lay_at(&mut parts.memory, here, bytes);
     Outcome::Done
 }
 
 /// A header was found: its word is to be executed, or compiled.
-#[tactic(auto, unfolding(crate::specs::Interpret::finds))]
-fn find_word(parts: &mut Parts, link_field: u16, next: u16) -> Outcome
-    ensures { (parts.new, result) ≡ finds parts.old link_field next }
+fn take_word(parts: &mut Parts, word: Word, link_field: u16) -> Outcome
+    ensures { let w = compilation_address parts.old.memory link_field in
+        (parts.new, result) ≡ (if is_immediate parts.old.memory link_field || (cell parts.old.memory STATE == 0)
+        then leaves_past parts.old word (parts.old.values ▸ w ▸ 1)
+        else compiles_past parts.old word (cell_bytes w)) }
 {
     let w = compilation_address(&parts.memory, link_field);
     if is_immediate(&parts.memory, link_field) {
-        return push_all(parts, next, &[1, w]);
+        return leave_past(parts, word, &[1, w]);
     }
     if parts.memory.cell(STATE) == 0 {
-        return push_all(parts, next, &[1, w]);
+        return leave_past(parts, word, &[1, w]);
     }
-    lay(parts, next, &cell_bytes(w))
+    compile_past(parts, word, &cell_bytes(w))
 }
 
 /// The code of a double: the literals of its low and its high cell.
@@ -70,44 +71,55 @@ fn literals_code(memory: &Memory, low: u16, high: u16) -> [u8; 8]
 }
 
 /// A single number is left below -1, or compiled.
-#[tactic(auto, unfolding(crate::specs::Interpret::singles))]
-fn single(parts: &mut Parts, x: u16, next: u16) -> Outcome
-    ensures { (parts.new, result) ≡ singles parts.old x next }
+fn take_single(parts: &mut Parts, word: Word, x: u16) -> Outcome
+    ensures { (parts.new, result) ≡ (if cell parts.old.memory STATE == 0
+        then leaves_past parts.old word (parts.old.values ▸ x ▸ 65535)
+        else compiles_past parts.old word (literal_code parts.old.memory x)) }
 {
     if parts.memory.cell(STATE) == 0 {
-        return push_all(parts, next, &[65535, x]);
+        return leave_past(parts, word, &[65535, x]);
     }
     let code = literal_code(&parts.memory, x);
-    lay(parts, next, &code)
+    compile_past(parts, word, &code)
 }
 
 /// A double is left below -1, or compiled.
-#[tactic(auto, unfolding(crate::specs::Interpret::doubles))]
-fn double(parts: &mut Parts, number: u32, next: u16) -> Outcome
-    ensures { (parts.new, result) ≡ doubles parts.old number next }
+fn take_double(parts: &mut Parts, word: Word, n: u32) -> Outcome
+    ensures { (parts.new, result) ≡ (if cell parts.old.memory STATE == 0
+        then leaves_past parts.old word (parts.old.values ▸ n % 65536 ▸ n / 65536 ▸ 65535)
+        else compiles_past parts.old word (literal_code parts.old.memory (n % 65536) ++ literal_code parts.old.memory (n / 65536))) }
 {
-    let low = (number % 65536) as u16;
-    let high = (number / 65536) as u16;
+    let low = (n % 65536) as u16;
+    let high = (n / 65536) as u16;
     if parts.memory.cell(STATE) == 0 {
-        return push_all(parts, next, &[65535, high, low]);
+        return leave_past(parts, word, &[65535, high, low]);
     }
     let code = literals_code(&parts.memory, low, high);
-    lay(parts, next, &code)
+    compile_past(parts, word, &code)
 }
 
 /// No header was found: the word is a number, or unknown.
-#[tactic(auto, unfolding(crate::specs::Interpret::counts, number_text::specs::Base::has_base))]
-fn count(parts: &mut Parts, stream: Stream, word: Word) -> Outcome
-    ensures { (parts.new, result) ≡ counts parts.old (bytes_in parts.old.memory stream word) word.next }
+#[tactic(auto, unfolding(number_text::specs::Base::has_base))]
+fn take_number(parts: &mut Parts, stream: Stream, word: Word) -> Outcome
+    ensures { let m = parts.old.memory in
+        let name = bytes_in m stream word in
+        let n = number_value (cell m BASE) name in
+        (parts.new, result) ≡ needs parts.old BAD_BASE (has_base m)
+        (needs parts.old NOT_FOUND (is_number (cell m BASE) name)
+        (if is_double name then
+        if cell m STATE == 0 then leaves_past parts.old word (parts.old.values ▸ n % 65536 ▸ n / 65536 ▸ 65535)
+        else compiles_past parts.old word (literal_code m (n % 65536) ++ literal_code m (n / 65536))
+        else if cell m STATE == 0 then leaves_past parts.old word (parts.old.values ▸ n % 65536 ▸ 65535)
+        else compiles_past parts.old word (literal_code m (n % 65536)))) }
 {
     let base = parts.memory.cell(BASE);
     if base < 2 || base > 72 {
-        return Outcome::Fault(12);
+        return Outcome::Fault(BAD_BASE);
     }
     match number_in(&parts.memory, stream, word, base) {
-        Some(Number::Single(x)) => single(parts, x, word.next),
-        Some(Number::Double(number)) => double(parts, number, word.next),
-        None => Outcome::Fault(13),
+        Some(Number::Single(x)) => take_single(parts, word, x),
+        Some(Number::Double(n)) => take_double(parts, word, n),
+        None => Outcome::Fault(NOT_FOUND),
     }
 }
 
@@ -121,13 +133,11 @@ pub fn interpret(parts: &mut Parts) -> Outcome
     };
     let word = next_word(&parts.memory, stream, b' ');
     if word.len == 0 {
-        return push_all(parts, word.next, &[0]);
+        return leave_past(parts, word, &[0]);
     }
-    let Ok(link_field) = sought(&parts.memory, stream, word) else {
-        return Outcome::Fault(11);
-    };
-    if link_field == 0 {
-        return count(parts, stream, word);
+    match sought(&parts.memory, stream, word) {
+        Ok(Some(link_field)) => take_word(parts, word, link_field),
+        Ok(None) => take_number(parts, stream, word),
+        Err(_) => Outcome::Fault(CHAIN_TOO_LONG),
     }
-    find_word(parts, link_field, word.next)
 }

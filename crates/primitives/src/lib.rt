@@ -6,14 +6,20 @@ mod compiling;
 mod defining;
 mod device;
 mod dictionary_rows;
+#[cfg(test)]
+mod dictionary_tests;
 mod editor;
 #[cfg(test)]
 mod editor_tests;
 mod interpret;
 pub mod laws;
 mod names;
+#[cfg(test)]
+mod number_tests;
 mod numbers;
 pub mod stream;
+#[cfg(test)]
+mod stream_tests;
 mod table;
 #[cfg(test)]
 mod tests;

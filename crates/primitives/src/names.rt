@@ -5,7 +5,8 @@ ghost use Rattle.dictionary.specs.Forget.{IsTarget};
 ghost use Rattle.input_source.specs.Words.{bytes_in};
 ghost use Rattle.number_text.specs.Digits.{is_base};
 ghost use Rattle.number_text.specs.Numbers.{IsNumber, IsNoNumber};
-ghost use Rattle.primitives.specs.Names.{IsSoughtIn, counted_string};
+ghost use Rattle.dictionary.specs.Search.{sought};
+ghost use Rattle.primitives.specs.Names.{IsSoughtAs, counted_string};
 
 use crate::text::Text;
 use dictionary::{ChainTooLong, ForgetFault, forget_target, search};
@@ -13,52 +14,45 @@ use input_source::{Stream, Word};
 use memory::Memory;
 use number_text::{Number, number};
 
-/// The link field of the header that a name means, or 0.
-fn found_or_zero(memory: &Memory, name: &[u8]) -> Result<u16, ChainTooLong>
-    ensures { IsSoughtIn memory.now name.now result }
+/// The link field of the header that a name means.
+#[tactic(auto, using(crate::proofs::Searching::sought_by), unfolding(dictionary::specs::Search::sought))]
+fn sought_name(memory: &Memory, name: &[u8]) -> Result<Option<u16>, ChainTooLong>
+    ensures { IsSoughtAs (sought memory.now name.now) result }
 {
-    match search(memory, name)? {
-        Some(link_field) => Ok(link_field),
-        None => Ok(0),
-    }
+    search(memory, name)
 }
 
 /// The same of a name in two pieces.
-fn sought_in_pieces(memory: &Memory, head: &[u8], tail: &[u8]) -> Result<u16, ChainTooLong>
+fn sought_in_pieces(memory: &Memory, head: &[u8], tail: &[u8]) -> Result<Option<u16>, ChainTooLong>
     requires { length head.now + length tail.now ≤ 65535 }
-    ensures { IsSoughtIn memory.now (head.now ++ tail.now) result }
+    ensures { IsSoughtAs (sought memory.now (head.now ++ tail.now)) result }
 {
     let name = Text::joined(head, tail);
-    let link_field = found_or_zero(memory, name.as_slice())?;
-    Ok(link_field)
+    sought_name(memory, name.as_slice())
 }
 
-/// The link field of the header that a word of the stream means, or 0.
+/// The link field of the header that a word of the stream means.
 #[tactic(auto, using(crate::proofs::Pieces::all_in_front), unfolding(input_source::specs::Words::bytes_in))]
-pub fn sought(memory: &Memory, stream: Stream, word: Word) -> Result<u16, ChainTooLong>
-    ensures { IsSoughtIn memory.now (bytes_in memory.now stream word) result }
+pub fn sought(memory: &Memory, stream: Stream, word: Word) -> Result<Option<u16>, ChainTooLong>
+    ensures { IsSoughtAs (sought memory.now (bytes_in memory.now stream word)) result }
 {
     let (head, tail) = memory.span(stream.at.wrapping_add(word.at), word.len);
     if tail.is_empty() {
-        let link_field = found_or_zero(memory, head)?;
-        return Ok(link_field);
+        return sought_name(memory, head);
     }
-    let link_field = sought_in_pieces(memory, head, tail)?;
-    Ok(link_field)
+    sought_in_pieces(memory, head, tail)
 }
 
-/// The link field of the header that the counted string at `a` means, or 0.
+/// The link field of the header that the counted string at `a` means.
 #[tactic(auto, using(crate::proofs::Pieces::all_in_front), unfolding(crate::specs::Names::counted_string))]
-pub fn sought_at(memory: &Memory, a: u16) -> Result<u16, ChainTooLong>
-    ensures { IsSoughtIn memory.now (counted_string memory.now a) result }
+pub fn sought_at(memory: &Memory, a: u16) -> Result<Option<u16>, ChainTooLong>
+    ensures { IsSoughtAs (sought memory.now (counted_string memory.now a)) result }
 {
     let (head, tail) = memory.span(a.wrapping_add(1), u16::from(memory.byte(a)));
     if tail.is_empty() {
-        let link_field = found_or_zero(memory, head)?;
-        return Ok(link_field);
+        return sought_name(memory, head);
     }
-    let link_field = sought_in_pieces(memory, head, tail)?;
-    Ok(link_field)
+    sought_in_pieces(memory, head, tail)
 }
 
 /// The number that a word of the stream spells.

@@ -5,6 +5,7 @@
 ghost use Rattle.std.specs.Prelude.{◌≡◌};
 ghost use Rattle.primitives.specs.Numbers.{open_picture, picture_digit, picture_digits, close_picture, hold, sign, convert};
 
+use plain_rows::faults::{BAD_BASE, DATA_UNDERFLOW};
 use plain_rows::parts::{Outcome, Parts};
 use plain_rows::{double_of, leave};
 
@@ -21,10 +22,10 @@ pub fn picture_digit(parts: &mut Parts) -> Outcome
     ensures { (parts.new, result) ≡ picture_digit parts.old }
 {
     let Some((low, high)) = parts.values.top2() else {
-        return Outcome::Fault(1);
+        return Outcome::Fault(DATA_UNDERFLOW);
     };
     let Ok(rest) = number_text::picture_digit(&mut parts.memory, double_of(low, high)) else {
-        return Outcome::Fault(12);
+        return Outcome::Fault(BAD_BASE);
     };
     parts.values.lower(2);
     parts.values.put((rest % 65536) as u16);
@@ -37,10 +38,10 @@ pub fn picture_digits(parts: &mut Parts) -> Outcome
     ensures { (parts.new, result) ≡ picture_digits parts.old }
 {
     let Some((low, high)) = parts.values.top2() else {
-        return Outcome::Fault(1);
+        return Outcome::Fault(DATA_UNDERFLOW);
     };
     if number_text::picture_digits(&mut parts.memory, double_of(low, high)).is_err() {
-        return Outcome::Fault(12);
+        return Outcome::Fault(BAD_BASE);
     }
     parts.values.lower(2);
     parts.values.put(0);
@@ -53,7 +54,7 @@ pub fn close_picture(parts: &mut Parts) -> Outcome
     ensures { (parts.new, result) ≡ close_picture parts.old }
 {
     if parts.values.depth() < 2 {
-        return Outcome::Fault(1);
+        return Outcome::Fault(DATA_UNDERFLOW);
     }
     let (address, length) = number_text::close_picture(&parts.memory);
     leave(parts, 2, &[length, address])
@@ -64,7 +65,7 @@ pub fn hold(parts: &mut Parts) -> Outcome
     ensures { (parts.new, result) ≡ hold parts.old }
 {
     let Some(c) = parts.values.pick(0) else {
-        return Outcome::Fault(1);
+        return Outcome::Fault(DATA_UNDERFLOW);
     };
     parts.values.lower(1);
     number_text::hold(&mut parts.memory, (c % 256) as u8);
@@ -76,7 +77,7 @@ pub fn sign(parts: &mut Parts) -> Outcome
     ensures { (parts.new, result) ≡ sign parts.old }
 {
     let Some(n) = parts.values.pick(0) else {
-        return Outcome::Fault(1);
+        return Outcome::Fault(DATA_UNDERFLOW);
     };
     parts.values.lower(1);
     number_text::sign(&mut parts.memory, n);
@@ -88,10 +89,10 @@ pub fn convert(parts: &mut Parts) -> Outcome
     ensures { (parts.new, result) ≡ convert parts.old }
 {
     let Some((low, high, at)) = parts.values.top3() else {
-        return Outcome::Fault(1);
+        return Outcome::Fault(DATA_UNDERFLOW);
     };
     let Ok((number, behind)) = number_text::convert(&parts.memory, double_of(low, high), at) else {
-        return Outcome::Fault(12);
+        return Outcome::Fault(BAD_BASE);
     };
     let (high, low) = ((number / 65536) as u16, (number % 65536) as u16);
     leave(parts, 3, &[behind, high, low])

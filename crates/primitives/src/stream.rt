@@ -9,6 +9,7 @@ use crate::blocks::without_block;
 use input_source::{Stream, Word, next_word, parse_to, place_word, stream};
 use memory::Memory;
 use memory::system::{BLK, TO_IN};
+use plain_rows::faults::{BAD_LENGTH, DATA_UNDERFLOW, NO_BLOCK};
 use plain_rows::parts::{Outcome, Parts, Span};
 
 /// References the stream's block, and gives the stream; or says what stops the row, which is then unchanged.
@@ -24,7 +25,7 @@ pub fn open(parts: &mut Parts) -> Result<Stream, Outcome>
         return Ok(stream);
     }
     if u32::from(block) >= parts.block_count {
-        return Err(Outcome::Fault(7));
+        return Err(Outcome::Fault(NO_BLOCK));
     }
     parts.buffers.touch(block);
     Ok(stream)
@@ -42,7 +43,7 @@ pub fn word(parts: &mut Parts) -> Outcome
     ensures { (parts.new, result) ≡ word parts.old }
 {
     let Some(c) = parts.values.pick(0) else {
-        return Outcome::Fault(1);
+        return Outcome::Fault(DATA_UNDERFLOW);
     };
     let stream = match open(parts) {
         Ok(stream) => stream,
@@ -50,7 +51,7 @@ pub fn word(parts: &mut Parts) -> Outcome
     };
     let word = next_word(&parts.memory, stream, (c % 256) as u8);
     let Ok(here) = place_word(&mut parts.memory, stream, word) else {
-        return Outcome::Fault(15);
+        return Outcome::Fault(BAD_LENGTH);
     };
     parts.values.lower(1);
     parts.values.put(here);

@@ -4,6 +4,7 @@ ghost use Rattle.std.specs.Prelude.{◌≡◌};
 ghost use Rattle.primitives.specs.Table.{devices, numbers, input, compiling, editor, row};
 
 use crate::{compiling, defining, device, dictionary_rows, editor, interpret, numbers, stream};
+use plain_rows::faults::UNKNOWN_CODE;
 use plain_rows::parts::{Outcome, Parts};
 use plain_rows::{cell_row, control_row, double_row, memory_row, stack_row};
 
@@ -23,7 +24,7 @@ pub fn device_row(parts: &mut Parts, number: u8, _token: u16) -> Outcome
         119 => device::expect(parts),
         120 => device::emit(parts),
         121 => device::type_out(parts),
-        _ => Outcome::Fault(6),
+        _ => Outcome::Fault(UNKNOWN_CODE),
     }
 }
 
@@ -40,7 +41,7 @@ pub fn number_row(parts: &mut Parts, number: u8, _token: u16) -> Outcome
         132 => numbers::hold(parts),
         133 => numbers::sign(parts),
         134 => numbers::convert(parts),
-        _ => Outcome::Fault(6),
+        _ => Outcome::Fault(UNKNOWN_CODE),
     }
 }
 
@@ -65,7 +66,7 @@ pub fn input_row(parts: &mut Parts, number: u8, _token: u16) -> Outcome
         155 => dictionary_rows::pad_row(parts),
         156 => dictionary_rows::vocabulary(parts),
         157 => dictionary_rows::definitions(parts),
-        _ => Outcome::Fault(6),
+        _ => Outcome::Fault(UNKNOWN_CODE),
     }
 }
 
@@ -86,7 +87,7 @@ pub fn compile_row(parts: &mut Parts, number: u8, _token: u16) -> Outcome
         175 => compiling::literal(parts),
         176 => defining::bracket_tick(parts),
         177 => defining::bracket_compile(parts),
-        178 => compiling::does(parts),
+        178 => compiling::compile_does(parts),
         179 => compiling::if_row(parts),
         180 => compiling::else_row(parts),
         181 => compiling::then_row(parts),
@@ -106,7 +107,7 @@ pub fn compile_row(parts: &mut Parts, number: u8, _token: u16) -> Outcome
         195 => compiling::resolve_back(parts),
         196 => compiling::mark_forward(parts),
         197 => compiling::resolve_forward(parts),
-        _ => Outcome::Fault(6),
+        _ => Outcome::Fault(UNKNOWN_CODE),
     }
 }
 
@@ -122,7 +123,7 @@ pub fn editor_row(parts: &mut Parts, number: u8, _token: u16) -> Outcome
         202 => editor::insert(parts),
         203 => editor::delete(parts),
         204 => editor::wipe(parts),
-        _ => Outcome::Fault(6),
+        _ => Outcome::Fault(UNKNOWN_CODE),
     }
 }
 

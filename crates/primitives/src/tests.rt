@@ -56,7 +56,7 @@ pub fn set_cells(memory: &mut Memory, cells: &[(u16, u16)]) {
 }
 
 /// The same with a text in the terminal's buffer, and these cells.
-fn typed_at(
+pub fn typed_at(
     rt: &(impl Abort + Alloc<A = Global>),
     here: u16,
     text: &[u8],

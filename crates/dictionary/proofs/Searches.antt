@@ -1,0 +1,123 @@
+-- Searches in two memories whose headers are the same.
+use Rattle.std.proofs.Common.{◌≡◌, ℕ, zero, suc, ◌+◌, ◌<◌, ◌≤◌, ◌∷◌, List, [], length, refl, arith, Bool, true, false, sym, ap, subst}
+use Rattle.std.specs.Prelude.{◌==◌, if◌then◌else◌, find}
+use Rattle.memory.specs.Bytes.{byte, cell}
+use Rattle.memory.proofs.Kept.{wrap_small}
+use Rattle.memory.proofs.Same.{Same, cell_by, bytes_by, cell_same}
+use Rattle.dictionary.specs.Header.{is_named, is_hidden, count_byte, name_length, name_of, is_immediate, compilation_address}
+use Rattle.dictionary.specs.Chain.{chain, first_where, is_longer, is_missed}
+use Rattle.dictionary.specs.Search.{head_of, first_in, is_missed_in, first_from, is_missed_from, found_from, is_too_long_from}
+
+-- a header, from its link field to behind its code field, is within memory, and the same in m and n
+pub record HeaderSame (m n : List ℕ) (l : ℕ) : Type 0 where
+  pub ends : l + (5 + name_length m l) ≤ 65536
+  pub same : (i : ℕ) → l ≤ i → i < l + (5 + name_length m l) → byte m i ≡ byte n i
+
+-- so are all of them
+abbrev pub AreSame : List ℕ → List ℕ → List ℕ → Type 0
+AreSame m n [] = n ≡ n
+AreSame m n (l ∷ ls) = HeaderSame m n l × AreSame m n ls
+
+-- the chains of a name's class in a vocabulary and in FORTH, with their heads, are the same
+pub record ChainsSame (m n : List ℕ) (voc : ℕ) (nm : List ℕ) : Type 0 where
+  pub head : cell m (head_of voc nm) ≡ cell n (head_of voc nm)
+  pub members : AreSame m n (chain m 32769 (cell m (head_of voc nm)))
+  pub forth_head : cell m (head_of 42 nm) ≡ cell n (head_of 42 nm)
+  pub forth_members : AreSame m n (chain m 32769 (cell m (head_of 42 nm)))
+
+-- all cells at these places stand from lo to hi - 1
+abbrev pub AllIn : ℕ → ℕ → List ℕ → Type 0
+AllIn lo hi [] = lo ≡ lo
+AllIn lo hi (l ∷ ls) = (lo ≤ l) × (l + 1 < hi) × AllIn lo hi ls
+
+-- one link: the rest by what is known of it
+chain_link : (lo hi : ℕ) (m n : List ℕ) (k l : ℕ) (b : Bool) → (l == 0) ≡ b → Same lo hi m n → hi ≤ 65536 → ((x : ℕ) → AllIn lo hi (chain m k x) → chain m k x ≡ chain n k x) → AllIn lo hi (chain m (suc k) l) → chain m (suc k) l ≡ chain n (suc k) l
+unfolding chain
+chain_link lo hi m n k l true e s t f h = rw e refl
+chain_link lo hi m n k l false e s t f h =
+    let g : AllIn lo hi (l ∷ chain m k (cell m l)) = subst (λ (b : Bool). AllIn lo hi (if b then [] else l ∷ chain m k (cell m l))) e h in
+    rw (e, sym (cell_same lo hi m n l s t g.0 g.1)) (ap (λ (xs : List ℕ). l ∷ xs) (f (cell m l) g.2))
+
+pub chain_same : (lo hi : ℕ) (m n : List ℕ) (k l : ℕ) → Same lo hi m n → hi ≤ 65536 → AllIn lo hi (chain m k l) → chain m k l ≡ chain n k l
+unfolding chain
+chain_same lo hi m n zero l s t h = refl
+chain_same lo hi m n (suc k) l s t h = chain_link lo hi m n k l (l == 0) refl s t (λ (x : ℕ) (g : AllIn lo hi (chain m k x)). chain_same lo hi m n k x s t g) h
+
+-- what a header says
+pub count_by : (m n : List ℕ) (l : ℕ) → HeaderSame m n l → count_byte m l ≡ count_byte n l
+unfolding count_byte
+count_by m n l h = let e = h.ends in rw (wrap_small (l + 2) (omega arith)) (h.same (l + 2) (omega arith) (omega arith))
+
+pub length_by : (m n : List ℕ) (l : ℕ) → HeaderSame m n l → name_length m l ≡ name_length n l
+unfolding name_length
+length_by m n l h = rw (count_by m n l h) refl
+
+pub immediate_by : (m n : List ℕ) (l : ℕ) → HeaderSame m n l → is_immediate m l ≡ is_immediate n l
+unfolding is_immediate
+immediate_by m n l h = rw (count_by m n l h) refl
+
+pub address_by : (m n : List ℕ) (l : ℕ) → HeaderSame m n l → compilation_address m l ≡ compilation_address n l
+unfolding compilation_address
+address_by m n l h = rw (length_by m n l h) refl
+
+name_by : (m n : List ℕ) (l : ℕ) → length m ≡ 65536 → length n ≡ 65536 → HeaderSame m n l → name_of m l ≡ name_of n l
+unfolding name_of
+name_by m n l lm ln h =
+    let e = h.ends in
+    rw (wrap_small (l + 3) (omega arith), sym (length_by m n l h)) (bytes_by m n (l + 3) (name_length m l) lm ln (omega arith) (omega arith) (λ i x y. h.same i (omega arith) (omega arith)))
+
+hidden_by : (m n : List ℕ) (l : ℕ) → HeaderSame m n l → is_hidden m l ≡ is_hidden n l
+unfolding is_hidden
+hidden_by m n l h = rw (count_by m n l h) refl
+
+pub named_by : (m n nm : List ℕ) (l : ℕ) → length m ≡ 65536 → length n ≡ 65536 → HeaderSame m n l → is_named m nm l ≡ is_named n nm l
+unfolding is_named
+named_by m n nm l lm ln h = rw (hidden_by m n l h, name_by m n l lm ln h) refl
+
+link_by : (m n : List ℕ) (l : ℕ) → HeaderSame m n l → cell m l ≡ cell n l
+link_by m n l h = let e = h.ends in cell_by m n l (omega arith) (h.same l (omega arith) (omega arith)) (h.same (l + 1) (omega arith) (omega arith))
+
+-- chains
+chain_step : (m n : List ℕ) (k l : ℕ) (b : Bool) → (l == 0) ≡ b → ((x : ℕ) → AreSame m n (chain m k x) → chain m k x ≡ chain n k x) → AreSame m n (if b then [] else l ∷ chain m k (cell m l)) → (if b then [] else l ∷ chain m k (cell m l)) ≡ (if b then [] else l ∷ chain n k (cell n l))
+chain_step m n k l true e f h = refl
+chain_step m n k l false e f h = rw (sym (link_by m n l h.0)) (ap (λ (xs : List ℕ). l ∷ xs) (f (cell m l) h.1))
+
+pub chain_by : (m n : List ℕ) (k l : ℕ) → AreSame m n (chain m k l) → chain m k l ≡ chain n k l
+unfolding chain
+chain_by m n zero l h = refl
+chain_by m n (suc k) l h = chain_step m n k l (l == 0) refl (λ (x : ℕ) (g : AreSame m n (chain m k x)). chain_by m n k x g) h
+
+-- what is the same in a chain is the same in what it begins with
+less_step : (m n : List ℕ) (k l : ℕ) (b : Bool) → ((x : ℕ) → AreSame m n (chain m (suc k) x) → AreSame m n (chain m k x)) → AreSame m n (if b then [] else l ∷ chain m (suc k) (cell m l)) → AreSame m n (if b then [] else l ∷ chain m k (cell m l))
+less_step m n k l true f h = h
+less_step m n k l false f h = (h.0, f (cell m l) h.1)
+
+pub less_same : (m n : List ℕ) (k l : ℕ) → AreSame m n (chain m (suc k) l) → AreSame m n (chain m k l)
+unfolding chain
+less_same m n zero l h = refl
+less_same m n (suc k) l h = less_step m n k l (l == 0) (λ (x : ℕ) (g : AreSame m n (chain m (suc k) x)). less_same m n k x g) h
+
+find_by : (m n nm ls : List ℕ) → length m ≡ 65536 → length n ≡ 65536 → AreSame m n ls → find (is_named m nm) ls ≡ find (is_named n nm) ls
+find_by m n nm [] lm ln h = refl
+find_by m n nm (l ∷ ls) lm ln h = rw (named_by m n nm l lm ln h.0, find_by m n nm ls lm ln h.1) refl
+
+pub first_by : (m n nm : List ℕ) (k l : ℕ) → length m ≡ 65536 → length n ≡ 65536 → AreSame m n (chain m k l) → first_where (is_named m nm) m k l ≡ first_where (is_named n nm) n k l
+unfolding first_where
+first_by m n nm k l lm ln h = rw (sym (chain_by m n k l h), find_by m n nm (chain m k l) lm ln h) refl
+
+pub missed_by : (m n nm : List ℕ) (k l : ℕ) → length m ≡ 65536 → length n ≡ 65536 → AreSame m n (chain m (suc k) l) → is_missed (is_named m nm) m k l ≡ is_missed (is_named n nm) n k l
+unfolding is_missed is_longer
+missed_by m n nm k l lm ln h = rw (sym (chain_by m n (suc k) l h), first_by m n nm k l lm ln (less_same m n k l h)) refl
+
+-- a search
+pub found_by : (m n nm : List ℕ) (voc : ℕ) → length m ≡ 65536 → length n ≡ 65536 → ChainsSame m n voc nm → found_from m voc nm ≡ found_from n voc nm
+unfolding found_from first_from first_in is_missed_in
+found_by m n nm voc lm ln h =
+    rw (sym h.head, sym h.forth_head)
+    (rw (missed_by m n nm 32768 (cell m (head_of voc nm)) lm ln h.members, first_by m n nm 32768 (cell m (head_of voc nm)) lm ln (less_same m n 32768 (cell m (head_of voc nm)) h.members), first_by m n nm 32768 (cell m (head_of 42 nm)) lm ln (less_same m n 32768 (cell m (head_of 42 nm)) h.forth_members)) refl)
+
+pub long_by : (m n nm : List ℕ) (voc : ℕ) → length m ≡ 65536 → length n ≡ 65536 → ChainsSame m n voc nm → is_too_long_from m voc nm ≡ is_too_long_from n voc nm
+unfolding is_too_long_from is_missed_from first_in is_missed_in
+long_by m n nm voc lm ln h =
+    rw (sym h.head, sym h.forth_head)
+    (rw (missed_by m n nm 32768 (cell m (head_of voc nm)) lm ln h.members, first_by m n nm 32768 (cell m (head_of voc nm)) lm ln (less_same m n 32768 (cell m (head_of voc nm)) h.members), missed_by m n nm 32768 (cell m (head_of 42 nm)) lm ln h.forth_members) refl)
