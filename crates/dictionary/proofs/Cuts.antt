@@ -5,7 +5,7 @@ use Rattle.memory.specs.Bytes.{cell, put_cell, written}
 use Rattle.memory.proofs.Kept.{written-append}
 use Rattle.dictionary.specs.Chain.{chain}
 use Rattle.dictionary.specs.Order.{records, members}
-use Rattle.dictionary.specs.Forget.{first_below, cut_all, kept_record, cut_vocabulary, cuts}
+use Rattle.dictionary.specs.Forgetting.{first_below, cut_all, kept_record, cut_vocabulary, cuts}
 
 pub below_at_end : (m : List ℕ) (t n l : ℕ) → l ≡ 0 → first_below t (chain m n l) ≡ 0
 unfolding first_below chain

@@ -3,7 +3,7 @@ use Rattle.std.specs.Prelude.{All, Contains, IsFalse}
 use Rattle.std.proofs.lemmas.List.Elements.{All-weaker}
 use Rattle.dictionary.specs.Chain.{IsNewest}
 use Rattle.dictionary.specs.Order.{members}
-use Rattle.dictionary.specs.Forget.{first_below}
+use Rattle.dictionary.specs.Forgetting.{first_below}
 use Rattle.dictionary.proofs.Firsts.{newest_first, none_first}
 
 pub newest_below : (m : List ℕ) (t head l : ℕ) → Contains (members m head) l → l < t

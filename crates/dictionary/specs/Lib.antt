@@ -5,5 +5,5 @@ pub mod Laying
 pub mod Adding
 pub mod Newest
 pub mod Order
-pub mod Forget
+pub mod Forgetting
 pub mod Marks

@@ -3,7 +3,7 @@
 ghost use Rattle.std.specs.Prelude.{◌≡◌};
 ghost use Rattle.memory.specs.Bytes.{put_cell, written};
 ghost use Rattle.dictionary.specs.Order.{members};
-ghost use Rattle.dictionary.specs.Forget.{target, IsTarget, first_below, kept_record, cut_vocabulary, cuts, forgotten, IsForgotten, cut_all};
+ghost use Rattle.dictionary.specs.Forgetting.{target, IsTarget, first_below, kept_record, cut_vocabulary, cuts, forgotten, IsForgotten, cut_all};
 
 use crate::counting::{CUT, is_beyond_limit};
 use crate::fault::ForgetFault;
@@ -16,7 +16,7 @@ use memory::{Memory, Snapshot};
 /// In this order: `NameLength` for the empty name; `ChainTooLong` where the search passes its limit; `NotFound` where
 /// there is no such header, or it begins below FENCE; `ChainTooLong` where more than 32,768 headers and records are
 /// reached in all vocabularies.
-#[tactic(auto, unfolding(crate::specs::Forget::target, crate::specs::Forget::is_missing_or_fenced))]
+#[tactic(auto, unfolding(crate::specs::Forgetting::target, crate::specs::Forgetting::is_missing_or_fenced))]
 pub fn forget_target(memory: &Memory, name: &[u8]) -> Result<u16, ForgetFault>
     ensures { IsTarget memory.now name.now result }
 {
@@ -57,7 +57,7 @@ fn member_below(before: &Snapshot, t: u16, head: u16) -> u16
 }
 
 /// The newest record below `t`, or 0.
-#[tactic(auto, using(crate::proofs::Cuts::records_below), unfolding(crate::specs::Forget::kept_record))]
+#[tactic(auto, using(crate::proofs::Cuts::records_below), unfolding(crate::specs::Forgetting::kept_record))]
 fn kept_record(before: &Snapshot, t: u16) -> u16
     ensures { result ≡ kept_record before.now t }
 {
@@ -98,7 +98,7 @@ fn cut_all(memory: &mut Memory, before: &Snapshot, t: u16, start: u16)
 }
 
 /// A cell that names a vocabulary at `t` or above goes to FORTH's. Any other isn't written.
-#[tactic(auto, unfolding(crate::specs::Forget::cut_vocabulary, memory::specs::Bytes::written))]
+#[tactic(auto, unfolding(crate::specs::Forgetting::cut_vocabulary, memory::specs::Bytes::written))]
 fn cut_vocabulary(memory: &mut Memory, before: &Snapshot, t: u16, place: u16)
     ensures { memory.new ≡ written memory.old (cut_vocabulary before.now t place) }
 {
@@ -124,7 +124,7 @@ pub fn cut_by(memory: &mut Memory, before: &Snapshot, t: u16)
 }
 
 /// Forgets what stands at `t` and above.
-#[tactic(auto, unfolding(crate::specs::Forget::forgotten))]
+#[tactic(auto, unfolding(crate::specs::Forgetting::forgotten))]
 fn cut_from(memory: &mut Memory, t: u16)
     ensures { memory.new ≡ forgotten memory.old t }
 {

@@ -10,7 +10,7 @@ ghost use Rattle.dictionary.specs.Search.{chain_in, searched_in, goes_on_in, fou
 ghost use Rattle.dictionary.specs.Adding.{is_name, new_count};
 ghost use Rattle.dictionary.specs.Newest.{revealed};
 ghost use Rattle.dictionary.specs.Order.{members, all_members, headers};
-ghost use Rattle.dictionary.specs.Forget.{first_below};
+ghost use Rattle.dictionary.specs.Forgetting.{first_below};
 
 /// Where a name stands unhidden in its chain, and the chain has no more than 32,768 members, a search gives the newest
 /// header of that name. Where it doesn't stand there, the search in FORTH decides.

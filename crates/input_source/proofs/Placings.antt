@@ -2,7 +2,7 @@ use Rattle.std.proofs.Common.{◌≡◌, ℕ, ◌+◌, List, [], ◌∷◌, leng
 use Rattle.cells.specs.Cell.{wrap}
 use Rattle.memory.specs.Bytes.{put_byte, put_bytes}
 use Rattle.memory.proofs.Puts.{put_bytes_on}
-use Rattle.input_source.specs.Placed.{counted}
+use Rattle.input_source.specs.Placing.{counted}
 
 -- the count, the bytes and the blank, written in turn
 pub counted_pieces : (m : List ℕ) (a n : ℕ) (bs : List ℕ) → n ≡ wrap (wrap (a + 1) + length bs) →

@@ -1,3 +1,3 @@
 pub mod Words
 pub mod Streams
-pub mod Placed
+pub mod Placing

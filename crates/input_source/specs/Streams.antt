@@ -5,7 +5,7 @@ use Rattle.memory.specs.declared.system.TheConstants.{TO_IN, BLK, NUMBER_TIB, TI
 use Rattle.block_buffers.specs.declared.entry.Entry.{Entry}
 use Rattle.block_buffers.specs.Entries.{holds, slot_of}
 use Rattle.input_source.specs.declared.words.Stream.{Stream}
-use Rattle.input_source.specs.declared.source.NeedsBlock.{NeedsBlock}
+use Rattle.input_source.specs.declared.streams.NeedsBlock.{NeedsBlock}
 
 -- BLK names a block that no buffer has
 unfoldable pub needs_block : List ℕ → List Entry → Bool

@@ -2,11 +2,11 @@
 #![tactic(auto)]
 
 mod placing;
-mod source;
+mod streams;
 #[cfg(test)]
 mod tests;
 mod words;
 
 pub use placing::{TooLong, place_word, word_bytes};
-pub use source::{NeedsBlock, stream};
+pub use streams::{NeedsBlock, stream};
 pub use words::{Stream, Word, next_word, parse_to, stream_law, word_law};

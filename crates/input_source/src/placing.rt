@@ -2,7 +2,7 @@
 
 ghost use Rattle.std.specs.Prelude.{◌≡◌, ◌≤◌, length, take};
 ghost use Rattle.memory.specs.Bytes.{bytes, put_bytes};
-ghost use Rattle.input_source.specs.Placed.{counted, IsPlaced};
+ghost use Rattle.input_source.specs.Placing.{counted, IsPlaced};
 ghost use Rattle.input_source.specs.Words.{bytes_in};
 
 use crate::words::{Stream, Word};
@@ -56,7 +56,7 @@ fn place_counted(memory: &mut Memory, here: u16, bytes: &[u8])
 ///
 /// Its bytes and HERE are read before anything is written, and >IN is written first. Answers HERE, which stays.
 /// `TooLong`, with memory as it was, where the word has more than 255 bytes. This is what WORD of the Standard writes.
-#[tactic(auto, unfolding(crate::specs::Placed::with_word))]
+#[tactic(auto, unfolding(crate::specs::Placing::with_word))]
 pub fn place_word(memory: &mut Memory, stream: Stream, word: Word) -> Result<u16, TooLong>
     ensures { IsPlaced memory.old memory.new stream word result }
 {

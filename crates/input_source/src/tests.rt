@@ -1,7 +1,7 @@
 //! Expected places are counted by hand from the bytes that each test writes.
 
 use crate::placing::{TooLong, place_word};
-use crate::source::{NeedsBlock, stream};
+use crate::streams::{NeedsBlock, stream};
 use crate::words::{Stream, Word, next_word, parse_to};
 use block_buffers::Buffers;
 use memory::Memory;

@@ -3,7 +3,7 @@ use Rattle.std.proofs.lemmas.Bool.{cases_lt}
 use Rattle.std.proofs.lemmas.Bool.Decides.{nat_tests}
 use Rattle.cells.specs.Cell.{wrap}
 use Rattle.memory.specs.Bytes.{byte}
-use Rattle.plain_rows.specs.Memory.{trimmed, IsTrimmed}
+use Rattle.plain_rows.specs.MemoryRows.{trimmed, IsTrimmed}
 
 pub trimmed_none : (m : List ℕ) (a n : ℕ) → n ≤ 0 → trimmed m a n ≡ n
 unfolding trimmed

@@ -2,8 +2,8 @@ pub mod Whole
 pub mod Row
 pub mod Control
 pub mod Stack
-pub mod Cells
-pub mod Doubles
-pub mod Memory
+pub mod Cell
+pub mod Double
+pub mod MemoryRows
 pub mod Table
 pub mod Plain

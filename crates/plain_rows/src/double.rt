@@ -3,7 +3,7 @@
 #![tactic(auto, using(crate::proofs::Takes::takes))]
 
 ghost use Rattle.std.specs.Prelude.{◌≡◌, ◌≤◌, length, drop};
-ghost use Rattle.plain_rows.specs.Doubles.{double, leaves_double, d_magnitude, d_halved, d_least, d_greatest, d_plus, d_minus, d_negate, d_absolute, d_two_slash, d_min, d_max, d_equals, d_zero_equals, d_less, du_less};
+ghost use Rattle.plain_rows.specs.Double.{double, leaves_double, d_magnitude, d_halved, d_least, d_greatest, d_plus, d_minus, d_negate, d_absolute, d_two_slash, d_min, d_max, d_equals, d_zero_equals, d_less, du_less};
 
 use crate::cell::flag;
 use crate::ending::{from_one, from_two, leave};

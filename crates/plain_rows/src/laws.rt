@@ -2,7 +2,7 @@
 
 ghost use Rattle.std.specs.Prelude.{◌≡◌, ℕ, List};
 ghost use Rattle.plain_rows.specs.declared.faults.TheConstants.{DATA_UNDERFLOW, DATA_OVERFLOW, RETURN_UNDERFLOW, RETURN_OVERFLOW, DIVISION, UNKNOWN_CODE, NO_BLOCK, DICTIONARY_FULL, READ_FAILED, WRITE_FAILED, CHAIN_TOO_LONG, BAD_BASE, NOT_FOUND, BAD_LENGTH, BLOCK_ZERO, ABORTED};
-ghost use Rattle.plain_rows.specs.Memory.{trimmed, IsTrimmed};
+ghost use Rattle.plain_rows.specs.MemoryRows.{trimmed, IsTrimmed};
 ghost use Rattle.plain_rows.specs.Plain.{IsPlain};
 ghost use Rattle.plain_rows.specs.Table.{control, stack, cells, doubles, memory};
 ghost use Rattle.plain_rows.specs.Whole.{Whole};

@@ -3,7 +3,7 @@
 #![tactic(auto, using(crate::proofs::Takes::takes))]
 
 ghost use Rattle.std.specs.Prelude.{◌≡◌};
-ghost use Rattle.plain_rows.specs.Memory.{fetch, store, plus_store, two_store, cmove, dash_trailing, trimmed, c_fetch, c_store, two_fetch, cmove_down, fill, count};
+ghost use Rattle.plain_rows.specs.MemoryRows.{fetch, store, plus_store, two_store, cmove, dash_trailing, trimmed, c_fetch, c_store, two_fetch, cmove_down, fill, count};
 
 use crate::ending::leave;
 use crate::faults::DATA_UNDERFLOW;

@@ -12,7 +12,7 @@ use Rattle.plain_rows.proofs.Plain.{plain_control, plain_stack, plain_cells, pla
 use Rattle.primitives.specs.Blocks.{address_of, with_block, fetches}
 use Rattle.primitives.specs.Needs.{reads_stream, is_about_screen, stream_needs, needed}
 use Rattle.primitives.specs.Devices.{saves_victim}
-use Rattle.primitives.specs.Dictionary.{leaves_past, creates}
+use Rattle.primitives.specs.DictionaryRows.{leaves_past, creates}
 use Rattle.primitives.specs.Interpret.{compiles_past}
 use Rattle.primitives.specs.Defining.{lays_past}
 use Rattle.primitives.specs.Compiling.{compiles, resolves}
@@ -20,7 +20,7 @@ use Rattle.primitives.proofs.Behaves.{Behaves, behaves, behaves_fault, behaves_d
 use Rattle.primitives.specs.Devices.{block as row_112, buffer as row_113, update as row_114, save_buffers as row_115, flush as row_116, empty_buffers as row_117, key as row_118, expect as row_119, emit as row_120, type_out as row_121}
 use Rattle.primitives.specs.Numbers.{open_picture as row_128, picture_digit as row_129, picture_digits as row_130, close_picture as row_131, hold as row_132, sign as row_133, convert as row_134}
 use Rattle.primitives.specs.Streams.{word as row_144, paren as row_145, dot_paren as row_146}
-use Rattle.primitives.specs.Dictionary.{find as row_147, tick as row_148, create as row_150, immediate as row_151, forget as row_152, to_body as row_153, here as row_154, pad_row as row_155, vocabulary as row_156, definitions as row_157}
+use Rattle.primitives.specs.DictionaryRows.{find as row_147, tick as row_148, create as row_150, immediate as row_151, forget as row_152, to_body as row_153, here as row_154, pad_row as row_155, vocabulary as row_156, definitions as row_157}
 use Rattle.primitives.specs.Interpret.{interpret as row_149}
 use Rattle.primitives.specs.Defining.{colon as row_168, bracket_tick as row_176, bracket_compile as row_177, dot_quote as row_190, abort_quote as row_191, constant as row_192, variable as row_193}
 use Rattle.primitives.specs.Compiling.{semicolon as row_169, left_bracket as row_170, right_bracket as row_171, comma as row_172, c_comma as row_173, allot as row_174, literal as row_175, compile_does as row_178, if_row as row_179, else_row as row_180, then_row as row_181, begin as row_182, until as row_183, while_row as row_184, repeat as row_185, again as row_186, do_row as row_187, loop_row as row_188, plus_loop as row_189, mark_back as row_194, resolve_back as row_195, mark_forward as row_196, resolve_forward as row_197}

@@ -11,7 +11,7 @@ use Rattle.memory.specs.declared.system.TheConstants.{TO_IN, DP, CURRENT}
 use Rattle.plain_rows.specs.Whole.{Whole}
 use Rattle.plain_rows.specs.Row.{After, done, takes1, needs}
 use Rattle.plain_rows.specs.declared.faults.TheConstants.{DICTIONARY_FULL, BAD_LENGTH}
-use Rattle.primitives.specs.Dictionary.{creates}
+use Rattle.primitives.specs.DictionaryRows.{creates}
 use Rattle.primitives.specs.Names.{reads_name, parses, finds_word, admits_header}
 
 -- 168 : ( -- ): a hidden header with code field 1; then STATE := -1, CONTEXT := CURRENT

@@ -11,7 +11,7 @@ use Rattle.number_text.specs.Numbers.{is_number, is_double, number_value}
 use Rattle.plain_rows.specs.Whole.{Whole}
 use Rattle.plain_rows.specs.Row.{After, done, needs, room}
 use Rattle.plain_rows.specs.declared.faults.TheConstants.{DICTIONARY_FULL, BAD_BASE, NOT_FOUND}
-use Rattle.primitives.specs.Dictionary.{leaves_past}
+use Rattle.primitives.specs.DictionaryRows.{leaves_past}
 use Rattle.primitives.specs.Names.{reads_name, searches}
 use Rattle.stacks.specs.Cells.{◌▸◌}
 

@@ -3,7 +3,7 @@ pub mod Devices
 pub mod Numbers
 pub mod Streams
 pub mod Names
-pub mod Dictionary
+pub mod DictionaryRows
 pub mod Interpret
 pub mod Defining
 pub mod Compiling

@@ -3,7 +3,7 @@ use Rattle.plain_rows.specs.Whole.{Whole}
 use Rattle.plain_rows.specs.Row.{After, done, takes1, takes2, takes3, leaves, needs}
 use Rattle.plain_rows.specs.declared.faults.TheConstants.{BAD_BASE}
 use Rattle.stacks.specs.Cells.{◌▸◌}
-use Rattle.plain_rows.specs.Doubles.{double}
+use Rattle.plain_rows.specs.Double.{double}
 use Rattle.cells.specs.Cell.{difference}
 use Rattle.memory.specs.Bytes.{cell}
 use Rattle.memory.specs.declared.system.TheConstants.{BASE, HLD}

@@ -7,7 +7,7 @@ use Rattle.input_source.specs.declared.words.Stream.{Stream}
 use Rattle.input_source.specs.declared.words.Word.{Word}
 use Rattle.input_source.specs.Streams.{stream_of}
 use Rattle.input_source.specs.Words.{word_in, parsed_in}
-use Rattle.input_source.specs.Placed.{with_word}
+use Rattle.input_source.specs.Placing.{with_word}
 use Rattle.memory.specs.Bytes.{cell, put_cell}
 use Rattle.memory.specs.declared.system.TheConstants.{BLK, TO_IN, DP}
 use Rattle.plain_rows.specs.Whole.{Whole}

@@ -7,7 +7,7 @@ ghost use Rattle.primitives.specs.Defining.{colon, lays_past, bracket_tick, brac
 
 use crate::dictionary_rows::create_with;
 use crate::names::sought;
-use crate::stream::{open, pass};
+use crate::streams::{open, pass};
 use compiling_words::{TextWord, lay_text, literal_code, runtime_of};
 use dictionary::{Site, compilation_address, fits, lay_at};
 use input_source::{Word, next_word, parse_to, word_bytes};

@@ -3,11 +3,11 @@
 #![tactic(auto, using(plain_rows::proofs::Takes::takes, crate::proofs::Searching::searching))]
 
 ghost use Rattle.std.specs.Prelude.{◌≡◌, ◌≤◌, ◌++◌, length, drop};
-ghost use Rattle.primitives.specs.Dictionary.{find, leaves_past, tick, creates, create, immediate, forget, to_body, here, pad_row, vocabulary, definitions};
+ghost use Rattle.primitives.specs.DictionaryRows.{find, leaves_past, tick, creates, create, immediate, forget, to_body, here, pad_row, vocabulary, definitions};
 ghost use Rattle.primitives.specs.Names.{name_word, name_in, counted_string};
 
 use crate::names::{sought, sought_at, target_in};
-use crate::stream::{open, pass};
+use crate::streams::{open, pass};
 use dictionary::{
     ForgetFault, Site, compilation_address, cut_by, fits, is_immediate, set_immediate,
 };
@@ -42,7 +42,7 @@ pub fn find(parts: &mut Parts) -> Outcome
 }
 
 /// Leaves cells on the data stack, the first of them on top, and makes `>IN` the place behind a word.
-#[tactic(auto, unfolding(plain_rows::specs::Row::room, crate::specs::Dictionary::leaves_past))]
+#[tactic(auto, unfolding(plain_rows::specs::Row::room, crate::specs::DictionaryRows::leaves_past))]
 pub fn leave_past(parts: &mut Parts, word: Word, cells: &[u16]) -> Outcome
     ensures { (parts.new, result) ≡ leaves_past parts.old word (cells.now ++ parts.old.values) }
 {
@@ -76,7 +76,7 @@ pub fn tick(parts: &mut Parts) -> Outcome
 }
 
 /// Makes a header of the next word's name; `taken` cells leave the data stack.
-#[tactic(auto, unfolding(crate::specs::Dictionary::creates, dictionary::specs::Adding::with_header_at, memory::specs::Bytes::written))]
+#[tactic(auto, unfolding(crate::specs::DictionaryRows::creates, dictionary::specs::Adding::with_header_at, memory::specs::Bytes::written))]
 pub fn create_with(
     parts: &mut Parts,
     stream: Stream,
@@ -123,7 +123,7 @@ pub fn immediate(parts: &mut Parts) -> Outcome
 }
 
 /// 152 `FORGET` ( -- )
-#[tactic(auto, unfolding(dictionary::specs::Forget::target, dictionary::specs::Forget::is_missing_or_fenced, memory::specs::Bytes::written))]
+#[tactic(auto, unfolding(dictionary::specs::Forgetting::target, dictionary::specs::Forgetting::is_missing_or_fenced, memory::specs::Bytes::written))]
 pub fn forget(parts: &mut Parts) -> Outcome
     ensures { (parts.new, result) ≡ forget parts.old }
 {

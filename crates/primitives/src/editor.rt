@@ -9,7 +9,7 @@ ghost use Rattle.primitives.specs.Blocks.{IsFetched, address_of};
 ghost use Rattle.primitives.specs.Editor.{line_text, line, put, insert, delete, wipe};
 
 use crate::blocks::{address_of, fetch};
-use crate::stream::open;
+use crate::streams::open;
 use block_buffers::{delete_line, insert_line, put_line};
 use input_source::{Stream, Word, word_bytes};
 use memory::Memory;

@@ -10,13 +10,13 @@ ghost use Rattle.memory.specs.Bytes.{cell, cell_bytes};
 ghost use Rattle.number_text.specs.Base.{has_base};
 ghost use Rattle.number_text.specs.Numbers.{is_number, is_double, number_value};
 ghost use Rattle.plain_rows.specs.Row.{needs};
-ghost use Rattle.primitives.specs.Dictionary.{leaves_past};
+ghost use Rattle.primitives.specs.DictionaryRows.{leaves_past};
 ghost use Rattle.primitives.specs.Interpret.{compiles_past, interpret};
 ghost use Rattle.stacks.specs.Cells.{◌▸◌};
 
 use crate::dictionary_rows::leave_past;
 use crate::names::{number_in, sought};
-use crate::stream::open;
+use crate::streams::open;
 use compiling_words::literal_code;
 use dictionary::{compilation_address, fits, is_immediate, lay_at};
 use input_source::{Stream, Word, next_word};

@@ -4,7 +4,7 @@
 pub mod blocks;
 mod compiling;
 mod defining;
-mod device;
+mod devices;
 mod dictionary_rows;
 #[cfg(test)]
 mod dictionary_tests;
@@ -17,9 +17,9 @@ mod names;
 #[cfg(test)]
 mod number_tests;
 mod numbers;
-pub mod stream;
 #[cfg(test)]
 mod stream_tests;
+pub mod streams;
 mod table;
 #[cfg(test)]
 mod tests;

@@ -1,7 +1,7 @@
 //! Names that rows take, looked up where they stand in memory: a copy is made only of one that goes on at address 0.
 
 ghost use Rattle.std.specs.Prelude.{◌≡◌, ◌<◌, ◌≤◌, ◌+◌, ◌++◌, length, MatchOption, IsTrue};
-ghost use Rattle.dictionary.specs.Forget.{IsTarget};
+ghost use Rattle.dictionary.specs.Forgetting.{IsTarget};
 ghost use Rattle.input_source.specs.Words.{bytes_in};
 ghost use Rattle.number_text.specs.Digits.{is_base};
 ghost use Rattle.number_text.specs.Numbers.{IsNumber, IsNoNumber};

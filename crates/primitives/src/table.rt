@@ -3,7 +3,7 @@
 ghost use Rattle.std.specs.Prelude.{◌≡◌};
 ghost use Rattle.primitives.specs.Table.{devices, numbers, input, compiling, editor, row};
 
-use crate::{compiling, defining, device, dictionary_rows, editor, interpret, numbers, stream};
+use crate::{compiling, defining, devices, dictionary_rows, editor, interpret, numbers, streams};
 use plain_rows::faults::UNKNOWN_CODE;
 use plain_rows::parts::{Outcome, Parts};
 use plain_rows::{cell_row, control_row, double_row, memory_row, stack_row};
@@ -14,16 +14,16 @@ pub fn device_row(parts: &mut Parts, number: u8, _token: u16) -> Outcome
     ensures { (parts.new, result) ≡ devices number parts.old }
 {
     match number {
-        112 => device::block(parts),
-        113 => device::buffer(parts),
-        114 => device::update(parts),
-        115 => device::save_buffers(parts),
-        116 => device::flush(parts),
-        117 => device::empty_buffers(parts),
-        118 => device::key(parts),
-        119 => device::expect(parts),
-        120 => device::emit(parts),
-        121 => device::type_out(parts),
+        112 => devices::block(parts),
+        113 => devices::buffer(parts),
+        114 => devices::update(parts),
+        115 => devices::save_buffers(parts),
+        116 => devices::flush(parts),
+        117 => devices::empty_buffers(parts),
+        118 => devices::key(parts),
+        119 => devices::expect(parts),
+        120 => devices::emit(parts),
+        121 => devices::type_out(parts),
         _ => Outcome::Fault(UNKNOWN_CODE),
     }
 }
@@ -52,9 +52,9 @@ pub fn input_row(parts: &mut Parts, number: u8, _token: u16) -> Outcome
     ensures { (parts.new, result) ≡ input number parts.old }
 {
     match number {
-        144 => stream::word(parts),
-        145 => stream::paren(parts),
-        146 => stream::dot_paren(parts),
+        144 => streams::word(parts),
+        145 => streams::paren(parts),
+        146 => streams::dot_paren(parts),
         147 => dictionary_rows::find(parts),
         148 => dictionary_rows::tick(parts),
         149 => interpret::interpret(parts),

@@ -1,5 +1,5 @@
 use Rattle.std.proofs.Common.{◌≡◌}
-use Rattle.dictionary.specs.Forget.{cut_all}
+use Rattle.dictionary.specs.Forgetting.{cut_all}
 use Rattle.dictionary.proofs.forgetting.cut_all.Given as goal
 
 abbrev pub invariant-loop-left : goal.invariant-loop-left

@@ -1,7 +1,7 @@
 use Rattle.std.proofs.Common.{◌≡◌}
 use Rattle.memory.specs.Bytes.{cell}
 use Rattle.dictionary.specs.Order.{records}
-use Rattle.dictionary.specs.Forget.{first_below}
+use Rattle.dictionary.specs.Forgetting.{first_below}
 use Rattle.dictionary.proofs.forgetting.kept_record.Given as goal
 
 abbrev pub invariant-loop-left : goal.invariant-loop-left

@@ -1,7 +1,7 @@
 use Rattle.std.specs.Prelude.{ℕ, ◌+◌, List, [], ◌∷◌, length, not, ◌==◌, nat_le, if◌then◌else◌}
 use Rattle.cells.specs.Cell.{wrap, difference}
 use Rattle.dictionary.specs.Adding.{site_of, header_writes, vocabulary_writes}
-use Rattle.dictionary.specs.Forget.{cuts}
+use Rattle.dictionary.specs.Forgetting.{cuts}
 use Rattle.dictionary.specs.Header.{compilation_address, is_immediate}
 use Rattle.dictionary.specs.Newest.{with_immediate}
 use Rattle.dictionary.specs.Order.{is_beyond_limit}
