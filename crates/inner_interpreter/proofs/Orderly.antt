@@ -14,7 +14,7 @@ use Rattle.plain_rows.specs.declared.parts.Request.{Request}
 use Rattle.plain_rows.specs.declared.parts.Request.TheVariants as request
 use Rattle.plain_rows.proofs.Shapes.{by_if, by_room, by_room_r}
 use Rattle.primitives.specs.Table.{row}
-use Rattle.primitives.proofs.Behaves.{AreOrderly}
+use Rattle.primitives.proofs.Behaves.{AreOrderly, AsksFitly}
 use Rattle.primitives.proofs.Rows.{behaves_row}
 use Rattle.primitives.proofs.Requests.{absent_read, held_write}
 use Rattle.inner_interpreter.specs.declared.act.Cause.{Cause}
@@ -31,7 +31,7 @@ use Rattle.inner_interpreter.proofs.Shapes.{either, by_answer, is_taken}
 
 -- a state that asks nothing
 unasked : (s : Whole) (c : Option Cause) → AreOrderly s.buffers → IsOrderly (record { parts = s; wait = None; halt = c })
-unasked s c h = record { buffers = h.buffers; once = h.once; absent = λ u w q. cc; held = λ u w q. cc }
+unasked s c h = record { buffers = h.buffers; once = h.once; absent = λ u w q. cc; held = λ u w q. cc; room = λ w q. cc; two = λ n w q. cc }
 
 faulted_orderly : (s : Whole) (shown : Shown) (f : ℕ) → AreOrderly s.buffers → IsOrderly (fault s shown f).0
 unfolding fault
@@ -45,20 +45,25 @@ ReadsAbsent x = (u : ℕ) → x.1 ≡ AskOut (request.Read u) → holds x.0.buff
 abbrev WritesHeld : After → Type 0
 WritesHeld x = (u : ℕ) → x.1 ≡ AskOut (request.Write u) → holds x.0.buffers u ≡ true
 
-concluded_orderly : (w : ℕ) (x : After) → AreOrderly x.0.buffers → ReadsAbsent x → WritesHeld x → IsOrderly (concluded w x).0
+same_request : (p q : Request × ℕ) → Some p ≡ Some q → p.0 ≡ q.0
+same_request p q e = ap (λ (o : Option (Request × ℕ)). elim o [ Some x ↦ x.0 | None ↦ p.0 ]) e
+
+concluded_orderly : (w : ℕ) (x : After) → AreOrderly x.0.buffers → ReadsAbsent x → WritesHeld x → AsksFitly x → IsOrderly (concluded w x).0
 unfolding concluded
-concluded_orderly w (s, Done) h a k = unasked s None h
-concluded_orderly w (s, Show span) h a k = unasked s None h
-concluded_orderly w (s, ByteOut c) h a k = unasked s None h
-concluded_orderly w (s, AskOut r) h a k = record {
+concluded_orderly w (s, Done) h a k f = unasked s None h
+concluded_orderly w (s, Show span) h a k f = unasked s None h
+concluded_orderly w (s, ByteOut c) h a k f = unasked s None h
+concluded_orderly w (s, AskOut r) h a k f = record {
   buffers = h.buffers;
   once = h.once;
   absent = λ u v q. a u (ap (λ (o : Option (Request × ℕ)). AskOut (elim o [ Some p ↦ p.0 | None ↦ r ])) q);
   held = λ u v q. k u (ap (λ (o : Option (Request × ℕ)). AskOut (elim o [ Some p ↦ p.0 | None ↦ r ])) q);
+  room = λ v q. subst (λ (i : Request). AsksFitly (s, AskOut i)) (same_request (r, w) (request.Key, v) q) f;
+  two = λ n v q. subst (λ (i : Request). AsksFitly (s, AskOut i)) (same_request (r, w) (request.Line n, v) q) f;
 }
-concluded_orderly w (s, FaultOut f) h a k = faulted_orderly s Nothing f h
-concluded_orderly w (s, Abort span) h a k = faulted_orderly s (shown_span span) 17 h
-concluded_orderly w (s, HaltOut) h a k = unasked s (Some Bye) h
+concluded_orderly w (s, FaultOut n) h a k f = faulted_orderly s Nothing n h
+concluded_orderly w (s, Abort span) h a k f = faulted_orderly s (shown_span span) 17 h
+concluded_orderly w (s, HaltOut) h a k f = unasked s (Some Bye) h
 
 thread_orderly : (c w : ℕ) (s : Whole) → AreOrderly s.buffers → AreOrderly (thread c w s).0.buffers
 thread_orderly c w s h = by_room P s _ _ h (by_room_r P s _ _ h h) where
@@ -95,6 +100,15 @@ executed_held w s h =
     let c : ℕ = cell s.memory w
     in by_if WritesHeld (nat_lt c 256) _ _ (row_held c w s h) (thread_held c w s)
 
+thread_fitly : (c w : ℕ) (s : Whole) → AsksFitly (thread c w s)
+thread_fitly c w s = by_room AsksFitly s _ _ tt (by_room_r AsksFitly s _ _ tt tt)
+
+executed_fitly : (w : ℕ) (s : Whole) → AsksFitly (executed w s)
+unfolding executed
+executed_fitly w s =
+    let c : ℕ = cell s.memory w
+    in by_if AsksFitly (nat_lt c 256) _ _ (behaves_row c w s).fitly (thread_fitly c w s)
+
 taken_orderly : (s : Whole) → AreOrderly s.buffers → AreOrderly (taken s).1.buffers
 taken_orderly s h = subst AreOrderly (sym (is_taken s).buffers) h
 
@@ -103,7 +117,7 @@ unfolding ticked
 ticked_orderly s h =
     concluded_orderly (taken s).0 (executed (taken s).0 (taken s).1)
     (executed_orderly (taken s).0 (taken s).1 (taken_orderly s h)) (executed_absent (taken s).0 (taken s).1)
-    (executed_held (taken s).0 (taken s).1 (taken_orderly s h))
+    (executed_held (taken s).0 (taken s).1 (taken_orderly s h)) (executed_fitly (taken s).0 (taken s).1)
 
 answered_orderly : (s : Whole) (p : Request × ℕ) (reply : Reply) → AreOrderly s.buffers → ((u w : ℕ) → Some p ≡ Some (request.Read u, w) → holds s.buffers u ≡ false) → fits_request p.0 reply ≡ true → IsOrderly (answered s p reply).0
 unfolding answered key_answered line_answered read_answered write_answered

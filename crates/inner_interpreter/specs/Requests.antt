@@ -9,12 +9,14 @@ use Rattle.inner_interpreter.specs.Answer.{Reply, ReadOk, WriteOk, asked_by}
 use Rattle.inner_interpreter.specs.Moves.{Tick, Answer, turned}
 
 -- the machine's buffers are in order: no block is in two of them, none is asked to be read that one of them has, and each
--- that is asked to be written is in one of them
+-- that is asked to be written is in one of them; a key is asked where it has room, a line where EXPECT's two cells are
 pub record IsOrderly (s : State) : Type 0 where
   pub buffers : AreBuffers s.parts.buffers
   pub once : HasNoBlockTwice s.parts.buffers
   pub absent : (u w : ℕ) → s.wait ≡ Some (request.Read u, w) → IsFalse (holds s.parts.buffers u)
   pub held : (u w : ℕ) → s.wait ≡ Some (request.Write u, w) → IsTrue (holds s.parts.buffers u)
+  pub room : (w : ℕ) → s.wait ≡ Some (request.Key, w) → length s.parts.values < 256
+  pub two : (n w : ℕ) → s.wait ≡ Some (request.Line n, w) → 2 ≤ length s.parts.values
 
 -- a request of the device stands
 abbrev pub asks_device : Option Request → Bool

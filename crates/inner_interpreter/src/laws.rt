@@ -30,7 +30,8 @@ pub fn input_fault_law()
     ensures { (w : World) (n : ℕ) → w.state.halt ≢ Some Cause.InputFault → stops (rounds n w) ≢ Some Stop.InputFault }
 {}
 
-/// No block is ever in two buffers of a machine, and none is asked to be read that a buffer has.
+/// No block is ever in two buffers of a machine, none is asked to be read that a buffer has, and each that is asked to be
+/// written is in one. A key is asked at fewer than 256 cells on the data stack, a line at two or more.
 pub fn orderly_law()
     ensures started { (image : Contents) (block_count : ℕ) → IsOrderly (start image block_count) }
     ensures moved { (s : State) (t : Turn) → Accepts s t → IsOrderly s → IsOrderly (turned s t) }

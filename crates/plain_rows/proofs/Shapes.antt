@@ -1,6 +1,7 @@
 -- What holds of each end of a row holds of the row, by its shape.
-use Rattle.std.proofs.Common.{ℕ, List, length, nat_lt, Bool, true, false, inl, inr, if◌then◌else◌}
+use Rattle.std.proofs.Common.{◌≡◌, ℕ, ◌≤◌, arith, refl, List, length, nat_lt, Bool, true, false, inl, inr, if◌then◌else◌}
 use Rattle.std.proofs.lemmas.Bool.{cases_lt}
+use Rattle.std.proofs.lemmas.Grind.{common_steps}
 use Rattle.plain_rows.specs.Whole.{Whole}
 use Rattle.plain_rows.specs.Row.{After, takes1, takes2, takes3, takes4, takes6, takes_r1, takes_r3, takes_r4, fault, room, room_r}
 use Rattle.plain_rows.proofs.Takes.{takes1_none, takes1_deep, takes2_none, takes2_deep, takes3_none, takes3_deep, takes4_none, takes4_deep, takes6_none, takes6_deep, takes_r1_none, takes_r1_deep, takes_r3_none, takes_r3_deep, takes_r4_none, takes_r4_deep}
@@ -12,6 +13,14 @@ by_if P false x y h k = k
 pub by_room : (P : After → Type 0) (s : Whole) (d : List ℕ) (x : After) → P (fault s 2) → P x → P (room s d x)
 unfolding room
 by_room P s d x none h = by_if P (nat_lt 256 (length d)) (fault s 2) x none h
+
+-- the same, by what is known where there is room
+pub by_room_or : (P : After → Type 0) (s : Whole) (d : List ℕ) (x : After) → P (fault s 2) → (length d ≤ 256 → P x) → P (room s d x)
+unfolding room
+by_room_or P s d x none h = by_test (nat_lt 256 (length d)) refl where
+  by_test : (b : Bool) → nat_lt 256 (length d) ≡ b → P (if b then fault s 2 else x)
+  by_test true q = none
+  by_test false q = h (grind (arith, common_steps))
 
 pub by_room_r : (P : After → Type 0) (s : Whole) (r : List ℕ) (x : After) → P (fault s 4) → P x → P (room_r s r x)
 unfolding room_r

@@ -1,5 +1,5 @@
 -- What a row asks of its device, what it leaves of the buffers, and what it keeps where it stops: by its shape.
-use Rattle.std.proofs.Common.{◌≡◌, ℕ, ◌==◌, ◌||◌, List, [], ◌∷◌, ◌++◌, Option, Some, None, Bool, true, false, refl, sym, subst, if◌then◌else◌}
+use Rattle.std.proofs.Common.{◌≡◌, ℕ, ◌==◌, ◌||◌, ◌<◌, ◌≤◌, List, [], ◌∷◌, ◌++◌, length, nat_lt, Option, Some, None, Bool, true, false, refl, sym, subst, if◌then◌else◌}
 use Rattle.block_buffers.specs.declared.entry.Entry.{Entry}
 use Rattle.block_buffers.specs.Entries.{holds, slot_of, victim, has_updated, first_updated, moved_front, after_references, assigned, front_marked, unassigned, AreBuffers, HasNoBlockTwice}
 use Rattle.block_buffers.proofs.Kept.{are_moved, are_assigned, are_marked, are_unassigned, blocks_moved}
@@ -40,11 +40,18 @@ unfoldable pub missing : List ℕ → Whole → Option After
 missing [] s = None
 missing (u ∷ us) s = if has_block s u then missing us (with_block s u) else Some (s, without_block s u)
 
+-- a key is asked where its byte has room, and a line where its address and count are there
+abbrev pub AsksFitly : After → Type 0
+AsksFitly (t, outcome.Ask request.Key) = length t.values < 256
+AsksFitly (t, outcome.Ask (request.Line n)) = 2 ≤ length t.values
+AsksFitly (t, _) = Unit {0}
+
 -- a row that asks its device at most this
 pub record Behaves (asked : Option After) (s : Whole) (x : After) : Type 0 where
   pub stops : StopsKeeping s x
   pub asks : asks_device x.1 ≡ true → asked ≡ Some x
   pub keeps : AreOrderly s.buffers → AreOrderly x.0.buffers
+  pub fitly : AsksFitly x
 
 pub orderly_moved : (slot : ℕ) (b : List Entry) → AreOrderly b → AreOrderly (moved_front slot b)
 orderly_moved slot b h = record { buffers = are_moved slot b h.buffers; once = blocks_moved slot b h.once }
@@ -71,26 +78,26 @@ stops_same s (outcome.Fault f) = keeps_all s
 stops_same s (outcome.Abort span) = keeps_all s
 stops_same s outcome.Halt = tt
 
-behaves_same : (m : Option After) (s : Whole) (o : Outcome) → asks_device o ≡ false → Behaves m s (s, o)
-behaves_same m s o q = record { stops = stops_same s o; asks = λ r. cc; keeps = λ k. k }
+behaves_same : (m : Option After) (s : Whole) (o : Outcome) → asks_device o ≡ false → AsksFitly (s, o) → Behaves m s (s, o)
+behaves_same m s o q f = record { stops = stops_same s o; asks = λ r. cc; keeps = λ k. k; fitly = f }
 
 pub behaves_fault : (m : Option After) (s : Whole) (f : ℕ) → Behaves m s (fault s f)
-behaves_fault m s f = behaves_same m s (outcome.Fault f) refl
+behaves_fault m s f = behaves_same m s (outcome.Fault f) refl tt
 
-pub behaves_key : (m : Option After) (s : Whole) → Behaves m s (s, outcome.Ask request.Key)
-behaves_key m s = behaves_same m s (outcome.Ask request.Key) refl
+pub behaves_key : (m : Option After) (s : Whole) → length s.values < 256 → Behaves m s (s, outcome.Ask request.Key)
+behaves_key m s room = behaves_same m s (outcome.Ask request.Key) refl room
 
-pub behaves_line : (m : Option After) (s : Whole) (n : ℕ) → Behaves m s (s, outcome.Ask (request.Line n))
-behaves_line m s n = behaves_same m s (outcome.Ask (request.Line n)) refl
+pub behaves_line : (m : Option After) (s : Whole) (n : ℕ) → 2 ≤ length s.values → Behaves m s (s, outcome.Ask (request.Line n))
+behaves_line m s n two = behaves_same m s (outcome.Ask (request.Line n)) refl two
 
 pub behaves_done : (m : Option After) (s t : Whole) → (AreOrderly s.buffers → AreOrderly t.buffers) → Behaves m s (t, outcome.Done)
-behaves_done m s t k = record { stops = tt; asks = λ q. cc; keeps = k }
+behaves_done m s t k = record { stops = tt; asks = λ q. cc; keeps = k; fitly = tt }
 
 pub behaves_show : (m : Option After) (s t : Whole) (span : Span) → (AreOrderly s.buffers → AreOrderly t.buffers) → Behaves m s (t, outcome.Show span)
-behaves_show m s t span k = record { stops = tt; asks = λ q. cc; keeps = k }
+behaves_show m s t span k = record { stops = tt; asks = λ q. cc; keeps = k; fitly = tt }
 
 pub behaves_byte : (m : Option After) (s t : Whole) (c : ℕ) → (AreOrderly s.buffers → AreOrderly t.buffers) → Behaves m s (t, outcome.Byte c)
-behaves_byte m s t c k = record { stops = tt; asks = λ q. cc; keeps = k }
+behaves_byte m s t c k = record { stops = tt; asks = λ q. cc; keeps = k; fitly = tt }
 
 pub behaves_if : (m : Option After) (s : Whole) (b : Bool) (x y : After) → Behaves m s x → Behaves m s y → Behaves m s (if b then x else y)
 behaves_if m s b x y h k = by_if (Behaves m s) b x y h k
@@ -140,18 +147,27 @@ behaves_referenced m s u x h = record {
   stops = stops_behind s (slot_of s.buffers u) x h.stops;
   asks = h.asks;
   keeps = λ k. h.keeps (orderly_moved (slot_of s.buffers u) s.buffers k);
+  fitly = h.fitly;
 }
 
 -- a row that stops here
-stopped : (s : Whole) (o : Outcome) → Behaves (Some (s, o)) s (s, o)
-stopped s o = record { stops = stops_same s o; asks = λ q. refl; keeps = λ k. k }
+stopped : (s : Whole) (o : Outcome) → AsksFitly (s, o) → Behaves (Some (s, o)) s (s, o)
+stopped s o f = record { stops = stops_same s o; asks = λ q. refl; keeps = λ k. k; fitly = f }
+
+without_fitly : (s : Whole) (u : ℕ) → AsksFitly (s, without_block s u)
+unfolding without_block
+without_fitly s u = by_count (nat_lt u s.block_count) (victim s.buffers).updated where
+  by_count : (a b : Bool) → AsksFitly (s, (if a then (if b then write_of (victim s.buffers) else outcome.Ask (request.Read u)) else outcome.Fault 7))
+  by_count true true = tt
+  by_count true false = tt
+  by_count false b = tt
 
 pub behaves_fetches : (us : List ℕ) (s : Whole) (u : ℕ) (f : Whole → ℕ → After) → ((slot : ℕ) → Behaves (missing us (with_block s u)) (with_block s u) (f (with_block s u) slot)) → Behaves (missing (u ∷ us) s) s (fetches s u f)
 unfolding missing
 behaves_fetches us s u f h = by_test (has_block s u) where
   by_test : (b : Bool) → Behaves (if b then missing us (with_block s u) else Some (s, without_block s u)) s (if b then f (with_block s u) (slot_of s.buffers u) else (s, without_block s u))
   by_test true = behaves_referenced (missing us (with_block s u)) s u (f (with_block s u) (slot_of s.buffers u)) (h (slot_of s.buffers u))
-  by_test false = stopped s (without_block s u)
+  by_test false = stopped s (without_block s u) (without_fitly s u)
 
 pub behaves_reads : (us : List ℕ) (s : Whole) (f : Whole → Stream → After) → ((stream : Stream) → Behaves (missing us (with_stream s)) (with_stream s) (f (with_stream s) stream)) → Behaves (missing (stream_needs s ++ us) s) s (reads s f)
 unfolding has_stream stream_buffers stream_needs
@@ -171,7 +187,7 @@ pub behaves_saves_victim : (s : Whole) (x : After) → Behaves None s x → Beha
 unfolding saves_victim given
 behaves_saves_victim s x h = by_test (victim s.buffers).updated where
   by_test : (b : Bool) → Behaves (if b then Some (s, write_of (victim s.buffers)) else None) s (if b then (s, write_of (victim s.buffers)) else x)
-  by_test true = stopped s (write_of (victim s.buffers))
+  by_test true = stopped s (write_of (victim s.buffers)) tt
   by_test false = h
 
 -- what SAVE-BUFFERS and FLUSH ask at most: that the first updated buffer be written
@@ -182,7 +198,7 @@ pub behaves_saves : (s : Whole) (x : After) → Behaves None s x → Behaves (sa
 unfolding saves saved
 behaves_saves s x h = by_test (has_updated s.buffers) where
   by_test : (b : Bool) → Behaves (if b then Some (s, write_of (first_updated s.buffers)) else None) s (if b then (s, write_of (first_updated s.buffers)) else x)
-  by_test true = stopped s (write_of (first_updated s.buffers))
+  by_test true = stopped s (write_of (first_updated s.buffers)) tt
   by_test false = h
 
 -- a plain row
@@ -191,8 +207,8 @@ behaves_plain m s (t, outcome.Done) h = behaves_done m s t (subst AreOrderly (sy
 behaves_plain m s (t, outcome.Show span) h = behaves_show m s t span (subst AreOrderly (sym h))
 behaves_plain m s (t, outcome.Byte c) h = behaves_byte m s t c (subst AreOrderly (sym h))
 behaves_plain m s (t, outcome.Ask r) h = absurd h
-behaves_plain m s (t, outcome.Fault f) h = subst (λ (w : Whole). Behaves m s (w, outcome.Fault f)) (sym h) (behaves_same m s (outcome.Fault f) refl)
-behaves_plain m s (t, outcome.Abort span) h = subst (λ (w : Whole). Behaves m s (w, outcome.Abort span)) (sym h) (behaves_same m s (outcome.Abort span) refl)
-behaves_plain m s (t, outcome.Halt) h = record { stops = tt; asks = λ q. cc; keeps = subst AreOrderly (sym h) }
+behaves_plain m s (t, outcome.Fault f) h = subst (λ (w : Whole). Behaves m s (w, outcome.Fault f)) (sym h) (behaves_same m s (outcome.Fault f) refl tt)
+behaves_plain m s (t, outcome.Abort span) h = subst (λ (w : Whole). Behaves m s (w, outcome.Abort span)) (sym h) (behaves_same m s (outcome.Abort span) refl tt)
+behaves_plain m s (t, outcome.Halt) h = record { stops = tt; asks = λ q. cc; keeps = subst AreOrderly (sym h); fitly = tt }
 
-pub ruleset behaves = (behaves_fault, behaves_key, behaves_line, behaves_done, behaves_show, behaves_byte, behaves_if, behaves_room, behaves_takes1, behaves_takes2, behaves_takes3, behaves_searches, behaves_fetches, behaves_reads, orderly_marked, orderly_unassigned)
+pub ruleset behaves = (behaves_fault, behaves_done, behaves_show, behaves_byte, behaves_if, behaves_room, behaves_takes1, behaves_takes2, behaves_takes3, behaves_searches, behaves_fetches, behaves_reads, orderly_marked, orderly_unassigned)

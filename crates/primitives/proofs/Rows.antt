@@ -1,13 +1,15 @@
 -- The whole table, row by row: what each asks of its device, leaves of the buffers, and keeps where it stops.
-use Rattle.std.proofs.Common.{◌≡◌, ℕ, ◌==◌, ◌||◌, List, [], ◌∷◌, ◌++◌, Option, None, nat_lt, take, Bool, true, false, refl, sym, subst, rules, if◌then◌else◌}
-use Rattle.std.proofs.lemmas.Bool.{eqb-true}
+use Rattle.std.proofs.Common.{◌≡◌, ℕ, ◌==◌, ◌||◌, List, [], ◌∷◌, ◌++◌, Option, None, nat_lt, length, slice_index, take, Bool, true, false, inl, inr, arith, refl, sym, subst, rules, if◌then◌else◌}
+use Rattle.std.proofs.lemmas.Bool.{eqb-true, cases_lt}
 use Rattle.block_buffers.specs.Entries.{holds, slot_of, victim, assigned, unassigned}
 use Rattle.input_source.specs.declared.words.Word.{Word}
 use Rattle.memory.specs.Bytes.{cell}
 use Rattle.memory.specs.declared.system.TheConstants.{SCR}
 use Rattle.plain_rows.specs.Whole.{Whole}
 use Rattle.plain_rows.specs.Row.{After, done, fault, takes1}
-use Rattle.plain_rows.proofs.Shapes.{by_if, by_takes1}
+use Rattle.plain_rows.proofs.Shapes.{by_if, by_room_or, by_takes1}
+use Rattle.plain_rows.proofs.Takes.{takes2_none, takes2_deep}
+use Rattle.stacks.specs.Cells.{◌▸◌}
 use Rattle.plain_rows.proofs.Plain.{plain_control, plain_stack, plain_cells, plain_doubles, plain_memory}
 use Rattle.primitives.specs.Blocks.{address_of, with_block, fetches}
 use Rattle.primitives.specs.Needs.{reads_stream, is_about_screen, stream_needs, needed}
@@ -16,7 +18,7 @@ use Rattle.primitives.specs.DictionaryRows.{leaves_past, creates}
 use Rattle.primitives.specs.Interpret.{compiles_past}
 use Rattle.primitives.specs.Defining.{lays_past}
 use Rattle.primitives.specs.Compiling.{compiles, resolves}
-use Rattle.primitives.proofs.Behaves.{Behaves, behaves, behaves_fault, behaves_done, behaves_if, behaves_fetches, behaves_saves_victim, behaves_saves, behaves_plain, missing, given, saved, orderly_assigned, orderly_moved, orderly_unassigned}
+use Rattle.primitives.proofs.Behaves.{Behaves, behaves, behaves_fault, behaves_key, behaves_line, behaves_done, behaves_if, behaves_fetches, behaves_saves_victim, behaves_saves, behaves_plain, missing, given, saved, orderly_assigned, orderly_moved, orderly_unassigned}
 use Rattle.primitives.specs.Devices.{block as row_112, buffer as row_113, update as row_114, save_buffers as row_115, flush as row_116, empty_buffers as row_117, key as row_118, expect as row_119, emit as row_120, type_out as row_121}
 use Rattle.primitives.specs.Numbers.{open_picture as row_128, picture_digit as row_129, picture_digits as row_130, close_picture as row_131, hold as row_132, sign as row_133, convert as row_134}
 use Rattle.primitives.specs.Streams.{word as row_144, paren as row_145, dot_paren as row_146}
@@ -97,10 +99,13 @@ behaves_117 : (m : Option After) (s : Whole) → Behaves m s (row_117 s)
 behaves_117 m s = search (rules, behaves, more) depth 9
 
 behaves_118 : (m : Option After) (s : Whole) → Behaves m s (row_118 s)
-behaves_118 m s = search (rules, behaves, more) depth 9
+behaves_118 m s = by_room_or (Behaves m s) s (s.values ▸ 0) _ (behaves_fault m s 2) (λ few. behaves_key m s (omega (arith, few)))
 
 behaves_119 : (m : Option After) (s : Whole) → Behaves m s (row_119 s)
-behaves_119 m s = search (rules, behaves, more) depth 9
+behaves_119 m s = elim (cases_lt (length s.values) 2) [
+  | inl shallow ↦ rw (takes2_none s _ shallow) (behaves_fault m s 1)
+  | inr deep ↦ rw (takes2_deep s _ deep) (by_if (Behaves m s) (slice_index s.values 0 == 0) _ _ (behaves_done m s _ (λ k. k)) (behaves_line m s (slice_index s.values 0) deep))
+]
 
 behaves_120 : (m : Option After) (s : Whole) → Behaves m s (row_120 s)
 behaves_120 m s = search (rules, behaves, more) depth 9
