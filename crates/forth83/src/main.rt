@@ -9,15 +9,18 @@ mod end_tests;
 mod file_devices;
 #[cfg(test)]
 mod file_tests;
+mod files;
 #[cfg(test)]
 mod tests;
 mod words;
 
 use block_buffers::MemoryDevice;
 use commands::do_run;
-use file_devices::{open_device, read_image};
+use file_devices::open_device;
+use files::read_image;
 use inner_interpreter::{Reading, Writing};
-use std::io::{BufReader, BufWriter};
+use std::io;
+use std::io::{BufReader, BufWriter, IsTerminal, Stdout};
 use std::process::ExitCode;
 use words::{Parsed, Words};
 
@@ -37,6 +40,19 @@ fn out_of_memory<R: Print>(rt: &R) -> u8 {
     say(rt, "out of memory", "", 1)
 }
 
+/// How many bytes that are shown are gathered before they are written into a file or a pipe.
+const GATHERED_BYTES: usize = 8192;
+
+/// Standard output. What a terminal is shown is written at once, so that a run can be watched, and stopped at any time.
+fn standard_output(rt: &HostRuntime) -> io::Result<BufWriter<Stdout>> {
+    let gathered = if rt.stdout().is_terminal() {
+        0
+    } else {
+        GATHERED_BYTES
+    };
+    BufWriter::with_capacity(rt.alloc(), gathered, rt.stdout())
+}
+
 /// Opens what `run` names, and runs the image over standard input and output.
 fn run_image(rt: &HostRuntime, image: &str, blocks: Option<&str>, limit: u64) -> u8 {
     let bytes = match read_image(rt, image) {
@@ -47,7 +63,7 @@ fn run_image(rt: &HostRuntime, image: &str, blocks: Option<&str>, limit: u64) ->
     let Ok(reader) = BufReader::new(rt.alloc(), rt.stdin()) else {
         return out_of_memory(rt);
     };
-    let Ok(writer) = BufWriter::new(rt.alloc(), rt.stdout()) else {
+    let Ok(writer) = standard_output(rt) else {
         return out_of_memory(rt);
     };
     let mut reader = Reading::new(reader);

@@ -8,6 +8,9 @@ use std::{env, io};
 /// How many ticks a run may take where no limit is given.
 const DEFAULT_LIMIT: u64 = 1_000_000_000_000;
 
+/// The program's version, which `--version` shows.
+const VERSION: &str = "0.1.0";
+
 /// A subcommand with its words.
 #[derive(Drop)]
 pub enum Words {
@@ -48,6 +51,7 @@ fn run_command<'a>(alloc: Global) -> Result<Command<'a>, AllocError> {
 fn command<'a>(alloc: Global) -> Result<Command<'a>, AllocError> {
     Command::new(alloc, "forth83")
         .about("A Forth-83 system with block storage")
+        .version(VERSION)
         .subcommand_required(true)
         .arg_required_else_help(true)
         .subcommand(run_command(alloc)?)
