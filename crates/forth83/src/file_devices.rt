@@ -4,7 +4,7 @@ ghost use Rattle.std.specs.Prelude.{◌≤◌, ◌≡◌, None};
 ghost use Rattle.forth83.specs.Streams.{IsApart};
 
 use crate::files::open_apart;
-use block_buffers::{Count, Device, DeviceFault};
+use block_buffers::{CallLog, Device, DeviceFault};
 use std::fs::{File, OpenOptions};
 use std::io;
 use std::io::{Read, Seek, SeekFrom, Write};
@@ -14,7 +14,7 @@ use std::io::{Read, Seek, SeekFrom, Write};
 pub struct FileDevice {
     file: File,
     count: u32,
-    failures: Count,
+    log: CallLog,
     ghost few: { count ≤ 65536 },
     ghost apart: { IsApart file },
 }
@@ -28,7 +28,7 @@ pub fn open_device(rt: &HostRuntime, name: &str) -> Option<FileDevice> {
     Some(FileDevice {
         file,
         count,
-        failures: Count::zero(),
+        log: CallLog::new(),
     })
 }
 
@@ -47,7 +47,7 @@ fn write_page(mut file: &File, at: u64, page: &[u8; 1024]) -> io::Result<()> {
 impl Device for FileDevice {
     ghost disk = { λ _. None };
 
-    ghost failures = { λ d. d.failures.times };
+    ghost calls = { λ d. d.log.calls };
 
     fn count(&self) -> u32 {
         self.count
@@ -57,10 +57,11 @@ impl Device for FileDevice {
         if u32::from(block) < self.count {
             let done = read_page(&self.file, u64::from(block) * 1024, page);
             if let Ok(()) = done {
+                self.log = CallLog::succeeded(&self.log);
                 return Ok(());
             }
         }
-        self.failures = Count::next(&self.failures);
+        self.log = CallLog::failed(&self.log);
         Err(DeviceFault)
     }
 
@@ -68,10 +69,11 @@ impl Device for FileDevice {
         if u32::from(block) < self.count {
             let done = write_page(&self.file, u64::from(block) * 1024, page);
             if let Ok(()) = done {
+                self.log = CallLog::succeeded(&self.log);
                 return Ok(());
             }
         }
-        self.failures = Count::next(&self.failures);
+        self.log = CallLog::failed(&self.log);
         Err(DeviceFault)
     }
 }
