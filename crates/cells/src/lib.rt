@@ -76,6 +76,14 @@ pub fn um_divide(ud: u32, u: u16) -> Option<(u16, u16)>
     Some(((ud % u as u32) as u16, quotient as u16))
 }
 
+/// Whether a counted loop ends by a step of 1: as `crosses`.
+#[tactic(auto, unfolding(crate::specs::Cell::crosses))]
+pub fn ends_next(index: u16, limit: u16) -> bool
+    ensures { result ≡ crosses index limit 1 }
+{
+    index.wrapping_add(1) == limit
+}
+
 /// Whether a counted loop ends: its step, a signed cell, takes the index over the boundary between `limit - 1` and
 /// `limit`, in either direction (Forth-83 `+LOOP`).
 #[tactic(auto, unfolding(crate::specs::Cell::crosses))]

@@ -1,5 +1,6 @@
 pub mod State
 pub mod Tick
+pub mod InPlace
 pub mod Answer
 pub mod Ends
 pub mod Moves

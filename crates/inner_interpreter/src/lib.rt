@@ -3,6 +3,7 @@
 
 mod act;
 mod ends;
+mod in_place;
 pub mod laws;
 mod lines;
 mod machine;
