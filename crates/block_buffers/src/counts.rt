@@ -20,7 +20,7 @@ impl Count {
     pub fn zero() -> Count
         ensures { result.times ≡ 0 }
     {
-        Count {}
+        Self {}
     }
 
     /// It has happened once more.
