@@ -10,14 +10,18 @@ mod file_devices;
 #[cfg(test)]
 mod file_tests;
 mod files;
+mod kernel;
+#[cfg(test)]
+mod kernel_tests;
+mod kernel_text;
 #[cfg(test)]
 mod tests;
 mod words;
 
 use block_buffers::MemoryDevice;
-use commands::do_run;
+use commands::{Ended, do_kernel, do_run};
 use file_devices::open_device;
-use files::read_image;
+use files::{read_image, write_file};
 use inner_interpreter::{Reading, Writing};
 use std::io;
 use std::io::{BufReader, BufWriter, IsTerminal, Stdout};
@@ -51,6 +55,21 @@ fn standard_output(rt: &HostRuntime) -> io::Result<BufWriter<Stdout>> {
         GATHERED_BYTES
     };
     BufWriter::with_capacity(rt.alloc(), gathered, rt.stdout())
+}
+
+/// Writes the new file that `kernel` names.
+fn write_kernel(rt: &HostRuntime, blocks: &str) -> u8 {
+    let Ok(writer) = standard_output(rt) else {
+        return out_of_memory(rt);
+    };
+    let Ended { status, file } = do_kernel(rt.alloc(), &mut Writing::new(writer));
+    let Some(file) = file else {
+        return status;
+    };
+    match write_file(rt, blocks, file.as_slice()) {
+        Ok(()) => status,
+        Err(_) => cannot_open(rt, blocks),
+    }
 }
 
 /// Opens what `run` names, and runs the image over standard input and output.
@@ -100,6 +119,7 @@ fn main(rt: HostRuntime) -> ExitCode {
     let status = match words::parse(&rt) {
         Parsed::Exit(status) => status,
         Parsed::OutOfMemory => out_of_memory(&rt),
+        Parsed::Words(Words::Kernel { blocks }) => write_kernel(&rt, blocks.as_str()),
         Parsed::Words(
             Words::Run {
                 image,
