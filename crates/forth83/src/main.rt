@@ -25,6 +25,7 @@ use files::{read_image, write_file};
 use inner_interpreter::{Reading, Writing};
 use std::io;
 use std::io::{BufReader, BufWriter, IsTerminal, Stdout};
+use std::os::fd::AsFd;
 use std::process::ExitCode;
 use words::{Parsed, Words};
 
@@ -47,9 +48,15 @@ fn out_of_memory<R: Print>(rt: &R) -> u8 {
 /// How many bytes that are shown are gathered before they are written into a file or a pipe.
 const GATHERED_BYTES: usize = 8192;
 
-/// Standard output. What a terminal is shown is written at once, so that a run can be watched, and stopped at any time.
+/// Whether standard output can't be written at all.
+fn is_closed(rt: &HostRuntime) -> bool {
+    rt.stdout().as_fd().try_clone_to_owned().is_err()
+}
+
+/// Standard output. What a terminal is shown is written at once, so that a run can be watched, and stopped at any time;
+/// where it is closed, that too is seen at once.
 fn standard_output(rt: &HostRuntime) -> io::Result<BufWriter<Stdout>> {
-    let gathered = if rt.stdout().is_terminal() {
+    let gathered = if rt.stdout().is_terminal() || is_closed(rt) {
         0
     } else {
         GATHERED_BYTES
