@@ -1,5 +1,5 @@
 -- Definitions that can be found again in their thread.
-use Rattle.std.specs.Prelude.{ℕ, Bool, false, ◌+◌, List, [], ◌∷◌, ◌++◌, ◌≡◌, ◌≢◌, ◌<◌, ◌≤◌, ◌⊎◌}
+use Rattle.std.specs.Prelude.{ℕ, Bool, false, List, [], ◌∷◌, ◌++◌, ◌≡◌, ◌≢◌, ◌<◌, ◌≤◌, ◌⊎◌}
 use Rattle.colon_bodies.specs.Tokens.{Token, text_control, loop_control, NAME}
 use Rattle.colon_bodies.specs.Tree.{Body, Definition, named, Empty, Call, Literal, Double, Tick, Pair, IfThen, IfElse, Until, Again, While, Loop, Text, Simple, Doing}
 

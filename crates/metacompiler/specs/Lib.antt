@@ -1,0 +1,10 @@
+pub mod Places
+pub mod Names
+pub mod Items
+pub mod Meanings
+pub mod Grammar
+pub mod Stages
+pub mod Faults
+pub mod Built
+pub mod Causes
+pub mod State
