@@ -9,3 +9,7 @@ pub mod Bodies
 pub mod Dispatch
 pub mod Looping
 pub mod Single
+pub mod Held
+pub mod Midways
+pub mod Screens
+pub mod Refusing

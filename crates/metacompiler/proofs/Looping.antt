@@ -109,7 +109,7 @@ vocabulary_never : (sort : Sort) → (AtVocabulary sort c.EndsInside → ⊥) ×
 vocabulary_never s.Double = (λ h. h, λ h. h)
 vocabulary_never _ = (λ h. h, λ h. h)
 
-abbrev IsOfWord : Result Token Cause → Type 0
+abbrev pub IsOfWord : Result Token Cause → Type 0
 IsOfWord (Ok w) = Unit {0}
 IsOfWord (Err e) = (e ≡ c.Misplaced) ⊎ (e ≡ c.Unknown)
 
@@ -128,7 +128,7 @@ first_cause h (Some n) x = by (is_barred h n)
     by true = inl refl
     by false = tt
 
-sense_cause : (h : Half) (o : Option Name) (x : Sense) → IsOfWord (sense_of h o x)
+pub sense_cause : (h : Half) (o : Option Name) (x : Sense) → IsOfWord (sense_of h o x)
 sense_cause Free o (Keyword w) = tt
 sense_cause Compiling o (Keyword w) = tt
 sense_cause h o x = first_cause h o x

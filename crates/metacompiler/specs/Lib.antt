@@ -1,4 +1,5 @@
 pub mod Places
+pub mod Spelled
 pub mod Names
 pub mod Items
 pub mod Meanings
@@ -8,3 +9,5 @@ pub mod Faults
 pub mod Built
 pub mod Causes
 pub mod State
+pub mod Sources
+pub mod Reading

@@ -2,6 +2,7 @@
 #![tactic(auto)]
 
 mod body;
+mod building;
 mod cause;
 mod entry;
 mod header;
@@ -9,9 +10,12 @@ mod image;
 pub mod laws;
 mod make;
 mod name;
+mod reading;
 mod source;
+mod spelled;
 mod spot;
 mod state;
 mod take;
 
+pub use building::build;
 pub use cause::{BuildFault, Cause};
