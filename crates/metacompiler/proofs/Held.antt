@@ -10,6 +10,7 @@ use Rattle.metacompiler.specs.Spelled.{placed, all_placed}
 use Rattle.metacompiler.specs.Items.{Items, item_words}
 use Rattle.metacompiler.specs.Stages.{Stage}
 use Rattle.metacompiler.specs.Faults.{IsFault}
+use Rattle.metacompiler.specs.Built.{Building}
 use Rattle.metacompiler.specs.State.{Shows, IsState, IsRead, IsBegun, Goes, TakenAt}
 use Rattle.metacompiler.specs.Sources.{IsFaultless}
 use Rattle.metacompiler.specs.Reading.{Holds, IsHeld, IsFaultOf}
@@ -55,3 +56,6 @@ pub word_refused : (old : Compilation) (new : Build) (begun : Begun) (front : Li
 word_refused old new begun front w p f h e g t =
     refused old new front w f h
     (λ after. subst (λ q. TakenAt h.items h.words h.stage q after (Err f) new) e (t h.items h.words after h.stage (subst (λ x. Shows x h.words h.stage) (sym g) h.shows) h.is))
+
+pub held_building : (k : Compilation) → IsHeld k → Building k.build
+held_building k h = let x = h.holds in let i = x.is in record { items = x.items; is = i.built; sound = i.sound }

@@ -1,5 +1,5 @@
 -- The whole image, and the loop over a source's words.
-use Rattle.std.proofs.Common.{◌≡◌, ℕ, ◌+◌, ◌*◌, ◌/◌, ◌<◌, ◌≤◌, ◌⊎◌, inl, inr, List, [], ◌∷◌, ◌++◌, length, map, take, drop, get_or, zero, suc, refl, sym, ap, ◌∙◌, subst, arith, append_assoc, append-nil, add-one}
+use Rattle.std.proofs.Common.{lit≤, length-append, ◌≡◌, ℕ, ◌+◌, ◌*◌, ◌/◌, ◌<◌, ◌≤◌, ◌⊎◌, inl, inr, List, [], ◌∷◌, ◌++◌, length, map, take, drop, get_or, zero, suc, refl, sym, ap, ◌∙◌, subst, arith, append_assoc, append-nil, add-one}
 use Rattle.std.specs.Prelude.{false, Option, Some, None, Result, Ok, Err, slice_index, Bool, true, cond}
 use Rattle.colon_bodies.specs.Tokens.{Token, NAME}
 use Rattle.memory.specs.Bytes.{cell_bytes}
@@ -23,6 +23,10 @@ use Rattle.metacompiler.specs.Names.{Name, address, newest_first, newest_link}
 use Rattle.metacompiler.specs.Meanings.{look, unnamed, name_first, sense_of, is_barred, meaning}
 use Rattle.metacompiler.specs.Stages.{body_at, Stage, Whole, Counted, Due, Chosen, Inside, IsFront}
 use Rattle.metacompiler.specs.Faults.{AtItem, AtNumber, AtName, AtVocabulary, InBody, FirstCause, Applies, IsFault}
+use Rattle.metacompiler.specs.Grammar.{AreSound}
+use Rattle.colon_bodies.proofs.Cells.{length-cell}
+use Rattle.metacompiler.proofs.Sound.{sound_end, end_above}
+use Rattle.metacompiler.proofs.Imaging.{length-bytes}
 use Rattle.metacompiler.specs.State.{IsBlank, IsBegun, IsRead, Goes, TakenAt, all_cells}
 
 pub cells_more : (xs : List ℕ) (i d : ℕ) → i < length xs → all_cells (take (suc i) xs) ≡ all_cells (take i xs) ++ cell_bytes (get_or xs i d)
@@ -61,7 +65,7 @@ zero_at (suc n) (suc i) = zero_at n i
 pub no_runtime : (xs : List ℕ) → xs ≡ zeros 256 → slice_index xs ≡ controls Nothing
 no_runtime xs e = ap slice_index e ∙ (λ i k. zero_at 256 k i)
 
-length-zeros : (n : ℕ) → length (zeros n) ≡ n
+pub length-zeros : (n : ℕ) → length (zeros n) ≡ n
 length-zeros zero = refl
 length-zeros (suc n) = ap suc (length-zeros n)
 
@@ -167,3 +171,19 @@ stops b new x source done after w last f r q (inr (inr h)) =
 
 pub memory_stops : (source : List Place) (last screen offset : ℕ) (e : Cause) → e ≡ c.OutOfMemory → IsFault 61440 source last screen offset e
 memory_stops = memory_fault
+
+-- an image ends where its items do
+length-low : (f : ℕ → ℕ) (at n : ℕ) → length (low f at n) ≡ 2 * n
+length-low f at zero = refl
+length-low f at (suc n) = omega (arith, length-append (cell_bytes (f at)) (low f (at + 2) n), length-cell (f at), length-low f (at + 2) n)
+
+pub image_size : (t : Items) → AreSound 61440 t → (256 ≤ length (image t)) × (length (image t) ≤ 61440)
+image_size t h =
+    let a = low (system t) 0 32 in
+    let b = low (λ x. controls t (x / 2)) 0 32 in
+    let z = zeros 128 in
+    let v = bytes (heads_of t) t false in
+    let e = sound_end 61440 t (lit≤ tt) h in
+    let l : length (image t) ≡ end_of t =
+    omega (arith, length-append a (b ++ (z ++ v)), length-append b (z ++ v), length-append z v, length-low (system t) 0 32, length-low (λ x. controls t (x / 2)) 0 32, length-zeros 128, length-bytes (heads_of t) t false) in
+    (omega (arith, l, end_above t), omega (arith, l, e))

@@ -130,7 +130,8 @@ pub fn take_screens<D: Device>(
     to: u16,
 ) -> Result<(), Stop>
     requires { Holds compilation.old [] }
-    ensures { (d : Disk) → D.disk device.old ≡ Some d → TakesScreens d from to result compilation.new (record { disk = D.disk device.new; before = D.failures device.old; after = D.failures device.new }) }
+    ensures taken { (d : Disk) → D.disk device.old ≡ Some d → TakesScreens d from to result compilation.new (record { disk = D.disk device.new; before = D.failures device.old; after = D.failures device.new }) }
+    ensures held { OnOk result (IsHeld compilation.new) }
 {
     let mut page = [b' '; BLOCK_SIZE];
     let mut mode = Mode::Outside;

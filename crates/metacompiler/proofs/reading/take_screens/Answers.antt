@@ -21,20 +21,20 @@ loop-screen-preserved g c = record {
       screen_more d c.args.from c.loop-screen.screen _ _ _ _ _ _ h (c.in_ok-mode.ensures.taken (after_reads (c.loop-screen.screen - c.args.from) d) h.disk (source_words c.args.from (screens d c.args.from (c.loop-screen.screen - c.args.from))) h.took) refl;
 }
 
-pub returns-in_err-mode : goal.returns-in_err-mode
-returns-in_err-mode g c = λ d e.
+pub returns-in_err-mode-clause-taken : goal.returns-in_err-mode-clause-taken
+returns-in_err-mode-clause-taken g c = λ d e.
     let h = c.loop-screen.invariant.taken d e in
     let q = err_from_is_err_and c.from_residual.result c.from_residual.ensures.1 in
     rw (q.1, q.2) (screen_stops d c.args.from c.loop-screen.screen c.args.to _ _ _ _ _ _ h (omega arith) (c.in_err-mode.ensures.taken (after_reads (c.loop-screen.screen - c.args.from) d) h.disk (source_words c.args.from (screens d c.args.from (c.loop-screen.screen - c.args.from))) h.took) refl)
 
-pub returns : goal.returns
-returns g c = λ d e.
+pub returns-clause-taken : goal.returns-clause-taken
+returns-clause-taken g c = λ d e.
     let h = c.loop-screen.invariant.taken d e in
     let above = h.above in
     all_screens d c.args.from c.loop-screen.screen c.args.to _ _ _ h (never_began c.args.from c.loop-screen.screen c.args.to above (omega arith) c.loop-screen.invariant.within) (λ k. omega arith)
 
-pub returns-in_ok-mode : goal.returns-in_ok-mode
-returns-in_ok-mode g c = λ d e.
+pub returns-in_ok-mode-clause-taken : goal.returns-in_ok-mode-clause-taken
+returns-in_ok-mode-clause-taken g c = λ d e.
     let h = c.loop-screen.invariant.taken d e in
     all_screens d c.args.from (c.loop-screen.screen + 1) c.args.to _ _ _
     (screen_more d c.args.from c.loop-screen.screen _ _ _ _ _ _ h (c.in_ok-mode.ensures.taken (after_reads (c.loop-screen.screen - c.args.from) d) h.disk (source_words c.args.from (screens d c.args.from (c.loop-screen.screen - c.args.from))) h.took) refl)
