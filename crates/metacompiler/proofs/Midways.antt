@@ -69,10 +69,10 @@ read_done d s (Ok u) page new before after e x n = (record { there = ltb-true s 
 read_done d s (Err u) page new before after e x n = cc
 
 -- a screen that was read, and its words
-pub screen_taken : (d : Disk) (s : ℕ) (m : Mode) (front : List SourceWord) (r : Result Mode Stop) (old new : Compilation) (done : Done) → HasRead d s done → TakesAll m front (screen_words m s (block_at d.blocks s)) r new → TakesScreen d s m front r old new done
-screen_taken d s m front (Ok next) old new done h t = (h, t)
-screen_taken d s m front (Err (stop.Device u)) old new done h t = absurd t
-screen_taken d s m front (Err (stop.Word f)) old new done h t = (h, t)
+pub screen_taken : (d : Disk) (s : ℕ) (m : Mode) (front : List SourceWord) (r : Result Mode Stop) (old new : Compilation) (done : Done) → Holds old front → HasRead d s done → TakesAll m front (screen_words m s (block_at d.blocks s)) r new → TakesScreen d s m front r old new done
+screen_taken d s m front (Ok next) old new done o h t = (h, t)
+screen_taken d s m front (Err (stop.Device u)) old new done o h t = absurd t
+screen_taken d s m front (Err (stop.Word f)) old new done o h t = (o, h, t)
 
 pub held_after : (m : Mode) (ws : List SourceWord) (r : Result Mode Stop) (old new : Compilation) → IsHeld old → ((front : List SourceWord) → Holds old front → TakesAll m front ws r new) → OnOk r (IsHeld new)
 held_after m ws (Ok next) old new i t = record { front = i.front ++ ws; holds = (t i.front i.holds).0 }

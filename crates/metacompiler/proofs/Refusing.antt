@@ -63,25 +63,25 @@ none_of_device t (Chosen v) w after = vocabulary_none w.sort
 none_of_device t (Inside p before) w after = body_none (controls t) (body_at t p) before (meaning (rules.half_of Free before) t w) (sense_cause (rules.half_of Free before) (look t w) w.inner)
 
 -- a word's fault, as a refusal
-word_because : (d : Disk) (from to k screen offset : ℕ) (cause : Cause) (done : Done) → done.after ≡ done.before →
+word_because : (d : Disk) (from to k screen offset : ℕ) (cause : Cause) (done : Done) → done.after ≡ done.before → IsFaultless (source_words from (screens d from (k - 1))) →
     ((rest : List SourceWord) (last : ℕ) → IsFault 61440 (all_placed (source_words from (screens d from k) ++ rest)) last screen offset cause) →
     Because d from to k (settled screen offset cause from).screen (settled screen offset cause from).offset (settled screen offset cause from).cause done
-word_because d from to k screen offset c.OutOfMemory done q h = (refl, refl, q)
-word_because d from to k screen offset c.Device done q h = let f = h [] 0 in absurd (none_of_device f.3 f.5 f.1 f.2 f.10.applies)
-word_because d from to k screen offset c.EndsInside done q h = let a = (h [] screen).0 in let b = (h [] (screen + 1)).0 in absurd (omega (arith, b))
-word_because d from to k screen offset c.NoBoot done q h = let a = (h [] screen).0 in let b = (h [] (screen + 1)).0 in absurd (omega (arith, b))
-word_because d from to k screen offset c.BadNumber done q h = (q, λ rest. h rest to)
-word_because d from to k screen offset c.BadPrimitive done q h = (q, λ rest. h rest to)
-word_because d from to k screen offset c.Misplaced done q h = (q, λ rest. h rest to)
-word_because d from to k screen offset c.Unbalanced done q h = (q, λ rest. h rest to)
-word_because d from to k screen offset c.Unknown done q h = (q, λ rest. h rest to)
-word_because d from to k screen offset c.BadName done q h = (q, λ rest. h rest to)
-word_because d from to k screen offset c.Full done q h = (q, λ rest. h rest to)
+word_because d from to k screen offset c.OutOfMemory done q o h = (refl, refl, q)
+word_because d from to k screen offset c.Device done q o h = let f = h [] 0 in absurd (none_of_device f.3 f.5 f.1 f.2 f.10.applies)
+word_because d from to k screen offset c.EndsInside done q o h = let a = (h [] screen).0 in let b = (h [] (screen + 1)).0 in absurd (omega (arith, b))
+word_because d from to k screen offset c.NoBoot done q o h = let a = (h [] screen).0 in let b = (h [] (screen + 1)).0 in absurd (omega (arith, b))
+word_because d from to k screen offset c.BadNumber done q o h = (q, o, λ rest. h rest to)
+word_because d from to k screen offset c.BadPrimitive done q o h = (q, o, λ rest. h rest to)
+word_because d from to k screen offset c.Misplaced done q o h = (q, o, λ rest. h rest to)
+word_because d from to k screen offset c.Unbalanced done q o h = (q, o, λ rest. h rest to)
+word_because d from to k screen offset c.Unknown done q o h = (q, o, λ rest. h rest to)
+word_because d from to k screen offset c.BadName done q o h = (q, o, λ rest. h rest to)
+word_because d from to k screen offset c.Full done q o h = (q, o, λ rest. h rest to)
 
 because : (d : Disk) (from to k : ℕ) (e : Stop) (done : Done) → Why d from to k e done → Because d from to k (refusal e from).screen (refusal e from).offset (refusal e from).cause done
 because d from to k (stop.Device u) done h =
     (refl, h.0, h.1, elim h.3 as (λ v. ((length d.blocks ≤ u) × (from + k ≡ u) × (done.after ≡ done.before)) ⊎ ((u < length d.blocks) × (from + k ≡ u + 1) × (done.after ≡ done.before + 1))) [ inl x ↦ inr x | inr x ↦ inl x ], h.2)
-because d from to k (stop.Word f) done h = word_because d from to k f.screen f.offset f.cause done h.0 h.1
+because d from to k (stop.Word f) done h = word_because d from to k f.screen f.offset f.cause done h.0 h.1 h.2
 
 pub stopped_refused : (d : Disk) (from to : ℕ) (e : Stop) (done : Done) → Stopped d from to e done → IsRefused d from to (refusal e from) done
 stopped_refused d from to e done h = record {
@@ -141,13 +141,13 @@ told d from to k screen offset c.Device done few there quiet h =
     ])
 told d from to k screen offset c.EndsInside done few there quiet h = h.3
 told d from to k screen offset c.NoBoot done few there quiet h = h.3
-told d from to k screen offset c.BadNumber done few there quiet h = fault_of_source d from to k screen offset c.BadNumber few h.1
-told d from to k screen offset c.BadPrimitive done few there quiet h = fault_of_source d from to k screen offset c.BadPrimitive few h.1
-told d from to k screen offset c.Misplaced done few there quiet h = fault_of_source d from to k screen offset c.Misplaced few h.1
-told d from to k screen offset c.Unbalanced done few there quiet h = fault_of_source d from to k screen offset c.Unbalanced few h.1
-told d from to k screen offset c.Unknown done few there quiet h = fault_of_source d from to k screen offset c.Unknown few h.1
-told d from to k screen offset c.BadName done few there quiet h = fault_of_source d from to k screen offset c.BadName few h.1
-told d from to k screen offset c.Full done few there quiet h = fault_of_source d from to k screen offset c.Full few h.1
+told d from to k screen offset c.BadNumber done few there quiet h = fault_of_source d from to k screen offset c.BadNumber few h.2
+told d from to k screen offset c.BadPrimitive done few there quiet h = fault_of_source d from to k screen offset c.BadPrimitive few h.2
+told d from to k screen offset c.Misplaced done few there quiet h = fault_of_source d from to k screen offset c.Misplaced few h.2
+told d from to k screen offset c.Unbalanced done few there quiet h = fault_of_source d from to k screen offset c.Unbalanced few h.2
+told d from to k screen offset c.Unknown done few there quiet h = fault_of_source d from to k screen offset c.Unknown few h.2
+told d from to k screen offset c.BadName done few there quiet h = fault_of_source d from to k screen offset c.BadName few h.2
+told d from to k screen offset c.Full done few there quiet h = fault_of_source d from to k screen offset c.Full few h.2
 
 -- where all screens are there and none fails, the refusal is the first fault of the whole source
 pub refused_at : (d : Disk) (from to : ℕ) (e : BuildFault) (done : Done) → AreThere d from to → done.after ≡ done.before → IsRefused d from to e done → IsFault 61440 (all_placed (source_of d from to)) to e.screen e.offset e.cause

@@ -92,13 +92,14 @@ screen_stops d from s to m (stop.Device u) old new done step h k t f =
 screen_stops d from s to m (stop.Word fault) old new done step h k t f =
     let above' : from ≤ s = h.above in
     let words : source_words from (screens d from (s + 1 - from)) ≡ source_words from (screens d from (s - from)) ++ screen_words m s (block_at d.blocks s) =
-    words-more d from s m h.above t.0.there h.mode in
+    words-more d from s m h.above t.1.there h.mode in
+    let last : s + 1 - from - 1 ≡ s - from = omega arith in
     let P : List SourceWord → Type 0 = λ r. IsFaultOf r fault in
     record {
       k = s + 1 - from;
       few = omega arith;
-      disk = t.0.disk ∙ ap Some (reads-more d from s h.above);
-      because = (t.0.failures ∙ f ∙ h.failures, subst P (sym words) t.1);
+      disk = t.1.disk ∙ ap Some (reads-more d from s h.above);
+      because = (t.1.failures ∙ f ∙ h.failures, rw last (faultless old _ t.0), subst P (sym words) t.2);
     }
 
 -- all were taken

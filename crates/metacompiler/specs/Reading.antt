@@ -78,7 +78,7 @@ TakesScreen d s m front (Ok next) old k done =
     HasRead d s done × TakesAll m front (screen_words m s (block_at d.blocks s)) (Ok next) k
 TakesScreen d s m front (Err (stop.Device u)) old k done = (u ≡ s) × Holds old front × (HasFailed d s done ⊎ IsNotThere d s done)
 TakesScreen d s m front (Err (stop.Word f)) old k done =
-    HasRead d s done × TakesAll m front (screen_words m s (block_at d.blocks s)) (Err (stop.Word f)) k
+    Holds old front × HasRead d s done × TakesAll m front (screen_words m s (block_at d.blocks s)) (Err (stop.Word f)) k
 
 -- the screens from `from` on are taken, up to s
 pub record Underway (d : Disk) (from s : ℕ) (m : Mode) (k : Compilation) (done : Done) : Type 0 where
@@ -103,7 +103,7 @@ Why d from to k (stop.Device s) done =
     × IsFaultless (source_words from (screens d from (s - from)))
     × (((s < length d.blocks) × (from + k ≡ s + 1) × (done.after ≡ done.before + 1))
     ⊎ ((length d.blocks ≤ s) × (from + k ≡ s) × (done.after ≡ done.before)))
-Why d from to k (stop.Word f) done = (done.after ≡ done.before) × IsFaultOf (source_words from (screens d from k)) f
+Why d from to k (stop.Word f) done = (done.after ≡ done.before) × IsFaultless (source_words from (screens d from (k - 1))) × IsFaultOf (source_words from (screens d from k)) f
 
 -- it stopped after one read each of the first k of the screens, in order
 pub record Stopped (d : Disk) (from to : ℕ) (why : Stop) (done : Done) : Type 0 where

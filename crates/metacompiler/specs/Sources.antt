@@ -56,8 +56,8 @@ IsUnread d from k screen done =
     ((length d.blocks ≤ screen) × (from + k ≡ screen) × (done.after ≡ done.before))
     ⊎ ((screen < length d.blocks) × (from + k ≡ screen + 1) × (done.after ≡ done.before + 1))
 
--- why it is refused, once k screens were read: want of memory, a screen, the end of all screens, or a word, which then is
--- the first fault of every source that begins with the words of these k
+-- why it is refused, once k screens were read: want of memory, a screen, the end of all screens, or a word. That is the
+-- first fault of every source that begins with the words of these k, and before the last of these was read none was known
 abbrev pub Because : Disk → (from to k screen offset : ℕ) → Cause → Done → Type 0
 Because d from to k screen offset c.OutOfMemory done = (screen ≡ from) × (offset ≡ 0) × (done.after ≡ done.before)
 Because d from to k screen offset c.Device done =
@@ -67,7 +67,7 @@ Because d from to k screen offset c.EndsInside done =
 Because d from to k screen offset c.NoBoot done =
     (k ≡ to + 1 - from) × AreThere d from to × (done.after ≡ done.before) × IsFault 61440 (all_placed (source_of d from to)) to screen offset c.NoBoot
 Because d from to k screen offset cause done =
-    (done.after ≡ done.before) × ((rest : List SourceWord) → IsFault 61440 (all_placed (source_words from (screens d from k) ++ rest)) to screen offset cause)
+    (done.after ≡ done.before) × IsFaultless (source_words from (screens d from (k - 1))) × ((rest : List SourceWord) → IsFault 61440 (all_placed (source_words from (screens d from k) ++ rest)) to screen offset cause)
 
 -- it is refused after one read each of the first k of the screens, in order
 pub record IsRefused (d : Disk) (from to : ℕ) (e : BuildFault) (done : Done) : Type 0 where
