@@ -37,12 +37,7 @@ fn is_whole(begun: &Begun) -> bool
 }
 
 /// What comes of a source that was read to its end: the image's bytes and the entry.
-fn end(
-    alloc: Global,
-    b: &Build,
-    begun: &Begun,
-    last: u16,
-) -> Result<(Vec<u8>, u16), BuildFault>
+fn end(alloc: Global, b: &Build, begun: &Begun, last: u16) -> Result<(Vec<u8>, u16), BuildFault>
     requires { Building b.now }
     ensures built { (source : List Place) → IsRead b.now begun.now source → IfOk result (λ r. IsBuilt source r.0.items r.1) }
     ensures refused { (source : List Place) → IsRead b.now begun.now source → IfErr result (λ f. IsFault 61440 source last f.screen f.offset f.cause) }

@@ -16,6 +16,8 @@ mod spelled;
 mod spot;
 mod state;
 mod take;
+#[cfg(test)]
+mod tests;
 
 pub use building::build;
 pub use cause::{BuildFault, Cause};

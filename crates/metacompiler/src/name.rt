@@ -15,10 +15,10 @@ ghost use Rattle.metacompiler.specs.declared.entry.Lead.TheVariants.{Makes, Defi
 
 use crate::cause::Cause;
 use crate::entry::{Kind, Lead, find_name};
+use crate::header::owned;
 use crate::make::{
     make_constant, make_create, make_primitive, make_variable, make_vocabulary, set_boot,
 };
-use crate::header::owned;
 use crate::spot::{Inner, Spot};
 use crate::state::{Begun, Build, Title};
 use crate::take::is_over;
