@@ -8,7 +8,8 @@ use Rattle.std.specs.Prelude.{Result, OnOk, Option, Bool, true, false, ◌&&◌}
 use Rattle.std.specs.Result.{is_err}
 use Rattle.std.proofs.lemmas.Bool.{ltb-true}
 use Rattle.block_buffers.specs.Disks.{Disk, block_at}
-use Rattle.block_buffers.specs.Calls.{Reads, Counts}
+use Rattle.block_buffers.specs.Calls.{Reads, Logs, failures}
+use Rattle.block_buffers.proofs.Failures.{succeeded}
 use Rattle.block_buffers.specs.declared.devices.DeviceFault.{DeviceFault}
 use Rattle.metacompiler.specs.declared.reading.Stop.{Stop}
 use Rattle.metacompiler.specs.Sources.{Done}
@@ -64,8 +65,8 @@ left_true : (a b : Bool) → (a && b) ≡ true → a ≡ true
 left_true true b e = refl
 left_true false b e = e
 
-pub read_done : (d : Disk) (s : ℕ) (r : Result Unit DeviceFault) (page : List ℕ) (new : Option Disk) (before after : ℕ) → is_err r ≡ false → Reads d s new page r → Counts before after r → HasRead d s (record { disk = new; before = before; after = after }) × (page ≡ block_at d.blocks s)
-read_done d s (Ok u) page new before after e x n = (record { there = ltb-true s (length d.blocks) (left_true _ _ x.0); disk = x.1; failures = n }, x.2)
+pub read_done : (d : Disk) (s : ℕ) (r : Result Unit DeviceFault) (page : List ℕ) (new : Option Disk) (before after : List Bool) → is_err r ≡ false → Reads d s new page r → Logs before after r → HasRead d s (record { disk = new; before = failures before; after = failures after }) × (page ≡ block_at d.blocks s)
+read_done d s (Ok u) page new before after e x n = (record { there = ltb-true s (length d.blocks) (left_true _ _ x.0); disk = x.1; failures = succeeded before after u n }, x.2)
 read_done d s (Err u) page new before after e x n = cc
 
 -- a screen that was read, and its words

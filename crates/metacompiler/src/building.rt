@@ -1,6 +1,7 @@
 //! A source built to an image.
 
 ghost use Rattle.std.specs.Prelude.{◌≡◌, ◌≤◌, ◌⊎◌, [], List, Some, IfOk, IfErr, length, vec_len};
+ghost use Rattle.block_buffers.specs.Calls.{failures};
 ghost use Rattle.block_buffers.specs.Disks.{Disk};
 ghost use Rattle.metacompiler.specs.Places.{Place};
 ghost use Rattle.metacompiler.specs.Faults.{IsFault};
@@ -81,8 +82,8 @@ pub fn build<D: Device>(
     from: u16,
     to: u16,
 ) -> Result<Image, BuildFault>
-    ensures built { (d : Disk) → D.disk device.old ≡ Some d → IfOk result (λ i. IsBuiltOf d from to i (record { disk = D.disk device.new; before = D.failures device.old; after = D.failures device.new })) }
-    ensures refused { (d : Disk) → D.disk device.old ≡ Some d → IfErr result (λ e. IsRefused d from to e (record { disk = D.disk device.new; before = D.failures device.old; after = D.failures device.new })) }
+    ensures built { (d : Disk) → D.disk device.old ≡ Some d → IfOk result (λ i. IsBuiltOf d from to i (record { disk = D.disk device.new; before = failures (D.calls device.old); after = failures (D.calls device.new) })) }
+    ensures refused { (d : Disk) → D.disk device.old ≡ Some d → IfErr result (λ e. IsRefused d from to e (record { disk = D.disk device.new; before = failures (D.calls device.old); after = failures (D.calls device.new) })) }
 {
     let mut compilation = match begin(alloc) {
         Ok(compilation) => compilation,

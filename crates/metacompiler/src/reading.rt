@@ -1,6 +1,7 @@
 //! The screens of a source, read one at a time, and their words taken one by one.
 
 ghost use Rattle.std.specs.Prelude.{◌≡◌, ◌<◌, ◌++◌, [], ◌∷◌, List, Some, length, OnOk};
+ghost use Rattle.block_buffers.specs.Calls.{failures};
 ghost use Rattle.block_buffers.specs.Disks.{Disk};
 ghost use Rattle.source_words.specs.Words.{SourceWord, screen_words};
 ghost use Rattle.source_words.specs.Scanned.{source_word};
@@ -110,7 +111,7 @@ fn take_screen<D: Device>(
     mode: Mode,
 ) -> Result<Mode, Stop>
     requires { IsHeld compilation.old }
-    ensures taken { (d : Disk) → D.disk device.old ≡ Some d → (front : List SourceWord) → Holds compilation.old front → TakesScreen d screen mode front result compilation.old compilation.new (record { disk = D.disk device.new; before = D.failures device.old; after = D.failures device.new }) }
+    ensures taken { (d : Disk) → D.disk device.old ≡ Some d → (front : List SourceWord) → Holds compilation.old front → TakesScreen d screen mode front result compilation.old compilation.new (record { disk = D.disk device.new; before = failures (D.calls device.old); after = failures (D.calls device.new) }) }
     ensures held { OnOk result (IsHeld compilation.new) }
 {
     if u32::from(screen) >= device.count() {
@@ -130,7 +131,7 @@ pub fn take_screens<D: Device>(
     to: u16,
 ) -> Result<(), Stop>
     requires { Holds compilation.old [] }
-    ensures taken { (d : Disk) → D.disk device.old ≡ Some d → TakesScreens d from to result compilation.new (record { disk = D.disk device.new; before = D.failures device.old; after = D.failures device.new }) }
+    ensures taken { (d : Disk) → D.disk device.old ≡ Some d → TakesScreens d from to result compilation.new (record { disk = D.disk device.new; before = failures (D.calls device.old); after = failures (D.calls device.new) }) }
     ensures held { OnOk result (IsHeld compilation.new) }
 {
     let mut page = [b' '; BLOCK_SIZE];

@@ -9,7 +9,7 @@ use Rattle.metacompiler.proofs.reading.take_screen.Goals as goal
 pub returns-clause-taken : goal.returns-clause-taken
 returns-clause-taken g c = λ d e front h.
     let t = subst (λ o. IfSome o (λ x. Reads x c.args.screen (g.D.Device.disk c.read.new.self) c.read.new.page c.read.result)) e c.read.ensures.told in
-    let x = read_done d c.args.screen c.read.result c.read.new.page (g.D.Device.disk c.read.new.self) (g.D.Device.failures c.args.device.now) (g.D.Device.failures c.read.new.self) (sym c.is_err.ensures.value ∙ c.if-is_err.false) t c.read.ensures.counted in
+    let x = read_done d c.args.screen c.read.result c.read.new.page (g.D.Device.disk c.read.new.self) (g.D.Device.calls c.args.device.now) (g.D.Device.calls c.read.new.self) (sym c.is_err.ensures.value ∙ c.if-is_err.false) t c.read.ensures.logged in
     screen_taken d c.args.screen c.args.mode front c.take_words.result c.args.compilation.now c.take_words.new.compilation _ h x.0
     (subst (λ p. TakesAll c.args.mode front (screen_words c.args.mode c.args.screen p) c.take_words.result c.take_words.new.compilation) x.1 (c.take_words.ensures front h))
 
