@@ -9,3 +9,4 @@ pub mod Turns
 pub mod ScreenLines
 pub mod Slots
 pub mod Asking
+pub mod Failures

@@ -1,5 +1,5 @@
 -- What a call does to a device.
-use Rattle.std.specs.Prelude.{◌≡◌, ℕ, Bool, true, false, List, [], ◌∷◌, ◌++◌, Option, Some, Result, Ok, Err, IfSome, IsSomeAnd}
+use Rattle.std.specs.Prelude.{◌≡◌, ℕ, Bool, true, false, List, [], ◌∷◌, ◌++◌, Option, Some, Result, Ok, Err, IfSome, IsSomeAnd, count_by}
 use Rattle.block_buffers.specs.declared.devices.DeviceFault.{DeviceFault}
 use Rattle.block_buffers.specs.Disks.{Disk, succeeds, block_at, called, written}
 
@@ -7,6 +7,10 @@ use Rattle.block_buffers.specs.Disks.{Disk, succeeds, block_at, called, written}
 abbrev pub Logs : List Bool → List Bool → Result Unit DeviceFault → Type 0
 Logs old new (Ok _) = new ≡ old ++ (false ∷ [])
 Logs old new (Err _) = new ≡ old ++ (true ∷ [])
+
+-- how many calls failed
+unfoldable pub failures : List Bool → ℕ
+failures calls = count_by (λ failed. failed) calls
 
 -- a read that succeeds gives the block's bytes; no read changes a block
 abbrev pub Reads : Disk → ℕ → Option Disk → List ℕ → Result Unit DeviceFault → Type 0

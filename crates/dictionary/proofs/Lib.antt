@@ -13,3 +13,4 @@ pub mod Kept
 pub mod Searches
 pub mod Fronted
 pub mod Laid
+pub mod Soughts

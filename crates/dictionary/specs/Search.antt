@@ -1,4 +1,4 @@
-use Rattle.std.specs.Prelude.{ℕ, ◌+◌, ◌*◌, ◌%◌, List, ◌==◌, ◌≡◌, ◌<◌, if◌then◌else◌, Bool, ◌&&◌, ◌||◌, not, length, slice_index, Option, Some, None, Result, Ok, Err, IsTrue, IsFalse}
+use Rattle.std.specs.Prelude.{ℕ, ◌+◌, ◌*◌, ◌%◌, List, ◌==◌, ◌≡◌, ◌<◌, if◌then◌else◌, Bool, ◌&&◌, ◌||◌, not, length, slice_index, find, Option, Some, None, Result, Ok, Err, IsTrue, IsFalse}
 use Rattle.cells.specs.Cell.{wrap}
 use Rattle.memory.specs.Bytes.{cell}
 use Rattle.memory.specs.declared.system.TheConstants.{CONTEXT, FORTH_VOC}
@@ -67,12 +67,28 @@ pub data Sought : Type 0 where
   Nowhere : Sought
   TooLong : Sought
 
+-- the search of a name in one vocabulary alone
+unfoldable pub sought_in : List ℕ → ℕ → List ℕ → Sought
+sought_in m voc name =
+    let head = cell m (head_of voc name) in
+    elim (find (is_named m name) (chain m 32768 head)) [
+      | Some l ↦ Found l
+      | None ↦ if is_longer m 32768 head then TooLong else Nowhere
+    ]
+
+-- where that came to none, FORTH is searched
+abbrev pub or_in_forth : List ℕ → List ℕ → Sought → Sought
+or_in_forth m name Nowhere = sought_in m FORTH_VOC name
+or_in_forth m name (Found l) = Found l
+or_in_forth m name TooLong = TooLong
+
+-- the machine's own search, in CONTEXT and then in FORTH. For the empty name no chain is walked
+unfoldable pub sought : List ℕ → List ℕ → Sought
+sought m name = if length name == 0 then Nowhere else or_in_forth m name (sought_in m (cell m CONTEXT) name)
+
+-- the same by what a search gives, 0 for none, and whether a chain was too long
 abbrev pub sought_as : ℕ → Bool → Sought
 sought_as l long = if long then TooLong else if l == 0 then Nowhere else Found l
-
--- the machine's own search
-unfoldable pub sought : List ℕ → List ℕ → Sought
-sought m name = sought_as (found m name) (is_too_long m name)
 
 -- a name's chain in a vocabulary, cut after 32,769 members
 unfoldable pub chain_in : List ℕ → ℕ → List ℕ → List ℕ

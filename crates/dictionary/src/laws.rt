@@ -6,7 +6,7 @@ ghost use Rattle.memory.specs.Bytes.{cell};
 ghost use Rattle.memory.specs.declared.system.TheConstants.{FORTH_VOC, VOC_LINK};
 ghost use Rattle.dictionary.specs.Header.{count_byte, name_length, is_hidden, is_immediate, is_named};
 ghost use Rattle.dictionary.specs.Chain.{IsNewest};
-ghost use Rattle.dictionary.specs.Search.{chain_in, searched_in, goes_on_in, found_in, is_too_long_in, found_from, is_too_long_from};
+ghost use Rattle.dictionary.specs.Search.{chain_in, searched_in, goes_on_in, found_in, is_too_long_in, found_from, is_too_long_from, found, is_too_long, sought_in, sought, sought_as};
 ghost use Rattle.dictionary.specs.Adding.{is_name, new_count};
 ghost use Rattle.dictionary.specs.Newest.{revealed};
 ghost use Rattle.dictionary.specs.Order.{members, all_members, headers};
@@ -21,6 +21,13 @@ pub fn search_law()
     ensures forth { (m name : List ℕ) (voc : ℕ) → 0 < length name → length (chain_in m voc name) ≤ 32768
         → All (λ l. IsFalse (is_named m name l)) (chain_in m voc name)
         → found_from m voc name ≡ found_in m FORTH_VOC name }
+{}
+
+/// What a search comes to is what it gives, a header's link field or none, and whether a chain was too long: in one
+/// vocabulary alone, and the machine's own.
+pub fn sought_law()
+    ensures alone { (m name : List ℕ) (voc : ℕ) → sought_in m voc name ≡ sought_as (found_in m voc name) (is_too_long_in m voc name) }
+    ensures machine { (m name : List ℕ) → sought m name ≡ sought_as (found m name) (is_too_long m name) }
 {}
 
 /// A search looks at 32,768 members of a chain: where these are the same in two memories and have the same names, and

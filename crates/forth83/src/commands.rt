@@ -1,7 +1,10 @@
 //! The subcommands, over values.
 
-ghost use Rattle.std.specs.Prelude.{◌≡◌, false};
+ghost use Rattle.std.specs.Prelude.{◌≡◌, ◌<◌, false, IsNone, MatchOption};
+ghost use Rattle.forth83.specs.Kernel.{filled, blocks_of};
 
+use crate::kernel::kernel_file;
+use crate::kernel_text::TEXT;
 use block_buffers::Device;
 use image_loader::{Image, ImageFault};
 use inner_interpreter::{Input, Machine, Output, Stop, run, send_all};
@@ -15,7 +18,10 @@ pub struct Ended {
     pub file: Option<Vec<u8>>,
 }
 
-fn end_with(status: u8) -> Ended {
+fn end_with(status: u8) -> Ended
+    ensures status { result.status ≡ status }
+    ensures file { IsNone result.file }
+{
     Ended { status, file: None }
 }
 
@@ -29,7 +35,10 @@ fn status_of(stop: Stop) -> u8 {
 }
 
 /// Prints a line, and ends with the status, or with 5 where the line can't be written.
-fn print<W: Output>(writer: &mut W, line: &[u8], status: u8) -> Ended {
+fn print<W: Output>(writer: &mut W, line: &[u8], status: u8) -> Ended
+    ensures status { 0 < status → 0 < result.status }
+    ensures file { IsNone result.file }
+{
     if send_all(writer, line).is_err() {
         return end_with(5);
     }
@@ -39,7 +48,10 @@ fn print<W: Output>(writer: &mut W, line: &[u8], status: u8) -> Ended {
     }
 }
 
-fn print_out_of_memory<W: Output>(writer: &mut W) -> Ended {
+fn print_out_of_memory<W: Output>(writer: &mut W) -> Ended
+    ensures status { 0 < result.status }
+    ensures file { IsNone result.file }
+{
     print(writer, b"out of memory\n", 1)
 }
 
@@ -54,6 +66,20 @@ fn refuse_image<W: Output>(alloc: Global, fault: ImageFault, writer: &mut W) -> 
     }
     match refusal(alloc, fault) {
         Ok(line) => print(writer, line.as_str().as_bytes(), 1),
+        Err(_) => print_out_of_memory(writer),
+    }
+}
+
+/// Makes the block file with the kernel's sources, of 64 blocks. Status 0; without a file 1, where memory ran out, or 5,
+/// where that can't be printed.
+pub fn do_kernel<W: Output>(alloc: Global, writer: &mut W) -> Ended
+    ensures { MatchOption result.file (0 < result.status) (λ file. (result.status ≡ 0) × (file.items ≡ filled 65536 (blocks_of TEXT.now))) }
+{
+    match kernel_file(alloc) {
+        Ok(file) => Ended {
+            status: 0,
+            file: Some(file),
+        },
         Err(_) => print_out_of_memory(writer),
     }
 }

@@ -6,7 +6,7 @@ ghost use Rattle.forth83.specs.Streams.{IsApart};
 use std::alloc::AllocError;
 use std::fs::{File, OpenOptions};
 use std::io;
-use std::io::{ErrorKind, Read};
+use std::io::{ErrorKind, Read, Write};
 use std::os::fd::{AsRawFd, RawFd};
 
 /// The greatest number that a standard stream has: standard error's.
@@ -54,4 +54,14 @@ pub fn read_image(rt: &HostRuntime, name: &str) -> Result<Option<Vec<u8>>, Alloc
     }
     bytes.truncate(length);
     Ok(Some(bytes))
+}
+
+/// Makes a file anew, with these bytes. An error: it can't be opened, or can't be written whole.
+pub fn write_file(rt: &HostRuntime, name: &str, bytes: &[u8]) -> io::Result<()> {
+    let mut file = open_apart(
+        rt,
+        OpenOptions::new().write(true).create(true).truncate(true),
+        name,
+    )?;
+    file.write_all(bytes)
 }

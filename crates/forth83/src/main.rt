@@ -10,17 +10,22 @@ mod file_devices;
 #[cfg(test)]
 mod file_tests;
 mod files;
+mod kernel;
+#[cfg(test)]
+mod kernel_tests;
+mod kernel_text;
 #[cfg(test)]
 mod tests;
 mod words;
 
 use block_buffers::MemoryDevice;
-use commands::do_run;
+use commands::{Ended, do_kernel, do_run};
 use file_devices::open_device;
-use files::read_image;
+use files::{read_image, write_file};
 use inner_interpreter::{Reading, Writing};
 use std::io;
 use std::io::{BufReader, BufWriter, IsTerminal, Stdout};
+use std::os::fd::AsFd;
 use std::process::ExitCode;
 use words::{Parsed, Words};
 
@@ -43,14 +48,35 @@ fn out_of_memory<R: Print>(rt: &R) -> u8 {
 /// How many bytes that are shown are gathered before they are written into a file or a pipe.
 const GATHERED_BYTES: usize = 8192;
 
-/// Standard output. What a terminal is shown is written at once, so that a run can be watched, and stopped at any time.
+/// Whether standard output can't be written at all.
+fn is_closed(rt: &HostRuntime) -> bool {
+    rt.stdout().as_fd().try_clone_to_owned().is_err()
+}
+
+/// Standard output. What a terminal is shown is written at once, so that a run can be watched, and stopped at any time;
+/// where it is closed, that too is seen at once.
 fn standard_output(rt: &HostRuntime) -> io::Result<BufWriter<Stdout>> {
-    let gathered = if rt.stdout().is_terminal() {
+    let gathered = if rt.stdout().is_terminal() || is_closed(rt) {
         0
     } else {
         GATHERED_BYTES
     };
     BufWriter::with_capacity(rt.alloc(), gathered, rt.stdout())
+}
+
+/// Writes the new file that `kernel` names.
+fn write_kernel(rt: &HostRuntime, blocks: &str) -> u8 {
+    let Ok(writer) = standard_output(rt) else {
+        return out_of_memory(rt);
+    };
+    let Ended { status, file } = do_kernel(rt.alloc(), &mut Writing::new(writer));
+    let Some(file) = file else {
+        return status;
+    };
+    match write_file(rt, blocks, file.as_slice()) {
+        Ok(()) => status,
+        Err(_) => cannot_open(rt, blocks),
+    }
 }
 
 /// Opens what `run` names, and runs the image over standard input and output.
@@ -100,6 +126,7 @@ fn main(rt: HostRuntime) -> ExitCode {
     let status = match words::parse(&rt) {
         Parsed::Exit(status) => status,
         Parsed::OutOfMemory => out_of_memory(&rt),
+        Parsed::Words(Words::Kernel { blocks }) => write_kernel(&rt, blocks.as_str()),
         Parsed::Words(
             Words::Run {
                 image,

@@ -14,6 +14,9 @@ const VERSION: &str = "0.1.0";
 /// A subcommand with its words.
 #[derive(Drop)]
 pub enum Words {
+    Kernel {
+        blocks: String,
+    },
     Run {
         image: String,
         blocks: Option<String>,
@@ -28,6 +31,16 @@ pub enum Parsed {
     /// `clap`'s text was printed; the program ends with this status.
     Exit(u8),
     OutOfMemory,
+}
+
+fn kernel_command<'a>(alloc: Global) -> Result<Command<'a>, AllocError> {
+    Command::new(alloc, "kernel")
+        .about("Write a new file of blocks with the sources of a Forth-83 system")
+        .arg(
+            Arg::new(alloc, "BLOCKS")
+                .required(true)
+                .help("The new file"),
+        )
 }
 
 fn run_command<'a>(alloc: Global) -> Result<Command<'a>, AllocError> {
@@ -54,6 +67,7 @@ fn command<'a>(alloc: Global) -> Result<Command<'a>, AllocError> {
         .version(VERSION)
         .subcommand_required(true)
         .arg_required_else_help(true)
+        .subcommand(kernel_command(alloc)?)?
         .subcommand(run_command(alloc)?)
 }
 
@@ -64,10 +78,14 @@ fn copied(alloc: Global, matches: &ArgMatches<'_>, id: &str) -> Result<Option<St
     }
 }
 
-fn words_of(alloc: Global, matches: &ArgMatches<'_>) -> Result<Option<Words>, AllocError> {
-    let Some((_name, inner)) = matches.subcommand() else {
-        return Ok(None);
-    };
+fn kernel_words(alloc: Global, inner: &ArgMatches<'_>) -> Result<Option<Words>, AllocError> {
+    match copied(alloc, inner, "BLOCKS")? {
+        None => Ok(None),
+        Some(blocks) => Ok(Some(Words::Kernel { blocks })),
+    }
+}
+
+fn run_words(alloc: Global, inner: &ArgMatches<'_>) -> Result<Option<Words>, AllocError> {
     let Some(image) = copied(alloc, inner, "IMAGE")? else {
         return Ok(None);
     };
@@ -78,6 +96,14 @@ fn words_of(alloc: Global, matches: &ArgMatches<'_>) -> Result<Option<Words>, Al
         blocks,
         limit,
     }))
+}
+
+fn words_of(alloc: Global, matches: &ArgMatches<'_>) -> Result<Option<Words>, AllocError> {
+    match matches.subcommand() {
+        None => Ok(None),
+        Some(("kernel", inner)) => kernel_words(alloc, inner),
+        Some((_, inner)) => run_words(alloc, inner),
+    }
 }
 
 /// Prints a text of `clap`'s, to standard output like everything that the program prints.

@@ -5,6 +5,7 @@
 ghost use Rattle.std.specs.Prelude.{◌≡◌};
 ghost use Rattle.inner_interpreter.specs.Tick.{taken, executed, thread};
 
+use plain_rows::faults::{DATA_OVERFLOW, RETURN_OVERFLOW};
 use plain_rows::parts::{Outcome, Parts};
 use primitives::row;
 
@@ -31,10 +32,10 @@ fn enter_thread(parts: &mut Parts, at: u16, token: u16) -> Outcome
     ensures { (parts.new, result) ≡ thread at token parts.old }
 {
     if parts.values.is_full() {
-        return Outcome::Fault(2);
+        return Outcome::Fault(DATA_OVERFLOW);
     }
     if parts.returns.push(parts.ip).is_err() {
-        return Outcome::Fault(4);
+        return Outcome::Fault(RETURN_OVERFLOW);
     }
     parts.values.put(token.wrapping_add(2));
     parts.ip = at;

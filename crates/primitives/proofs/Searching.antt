@@ -1,8 +1,9 @@
 -- What the code's search answers, and how rows go on with it.
-use Rattle.std.proofs.Common.{◌≡◌, ℕ, ◌<◌, ◌==◌, Option, Some, None, Bool, true, false, refl, arith, if◌then◌else◌}
+use Rattle.std.proofs.Common.{◌≡◌, ℕ, ◌<◌, ◌==◌, List, Option, Some, None, Bool, true, false, refl, arith, sym, subst, ap, ◌∙◌, if◌then◌else◌}
 use Rattle.std.specs.Prelude.{Result, Ok, Err}
 use Rattle.dictionary.specs.declared.fault.ChainTooLong.{ChainTooLong}
-use Rattle.dictionary.specs.Search.{Sought, Found, Nowhere, TooLong, sought_as, IsSought}
+use Rattle.dictionary.specs.Search.{found_in, is_too_long_in, found, is_too_long, Sought, Found, Nowhere, TooLong, sought_in, sought, sought_as, IsSought}
+use Rattle.dictionary.proofs.Soughts.{sought_in_is, sought_is}
 use Rattle.plain_rows.specs.Whole.{Whole}
 use Rattle.plain_rows.specs.Row.{After, fault}
 use Rattle.primitives.specs.Names.{searches, IsSoughtAs}
@@ -12,10 +13,13 @@ some_header : (l : ℕ) (long : Bool) → long ≡ false → (b : Bool) → (l =
 some_header l long e true q h = absurd (grind arith)
 some_header l long e false q h = rw e refl
 
-pub sought_by : (l : ℕ) (long : Bool) (r : Result (Option ℕ) ChainTooLong) → IsSought l long r → IsSoughtAs (sought_as l long) r
-sought_by l long (Ok (Some w)) h = rw h.0 (some_header l long h.2 (l == 0) refl (grind arith))
-sought_by l long (Ok None) h = rw (h.0, h.1) refl
-sought_by l long (Err e) h = rw h.1 refl
+answers_as : (l : ℕ) (long : Bool) (r : Result (Option ℕ) ChainTooLong) → IsSought l long r → IsSoughtAs (sought_as l long) r
+answers_as l long (Ok (Some w)) h = rw h.0 (some_header l long h.2 (l == 0) refl (grind arith))
+answers_as l long (Ok None) h = rw (h.0, h.1) refl
+answers_as l long (Err e) h = rw h.1 refl
+
+pub sought_by : (m name : List ℕ) (r : Result (Option ℕ) ChainTooLong) → IsSought (found m name) (is_too_long m name) r → IsSoughtAs (sought m name) r
+sought_by m name r h = subst (λ (x : Sought). IsSoughtAs x r) (sym (sought_is m name)) (answers_as (found m name) (is_too_long m name) r h)
 
 pub searches_found : (s : Whole) (x : Sought) (l : ℕ) (nowhere : After) (found : ℕ → After) → x ≡ Found l → searches s x nowhere found ≡ found l
 unfolding searches
@@ -28,5 +32,17 @@ searches_nowhere s x nowhere found e = rw e refl
 pub searches_long : (s : Whole) (x : Sought) (nowhere : After) (found : ℕ → After) → x ≡ TooLong → searches s x nowhere found ≡ fault s 11
 unfolding searches
 searches_long s x nowhere found e = rw e refl
+
+-- the same in one vocabulary alone
+searches_as : (s : Whole) (l : ℕ) (long b : Bool) (nowhere : After) (found : ℕ → After) → searches s (if long then TooLong else if b then Nowhere else Found l) nowhere found ≡ (if long then fault s 11 else if b then nowhere else found l)
+unfolding searches
+searches_as s l true b nowhere found = refl
+searches_as s l false true nowhere found = refl
+searches_as s l false false nowhere found = refl
+
+pub searches_in : (s : Whole) (m name : List ℕ) (voc : ℕ) (nowhere : After) (found : ℕ → After) → searches s (sought_in m voc name) nowhere found ≡ (if is_too_long_in m voc name then fault s 11 else if found_in m voc name == 0 then nowhere else found (found_in m voc name))
+searches_in s m name voc nowhere found =
+    ap (λ (x : Sought). searches s x nowhere found) (sought_in_is m voc name)
+    ∙ searches_as s (found_in m voc name) (is_too_long_in m voc name) (found_in m voc name == 0) nowhere found
 
 pub ruleset searching = (searches_found, searches_nowhere, searches_long)

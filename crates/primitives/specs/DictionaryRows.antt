@@ -5,13 +5,13 @@ use Rattle.dictionary.specs.Forgetting.{cuts}
 use Rattle.dictionary.specs.Header.{compilation_address, is_immediate}
 use Rattle.dictionary.specs.Newest.{with_immediate}
 use Rattle.dictionary.specs.Order.{is_beyond_limit}
-use Rattle.dictionary.specs.Search.{sought, found_in, is_too_long_in}
+use Rattle.dictionary.specs.Search.{sought_in, sought}
 use Rattle.input_source.specs.declared.words.Word.{Word}
 use Rattle.memory.specs.Bytes.{cell, put_cell, Write, PutCell, written}
 use Rattle.memory.specs.declared.system.TheConstants.{TO_IN, DP, CONTEXT, CURRENT, VOC_LINK, FENCE}
 use Rattle.number_text.specs.Picture.{pad}
 use Rattle.plain_rows.specs.Whole.{Whole}
-use Rattle.plain_rows.specs.Row.{After, done, takes1, needs, leaves, room}
+use Rattle.plain_rows.specs.Row.{After, done, fault, takes1, needs, leaves, room}
 use Rattle.plain_rows.specs.declared.faults.TheConstants.{CHAIN_TOO_LONG, NOT_FOUND, BAD_LENGTH}
 use Rattle.primitives.specs.Names.{counted_string, reads_name, searches, finds_word, admits_header}
 use Rattle.stacks.specs.Cells.{◌▸◌}
@@ -49,14 +49,13 @@ immediate s = done (record s { memory = with_immediate s.memory })
 abbrev pub forget : Whole → After
 forget s = reads_name s (λ t w name.
     let m = t.memory in
-    let l = found_in m (cell m CURRENT) name in
-    let begins = difference l 2 in
     needs t BAD_LENGTH (not (w.len == 0))
-    (needs t CHAIN_TOO_LONG (not (is_too_long_in m (cell m CURRENT) name))
-    (needs t NOT_FOUND (not (l == 0))
-    (needs t NOT_FOUND (nat_le (cell m FENCE) begins)
+    (searches t (sought_in m (cell m CURRENT) name)
+    (fault t NOT_FOUND)
+    (λ l. let begins = difference l 2 in
+    needs t NOT_FOUND (nat_le (cell m FENCE) begins)
     (needs t CHAIN_TOO_LONG (not (is_beyond_limit m))
-    (done (record t { memory = written m (PutCell TO_IN w.next ∷ cuts m begins) })))))))
+    (done (record t { memory = written m (PutCell TO_IN w.next ∷ cuts m begins) }))))))
 
 -- 153 >BODY ( w -- w+2 )
 abbrev pub to_body : Whole → After

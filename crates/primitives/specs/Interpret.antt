@@ -34,11 +34,11 @@ interpret s = reads_name s (λ t word name.
     else searches t (sought m name)
     (needs t BAD_BASE (has_base m)
     (needs t NOT_FOUND (is_number base name)
-    (if is_double name then
-    if executes then leaves_past t word (t.values ▸ n % 65536 ▸ n / 65536 ▸ 65535)
-    else compiles_past t word (literal_code m (n % 65536) ++ literal_code m (n / 65536))
-    else if executes then leaves_past t word (t.values ▸ n % 65536 ▸ 65535)
-    else compiles_past t word (literal_code m (n % 65536)))))
+    (if is_double name
+    then (if executes then leaves_past t word (t.values ▸ n % 65536 ▸ n / 65536 ▸ 65535)
+    else compiles_past t word (literal_code m (n % 65536) ++ literal_code m (n / 65536)))
+    else (if executes then leaves_past t word (t.values ▸ n % 65536 ▸ 65535)
+    else compiles_past t word (literal_code m (n % 65536))))))
     (λ l. let w = compilation_address m l in
     if is_immediate m l || executes then leaves_past t word (t.values ▸ w ▸ 1)
     else compiles_past t word (cell_bytes w)))

@@ -123,7 +123,7 @@ pub fn immediate(parts: &mut Parts) -> Outcome
 }
 
 /// 152 `FORGET` ( -- )
-#[tactic(auto, unfolding(dictionary::specs::Forgetting::target, dictionary::specs::Forgetting::is_missing_or_fenced, memory::specs::Bytes::written))]
+#[tactic(auto, using(crate::proofs::Searching::searches_in), unfolding(dictionary::specs::Forgetting::target, dictionary::specs::Forgetting::is_missing_or_fenced, memory::specs::Bytes::written))]
 pub fn forget(parts: &mut Parts) -> Outcome
     ensures { (parts.new, result) ≡ forget parts.old }
 {

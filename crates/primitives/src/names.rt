@@ -15,7 +15,7 @@ use memory::Memory;
 use number_text::{Number, number};
 
 /// The link field of the header that a name means.
-#[tactic(auto, using(crate::proofs::Searching::sought_by), unfolding(dictionary::specs::Search::sought))]
+#[tactic(auto, using(crate::proofs::Searching::sought_by))]
 fn sought_name(memory: &Memory, name: &[u8]) -> Result<Option<u16>, ChainTooLong>
     ensures { IsSoughtAs (sought memory.now name.now) result }
 {

@@ -7,6 +7,7 @@ ghost use Rattle.inner_interpreter.specs.Answer.{asked_by, fits, fits_request, s
 use super::{Machine, quiet};
 use crate::act::{Act, Answer, Cause, Event, Refused, Shown};
 use memory::system::SPAN;
+use plain_rows::faults::{DATA_OVERFLOW, DATA_UNDERFLOW, READ_FAILED, WRITE_FAILED};
 use plain_rows::parts::{Request, Span};
 
 /// Whether a line's bytes fit a request for at most `n`.
@@ -93,7 +94,7 @@ impl Machine {
     {
         self.wait = None;
         if self.parts.values.push(u16::from(byte)).is_err() {
-            return self.fault(Shown::Nothing, 2);
+            return self.fault(Shown::Nothing, DATA_OVERFLOW);
         }
         quiet()
     }
@@ -131,7 +132,7 @@ impl Machine {
     {
         self.wait = None;
         let Some((at, _count)) = self.parts.values.top2() else {
-            return self.fault(Shown::Nothing, 1);
+            return self.fault(Shown::Nothing, DATA_UNDERFLOW);
         };
         let count = bytes.len() as u16;
         self.parts.values.lower(2);
@@ -156,7 +157,7 @@ impl Machine {
             Answer::ReadOk(page) => Ok(self.bring(block, token, page)),
             Answer::ReadFault => {
                 self.wait = None;
-                Ok(self.fault(Shown::Nothing, 9))
+                Ok(self.fault(Shown::Nothing, READ_FAILED))
             }
             _ => Err(Refused::NotAsked),
         }
@@ -196,7 +197,7 @@ impl Machine {
             }
             Answer::WriteFault => {
                 self.wait = None;
-                Ok(self.fault(Shown::Nothing, 10))
+                Ok(self.fault(Shown::Nothing, WRITE_FAILED))
             }
             _ => Err(Refused::NotAsked),
         }

@@ -1,0 +1,11 @@
+pub mod Cells
+pub mod Reading
+pub mod Laying
+pub mod Taking
+pub mod Whole
+pub mod Room
+pub mod Exact
+pub mod Unique
+pub mod Flat
+pub mod Bytes
+pub mod Spelling

@@ -1,0 +1,123 @@
+-- A source has one first fault.
+use Rattle.std.proofs.Common.{◌≡◌, ℕ, ◌<◌, ◌⊎◌, inl, inr, List, [], ◌∷◌, ◌++◌, length, zero, suc, refl, sym, ap, ◌∙◌, subst, arith, append_assoc, append-nil}
+use Rattle.colon_bodies.specs.declared.words.Half.TheVariants.{Free}
+use Rattle.colon_bodies.specs.declared.fault.BodyCause.{BodyCause}
+use Rattle.colon_bodies.specs.declared.fault.BodyCause.TheVariants as r
+use Rattle.colon_bodies.specs.Tokens.{Token, laid, AreShort}
+use Rattle.colon_bodies.specs.Tree.{Empty}
+use Rattle.colon_bodies.specs.Rules.{AreKnown}
+use Rattle.colon_bodies.specs.Faults.{IsFront, Applies, rank, FirstCause, IsFault}
+use Rattle.colon_bodies.specs.Open.{Top}
+use Rattle.colon_bodies.proofs.Reading.{accept, accept_all}
+use Rattle.colon_bodies.proofs.Taking.{laid-append}
+use Rattle.colon_bodies.proofs.Exact.{two_cuts, accept_suits, well_placed, short_front, short_last, known_front, known_last}
+
+-- within words with which nothing is wrong, no word has a cause
+pub front_clean : (rt : ℕ → ℕ) (at limit : ℕ) (before rest : List Token) (w : Token) (cause : BodyCause) → IsFront rt at limit (before ++ w ∷ rest) → Applies rt at limit cause before w → cause ≡ r.Memory
+front_clean rt at limit before rest w r.Memory f a = refl
+front_clean rt at limit before rest w r.Misplaced f a =
+    let b = f.begins in
+    let q : (before ++ w ∷ rest) ++ b.more ≡ (before ++ w ∷ []) ++ (rest ++ b.more) = simp append_assoc in
+    let e = b.is ∙ q in
+    absurd (well_placed rt at limit before w (accept_suits before Top Empty Free w (rest ++ b.more) b.body (ap (accept Top Empty Free) (sym (e ∙ append_assoc before (w ∷ []) (rest ++ b.more))) ∙ accept_all b.body)) (record { body = b.body; more = rest ++ b.more; is = e; shallow = b.shallow }) a)
+front_clean rt at limit before rest w r.Unbalanced f a =
+    let b = f.begins in
+    let q : (before ++ w ∷ rest) ++ b.more ≡ (before ++ w ∷ []) ++ (rest ++ b.more) = simp append_assoc in
+    absurd (a (record { body = b.body; more = rest ++ b.more; is = b.is ∙ q }))
+front_clean rt at limit before rest w r.Unknown f a =
+    absurd (a (known_last rt before w (known_front rt (before ++ w ∷ []) rest (subst (λ l. AreKnown rt l) (sym (append_assoc before (w ∷ []) rest)) f.known))))
+front_clean rt at limit before rest w r.BadName f a =
+    absurd (a (short_last before w (short_front (before ++ w ∷ []) rest (subst (λ l. AreShort l) (sym (append_assoc before (w ∷ []) rest)) f.short))))
+front_clean rt at limit before rest w r.Full f a =
+    let l = ap laid (sym (append_assoc before (w ∷ []) rest)) ∙ laid-append (before ++ w ∷ []) rest in
+    let room' = f.room in
+    absurd (omega (arith, l, room', a))
+front_clean rt at limit before rest w r.EndsInside f a = absurd a
+
+-- a fault at a word
+record AtWord (rt : ℕ → ℕ) (at limit : ℕ) (source : List Token) (place : ℕ) (cause : BodyCause) : Type 0 where
+  before : List Token
+  word : Token
+  after : List Token
+  is : source ≡ before ++ word ∷ after
+  place_is : place ≡ length before
+  front : IsFront rt at limit before
+  first : FirstCause rt at limit cause before word
+
+abbrev View : (ℕ → ℕ) → ℕ → ℕ → List Token → ℕ → BodyCause → Type 0
+View rt at limit source place cause = (cause ≡ r.Memory) ⊎ ((cause ≡ r.EndsInside) × (place ≡ length source) × IsFront rt at limit source) ⊎ AtWord rt at limit source place cause
+
+view : (rt : ℕ → ℕ) (at limit : ℕ) (source : List Token) (place : ℕ) (cause : BodyCause) → IsFault rt at limit source place cause → View rt at limit source place cause
+view rt at limit source place r.Memory f = inl refl
+view rt at limit source place r.EndsInside f = inr (inl (refl, f.0, f.1))
+view rt at limit source place c f = inr (inr (record { before = f.0; word = f.1; after = f.2; is = f.3; place_is = f.4; front = f.5; first = f.6 }))
+
+rank_same : (c d : BodyCause) → rank c ≡ rank d → c ≡ d
+rank_same r.Memory r.Memory e = refl
+rank_same r.Misplaced r.Misplaced e = refl
+rank_same r.Unbalanced r.Unbalanced e = refl
+rank_same r.Unknown r.Unknown e = refl
+rank_same r.BadName r.BadName e = refl
+rank_same r.Full r.Full e = refl
+rank_same r.EndsInside r.EndsInside e = refl
+rank_same _ _ e = absurd (omega (arith, e))
+
+ranked : (c : BodyCause) → (c ≡ r.Memory) ⊎ (0 < rank c)
+ranked r.Memory = inl refl
+ranked _ = inr (omega arith)
+
+order : (m n : ℕ) → (m < n) ⊎ (n < m) ⊎ (m ≡ n)
+order zero zero = inr (inr refl)
+order zero (suc n) = inl (omega arith)
+order (suc m) zero = inr (inl (omega arith))
+order (suc m) (suc n) = elim (order m n) [ inl a ↦ inl (omega arith) | inr (inl a) ↦ inr (inl (omega arith)) | inr (inr a) ↦ inr (inr (ap suc a)) ]
+
+same_cause : (rt : ℕ → ℕ) (at limit : ℕ) (before : List Token) (w : Token) (c d : BodyCause) → FirstCause rt at limit c before w → FirstCause rt at limit d before w → 0 < rank c → 0 < rank d → c ≡ d
+same_cause rt at limit before w c d f g a b =
+    elim (order (rank c) (rank d)) [
+      | inl x ↦ absurd (g.first c a x f.applies)
+      | inr (inl x) ↦ absurd (f.first d b x g.applies)
+      | inr (inr x) ↦ rank_same c d x
+    ]
+
+abbrev Same : ℕ → ℕ → BodyCause → BodyCause → Type 0
+Same p q c d = (c ≡ r.Memory) ⊎ (d ≡ r.Memory) ⊎ ((p ≡ q) × (c ≡ d))
+
+at_one_word : (rt : ℕ → ℕ) (at limit : ℕ) (source : List Token) (p q : ℕ) (c d : BodyCause) (f : AtWord rt at limit source p c) (g : AtWord rt at limit source q d) → g.before ≡ f.before → f.word ≡ g.word → Same p q c d
+at_one_word rt at limit source p q c d f g e h =
+    elim (ranked c) [
+      | inl x ↦ inl x
+      | inr x ↦ elim (ranked d) [
+        | inl y ↦ inr (inl y)
+        | inr y ↦ inr (inr (
+          f.place_is ∙ ap length (sym e) ∙ sym g.place_is,
+          same_cause rt at limit f.before f.word c d f.first (subst (λ l. FirstCause rt at limit d l f.word) e (subst (λ x. FirstCause rt at limit d g.before x) (sym h) g.first)) x y,
+        ))
+      ]
+    ]
+
+words_differ : (rt : ℕ → ℕ) (at limit : ℕ) (source : List Token) (p q : ℕ) (c d : BodyCause) (f : AtWord rt at limit source p c) (g : AtWord rt at limit source q d) (z : List Token) → g.before ≡ f.before ++ z → f.word ∷ f.after ≡ z ++ g.word ∷ g.after → Same p q c d
+words_differ rt at limit source p q c d f g [] e h = let x : f.word ≡ g.word = cc in at_one_word rt at limit source p q c d f g (e ∙ append-nil f.before) x
+words_differ rt at limit source p q c d f g (v ∷ z) e h =
+    let x : f.word ≡ v = cc in
+    inl (front_clean rt at limit f.before z f.word c (subst (λ l. IsFront rt at limit l) (e ∙ ap (λ u. f.before ++ u ∷ z) (sym x)) g.front) f.first.applies)
+
+turned : (p q : ℕ) (c d : BodyCause) → Same q p d c → Same p q c d
+turned p q c d (inl x) = inr (inl x)
+turned p q c d (inr (inl x)) = inl x
+turned p q c d (inr (inr x)) = inr (inr (sym x.0, sym x.1))
+
+by_view : (rt : ℕ → ℕ) (at limit : ℕ) (source : List Token) (p q : ℕ) (c d : BodyCause) → View rt at limit source p c → View rt at limit source q d → Same p q c d
+by_view rt at limit source p q c d (inl x) g = inl x
+by_view rt at limit source p q c d f (inl x) = inr (inl x)
+by_view rt at limit source p q c d (inr (inl x)) (inr (inl y)) = inr (inr (x.1 ∙ sym y.1, x.0 ∙ sym y.0))
+by_view rt at limit source p q c d (inr (inl x)) (inr (inr g)) = inr (inl (front_clean rt at limit g.before g.after g.word d (subst (λ l. IsFront rt at limit l) g.is x.2) g.first.applies))
+by_view rt at limit source p q c d (inr (inr f)) (inr (inl y)) = inl (front_clean rt at limit f.before f.after f.word c (subst (λ l. IsFront rt at limit l) f.is y.2) f.first.applies)
+by_view rt at limit source p q c d (inr (inr f)) (inr (inr g)) =
+    elim (two_cuts f.before (f.word ∷ f.after) g.before (g.word ∷ g.after) (sym f.is ∙ g.is)) [
+      | inl z ↦ words_differ rt at limit source p q c d f g z.0 z.1 z.2
+      | inr z ↦ turned p q c d (words_differ rt at limit source q p d c g f z.0 z.1 z.2)
+    ]
+
+pub one_fault : (rt : ℕ → ℕ) (at limit : ℕ) (source : List Token) (p q : ℕ) (c d : BodyCause) → IsFault rt at limit source p c → IsFault rt at limit source q d → (c ≡ r.Memory) ⊎ (d ≡ r.Memory) ⊎ ((p ≡ q) × (c ≡ d))
+one_fault rt at limit source p q c d f g = by_view rt at limit source p q c d (view rt at limit source p c f) (view rt at limit source q d g)

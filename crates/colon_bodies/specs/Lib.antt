@@ -1,0 +1,11 @@
+pub mod Tokens
+pub mod Tree
+pub mod Code
+pub mod Rules
+pub mod Faults
+pub mod Open
+pub mod Draft
+pub mod Plain
+pub mod Instructions
+pub mod Structures
+pub mod Found

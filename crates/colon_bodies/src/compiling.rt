@@ -1,0 +1,206 @@
+//! The one pass over the words of a body.
+
+ghost use Rattle.std.specs.Prelude.{◌≡◌, ◌≢◌, true, false, ℕ, IfOk, IfErr, map, ◌+◌, ◌<◌, ◌≤◌, ◌⊎◌, ◌^◌, List, length, slice_index};
+ghost use Rattle.colon_bodies.specs.Tree.{Body};
+ghost use Rattle.colon_bodies.specs.Tokens.{SEMI, text_control, loop_control, IsShort, control, laid};
+ghost use Rattle.colon_bodies.specs.Rules.{suits};
+ghost use Rattle.colon_bodies.specs.Faults.{IsFault};
+ghost use Rattle.colon_bodies.specs.Open.{Outer, read, past, open_depth};
+ghost use Rattle.colon_bodies.specs.Draft.{token, After, Drafted, Drafts, Drafting, Taken, Ended, Compiled, jump_by};
+ghost use Rattle.colon_bodies.specs.declared.words.Half.{Half};
+ghost use Rattle.colon_bodies.specs.declared.words.Half.TheVariants.{Free};
+
+use crate::draft::{Draft, Mark};
+use crate::fault::{BodyCause, BodyFault};
+use crate::image::lay_cell;
+use crate::rules::{
+    half_behind, is_all_closed, is_free, is_known, is_over, is_second, is_semicolon, is_short,
+    is_suited, is_too_deep, past_behind,
+};
+use crate::steps::{
+    begin_pair, begin_tick, close_back, close_loop, close_repeat, close_then, lay_does, lay_double,
+    lay_name, lay_number, lay_text, open_begin, open_do, open_if, switch_else, test_while,
+};
+use crate::words::{BodyWord, Half};
+use std::alloc::Global;
+
+/// The control that shows a text, or that aborts with it.
+fn text_cell(runtime: &[u16], aborts: bool) -> u16
+    requires { 28 ≤ length runtime.now }
+    ensures { result ≡ slice_index runtime.now (text_control aborts) }
+{
+    if aborts { runtime[17] } else { runtime[16] }
+}
+
+/// The control that ends a loop.
+fn loop_cell(runtime: &[u16], plus: bool) -> u16
+    requires { 28 ≤ length runtime.now }
+    ensures { result ≡ slice_index runtime.now (loop_control plus) }
+{
+    if plus { runtime[11] } else { runtime[10] }
+}
+
+/// Lays what one word lays where nothing is half read.
+fn step(
+    image: &mut Vec<u8>,
+    marks: &mut Vec<Mark>,
+    is_past: bool,
+    word: BodyWord,
+    at: u16,
+    runtime: &[u16],
+) -> Result<(), BodyCause>
+    requires drafting { Drafting at image.old.items marks.old.items }
+    requires room { at + length image.old.items + jump_by (token word) < 2 ^ 16 }
+    requires controls { 28 ≤ length runtime.now }
+    requires short { IsShort (token word) }
+    ensures { (o : Outer) (t : Body) → is_past ≡ past o → Drafted (slice_index runtime.now) at o t Free image.old.items marks.old.items → After (slice_index runtime.now) at (read o t Free (token word.entry)) result image.new.items marks.new.items }
+{
+    match word {
+        BodyWord::Name(w) => lay_name(image, w),
+        BodyWord::Number(n) => lay_number(image, runtime[6], n),
+        BodyWord::Double(n) => lay_double(image, runtime[6], n),
+        BodyWord::Text(aborts, text) => lay_text(image, text_cell(runtime, aborts), text),
+        BodyWord::Tick => begin_tick(image, runtime[6]),
+        BodyWord::Force => Ok(()),
+        BodyWord::Compile => begin_pair(image, runtime[19]),
+        BodyWord::If => open_if(image, marks, runtime[8]),
+        BodyWord::Else => switch_else(image, marks, at, runtime[7]),
+        BodyWord::Then => close_then(image, marks, at),
+        BodyWord::Begin => open_begin(image, marks, at),
+        BodyWord::Until => close_back(image, marks, runtime[8]),
+        BodyWord::Again => close_back(image, marks, runtime[7]),
+        BodyWord::While => test_while(image, marks, runtime[8]),
+        BodyWord::Repeat => close_repeat(image, marks, at, runtime[7]),
+        BodyWord::Do => open_do(image, marks, runtime[9]),
+        BodyWord::Loop(plus) => close_loop(image, marks, at, loop_cell(runtime, plus)),
+        BodyWord::Does => lay_does(image, marks, is_past, runtime[18]),
+        BodyWord::Semicolon => Err(BodyCause::Unbalanced),
+    }
+}
+
+/// Lays what one word lays behind what is half read.
+fn go_on(image: &mut Vec<u8>, word: BodyWord) -> Result<(), BodyCause>
+    ensures { (rt : ℕ → ℕ) (at : ℕ) (o : Outer) (t : Body) (h : Half) (marks : List Mark) → h ≢ Free → suits h (token word.entry) ≡ true → Drafted rt at o t h image.old.items marks → After rt at (read o t h (token word.entry)) result image.new.items marks }
+{
+    match word {
+        BodyWord::Name(w) => lay_name(image, w),
+        _ => Ok(()),
+    }
+}
+
+/// Lays what one word lays.
+fn lay(d: &mut Draft, word: BodyWord, at: u16, runtime: &[u16]) -> Result<(), BodyCause>
+    requires drafting { Drafting at d.old.image.items d.old.marks.items }
+    requires room { at + length d.old.image.items + jump_by (token word) < 2 ^ 16 }
+    requires controls { 28 ≤ length runtime.now }
+    requires short { IsShort (token word) }
+    ensures taken { (o : Outer) (t : Body) (h : Half) → suits h (token word.entry) ≡ true → Drafts (slice_index runtime.now) at o t h d.old → After (slice_index runtime.now) at (read o t h (token word.entry)) result d.new.image.items d.new.marks.items }
+    ensures kept { (d.new.half ≡ d.old.half) × (d.new.is_past ≡ d.old.is_past) }
+{
+    if is_free(d.half) {
+        step(&mut d.image, &mut d.marks, d.is_past, word, at, runtime)?;
+    } else {
+        go_on(&mut d.image, word)?;
+    }
+    Ok(())
+}
+
+/// Takes one more word.
+pub fn take_word(
+    d: &mut Draft,
+    word: BodyWord,
+    at: u16,
+    limit: u16,
+    runtime: &[u16],
+) -> Result<(), BodyCause>
+    requires drafting { Drafting at d.old.image.items d.old.marks.items }
+    requires room { at + length d.old.image.items ≤ limit }
+    requires jump { at + length d.old.image.items + jump_by (token word) < 2 ^ 16 }
+    requires controls { 28 ≤ length runtime.now }
+    requires inside { token word ≢ SEMI }
+    ensures { (o : Outer) (t : Body) (h : Half) → Drafts (slice_index runtime.now) at o t h d.old → open_depth o t ≤ 64 → Taken (slice_index runtime.now) at limit o t h (token word.entry) result d.new }
+{
+    if !is_suited(d.half, word) {
+        return Err(BodyCause::Misplaced);
+    }
+    if is_second(word, d.is_past) {
+        return Err(BodyCause::Misplaced);
+    }
+    if is_too_deep(word, &d.marks) {
+        return Err(BodyCause::Misplaced);
+    }
+    if !is_short(word) {
+        if !is_known(word, runtime) {
+            return Err(BodyCause::Unknown);
+        }
+        return Err(BodyCause::BadName);
+    }
+    lay(d, word, at, runtime)?;
+    if !is_known(word, runtime) {
+        return Err(BodyCause::Unknown);
+    }
+    if is_over(&d.image, at, limit) {
+        return Err(BodyCause::Full);
+    }
+    d.half = half_behind(d.half, word);
+    d.is_past = past_behind(d.is_past, word);
+    Ok(())
+}
+
+/// Takes the last word.
+pub fn finish(d: &mut Draft, at: u16, limit: u16, control: u16) -> Result<(), BodyCause>
+    ensures taken { (rt : ℕ → ℕ) (o : Outer) (t : Body) (h : Half) → rt 5 ≡ control → Drafts rt at o t h d.old → open_depth o t ≤ 64 → Ended rt at limit o t h result d.new.image.items }
+    ensures kept { d.new.marks ≡ d.old.marks }
+{
+    if !is_suited(d.half, BodyWord::Semicolon) {
+        return Err(BodyCause::Misplaced);
+    }
+    if !is_all_closed(&d.marks) {
+        return Err(BodyCause::Unbalanced);
+    }
+    if control == 0 {
+        return Err(BodyCause::Unknown);
+    }
+    lay_cell(&mut d.image, control)?;
+    if is_over(&d.image, at, limit) {
+        return Err(BodyCause::Full);
+    }
+    Ok(())
+}
+
+/// The bytes of the first definition of a source, and how many words it has; or the first fault.
+pub fn compile(
+    alloc: Global,
+    words: &[BodyWord],
+    runtime: &[u16],
+    at: u16,
+    limit: u16,
+) -> Result<(Vec<u8>, usize), BodyFault>
+    requires jumps { (limit ≤ 65530) ⊎ (at + laid (map token words.now) < 2 ^ 16) }
+    requires start { at ≤ limit }
+    requires controls { 28 ≤ length runtime.now }
+    ensures compiled { IfOk result (λ c. Compiled (slice_index runtime.now) at limit (map token words.now) c.0.items c.1) }
+    ensures refused { IfErr result (λ e. IsFault (slice_index runtime.now) at limit (map token words.now) e.place e.cause) }
+{
+    let mut draft = Draft {
+        image: Vec::new(alloc),
+        marks: Vec::new(alloc),
+        half: Half::Free,
+        is_past: false,
+    };
+    for (i, word) in words.iter().enumerate() {
+        if is_semicolon(*word) {
+            return match finish(&mut draft, at, limit, runtime[5]) {
+                Ok(()) => Ok((draft.image, i + 1)),
+                Err(cause) => Err(BodyFault { place: i, cause }),
+            };
+        }
+        if let Err(cause) = take_word(&mut draft, *word, at, limit, runtime) {
+            return Err(BodyFault { place: i, cause });
+        }
+    }
+    Err(BodyFault {
+        place: words.len(),
+        cause: BodyCause::EndsInside,
+    })
+}

@@ -1,0 +1,31 @@
+//! What the compiler keeps of a definition while it reads.
+
+use crate::words::Half;
+
+/// An open structure: the places in the draft's bytes of cells that wait for their addresses, and addresses to go back to.
+#[derive(Clone, Copy, Debug, PartialEq, Eq)]
+pub enum Mark {
+    /// An IF, whose cell waits here.
+    If(usize),
+    /// An ELSE, whose cell waits here.
+    Else(usize),
+    /// A BEGIN at this address.
+    Begin(u16),
+    /// A BEGIN at this address, and its WHILE, whose cell waits here.
+    While(u16, usize),
+    /// A DO, whose cell waits here.
+    Do(usize),
+}
+
+/// A definition that is read in part.
+#[derive(Drop)]
+pub struct Draft {
+    /// Its bytes; cells that wait for an address are 0.
+    pub image: Vec<u8>,
+    /// Its open structures, the innermost last.
+    pub marks: Vec<Mark>,
+    /// What is half read.
+    pub half: Half,
+    /// Whether a DOES> was read.
+    pub is_past: bool,
+}

@@ -1,0 +1,45 @@
+//! The bytes that are laid, and the marks.
+
+ghost use Rattle.std.specs.Prelude.{◌≡◌, ℕ, ◌+◌, ◌<◌, ◌≤◌, ◌^◌, List, [], ◌∷◌, ◌++◌, length, OnOk, OnErr, IfErr};
+ghost use Rattle.memory.specs.Bytes.{cell_bytes};
+ghost use Rattle.colon_bodies.specs.Open.{Outer};
+ghost use Rattle.colon_bodies.specs.Draft.{marks_of, top_mark, outside, Patches};
+ghost use Rattle.colon_bodies.specs.declared.fault.BodyCause.TheVariants.{Memory};
+
+use crate::draft::Mark;
+use crate::fault::BodyCause;
+use memory::cell_bytes;
+
+/// Lays a cell behind the bytes; the only refusal is want of memory.
+pub fn lay_cell(image: &mut Vec<u8>, x: u16) -> Result<(), BodyCause>
+    ensures bytes { OnOk result (image.new.items ≡ image.old.items ++ cell_bytes x) }
+    ensures longer { OnOk result (length image.new.items ≡ length image.old.items + 2) }
+    ensures memory { IfErr result (λ e. e ≡ Memory) }
+{
+    image.extend_from_slice(&cell_bytes(x))?;
+    Ok(())
+}
+
+/// Writes a cell over the two bytes at a place.
+pub fn patch(image: &mut Vec<u8>, place: usize, x: u16)
+    requires { place + 1 < length image.old.items }
+    ensures { Patches image.old.items image.new.items place x }
+{
+    image[place] = (x % 256) as u8;
+    image[place + 1] = (x / 256) as u8;
+}
+
+/// The address behind the bytes, of which the first stands at `at`.
+pub fn here(at: u16, image: &Vec<u8>) -> u16
+    requires { at + length image.now.items < 2 ^ 16 }
+    ensures { result ≡ at + length image.now.items }
+{
+    at + image.len() as u16
+}
+
+/// Takes off the mark of the innermost open structure.
+pub fn pop_mark(marks: &mut Vec<Mark>) -> Option<Mark>
+    ensures { (at : ℕ) (o : Outer) → marks.old.items ≡ marks_of at o → (result ≡ top_mark at o) × (marks.new.items ≡ marks_of at (outside o)) }
+{
+    marks.pop()
+}

@@ -1,0 +1,233 @@
+//! What each word lays.
+
+ghost use Rattle.std.specs.Prelude.{◌≡◌, ◌≢◌, Bool, true, ℕ, ◌+◌, ◌<◌, ◌≤◌, ◌^◌, List, [], ◌∷◌, ◌++◌, length};
+ghost use Rattle.colon_bodies.specs.Tree.{Body};
+ghost use Rattle.colon_bodies.specs.Tokens.{NAME, NUMBER, TEXT, IF, ELSE, THEN, BEGIN, UNTIL, AGAIN, WHILE, REPEAT, DO, LOOP, DOUBLE, TICK, FORCE, COMPILE, DOES, text_control, loop_control};
+ghost use Rattle.colon_bodies.specs.Open.{Outer, read, past};
+ghost use Rattle.colon_bodies.specs.Rules.{suits};
+ghost use Rattle.colon_bodies.specs.Draft.{token, After, Drafted, Drafting};
+ghost use Rattle.colon_bodies.specs.declared.words.Half.{Half};
+ghost use Rattle.colon_bodies.specs.declared.words.Half.TheVariants.{Free};
+ghost use Rattle.colon_bodies.specs.declared.draft.Mark.{Mark};
+
+use crate::draft::Mark;
+use crate::fault::BodyCause;
+use crate::image::{here, lay_cell, patch, pop_mark};
+
+/// A name lays its compilation address.
+pub fn lay_name(image: &mut Vec<u8>, w: u16) -> Result<(), BodyCause>
+    ensures { (rt : ℕ → ℕ) (at : ℕ) (o : Outer) (t : Body) (h : Half) (marks : List Mark) → Drafted rt at o t h image.old.items marks → After rt at (read o t h (NAME w)) result image.new.items marks }
+{
+    lay_cell(image, w)
+}
+
+/// A number lays (LIT) and its value.
+pub fn lay_number(image: &mut Vec<u8>, control: u16, n: u16) -> Result<(), BodyCause>
+    ensures { (rt : ℕ → ℕ) (at : ℕ) (o : Outer) (t : Body) (marks : List Mark) → rt 6 ≡ control → Drafted rt at o t Free image.old.items marks → After rt at (read o t Free (NUMBER n)) result image.new.items marks }
+{
+    lay_cell(image, control)?;
+    lay_cell(image, n)
+}
+
+/// A double lays (LIT) and its low cell, (LIT) and its high cell.
+pub fn lay_double(image: &mut Vec<u8>, control: u16, n: u32) -> Result<(), BodyCause>
+    ensures { (rt : ℕ → ℕ) (at : ℕ) (o : Outer) (t : Body) (marks : List Mark) → rt 6 ≡ control → Drafted rt at o t Free image.old.items marks → After rt at (read o t Free (DOUBLE n)) result image.new.items marks }
+{
+    lay_cell(image, control)?;
+    lay_cell(image, (n % 65536) as u16)?;
+    lay_cell(image, control)?;
+    lay_cell(image, (n / 65536) as u16)
+}
+
+/// `[']` lays (LIT).
+pub fn begin_tick(image: &mut Vec<u8>, control: u16) -> Result<(), BodyCause>
+    ensures { (rt : ℕ → ℕ) (at : ℕ) (o : Outer) (t : Body) (marks : List Mark) → rt 6 ≡ control → Drafted rt at o t Free image.old.items marks → After rt at (read o t Free TICK) result image.new.items marks }
+{
+    lay_cell(image, control)
+}
+
+/// COMPILE lays its own control.
+pub fn begin_pair(image: &mut Vec<u8>, control: u16) -> Result<(), BodyCause>
+    ensures { (rt : ℕ → ℕ) (at : ℕ) (o : Outer) (t : Body) (marks : List Mark) → rt 19 ≡ control → Drafted rt at o t Free image.old.items marks → After rt at (read o t Free COMPILE) result image.new.items marks }
+{
+    lay_cell(image, control)
+}
+
+/// DOES> lays (DOES>), outside structures, once.
+pub fn lay_does(
+    image: &mut Vec<u8>,
+    marks: &Vec<Mark>,
+    is_past: bool,
+    control: u16,
+) -> Result<(), BodyCause>
+    ensures { (rt : ℕ → ℕ) (at : ℕ) (o : Outer) (t : Body) → rt 18 ≡ control → is_past ≡ past o → Drafted rt at o t Free image.old.items marks.now.items → After rt at (read o t Free DOES) result image.new.items marks.now.items }
+{
+    if is_past || !marks.is_empty() {
+        return Err(BodyCause::Unbalanced);
+    }
+    lay_cell(image, control)
+}
+
+/// A text lays its control, its count byte and its bytes.
+pub fn lay_text(image: &mut Vec<u8>, control: u16, text: &[u8]) -> Result<(), BodyCause>
+    requires { length text.now < 256 }
+    ensures { (rt : ℕ → ℕ) (at : ℕ) (o : Outer) (t : Body) (k : Bool) (marks : List Mark) → rt (text_control k) ≡ control → Drafted rt at o t Free image.old.items marks → After rt at (read o t Free (TEXT k text.now)) result image.new.items marks }
+{
+    lay_cell(image, control)?;
+    image.push(text.len() as u8)?;
+    image.extend_from_slice(text)?;
+    Ok(())
+}
+
+/// IF lays ?BRANCH and a cell that waits.
+pub fn open_if(image: &mut Vec<u8>, marks: &mut Vec<Mark>, control: u16) -> Result<(), BodyCause>
+    ensures { (rt : ℕ → ℕ) (at : ℕ) (o : Outer) (t : Body) → rt 8 ≡ control → Drafted rt at o t Free image.old.items marks.old.items → After rt at (read o t Free IF) result image.new.items marks.new.items }
+{
+    lay_cell(image, control)?;
+    marks.push(Mark::If(image.len()))?;
+    lay_cell(image, 0)?;
+    Ok(())
+}
+
+/// DO lays (DO) and a cell that waits.
+pub fn open_do(image: &mut Vec<u8>, marks: &mut Vec<Mark>, control: u16) -> Result<(), BodyCause>
+    ensures { (rt : ℕ → ℕ) (at : ℕ) (o : Outer) (t : Body) → rt 9 ≡ control → Drafted rt at o t Free image.old.items marks.old.items → After rt at (read o t Free DO) result image.new.items marks.new.items }
+{
+    lay_cell(image, control)?;
+    marks.push(Mark::Do(image.len()))?;
+    lay_cell(image, 0)?;
+    Ok(())
+}
+
+/// BEGIN keeps the address behind.
+pub fn open_begin(image: &Vec<u8>, marks: &mut Vec<Mark>, at: u16) -> Result<(), BodyCause>
+    requires { at + length image.now.items < 2 ^ 16 }
+    ensures { (rt : ℕ → ℕ) (o : Outer) (t : Body) → Drafted rt at o t Free image.now.items marks.old.items → After rt at (read o t Free BEGIN) result image.now.items marks.new.items }
+{
+    marks.push(Mark::Begin(here(at, image)))?;
+    Ok(())
+}
+
+/// ELSE lays BRANCH and a cell that waits, and resolves IF's.
+pub fn switch_else(
+    image: &mut Vec<u8>,
+    marks: &mut Vec<Mark>,
+    at: u16,
+    control: u16,
+) -> Result<(), BodyCause>
+    requires drafting { Drafting at image.old.items marks.old.items }
+    requires room { at + length image.old.items + 4 < 2 ^ 16 }
+    ensures { (rt : ℕ → ℕ) (o : Outer) (t : Body) → rt 7 ≡ control → Drafted rt at o t Free image.old.items marks.old.items → After rt at (read o t Free ELSE) result image.new.items marks.new.items }
+{
+    match pop_mark(marks) {
+        Some(Mark::If(place)) => {
+            lay_cell(image, control)?;
+            marks.push(Mark::Else(image.len()))?;
+            lay_cell(image, 0)?;
+            patch(image, place, here(at, image));
+            Ok(())
+        }
+        _ => Err(BodyCause::Unbalanced),
+    }
+}
+
+/// THEN resolves IF's cell, or ELSE's.
+pub fn close_then(image: &mut Vec<u8>, marks: &mut Vec<Mark>, at: u16) -> Result<(), BodyCause>
+    requires drafting { Drafting at image.old.items marks.old.items }
+    requires room { at + length image.old.items < 2 ^ 16 }
+    ensures { (rt : ℕ → ℕ) (o : Outer) (t : Body) → Drafted rt at o t Free image.old.items marks.old.items → After rt at (read o t Free THEN) result image.new.items marks.new.items }
+{
+    match pop_mark(marks) {
+        Some(Mark::If(place)) => {
+            patch(image, place, here(at, image));
+            Ok(())
+        }
+        Some(Mark::Else(place)) => {
+            patch(image, place, here(at, image));
+            Ok(())
+        }
+        _ => Err(BodyCause::Unbalanced),
+    }
+}
+
+/// UNTIL and AGAIN lay ?BRANCH or BRANCH, and the address of BEGIN.
+pub fn close_back(image: &mut Vec<u8>, marks: &mut Vec<Mark>, control: u16) -> Result<(), BodyCause>
+    ensures until { (rt : ℕ → ℕ) (at : ℕ) (o : Outer) (t : Body) → rt 8 ≡ control → Drafted rt at o t Free image.old.items marks.old.items → After rt at (read o t Free UNTIL) result image.new.items marks.new.items }
+    ensures again { (rt : ℕ → ℕ) (at : ℕ) (o : Outer) (t : Body) → rt 7 ≡ control → Drafted rt at o t Free image.old.items marks.old.items → After rt at (read o t Free AGAIN) result image.new.items marks.new.items }
+{
+    match pop_mark(marks) {
+        Some(Mark::Begin(target)) => {
+            lay_cell(image, control)?;
+            lay_cell(image, target)
+        }
+        _ => Err(BodyCause::Unbalanced),
+    }
+}
+
+/// WHILE lays ?BRANCH and a cell that waits.
+pub fn test_while(image: &mut Vec<u8>, marks: &mut Vec<Mark>, control: u16) -> Result<(), BodyCause>
+    ensures { (rt : ℕ → ℕ) (at : ℕ) (o : Outer) (t : Body) → rt 8 ≡ control → Drafted rt at o t Free image.old.items marks.old.items → After rt at (read o t Free WHILE) result image.new.items marks.new.items }
+{
+    match pop_mark(marks) {
+        Some(Mark::Begin(target)) => {
+            lay_cell(image, control)?;
+            marks.push(Mark::While(target, image.len()))?;
+            lay_cell(image, 0)?;
+            Ok(())
+        }
+        _ => Err(BodyCause::Unbalanced),
+    }
+}
+
+/// REPEAT lays BRANCH and the address of BEGIN, and resolves WHILE's cell.
+pub fn close_repeat(
+    image: &mut Vec<u8>,
+    marks: &mut Vec<Mark>,
+    at: u16,
+    control: u16,
+) -> Result<(), BodyCause>
+    requires drafting { Drafting at image.old.items marks.old.items }
+    requires room { at + length image.old.items + 4 < 2 ^ 16 }
+    ensures { (rt : ℕ → ℕ) (o : Outer) (t : Body) → rt 7 ≡ control → Drafted rt at o t Free image.old.items marks.old.items → After rt at (read o t Free REPEAT) result image.new.items marks.new.items }
+{
+    match pop_mark(marks) {
+        Some(Mark::While(target, place)) => {
+            lay_cell(image, control)?;
+            lay_cell(image, target)?;
+            patch(image, place, here(at, image));
+            Ok(())
+        }
+        _ => Err(BodyCause::Unbalanced),
+    }
+}
+
+/// The address behind the cell at a place.
+fn body_of(at: u16, place: usize, image: &Vec<u8>) -> u16
+    requires within { place + 1 < length image.now.items }
+    requires room { at + length image.now.items + 1 < 2 ^ 16 }
+    ensures { result ≡ at + place + 2 }
+{
+    at + place as u16 + 2
+}
+
+/// LOOP and +LOOP lay their control and the address of the body, and resolve DO's cell.
+pub fn close_loop(
+    image: &mut Vec<u8>,
+    marks: &mut Vec<Mark>,
+    at: u16,
+    control: u16,
+) -> Result<(), BodyCause>
+    requires drafting { Drafting at image.old.items marks.old.items }
+    requires room { at + length image.old.items + 4 < 2 ^ 16 }
+    ensures { (rt : ℕ → ℕ) (o : Outer) (t : Body) (k : Bool) → rt (loop_control k) ≡ control → Drafted rt at o t Free image.old.items marks.old.items → After rt at (read o t Free (LOOP k)) result image.new.items marks.new.items }
+{
+    match pop_mark(marks) {
+        Some(Mark::Do(place)) => {
+            lay_cell(image, control)?;
+            lay_cell(image, body_of(at, place, image))?;
+            patch(image, place, here(at, image));
+            Ok(())
+        }
+        _ => Err(BodyCause::Unbalanced),
+    }
+}

@@ -1,0 +1,15 @@
+pub mod Finding
+pub mod Imaging
+pub mod Sound
+pub mod Making
+pub mod Taking
+pub mod Running
+pub mod Exact
+pub mod Bodies
+pub mod Dispatch
+pub mod Looping
+pub mod Single
+pub mod Held
+pub mod Midways
+pub mod Screens
+pub mod Refusing

@@ -1,0 +1,10 @@
+use Rattle.std.proofs.Common.{ap, length, arith}
+use Rattle.metacompiler.proofs.Looping.{image_size}
+use Rattle.metacompiler.proofs.building.end.Goals as goal
+
+pub returns-in-Ok-clause-size : goal.returns-in-Ok-clause-size
+returns-in-Ok-clause-size c =
+    let h = c.requires in
+    let e = ap length (c.in-Ok.ensures.bytes h.items h.is) in
+    let z = image_size h.items h.sound in
+    (omega (arith, c.in-Ok.bytes.ok.0, e, z.0), omega (arith, c.in-Ok.bytes.ok.0, e, z.1))

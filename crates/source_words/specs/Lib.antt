@@ -1,0 +1,5 @@
+pub mod Modes
+pub mod Words
+pub mod Scanned
+pub mod Standing
+pub mod Spaced

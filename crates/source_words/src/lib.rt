@@ -1,0 +1,16 @@
+//! The words of a source that stands in screens: words between blanks, with the screen and the place that each stands at;
+//! comments dropped, and texts attached to the words of a body that take one.
+#![tactic(auto)]
+
+pub mod laws;
+mod modes;
+mod reading;
+mod scanner;
+mod spans;
+#[cfg(test)]
+mod tests;
+mod word;
+
+pub use modes::Mode;
+pub use scanner::Scanner;
+pub use word::Word;
