@@ -20,7 +20,7 @@ use Rattle.metacompiler.specs.declared.reading.Stop.TheVariants as stop
 use Rattle.metacompiler.specs.declared.cause.BuildFault.{BuildFault}
 use Rattle.metacompiler.specs.Faults.{IsFault}
 use Rattle.metacompiler.specs.Spelled.{all_placed}
-use Rattle.metacompiler.specs.Reading.{Holds, IsHeld, IsFaultOf, Takes, TakesAll, TakesScreen, HasRead, Midway}
+use Rattle.metacompiler.specs.Reading.{Holds, IsHeld, IsFaultOf, TakesAll, TakesScreen, HasRead, Midway}
 
 -- no word is taken yet
 pub none_taken : (m : Mode) (words : List SourceWord) (k : Compilation) (scanner : Scanner) → words_left scanner ≡ words → scanner.mode ≡ m → Midway m words k k scanner
