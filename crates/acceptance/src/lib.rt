@@ -16,6 +16,8 @@ mod fixtures;
 #[cfg(test)]
 mod rows;
 #[cfg(test)]
+mod stretches;
+#[cfg(test)]
 mod terminal;
 #[cfg(test)]
 mod threads;

@@ -7,7 +7,7 @@ use inner_interpreter::{Cause, Event, Refused, Shown, Stop};
 use std::test::Fail;
 
 /// At 256 the code fields of DEPTH and BRANCH; at 260 a colon word that does DEPTH again and again.
-const DEPTHS: [u8; 12] = [
+pub const DEPTHS: [u8; 12] = [
     0x28, 0x00, 0x07, 0x00, 0x01, 0x00, 0x00, 0x01, 0x02, 0x01, 0x06, 0x01,
 ];
 
@@ -100,7 +100,7 @@ fn a_text_of_no_bytes_shows_nothing(rt: HostRuntime) -> Result<(), Fail> {
 
 /// At 256 the code fields of (LIT), `!`, EMIT and BYE; at 264 a colon word: 33, EMIT's token into the cell 280, BYE. That
 /// cell holds the BYE which comes next, and so it shows `!` before the next BYE.
-const OVERWRITES: [u8; 28] = [
+pub const OVERWRITES: [u8; 28] = [
     0x06, 0x00, 0x61, 0x00, 0x78, 0x00, 0x17, 0x00, 0x01, 0x00, 0x00, 0x01, 0x21, 0x00, 0x00, 0x01,
     0x04, 0x01, 0x00, 0x01, 0x18, 0x01, 0x02, 0x01, 0x06, 0x01, 0x06, 0x01,
 ];

@@ -5,6 +5,7 @@ use Rattle.block_buffers.specs.Entries.{victim, assigned, unmarked, slot_of}
 use Rattle.memory.specs.Bytes.{put_cell, put_bytes, page, with_page}
 use Rattle.memory.specs.declared.system.TheConstants.{SPAN}
 use Rattle.plain_rows.specs.Whole.{Whole}
+use Rattle.plain_rows.specs.declared.faults.TheConstants.{DATA_UNDERFLOW, DATA_OVERFLOW, READ_FAILED, WRITE_FAILED}
 use Rattle.plain_rows.specs.declared.parts.Request.{Request}
 use Rattle.plain_rows.specs.declared.parts.Request.TheVariants as request
 use Rattle.inner_interpreter.specs.declared.act.Act.{Act}
@@ -85,7 +86,7 @@ fits (Some r) reply = fits_request r reply
 -- a key: its byte is pushed
 unfoldable pub key_answered : Whole → ℕ → State × Act
 key_answered s c =
-    if nat_lt 256 (length (c ∷ s.values)) then fault s Nothing 2
+    if nat_lt 256 (length (c ∷ s.values)) then fault s Nothing DATA_OVERFLOW
     else (running (record s { values = c ∷ s.values }), quiet)
 
 -- what a line shows of the n bytes at a: they, and a blank where a return ended it
@@ -95,7 +96,7 @@ line_shown a n returned = if returned then LineShown (record { at = a; len = n }
 -- a line for EXPECT ( a u -- ): its count goes to SPAN, then its bytes to a
 unfoldable pub line_answered : Whole → List ℕ → Bool → State × Act
 line_answered s bytes returned =
-    if nat_lt (length s.values) 2 then fault s Nothing 1
+    if nat_lt (length s.values) 2 then fault s Nothing DATA_UNDERFLOW
     else (let a = slice_index s.values 1 in (
       running (record s { values = drop 2 s.values; memory = put_bytes (put_cell s.memory SPAN (length bytes)) a bytes }),
       record { shown = line_shown a (length bytes) returned; event = Went },
@@ -128,9 +129,9 @@ answered s p (Line bytes returned) = line_answered s bytes returned
 answered s p InputEnd = input_stopped s cause.InputEnded
 answered s p InputFault = input_stopped s cause.InputFault
 answered s p (ReadOk page) = read_answered s (block_of p.0) p.1 page
-answered s p ReadFault = fault s Nothing 9
+answered s p ReadFault = fault s Nothing READ_FAILED
 answered s p WriteOk = write_answered s (block_of p.0) p.1
-answered s p WriteFault = fault s Nothing 10
+answered s p WriteFault = fault s Nothing WRITE_FAILED
 
 -- what an answer comes to that fits the request of this state
 unfoldable pub answer_of : State → Reply → State × Act

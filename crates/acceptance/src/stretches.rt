@@ -1,0 +1,150 @@
+//! A stretch of ticks leaves what as many single ticks leave.
+
+use crate::fixtures::machine;
+use crate::first_words::HI;
+use crate::threads::{DEPTHS, OVERWRITES};
+use inner_interpreter::Machine;
+use std::alloc::Global;
+use std::process::Abort;
+use std::test::Fail;
+
+/// The codes of the rows that are done in place, and of two that aren't (ABS and (+LOOP)).
+const CODES: [u8; 42] = [
+    1, 2, 3, 5, 6, 7, 8, 9, 10, 11, 13, 20, 21, 22, 32, 33, 34, 35, 36, 41, 42, 48, 49, 56, 57, 58, 59, 63, 66,
+    67, 68, 70, 72, 73, 74, 75, 96, 97, 98, 99, 100, 106,
+];
+
+/// Depths at both ends of a stack.
+const DEPTHS_TRIED: [usize; 8] = [0, 1, 2, 3, 253, 254, 255, 256];
+
+/// Two machines are in the same state.
+fn assert_same(rt: &impl Abort, one: &Machine, other: &Machine) {
+    assert_eq!(rt; one.ip(), other.ip());
+    assert_eq!(rt; one.pending(), other.pending());
+    assert_eq!(rt; one.halted(), other.halted());
+    assert_eq!(rt; one.values().depth(), other.values().depth());
+    assert_eq!(rt; one.returns().depth(), other.returns().depth());
+    for place in 0..256 {
+        assert_eq!(rt; one.values().get(place), other.values().get(place));
+        assert_eq!(rt; one.returns().get(place), other.returns().get(place));
+    }
+    assert!(rt; one.memory().span(0, 65535).0 == other.memory().span(0, 65535).0);
+    assert_eq!(rt; one.memory().byte(65535), other.memory().byte(65535));
+}
+
+/// Makes at most `n` ticks in stretches, until a request, a fault that halts or BYE: how many.
+fn stretch(rt: &impl Abort, machine: &mut Machine, n: u64) -> u64 {
+    let mut done = 0;
+    for _ in 0..n {
+        if done >= n || machine.halted().is_some() || machine.asked().is_some() {
+            break;
+        }
+        match machine.ticks(n - done) {
+            Ok((count, _)) => done = done.saturating_add(count),
+            Err(_) => assert!(rt; false, "refused"),
+        }
+    }
+    done
+}
+
+/// `n` ticks in stretches leave what as many single ones leave.
+fn assert_stretch(rt: &impl Abort, stretched: &mut Machine, single: &mut Machine, n: u64) {
+    let done = stretch(rt, stretched, n);
+    assert!(rt; done <= n);
+    for _ in 0..done {
+        assert!(rt; single.tick().is_ok());
+    }
+    assert_same(rt, stretched, single);
+}
+
+/// Three images, and each number of ticks up to 10: EMIT's address stored over the BYE that comes next, a stack that
+/// fills, and an image that writes.
+#[test]
+fn stretches_of_three_images(rt: HostRuntime) -> Result<(), Fail> {
+    for n in 0..11 {
+        let mut stretched = machine(&rt, 264, &OVERWRITES, &[], 0)?;
+        let mut single = machine(&rt, 264, &OVERWRITES, &[], 0)?;
+        assert_stretch(&rt, &mut stretched, &mut single, n);
+        let mut stretched = machine(&rt, 260, &DEPTHS, &[], 0)?;
+        let mut single = machine(&rt, 260, &DEPTHS, &[], 0)?;
+        assert_stretch(&rt, &mut stretched, &mut single, n);
+        let mut stretched = machine(&rt, 262, &HI, &[], 0)?;
+        let mut single = machine(&rt, 262, &HI, &[], 0)?;
+        assert_stretch(&rt, &mut stretched, &mut single, n);
+    }
+    Ok(())
+}
+
+/// Appends a cell.
+fn lay(bytes: &mut Vec<u8>, cell: u16) -> Result<(), Fail> {
+    bytes.extend_from_slice(&cell.to_le_bytes())?;
+    Ok(())
+}
+
+/// At 256 the code fields of (LIT), >R, the row and BYE; at 264 a colon word that puts `deep` cells on the data stack
+/// and `far` on the return stack, does the row over the cell 274 behind it, and halts.
+fn thread(
+    alloc: Global,
+    code: u8,
+    deep: usize,
+    far: usize,
+    cell: u16,
+) -> Result<Vec<u8>, Fail> {
+    let mut bytes = Vec::new(alloc);
+    for field in [6, 20, u16::from(code), 23, 1] {
+        lay(&mut bytes, field)?;
+    }
+    for _ in 0..far {
+        lay(&mut bytes, 256)?;
+        lay(&mut bytes, 300)?;
+        lay(&mut bytes, 258)?;
+    }
+    for _ in 0..deep {
+        lay(&mut bytes, 256)?;
+        lay(&mut bytes, cell)?;
+    }
+    for token in [260, 274, 262] {
+        lay(&mut bytes, token)?;
+    }
+    Ok(bytes)
+}
+
+/// Each row in place, at both ends of both stacks, over cells that are addresses at the end of memory.
+#[test]
+fn rows_at_both_ends_of_both_stacks(rt: HostRuntime) -> Result<(), Fail> {
+    for code in CODES {
+        for deep in DEPTHS_TRIED {
+            for far in [0, 1, 2, 255, 256] {
+                let bytes = thread(rt.alloc(), code, deep, far, 65535)?;
+                let mut stretched = machine(&rt, 264, bytes.as_slice(), &[], 0)?;
+                let mut single = machine(&rt, 264, bytes.as_slice(), &[], 0)?;
+                assert_stretch(&rt, &mut stretched, &mut single, 2000);
+            }
+        }
+    }
+    Ok(())
+}
+
+/// At 256 the code fields of (LIT), `!`, BRANCH and DUP; at 264 a colon word that stores DUP's token at `at`, at the end
+/// of memory, and goes on there over a 5.
+fn branch_to(alloc: Global, at: u16) -> Result<Vec<u8>, Fail> {
+    let mut bytes = Vec::new(alloc);
+    for cell in [6, 97, 7, 32, 1, 256, 5, 256, 262, 256, at, 258, 260, at] {
+        lay(&mut bytes, cell)?;
+    }
+    Ok(bytes)
+}
+
+/// A thread that goes over the end of memory, and on at its beginning.
+#[test]
+fn threads_at_the_end_of_memory(rt: HostRuntime) -> Result<(), Fail> {
+    for at in 65531..=65535 {
+        let bytes = branch_to(rt.alloc(), at)?;
+        for n in 0..10 {
+            let mut stretched = machine(&rt, 264, bytes.as_slice(), &[], 0)?;
+            let mut single = machine(&rt, 264, bytes.as_slice(), &[], 0)?;
+            assert_stretch(&rt, &mut stretched, &mut single, n);
+        }
+    }
+    Ok(())
+}
