@@ -1,10 +1,11 @@
 -- Where a run is, by what its machine and its ends tell.
-use Rattle.std.specs.Prelude.{◌≡◌, ℕ, ◌+◌, ◌*◌, true, List, ◌++◌, Option, None, Some}
+use Rattle.std.specs.Prelude.{◌≡◌, ℕ, length, ◌+◌, ◌*◌, true, List, ◌++◌, Option, None, Some}
 use Rattle.block_buffers.specs.Disks.{Disk}
 use Rattle.plain_rows.specs.declared.parts.Request.{Request}
 use Rattle.inner_interpreter.specs.declared.act.Act.{Act}
 use Rattle.inner_interpreter.specs.declared.stop.Stop.{Stop}
-use Rattle.inner_interpreter.specs.State.{State}
+use Rattle.image_loader.specs.Files.{Contents}
+use Rattle.inner_interpreter.specs.State.{State, start}
 use Rattle.inner_interpreter.specs.Tick.{ran}
 use Rattle.inner_interpreter.specs.Answer.{InputFault, answer_of, asked_by, fits}
 use Rattle.inner_interpreter.specs.Runs.{World, rounds, stops}
@@ -35,6 +36,11 @@ pub record IsFaulted (w : World) (state : State) (disk : Option Disk) (sent : Op
   pub disk_is : disk ≡ Some w.disk
   pub sent_is : sent ≡ Some w.shown
 
+-- an image is loaded, for the blocks of this device; nothing is done yet
+abbrev pub loaded : Contents → List ℕ → Disk → List ℕ → ℕ → World
+loaded image typed disk sent limit =
+    record { state = start image (length disk.blocks); typed = typed; disk = disk; shown = sent; left = limit }
+
 -- how many answers may stand before the next tick
 abbrev pub waiting : Option (Request × ℕ) → ℕ
 waiting None = 0
@@ -53,6 +59,10 @@ pub record Ends (w : World) (state : State) (unread : Option (List ℕ)) (disk :
   pub count : ℕ
   pub at : IsAt (rounds count w) state unread disk sent (rounds count w).left
   pub stops_so : stops (rounds count w) ≡ Some stop
+
+-- the same, whatever its state is then
+abbrev pub EndsFrom : World → Option (List ℕ) → Option Disk → Option (List ℕ) → Stop → Type 0
+EndsFrom w unread disk sent stop = (state : State) × Ends w state unread disk sent stop
 
 -- a writer failed in this run: a front of what some first rounds show was sent
 pub record EndsCut (w : World) (state : State) (unread : Option (List ℕ)) (disk : Option Disk) (sent : Option (List ℕ)) : Type 0 where

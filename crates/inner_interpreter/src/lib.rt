@@ -3,6 +3,7 @@
 
 mod act;
 mod ends;
+mod files;
 mod in_place;
 pub mod laws;
 mod lines;
@@ -18,6 +19,7 @@ mod writing;
 
 pub use act::{Act, Answer, Cause, Event, Refused, Shown};
 pub use ends::{EndFault, Input, Output};
+pub use files::run_file;
 pub use machine::Machine;
 pub use reading::Reading;
 pub use runs::run;
