@@ -1,7 +1,10 @@
 //! The subcommands, over values.
 
-ghost use Rattle.std.specs.Prelude.{◌≡◌, ◌<◌, false, IsNone, MatchOption};
+ghost use Rattle.std.specs.Prelude.{◌≡◌, ◌<◌, false, Some, IsNone, IfSome, MatchOption};
+ghost use Rattle.block_buffers.specs.Calls.{failures};
+ghost use Rattle.block_buffers.specs.Disks.{Disk};
 ghost use Rattle.forth83.specs.Kernel.{filled, blocks_of};
+ghost use Rattle.forth83.specs.Images.{IsBuiltFile};
 
 use crate::kernel::kernel_file;
 use crate::kernel_text::TEXT;
@@ -9,6 +12,7 @@ use block_buffers::Device;
 use image_loader::{Image, ImageFault};
 use inner_interpreter::{Input, Machine, Output, Stop, run, send_all};
 use memory::OutOfMemory;
+use metacompiler::{BuildFault, Cause, build};
 use std::alloc::{AllocError, Global};
 
 /// How a subcommand ended: the program's status, and the bytes of the file that it makes, if it makes one.
@@ -34,18 +38,23 @@ fn status_of(stop: Stop) -> u8 {
     }
 }
 
+/// Prints a line, and answers whether all of it was written.
+fn is_printed<W: Output>(writer: &mut W, line: &[u8]) -> bool {
+    if send_all(writer, line).is_err() {
+        return false;
+    }
+    writer.flush().is_ok()
+}
+
 /// Prints a line, and ends with the status, or with 5 where the line can't be written.
 fn print<W: Output>(writer: &mut W, line: &[u8], status: u8) -> Ended
     ensures status { 0 < status → 0 < result.status }
     ensures file { IsNone result.file }
 {
-    if send_all(writer, line).is_err() {
-        return end_with(5);
+    if is_printed(writer, line) {
+        return end_with(status);
     }
-    match writer.flush() {
-        Ok(()) => end_with(status),
-        Err(_) => end_with(5),
-    }
+    end_with(5)
 }
 
 fn print_out_of_memory<W: Output>(writer: &mut W) -> Ended
@@ -82,6 +91,59 @@ pub fn do_kernel<W: Output>(alloc: Global, writer: &mut W) -> Ended
         },
         Err(_) => print_out_of_memory(writer),
     }
+}
+
+/// Prints why a source is refused.
+fn refuse_source<W: Output>(alloc: Global, fault: BuildFault, writer: &mut W) -> Ended
+    ensures status { 0 < result.status }
+    ensures file { IsNone result.file }
+{
+    if fault.cause == Cause::OutOfMemory {
+        return print_out_of_memory(writer);
+    }
+    match format!(in alloc; "{fault}\n") {
+        Ok(line) => print(writer, line.as_str().as_bytes(), 1),
+        Err(_) => print_out_of_memory(writer),
+    }
+}
+
+/// The line that tells of an image which was built.
+fn report(alloc: Global, image: &Image) -> Result<String, AllocError> {
+    let size = image.bytes().len();
+    let entry = image.entry();
+    format!(in alloc; "size {size} entry {entry}\n")
+}
+
+/// Builds the source in the screens from `from` to `to` to an image, and prints `size S entry E`. Status 0, with the bytes of
+/// the image's file. Without a file 1: the source is refused (`screen S offset O: CAUSE` is printed) or memory ran out;
+/// 5: a line can't be printed.
+pub fn do_build<W: Output, D: Device>(
+    alloc: Global,
+    device: &mut D,
+    from: u16,
+    to: u16,
+    writer: &mut W,
+) -> Ended
+    ensures status { MatchOption result.file (0 < result.status) (λ _. result.status ≡ 0) }
+    ensures file { (d : Disk) → D.disk device.old ≡ Some d → IfSome result.file (λ file. IsBuiltFile file.items d from to (record { disk = D.disk device.new; before = failures (D.calls device.old); after = failures (D.calls device.new) })) }
+{
+    let image = match build(alloc, device, from, to) {
+        Ok(image) => image,
+        Err(fault) => return refuse_source(alloc, fault, writer),
+    };
+    let Ok(file) = image_loader::write(alloc, &image) else {
+        return print_out_of_memory(writer);
+    };
+    let Ok(line) = report(alloc, &image) else {
+        return print_out_of_memory(writer);
+    };
+    if is_printed(writer, line.as_str().as_bytes()) {
+        return Ended {
+            status: 0,
+            file: Some(file),
+        };
+    }
+    end_with(5)
 }
 
 /// Loads an image and runs it for at most `limit` ticks. Status 0: BYE or the end of input; 1: the bytes are no

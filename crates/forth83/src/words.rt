@@ -17,6 +17,12 @@ pub enum Words {
     Kernel {
         blocks: String,
     },
+    Build {
+        blocks: String,
+        from: u16,
+        to: u16,
+        image: String,
+    },
     Run {
         image: String,
         blocks: Option<String>,
@@ -40,6 +46,31 @@ fn kernel_command<'a>(alloc: Global) -> Result<Command<'a>, AllocError> {
             Arg::new(alloc, "BLOCKS")
                 .required(true)
                 .help("The new file"),
+        )
+}
+
+/// A screen's number, which must be given.
+fn screen<'a>(alloc: Global, name: &'a str, help: &'a str) -> Arg<'a> {
+    Arg::new(alloc, name)
+        .required(true)
+        .value_parser(value_parser!(u16))
+        .help(help)
+}
+
+fn build_command<'a>(alloc: Global) -> Result<Command<'a>, AllocError> {
+    Command::new(alloc, "build")
+        .about("Build the source in screens to an image")
+        .arg(
+            Arg::new(alloc, "BLOCKS")
+                .required(true)
+                .help("A file of blocks of 1,024 bytes"),
+        )?
+        .arg(screen(alloc, "FROM", "The first screen, 0 to 65535"))?
+        .arg(screen(alloc, "TO", "The last screen, 0 to 65535"))?
+        .arg(
+            Arg::new(alloc, "IMAGE")
+                .required(true)
+                .help("The new image file"),
         )
 }
 
@@ -68,6 +99,7 @@ fn command<'a>(alloc: Global) -> Result<Command<'a>, AllocError> {
         .subcommand_required(true)
         .arg_required_else_help(true)
         .subcommand(kernel_command(alloc)?)?
+        .subcommand(build_command(alloc)?)?
         .subcommand(run_command(alloc)?)
 }
 
@@ -83,6 +115,24 @@ fn kernel_words(alloc: Global, inner: &ArgMatches<'_>) -> Result<Option<Words>, 
         None => Ok(None),
         Some(blocks) => Ok(Some(Words::Kernel { blocks })),
     }
+}
+
+fn build_words(alloc: Global, inner: &ArgMatches<'_>) -> Result<Option<Words>, AllocError> {
+    let Some(blocks) = copied(alloc, inner, "BLOCKS")? else {
+        return Ok(None);
+    };
+    let Some(image) = copied(alloc, inner, "IMAGE")? else {
+        return Ok(None);
+    };
+    let (Some(from), Some(to)) = (inner.get_one::<u16>("FROM"), inner.get_one::<u16>("TO")) else {
+        return Ok(None);
+    };
+    Ok(Some(Words::Build {
+        blocks,
+        from,
+        to,
+        image,
+    }))
 }
 
 fn run_words(alloc: Global, inner: &ArgMatches<'_>) -> Result<Option<Words>, AllocError> {
@@ -102,6 +152,7 @@ fn words_of(alloc: Global, matches: &ArgMatches<'_>) -> Result<Option<Words>, Al
     match matches.subcommand() {
         None => Ok(None),
         Some(("kernel", inner)) => kernel_words(alloc, inner),
+        Some(("build", inner)) => build_words(alloc, inner),
         Some((_, inner)) => run_words(alloc, inner),
     }
 }
