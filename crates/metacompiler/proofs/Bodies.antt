@@ -27,7 +27,7 @@ use Rattle.metacompiler.specs.declared.cause.Cause.{Cause}
 use Rattle.metacompiler.specs.declared.cause.Cause.TheVariants as c
 use Rattle.metacompiler.specs.declared.state.Title.{Title}
 use Rattle.metacompiler.specs.declared.state.Begun.TheVariants as g
-use Rattle.metacompiler.specs.Places.{Place, place, IsTitle}
+use Rattle.metacompiler.specs.Places.{Place, IsTitle}
 use Rattle.metacompiler.specs.Items.{Items, Then, Colon, controls}
 use Rattle.metacompiler.specs.Meanings.{meaning, meanings, half_past}
 use Rattle.metacompiler.specs.Stages.{Inside, body_at}

@@ -1,5 +1,5 @@
 -- The stages, one by one.
-use Rattle.std.proofs.Common.{◌≡◌, ℕ, inl, inr, List, [], ◌∷◌, refl, sym, subst}
+use Rattle.std.proofs.Common.{ℕ, inl, inr, List, refl, sym, subst}
 use Rattle.std.specs.Prelude.{Result, Ok, Err}
 use Rattle.colon_bodies.specs.Tokens.{Token}
 use Rattle.metacompiler.specs.declared.state.Build.{Build}

@@ -1,5 +1,5 @@
 -- What the words that were taken say of a source.
-use Rattle.std.proofs.Common.{◌≡◌, ℕ, ◌+◌, ◌∙◌, ◌⊎◌, List, [], ◌∷◌, ◌++◌, map, refl, ap, sym, subst, append_assoc, append-nil, Ok, Err, inl, inr}
+use Rattle.std.proofs.Common.{◌≡◌, ◌∙◌, List, [], ◌∷◌, ◌++◌, refl, ap, sym, subst, append_assoc, Ok, Err}
 use Rattle.source_words.specs.Words.{SourceWord}
 use Rattle.metacompiler.specs.declared.reading.Compilation.{Compilation}
 use Rattle.metacompiler.specs.declared.state.Build.{Build}
@@ -7,14 +7,13 @@ use Rattle.metacompiler.specs.declared.state.Begun.{Begun}
 use Rattle.metacompiler.specs.declared.cause.BuildFault.{BuildFault}
 use Rattle.metacompiler.specs.Places.{Place}
 use Rattle.metacompiler.specs.Spelled.{placed, all_placed}
-use Rattle.metacompiler.specs.Items.{Items, item_words}
+use Rattle.metacompiler.specs.Items.{Items}
 use Rattle.metacompiler.specs.Stages.{Stage}
-use Rattle.metacompiler.specs.Faults.{IsFault}
 use Rattle.metacompiler.specs.Built.{Building}
 use Rattle.metacompiler.specs.State.{Shows, IsState, IsRead, IsBegun, Goes, TakenAt}
 use Rattle.metacompiler.specs.Sources.{IsFaultless}
 use Rattle.metacompiler.specs.Reading.{Holds, IsHeld, IsFaultOf}
-use Rattle.metacompiler.proofs.Looping.{starts, read_on, stops, is_front}
+use Rattle.metacompiler.proofs.Looping.{read_on, stops, is_front}
 
 pub placed-append : (xs ys : List SourceWord) → all_placed (xs ++ ys) ≡ all_placed xs ++ all_placed ys
 placed-append [] ys = refl

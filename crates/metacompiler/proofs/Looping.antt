@@ -1,5 +1,5 @@
 -- The whole image, and the loop over a source's words.
-use Rattle.std.proofs.Common.{lit≤, length-append, ◌≡◌, ℕ, ◌+◌, ◌*◌, ◌/◌, ◌<◌, ◌≤◌, ◌⊎◌, inl, inr, List, [], ◌∷◌, ◌++◌, length, map, take, drop, get_or, zero, suc, refl, sym, ap, ◌∙◌, subst, arith, append_assoc, append-nil, add-one}
+use Rattle.std.proofs.Common.{lit≤, length-append, ◌≡◌, ℕ, ◌+◌, ◌*◌, ◌/◌, ◌<◌, ◌≤◌, ◌⊎◌, inl, inr, List, [], ◌∷◌, ◌++◌, length, take, get_or, zero, suc, refl, sym, ap, ◌∙◌, subst, arith, append_assoc, append-nil}
 use Rattle.std.specs.Prelude.{false, Option, Some, None, Result, Ok, Err, slice_index, Bool, true, cond}
 use Rattle.colon_bodies.specs.Tokens.{Token, NAME}
 use Rattle.memory.specs.Bytes.{cell_bytes}
@@ -17,7 +17,7 @@ use Rattle.metacompiler.specs.declared.state.Begun.TheVariants as g
 use Rattle.colon_bodies.specs.Rules as rules
 use Rattle.colon_bodies.specs.declared.words.Half.TheVariants.{Free, Compiling}
 use Rattle.metacompiler.specs.Built.{Built}
-use Rattle.metacompiler.specs.Places.{Place, place, Sense, Plain, Keyword, Figure, Wide, Remark}
+use Rattle.metacompiler.specs.Places.{Place, Sense, Plain, Keyword, Figure, Wide, Remark}
 use Rattle.metacompiler.specs.Items.{Items, Nothing, item_words, controls, low, zeros, bytes, heads_of, image, system, end_of, last_link, names, current, newest_record}
 use Rattle.metacompiler.specs.Names.{Name, address, newest_first, newest_link}
 use Rattle.metacompiler.specs.Meanings.{look, unnamed, name_first, sense_of, is_barred, meaning}

@@ -1,5 +1,5 @@
 -- The words of a screen, taken one by one.
-use Rattle.std.proofs.Common.{◌≡◌, ◌∙◌, ℕ, length, List, [], ◌∷◌, ◌++◌, refl, ap, sym, subst, append_assoc, append-nil, Ok, Err}
+use Rattle.std.proofs.Common.{◌≡◌, ◌∙◌, ℕ, ◌<◌, length, List, [], ◌∷◌, ◌++◌, refl, ap, sym, subst, append_assoc, append-nil, Ok, Err}
 use Rattle.source_words.specs.declared.modes.Mode.{Mode}
 use Rattle.source_words.specs.declared.scanner.Scanner.{Scanner}
 use Rattle.source_words.specs.Modes.{after}
@@ -9,7 +9,7 @@ use Rattle.std.specs.Result.{is_err}
 use Rattle.std.proofs.lemmas.Bool.{ltb-true}
 use Rattle.block_buffers.specs.Disks.{Disk, block_at}
 use Rattle.block_buffers.specs.Calls.{Reads, Logs, failures}
-use Rattle.block_buffers.proofs.Failures.{succeeded}
+use Rattle.block_buffers.proofs.Failures.{succeeded, failed}
 use Rattle.block_buffers.specs.declared.devices.DeviceFault.{DeviceFault}
 use Rattle.metacompiler.specs.declared.reading.Stop.{Stop}
 use Rattle.metacompiler.specs.Sources.{Done}
@@ -20,7 +20,7 @@ use Rattle.metacompiler.specs.declared.reading.Stop.TheVariants as stop
 use Rattle.metacompiler.specs.declared.cause.BuildFault.{BuildFault}
 use Rattle.metacompiler.specs.Faults.{IsFault}
 use Rattle.metacompiler.specs.Spelled.{all_placed}
-use Rattle.metacompiler.specs.Reading.{Holds, IsHeld, IsFaultOf, Takes, TakesAll, TakesScreen, HasRead, Midway}
+use Rattle.metacompiler.specs.Reading.{Holds, IsHeld, IsFaultOf, TakesAll, TakesScreen, HasRead, HasFailed, Midway}
 
 -- no word is taken yet
 pub none_taken : (m : Mode) (words : List SourceWord) (k : Compilation) (scanner : Scanner) → words_left scanner ≡ words → scanner.mode ≡ m → Midway m words k k scanner
@@ -68,6 +68,11 @@ left_true false b e = e
 pub read_done : (d : Disk) (s : ℕ) (r : Result Unit DeviceFault) (page : List ℕ) (new : Option Disk) (before after : List Bool) → is_err r ≡ false → Reads d s new page r → Logs before after r → HasRead d s (record { disk = new; before = failures before; after = failures after }) × (page ≡ block_at d.blocks s)
 read_done d s (Ok u) page new before after e x n = (record { there = ltb-true s (length d.blocks) (left_true _ _ x.0); disk = x.1; failures = succeeded before after u n }, x.2)
 read_done d s (Err u) page new before after e x n = cc
+
+-- a screen that the device has, and failed to read
+pub read_failed : (d : Disk) (s : ℕ) (r : Result Unit DeviceFault) (page : List ℕ) (new : Option Disk) (before after : List Bool) → is_err r ≡ true → s < length d.blocks → Reads d s new page r → Logs before after r → HasFailed d s (record { disk = new; before = failures before; after = failures after })
+read_failed d s (Ok u) page new before after e l x n = cc
+read_failed d s (Err u) page new before after e l x n = record { there = l; disk = x.1; failures = failed before after u n }
 
 -- a screen that was read, and its words
 pub screen_taken : (d : Disk) (s : ℕ) (m : Mode) (front : List SourceWord) (r : Result Mode Stop) (old new : Compilation) (done : Done) → Holds old front → HasRead d s done → TakesAll m front (screen_words m s (block_at d.blocks s)) r new → TakesScreen d s m front r old new done

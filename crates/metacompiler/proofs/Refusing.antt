@@ -1,5 +1,5 @@
 -- Why a source is refused.
-use Rattle.std.proofs.Common.{true, false, ◌≡◌, ℕ, ◌+◌, ◌-◌, ◌<◌, ◌≤◌, ◌∙◌, List, [], ◌∷◌, ◌++◌, length, take, drop, arith, refl, ap, sym, subst, append_assoc, append-nil, inl, inr, ◌⊎◌, Some, None, Ok, Err}
+use Rattle.std.proofs.Common.{◌≡◌, ℕ, ◌+◌, ◌-◌, ◌<◌, ◌≤◌, ◌∙◌, List, [], ◌++◌, length, take, drop, arith, refl, ap, sym, subst, inl, inr, ◌⊎◌, Some, Ok, Err}
 use Rattle.std.proofs.lemmas.List.{take-take, take-append-drop}
 use Rattle.std.specs.Prelude.{Result}
 use Rattle.block_buffers.specs.Disks.{Disk}
@@ -21,13 +21,13 @@ use Rattle.metacompiler.specs.declared.spot.Sort.TheVariants as s
 use Rattle.colon_bodies.specs.declared.words.Half.TheVariants.{Free}
 use Rattle.metacompiler.specs.Places.{Place}
 use Rattle.metacompiler.specs.Spelled.{all_placed}
-use Rattle.metacompiler.specs.Items.{Items, controls, image}
+use Rattle.metacompiler.specs.Items.{Items, controls}
 use Rattle.metacompiler.specs.Meanings.{look, meaning}
-use Rattle.metacompiler.specs.Stages.{Stage, Whole, Counted, Due, Chosen, Inside, body_at, IsFront}
+use Rattle.metacompiler.specs.Stages.{Stage, Whole, Counted, Due, Chosen, Inside, body_at}
 use Rattle.metacompiler.specs.Faults.{AtItem, AtNumber, AtName, AtVocabulary, InBody, Applies, IsFault, IsGood}
 use Rattle.metacompiler.specs.State.{IsBuilt}
-use Rattle.metacompiler.specs.Sources.{Done, AreThere, Because, IsRefused, IsBuiltOf, IsFaultless, after_reads, screens, source_of}
-use Rattle.metacompiler.specs.Reading.{Holds, IsFaultOf, Stopped, TookAll, Why, refusal, settled}
+use Rattle.metacompiler.specs.Sources.{Done, AreThere, Because, IsRefused, IsBuiltOf, IsFaultless, screens, source_of}
+use Rattle.metacompiler.specs.Reading.{Stopped, TookAll, Why, refusal, settled}
 use Rattle.metacompiler.proofs.Exact.{no_fault}
 use Rattle.metacompiler.proofs.Looping.{IsOfWord, sense_cause}
 

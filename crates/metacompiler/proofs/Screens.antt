@@ -1,5 +1,5 @@
 -- Screens, taken one by one.
-use Rattle.std.proofs.Common.{◌≡◌, ℕ, ◌+◌, ◌-◌, ◌<◌, ◌≤◌, ◌∙◌, ◌⊎◌, List, [], ◌∷◌, ◌++◌, length, drop, slice_index_or, length-drop, arith, refl, ap, sym, subst, append_assoc, append-nil, Some, Ok, Err, inl, inr}
+use Rattle.std.proofs.Common.{◌≡◌, ℕ, ◌+◌, ◌-◌, ◌<◌, ◌≤◌, ◌∙◌, List, [], ◌∷◌, ◌++◌, length, drop, slice_index_or, length-drop, arith, refl, ap, sym, subst, Some, Ok, Err, inl, inr}
 use Rattle.std.proofs.lemmas.Bool.{cases_lt}
 use Rattle.std.proofs.lemmas.List.{take_more, get_or-drop, drop-drop, length-take-le}
 use Rattle.block_buffers.specs.Disks.{Disk, block_at, called}
@@ -10,10 +10,7 @@ use Rattle.source_words.proofs.Joining.{after_append, words_snoc}
 use Rattle.metacompiler.specs.declared.reading.Compilation.{Compilation}
 use Rattle.metacompiler.specs.declared.reading.Stop.{Stop}
 use Rattle.metacompiler.specs.declared.reading.Stop.TheVariants as stop
-use Rattle.metacompiler.specs.declared.cause.BuildFault.{BuildFault}
-use Rattle.metacompiler.specs.Spelled.{all_placed}
-use Rattle.metacompiler.specs.Faults.{IsFault}
-use Rattle.metacompiler.specs.Sources.{after_reads, screens, Done, IsFaultless}
+use Rattle.metacompiler.specs.Sources.{after_reads, screens, Done}
 use Rattle.metacompiler.specs.Reading.{Holds, IsFaultOf, TakesScreen, TookAll, Stopped, Underway}
 use Rattle.metacompiler.proofs.Held.{faultless}
 

@@ -10,11 +10,10 @@ use Rattle.metacompiler.specs.declared.entry.Kind.{Kind}
 use Rattle.metacompiler.specs.declared.entry.Lead.{Lead}
 use Rattle.metacompiler.specs.declared.entry.Lead.TheVariants.{Makes, Defines, Starts}
 use Rattle.metacompiler.specs.declared.state.Begun.TheVariants as g
-use Rattle.metacompiler.specs.declared.spot.Spot.{Spot}
 use Rattle.metacompiler.specs.declared.entry.Named.{Named}
 use Rattle.metacompiler.specs.declared.state.Site.{Site}
 use Rattle.metacompiler.specs.declared.state.Title.{Title}
-use Rattle.metacompiler.specs.Places.{Place, place, IsTitle}
+use Rattle.metacompiler.specs.Places.{Place, IsTitle}
 use Rattle.metacompiler.specs.Names.{Name, stored, address, newest_first}
 use Rattle.colon_bodies.proofs.Whole.{starts, fronts}
 use Rattle.metacompiler.proofs.Sound.{sound_end}

@@ -109,6 +109,7 @@ rank c.Full = 8
 rank c.NoBoot = 9
 rank c.Device = 10
 
+-- the first cause of a word
 pub record FirstCause (limit : ℕ) (t : Items) (stage : Stage) (w : Place) (after : List Place) (cause : Cause) : Type 0 where
   pub applies : Applies limit t stage w after cause
   pub first : (d : Cause) → 0 < rank d → rank d < rank cause → Applies limit t stage w after d → ⊥

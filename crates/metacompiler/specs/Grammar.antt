@@ -26,12 +26,14 @@ is_gap n =
 abbrev pub IsPrimitive : Items → ℕ → Type 0
 IsPrimitive t n = (5 ≤ n) × (n < 205) × (is_gap n ≡ false) × (n < 28 → controls t n ≡ 0)
 
+-- the words are one, or two, of these sorts
 abbrev pub One : List Place → Sort → Type 0
 One ws s = (a : Place) × (ws ≡ a ∷ []) × (a.sort ≡ s)
 
 abbrev pub Two : List Place → Sort → Sort → Type 0
 Two ws s u = (a : Place) × (b : Place) × (ws ≡ a ∷ b ∷ []) × (a.sort ≡ s) × (b.sort ≡ u)
 
+-- what leads up to a name
 abbrev pub Leads : Lead → List Place → Type 0
 Leads (Makes (Primitive n)) ws = Two ws (s.Number n) s.Prim
 Leads (Makes (Constant n)) ws = Two ws (s.Number n) s.Constant
@@ -67,6 +69,7 @@ Fits t Immediate = names t ≢ []
 Fits t (Boot w) = boot t ≡ None
 Fits t _ = Unit {0}
 
+-- an item behind others: its words, what it needs, and its room
 pub record IsSound (limit : ℕ) (t : Items) (ws : List Place) (i : Item) : Type 0 where
   pub spells : Spells t ws i
   pub fits : Fits t i

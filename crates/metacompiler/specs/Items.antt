@@ -10,6 +10,7 @@ use Rattle.metacompiler.specs.declared.entry.Kind.TheVariants.{Primitive, Consta
 use Rattle.metacompiler.specs.declared.entry.Sign.{Sign}
 use Rattle.metacompiler.specs.declared.entry.Sign.TheVariants as s
 
+-- Items: a header without a body, a colon definition, `,`, `C,`, ALLOT, IMMEDIATE, DEFINITIONS with its record, BOOT with its word
 pub data Item : Type 0 where
   Header : (name : Place) → Kind → Item
   Colon : (name : Place) → Definition → Item

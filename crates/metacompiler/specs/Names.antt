@@ -6,6 +6,7 @@ use Rattle.metacompiler.specs.declared.entry.Sign.{Sign}
 use Rattle.metacompiler.specs.declared.entry.Entry.{Entry}
 use Rattle.metacompiler.specs.declared.entry.Named.{Named}
 
+-- a name that was made, with its vocabulary and link field
 pub record Name : Type 0 where
   pub name : List ℕ
   pub vocabulary : ℕ

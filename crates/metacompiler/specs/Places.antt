@@ -15,6 +15,7 @@ pub data Sense : Type 0 where
   Wide : (n : ℕ) → Sense
   Remark : Sense
 
+-- without where its text lies in memory
 abbrev pub sense : Inner → Sense
 sense i.Other = Plain
 sense (i.Keyword w) = Keyword (token w)

@@ -23,6 +23,7 @@ pub data Stage : Type 0 where
 abbrev pub body_at : Items → Place → ℕ
 body_at t p = end_of t + head_size p
 
+-- a definition is begun: its name, and words of its body that nothing is wrong with
 pub record IsInside (limit : ℕ) (t : Items) (ws : List Place) (p : Place) (before : List Token) : Type 0 where
   pub front : List Place
   pub inner : List Place
@@ -32,6 +33,7 @@ pub record IsInside (limit : ℕ) (t : Items) (ws : List Place) (p : Place) (bef
   pub means : meanings Free t inner ≡ map (λ w. Ok w) before
   pub fits : body.IsFront (controls t) (body_at t p) limit before
 
+-- these words begin an item
 abbrev pub Begun : (limit : ℕ) → Items → List Place → Stage → Type 0
 Begun limit t ws Whole = ws ≡ []
 Begun limit t ws (Counted n) = One ws (s.Number n)

@@ -20,6 +20,7 @@ use crate::spot::Spot;
 use crate::state::{Build, Title};
 use colon_bodies::{Half, lay_cell};
 
+/// CREATE lays a header with code field 2.
 pub fn make_create(b: &mut Build, p: Spot) -> Result<(), Cause>
     requires building { Building b.old }
     requires short { length p.name.now < 32 }
@@ -31,6 +32,7 @@ pub fn make_create(b: &mut Build, p: Spot) -> Result<(), Cause>
     Ok(())
 }
 
+/// VARIABLE lays a header with code field 2, and the cell 0.
 pub fn make_variable(b: &mut Build, p: Spot) -> Result<(), Cause>
     requires building { Building b.old }
     requires short { length p.name.now < 32 }
@@ -43,6 +45,7 @@ pub fn make_variable(b: &mut Build, p: Spot) -> Result<(), Cause>
     Ok(())
 }
 
+/// CONSTANT lays a header with code field 3, and its value.
 pub fn make_constant(b: &mut Build, p: Spot, n: u16) -> Result<(), Cause>
     requires building { Building b.old }
     requires short { length p.name.now < 32 }
@@ -55,6 +58,7 @@ pub fn make_constant(b: &mut Build, p: Spot, n: u16) -> Result<(), Cause>
     Ok(())
 }
 
+/// PRIM lays a header with the primitive's number as its code field.
 pub fn make_primitive(b: &mut Build, p: Spot, n: u16) -> Result<(), Cause>
     requires building { Building b.old }
     requires short { length p.name.now < 32 }
@@ -69,6 +73,7 @@ pub fn make_primitive(b: &mut Build, p: Spot, n: u16) -> Result<(), Cause>
     Ok(())
 }
 
+/// Lays the record of a vocabulary: four chain heads, and the link to the next older record.
 pub fn lay_record(image: &mut Vec<u8>, older: u16) -> Result<(), Cause>
     ensures bytes { OnOk result (image.new.items ≡ image.old.items ++ (zeros 8 ++ cell_bytes older)) }
     ensures memory { IfErr result (λ e. e ≡ OutOfMemory) }
@@ -78,6 +83,7 @@ pub fn lay_record(image: &mut Vec<u8>, older: u16) -> Result<(), Cause>
     Ok(())
 }
 
+/// VOCABULARY lays a header with code field 4, and a record.
 pub fn make_vocabulary(b: &mut Build, p: Spot) -> Result<(), Cause>
     requires building { Building b.old }
     requires short { length p.name.now < 32 }
@@ -92,6 +98,7 @@ pub fn make_vocabulary(b: &mut Build, p: Spot) -> Result<(), Cause>
     Ok(())
 }
 
+/// `,` lays a cell.
 pub fn comma(b: &mut Build, n: u16) -> Result<(), Cause>
     ensures built { (t : Items) (ws : List Place) → Built b.old t → OnOk result (Built b.new (Then t ws (Cell n))) }
     ensures kept { OnOk result (b.new.draft ≡ b.old.draft) }
@@ -101,6 +108,7 @@ pub fn comma(b: &mut Build, n: u16) -> Result<(), Cause>
     Ok(())
 }
 
+/// `C,` lays the low byte.
 pub fn char_comma(b: &mut Build, n: u16) -> Result<(), Cause>
     ensures built { (t : Items) (ws : List Place) → Built b.old t → OnOk result (Built b.new (Then t ws (Byte n))) }
     ensures kept { OnOk result (b.new.draft ≡ b.old.draft) }
@@ -110,6 +118,7 @@ pub fn char_comma(b: &mut Build, n: u16) -> Result<(), Cause>
     Ok(())
 }
 
+/// Lays zero bytes.
 pub fn lay_zeros(image: &mut Vec<u8>, n: u16) -> Result<(), Cause>
     ensures bytes { OnOk result (image.new.items ≡ image.old.items ++ zeros n) }
     ensures memory { IfErr result (λ e. e ≡ OutOfMemory) }
@@ -120,6 +129,7 @@ pub fn lay_zeros(image: &mut Vec<u8>, n: u16) -> Result<(), Cause>
     Ok(())
 }
 
+/// ALLOT lays zero bytes.
 pub fn allot(b: &mut Build, n: u16) -> Result<(), Cause>
     ensures built { (t : Items) (ws : List Place) → Built b.old t → OnOk result (Built b.new (Then t ws (Allot n))) }
     ensures kept { OnOk result (b.new.draft ≡ b.old.draft) }
@@ -129,6 +139,7 @@ pub fn allot(b: &mut Build, n: u16) -> Result<(), Cause>
     Ok(())
 }
 
+/// DEFINITIONS sends later headers to a vocabulary.
 pub fn set_definitions(b: &mut Build, vocabulary: u16)
     ensures built { (t : Items) (ws : List Place) → Built b.old t → Built b.new (Then t ws (Definitions vocabulary)) }
     ensures kept { b.new.draft ≡ b.old.draft }
@@ -136,6 +147,7 @@ pub fn set_definitions(b: &mut Build, vocabulary: u16)
     b.current = vocabulary;
 }
 
+/// BOOT sets the entry.
 pub fn set_boot(b: &mut Build, w: u16)
     ensures built { (t : Items) (ws : List Place) → Built b.old t → Built b.new (Then t ws (Boot w)) }
     ensures kept { b.new.draft ≡ b.old.draft }

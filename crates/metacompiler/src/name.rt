@@ -23,6 +23,7 @@ use crate::spot::{Inner, Spot};
 use crate::state::{Begun, Build, Title};
 use crate::take::is_over;
 
+/// Makes the header of an item.
 fn make(b: &mut Build, kind: Kind, p: Spot) -> Result<(), Cause>
     requires building { Building b.old }
     requires short { length p.name.now < 32 }
@@ -40,6 +41,7 @@ fn make(b: &mut Build, kind: Kind, p: Spot) -> Result<(), Cause>
     }
 }
 
+/// How many bytes stand behind a header of this kind.
 fn bytes_of_kind(kind: Kind) -> usize
     ensures is { result ≡ kind_size kind }
     ensures few { result ≤ 10 }
@@ -51,6 +53,7 @@ fn bytes_of_kind(kind: Kind) -> usize
     }
 }
 
+/// Whether a name has more than 31 bytes.
 fn is_long(name: &[u8]) -> bool
     ensures { IsTrue result ↔ (31 < length name.now) }
 {

@@ -39,12 +39,14 @@ fn is_free_control(b: &Build, n: u16) -> bool
     is_zero(cell_at(b.runtime.as_slice(), n))
 }
 
+/// Whether a cell is 0.
 fn is_zero(x: u16) -> bool
     ensures { IsTrue result ↔ (x ≡ 0) }
 {
     x == 0
 }
 
+/// A control's compilation address.
 fn cell_at(runtime: &[u16], n: u16) -> u16
     requires { n < length runtime.now }
     ensures { result ≡ slice_index runtime.now n }

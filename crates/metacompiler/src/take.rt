@@ -113,6 +113,7 @@ fn take_vocabulary(b: &Build, w: Spot) -> Result<Begun, Cause>
     }
 }
 
+/// Whether a header was made.
 fn has_names(b: &Build) -> bool
     ensures { IsTrue result ↔ (0 < length b.now.names.items) }
 {

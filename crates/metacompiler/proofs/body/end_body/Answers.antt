@@ -1,7 +1,6 @@
 use Rattle.std.proofs.Common.{refl, sym, ap, ◌∙◌}
 use Rattle.std.specs.Prelude.{slice_index}
 use Rattle.std.proofs.lemmas.Result.{err_from_is_err_and}
-use Rattle.metacompiler.specs.Places.{place}
 use Rattle.metacompiler.proofs.Bodies.{draft_in, ended_cause, ended_in, ended_ends, same_built}
 use Rattle.metacompiler.proofs.body.end_body.Goals as goal
 

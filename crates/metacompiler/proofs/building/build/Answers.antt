@@ -1,4 +1,3 @@
-use Rattle.std.proofs.Common.{◌∙◌, ap}
 use Rattle.metacompiler.specs.Spelled.{all_placed}
 use Rattle.metacompiler.specs.Sources.{source_of}
 use Rattle.metacompiler.proofs.Held.{held_building, is_read}

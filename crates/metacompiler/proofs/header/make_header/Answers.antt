@@ -1,7 +1,6 @@
 use Rattle.std.proofs.Common.{ap, sym, ◌∙◌, ◌+◌, List, ℕ}
 use Rattle.std.specs.Prelude.{false}
 use Rattle.metacompiler.specs.Names.{Name, class_of}
-use Rattle.metacompiler.specs.Places.{place}
 use Rattle.metacompiler.proofs.Making.{within_image, headed_laid, headed_named}
 use Rattle.metacompiler.proofs.header.make_header.Goals as goal
 

@@ -1,5 +1,4 @@
 use Rattle.std.proofs.Common.{ap, sym, ◌∙◌}
-use Rattle.metacompiler.specs.Places.{place}
 use Rattle.metacompiler.proofs.Making.{colon_laid}
 use Rattle.metacompiler.proofs.make.make_colon.Goals as goal
 
