@@ -2,13 +2,13 @@
 
 ghost use Rattle.std.specs.Prelude.{◌≤◌, vec_len};
 
-use crate::commands::{Ended, do_build};
+use crate::commands::{Ended, do_build, do_view};
 use block_buffers::MemoryDevice;
 use inner_interpreter::Writing;
 use std::alloc::Global;
 use std::test::Fail;
 
-/// A file of six blocks. Screen 1 is a whole source, screen 2 is blank, screens 4 and 5 hold a source with a fault.
+/// A file of six blocks. Screen 1 is a whole source, screens 2 and 3 are blank, screens 4 and 5 hold a source with a fault.
 fn device(alloc: Global) -> Result<MemoryDevice, Fail> {
     let sources = [
         b"".as_slice(),
@@ -106,5 +106,30 @@ fn a_line_that_is_not_written(rt: HostRuntime) -> Result<(), Fail> {
     let Ended { status, file } = do_build(rt.alloc(), &mut device, 1, 1, &mut writer);
     assert_eq!(rt; status, 5);
     assert!(rt; file.is_none());
+    Ok(())
+}
+
+/// The word's screen, or why there is none.
+#[test]
+fn the_screen_of_a_word(rt: HostRuntime) -> Result<(), Fail> {
+    let mut device = device(rt.alloc())?;
+    let mut writer = Writing::new(Vec::new(rt.alloc()));
+    let Ended { file, .. } = do_build(rt.alloc(), &mut device, 0, 1, &mut writer);
+    let file = file.expect(&rt, "a file");
+    let cases = [
+        ("GO", 0, b"1\n".as_slice()),
+        ("go", 1, b"go: NotFound\n".as_slice()),
+        ("", 1, b": NotFound\n".as_slice()),
+    ];
+    for (name, status, line) in cases {
+        let mut writer = Writing::new(Vec::new(rt.alloc()));
+        let ended = do_view(rt.alloc(), file.as_slice(), name, &mut writer);
+        assert_eq!(rt; ended.status, status);
+        assert_eq!(rt; writer.into_inner().as_slice(), line);
+    }
+    let mut writer = Writing::new(Vec::new(rt.alloc()));
+    let ended = do_view(rt.alloc(), &file.as_slice()[1..], "GO", &mut writer);
+    assert_eq!(rt; ended.status, 1);
+    assert_eq!(rt; writer.into_inner().as_slice(), b"image: BadMagic\n".as_slice());
     Ok(())
 }

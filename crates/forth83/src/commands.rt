@@ -11,8 +11,9 @@ use crate::kernel_text::TEXT;
 use block_buffers::Device;
 use image_loader::{Image, ImageFault};
 use inner_interpreter::{Input, Machine, Output, Stop, run, send_all};
-use memory::OutOfMemory;
+use memory::{Memory, OutOfMemory};
 use metacompiler::{BuildFault, Cause, build};
+use see::{ViewRefused, view};
 use std::alloc::{AllocError, Global};
 
 /// How a subcommand ended: the program's status, and the bytes of the file that it makes, if it makes one.
@@ -144,6 +145,37 @@ pub fn do_build<W: Output, D: Device>(
         };
     }
     end_with(5)
+}
+
+/// Prints why nothing is told of a word, whose name is printed as it was typed.
+fn refuse_name<W: Output>(alloc: Global, name: &str, why: ViewRefused, writer: &mut W) -> Ended {
+    match format!(in alloc; "{name}: {why}\n") {
+        Ok(line) => print(writer, line.as_str().as_bytes(), 1),
+        Err(_) => print_out_of_memory(writer),
+    }
+}
+
+fn print_number<W: Output>(alloc: Global, number: u16, writer: &mut W) -> Ended {
+    match format!(in alloc; "{number}\n") {
+        Ok(line) => print(writer, line.as_str().as_bytes(), 0),
+        Err(_) => print_out_of_memory(writer),
+    }
+}
+
+/// Prints the number of the screen in which an image's word was made. Status 0; 1: the bytes are no image (`image: CAUSE` is
+/// printed), the name isn't found (`NAME: CAUSE`) or memory ran out; 5: the line can't be printed.
+pub fn do_view<W: Output>(alloc: Global, image: &[u8], name: &str, writer: &mut W) -> Ended {
+    let image = match image_loader::read(alloc, image) {
+        Ok(image) => image,
+        Err(fault) => return refuse_image(alloc, fault, writer),
+    };
+    let Ok(memory) = Memory::with_front(alloc, image.bytes()) else {
+        return print_out_of_memory(writer);
+    };
+    match view(&memory, name.as_bytes()) {
+        Ok(screen) => print_number(alloc, screen, writer),
+        Err(why) => refuse_name(alloc, name, why, writer),
+    }
 }
 
 /// Loads an image and runs it for at most `limit` ticks. Status 0: BYE or the end of input; 1: the bytes are no

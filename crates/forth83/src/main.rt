@@ -23,7 +23,7 @@ mod tests;
 mod words;
 
 use block_buffers::MemoryDevice;
-use commands::{Ended, do_build, do_kernel, do_run};
+use commands::{Ended, do_build, do_kernel, do_run, do_view};
 use file_devices::{open_device, open_to_read};
 use files::{read_image, write_file};
 use inner_interpreter::{Reading, Writing};
@@ -102,6 +102,19 @@ fn build_image(rt: &HostRuntime, blocks: &str, from: u16, to: u16, image: &str) 
     finish(rt, ended, image)
 }
 
+/// Says in which screen the word that `view` names was made.
+fn view_word(rt: &HostRuntime, image: &str, name: &str) -> u8 {
+    let bytes = match read_image(rt, image) {
+        Ok(Some(bytes)) => bytes,
+        Ok(None) => return cannot_open(rt, image),
+        Err(_) => return out_of_memory(rt),
+    };
+    let Ok(writer) = standard_output(rt) else {
+        return out_of_memory(rt);
+    };
+    do_view(rt.alloc(), bytes.as_slice(), name, &mut Writing::new(writer)).status
+}
+
 /// Opens what `run` names, and runs the image over standard input and output.
 fn run_image(rt: &HostRuntime, image: &str, blocks: Option<&str>, limit: u64) -> u8 {
     let bytes = match read_image(rt, image) {
@@ -165,6 +178,7 @@ fn main(rt: HostRuntime) -> ExitCode {
                 limit,
             },
         ) => run_image(&rt, image.as_str(), blocks.as_deref(), limit),
+        Parsed::Words(Words::View { image, name }) => view_word(&rt, image.as_str(), name.as_str()),
     };
     ExitCode::from(status)
 }

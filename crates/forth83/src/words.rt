@@ -28,6 +28,10 @@ pub enum Words {
         blocks: Option<String>,
         limit: u64,
     },
+    View {
+        image: String,
+        name: String,
+    },
 }
 
 /// What became of the command line.
@@ -92,6 +96,17 @@ fn run_command<'a>(alloc: Global) -> Result<Command<'a>, AllocError> {
         .arg(limit)
 }
 
+fn view_command<'a>(alloc: Global) -> Result<Command<'a>, AllocError> {
+    Command::new(alloc, "view")
+        .about("Print the number of the screen in which a word was made")
+        .arg(
+            Arg::new(alloc, "IMAGE")
+                .required(true)
+                .help("The image file"),
+        )?
+        .arg(Arg::new(alloc, "NAME").required(true).help("The word"))
+}
+
 fn command<'a>(alloc: Global) -> Result<Command<'a>, AllocError> {
     Command::new(alloc, "forth83")
         .about("A Forth-83 system with block storage")
@@ -100,7 +115,8 @@ fn command<'a>(alloc: Global) -> Result<Command<'a>, AllocError> {
         .arg_required_else_help(true)
         .subcommand(kernel_command(alloc)?)?
         .subcommand(build_command(alloc)?)?
-        .subcommand(run_command(alloc)?)
+        .subcommand(run_command(alloc)?)?
+        .subcommand(view_command(alloc)?)
 }
 
 fn copied(alloc: Global, matches: &ArgMatches<'_>, id: &str) -> Result<Option<String>, AllocError> {
@@ -148,11 +164,22 @@ fn run_words(alloc: Global, inner: &ArgMatches<'_>) -> Result<Option<Words>, All
     }))
 }
 
+fn view_words(alloc: Global, inner: &ArgMatches<'_>) -> Result<Option<Words>, AllocError> {
+    let Some(image) = copied(alloc, inner, "IMAGE")? else {
+        return Ok(None);
+    };
+    let Some(name) = copied(alloc, inner, "NAME")? else {
+        return Ok(None);
+    };
+    Ok(Some(Words::View { image, name }))
+}
+
 fn words_of(alloc: Global, matches: &ArgMatches<'_>) -> Result<Option<Words>, AllocError> {
     match matches.subcommand() {
         None => Ok(None),
         Some(("kernel", inner)) => kernel_words(alloc, inner),
         Some(("build", inner)) => build_words(alloc, inner),
+        Some(("view", inner)) => view_words(alloc, inner),
         Some((_, inner)) => run_words(alloc, inner),
     }
 }
