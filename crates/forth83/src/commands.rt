@@ -30,6 +30,17 @@ fn end_with(status: u8) -> Ended
     Ended { status, file: None }
 }
 
+/// The end of a subcommand that makes a file.
+fn end_with_file(file: Vec<u8>) -> Ended
+    ensures status { result.status ≡ 0 }
+    ensures file { result.file ≡ Some file }
+{
+    Ended {
+        status: 0,
+        file: Some(file),
+    }
+}
+
 fn status_of(stop: Stop) -> u8 {
     match stop {
         Stop::Bye | Stop::InputEnded => 0,
@@ -86,10 +97,7 @@ pub fn do_kernel<W: Output>(alloc: Global, writer: &mut W) -> Ended
     ensures { MatchOption result.file (0 < result.status) (λ file. (result.status ≡ 0) × (file.items ≡ filled 65536 (blocks_of TEXT.now))) }
 {
     match kernel_file(alloc) {
-        Ok(file) => Ended {
-            status: 0,
-            file: Some(file),
-        },
+        Ok(file) => end_with_file(file),
         Err(_) => print_out_of_memory(writer),
     }
 }
@@ -139,10 +147,7 @@ pub fn do_build<W: Output, D: Device>(
         return print_out_of_memory(writer);
     };
     if is_printed(writer, line.as_str().as_bytes()) {
-        return Ended {
-            status: 0,
-            file: Some(file),
-        };
+        return end_with_file(file);
     }
     end_with(5)
 }
