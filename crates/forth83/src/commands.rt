@@ -1,14 +1,19 @@
 //! The subcommands, over values.
 
-ghost use Rattle.std.specs.Prelude.{◌≡◌, ◌<◌, false, IsNone, MatchOption};
+ghost use Rattle.std.specs.Prelude.{◌≡◌, ◌<◌, false, Some, IsNone, IfSome, MatchOption};
+ghost use Rattle.block_buffers.specs.Calls.{failures};
+ghost use Rattle.block_buffers.specs.Disks.{Disk};
 ghost use Rattle.forth83.specs.Kernel.{filled, blocks_of};
+ghost use Rattle.forth83.specs.Images.{IsBuiltFile};
 
 use crate::kernel::kernel_file;
 use crate::kernel_text::TEXT;
 use block_buffers::Device;
 use image_loader::{Image, ImageFault};
 use inner_interpreter::{Input, Machine, Output, Stop, run, send_all};
-use memory::OutOfMemory;
+use memory::{Memory, OutOfMemory};
+use metacompiler::{BuildFault, Cause, build};
+use see::{ViewRefused, view};
 use std::alloc::{AllocError, Global};
 
 /// How a subcommand ended: the program's status, and the bytes of the file that it makes, if it makes one.
@@ -25,6 +30,17 @@ fn end_with(status: u8) -> Ended
     Ended { status, file: None }
 }
 
+/// The end of a subcommand that makes a file.
+fn end_with_file(file: Vec<u8>) -> Ended
+    ensures status { result.status ≡ 0 }
+    ensures file { result.file ≡ Some file }
+{
+    Ended {
+        status: 0,
+        file: Some(file),
+    }
+}
+
 fn status_of(stop: Stop) -> u8 {
     match stop {
         Stop::Bye | Stop::InputEnded => 0,
@@ -34,18 +50,23 @@ fn status_of(stop: Stop) -> u8 {
     }
 }
 
+/// Prints a line, and answers whether all of it was written.
+fn is_printed<W: Output>(writer: &mut W, line: &[u8]) -> bool {
+    if send_all(writer, line).is_err() {
+        return false;
+    }
+    writer.flush().is_ok()
+}
+
 /// Prints a line, and ends with the status, or with 5 where the line can't be written.
 fn print<W: Output>(writer: &mut W, line: &[u8], status: u8) -> Ended
     ensures status { 0 < status → 0 < result.status }
     ensures file { IsNone result.file }
 {
-    if send_all(writer, line).is_err() {
-        return end_with(5);
+    if is_printed(writer, line) {
+        return end_with(status);
     }
-    match writer.flush() {
-        Ok(()) => end_with(status),
-        Err(_) => end_with(5),
-    }
+    end_with(5)
 }
 
 fn print_out_of_memory<W: Output>(writer: &mut W) -> Ended
@@ -76,11 +97,89 @@ pub fn do_kernel<W: Output>(alloc: Global, writer: &mut W) -> Ended
     ensures { MatchOption result.file (0 < result.status) (λ file. (result.status ≡ 0) × (file.items ≡ filled 65536 (blocks_of TEXT.now))) }
 {
     match kernel_file(alloc) {
-        Ok(file) => Ended {
-            status: 0,
-            file: Some(file),
-        },
+        Ok(file) => end_with_file(file),
         Err(_) => print_out_of_memory(writer),
+    }
+}
+
+/// Prints why a source is refused.
+fn refuse_source<W: Output>(alloc: Global, fault: BuildFault, writer: &mut W) -> Ended
+    ensures status { 0 < result.status }
+    ensures file { IsNone result.file }
+{
+    if fault.cause == Cause::OutOfMemory {
+        return print_out_of_memory(writer);
+    }
+    match format!(in alloc; "{fault}\n") {
+        Ok(line) => print(writer, line.as_str().as_bytes(), 1),
+        Err(_) => print_out_of_memory(writer),
+    }
+}
+
+/// The line that tells of an image which was built.
+fn report(alloc: Global, image: &Image) -> Result<String, AllocError> {
+    let size = image.bytes().len();
+    let entry = image.entry();
+    format!(in alloc; "size {size} entry {entry}\n")
+}
+
+/// Builds the source in the screens from `from` to `to` to an image, and prints `size S entry E`. Status 0, with the bytes of
+/// the image's file. Without a file 1: the source is refused (`screen S offset O: CAUSE` is printed) or memory ran out;
+/// 5: a line can't be printed.
+pub fn do_build<W: Output, D: Device>(
+    alloc: Global,
+    device: &mut D,
+    from: u16,
+    to: u16,
+    writer: &mut W,
+) -> Ended
+    ensures status { MatchOption result.file (0 < result.status) (λ _. result.status ≡ 0) }
+    ensures file { (d : Disk) → D.disk device.old ≡ Some d → IfSome result.file (λ file. IsBuiltFile file.items d from to (record { disk = D.disk device.new; before = failures (D.calls device.old); after = failures (D.calls device.new) })) }
+{
+    let image = match build(alloc, device, from, to) {
+        Ok(image) => image,
+        Err(fault) => return refuse_source(alloc, fault, writer),
+    };
+    let Ok(file) = image_loader::write(alloc, &image) else {
+        return print_out_of_memory(writer);
+    };
+    let Ok(line) = report(alloc, &image) else {
+        return print_out_of_memory(writer);
+    };
+    if is_printed(writer, line.as_str().as_bytes()) {
+        return end_with_file(file);
+    }
+    end_with(5)
+}
+
+/// Prints why nothing is told of a word, whose name is printed as it was typed.
+fn refuse_name<W: Output>(alloc: Global, name: &str, why: ViewRefused, writer: &mut W) -> Ended {
+    match format!(in alloc; "{name}: {why}\n") {
+        Ok(line) => print(writer, line.as_str().as_bytes(), 1),
+        Err(_) => print_out_of_memory(writer),
+    }
+}
+
+fn print_number<W: Output>(alloc: Global, number: u16, writer: &mut W) -> Ended {
+    match format!(in alloc; "{number}\n") {
+        Ok(line) => print(writer, line.as_str().as_bytes(), 0),
+        Err(_) => print_out_of_memory(writer),
+    }
+}
+
+/// Prints the number of the screen in which an image's word was made. Status 0; 1: the bytes are no image (`image: CAUSE` is
+/// printed), the name isn't found (`NAME: CAUSE`) or memory ran out; 5: the line can't be printed.
+pub fn do_view<W: Output>(alloc: Global, image: &[u8], name: &str, writer: &mut W) -> Ended {
+    let image = match image_loader::read(alloc, image) {
+        Ok(image) => image,
+        Err(fault) => return refuse_image(alloc, fault, writer),
+    };
+    let Ok(memory) = Memory::with_front(alloc, image.bytes()) else {
+        return print_out_of_memory(writer);
+    };
+    match view(&memory, name.as_bytes()) {
+        Ok(screen) => print_number(alloc, screen, writer),
+        Err(why) => refuse_name(alloc, name, why, writer),
     }
 }
 

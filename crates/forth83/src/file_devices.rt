@@ -21,7 +21,16 @@ pub struct FileDevice {
 
 /// Opens a file of blocks for reading and writing. `None`: it can't be opened.
 pub fn open_device(rt: &HostRuntime, name: &str) -> Option<FileDevice> {
-    let file = open_apart(rt, OpenOptions::new().read(true).write(true), name).ok()?;
+    open_blocks(rt, OpenOptions::new().read(true).write(true), name)
+}
+
+/// Opens a file of blocks for reading alone: each write fails. `None`: it can't be opened.
+pub fn open_to_read(rt: &HostRuntime, name: &str) -> Option<FileDevice> {
+    open_blocks(rt, OpenOptions::new().read(true), name)
+}
+
+fn open_blocks(rt: &HostRuntime, options: &OpenOptions, name: &str) -> Option<FileDevice> {
+    let file = open_apart(rt, options, name).ok()?;
     let length = file.metadata().ok()?.len();
     let blocks = length / 1024;
     let count = if blocks > 65536 { 65536 } else { blocks as u32 };

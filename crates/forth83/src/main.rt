@@ -2,6 +2,8 @@
 #![tactic(auto)]
 
 #[cfg(test)]
+mod build_tests;
+#[cfg(test)]
 mod cases;
 mod commands;
 #[cfg(test)]
@@ -12,6 +14,8 @@ mod file_tests;
 mod files;
 mod kernel;
 #[cfg(test)]
+mod kernel_runs;
+#[cfg(test)]
 mod kernel_tests;
 mod kernel_text;
 #[cfg(test)]
@@ -19,8 +23,8 @@ mod tests;
 mod words;
 
 use block_buffers::MemoryDevice;
-use commands::{Ended, do_kernel, do_run};
-use file_devices::open_device;
+use commands::{Ended, do_build, do_kernel, do_run, do_view};
+use file_devices::{open_device, open_to_read};
 use files::{read_image, write_file};
 use inner_interpreter::{Reading, Writing};
 use std::io;
@@ -64,19 +68,51 @@ fn standard_output(rt: &HostRuntime) -> io::Result<BufWriter<Stdout>> {
     BufWriter::with_capacity(rt.alloc(), gathered, rt.stdout())
 }
 
+/// Makes the new file of a subcommand, if it has one, and answers the status.
+fn finish(rt: &HostRuntime, ended: Ended, name: &str) -> u8 {
+    let Ended { status, file } = ended;
+    let Some(file) = file else {
+        return status;
+    };
+    match write_file(rt, name, file.as_slice()) {
+        Ok(()) => status,
+        Err(_) => cannot_open(rt, name),
+    }
+}
+
 /// Writes the new file that `kernel` names.
 fn write_kernel(rt: &HostRuntime, blocks: &str) -> u8 {
     let Ok(writer) = standard_output(rt) else {
         return out_of_memory(rt);
     };
-    let Ended { status, file } = do_kernel(rt.alloc(), &mut Writing::new(writer));
-    let Some(file) = file else {
-        return status;
+    let ended = do_kernel(rt.alloc(), &mut Writing::new(writer));
+    finish(rt, ended, blocks)
+}
+
+/// Builds the screens that `build` names, and writes the image.
+fn build_image(rt: &HostRuntime, blocks: &str, from: u16, to: u16, image: &str) -> u8 {
+    let Some(mut device) = open_to_read(rt, blocks) else {
+        return cannot_open(rt, blocks);
     };
-    match write_file(rt, blocks, file.as_slice()) {
-        Ok(()) => status,
-        Err(_) => cannot_open(rt, blocks),
-    }
+    let Ok(writer) = standard_output(rt) else {
+        return out_of_memory(rt);
+    };
+    let mut writer = Writing::new(writer);
+    let ended = do_build(rt.alloc(), &mut device, from, to, &mut writer);
+    finish(rt, ended, image)
+}
+
+/// Says in which screen the word that `view` names was made.
+fn view_word(rt: &HostRuntime, image: &str, name: &str) -> u8 {
+    let bytes = match read_image(rt, image) {
+        Ok(Some(bytes)) => bytes,
+        Ok(None) => return cannot_open(rt, image),
+        Err(_) => return out_of_memory(rt),
+    };
+    let Ok(writer) = standard_output(rt) else {
+        return out_of_memory(rt);
+    };
+    do_view(rt.alloc(), bytes.as_slice(), name, &mut Writing::new(writer)).status
 }
 
 /// Opens what `run` names, and runs the image over standard input and output.
@@ -128,12 +164,21 @@ fn main(rt: HostRuntime) -> ExitCode {
         Parsed::OutOfMemory => out_of_memory(&rt),
         Parsed::Words(Words::Kernel { blocks }) => write_kernel(&rt, blocks.as_str()),
         Parsed::Words(
+            Words::Build {
+                blocks,
+                from,
+                to,
+                image,
+            },
+        ) => build_image(&rt, blocks.as_str(), from, to, image.as_str()),
+        Parsed::Words(
             Words::Run {
                 image,
                 blocks,
                 limit,
             },
         ) => run_image(&rt, image.as_str(), blocks.as_deref(), limit),
+        Parsed::Words(Words::View { image, name }) => view_word(&rt, image.as_str(), name.as_str()),
     };
     ExitCode::from(status)
 }

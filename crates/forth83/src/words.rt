@@ -17,10 +17,20 @@ pub enum Words {
     Kernel {
         blocks: String,
     },
+    Build {
+        blocks: String,
+        from: u16,
+        to: u16,
+        image: String,
+    },
     Run {
         image: String,
         blocks: Option<String>,
         limit: u64,
+    },
+    View {
+        image: String,
+        name: String,
     },
 }
 
@@ -43,6 +53,31 @@ fn kernel_command<'a>(alloc: Global) -> Result<Command<'a>, AllocError> {
         )
 }
 
+/// A screen's number, which must be given.
+fn screen<'a>(alloc: Global, name: &'a str, help: &'a str) -> Arg<'a> {
+    Arg::new(alloc, name)
+        .required(true)
+        .value_parser(value_parser!(u16))
+        .help(help)
+}
+
+fn build_command<'a>(alloc: Global) -> Result<Command<'a>, AllocError> {
+    Command::new(alloc, "build")
+        .about("Build the source in screens to an image")
+        .arg(
+            Arg::new(alloc, "BLOCKS")
+                .required(true)
+                .help("A file of blocks of 1,024 bytes"),
+        )?
+        .arg(screen(alloc, "FROM", "The first screen, 0 to 65535"))?
+        .arg(screen(alloc, "TO", "The last screen, 0 to 65535"))?
+        .arg(
+            Arg::new(alloc, "IMAGE")
+                .required(true)
+                .help("The new image file"),
+        )
+}
+
 fn run_command<'a>(alloc: Global) -> Result<Command<'a>, AllocError> {
     let limit = Arg::new(alloc, "limit")
         .long("limit")
@@ -61,6 +96,17 @@ fn run_command<'a>(alloc: Global) -> Result<Command<'a>, AllocError> {
         .arg(limit)
 }
 
+fn view_command<'a>(alloc: Global) -> Result<Command<'a>, AllocError> {
+    Command::new(alloc, "view")
+        .about("Print the number of the screen in which a word was made")
+        .arg(
+            Arg::new(alloc, "IMAGE")
+                .required(true)
+                .help("The image file"),
+        )?
+        .arg(Arg::new(alloc, "NAME").required(true).help("The word"))
+}
+
 fn command<'a>(alloc: Global) -> Result<Command<'a>, AllocError> {
     Command::new(alloc, "forth83")
         .about("A Forth-83 system with block storage")
@@ -68,7 +114,9 @@ fn command<'a>(alloc: Global) -> Result<Command<'a>, AllocError> {
         .subcommand_required(true)
         .arg_required_else_help(true)
         .subcommand(kernel_command(alloc)?)?
-        .subcommand(run_command(alloc)?)
+        .subcommand(build_command(alloc)?)?
+        .subcommand(run_command(alloc)?)?
+        .subcommand(view_command(alloc)?)
 }
 
 fn copied(alloc: Global, matches: &ArgMatches<'_>, id: &str) -> Result<Option<String>, AllocError> {
@@ -85,6 +133,24 @@ fn kernel_words(alloc: Global, inner: &ArgMatches<'_>) -> Result<Option<Words>, 
     }
 }
 
+fn build_words(alloc: Global, inner: &ArgMatches<'_>) -> Result<Option<Words>, AllocError> {
+    let Some(blocks) = copied(alloc, inner, "BLOCKS")? else {
+        return Ok(None);
+    };
+    let Some(image) = copied(alloc, inner, "IMAGE")? else {
+        return Ok(None);
+    };
+    let (Some(from), Some(to)) = (inner.get_one::<u16>("FROM"), inner.get_one::<u16>("TO")) else {
+        return Ok(None);
+    };
+    Ok(Some(Words::Build {
+        blocks,
+        from,
+        to,
+        image,
+    }))
+}
+
 fn run_words(alloc: Global, inner: &ArgMatches<'_>) -> Result<Option<Words>, AllocError> {
     let Some(image) = copied(alloc, inner, "IMAGE")? else {
         return Ok(None);
@@ -98,10 +164,22 @@ fn run_words(alloc: Global, inner: &ArgMatches<'_>) -> Result<Option<Words>, All
     }))
 }
 
+fn view_words(alloc: Global, inner: &ArgMatches<'_>) -> Result<Option<Words>, AllocError> {
+    let Some(image) = copied(alloc, inner, "IMAGE")? else {
+        return Ok(None);
+    };
+    let Some(name) = copied(alloc, inner, "NAME")? else {
+        return Ok(None);
+    };
+    Ok(Some(Words::View { image, name }))
+}
+
 fn words_of(alloc: Global, matches: &ArgMatches<'_>) -> Result<Option<Words>, AllocError> {
     match matches.subcommand() {
         None => Ok(None),
         Some(("kernel", inner)) => kernel_words(alloc, inner),
+        Some(("build", inner)) => build_words(alloc, inner),
+        Some(("view", inner)) => view_words(alloc, inner),
         Some((_, inner)) => run_words(alloc, inner),
     }
 }
