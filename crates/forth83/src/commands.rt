@@ -1,16 +1,19 @@
 //! The subcommands, over values.
 
-ghost use Rattle.std.specs.Prelude.{◌≡◌, ◌<◌, false, Some, IsNone, IfSome, MatchOption};
+ghost use Rattle.std.specs.Prelude.{◌≡◌, ◌≢◌, ◌<◌, ℕ, List, false, true, Some, IsNone, IfSome, MatchOption};
 ghost use Rattle.block_buffers.specs.Calls.{failures};
 ghost use Rattle.block_buffers.specs.Disks.{Disk};
 ghost use Rattle.forth83.specs.Kernel.{filled, blocks_of};
 ghost use Rattle.forth83.specs.Images.{IsBuiltFile};
+ghost use Rattle.forth83.specs.Statuses.{status_of, EndsWith};
+ghost use Rattle.image_loader.specs.Files.{Contents, IsFile};
+ghost use Rattle.inner_interpreter.specs.Worlds.{loaded};
 
 use crate::kernel::kernel_file;
 use crate::kernel_text::TEXT;
 use block_buffers::Device;
 use image_loader::{Image, ImageFault};
-use inner_interpreter::{Input, Machine, Output, Stop, run, send_all};
+use inner_interpreter::{Input, Output, Stop, run_file, send_all};
 use memory::{Memory, OutOfMemory};
 use metacompiler::{BuildFault, Cause, build};
 use see::{ViewRefused, view};
@@ -41,7 +44,9 @@ fn end_with_file(file: Vec<u8>) -> Ended
     }
 }
 
-fn status_of(stop: Stop) -> u8 {
+fn status_of(stop: Stop) -> u8
+    ensures { result ≡ status_of stop }
+{
     match stop {
         Stop::Bye | Stop::InputEnded => 0,
         Stop::Fault(_) => 3,
@@ -50,26 +55,25 @@ fn status_of(stop: Stop) -> u8 {
     }
 }
 
-/// Prints a line, and answers whether all of it was written.
-fn is_printed<W: Output>(writer: &mut W, line: &[u8]) -> bool {
-    if send_all(writer, line).is_err() {
-        return false;
-    }
-    writer.flush().is_ok()
-}
-
 /// Prints a line, and ends with the status, or with 5 where the line can't be written.
 fn print<W: Output>(writer: &mut W, line: &[u8], status: u8) -> Ended
+    ensures printed { W.failed writer.new ≡ false → result.status ≡ status }
     ensures status { 0 < status → 0 < result.status }
     ensures file { IsNone result.file }
 {
-    if is_printed(writer, line) {
-        return end_with(status);
+    if send_all(writer, line).is_err() || writer.flush().is_err() {
+        return end_with(5);
     }
-    end_with(5)
+    end_with(status)
+}
+
+/// Prints a line, and answers whether all of it was written.
+fn is_printed<W: Output>(writer: &mut W, line: &[u8]) -> bool {
+    print(writer, line, 0).status == 0
 }
 
 fn print_out_of_memory<W: Output>(writer: &mut W) -> Ended
+    ensures printed { W.failed writer.new ≡ false → result.status ≡ 1 }
     ensures status { 0 < result.status }
     ensures file { IsNone result.file }
 {
@@ -81,7 +85,10 @@ fn refusal(alloc: Global, fault: ImageFault) -> Result<String, AllocError> {
 }
 
 /// Prints why bytes are no image.
-fn refuse_image<W: Output>(alloc: Global, fault: ImageFault, writer: &mut W) -> Ended {
+fn refuse_image<W: Output>(alloc: Global, fault: ImageFault, writer: &mut W) -> Ended
+    ensures printed { W.failed writer.new ≡ false → result.status ≡ 1 }
+    ensures file { IsNone result.file }
+{
     if fault == ImageFault::OutOfMemory {
         return print_out_of_memory(writer);
     }
@@ -193,30 +200,13 @@ pub fn do_run<R: Input, W: Output, D: Device>(
     reader: &mut R,
     writer: &mut W,
 ) -> Ended
-    requires reader { R.failed reader.old ≡ false }
-    requires writer { W.failed writer.old ≡ false }
+    // Where the bytes are an image's file, memory is found and no end fails, the status, the output, the unread bytes and
+    // the blocks are those of the written rounds.
+    ensures ran { result.status ≢ 1 → R.failed reader.new ≡ false → W.failed writer.new ≡ false → (file : Contents) → IsFile image.now file → (typed : List ℕ) → R.unread reader.old ≡ Some typed → (disk : Disk) → D.disk device.old ≡ Some disk → (sent : List ℕ) → W.sent writer.old ≡ Some sent → EndsWith result.status (loaded file typed disk sent limit) (R.unread reader.new) (D.disk device.new) (W.sent writer.new) }
+    ensures file { IsNone result.file }
 {
-    let image = match image_loader::read(alloc, image) {
-        Ok(image) => image,
-        Err(fault) => return refuse_image(alloc, fault, writer),
-    };
-    match load_and_run(alloc, &image, device, limit, reader, writer) {
+    match run_file(alloc, image, reader, writer, device, limit) {
         Ok(stop) => end_with(status_of(stop)),
-        Err(OutOfMemory) => print_out_of_memory(writer),
+        Err(fault) => refuse_image(alloc, fault, writer),
     }
-}
-
-fn load_and_run<R: Input, W: Output, D: Device>(
-    alloc: Global,
-    image: &Image,
-    device: &mut D,
-    limit: u64,
-    reader: &mut R,
-    writer: &mut W,
-) -> Result<Stop, OutOfMemory>
-    requires reader { R.failed reader.old ≡ false }
-    requires writer { W.failed writer.old ≡ false }
-{
-    let mut machine = Machine::load(alloc, image, device.count())?;
-    run(alloc, &mut machine, reader, writer, device, limit)
 }
