@@ -91,7 +91,10 @@ fn an_image_is_built(rt: HostRuntime) -> Result<(), Fail> {
     let mut writer = Writing::new(Vec::new(rt.alloc()));
     let Ended { status, file } = do_build(rt.alloc(), &mut device, 1, 1, &mut writer);
     assert_eq!(rt; status, 0);
-    assert_eq!(rt; writer.into_inner().as_slice(), b"size 290 entry 284\n".as_slice());
+    assert_eq!(rt;
+        writer.into_inner().as_slice(),
+        b"size 290 entry 284\n".as_slice()
+    );
     let file = file.expect(&rt, "a file");
     assert_eq!(rt; file.as_slice(), wanted.as_slice());
     Ok(())
@@ -130,6 +133,9 @@ fn the_screen_of_a_word(rt: HostRuntime) -> Result<(), Fail> {
     let mut writer = Writing::new(Vec::new(rt.alloc()));
     let ended = do_view(rt.alloc(), &file.as_slice()[1..], "GO", &mut writer);
     assert_eq!(rt; ended.status, 1);
-    assert_eq!(rt; writer.into_inner().as_slice(), b"image: BadMagic\n".as_slice());
+    assert_eq!(rt;
+        writer.into_inner().as_slice(),
+        b"image: BadMagic\n".as_slice()
+    );
     Ok(())
 }

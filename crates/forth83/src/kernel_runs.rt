@@ -34,12 +34,12 @@ impl Device for Watched {
     }
 
     fn read(&mut self, block: u16, page: &mut [u8; 1024]) -> Result<(), DeviceFault> {
-        let _noted = self.note(b'R', block);
+        let _noted = self.note(b'r', block);
         self.inner.read(block, page)
     }
 
     fn write(&mut self, block: u16, page: &[u8; 1024]) -> Result<(), DeviceFault> {
-        let _noted = self.note(b'W', block);
+        let _noted = self.note(b'w', block);
         self.inner.write(block, page)
     }
 }
@@ -84,100 +84,104 @@ fn blocks_with_a_source(alloc: Global, count: usize) -> Result<Vec<u8>, Fail> {
     Ok(bytes)
 }
 
-/// What is typed, how much of it is echoed with the rest of what is shown, and what is asked of six blocks.
+/// What is typed, all that is shown, what is asked of six blocks, and whether the fifth call of their device fails.
+const CASES: [(&str, &str, &str, bool); 22] = [
+    ("", "", "", false),
+    ("3 4 + .\n", "3 4 + . 7  ok\n", "", false),
+    ("3 4 + .", "3 4 + .7  ok\n", "", false),
+    ("-7 2 /MOD . .\n", "-7 2 /MOD . . -4 1  ok\n", "", false),
+    ("-32768 -1 /\n", "-32768 -1 /  fault 5 \n", "", false),
+    (
+        ": A 0 3 DO I . -1 +LOOP ; A\n",
+        ": A 0 3 DO I . -1 +LOOP ; A 3 2 1 0  ok\n",
+        "",
+        false,
+    ),
+    (
+        ": B 0 10 DO I . -3 +LOOP ; B\n",
+        ": B 0 10 DO I . -3 +LOOP ; B 10 7 4 1  ok\n",
+        "",
+        false,
+    ),
+    (
+        "7 65535 C! 1 0 C! 65535 @ .\n",
+        "7 65535 C! 1 0 C! 65535 @ . 263  ok\n",
+        "",
+        false,
+    ),
+    (
+        ": Q 5 ; Q . 82 ' Q >BODY 3 - C! Q\n",
+        ": Q 5 ; Q . 82 ' Q >BODY 3 - C! Q 5  fault 13 \n",
+        "",
+        false,
+    ),
+    (
+        ": G 5 1 DO I BLOCK DROP UPDATE LOOP ; G 5 BLOCK DROP\n",
+        ": G 5 1 DO I BLOCK DROP UPDATE LOOP ; G 5 BLOCK DROP  ok\n",
+        "r1r2r3r4w1r5",
+        false,
+    ),
+    (
+        ": G 5 1 DO I BLOCK DROP UPDATE LOOP ; G 5 BLOCK DROP\nFLUSH\n",
+        ": G 5 1 DO I BLOCK DROP UPDATE LOOP ; G 5 BLOCK DROP  fault 10 \nFLUSH  ok\n",
+        "r1r2r3r4w1w1w2w3w4",
+        true,
+    ),
+    (
+        ": CON CREATE , DOES> @ ; 7 CON S S .\n",
+        ": CON CREATE , DOES> @ ; 7 CON S S . 7  ok\n",
+        "",
+        false,
+    ),
+    (
+        ": X 1 ; : X X 1+ ; X .\n",
+        ": X 1 ; : X X 1+ ; X . 2  ok\n",
+        "",
+        false,
+    ),
+    ("2 LOAD\n", "2 LOAD 1  ok\n", "r2", false),
+    ("0 LOAD\n", "0 LOAD  fault 16 \n", "", false),
+    ("7 LOAD\n", "7 LOAD  fault 7 \n", "", false),
+    ("1 BASE ! 5\n", "1 BASE ! 5  fault 12 \n", "", false),
+    (
+        "1 BASE ! 5\n5 .\n",
+        "1 BASE ! 5  fault 12 \n5 . 5  ok\n",
+        "",
+        false,
+    ),
+    (
+        ": T 1 ABORT\" bad\" ; T\n",
+        ": T 1 ABORT\" bad\" ; T bad fault 17 \n",
+        "",
+        false,
+    ),
+    (
+        "32767 ALLOT 32767 ALLOT\n",
+        "32767 ALLOT 32767 ALLOT  fault 8 \n",
+        "",
+        false,
+    ),
+    (
+        "70000. D. -1. D. 1 2 3 2 ROLL . . . -5. 4 D.R\n",
+        "70000. D. -1. D. 1 2 3 2 ROLL . . . -5. 4 D.R 70000 -1 1 3 2   -5 ok\n",
+        "",
+        false,
+    ),
+    ("3 SCR ! 0 PUT hi\n", "3 SCR ! 0 PUT hi  ok\n", "r3", false),
+];
+
+/// Each text is typed at the kernel over six blocks.
 #[test]
 fn typed_at_the_kernel(rt: HostRuntime) -> Result<(), Fail> {
     let alloc = rt.alloc();
     let image = kernel_image(alloc)?;
-    let none: &[bool] = &[];
-    let fifth: &[bool] = &[false, false, false, false, true];
-    let cases: [(&str, &str, &str, &[bool]); 22] = [
-        ("", "", "", none),
-        ("3 4 + .\n", "3 4 + . 7  ok\n", "", none),
-        ("3 4 + .", "3 4 + .7  ok\n", "", none),
-        ("-7 2 /MOD . .\n", "-7 2 /MOD . . -4 1  ok\n", "", none),
-        ("-32768 -1 /\n", "-32768 -1 /  fault 5 \n", "", none),
-        (
-            ": A 0 3 DO I . -1 +LOOP ; A\n",
-            ": A 0 3 DO I . -1 +LOOP ; A 3 2 1 0  ok\n",
-            "",
-            none,
-        ),
-        (
-            ": B 0 10 DO I . -3 +LOOP ; B\n",
-            ": B 0 10 DO I . -3 +LOOP ; B 10 7 4 1  ok\n",
-            "",
-            none,
-        ),
-        (
-            "7 65535 C! 1 0 C! 65535 @ .\n",
-            "7 65535 C! 1 0 C! 65535 @ . 263  ok\n",
-            "",
-            none,
-        ),
-        (
-            ": Q 5 ; Q . 82 ' Q >BODY 3 - C! Q\n",
-            ": Q 5 ; Q . 82 ' Q >BODY 3 - C! Q 5  fault 13 \n",
-            "",
-            none,
-        ),
-        (
-            ": G 5 1 DO I BLOCK DROP UPDATE LOOP ; G 5 BLOCK DROP\n",
-            ": G 5 1 DO I BLOCK DROP UPDATE LOOP ; G 5 BLOCK DROP  ok\n",
-            "R1R2R3R4W1R5",
-            none,
-        ),
-        (
-            ": G 5 1 DO I BLOCK DROP UPDATE LOOP ; G 5 BLOCK DROP\nFLUSH\n",
-            ": G 5 1 DO I BLOCK DROP UPDATE LOOP ; G 5 BLOCK DROP  fault 10 \nFLUSH  ok\n",
-            "R1R2R3R4W1W1W2W3W4",
-            fifth,
-        ),
-        (
-            ": CON CREATE , DOES> @ ; 7 CON S S .\n",
-            ": CON CREATE , DOES> @ ; 7 CON S S . 7  ok\n",
-            "",
-            none,
-        ),
-        (": X 1 ; : X X 1+ ; X .\n", ": X 1 ; : X X 1+ ; X . 2  ok\n", "", none),
-        ("2 LOAD\n", "2 LOAD 1  ok\n", "R2", none),
-        ("0 LOAD\n", "0 LOAD  fault 16 \n", "", none),
-        ("7 LOAD\n", "7 LOAD  fault 7 \n", "", none),
-        ("1 BASE ! 5\n", "1 BASE ! 5  fault 12 \n", "", none),
-        (
-            "1 BASE ! 5\n5 .\n",
-            "1 BASE ! 5  fault 12 \n5 . 5  ok\n",
-            "",
-            none,
-        ),
-        (
-            ": T 1 ABORT\" bad\" ; T\n",
-            ": T 1 ABORT\" bad\" ; T bad fault 17 \n",
-            "",
-            none,
-        ),
-        (
-            "32767 ALLOT 32767 ALLOT\n",
-            "32767 ALLOT 32767 ALLOT  fault 8 \n",
-            "",
-            none,
-        ),
-        (
-            "70000. D. -1. D. 1 2 3 2 ROLL . . . -5. 4 D.R\n",
-            "70000. D. -1. D. 1 2 3 2 ROLL . . . -5. 4 D.R 70000 -1 1 3 2   -5 ok\n",
-            "",
-            none,
-        ),
-        (
-            "3 SCR ! 0 PUT hi\n",
-            "3 SCR ! 0 PUT hi  ok\n",
-            "R3",
-            none,
-        ),
-    ];
     let bytes = blocks_with_a_source(alloc, 6144)?;
-    for (typed, shown, asked, coming) in cases {
-        let inner = device(alloc, bytes.as_slice(), coming)?;
+    for (typed, shown, asked, fails) in CASES {
+        let inner = device(
+            alloc,
+            bytes.as_slice(),
+            &[false, false, false, false, fails],
+        )?;
         let mut watched = Watched {
             inner,
             asked: Vec::new(alloc),
@@ -210,7 +214,14 @@ fn a_line_is_put(rt: HostRuntime) -> Result<(), Fail> {
     let mut reader = Reading::new(b"3 SCR ! 0 PUT hi\nFLUSH\n".as_slice());
     let mut writer = Writing::new(Vec::new(alloc));
     let image = image.as_slice();
-    let ended = do_run(alloc, image, &mut blocks, 1_000_000, &mut reader, &mut writer);
+    let ended = do_run(
+        alloc,
+        image,
+        &mut blocks,
+        1_000_000,
+        &mut reader,
+        &mut writer,
+    );
     assert_eq!(rt; ended.status, 0);
     let mut wanted = [b'x'; 1024];
     wanted[..64].fill(b' ');

@@ -112,7 +112,13 @@ fn view_word(rt: &HostRuntime, image: &str, name: &str) -> u8 {
     let Ok(writer) = standard_output(rt) else {
         return out_of_memory(rt);
     };
-    do_view(rt.alloc(), bytes.as_slice(), name, &mut Writing::new(writer)).status
+    do_view(
+        rt.alloc(),
+        bytes.as_slice(),
+        name,
+        &mut Writing::new(writer),
+    )
+    .status
 }
 
 /// Opens what `run` names, and runs the image over standard input and output.
