@@ -17,11 +17,10 @@ struct Watched {
     asked: Vec<u8>,
 }
 
-impl Watched {
-    fn note(&mut self, letter: u8, block: u16) -> bool {
-        let digit = b'0' + (block % 10) as u8;
-        self.asked.extend_from_slice(&[letter, digit]).is_ok()
-    }
+/// Adds a letter and a block's number as a digit, if there is memory for them.
+fn note(asked: &mut Vec<u8>, letter: u8, block: u16) -> bool {
+    let digit = b'0' + (block % 10) as u8;
+    asked.extend_from_slice(&[letter, digit]).is_ok()
 }
 
 impl Device for Watched {
@@ -34,12 +33,12 @@ impl Device for Watched {
     }
 
     fn read(&mut self, block: u16, page: &mut [u8; 1024]) -> Result<(), DeviceFault> {
-        let _noted = self.note(b'r', block);
+        let _noted = note(&mut self.asked, b'r', block);
         self.inner.read(block, page)
     }
 
     fn write(&mut self, block: u16, page: &[u8; 1024]) -> Result<(), DeviceFault> {
-        let _noted = self.note(b'w', block);
+        let _noted = note(&mut self.asked, b'w', block);
         self.inner.write(block, page)
     }
 }
