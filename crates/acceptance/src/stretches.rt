@@ -1,7 +1,7 @@
 //! A stretch of ticks leaves what as many single ticks leave.
 
-use crate::fixtures::machine;
 use crate::first_words::HI;
+use crate::fixtures::machine;
 use crate::threads::{DEPTHS, OVERWRITES};
 use inner_interpreter::Machine;
 use std::alloc::Global;
@@ -10,8 +10,8 @@ use std::test::Fail;
 
 /// The codes of the rows that are done in place, and of two that aren't (ABS and (+LOOP)).
 const CODES: [u8; 42] = [
-    1, 2, 3, 5, 6, 7, 8, 9, 10, 11, 13, 20, 21, 22, 32, 33, 34, 35, 36, 41, 42, 48, 49, 56, 57, 58, 59, 63, 66,
-    67, 68, 70, 72, 73, 74, 75, 96, 97, 98, 99, 100, 106,
+    1, 2, 3, 5, 6, 7, 8, 9, 10, 11, 13, 20, 21, 22, 32, 33, 34, 35, 36, 41, 42, 48, 49, 56, 57, 58,
+    59, 63, 66, 67, 68, 70, 72, 73, 74, 75, 96, 97, 98, 99, 100, 106,
 ];
 
 /// Depths at both ends of a stack.
@@ -83,13 +83,7 @@ fn lay(bytes: &mut Vec<u8>, cell: u16) -> Result<(), Fail> {
 
 /// At 256 the code fields of (LIT), >R, the row and BYE; at 264 a colon word that puts `deep` cells on the data stack
 /// and `far` on the return stack, does the row over the cell 274 behind it, and halts.
-fn thread(
-    alloc: Global,
-    code: u8,
-    deep: usize,
-    far: usize,
-    cell: u16,
-) -> Result<Vec<u8>, Fail> {
+fn thread(alloc: Global, code: u8, deep: usize, far: usize, cell: u16) -> Result<Vec<u8>, Fail> {
     let mut bytes = Vec::new(alloc);
     for field in [6, 20, u16::from(code), 23, 1] {
         lay(&mut bytes, field)?;
