@@ -200,6 +200,7 @@ BOOT ( | screen 1 offset 5: Misplaced
 5 PRIM E 8 PRIM Q : A IF ; | screen 1 offset 25: Unbalanced
 : A FOO ; | screen 1 offset 4: Unknown
 : A ; | screen 1 offset 4: Unknown
+; | screen 1 offset 0: Unknown
 5 PRIM E 6 PRIM L : A ['] FOO ; | screen 1 offset 26: Unknown
 : ABCDEFGHIJKLMNOPQRSTUVWXYZ123456 | screen 1 offset 2: BadName
 32767 ALLOT 32767 ALLOT | screen 1 offset 18: Full
@@ -219,6 +220,34 @@ FOO | screen 1 offset 0: Unknown
 : A LOOP ; | screen 1 offset 4: Unbalanced
 : A ." Hi | screen 1 offset 4: Unknown"##;
     assert_answers(&rt, rt.alloc(), (1, 1), lines)
+}
+
+/// Words that can't stand where they are.
+#[test]
+fn misplaced_words(rt: HostRuntime) -> Result<(), Fail> {
+    let lines = r##"DEFINITIONS | screen 1 offset 0: Misplaced
+5 6 PRIM X | screen 1 offset 2: Misplaced
+IMMEDIATE | screen 1 offset 0: Misplaced
+CREATE X X DEFINITIONS | screen 1 offset 9: Misplaced
+VOCABULARY V V 5 | screen 1 offset 15: Misplaced
+5 PRIM E BOOT E BOOT E | screen 1 offset 16: Misplaced
+5 PRIM E 32 PRIM I IMMEDIATE : A I ; | screen 1 offset 33: Misplaced
+5 PRIM E 6 PRIM L : A ['] IF ; | screen 1 offset 26: Misplaced
+5 PRIM E 8 PRIM Q : A IF ['] ; | screen 1 offset 25: Unknown
+5 PRIM E 19 PRIM C : A COMPILE ; | screen 1 offset 31: Misplaced"##;
+    assert_answers(&rt, rt.alloc(), (1, 1), lines)
+}
+
+/// 64 structures may be open, and no 65th.
+#[test]
+fn open_structures(rt: HostRuntime) -> Result<(), Fail> {
+    let alloc = rt.alloc();
+    let open = "BEGIN ".repeat(alloc, 64)?;
+    let lines = format!(in alloc;
+        r##": A {open}; | screen 1 offset 388: Unbalanced
+: A {open}BEGIN ; | screen 1 offset 388: Misplaced"##
+    )?;
+    assert_answers(&rt, alloc, (1, 1), lines.as_str())
 }
 
 /// A number, a header and a text that have a cause of their own where no byte more fits.
