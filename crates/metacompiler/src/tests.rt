@@ -214,6 +214,8 @@ FOO DEFINITIONS | screen 1 offset 0: Unknown
 FOO : ABCDEFGHIJKLMNOPQRSTUVWXYZ123456 | screen 1 offset 0: Unknown
 FOO 32767 ALLOT 32767 ALLOT | screen 1 offset 0: Unknown
 FOO | screen 1 offset 0: Unknown
+5 7. PRIM X | screen 1 offset 2: BadNumber
+VOCABULARY V V 7. | screen 1 offset 15: BadNumber
 5 PRIM E 19 PRIM C : A COMPILE IF ; | screen 1 offset 31: Misplaced
 5 PRIM E 8 PRIM Q 18 PRIM X : A DOES> IF DOES> ; | screen 1 offset 41: Misplaced
 5 PRIM E 6 PRIM L 8 PRIM Q : A IF DOES> ; | screen 1 offset 34: Unbalanced
