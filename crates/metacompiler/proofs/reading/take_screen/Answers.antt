@@ -1,4 +1,4 @@
-use Rattle.std.proofs.Common.{◌≡◌, ◌<◌, sym, ◌∙◌, subst, refl, inl, length, rules, arith}
+use Rattle.std.proofs.Common.{◌≡◌, ◌<◌, sym, ◌∙◌, subst, refl, inl, length, arith}
 use Rattle.std.specs.Prelude.{IfSome}
 use Rattle.block_buffers.specs.Calls.{Reads}
 use Rattle.source_words.specs.Words.{screen_words}
