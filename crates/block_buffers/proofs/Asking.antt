@@ -2,12 +2,11 @@
 use Rattle.std.proofs.Common.{◌≡◌, ◌≢◌, ℕ, zero, suc, ◌+◌, ◌<◌, ◌≤◌, ◌==◌, List, [], ◌∷◌, length, get_or, take, map, Option, Some, None, unwrap_or, refl, arith, ap, ◌∙◌, sym, subst, true, false, Bool, if◌then◌else◌}
 use Rattle.std.specs.Prelude.{Contains, IsSome, count_by}
 use Rattle.std.specs.List.{list_any, position_or_len}
-use Rattle.std.proofs.lemmas.Bool.{eq-eqb}
 use Rattle.std.proofs.lemmas.List.{get_or-map, get_or_default}
 use Rattle.std.proofs.lemmas.List.Sorted.{list_any-IsPermutation}
 use Rattle.std.proofs.lemmas.List.Sums.{sum_by-cons}
 use Rattle.block_buffers.specs.declared.entry.Entry.{Entry}
-use Rattle.block_buffers.specs.Entries.{unassigned_slot, is_in, is_of, is_updated, holds, slot_of, moved_front, assigned, unmarked_entry, unmarked, victim, entry_at, has_updated, first_updated, AreBuffers, HasNoBlockTwice, IsLowestUpdated}
+use Rattle.block_buffers.specs.Entries.{unassigned_slot, is_of, is_updated, holds, slot_of, moved_front, assigned, unmarked_entry, unmarked, victim, entry_at, has_updated, first_updated, AreBuffers, HasNoBlockTwice, IsLowestUpdated}
 use Rattle.block_buffers.proofs.Blocks.{unmark_block, moved_permutes, of_from_block, block_of}
 use Rattle.block_buffers.proofs.Fronts.{moved_at}
 use Rattle.block_buffers.proofs.Places.{position_here, slot_here}

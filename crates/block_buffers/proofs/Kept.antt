@@ -57,7 +57,7 @@ are_replaced d e es q up h = record {
   updated_have = All-cons HasWhereUpdated e es up (All-tail HasWhereUpdated d es h.updated_have);
 }
 
-victim_first : (b : List Entry) → AreBuffers b → AreBuffers (get_or b 3 (unassigned_slot 0) ∷ remove b 3)
+pub victim_first : (b : List Entry) → AreBuffers b → AreBuffers (get_or b 3 (unassigned_slot 0) ∷ remove b 3)
 victim_first b h =
     let P : List Entry → Type 0 = λ es. AreBuffers es in
     subst P (moved_at 3 b (unassigned_slot 0) (omega (arith, h.four)) h.once) (are_moved (get_or b 3 (unassigned_slot 0)).slot b h)

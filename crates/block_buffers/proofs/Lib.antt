@@ -10,3 +10,4 @@ pub mod ScreenLines
 pub mod Slots
 pub mod Asking
 pub mod Failures
+pub mod Stamps

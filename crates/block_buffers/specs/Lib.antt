@@ -2,3 +2,4 @@ pub mod Calls
 pub mod Disks
 pub mod Entries
 pub mod Screens
+pub mod Stamps

@@ -39,14 +39,6 @@ fn place_of(entries: &[Entry], u: u16) -> usize
     entries.len()
 }
 
-/// Moves the entry at a place to the front.
-fn rotate_up(entries: &mut [Entry], place: usize)
-    requires { place < length entries.old }
-    ensures { entries.new ≡ slice_index_or entries.old place (unassigned_slot 0) ∷ remove entries.old place }
-{
-    entries[..place + 1].rotate_right(1);
-}
-
 /// The slot of the buffer that has block `u`.
 #[tactic(auto, using(crate::proofs::Places::places))]
 pub fn find(entries: &[Entry], u: u16) -> Option<usize>
@@ -76,30 +68,8 @@ pub fn slot_of(entries: &[Entry], u: u16) -> usize
     }
 }
 
-/// Moves the entry of block `u` to the front.
-#[tactic(auto, using(crate::proofs::Places::places, crate::proofs::Fronts::moved_at))]
-pub fn touch(entries: &mut [Entry], u: u16)
-    requires held { IsTrue (holds entries.old u) }
-    requires slots { AllPairs (λ d e. d.slot ≢ e.slot) entries.old }
-    ensures { entries.new ≡ moved_front (slot_of entries.old u) entries.old }
-{
-    let place = place_of(entries, u);
-    rotate_up(entries, place);
-}
-
-/// Marks the entry in front as updated, where it has a block.
-#[tactic(auto, using(crate::proofs::Fronts::fronts))]
-pub fn mark_front(entries: &mut [Entry])
-    requires { 0 < length entries.old }
-    ensures { entries.new ≡ front_marked entries.old }
-{
-    if entries[0].block.is_some() {
-        entries[0].updated = true;
-    }
-}
-
 /// The entry without its mark, where it is that of a slot.
-fn cleaned_entry(entry: &Entry, slot: usize) -> Entry
+pub fn cleaned_entry(entry: &Entry, slot: usize) -> Entry
     ensures { result ≡ cleaned_entry slot entry.now }
 {
     Entry {
@@ -108,55 +78,14 @@ fn cleaned_entry(entry: &Entry, slot: usize) -> Entry
     }
 }
 
-/// Takes the mark from the entry of a slot.
-#[tactic(auto, unfolding(crate::specs::Entries::cleaned))]
-pub fn clean(entries: &mut [Entry], slot: usize)
-    ensures { entries.new ≡ cleaned slot entries.old }
-{
-    for entry in entries.iter_mut() {
-        *entry = cleaned_entry(entry, slot);
-    }
-}
-
 /// The entry without its mark, where it has block `u`.
-fn unmarked_entry(entry: &Entry, u: u16) -> Entry
+pub fn unmarked_entry(entry: &Entry, u: u16) -> Entry
     ensures { result ≡ unmarked_entry u entry.now }
 {
     Entry {
         updated: entry.updated && !is_of(entry, u),
         ..*entry
     }
-}
-
-/// Takes the mark from the entry of block `u`.
-#[tactic(auto, unfolding(crate::specs::Entries::unmarked))]
-pub fn unmark(entries: &mut [Entry], u: u16)
-    ensures { entries.new ≡ unmarked u entries.old }
-{
-    for entry in entries.iter_mut() {
-        *entry = unmarked_entry(entry, u);
-    }
-}
-
-/// Takes each entry's block and mark.
-#[tactic(auto, unfolding(crate::specs::Entries::unassigned))]
-pub fn unassign_all(entries: &mut [Entry])
-    ensures { entries.new ≡ unassigned entries.old }
-{
-    for entry in entries.iter_mut() {
-        *entry = unassigned_slot(entry.slot);
-    }
-}
-
-/// Gives the victim's buffer to block `u`, and moves its entry to the front.
-#[tactic(auto, using(crate::proofs::Fronts::assigned_at))]
-pub fn assign(entries: &mut [Entry], u: u16)
-    requires { length entries.old ≡ 4 }
-    ensures { entries.new ≡ assigned u entries.old }
-{
-    rotate_up(entries, 3);
-    entries[0].block = Some(u);
-    entries[0].updated = false;
 }
 
 /// The second entry, where it is updated and has the lower slot; else the first.

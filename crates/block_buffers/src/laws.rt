@@ -5,6 +5,16 @@ ghost use Rattle.block_buffers.specs.Entries.{start, is_in, entry_at, victim, ho
 ghost use Rattle.block_buffers.specs.Disks.{Disk, block_at, written};
 ghost use Rattle.block_buffers.specs.Screens.{IsScreen, IsLine, blank_line, blank_screen, line_at, with_line, line_inserted, line_deleted};
 
+use crate::buffers::Buffers;
+
+/// Buffers as new ones, but that the next reference is stamped `stamp`. Any number from 16 on will do: no caller sees stamps.
+pub fn buffers_from(stamp: u64) -> Buffers
+    requires { 16 ≤ stamp }
+    ensures { result ≡ start }
+{
+    Buffers::with_next(stamp)
+}
+
 /// The entry of any place comes to the front, and the others stay in their order. No entry is lost or changed.
 pub fn moved_front_law()
     ensures order { (b : List Entry) (place : ℕ) → AreBuffers b → place < 4 → moved_front (entry_at b place).slot b ≡ entry_at b place ∷ remove b place }

@@ -1,4 +1,4 @@
-//! Four block buffers in order of recency, devices of blocks, and blocks as screens of lines.
+//! Four block buffers with the stamps of their references, devices of blocks, and blocks as screens of lines.
 #![tactic(auto)]
 
 pub mod buffers;
@@ -10,6 +10,7 @@ pub mod laws;
 mod lines;
 mod memory_devices;
 mod screens;
+mod stamped;
 #[cfg(test)]
 mod tests;
 

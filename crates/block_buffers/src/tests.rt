@@ -1,6 +1,7 @@
 use crate::buffers::Buffers;
 use crate::devices::{BLOCK_SIZE, Device, DeviceFault};
 use crate::entry::Entry;
+use crate::laws::buffers_from;
 use crate::memory_devices::MemoryDevice;
 use crate::screens::{LINE_SIZE, delete_line, insert_line, put_line, screen_line, wipe};
 use std::process::Abort;
@@ -50,6 +51,24 @@ fn updated_victim_is_written_and_given_away(rt: HostRuntime) {
     assert_eq!(rt; buffers.find(1), None);
     assert_eq!(rt; buffers.slot_of(3), 2);
     assert_eq!(rt; buffers.slot_of(1), 1, "the victim's");
+}
+
+/// Six references from two below the greatest stamp on: the stamps are numbered anew on the way, and no one sees it.
+#[test]
+fn stamps_that_run_out(rt: HostRuntime) {
+    let mut buffers = buffers_from(u64::MAX - 2);
+    for block in 1..5 {
+        buffers.assign(block);
+    }
+    buffers.touch(2);
+    buffers.assign(5);
+    let wanted = [
+        entry(0, Some(5), false),
+        entry(1, Some(2), false),
+        entry(3, Some(4), false),
+        entry(2, Some(3), false),
+    ];
+    assert_entries(&rt, &buffers, wanted);
 }
 
 #[test]
