@@ -5,8 +5,9 @@ use crate::fixtures::{
     output_over, parts,
 };
 use block_buffers::Device;
+use block_buffers::laws::buffers_from;
 use inner_interpreter::{Answer, Cause, Event, Machine, Refused, Shown, Stop};
-use plain_rows::parts::{Outcome, Request};
+use plain_rows::parts::{Outcome, Parts, Request};
 use primitives::row;
 use std::alloc::Global;
 use std::process::Abort;
@@ -35,6 +36,24 @@ const FOUR_UPDATED: [(usize, Option<u16>, bool); 4] = [
     (0, Some(1), true),
 ];
 
+/// What `FIVE` asks, over a device of six blocks.
+const FIVE_REQUESTS: [Request; 6] = [
+    Request::Read { block: 1 },
+    Request::Read { block: 2 },
+    Request::Read { block: 3 },
+    Request::Read { block: 4 },
+    Request::Write { block: 1 },
+    Request::Read { block: 5 },
+];
+
+/// The buffers that it leaves.
+const FIVE_ENTRIES: [(usize, Option<u16>, bool); 4] = [
+    (0, Some(5), false),
+    (3, Some(4), true),
+    (2, Some(3), true),
+    (1, Some(2), true),
+];
+
 fn assert_requests(rt: &impl Abort, course: &Course, wanted: &[Request]) {
     assert_eq!(rt; course.requests.as_slice(), wanted);
 }
@@ -43,25 +62,65 @@ fn assert_requests(rt: &impl Abort, course: &Course, wanted: &[Request]) {
 fn an_updated_victim_is_written_first(rt: HostRuntime) -> Result<(), Fail> {
     let mut machine = five(&rt, 6)?;
     let course = follow(rt.alloc(), &mut machine, &mut device(&rt, 6, &[])?)?;
-    let wanted = [
-        Request::Read { block: 1 },
-        Request::Read { block: 2 },
-        Request::Read { block: 3 },
-        Request::Read { block: 4 },
-        Request::Write { block: 1 },
-        Request::Read { block: 5 },
-    ];
-    assert_requests(&rt, &course, &wanted);
+    assert_requests(&rt, &course, &FIVE_REQUESTS);
     assert_eq!(rt; course.ticks, 26);
     assert_eq!(rt; machine.halted(), Some(Cause::Bye));
     assert_cells(&rt, machine.values(), &[61440]);
-    let entries = [
-        (0, Some(5), false),
-        (3, Some(4), true),
-        (2, Some(3), true),
-        (1, Some(2), true),
-    ];
-    assert_entries(&rt, machine.buffers(), entries);
+    assert_entries(&rt, machine.buffers(), FIVE_ENTRIES);
+    Ok(())
+}
+
+/// The next token, as a tick takes it.
+fn token(parts: &mut Parts) -> u16 {
+    let at = parts.ip;
+    match parts.pending.take() {
+        Some(token) => token,
+        None => {
+            parts.ip = at.wrapping_add(2);
+            parts.memory.cell(at)
+        }
+    }
+}
+
+/// What an answer does that isn't a fault: a block of zeros is read, or the block was written.
+fn serve(parts: &mut Parts, request: Request) {
+    match request {
+        Request::Read { block } => {
+            let slot = parts.buffers.victim().slot;
+            parts.memory.set_page(slot, &[0; 1024]);
+            parts.buffers.assign(block);
+        }
+        Request::Write { block } => parts.buffers.unmark(block),
+        _ => {}
+    }
+}
+
+/// The same row by row, where the references' stamps begin at the greatest number but one: they are numbered anew on the
+/// way, and nothing is seen of it.
+#[test]
+fn stamps_that_run_out(rt: HostRuntime) -> Result<(), Fail> {
+    let mut parts = parts(rt.alloc())?;
+    parts.memory.set_bytes(256, &FIVE[..60]);
+    parts.buffers = buffers_from(u64::MAX - 1);
+    parts.block_count = 6;
+    parts.pending = Some(266);
+    let mut requests = Vec::new(rt.alloc());
+    let mut outcome = Outcome::Done;
+    for _ in 0..26 {
+        let token = token(&mut parts);
+        let code = parts.memory.cell(token);
+        assert!(rt; code < 256);
+        outcome = row(&mut parts, code as u8, token);
+        if let Outcome::Ask(request) = outcome {
+            requests.push(request)?;
+            serve(&mut parts, request);
+            parts.pending = Some(token);
+        }
+    }
+    assert_eq!(rt; outcome, Outcome::Halt);
+    assert_eq!(rt; requests.as_slice(), FIVE_REQUESTS.as_slice());
+    assert_cells(&rt, &parts.values, &[61440]);
+    assert_entries(&rt, &parts.buffers, FIVE_ENTRIES);
     Ok(())
 }
 
