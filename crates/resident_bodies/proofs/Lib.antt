@@ -1,3 +1,5 @@
 pub mod Lying
 pub mod Words
 pub mod Rows
+pub mod Moved
+pub mod Bodies

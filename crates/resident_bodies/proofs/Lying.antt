@@ -1,9 +1,9 @@
 -- Bytes that lie at a place up to HERE, and what is laid behind them and written among them.
-use Rattle.std.proofs.Common.{◌≡◌, ◌≢◌, ℕ, ◌+◌, ◌*◌, ◌-◌, ◌<◌, ◌≤◌, ◌/◌, ◌%◌, List, [], ◌∷◌, ◌++◌, length, refl, sym, ap, ◌∙◌, subst, arith, append_assoc, length-append, length-set}
+use Rattle.std.proofs.Common.{◌≡◌, ℕ, ◌+◌, ◌*◌, ◌-◌, ◌<◌, ◌≤◌, ◌/◌, ◌%◌, List, ◌++◌, length, refl, sym, ap, ◌∙◌, arith, length-append, length-set}
 use Rattle.std.specs.Prelude.{slice_set}
 use Rattle.std.proofs.lemmas.List.{set-append_left, set-append_right}
 use Rattle.cells.specs.Cell.{wrap}
-use Rattle.memory.specs.Bytes.{byte, cell, put_byte, put_cell, put_bytes, cell_bytes}
+use Rattle.memory.specs.Bytes.{byte, cell, put_byte, put_cell, put_bytes}
 use Rattle.memory.proofs.Same.{Stands}
 use Rattle.memory.proofs.Stands.{lay, cell_below}
 use Rattle.memory.proofs.Kept.{wrap_small, byte_cell, byte_below, length_cell, length_bytes, cell_here, cell_beside}

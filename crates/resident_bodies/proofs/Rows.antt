@@ -1,10 +1,9 @@
 -- The rows of a body's keywords.
-use Rattle.std.proofs.Common.{◌≡◌, ℕ, ◌+◌, ◌*◌, ◌<◌, ◌≤◌, List, [], ◌∷◌, ◌++◌, length, Some, None, refl, sym, ap, ◌∙◌, subst, arith, length-append}
-use Rattle.std.specs.Prelude.{Bool, true, false, nat_lt, Option}
-use Rattle.memory.specs.Bytes.{cell, put_cell, cell_bytes}
+use Rattle.std.proofs.Common.{◌≡◌, ℕ, ◌+◌, ◌≤◌, List, ◌∷◌, ◌++◌, length, Some, refl, sym, subst, arith}
+use Rattle.std.specs.Prelude.{true, false, nat_lt, Option}
+use Rattle.memory.specs.Bytes.{cell, cell_bytes}
 use Rattle.dictionary.specs.Laying.{fits}
 use Rattle.plain_rows.specs.Whole.{Whole}
-use Rattle.plain_rows.specs.declared.parts.Outcome.{Outcome}
 use Rattle.plain_rows.specs.declared.parts.Outcome.TheVariants.{Done}
 use Rattle.plain_rows.specs.Row.{After, takes1, takes2, room}
 use Rattle.primitives.specs.Compiling.{compiles, resolves}
@@ -13,9 +12,9 @@ use Rattle.compiling_words.specs.Code.{runtime, control_code}
 use Rattle.compiling_words.specs.Laying.{laid}
 use Rattle.colon_bodies.specs.declared.words.Half.{Half}
 use Rattle.colon_bodies.specs.declared.words.Half.TheVariants.{Free}
-use Rattle.colon_bodies.specs.Tokens.{Token, NAME, NUMBER, DOUBLE, TEXT, TICK, FORCE, COMPILE, IF, ELSE, THEN, BEGIN, UNTIL, AGAIN, WHILE, REPEAT, DO, LOOP, DOES, SEMI, loop_control, laid_by}
+use Rattle.colon_bodies.specs.Tokens.{Token, NAME, IF, ELSE, THEN, BEGIN, UNTIL, AGAIN, WHILE, REPEAT, DO, LOOP, DOES, laid_by}
 use Rattle.colon_bodies.specs.Tree.{Body}
-use Rattle.colon_bodies.specs.Open.{Outer, Top, Past, InIf, InElse, InBegin, InWhile, InDo, State, At, fit, read, open_size}
+use Rattle.colon_bodies.specs.Open.{Outer, InIf, InElse, InBegin, InWhile, InDo, State, At, fit, read, open_size}
 use Rattle.colon_bodies.proofs.Cells.{length-cell}
 use Rattle.resident_bodies.specs.Words.{ahead, laid_and_resolved, lays, row_of}
 use Rattle.resident_bodies.specs.Drafts.{places, Draft}

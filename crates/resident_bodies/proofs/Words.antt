@@ -1,25 +1,23 @@
 -- What each word makes of a definition laid in part.
-use Rattle.std.proofs.Common.{◌≡◌, ℕ, ◌+◌, ◌*◌, ◌/◌, ◌%◌, ◌<◌, ◌≤◌, List, [], ◌∷◌, ◌++◌, length, Some, None, refl, sym, ap, ◌∙◌, subst, arith, append_assoc, append-nil, length-append}
-use Rattle.std.specs.Prelude.{Bool, true, false, Option}
-use Rattle.cells.specs.Cell.{wrap}
+use Rattle.std.proofs.Common.{◌≡◌, ℕ, ◌+◌, ◌/◌, ◌%◌, ◌<◌, ◌≤◌, List, [], ◌∷◌, ◌++◌, length, Some, refl, sym, ap, ◌∙◌, subst, arith, append_assoc, length-append}
+use Rattle.std.specs.Prelude.{Bool, true, false}
 use Rattle.memory.specs.Bytes.{cell, put_cell, cell_bytes}
 use Rattle.memory.proofs.Same.{Stands}
 use Rattle.compiling_words.specs.Code.{runtime, control_code, literal_code, text_code}
 use Rattle.compiling_words.specs.Laying.{laid}
 use Rattle.colon_bodies.specs.declared.words.Half.{Half}
 use Rattle.colon_bodies.specs.declared.words.Half.TheVariants.{Free, Ticked, Forced, Compiling, Both}
-use Rattle.colon_bodies.specs.declared.draft.Mark.{Mark}
 use Rattle.colon_bodies.specs.declared.draft.Mark.TheVariants as mark
-use Rattle.colon_bodies.specs.Tokens.{Token, NAME, NUMBER, DOUBLE, TEXT, TICK, FORCE, COMPILE, IF, ELSE, THEN, BEGIN, UNTIL, AGAIN, WHILE, REPEAT, DO, LOOP, DOES, SEMI, text_control, loop_control, laid_by}
-use Rattle.colon_bodies.specs.Tree.{Body, Empty, Call, Tick, Pair, Literal, Double, Text, IfThen, IfElse, Until, Again, While, Loop}
+use Rattle.colon_bodies.specs.Tokens.{Token, NAME, NUMBER, DOUBLE, TEXT, TICK, FORCE, COMPILE, IF, ELSE, THEN, BEGIN, UNTIL, AGAIN, WHILE, REPEAT, DO, LOOP, DOES, text_control, loop_control, laid_by}
+use Rattle.colon_bodies.specs.Tree.{Body, Empty, Tick, Literal, Double, Text, IfThen, IfElse, Until, Again, While, Loop}
 use Rattle.colon_bodies.specs.Code.{size, code}
-use Rattle.colon_bodies.specs.Open.{Outer, Top, Past, InIf, InElse, InBegin, InWhile, InDo, State, At, complete, fit, read, outer_size, open_size, outer_code, open_code}
+use Rattle.colon_bodies.specs.Open.{Outer, Top, Past, InIf, InElse, InBegin, InWhile, InDo, At, complete, fit, read, outer_size, open_size, outer_code, open_code}
 use Rattle.colon_bodies.specs.Draft.{marks_of, Drafted}
 use Rattle.colon_bodies.proofs.Cells.{length-cell}
 use Rattle.colon_bodies.proofs.Laying.{length-open, called, done, then_if, then_else, opened_if, opened_do, opened_begin, switched, tested, repeated, looped}
 use Rattle.resident_bodies.specs.Words.{ahead, laid_and_resolved, lays}
-use Rattle.resident_bodies.specs.Drafts.{places, Kept, Draft}
-use Rattle.resident_bodies.proofs.Lying.{Lies, with_cell, patches, length-with, lies_laid, lies_patched, control_kept}
+use Rattle.resident_bodies.specs.Drafts.{places, Draft}
+use Rattle.resident_bodies.proofs.Lying.{Lies, with_cell, patches, lies_laid, lies_patched, control_kept}
 
 -- the words that were read lie somewhere
 abbrev pub Open : List ℕ → ℕ → Outer → Body → Half → List ℕ → Type 0
@@ -353,3 +351,14 @@ read_word before at o p t u _ k _ m below l r e g = cc
 pub word_is : (before : List ℕ) (at : ℕ) (o p : Outer) (t u : Body) (h k : Half) (w : Token) (m d below : List ℕ) → 256 ≤ at → at + open_size o t h + laid_by w ≤ 61440 → read o t h w ≡ Some (At p u k) → Draft before at o t h m d below → Draft before at p u k (lays w m d).0 (lays w m d).1 below
 word_is before at o p t u h k w m d below l r e g =
     subst (λ x. Behind before at w m x below p u k) (sym g.stack) (read_word before at o p t u h k w m below l r e (opens before at o t h m d below g))
+
+pub tick_name : (before : List ℕ) (at : ℕ) (o : Outer) (t : Body) (m d below : List ℕ) (w : ℕ) → 256 ≤ at → at + open_size o t Free + 4 ≤ 61440 → Draft before at o t Free m d below → Draft before at o (Tick t w) Free (laid m (literal_code m w)) d below
+tick_name before at o t m d below w l r g =
+    let rt = runtime before in
+    let h = opens before at o t Free m d below g in
+    let bs = open_code rt o t Free at in
+    let A = outer_code rt o at in
+    let C = code rt t (at + outer_size o) in
+    let c = control_kept before at bs m 6 l (omega arith) h in
+    let e : bs ++ (cell_bytes (runtime m 6) ++ cell_bytes w) ≡ open_code rt o (Tick t w) Free at = append_assoc A C (cell_bytes (runtime m 6) ++ cell_bytes w) ∙ ap (λ v. A ++ (C ++ (cell_bytes v ++ cell_bytes w))) c in
+    drafts before at o (Tick t w) Free (bs ++ (cell_bytes (runtime m 6) ++ cell_bytes w)) (laid m (literal_code m w)) d below e g.stack (lies_control before at o t Free m 6 w l r h)

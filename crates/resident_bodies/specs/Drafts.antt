@@ -1,13 +1,13 @@
 -- A definition that the resident compiler has laid in part.
-use Rattle.std.specs.Prelude.{◌≡◌, ◌≢◌, ℕ, ◌+◌, ◌<◌, ◌/◌, List, [], ◌∷◌, ◌++◌, length}
+use Rattle.std.specs.Prelude.{◌≡◌, ◌≢◌, ℕ, ◌+◌, ◌<◌, ◌/◌, List, [], ◌++◌, length}
 use Rattle.memory.specs.Bytes.{byte, cell}
 use Rattle.memory.specs.declared.system.TheConstants.{DP}
 use Rattle.memory.proofs.Same.{Stands}
 use Rattle.stacks.specs.Cells.{◌▸◌}
 use Rattle.compiling_words.specs.Code.{runtime}
 use Rattle.colon_bodies.specs.declared.words.Half.{Half}
-use Rattle.colon_bodies.specs.Tree.{Body}
-use Rattle.colon_bodies.specs.Code.{size}
+use Rattle.colon_bodies.specs.Tree.{Body, Definition}
+use Rattle.colon_bodies.specs.Code.{size, all_size, all_code}
 use Rattle.colon_bodies.specs.Open.{Outer, Top, Past, InIf, InElse, InBegin, InWhile, InDo, outer_size, open_size, open_code}
 
 -- the cells that open structures have on the data stack: places of cells left open, and places to go back to
@@ -33,3 +33,10 @@ pub record Draft (before : List ℕ) (at : ℕ) (o : Outer) (t : Body) (h : Half
   pub kept : Kept at m before
   pub all : length m ≡ 65536
   pub stack : d ≡ places at o ++ below
+
+-- The body of a definition is laid at a place: its bytes are there, up to HERE, and below it nothing has changed.
+pub record Bodied (before : List ℕ) (at : ℕ) (body : Definition) (m : List ℕ) : Type 0 where
+  pub stands : Stands m at (all_code (runtime before) body at)
+  pub here : cell m DP ≡ at + all_size body
+  pub kept : Kept at m before
+  pub all : length m ≡ 65536

@@ -1,12 +1,12 @@
 -- What the words of a body make of memory and the data stack where the resident compiler reads them.
-use Rattle.std.specs.Prelude.{ℕ, Bool, true, false, ◌+◌, ◌/◌, ◌%◌, List, [], ◌∷◌, ◌++◌, length, Option, Some, None}
+use Rattle.std.specs.Prelude.{ℕ, true, false, ◌+◌, ◌/◌, ◌%◌, List, [], ◌∷◌, ◌++◌, length, Option, Some, None}
 use Rattle.cells.specs.Cell.{wrap}
 use Rattle.memory.specs.Bytes.{cell, put_cell, cell_bytes}
 use Rattle.memory.specs.declared.system.TheConstants.{DP}
 use Rattle.stacks.specs.Cells.{◌▸◌}
 use Rattle.compiling_words.specs.Code.{runtime, control_code, literal_code, text_code}
 use Rattle.compiling_words.specs.Laying.{laid, resolved}
-use Rattle.colon_bodies.specs.Tokens.{Token, NAME, NUMBER, DOUBLE, TEXT, TICK, FORCE, COMPILE, IF, ELSE, THEN, BEGIN, UNTIL, AGAIN, WHILE, REPEAT, DO, LOOP, DOES, text_control, loop_control}
+use Rattle.colon_bodies.specs.Tokens.{Token, NAME, NUMBER, DOUBLE, TEXT, TICK, COMPILE, IF, ELSE, THEN, BEGIN, UNTIL, AGAIN, WHILE, REPEAT, DO, LOOP, DOES, text_control, loop_control}
 
 -- the place n bytes behind HERE
 abbrev pub ahead : List ℕ → ℕ → ℕ
@@ -52,3 +52,8 @@ row_of DO = Some 187
 row_of (LOOP false) = Some 188
 row_of (LOOP true) = Some 189
 row_of _ = None
+
+-- behind words, one after another
+abbrev pub lays_all : List Token → (m d : List ℕ) → List ℕ × List ℕ
+lays_all [] m d = (m, d)
+lays_all (w ∷ ws) m d = lays_all ws (lays w m d).0 (lays w m d).1
