@@ -233,15 +233,15 @@ find_links test voc class bs (n ∷ ns) c h = by (n.vocabulary == voc) (class_of
     by true false false i q r f = i
     by false b e i q r f = i
 
-class_is : (bs : List ℕ) → slice_index bs 0 % 4 ≡ class_of bs
+pub class_is : (bs : List ℕ) → slice_index bs 0 % 4 ≡ class_of bs
 class_is [] = refl
 class_is (b ∷ bs) = refl
 
-class_below : (bs : List ℕ) → class_of bs < 4
+pub class_below : (bs : List ℕ) → class_of bs < 4
 class_below [] = omega arith
 class_below (b ∷ bs) = omega arith
 
-vocabulary_below : (t : Items) (voc : ℕ) → AreSound 61440 t → IsVocabulary t voc → voc + 10 ≤ 61440
+pub vocabulary_below : (t : Items) (voc : ℕ) → AreSound 61440 t → IsVocabulary t voc → voc + 10 ≤ 61440
 vocabulary_below t voc h (inl e) = omega arith
 vocabulary_below t voc h (inr r) = let b = record_below t voc r in omega (arith, sound_end 61440 t (lit≤ tt) h)
 

@@ -111,6 +111,25 @@ system_cell t i h =
     } in
     stands_cell (memory_of t) (2 * i) (system t (2 * i)) [] (omega arith) s
 
+in_controls : (l f c g a r : List ℕ) → (l ++ ((f ++ (c ++ g)) ++ a)) ++ r ≡ (l ++ f) ++ ((c ++ []) ++ (g ++ (a ++ r)))
+in_controls l f c g a r = simp (append_assoc, append-nil)
+
+pub control_cell : (t : Items) (k : ℕ) → k < 32 → cell (memory_of t) (64 + 2 * k) ≡ controls t k
+unfolding front_put
+control_cell t k h =
+    let f = λ (a : ℕ). controls t (a / 2) in
+    let l = low (system t) 0 32 in
+    let r = low_cell f 0 32 k (2 * k) h (omega arith) in
+    let rest = zeros 128 ++ item_bytes (heads_of t) t false in
+    let i : 2 * k / 2 ≡ k = omega arith in
+    let s : Stands (memory_of t) (64 + 2 * k) (cell_bytes (f (2 * k)) ++ []) = record {
+      before = l ++ r.0;
+      after = r.1 ++ (rest ++ drop (length (image t)) memory.zeros);
+      is = ap (λ x. (l ++ (x ++ rest)) ++ drop (length (image t)) memory.zeros) r.2 ∙ in_controls l r.0 (cell_bytes (f (2 * k))) r.1 rest (drop (length (image t)) memory.zeros);
+      place = length-append l r.0 ∙ let q = r.3 in omega (arith, length-low (system t) 0 32);
+    } in
+    stands_cell (memory_of t) (64 + 2 * k) (f (2 * k)) [] (omega arith) s ∙ ap (controls t) i
+
 -- the end
 pub end_is : (t : Items) → end_of t ≡ 256 + sum (sizes t)
 end_is Nothing = refl

@@ -3,3 +3,5 @@ pub mod Words
 pub mod Rows
 pub mod Moved
 pub mod Bodies
+pub mod Controls
+pub mod Items

@@ -2,7 +2,7 @@
 
 ghost use Rattle.std.specs.Prelude.{◌≡◌, ◌≤◌, ℕ, Bool, ◌+◌, ◌/◌, ◌%◌, ◌++◌, List, Some, length};
 ghost use Rattle.memory.specs.Bytes.{cell, cell_bytes, put_cell};
-ghost use Rattle.memory.specs.declared.system.TheConstants.{DP, TO_IN};
+ghost use Rattle.memory.specs.declared.system.TheConstants.{DP, TO_IN, FENCE};
 ghost use Rattle.dictionary.specs.Laying.{laid_at};
 ghost use Rattle.compiling_words.specs.Code.{runtime, literal_code, text_code};
 ghost use Rattle.compiling_words.specs.Laying.{laid};
@@ -15,6 +15,11 @@ ghost use Rattle.colon_bodies.specs.Tokens.{Token, NAME, NUMBER, DOUBLE, TEXT, t
 ghost use Rattle.colon_bodies.specs.Tree.{Body, Definition, Tick, all_words};
 ghost use Rattle.colon_bodies.specs.Code.{all_size};
 ghost use Rattle.colon_bodies.specs.Open.{Outer, At, open_size, read};
+ghost use Rattle.metacompiler.specs.Places.{Place};
+ghost use Rattle.metacompiler.specs.Items.{Items, Then, Colon, end_of};
+ghost use Rattle.metacompiler.specs.Grammar.{AreSound};
+ghost use Rattle.metacompiler.specs.Headers.{memory_of};
+ghost use Rattle.resident_bodies.specs.Definitions.{laid_definition};
 ghost use Rattle.resident_bodies.specs.Words.{lays, lays_all, row_of};
 ghost use Rattle.resident_bodies.specs.Drafts.{Draft, Bodied};
 
@@ -46,4 +51,10 @@ pub fn stream_law()
     ensures double { (m d : List ℕ) (q n : ℕ) → (lays (DOUBLE n) (put_cell m TO_IN q) d).0 ≡ laid_at (cell m DP) (put_cell m TO_IN q) (literal_code m (n % 65536) ++ literal_code m (n / 65536)) }
     ensures text { (m d text : List ℕ) (q : ℕ) (aborts : Bool) → (lays (TEXT aborts text) (put_cell m TO_IN q) d).0 ≡ laid_at (cell m DP) (put_cell m TO_IN q) (text_code (runtime m (text_control aborts)) text) }
     ensures tick { (before : List ℕ) (at : ℕ) (o : Outer) (t : Body) (m d below : List ℕ) (w : ℕ) → 256 ≤ at → at + open_size o t Free + 4 ≤ 61440 → Draft before at o t Free m d below → Draft before at o (Tick t w) Free (laid m (literal_code m w)) d below }
+{}
+
+/// A colon item of the metacompiler is one header with its code behind it: the image's memory with it is the memory before
+/// it, with that header at HERE, in front of its chain, and FENCE behind it.
+pub fn item_law()
+    ensures { (t : Items) (ws : List Place) (p : Place) (body : Definition) → AreSound 61440 (Then t ws (Colon p body)) → memory_of (Then t ws (Colon p body)) ≡ put_cell (laid_definition (memory_of t) p.screen p.name body) FENCE (end_of (Then t ws (Colon p body))) }
 {}
