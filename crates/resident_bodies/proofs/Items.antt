@@ -142,7 +142,7 @@ writes m here head hb = put_cell (put_cell (put_cell (put_bytes m here hb) 28 (w
 abbrev header_of : (view link : ℕ) → List ℕ → List ℕ → List ℕ
 header_of view link name extra = header_bytes view link (128 + length name) name 1 extra
 
-written_is : (m : List ℕ) (view : ℕ) (name : List ℕ) (b : Definition) → laid_definition m view name b ≡ writes m (cell m 28) (head_of (cell m 34) name) (header_of view (cell m (head_of (cell m 34) name)) name (thread (runtime m) b (cell m 28 + (7 + length name))))
+pub written_is : (m : List ℕ) (view : ℕ) (name : List ℕ) (b : Definition) → laid_definition m view name b ≡ writes m (cell m 28) (head_of (cell m 34) name) (header_of view (cell m (head_of (cell m 34) name)) name (thread (runtime m) b (cell m 28 + (7 + length name))))
 unfolding with_header_at written
 written_is m view name b = refl
 

@@ -5,3 +5,4 @@ pub mod Moved
 pub mod Bodies
 pub mod Controls
 pub mod Items
+pub mod Ending

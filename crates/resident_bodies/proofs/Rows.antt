@@ -9,6 +9,7 @@ use Rattle.plain_rows.specs.Row.{After, takes1, takes2, room}
 use Rattle.primitives.specs.Compiling.{compiles, resolves}
 use Rattle.primitives.specs.Table.{row, compiling}
 use Rattle.compiling_words.specs.Code.{runtime, control_code}
+use Rattle.compiling_words.specs.Definitions.{ended}
 use Rattle.compiling_words.specs.Laying.{laid}
 use Rattle.colon_bodies.specs.declared.words.Half.{Half}
 use Rattle.colon_bodies.specs.declared.words.Half.TheVariants.{Free}
@@ -131,3 +132,7 @@ row_is before at o p t u h k n w s below r g q e d =
     let v = d.stack in
     let c = d.here in
     subst (λ x. RowIs n w s k x) (sym v) (fit_row at o p t u h k n w s below q (fits_so o t k n (Some (At p u h)) q e) (omega arith) (subst (λ x. length x ≤ 250) v g))
+
+pub semicolon_is : (s : Whole) (w : ℕ) → cell s.memory 28 + 2 ≤ 61440 → row 169 w s ≡ (record s { memory = ended s.memory }, Done)
+unfolding row compiling
+semicolon_is s w h = rw (fits_is s.memory 2 h) refl

@@ -2,9 +2,10 @@
 
 ghost use Rattle.std.specs.Prelude.{◌≡◌, ◌≤◌, ℕ, Bool, ◌+◌, ◌/◌, ◌%◌, ◌++◌, List, Some, length};
 ghost use Rattle.memory.specs.Bytes.{cell, cell_bytes, put_cell};
-ghost use Rattle.memory.specs.declared.system.TheConstants.{DP, TO_IN, FENCE};
+ghost use Rattle.memory.specs.declared.system.TheConstants.{BLK, DP, TO_IN, FENCE};
 ghost use Rattle.dictionary.specs.Laying.{laid_at};
 ghost use Rattle.compiling_words.specs.Code.{runtime, literal_code, text_code};
+ghost use Rattle.compiling_words.specs.Definitions.{begun, ended};
 ghost use Rattle.compiling_words.specs.Laying.{laid};
 ghost use Rattle.plain_rows.specs.Whole.{Whole};
 ghost use Rattle.plain_rows.specs.declared.parts.Outcome.TheVariants.{Done};
@@ -19,7 +20,7 @@ ghost use Rattle.metacompiler.specs.Places.{Place};
 ghost use Rattle.metacompiler.specs.Items.{Items, Then, Colon, end_of};
 ghost use Rattle.metacompiler.specs.Grammar.{AreSound};
 ghost use Rattle.metacompiler.specs.Headers.{memory_of};
-ghost use Rattle.resident_bodies.specs.Definitions.{laid_definition};
+ghost use Rattle.resident_bodies.specs.Definitions.{Opens, Agrees, laid_definition};
 ghost use Rattle.resident_bodies.specs.Words.{lays, lays_all, row_of};
 ghost use Rattle.resident_bodies.specs.Drafts.{Draft, Bodied};
 
@@ -30,9 +31,10 @@ pub fn word_law()
 {}
 
 /// The row of a keyword does this where it fits and there is room: it writes memory and leaves the data stack so, and does
-/// nothing else.
+/// nothing else. The row of `;` ends the definition.
 pub fn row_law()
-    ensures { (before : List ℕ) (at : ℕ) (o p : Outer) (t u : Body) (k : Half) (word : Token) (number token : ℕ) (s : Whole) (below : List ℕ) → at + open_size o t Free + laid_by word ≤ 61440 → length s.values ≤ 250 → row_of word ≡ Some number → read o t Free word ≡ Some (At p u k) → Draft before at o t Free s.memory s.values below → row number token s ≡ (record s { memory = (lays word s.memory s.values).0; values = (lays word s.memory s.values).1 }, Done) }
+    ensures keyword { (before : List ℕ) (at : ℕ) (o p : Outer) (t u : Body) (k : Half) (word : Token) (number token : ℕ) (s : Whole) (below : List ℕ) → at + open_size o t Free + laid_by word ≤ 61440 → length s.values ≤ 250 → row_of word ≡ Some number → read o t Free word ≡ Some (At p u k) → Draft before at o t Free s.memory s.values below → row number token s ≡ (record s { memory = (lays word s.memory s.values).0; values = (lays word s.memory s.values).1 }, Done) }
+    ensures semicolon { (s : Whole) (token : ℕ) → cell s.memory DP + 2 ≤ 61440 → row 169 token s ≡ (record s { memory = ended s.memory }, Done) }
 {}
 
 /// Where the words of a definition's body are read one after another, its size is how far HERE moves, and its code is what is
@@ -57,4 +59,10 @@ pub fn stream_law()
 /// it, with that header at HERE, in front of its chain, and FENCE behind it.
 pub fn item_law()
     ensures { (t : Items) (ws : List Place) (p : Place) (body : Definition) → AreSound 61440 (Then t ws (Colon p body)) → memory_of (Then t ws (Colon p body)) ≡ put_cell (laid_definition (memory_of t) p.screen p.name body) FENCE (end_of (Then t ws (Colon p body))) }
+{}
+
+/// A definition that the resident compiler begins, whose body's words it reads, and which it ends, is that one header with
+/// its code behind it. So both compilers lay the same.
+pub fn definition_law()
+    ensures { (m d name : List ℕ) (body : Definition) → Opens m name (all_size body + 2) → Agrees (ended (lays_all (all_words body) (begun m name) d).0) (laid_definition m (cell m BLK) name body) }
 {}
