@@ -1,5 +1,5 @@
 -- A colon item's memory, as one header with its code behind it.
-use Rattle.std.proofs.Common.{◌≡◌, ℕ, zero, suc, ◌+◌, ◌*◌, ◌-◌, ◌/◌, ◌%◌, ◌<◌, ◌≤◌, inl, inr, List, [], ◌∷◌, ◌++◌, length, drop, refl, sym, ap, ◌∙◌, arith, lit≤, append_assoc, length-append, length-drop}
+use Rattle.std.proofs.Common.{◌≡◌, ◌⊎◌, ℕ, zero, suc, ◌+◌, ◌*◌, ◌-◌, ◌/◌, ◌%◌, ◌<◌, ◌≤◌, inl, inr, List, [], ◌∷◌, ◌++◌, length, drop, subst, refl, sym, ap, ◌∙◌, arith, lit≤, append_assoc, length-append, length-drop}
 use Rattle.std.specs.Prelude.{Bool, true, false, slice_set, ◌==◌, if◌then◌else◌}
 use Rattle.std.proofs.Math.Seq.{set-append_seam}
 use Rattle.std.proofs.lemmas.Bool.{eqb-true, eq-eqb}
@@ -25,12 +25,12 @@ use Rattle.metacompiler.specs.Built.{IsRecord}
 use Rattle.metacompiler.specs.Headers.{memory_of}
 use Rattle.metacompiler.proofs.Imaging.{length-zeros, record_below, bytes_seam}
 use Rattle.metacompiler.proofs.Looping.{length-low}
-use Rattle.metacompiler.proofs.Sound.{sound_names, sound_end}
+use Rattle.metacompiler.proofs.Sound.{sound_names, sound_end, end_above}
 use Rattle.metacompiler.proofs.Making.{headed_bytes}
 use Rattle.metacompiler.proofs.Headers.{length-image, system_cell, control_cell}
 use Rattle.metacompiler.proofs.Finding.{head_new, head_else}
-use Rattle.metacompiler.proofs.Chained.{head_is, class_is, class_below, vocabulary_below}
-use Rattle.resident_bodies.specs.Definitions.{laid_definition}
+use Rattle.metacompiler.proofs.Chained.{head_is, class_is, class_below, vocabulary_below, length-memory}
+use Rattle.resident_bodies.specs.Definitions.{Opens, laid_definition}
 use Rattle.resident_bodies.proofs.Controls.{thread_same}
 
 length-blank : length memory.zeros ≡ 65536
@@ -170,13 +170,13 @@ length-own t p b =
     ∙ omega (arith, length-append (all_code (controls t) b at) (cell_bytes (controls t 5)), length-all (controls t) b at, length-cell (controls t 5))
 
 -- where the definition goes
-head_at : (t : Items) (p : Place) → AreSound 61440 t → head_of (cell (memory_of t) 34) p.name ≡ current t + 2 * class_of p.name
+name_at : (t : Items) (name : List ℕ) → AreSound 61440 t → head_of (cell (memory_of t) 34) name ≡ current t + 2 * class_of name
 unfolding head_of
-head_at t p h =
+name_at t name h =
     let v : cell (memory_of t) 34 ≡ current t = system_cell t 17 (omega arith) in
     let b = vocabulary_below t (current t) h (sound_names 61440 t h).0 in
-    let c = class_is p.name in
-    let k = class_below p.name in
+    let c = class_is name in
+    let k = class_below name in
     omega (arith, v, b, c, k)
 
 -- the four writes, in front of a chain of FORTH
@@ -269,7 +269,7 @@ item_is t ws p b h =
     let lb = length-image u in
     let la0 : length after ≡ 65536 - length (image t) = length-drop (length (image t)) memory.zeros ∙ ap (λ x. x - length (image t)) length-blank in
     let one : laid_definition (memory_of t) p.screen p.name b ≡ writes (memory_of t) e at hb =
-    written_at (memory_of t) p.screen p.name b (controls t) e at (link_of t p) (system_cell t 14 (omega arith)) (head_at t p before) (head_is t (current t) (class_of p.name) before voc (class_below p.name)) (λ k lt. control_cell t k lt) in
+    written_at (memory_of t) p.screen p.name b (controls t) e at (link_of t p) (system_cell t 14 (omega arith)) (name_at t p.name before) (head_is t (current t) (class_of p.name) before voc (class_below p.name)) (λ k lt. control_cell t k lt) in
     let two : put_bytes (memory_of t) e hb ≡ parts (low (system t) 0 32) c z old (hb ++ rest) =
     put_at (image t) after hb e (sym la) (omega arith) (omega arith)
     ∙ ap (λ x. image t ++ (hb ++ x)) (drop-drop (length hb) (length (image t)) memory.zeros ∙ ap (λ x. drop x memory.zeros) (omega arith))
@@ -286,3 +286,23 @@ item_is t ws p b h =
     behind_all (low (system u) 0 32) c z (item_bytes (heads_of u) t false) (head (link_of t p) p false 1 ++ extra) rest
     ∙ ap (λ o. parts (low (system u) 0 32) c z (item_bytes (heads_of u) t false) (o ++ rest)) (sym (own_is t p b)) in
     five ∙ sym (ap (λ m. put_cell m 54 (end_of u)) one ∙ three ∙ four)
+
+-- a definition may begin behind the items
+head_placed : (t : Items) (voc class : ℕ) → class < 4 → (voc ≡ 42) ⊎ IsRecord t voc → ((42 ≤ voc + 2 * class) × (voc + 2 * class + 1 < 52)) ⊎ ((256 ≤ voc + 2 * class) × (voc + 2 * class + 1 < end_of t))
+head_placed t voc class h (inl e) = inl (omega arith, omega arith)
+head_placed t voc class h (inr r) = let w = record_below t voc r in inr (omega (arith, w.0), omega (arith, w.1))
+
+pub image_opens : (t : Items) (name : List ℕ) (behind : ℕ) → AreSound 61440 t → length name ≤ 31 → end_of t + (7 + length name + behind) ≤ 61440 → Opens (memory_of t) name behind
+image_opens t name behind h l r =
+    let dp : cell (memory_of t) 28 ≡ end_of t = system_cell t 14 (omega arith) in
+    let ab = end_above t in
+    let at : head_of (cell (memory_of t) 34) name ≡ current t + 2 * class_of name = name_at t name h in
+    let P = λ (x e : ℕ). ((42 ≤ x) × (x + 1 < 52)) ⊎ ((256 ≤ x) × (x + 1 < e)) in
+    record {
+      all = length-memory t h;
+      executing = system_cell t 8 (omega arith);
+      short = l;
+      low = omega arith;
+      high = omega arith;
+      head = subst (λ e. P (head_of (cell (memory_of t) 34) name) e) (sym dp) (subst (λ x. P x (end_of t)) (sym at) (head_placed t (current t) (class_of name) (class_below name) (sound_names 61440 t h).0));
+    }

@@ -62,7 +62,8 @@ pub fn item_law()
 {}
 
 /// A definition that the resident compiler begins, whose body's words it reads, and which it ends, is that one header with
-/// its code behind it. So both compilers lay the same.
+/// its code behind it. So both compilers lay the same. In the memory of each image a definition may begin that has room.
 pub fn definition_law()
-    ensures { (m d name : List ℕ) (body : Definition) → Opens m name (all_size body + 2) → Agrees (ended (lays_all (all_words body) (begun m name) d).0) (laid_definition m (cell m BLK) name body) }
+    ensures opens { (t : Items) (name : List ℕ) (behind : ℕ) → AreSound 61440 t → length name ≤ 31 → end_of t + (7 + length name + behind) ≤ 61440 → Opens (memory_of t) name behind }
+    ensures whole { (m d name : List ℕ) (body : Definition) → Opens m name (all_size body + 2) → Agrees (ended (lays_all (all_words body) (begun m name) d).0) (laid_definition m (cell m BLK) name body) }
 {}
