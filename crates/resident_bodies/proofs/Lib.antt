@@ -6,3 +6,4 @@ pub mod Bodies
 pub mod Controls
 pub mod Items
 pub mod Ending
+pub mod Twice

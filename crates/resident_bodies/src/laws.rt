@@ -30,6 +30,12 @@ pub fn word_law()
     ensures { (before : List ℕ) (at : ℕ) (o p : Outer) (t u : Body) (h k : Half) (w : Token) (m d below : List ℕ) → 256 ≤ at → at + open_size o t h + laid_by w ≤ 61440 → read o t h w ≡ Some (At p u k) → Draft before at o t h m d below → Draft before at p u k (lays w m d).0 (lays w m d).1 below }
 {}
 
+/// Bytes that two calls lay one behind the other are what one call lays: so a control primitive and then a mark, or a literal
+/// and then another, are laid as by the word that lays them at once.
+pub fn calls_law()
+    ensures { (m xs ys : List ℕ) → length m ≡ 65536 → 30 ≤ cell m DP → cell m DP + length xs + length ys ≤ 61440 → laid (laid m xs) ys ≡ laid m (xs ++ ys) }
+{}
+
 /// The row of a keyword does this where it fits and there is room: it writes memory and leaves the data stack so, and does
 /// nothing else. The row of `;` ends the definition.
 pub fn row_law()
