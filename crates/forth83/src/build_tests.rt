@@ -10,18 +10,25 @@ use std::test::Fail;
 
 /// A file of six blocks. Screen 1 is a whole source, screens 2 and 3 are blank, screens 4 and 5 hold a source with a fault.
 fn device(alloc: Global) -> Result<MemoryDevice, Fail> {
-    let sources = [
-        b"".as_slice(),
-        b"5 PRIM EXIT 23 PRIM BYE : GO BYE ; BOOT GO".as_slice(),
-        b"".as_slice(),
-        b"".as_slice(),
-        b"5 PRIM EXIT 6 PRIM (LIT) 8 PRIM ?BRANCH".as_slice(),
-        b": Y IF 1 ;".as_slice(),
-    ];
+    device_of(
+        alloc,
+        &[
+            b"".as_slice(),
+            b"5 PRIM EXIT 23 PRIM BYE : GO BYE ; BOOT GO".as_slice(),
+            b"".as_slice(),
+            b"".as_slice(),
+            b"5 PRIM EXIT 6 PRIM (LIT) 8 PRIM ?BRANCH".as_slice(),
+            b": Y IF 1 ;".as_slice(),
+        ],
+    )
+}
+
+/// A file with these sources in its blocks, one a block.
+fn device_of(alloc: Global, sources: &[&[u8]]) -> Result<MemoryDevice, Fail> {
     let mut blocks = Vec::new(alloc);
     for source in sources {
         let mut block = [b' '; 1024];
-        for (to, from) in block.iter_mut().zip(source) {
+        for (to, from) in block.iter_mut().zip(source.iter()) {
             *to = *from;
         }
         blocks.push(block)?;
@@ -109,6 +116,30 @@ fn a_line_that_is_not_written(rt: HostRuntime) -> Result<(), Fail> {
     let Ended { status, file } = do_build(rt.alloc(), &mut device, 1, 1, &mut writer);
     assert_eq!(rt; status, 5);
     assert!(rt; file.is_none());
+    Ok(())
+}
+
+/// The screen of each word, where two screens hold a source; of a word that is made twice it is the newest one's.
+#[test]
+fn the_screen_of_the_newest_word(rt: HostRuntime) -> Result<(), Fail> {
+    let first =
+        "5 PRIM EXIT 6 PRIM (LIT) 7 PRIM BRANCH 8 PRIM ?BRANCH 23 PRIM BYE 32 PRIM DUP : Z DUP IF 1 ELSE -1 THEN ;";
+    let second = ": GO 0 Z BYE ; : DUP 7 ; BOOT GO";
+    let mut device = device_of(rt.alloc(), &[first.as_bytes(), second.as_bytes()])?;
+    let mut writer = Writing::new(Vec::new(rt.alloc()));
+    let Ended { file, .. } = do_build(rt.alloc(), &mut device, 0, 1, &mut writer);
+    let file = file.expect(&rt, "a file");
+    for (name, line) in [
+        ("Z", b"0\n"),
+        ("EXIT", b"0\n"),
+        ("GO", b"1\n"),
+        ("DUP", b"1\n"),
+    ] {
+        let mut writer = Writing::new(Vec::new(rt.alloc()));
+        let ended = do_view(rt.alloc(), file.as_slice(), name, &mut writer);
+        assert_eq!(rt; ended.status, 0);
+        assert_eq!(rt; writer.into_inner().as_slice(), line.as_slice());
+    }
     Ok(())
 }
 

@@ -18,6 +18,7 @@ mod kernel_runs;
 #[cfg(test)]
 mod kernel_tests;
 mod kernel_text;
+mod laws;
 #[cfg(test)]
 mod tests;
 mod words;

@@ -13,7 +13,7 @@ use Rattle.metacompiler.specs.Items.{Item, Header, Colon, Cell, Byte, Allot, Imm
 use Rattle.metacompiler.specs.declared.entry.Sign.TheVariants as s
 use Rattle.metacompiler.specs.Built.{OwnRecord, IsRecord}
 
-length-zeros : (n : ℕ) → length (zeros n) ≡ n
+pub length-zeros : (n : ℕ) → length (zeros n) ≡ n
 length-zeros zero = refl
 length-zeros (suc n) = ap suc (length-zeros n)
 

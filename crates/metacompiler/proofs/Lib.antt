@@ -1,6 +1,7 @@
 pub mod Finding
 pub mod Imaging
 pub mod Sound
+pub mod Standing
 pub mod Making
 pub mod Taking
 pub mod Running
@@ -13,3 +14,5 @@ pub mod Held
 pub mod Midways
 pub mod Screens
 pub mod Refusing
+pub mod Headers
+pub mod Chained

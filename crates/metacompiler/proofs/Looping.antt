@@ -173,7 +173,7 @@ pub memory_stops : (source : List Place) (last screen offset : ℕ) (e : Cause) 
 memory_stops = memory_fault
 
 -- an image ends where its items do
-length-low : (f : ℕ → ℕ) (at n : ℕ) → length (low f at n) ≡ 2 * n
+pub length-low : (f : ℕ → ℕ) (at n : ℕ) → length (low f at n) ≡ 2 * n
 length-low f at zero = refl
 length-low f at (suc n) = omega (arith, length-append (cell_bytes (f at)) (low f (at + 2) n), length-cell (f at), length-low f (at + 2) n)
 

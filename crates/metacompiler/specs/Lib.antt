@@ -7,6 +7,7 @@ pub mod Grammar
 pub mod Stages
 pub mod Faults
 pub mod Built
+pub mod Headers
 pub mod Causes
 pub mod State
 pub mod Sources

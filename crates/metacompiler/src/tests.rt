@@ -178,6 +178,16 @@ fn sizes_and_cells(rt: HostRuntime) -> Result<(), Fail> {
     assert_answers(&rt, rt.alloc(), (1, 1), lines)
 }
 
+/// A name that is made twice: its newest header is the chain's head and links to the older one, which the newest's own body
+/// calls. A vocabulary in a vocabulary, and the heads in the records of both, which change after these were laid.
+#[test]
+fn chains(rt: HostRuntime) -> Result<(), Fail> {
+    let lines =
+        r##"5 PRIM EXIT : X EXIT ; : X X ; BOOT X | size 291 entry 285 30=281 42=281 44=258 46=0 48=0 258=0 269=0 281=269 275=265 277=265 287=273 289=265
+5 PRIM EXIT VOCABULARY V V DEFINITIONS VOCABULARY W : A ; W DEFINITIONS : A ; : B A ; FORTH DEFINITIONS : A ; V DEFINITIONS : C A ; BOOT C | size 357 entry 351 30=347 32=275 34=275 42=0 44=337 46=269 48=0 52=293 269=0 275=0 277=305 279=0 281=347 283=42 287=0 293=0 295=315 297=325 299=0 301=275 305=0 315=0 325=0 331=319 333=265 337=258 347=287 353=309 355=265"##;
+    assert_answers(&rt, rt.alloc(), (1, 1), lines)
+}
+
 /// Behind `NAMES`: 70000 is 4464 and 65,536; `Hi` is 72 105, `bad` 98 97 100.
 #[test]
 fn every_word_of_bodies(rt: HostRuntime) -> Result<(), Fail> {

@@ -1,0 +1,39 @@
+-- A colon definition as one header with its code behind it.
+use Rattle.std.specs.Prelude.{◌≡◌, ◌≢◌, ◌≤◌, ◌<◌, ◌⊎◌, ◌/◌, ℕ, false, ◌+◌, List, length}
+use Rattle.memory.specs.Bytes.{byte, cell}
+use Rattle.memory.specs.declared.system.TheConstants.{STATE, DP, CURRENT}
+use Rattle.dictionary.specs.declared.site.Site.{Site}
+use Rattle.dictionary.specs.Search.{head_of}
+use Rattle.dictionary.specs.Adding.{with_header_at}
+use Rattle.compiling_words.specs.Code.{runtime}
+use Rattle.colon_bodies.specs.Tree.{Definition}
+use Rattle.colon_bodies.specs.Code.{thread}
+
+-- where a definition of this name goes in a memory: at HERE, in front of its chain in CURRENT
+abbrev pub site_in : List ℕ → (view : ℕ) → List ℕ → Site
+site_in m view name = record {
+  here = cell m DP;
+  view = view;
+  link = cell m (head_of (cell m CURRENT) name);
+  head = head_of (cell m CURRENT) name;
+}
+
+-- memory with a whole definition: one header, and behind its code field the thread
+abbrev pub laid_definition : List ℕ → (view : ℕ) → List ℕ → Definition → List ℕ
+laid_definition m view name body =
+    with_header_at (site_in m view name) m name 1 (thread (runtime m) body (cell m DP + (7 + length name))) false
+
+-- A definition of this name may begin: words are executed, its header and so many bytes behind it fit, and the head of its
+-- chain is one of FORTH's or stands among what was laid.
+pub record Opens (m name : List ℕ) (behind : ℕ) : Type 0 where
+  pub all : length m ≡ 65536
+  pub executing : cell m STATE ≡ 0
+  pub short : length name ≤ 31
+  pub low : 256 ≤ cell m DP
+  pub high : cell m DP + (7 + length name + behind) ≤ 61440
+  pub head : ((42 ≤ head_of (cell m CURRENT) name) × (head_of (cell m CURRENT) name + 1 < 52)) ⊎ ((256 ≤ head_of (cell m CURRENT) name) × (head_of (cell m CURRENT) name + 1 < cell m DP))
+
+-- memories agree up to HERE, but for >IN and BLK (20 to 23) and CONTEXT (32 and 33)
+pub record Agrees (m n : List ℕ) : Type 0 where
+  pub here : cell m DP ≡ cell n DP
+  pub same : (i : ℕ) → i < cell n DP → i / 4 ≢ 5 → i / 2 ≢ 14 → i / 2 ≢ 16 → byte m i ≡ byte n i

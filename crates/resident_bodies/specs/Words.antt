@@ -1,0 +1,59 @@
+-- What the words of a body make of memory and the data stack where the resident compiler reads them.
+use Rattle.std.specs.Prelude.{ℕ, true, false, ◌+◌, ◌/◌, ◌%◌, List, [], ◌∷◌, ◌++◌, length, Option, Some, None}
+use Rattle.cells.specs.Cell.{wrap}
+use Rattle.memory.specs.Bytes.{cell, put_cell, cell_bytes}
+use Rattle.memory.specs.declared.system.TheConstants.{DP}
+use Rattle.stacks.specs.Cells.{◌▸◌}
+use Rattle.compiling_words.specs.Code.{runtime, control_code, literal_code, text_code}
+use Rattle.compiling_words.specs.Laying.{laid, resolved}
+use Rattle.colon_bodies.specs.Tokens.{Token, NAME, NUMBER, DOUBLE, TEXT, TICK, COMPILE, IF, ELSE, THEN, BEGIN, UNTIL, AGAIN, WHILE, REPEAT, DO, LOOP, DOES, text_control, loop_control}
+
+-- the place n bytes behind HERE
+abbrev pub ahead : List ℕ → ℕ → ℕ
+ahead m n = wrap (cell m DP + n)
+
+-- bytes are laid, and the cell at a, which was left open, is the new HERE
+abbrev pub laid_and_resolved : List ℕ → List ℕ → (a : ℕ) → List ℕ
+laid_and_resolved m bs a = put_cell (laid m bs) a (ahead m (length bs))
+
+-- memory and the data stack behind a word; `;` is apart
+abbrev pub lays : Token → (m d : List ℕ) → List ℕ × List ℕ
+lays (NAME w) m d = (laid m (cell_bytes w), d)
+lays (NUMBER n) m d = (laid m (literal_code m n), d)
+lays (DOUBLE n) m d = (laid m (literal_code m (n % 65536) ++ literal_code m (n / 65536)), d)
+lays (TEXT k bs) m d = (laid m (text_code (runtime m (text_control k)) bs), d)
+lays TICK m d = (laid m (cell_bytes (runtime m 6)), d)
+lays COMPILE m d = (laid m (cell_bytes (runtime m 19)), d)
+lays DOES m d = (laid m (cell_bytes (runtime m 18)), d)
+lays IF m d = (laid m (control_code m 8 0), d ▸ ahead m 2)
+lays ELSE m (a ∷ d) = (laid_and_resolved m (control_code m 7 0) a, d ▸ ahead m 2)
+lays THEN m (a ∷ d) = (resolved m a, d)
+lays BEGIN m d = (m, d ▸ cell m DP)
+lays UNTIL m (a ∷ d) = (laid m (control_code m 8 a), d)
+lays AGAIN m (a ∷ d) = (laid m (control_code m 7 a), d)
+lays WHILE m d = (laid m (control_code m 8 0), d ▸ ahead m 2)
+lays REPEAT m (b ∷ a ∷ d) = (laid_and_resolved m (control_code m 7 a) b, d)
+lays DO m d = (laid m (control_code m 9 0), d ▸ ahead m 2 ▸ ahead m 4)
+lays (LOOP k) m (b ∷ a ∷ d) = (laid_and_resolved m (control_code m (loop_control k) b) a, d)
+lays _ m d = (m, d)
+
+-- the row of the keyword, where it has one that needs no name and no text
+abbrev pub row_of : Token → Option ℕ
+row_of DOES = Some 178
+row_of IF = Some 179
+row_of ELSE = Some 180
+row_of THEN = Some 181
+row_of BEGIN = Some 182
+row_of UNTIL = Some 183
+row_of WHILE = Some 184
+row_of REPEAT = Some 185
+row_of AGAIN = Some 186
+row_of DO = Some 187
+row_of (LOOP false) = Some 188
+row_of (LOOP true) = Some 189
+row_of _ = None
+
+-- behind words, one after another
+abbrev pub lays_all : List Token → (m d : List ℕ) → List ℕ × List ℕ
+lays_all [] m d = (m, d)
+lays_all (w ∷ ws) m d = lays_all ws (lays w m d).0 (lays w m d).1
