@@ -1,16 +1,17 @@
 -- Tracing a run: a line for each tick whose token is taken through ip in an extent.
-use Rattle.std.specs.Prelude.{◌≡◌, ℕ, zero, suc, List, [], ◌++◌, Option, Bool, false, is_none, nat_le, nat_lt, ◌&&◌, if◌then◌else◌}
+use Rattle.std.specs.Prelude.{◌≡◌, ◌⊎◌, true, ℕ, zero, suc, List, [], ◌++◌, Option, Bool, false, is_none, nat_le, nat_lt, ◌&&◌, if◌then◌else◌}
 use Rattle.std.specs.Io.KnownBytes.{Appends}
 use Rattle.block_buffers.specs.Disks.{Disk}
 use Rattle.plain_rows.specs.Whole.{Whole}
 use Rattle.inner_interpreter.specs.declared.stop.Stop.{Stop}
+use Rattle.inner_interpreter.specs.declared.stop.Stop.TheVariants as stop
 use Rattle.inner_interpreter.specs.declared.tracing.Extent.{Extent}
 use Rattle.inner_interpreter.specs.State.{State}
 use Rattle.inner_interpreter.specs.Tick.{ticked}
 use Rattle.inner_interpreter.specs.Answer.{asked_by}
 use Rattle.inner_interpreter.specs.Runs.{World, rounds, stops}
 use Rattle.inner_interpreter.specs.Sent.{AppendsPart}
-use Rattle.inner_interpreter.specs.Worlds.{IsAt, Ends, EndsCut, EndsFaulted}
+use Rattle.inner_interpreter.specs.Worlds.{IsAt, IsCut, Ends, EndsCut, EndsFaulted}
 
 -- the next token is taken through ip, and ip lies in the extent
 unfoldable pub is_met : Extent → Whole → Bool
@@ -34,6 +35,18 @@ unfoldable pub trace : Extent → (Whole → List ℕ) → ℕ → World → Lis
 trace extent line zero w = []
 trace extent line (suc n) w = trace extent line n w ++ line_of extent line (rounds n w)
 
+-- so many rounds add to the trace just the line of the tick that comes first
+abbrev pub AddsLine : Extent → ℕ → World → Type 0
+AddsLine extent n w = (line : Whole → List ℕ) → trace extent line n w ≡ line_of extent line w
+
+-- some rounds lead here, and only the first may begin where a token of the extent comes next
+abbrev pub Made : Extent → World → State → Option (List ℕ) → Option Disk → Option (List ℕ) → ℕ → Type 0
+Made extent w s unread disk sent left = (n : ℕ) × AddsLine extent n w × IsAt (rounds n w) s unread disk sent left
+
+-- the same, and of what they show a front was sent
+abbrev pub MadeCut : Extent → World → State → Option (List ℕ) → Option Disk → Option (List ℕ) → Type 0
+MadeCut extent w s unread disk sent = (n : ℕ) × AddsLine extent n w × IsCut (rounds n w) s unread disk sent
+
 -- the run stops here after some rounds, and its trace was sent
 pub record EndsTraced (extent : Extent) (line : Whole → List ℕ) (w : World) (state : State) (unread : Option (List ℕ)) (disk : Option Disk) (sent : Option (List ℕ)) (old new : Option (List ℕ)) (stop : Stop) : Type 0 where
   pub ends : Ends w state unread disk sent stop
@@ -55,3 +68,15 @@ pub record EndsUntraced (extent : Extent) (line : Whole → List ℕ) (w : World
   pub count : ℕ
   pub at : IsAt (rounds count w) state unread disk sent (rounds count w).left
   pub trace_is : AppendsPart old new (trace extent line (suc count) w)
+
+-- some rounds lead here, and their trace was sent
+abbrev pub MadeTraced : Extent → (Whole → List ℕ) → World → State → Option (List ℕ) → Option Disk → Option (List ℕ) → ℕ → Option (List ℕ) → Option (List ℕ) → Type 0
+MadeTraced extent line w s unread disk sent left old new =
+    (n : ℕ) × IsAt (rounds n w) s unread disk sent left × Appends old new (trace extent line n w)
+
+-- a run ended with its stop, or the writer or the trace's writer failed at last
+abbrev pub Finishes : Stop → Stop → Bool → Bool → Bool → Bool → Type 0
+Finishes result wanted writer writer' traces traces' =
+    ((result ≡ wanted) × (writer' ≡ writer) × (traces' ≡ traces))
+    ⊎ (((result ≡ stop.OutputFault) × (writer' ≡ true) × (traces' ≡ traces))
+    ⊎ ((result ≡ stop.TraceFault) × (writer' ≡ writer) × (traces' ≡ true)))

@@ -56,6 +56,7 @@ pub trait Tracer {
 }
 
 /// Traces nothing.
+#[derive(Drop)]
 pub struct Untraced;
 
 impl Tracer for Untraced {
@@ -75,6 +76,7 @@ impl Tracer for Untraced {
 }
 
 /// Where an untraced run would send its lines: it takes all, and tells nothing.
+#[derive(Drop)]
 pub struct Nowhere;
 
 impl Output for Nowhere {
