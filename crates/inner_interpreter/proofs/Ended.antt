@@ -69,9 +69,11 @@ pub more_made : (e : Extent) (line : Whole → List ℕ) (w : World) (s s' : Sta
 more_made e line w s s' unread unread' disk disk' sent sent' left left' t0 t1 t2 halt some told step made =
     let v = rounds made.0 w in
     let more = step v made.1 in
-    let goes = runs_at v s unread disk sent left halt some made.1 in
-    (more.0 + made.0, rw (rounds_add more.0 made.0 w) (more.2),
-    more_trace e line w made.0 more.0 (line_next e line s) t0 t1 t2 more.1 (line_goes e line v s made.1.state_is goes) made.2 told)
+    let goes = runs_at v s unread disk sent left halt some made.1 in (
+      more.0 + made.0,
+      rw (rounds_add more.0 made.0 w) (more.2),
+      more_trace e line w made.0 more.0 (line_next e line s) t0 t1 t2 more.1 (line_goes e line v s made.1.state_is goes) made.2 told,
+    )
 
 pub made_cause : (e : Extent) (line : Whole → List ℕ) (w : World) (s : State) (unread : Option (List ℕ)) (disk : Option Disk) (sent sent' : Option (List ℕ)) (left : ℕ) (t0 t1 t2 : Option (List ℕ)) (c : Cause)
     → s.halt ≡ Some c → Keeps sent sent' → Keeps t1 t2 → MadeTraced e line w s unread disk sent left t0 t1 → EndsTraced e line w s unread disk sent' t0 t2 (stop_of c)

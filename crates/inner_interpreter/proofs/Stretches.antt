@@ -116,9 +116,9 @@ line_unmet : (e : Extent) (line : Whole → List ℕ) (w : World) (s : Whole) �
 unfolding line_of
 line_unmet e line w s same unmet =
     ap (λ (t : State). if is_none (stops w) then line_next e line t else []) same ∙ by_stop (stops w) where
-  by_stop : (o : Option Stop) → (if is_none o then line_next e line (running s) else []) ≡ []
-  by_stop None = rw unmet refl
-  by_stop (Some t) = refl
+      by_stop : (o : Option Stop) → (if is_none o then line_next e line (running s) else []) ≡ []
+      by_stop None = rw unmet refl
+      by_stop (Some t) = refl
 
 by_quiet : (e : Extent) (line : Whole → List ℕ) (j k : ℕ) (w : World) (s : Whole) → w.state ≡ running s → suc j ≤ w.left → (ran k (suc j) s).0 ≡ k + suc j → AreUnmet e j (ticked s).0.parts
     → ((ticked s).0 ≡ running (ticked s).0.parts → (ran (k + 1) j (ticked s).0.parts).0 ≡ k + 1 + j → trace e line j (behind w 1 (ticked s).0 (ticked s).1) ≡ [])

@@ -24,7 +24,7 @@ pub use ends::{EndFault, Input, Output};
 pub use files::run_file;
 pub use machine::Machine;
 pub use reading::Reading;
-pub use runs::run;
+pub use runs::{run, run_traced};
 pub use sends::send_all;
 pub use stop::Stop;
 pub use tracing::{Extent, Nowhere, Tracer, Untraced};

@@ -110,6 +110,63 @@ fn run_with<R: Input, W: Output, D: Device, N: Tracer, T: Output>(
     }
 }
 
+/// Runs the machine as `run` does. Before each tick whose token is taken through `ip` in the tracer's extent, its line is
+/// sent to `trace`, which is flushed at the end. A line that can't be sent stops the run before its tick.
+pub fn run_traced<R: Input, W: Output, D: Device, N: Tracer, T: Output>(
+    alloc: Global,
+    machine: &mut Machine,
+    reader: &mut R,
+    writer: &mut W,
+    device: &mut D,
+    tracer: &N,
+    trace: &mut T,
+    limit: u64,
+) -> Result<Stop, OutOfMemory>
+    // Where no end fails, and all but the trace tell their bytes, the run ends as the written rounds do, and the trace is
+    // that of these rounds.
+    ensures whole { IfOk result (λ stop. R.failed reader.new ≡ false → W.failed writer.new ≡ false → T.failed trace.new ≡ false → (w : World) → IsAt w machine.old (R.unread reader.old) (D.disk device.old) (W.sent writer.old) limit → EndsTraced (N.extent tracer.now) (N.line tracer.now) w machine.new (R.unread reader.new) (D.disk device.new) (W.sent writer.new) (T.sent trace.old) (T.sent trace.new) stop) }
+
+    // Where no end fails, it stops for what the machine halted, and else for want of ticks.
+    ensures ended { IfOk result (λ stop. R.failed reader.new ≡ false → W.failed writer.new ≡ false → T.failed trace.new ≡ false → stop_by machine.new.halt 0 ≡ Some stop) }
+
+    // It stops for the writer exactly where the writer fails, and then some first rounds were made and traced.
+    ensures output { IfOk result (λ stop. W.failed writer.old ≡ false → (stop ≡ Stop.OutputFault) ↔ (W.failed writer.new ≡ true)) }
+    ensures cut { IfOk result (λ stop. W.failed writer.old ≡ false → W.failed writer.new ≡ true → (w : World) → IsAt w machine.old (R.unread reader.old) (D.disk device.old) (W.sent writer.old) limit → EndsCutTraced (N.extent tracer.now) (N.line tracer.now) w machine.new (R.unread reader.new) (D.disk device.new) (W.sent writer.new) (T.sent trace.old) (T.sent trace.new)) }
+
+    // Where the reader fails, it stops for the reader: some first rounds were made and traced, and then the machine was told
+    // so. Of a machine that hadn't halted so before, it stops for the reader only there.
+    ensures input { IfOk result (λ stop. R.failed reader.old ≡ false → R.failed reader.new ≡ true → stop ≡ Stop.InputFault) }
+    ensures faulted { IfOk result (λ stop. R.failed reader.old ≡ false → R.failed reader.new ≡ true → (w : World) → IsAt w machine.old (R.unread reader.old) (D.disk device.old) (W.sent writer.old) limit → EndsFaultedTraced (N.extent tracer.now) (N.line tracer.now) w machine.new (D.disk device.new) (W.sent writer.new) (T.sent trace.old) (T.sent trace.new)) }
+    ensures one { IfOk result (λ stop. R.failed reader.old ≡ false → R.failed reader.new ≡ true → W.failed writer.new ≡ W.failed writer.old) }
+    ensures told { IfOk result (λ stop. HasNotFailed machine.old → R.failed reader.new ≡ false → stop ≢ Stop.InputFault) }
+
+    // It stops for the trace exactly where the trace's writer fails: some first rounds were made, and the line of the tick
+    // that comes next was cut.
+    ensures trace { IfOk result (λ stop. T.failed trace.old ≡ false → (stop ≡ Stop.TraceFault) ↔ (T.failed trace.new ≡ true)) }
+    ensures untraced { IfOk result (λ stop. T.failed trace.old ≡ false → T.failed trace.new ≡ true → (w : World) → IsAt w machine.old (R.unread reader.old) (D.disk device.old) (W.sent writer.old) limit → EndsUntraced (N.extent tracer.now) (N.line tracer.now) w machine.new (R.unread reader.new) (D.disk device.new) (W.sent writer.new) (T.sent trace.old) (T.sent trace.new)) }
+
+    // Whatever the ends are: the machine moved by ticks and answers alone, at most `limit` and one more; and it was told
+    // of a device fault just where the very call of its device failed.
+    ensures moved { IfOk result (λ stop. HasRun machine.old machine.new (D.calls device.old) (D.calls device.new) limit stop) }
+
+    // On want of memory nothing was done.
+    ensures machine { OnErr result (machine.new ≡ machine.old) }
+    ensures reader { OnErr result (reader.new ≡ reader.old) }
+    ensures writer { OnErr result (writer.new ≡ writer.old) }
+    ensures device { OnErr result (device.new ≡ device.old) }
+    ensures lines { OnErr result (trace.new ≡ trace.old) }
+{
+    match Vec::with_capacity(alloc, LINE_SIZE) {
+        Ok(line) => {
+            let mut line = line;
+            Ok(run_with(
+                &mut line, machine, reader, writer, device, tracer, trace, limit,
+            ))
+        }
+        Err(_) => Err(OutOfMemory),
+    }
+}
+
 /// Runs the machine until it halts, `limit` ticks are done or an end fails, and answers why it stopped. All that the
 /// machine shows is sent; what it asks is answered by the reader and the device. The writer is flushed before each
 /// key or line is read, and at the end. A run may be made over an end that failed before. On want of memory nothing was
@@ -152,20 +209,14 @@ pub fn run<R: Input, W: Output, D: Device>(
     ensures writer { OnErr result (writer.new ≡ writer.old) }
     ensures device { OnErr result (device.new ≡ device.old) }
 {
-    match Vec::with_capacity(alloc, LINE_SIZE) {
-        Ok(line) => {
-            let mut line = line;
-            Ok(run_with(
-                &mut line,
-                machine,
-                reader,
-                writer,
-                device,
-                &Untraced,
-                &mut Nowhere,
-                limit,
-            ))
-        }
-        Err(_) => Err(OutOfMemory),
-    }
+    run_traced(
+        alloc,
+        machine,
+        reader,
+        writer,
+        device,
+        &Untraced,
+        &mut Nowhere,
+        limit,
+    )
 }

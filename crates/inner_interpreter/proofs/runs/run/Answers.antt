@@ -1,11 +1,15 @@
-use Rattle.inner_interpreter.proofs.runs.run.Goals as goal
 use Rattle.std.proofs.Common.{refl}
+use Rattle.inner_interpreter.proofs.Running.{if_ok_then}
+use Rattle.inner_interpreter.proofs.runs.run.Goals as goal
 
-pub returns-in-Ok-clause-whole : goal.returns-in-Ok-clause-whole
-returns-in-Ok-clause-whole g c = λ fine good w at. (c.run_with.ensures.whole fine good refl w at).ends
+pub returns-clause-whole : goal.returns-clause-whole
+returns-clause-whole g c = if_ok_then c.run_traced.result _ _ (λ stop told fine good w at. (told fine good refl w at).ends) c.run_traced.ensures.whole
 
-pub returns-in-Ok-clause-cut : goal.returns-in-Ok-clause-cut
-returns-in-Ok-clause-cut g c = λ fine failed w at. (c.run_with.ensures.cut fine failed w at).cut
+pub returns-clause-ended : goal.returns-clause-ended
+returns-clause-ended g c = if_ok_then c.run_traced.result _ _ (λ stop told fine good. told fine good refl) c.run_traced.ensures.ended
 
-pub returns-in-Ok-clause-faulted : goal.returns-in-Ok-clause-faulted
-returns-in-Ok-clause-faulted g c = λ fine failed w at. (c.run_with.ensures.faulted fine failed w at).faulted
+pub returns-clause-cut : goal.returns-clause-cut
+returns-clause-cut g c = if_ok_then c.run_traced.result _ _ (λ stop told fine failed w at. (told fine failed w at).cut) c.run_traced.ensures.cut
+
+pub returns-clause-faulted : goal.returns-clause-faulted
+returns-clause-faulted g c = if_ok_then c.run_traced.result _ _ (λ stop told fine failed w at. (told fine failed w at).faulted) c.run_traced.ensures.faulted
