@@ -1,0 +1,27 @@
+-- Which word is traced.
+use Rattle.std.specs.Prelude.{ℕ, ◌+◌, ◌==◌, List, if◌then◌else◌, Result, Ok, Err}
+use Rattle.cells.specs.Cell.{wrap}
+use Rattle.memory.specs.Bytes.{cell}
+use Rattle.dictionary.specs.Extents.{extent_end}
+use Rattle.dictionary.specs.Header.{compilation_address}
+use Rattle.dictionary.specs.Order.{headers, is_beyond_limit}
+use Rattle.dictionary.specs.Search.{Sought, Found, Nowhere, TooLong, sought}
+use Rattle.inner_interpreter.specs.declared.tracing.Extent.{Extent}
+use Rattle.debug_tracer.specs.declared.fault.DebugFault.{DebugFault}
+use Rattle.debug_tracer.specs.declared.fault.DebugFault.TheVariants as f
+
+-- the thread of the word whose header is at l: from its parameter field to where the next header begins, or to DP
+unfoldable pub thread_of : List ℕ → ℕ → Extent
+thread_of m l =
+    let from = wrap (compilation_address m l + 2) in record { from = from; end = extent_end m (headers m) from }
+
+-- the thread that is traced, by what the search of a name came to, or why none is
+abbrev pub thread_or_fault : List ℕ → Sought → Result Extent DebugFault
+thread_or_fault m Nowhere = Err f.NotFound
+thread_or_fault m TooLong = Err f.ChainTooLong
+thread_or_fault m (Found l) =
+    if is_beyond_limit m then Err f.ChainTooLong
+    else if cell m (compilation_address m l) == 1 then Ok (thread_of m l) else Err f.NotColon
+
+unfoldable pub debugged : List ℕ → List ℕ → Result Extent DebugFault
+debugged m name = thread_or_fault m (sought m name)
