@@ -1,14 +1,16 @@
 -- Which word is traced.
-use Rattle.std.specs.Prelude.{ℕ, ◌+◌, ◌==◌, List, if◌then◌else◌, Result, Ok, Err}
+use Rattle.std.specs.Prelude.{◌≡◌, ◌⊎◌, ℕ, ◌+◌, ◌==◌, List, if◌then◌else◌, Result, Ok, Err, IsOk}
 use Rattle.cells.specs.Cell.{wrap}
 use Rattle.memory.specs.Bytes.{cell}
 use Rattle.dictionary.specs.Extents.{extent_end}
 use Rattle.dictionary.specs.Header.{compilation_address}
 use Rattle.dictionary.specs.Order.{headers, is_beyond_limit}
 use Rattle.dictionary.specs.Search.{Sought, Found, Nowhere, TooLong, sought}
+use Rattle.plain_rows.specs.Whole.{Whole}
 use Rattle.inner_interpreter.specs.declared.tracing.Extent.{Extent}
 use Rattle.debug_tracer.specs.declared.fault.DebugFault.{DebugFault}
 use Rattle.debug_tracer.specs.declared.fault.DebugFault.TheVariants as f
+use Rattle.debug_tracer.specs.Lines.{line}
 
 -- the thread of the word whose header is at l: from its parameter field to where the next header begins, or to DP
 unfoldable pub thread_of : List ℕ → ℕ → Extent
@@ -25,3 +27,11 @@ thread_or_fault m (Found l) =
 
 unfoldable pub debugged : List ℕ → List ℕ → Result Extent DebugFault
 debugged m name = thread_or_fault m (sought m name)
+
+-- the fault is the one for which no word is traced, or one could be, and memory ran out
+abbrev pub IsFault : Result Extent DebugFault → DebugFault → Type 0
+IsFault found fault = (found ≡ Err fault) ⊎ ((fault ≡ f.OutOfMemory) × IsOk found)
+
+-- the lines of a machine whose memory was m at the start
+abbrev pub line_from : List ℕ → Whole → List ℕ
+line_from m = line m (headers m)

@@ -6,5 +6,5 @@ mod fault;
 mod lines;
 mod word;
 
-//pub use debugging::debug;
+pub use debugging::debug;
 pub use fault::DebugFault;
