@@ -1,4 +1,7 @@
 pub mod Viewed
+pub mod Extents
+pub mod Printed
+pub mod Answered
 pub mod Walking
 pub mod Cutting
 pub mod Shutting

@@ -4,3 +4,7 @@ pub mod Seen
 pub mod Places
 pub mod Apart
 pub mod Shown
+pub mod Extent
+pub mod Naming
+pub mod Printing
+pub mod Seeing

@@ -2,16 +2,21 @@
 #![tactic(auto)]
 
 mod apart;
+mod extent;
 mod find;
 mod front;
+mod naming;
 mod places;
 mod plain;
+mod printing;
 mod refusal;
+mod seeing;
 mod structures;
 mod thread;
 mod viewing;
 
-pub use refusal::ViewRefused;
+pub use refusal::{SeeRefused, ViewRefused};
+pub use seeing::see;
 pub use thread::thread_words;
 pub use viewing::view;
 
