@@ -1,5 +1,4 @@
 pub mod Viewed
-pub mod Extents
 pub mod Printed
 pub mod Answered
 pub mod Walking

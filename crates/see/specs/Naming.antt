@@ -6,14 +6,11 @@ use Rattle.std.specs.Fmt.{signed_decimal}
 use Rattle.cells.specs.Cell.{signed}
 use Rattle.dictionary.specs.Header.{name_of, is_immediate, compilation_address}
 use Rattle.dictionary.specs.Order.{headers}
+use Rattle.dictionary.specs.Extents.{header_at}
 use Rattle.dictionary.specs.Search.{found_hiding, is_too_long_hiding}
 use Rattle.colon_bodies.specs.Tokens.{Token, NAME, NUMBER, TEXT}
 use Rattle.see.specs.declared.refusal.SeeRefused.{SeeRefused}
 use Rattle.see.specs.declared.refusal.SeeRefused.TheVariants as r
-
--- the lowest header with this compilation address
-unfoldable pub header_at : List ℕ → ℕ → Option ℕ
-header_at m w = find (λ l. compilation_address m l == w) (headers m)
 
 abbrev pub name_if : List ℕ → Option ℕ → List ℕ
 name_if m None = []
@@ -23,9 +20,9 @@ abbrev pub immediate_if : List ℕ → Option ℕ → Bool
 immediate_if m None = false
 immediate_if m (Some l) = is_immediate m l
 
--- its name, which is that of the address; the empty one where there is no such header
+-- what an address is called: by the name of the lowest header with this compilation address; the empty one where there is none
 unfoldable pub name_at : List ℕ → ℕ → List ℕ
-name_at m w = name_if m (header_at m w)
+name_at m w = name_if m (header_at m (headers m) w)
 
 -- a number as a signed decimal
 unfoldable pub number_text : ℕ → List ℕ

@@ -5,7 +5,9 @@ use Rattle.source_words.specs.Spaced.{Spelling, bare, spaced, spaced_behind}
 use Rattle.colon_bodies.specs.Tokens.{Token, NAME, NUMBER, DOUBLE, TICK, FORCE, COMPILE, IF, ELSE, THEN, BEGIN, UNTIL, AGAIN, WHILE, REPEAT, DO, LOOP, TEXT, DOES, SEMI}
 use Rattle.colon_bodies.specs.Tree.{Definition, all_words}
 use Rattle.colon_bodies.specs.Plain.{respelled}
-use Rattle.see.specs.Naming.{header_at, name_at, immediate_if, number_text}
+use Rattle.dictionary.specs.Order.{headers}
+use Rattle.dictionary.specs.Extents.{header_at}
+use Rattle.see.specs.Naming.{name_at, immediate_if, number_text}
 
 -- words that mean something else in a body than a name of that spelling
 unfoldable pub is_structure : List ℕ → Bool
@@ -24,7 +26,7 @@ is_keyword w = is_structure w || is_other_keyword w
 
 -- a word that stands behind [COMPILE]: its name is immediate, or spelled as a keyword
 unfoldable pub is_forced : List ℕ → ℕ → Bool
-is_forced m w = immediate_if m (header_at m w) || is_keyword (name_at m w)
+is_forced m w = immediate_if m (header_at m (headers m) w) || is_keyword (name_at m w)
 
 -- how keywords are spelled; no plain definition has a double
 abbrev pub keyword_text : Token → List ℕ

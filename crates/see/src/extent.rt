@@ -1,13 +1,13 @@
 //! The thread of a word.
 
-ghost use Rattle.std.specs.Prelude.{◌≡◌, ◌<◌, ◌≤◌, ◌+◌, ◌-◌, ◌^◌, length, IfOk};
+ghost use Rattle.std.specs.Prelude.{◌≡◌, ◌<◌, ◌+◌, ◌^◌, length, IfOk};
 ghost use Rattle.memory.specs.Bytes.{bytes};
 ghost use Rattle.dictionary.specs.Order.{headers};
-ghost use Rattle.see.specs.Extent.{parameter_field, least_from, beginnings, extent_end, extent, controls_of};
+ghost use Rattle.see.specs.Extent.{parameter_field, extent, controls_of};
 
-use dictionary::compilation_address;
+use dictionary::{compilation_address, extent_end};
 use memory::Memory;
-use memory::system::{DP, RUNTIME_CELLS};
+use memory::system::RUNTIME_CELLS;
 use std::alloc::{AllocError, Global};
 
 /// The address behind a header's code field.
@@ -16,35 +16,6 @@ pub fn parameter_field(memory: &Memory, l: u16) -> u16
     ensures { result ≡ parameter_field memory.now l }
 {
     compilation_address(memory, l).wrapping_add(2)
-}
-
-/// The least beginning of some headers that isn't below `p`, 65,536 where there is none.
-#[tactic(auto, using(crate::proofs::Extents::least_min), unfolding(crate::specs::Extent::least_from))]
-fn least_from(listed: &[u16], p: u16) -> u32
-    ensures is { result ≡ least_from p (beginnings listed.now) }
-    ensures bound { result ≤ 65536 }
-{
-    let mut least = 65536_u32;
-    for l in listed.iter() {
-        let begin = l.wrapping_sub(2);
-        if begin >= p {
-            least = least.min(u32::from(begin));
-        }
-    }
-    least
-}
-
-/// Where ends what stands at `p`.
-#[tactic(auto, unfolding(crate::specs::Extent::extent_end))]
-fn extent_end(memory: &Memory, listed: &[u16], p: u16) -> u16
-    requires { listed.now ≡ headers memory.now }
-    ensures { result ≡ extent_end memory.now p }
-{
-    let next = least_from(listed, p);
-    if next == 65536 {
-        return memory.cell(DP);
-    }
-    next as u16
 }
 
 /// Some bytes of memory.

@@ -6,28 +6,14 @@ ghost use Rattle.dictionary.specs.Header.{name_of};
 ghost use Rattle.dictionary.specs.Order.{headers};
 ghost use Rattle.colon_bodies.specs.Draft.{token};
 ghost use Rattle.colon_bodies.specs.Tokens.{NAME, NUMBER};
-ghost use Rattle.see.specs.Naming.{header_at, name_at, name_if, immediate_if, number_text, is_word, is_quotable, is_meant, is_free, word_fault, words_fault, first_fault, IsChecked};
+ghost use Rattle.see.specs.Naming.{name_at, name_if, immediate_if, number_text, is_word, is_quotable, is_meant, is_free, word_fault, words_fault, first_fault, IsChecked};
 
 use crate::extent::copied;
 use crate::refusal::SeeRefused;
 use colon_bodies::BodyWord;
-use dictionary::{compilation_address, header, search_hiding};
+use dictionary::{compilation_address, header, header_at, search_hiding};
 use memory::Memory;
 use std::alloc::{AllocError, Global};
-
-/// The lowest header with this compilation address.
-#[tactic(auto, unfolding(crate::specs::Naming::header_at))]
-pub fn header_at(memory: &Memory, listed: &[u16], w: u16) -> Option<u16>
-    requires { listed.now ≡ headers memory.now }
-    ensures { result ≡ header_at memory.now w }
-{
-    for l in listed.iter() {
-        if compilation_address(memory, *l) == w {
-            return Some(*l);
-        }
-    }
-    None
-}
 
 /// The name of a header.
 #[tactic(auto, unfolding(dictionary::specs::Header::name_of))]

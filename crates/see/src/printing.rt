@@ -8,8 +8,9 @@ ghost use Rattle.colon_bodies.specs.Tokens.{NAME, NUMBER};
 ghost use Rattle.see.specs.Naming.{immediate_if, name_at};
 ghost use Rattle.see.specs.Printing.{is_structure, is_other_keyword, is_keyword, is_forced, keyword_text, called, all_printed};
 
-use crate::naming::{header_at, immediate_if, name_if, number_text};
+use crate::naming::{immediate_if, name_if, number_text};
 use colon_bodies::BodyWord;
+use dictionary::header_at;
 use memory::Memory;
 use std::alloc::{AllocError, Global};
 
