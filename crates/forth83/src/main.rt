@@ -18,6 +18,8 @@ mod kernel_runs;
 #[cfg(test)]
 mod kernel_tests;
 mod kernel_text;
+#[cfg(test)]
+mod round_trip_tests;
 mod see_command;
 #[cfg(test)]
 mod see_tests;
