@@ -56,7 +56,7 @@ fn status_of(stop: Stop) -> u8
 }
 
 /// Prints a line, and ends with the status, or with 5 where the line can't be written.
-fn print<W: Output>(writer: &mut W, line: &[u8], status: u8) -> Ended
+pub fn print<W: Output>(writer: &mut W, line: &[u8], status: u8) -> Ended
     ensures printed { W.failed writer.new ≡ false → result.status ≡ status }
     ensures status { 0 < status → 0 < result.status }
     ensures file { IsNone result.file }
@@ -72,7 +72,8 @@ fn is_printed<W: Output>(writer: &mut W, line: &[u8]) -> bool {
     print(writer, line, 0).status == 0
 }
 
-fn print_out_of_memory<W: Output>(writer: &mut W) -> Ended
+/// Prints that memory ran out.
+pub fn print_out_of_memory<W: Output>(writer: &mut W) -> Ended
     ensures printed { W.failed writer.new ≡ false → result.status ≡ 1 }
     ensures status { 0 < result.status }
     ensures file { IsNone result.file }
@@ -85,7 +86,7 @@ fn refusal(alloc: Global, fault: ImageFault) -> Result<String, AllocError> {
 }
 
 /// Prints why bytes are no image.
-fn refuse_image<W: Output>(alloc: Global, fault: ImageFault, writer: &mut W) -> Ended
+pub fn refuse_image<W: Output>(alloc: Global, fault: ImageFault, writer: &mut W) -> Ended
     ensures printed { W.failed writer.new ≡ false → result.status ≡ 1 }
     ensures file { IsNone result.file }
 {

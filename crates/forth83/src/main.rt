@@ -19,6 +19,11 @@ mod kernel_runs;
 mod kernel_tests;
 mod kernel_text;
 #[cfg(test)]
+mod round_trip_tests;
+mod see_command;
+#[cfg(test)]
+mod see_tests;
+#[cfg(test)]
 mod tests;
 mod words;
 
@@ -27,6 +32,7 @@ use commands::{Ended, do_build, do_kernel, do_run, do_view};
 use file_devices::{open_device, open_to_read};
 use files::{read_image, write_file};
 use inner_interpreter::{Reading, Writing};
+use see_command::do_see;
 use std::io;
 use std::io::{BufReader, BufWriter, IsTerminal, Stdout};
 use std::os::fd::AsFd;
@@ -121,6 +127,25 @@ fn view_word(rt: &HostRuntime, image: &str, name: &str) -> u8 {
     .status
 }
 
+/// Shows the definition of the word that `see` names.
+fn see_word(rt: &HostRuntime, image: &str, name: &str) -> u8 {
+    let bytes = match read_image(rt, image) {
+        Ok(Some(bytes)) => bytes,
+        Ok(None) => return cannot_open(rt, image),
+        Err(_) => return out_of_memory(rt),
+    };
+    let Ok(writer) = standard_output(rt) else {
+        return out_of_memory(rt);
+    };
+    do_see(
+        rt.alloc(),
+        bytes.as_slice(),
+        name,
+        &mut Writing::new(writer),
+    )
+    .status
+}
+
 /// Opens what `run` names, and runs the image over standard input and output.
 fn run_image(rt: &HostRuntime, image: &str, blocks: Option<&str>, limit: u64) -> u8 {
     let bytes = match read_image(rt, image) {
@@ -184,6 +209,7 @@ fn main(rt: HostRuntime) -> ExitCode {
                 limit,
             },
         ) => run_image(&rt, image.as_str(), blocks.as_deref(), limit),
+        Parsed::Words(Words::See { image, name }) => see_word(&rt, image.as_str(), name.as_str()),
         Parsed::Words(Words::View { image, name }) => view_word(&rt, image.as_str(), name.as_str()),
     };
     ExitCode::from(status)

@@ -28,6 +28,10 @@ pub enum Words {
         blocks: Option<String>,
         limit: u64,
     },
+    See {
+        image: String,
+        name: String,
+    },
     View {
         image: String,
         name: String,
@@ -96,6 +100,17 @@ fn run_command<'a>(alloc: Global) -> Result<Command<'a>, AllocError> {
         .arg(limit)
 }
 
+fn see_command<'a>(alloc: Global) -> Result<Command<'a>, AllocError> {
+    Command::new(alloc, "see")
+        .about("Print the definition of a colon word")
+        .arg(
+            Arg::new(alloc, "IMAGE")
+                .required(true)
+                .help("The image file"),
+        )?
+        .arg(Arg::new(alloc, "NAME").required(true).help("The word"))
+}
+
 fn view_command<'a>(alloc: Global) -> Result<Command<'a>, AllocError> {
     Command::new(alloc, "view")
         .about("Print the number of the screen in which a word was made")
@@ -116,6 +131,7 @@ fn command<'a>(alloc: Global) -> Result<Command<'a>, AllocError> {
         .subcommand(kernel_command(alloc)?)?
         .subcommand(build_command(alloc)?)?
         .subcommand(run_command(alloc)?)?
+        .subcommand(see_command(alloc)?)?
         .subcommand(view_command(alloc)?)
 }
 
@@ -164,14 +180,32 @@ fn run_words(alloc: Global, inner: &ArgMatches<'_>) -> Result<Option<Words>, All
     }))
 }
 
-fn view_words(alloc: Global, inner: &ArgMatches<'_>) -> Result<Option<Words>, AllocError> {
+/// An image and a word.
+fn image_and_name(
+    alloc: Global,
+    inner: &ArgMatches<'_>,
+) -> Result<Option<(String, String)>, AllocError> {
     let Some(image) = copied(alloc, inner, "IMAGE")? else {
         return Ok(None);
     };
     let Some(name) = copied(alloc, inner, "NAME")? else {
         return Ok(None);
     };
-    Ok(Some(Words::View { image, name }))
+    Ok(Some((image, name)))
+}
+
+fn see_words(alloc: Global, inner: &ArgMatches<'_>) -> Result<Option<Words>, AllocError> {
+    match image_and_name(alloc, inner)? {
+        Some((image, name)) => Ok(Some(Words::See { image, name })),
+        None => Ok(None),
+    }
+}
+
+fn view_words(alloc: Global, inner: &ArgMatches<'_>) -> Result<Option<Words>, AllocError> {
+    match image_and_name(alloc, inner)? {
+        Some((image, name)) => Ok(Some(Words::View { image, name })),
+        None => Ok(None),
+    }
 }
 
 fn words_of(alloc: Global, matches: &ArgMatches<'_>) -> Result<Option<Words>, AllocError> {
@@ -179,6 +213,7 @@ fn words_of(alloc: Global, matches: &ArgMatches<'_>) -> Result<Option<Words>, Al
         None => Ok(None),
         Some(("kernel", inner)) => kernel_words(alloc, inner),
         Some(("build", inner)) => build_words(alloc, inner),
+        Some(("see", inner)) => see_words(alloc, inner),
         Some(("view", inner)) => view_words(alloc, inner),
         Some((_, inner)) => run_words(alloc, inner),
     }

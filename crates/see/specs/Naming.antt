@@ -1,0 +1,73 @@
+-- What the cells of a thread are called, and what can't be printed so that it is read again.
+use Rattle.std.specs.Prelude.{ℕ, Bool, true, false, not, ◌==◌, ◌&&◌, ◌||◌, List, [], ◌∷◌, Option, Some, None, if◌then◌else◌, length, codes, find, ◌≡◌, ◌⊎◌, Result, Ok, Err}
+use Rattle.std.specs.List.{list_all, list_any}
+use Rattle.std.specs.Str.{bytes_eq}
+use Rattle.std.specs.Fmt.{signed_decimal}
+use Rattle.cells.specs.Cell.{signed}
+use Rattle.dictionary.specs.Header.{name_of, is_immediate, compilation_address}
+use Rattle.dictionary.specs.Order.{headers}
+use Rattle.dictionary.specs.Extents.{header_at}
+use Rattle.dictionary.specs.Search.{found_hiding, is_too_long_hiding}
+use Rattle.colon_bodies.specs.Tokens.{Token, NAME, NUMBER, TEXT}
+use Rattle.see.specs.declared.refusal.SeeRefused.{SeeRefused}
+use Rattle.see.specs.declared.refusal.SeeRefused.TheVariants as r
+
+abbrev pub name_if : List ℕ → Option ℕ → List ℕ
+name_if m None = []
+name_if m (Some l) = name_of m l
+
+abbrev pub immediate_if : List ℕ → Option ℕ → Bool
+immediate_if m None = false
+immediate_if m (Some l) = is_immediate m l
+
+-- what an address is called: by the name of the lowest header with this compilation address; the empty one where there is none
+unfoldable pub name_at : List ℕ → ℕ → List ℕ
+name_at m w = name_if m (header_at m (headers m) w)
+
+-- a number as a signed decimal
+unfoldable pub number_text : ℕ → List ℕ
+number_text n = signed_decimal (signed n)
+
+-- a name that is one word: it has a byte, and no blank
+unfoldable pub is_word : List ℕ → Bool
+is_word name = not (length name == 0) && list_all (λ b. not (b == 32)) name
+
+-- a text without a quote
+unfoldable pub is_quotable : List ℕ → Bool
+is_quotable text = list_all (λ b. not (b == 34)) text
+
+-- the search of a name gives this address, where the header at `hidden` counts as hidden
+unfoldable pub is_meant : List ℕ → (hidden : ℕ) → List ℕ → ℕ → Bool
+is_meant m hidden name w =
+    not (is_too_long_hiding m name hidden)
+    && (not (found_hiding m name hidden == 0) && (compilation_address m (found_hiding m name hidden) == w))
+
+-- it ends with none
+unfoldable pub is_free : List ℕ → (hidden : ℕ) → List ℕ → Bool
+is_free m hidden name = not (is_too_long_hiding m name hidden) && (found_hiding m name hidden == 0)
+
+-- what is wrong with a word of a body
+abbrev pub word_fault : List ℕ → (hidden : ℕ) → Token → Option SeeRefused
+word_fault m hidden (NAME w) =
+    if not (is_word (name_at m w)) then Some (r.Nameless w) else if is_meant m hidden (name_at m w) w then None else Some r.Shadowed
+word_fault m hidden (NUMBER n) = if is_free m hidden (number_text n) then None else Some r.Shadowed
+word_fault m hidden (TEXT k text) = if is_quotable text then None else Some r.BadText
+word_fault m hidden _ = None
+
+abbrev pub or_fault : Option SeeRefused → Option SeeRefused → Option SeeRefused
+or_fault None more = more
+or_fault (Some e) more = Some e
+
+-- the first fault of some words
+abbrev pub words_fault : List ℕ → (hidden : ℕ) → List Token → Option SeeRefused
+words_fault m hidden [] = None
+words_fault m hidden (w ∷ ws) = or_fault (word_fault m hidden w) (words_fault m hidden ws)
+
+-- what is wrong with a definition of this name, whose header is at l: the name comes first
+abbrev pub first_fault : List ℕ → (l : ℕ) → List ℕ → List Token → Option SeeRefused
+first_fault m l name ws = if is_word name then words_fault m l ws else Some (r.Nameless (compilation_address m l))
+
+-- what is answered: no fault, this one, or want of memory
+abbrev pub IsChecked : Option SeeRefused → Result (Unit {0}) SeeRefused → Type 0
+IsChecked fault (Ok u) = fault ≡ None
+IsChecked fault (Err e) = (e ≡ r.OutOfMemory) ⊎ (fault ≡ Some e)
