@@ -1,12 +1,17 @@
 -- Which word is traced.
-use Rattle.std.specs.Prelude.{◌≡◌, ◌⊎◌, ℕ, ◌+◌, ◌==◌, List, if◌then◌else◌, Result, Ok, Err, IsOk}
+use Rattle.std.specs.Prelude.{◌≡◌, ◌⊎◌, ℕ, ◌+◌, ◌==◌, List, if◌then◌else◌, Option, Result, Ok, Err, IsOk}
 use Rattle.cells.specs.Cell.{wrap}
 use Rattle.memory.specs.Bytes.{cell}
 use Rattle.dictionary.specs.Extents.{extent_end}
 use Rattle.dictionary.specs.Header.{compilation_address}
 use Rattle.dictionary.specs.Order.{headers, is_beyond_limit}
 use Rattle.dictionary.specs.Search.{Sought, Found, Nowhere, TooLong, sought}
+use Rattle.block_buffers.specs.Disks.{Disk}
 use Rattle.plain_rows.specs.Whole.{Whole}
+use Rattle.inner_interpreter.specs.declared.stop.Stop.{Stop}
+use Rattle.inner_interpreter.specs.State.{State}
+use Rattle.inner_interpreter.specs.Runs.{World}
+use Rattle.inner_interpreter.specs.Tracing.{EndsTraced}
 use Rattle.inner_interpreter.specs.declared.tracing.Extent.{Extent}
 use Rattle.debug_tracer.specs.declared.fault.DebugFault.{DebugFault}
 use Rattle.debug_tracer.specs.declared.fault.DebugFault.TheVariants as f
@@ -35,3 +40,9 @@ IsFault found fault = (found ≡ Err fault) ⊎ ((fault ≡ f.OutOfMemory) × Is
 -- the lines of a machine whose memory was m at the start
 abbrev pub line_from : List ℕ → Whole → List ℕ
 line_from m = line m (headers m)
+
+-- the run from this world ends here with this stop, and the trace of the word of this name was sent
+abbrev pub EndsDebugged : World → List ℕ → Option (List ℕ) → Option Disk → Option (List ℕ) → Option (List ℕ) → Option (List ℕ) → Stop → Type 0
+EndsDebugged w name unread disk sent old new stop =
+    (thread : Extent) → debugged w.state.parts.memory name ≡ Ok thread
+    → (state : State) × EndsTraced thread (line_from w.state.parts.memory) w state unread disk sent old new stop

@@ -26,7 +26,8 @@ pub struct Ended {
     pub file: Option<Vec<u8>>,
 }
 
-fn end_with(status: u8) -> Ended
+/// The end of a subcommand that makes no file.
+pub fn end_with(status: u8) -> Ended
     ensures status { result.status ≡ status }
     ensures file { IsNone result.file }
 {
@@ -44,14 +45,15 @@ fn end_with_file(file: Vec<u8>) -> Ended
     }
 }
 
-fn status_of(stop: Stop) -> u8
+/// The status of a run that stopped.
+pub fn status_of(stop: Stop) -> u8
     ensures { result ≡ status_of stop }
 {
     match stop {
         Stop::Bye | Stop::InputEnded => 0,
         Stop::Fault(_) => 3,
         Stop::Limit => 4,
-        Stop::InputFault | Stop::OutputFault => 5,
+        Stop::InputFault | Stop::OutputFault | Stop::TraceFault => 5,
     }
 }
 
