@@ -46,6 +46,23 @@ is_meant m hidden name w =
 unfoldable pub is_free : List ℕ → (hidden : ℕ) → List ℕ → Bool
 is_free m hidden name = not (is_too_long_hiding m name hidden) && (found_hiding m name hidden == 0)
 
+-- a word that can be printed and read again: a name that is one word and means its address, the word itself being hidden; a
+-- number whose text is no name; a text without a quote
+abbrev pub IsReadableWord : List ℕ → (hidden : ℕ) → Token → Type 0
+IsReadableWord m hidden (NAME w) = (is_word (name_at m w) ≡ true) × (is_meant m hidden (name_at m w) w ≡ true)
+IsReadableWord m hidden (NUMBER n) = is_free m hidden (number_text n) ≡ true
+IsReadableWord m hidden (TEXT k text) = is_quotable text ≡ true
+IsReadableWord m hidden _ = Unit {0}
+
+abbrev pub AreReadableWords : List ℕ → (hidden : ℕ) → List Token → Type 0
+AreReadableWords m hidden [] = Unit {0}
+AreReadableWords m hidden (w ∷ ws) = IsReadableWord m hidden w × AreReadableWords m hidden ws
+
+-- so is a definition of these words, of this name, whose header is at l
+pub record IsReadable (m : List ℕ) (l : ℕ) (name : List ℕ) (ws : List Token) : Type 0 where
+  pub named : is_word name ≡ true
+  pub words : AreReadableWords m l ws
+
 -- what is wrong with a word of a body
 abbrev pub word_fault : List ℕ → (hidden : ℕ) → Token → Option SeeRefused
 word_fault m hidden (NAME w) =

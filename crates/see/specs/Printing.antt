@@ -66,6 +66,10 @@ called true name = bare (codes "[COMPILE]") ∷ bare name ∷ []
 abbrev pub all_printed : List ℕ → List Token → List Spelling
 all_printed m ws = map (printed m) (respelled (is_forced m) ws)
 
+-- a definition's words, and ;
+abbrev pub its_words : Definition → List Token
+its_words d = all_words d ++ SEMI ∷ []
+
 -- `: NAME`, the body and `;`, with single blanks between
 unfoldable pub text : List ℕ → (name : List ℕ) → Definition → List ℕ
-text m name d = spaced (bare (codes ":") ∷ bare name ∷ all_printed m (all_words d ++ SEMI ∷ []))
+text m name d = spaced (bare (codes ":") ∷ bare name ∷ all_printed m (its_words d))

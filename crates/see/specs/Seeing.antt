@@ -5,13 +5,13 @@ use Rattle.memory.specs.Bytes.{cell}
 use Rattle.dictionary.specs.Header.{compilation_address}
 use Rattle.dictionary.specs.Order.{is_beyond_limit}
 use Rattle.dictionary.specs.Search.{Sought, Found, Nowhere, TooLong, sought}
-use Rattle.colon_bodies.specs.Tree.{Definition, all_words}
-use Rattle.colon_bodies.specs.Tokens.{Token, SEMI}
+use Rattle.colon_bodies.specs.Tree.{Definition}
+use Rattle.colon_bodies.specs.Tokens.{Token}
 use Rattle.colon_bodies.specs.Plain.{AreApart}
 use Rattle.see.specs.Shown.{IsThread}
 use Rattle.see.specs.Extent.{parameter_field, extent, controls_of}
-use Rattle.see.specs.Naming.{first_fault}
-use Rattle.see.specs.Printing.{all_printed, text}
+use Rattle.see.specs.Naming.{first_fault, IsReadable}
+use Rattle.see.specs.Printing.{its_words, all_printed, text}
 use Rattle.source_words.specs.Spaced.{bare, spaced}
 use Rattle.see.specs.declared.refusal.SeeRefused.{SeeRefused}
 use Rattle.see.specs.declared.refusal.SeeRefused.TheVariants as r
@@ -46,10 +46,10 @@ IsPrinted m l name ws (Err e) = (e ≡ r.OutOfMemory) ⊎ (first_fault m l name 
 -- what is answered: the text of a readable definition, or why there is none
 abbrev pub IsSeen : List ℕ → List ℕ → Result (Vec ℕ Global) SeeRefused → Type 0
 IsSeen m name (Ok v) =
-    (l : ℕ) × (d : Definition) × IsDefined m name l d × (first_fault m l name (all_words d ++ SEMI ∷ []) ≡ None) × (v.items ≡ text m name d)
+    (l : ℕ) × (d : Definition) × IsDefined m name l d × IsReadable m l name (its_words d) × (v.items ≡ text m name d)
 IsSeen m name (Err r.NotFound) = sought m name ≡ Nowhere
 IsSeen m name (Err r.ChainTooLong) = (sought m name ≡ TooLong) ⊎ ((l : ℕ) × (sought m name ≡ Found l) × (is_beyond_limit m ≡ true))
 IsSeen m name (Err r.NotColon) = (l : ℕ) × IsHeader m name l × (cell m (compilation_address m l) ≢ 1)
 IsSeen m name (Err r.NotStructured) = (l : ℕ) × IsColon m name l × (HasControlsApart m → (d : Definition) → IsCode m l d → ⊥)
 IsSeen m name (Err r.OutOfMemory) = Unit {0}
-IsSeen m name (Err e) = (l : ℕ) × (d : Definition) × IsDefined m name l d × (first_fault m l name (all_words d ++ SEMI ∷ []) ≡ Some e)
+IsSeen m name (Err e) = (l : ℕ) × (d : Definition) × IsDefined m name l d × (first_fault m l name (its_words d) ≡ Some e)

@@ -1,12 +1,12 @@
 //! A colon word as the text of its definition.
 
-ghost use Rattle.std.specs.Prelude.{◌≡◌, ℕ, List, ◌∷◌, ◌++◌, [], None, IfErr, map};
+ghost use Rattle.std.specs.Prelude.{◌≡◌, ℕ, IfErr, map};
 ghost use Rattle.dictionary.specs.Order.{headers};
 ghost use Rattle.dictionary.specs.Search.{Found, sought};
 ghost use Rattle.colon_bodies.specs.Draft.{token};
-ghost use Rattle.colon_bodies.specs.Tree.{Definition, all_words};
-ghost use Rattle.colon_bodies.specs.Tokens.{SEMI};
-ghost use Rattle.see.specs.Naming.{first_fault};
+ghost use Rattle.colon_bodies.specs.Tree.{Definition};
+ghost use Rattle.see.specs.Naming.{IsReadable};
+ghost use Rattle.see.specs.Printing.{its_words};
 ghost use Rattle.see.specs.Seeing.{IsColon, IsDefined, IsPrinted, IsSeen};
 ghost use Rattle.see.specs.declared.refusal.SeeRefused.TheVariants.{OutOfMemory};
 
@@ -92,7 +92,7 @@ fn see_named(alloc: Global, memory: &Memory, name: &[u8]) -> Result<Vec<u8>, See
 #[tactic(auto, using(crate::proofs::Answered::none_refused))]
 pub fn see(alloc: Global, memory: &Memory, name: &[u8]) -> Result<Vec<u8>, SeeRefused>
     ensures seen { IsSeen memory.now name.now result }
-    ensures complete { (l : ℕ) (d : Definition) → IsDefined memory.now name.now l d → first_fault memory.now l name.now (all_words d ++ SEMI ∷ []) ≡ None → IfErr result (λ e. e ≡ OutOfMemory) }
+    ensures complete { (l : ℕ) (d : Definition) → IsDefined memory.now name.now l d → IsReadable memory.now l name.now (its_words d) → IfErr result (λ e. e ≡ OutOfMemory) }
 {
     see_named(alloc, memory, name)
 }
