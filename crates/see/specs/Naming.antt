@@ -16,10 +16,6 @@ abbrev pub name_if : List ℕ → Option ℕ → List ℕ
 name_if m None = []
 name_if m (Some l) = name_of m l
 
-abbrev pub immediate_if : List ℕ → Option ℕ → Bool
-immediate_if m None = false
-immediate_if m (Some l) = is_immediate m l
-
 -- what an address is called: by the name of the lowest header with this compilation address; the empty one where there is none
 unfoldable pub name_at : List ℕ → ℕ → List ℕ
 name_at m w = name_if m (header_at m (headers m) w)
@@ -83,8 +79,3 @@ words_fault m hidden (w ∷ ws) = or_fault (word_fault m hidden w) (words_fault 
 -- what is wrong with a definition of this name, whose header is at l: the name comes first
 abbrev pub first_fault : List ℕ → (l : ℕ) → List ℕ → List Token → Option SeeRefused
 first_fault m l name ws = if is_word name then words_fault m l ws else Some (r.Nameless (compilation_address m l))
-
--- what is answered: no fault, this one, or want of memory
-abbrev pub IsChecked : Option SeeRefused → Result (Unit {0}) SeeRefused → Type 0
-IsChecked fault (Ok u) = fault ≡ None
-IsChecked fault (Err e) = (e ≡ r.OutOfMemory) ⊎ (fault ≡ Some e)

@@ -11,8 +11,8 @@ ghost use Rattle.see.specs.Seeing.{IsColon, IsDefined, IsPrinted, IsSeen};
 ghost use Rattle.see.specs.declared.refusal.SeeRefused.TheVariants.{OutOfMemory};
 
 use crate::extent::{controls_of, extent, parameter_field};
-use crate::naming::check;
-use crate::printing::print;
+use crate::naming::is_word;
+use crate::printing::{begin, show_words};
 use crate::refusal::SeeRefused;
 use crate::thread::thread_words;
 use colon_bodies::BodyWord;
@@ -23,7 +23,7 @@ use std::alloc::{AllocError, Global};
 /// The code field of colon words.
 const COLON: u16 = 1;
 
-/// Checks and prints the words of a definition.
+/// The words of a definition, as text.
 fn show(
     alloc: Global,
     memory: &Memory,
@@ -35,8 +35,12 @@ fn show(
     requires { listed.now ≡ headers memory.now }
     ensures { IsPrinted memory.now l name.now (map token words.now) result }
 {
-    check(alloc, memory, listed, l, name, words)?;
-    Ok(print(alloc, memory, listed, name, words)?)
+    if !is_word(name) {
+        return Err(SeeRefused::Nameless(compilation_address(memory, l)));
+    }
+    let mut out = begin(alloc, name)?;
+    show_words(alloc, &mut out, memory, listed, l, words)?;
+    Ok(out)
 }
 
 /// A colon word whose header is at `l`, as text.
