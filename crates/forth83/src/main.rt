@@ -8,6 +8,8 @@ mod cases;
 mod commands;
 mod debug_command;
 #[cfg(test)]
+mod debug_tests;
+#[cfg(test)]
 mod end_tests;
 mod file_devices;
 #[cfg(test)]

@@ -16,10 +16,6 @@ abbrev pub name_if : List ℕ → Option ℕ → List ℕ
 name_if m None = []
 name_if m (Some l) = name_of m l
 
-abbrev pub immediate_if : List ℕ → Option ℕ → Bool
-immediate_if m None = false
-immediate_if m (Some l) = is_immediate m l
-
 -- what an address is called: by the name of the lowest header with this compilation address; the empty one where there is none
 unfoldable pub name_at : List ℕ → ℕ → List ℕ
 name_at m w = name_if m (header_at m (headers m) w)
@@ -46,6 +42,23 @@ is_meant m hidden name w =
 unfoldable pub is_free : List ℕ → (hidden : ℕ) → List ℕ → Bool
 is_free m hidden name = not (is_too_long_hiding m name hidden) && (found_hiding m name hidden == 0)
 
+-- a word that can be printed and read again: a name that is one word and means its address, the word itself being hidden; a
+-- number whose text is no name; a text without a quote
+abbrev pub IsReadableWord : List ℕ → (hidden : ℕ) → Token → Type 0
+IsReadableWord m hidden (NAME w) = (is_word (name_at m w) ≡ true) × (is_meant m hidden (name_at m w) w ≡ true)
+IsReadableWord m hidden (NUMBER n) = is_free m hidden (number_text n) ≡ true
+IsReadableWord m hidden (TEXT k text) = is_quotable text ≡ true
+IsReadableWord m hidden _ = Unit {0}
+
+abbrev pub AreReadableWords : List ℕ → (hidden : ℕ) → List Token → Type 0
+AreReadableWords m hidden [] = Unit {0}
+AreReadableWords m hidden (w ∷ ws) = IsReadableWord m hidden w × AreReadableWords m hidden ws
+
+-- so is a definition of these words, of this name, whose header is at l
+pub record IsReadable (m : List ℕ) (l : ℕ) (name : List ℕ) (ws : List Token) : Type 0 where
+  pub named : is_word name ≡ true
+  pub words : AreReadableWords m l ws
+
 -- what is wrong with a word of a body
 abbrev pub word_fault : List ℕ → (hidden : ℕ) → Token → Option SeeRefused
 word_fault m hidden (NAME w) =
@@ -66,8 +79,3 @@ words_fault m hidden (w ∷ ws) = or_fault (word_fault m hidden w) (words_fault 
 -- what is wrong with a definition of this name, whose header is at l: the name comes first
 abbrev pub first_fault : List ℕ → (l : ℕ) → List ℕ → List Token → Option SeeRefused
 first_fault m l name ws = if is_word name then words_fault m l ws else Some (r.Nameless (compilation_address m l))
-
--- what is answered: no fault, this one, or want of memory
-abbrev pub IsChecked : Option SeeRefused → Result (Unit {0}) SeeRefused → Type 0
-IsChecked fault (Ok u) = fault ≡ None
-IsChecked fault (Err e) = (e ≡ r.OutOfMemory) ⊎ (fault ≡ Some e)

@@ -1,32 +1,22 @@
 -- A definition as text.
-use Rattle.std.specs.Prelude.{ℕ, Bool, true, false, ◌||◌, List, [], ◌∷◌, ◌++◌, Option, Some, None, map, codes}
-use Rattle.std.specs.Str.{bytes_eq}
+use Rattle.std.specs.Prelude.{ℕ, Bool, true, false, ◌||◌, List, [], ◌∷◌, ◌++◌, Option, Some, None, map, codes, is_some}
 use Rattle.source_words.specs.Spaced.{Spelling, bare, spaced, spaced_behind}
 use Rattle.colon_bodies.specs.Tokens.{Token, NAME, NUMBER, DOUBLE, TICK, FORCE, COMPILE, IF, ELSE, THEN, BEGIN, UNTIL, AGAIN, WHILE, REPEAT, DO, LOOP, TEXT, DOES, SEMI}
 use Rattle.colon_bodies.specs.Tree.{Definition, all_words}
 use Rattle.colon_bodies.specs.Plain.{respelled}
-use Rattle.dictionary.specs.Order.{headers}
-use Rattle.dictionary.specs.Extents.{header_at}
-use Rattle.see.specs.Naming.{name_at, immediate_if, number_text}
+use Rattle.dictionary.specs.Header.{is_immediate}
+use Rattle.dictionary.specs.Search.{found_hiding}
+use Rattle.source_words.specs.Modes.{begins_comment}
+use Rattle.metacompiler.specs.Spelled.{keyword}
+use Rattle.see.specs.Naming.{name_at, number_text}
 
--- words that mean something else in a body than a name of that spelling
-unfoldable pub is_structure : List ℕ → Bool
-is_structure w =
-    bytes_eq w (codes "IF") || (bytes_eq w (codes "ELSE") || (bytes_eq w (codes "THEN") || (bytes_eq w (codes "BEGIN")
-    || (bytes_eq w (codes "UNTIL") || (bytes_eq w (codes "AGAIN") || (bytes_eq w (codes "WHILE") || bytes_eq w (codes "REPEAT")))))))
+-- a word that a body reads as a keyword, or as the beginning of a comment
+unfoldable pub is_keyword : List ℕ → Bool
+is_keyword w = begins_comment w || is_some (keyword w [])
 
-unfoldable pub is_other_keyword : List ℕ → Bool
-is_other_keyword w =
-    bytes_eq w (codes "DO") || (bytes_eq w (codes "LOOP") || (bytes_eq w (codes "+LOOP") || (bytes_eq w (codes ".\"")
-    || (bytes_eq w (codes "ABORT\"") || (bytes_eq w (codes "[']") || (bytes_eq w (codes "[COMPILE]") || (bytes_eq w (codes "COMPILE")
-    || (bytes_eq w (codes "DOES>") || (bytes_eq w (codes ";") || bytes_eq w (codes "("))))))))))
-
-abbrev pub is_keyword : List ℕ → Bool
-is_keyword w = is_structure w || is_other_keyword w
-
--- a word that stands behind [COMPILE]: its name is immediate, or spelled as a keyword
-unfoldable pub is_forced : List ℕ → ℕ → Bool
-is_forced m w = immediate_if m (header_at m (headers m) w) || is_keyword (name_at m w)
+-- a word that stands behind [COMPILE]: the header that its name means is immediate, or the name is spelled as a keyword
+unfoldable pub is_forced : List ℕ → (hidden : ℕ) → ℕ → Bool
+is_forced m hidden w = is_immediate m (found_hiding m (name_at m w) hidden) || is_keyword (name_at m w)
 
 -- how keywords are spelled; no plain definition has a double
 abbrev pub keyword_text : Token → List ℕ
@@ -63,9 +53,17 @@ called false name = bare name ∷ []
 called true name = bare (codes "[COMPILE]") ∷ bare name ∷ []
 
 -- words as they are printed, with [COMPILE] where it is needed
-abbrev pub all_printed : List ℕ → List Token → List Spelling
-all_printed m ws = map (printed m) (respelled (is_forced m) ws)
+abbrev pub all_printed : List ℕ → (hidden : ℕ) → List Token → List Spelling
+all_printed m hidden ws = map (printed m) (respelled (is_forced m hidden) ws)
 
--- `: NAME`, the body and `;`, with single blanks between
-unfoldable pub text : List ℕ → (name : List ℕ) → Definition → List ℕ
-text m name d = spaced (bare (codes ":") ∷ bare name ∷ all_printed m (all_words d ++ SEMI ∷ []))
+-- a definition's words, and ;
+abbrev pub its_words : Definition → List Token
+its_words d = all_words d ++ SEMI ∷ []
+
+-- words behind `: NAME`, with single blanks between
+abbrev pub printed_text : List ℕ → (hidden : ℕ) → (name : List ℕ) → List Token → List ℕ
+printed_text m hidden name ws = spaced (bare (codes ":") ∷ bare name ∷ all_printed m hidden ws)
+
+-- the text of a definition whose header is at l: `: NAME`, the body and `;`
+unfoldable pub text : List ℕ → (l : ℕ) → (name : List ℕ) → Definition → List ℕ
+text m l name d = printed_text m l name (its_words d)

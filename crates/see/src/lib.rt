@@ -5,6 +5,7 @@ mod apart;
 mod extent;
 mod find;
 mod front;
+pub mod laws;
 mod naming;
 mod places;
 mod plain;

@@ -1,57 +1,28 @@
 //! A definition as text.
 
 ghost use Rattle.std.specs.Prelude.{◌≡◌, ◌||◌, ◌++◌, true, [], ◌∷◌, map, codes, Some, IfOk};
+ghost use Rattle.dictionary.specs.Header.{is_immediate};
 ghost use Rattle.dictionary.specs.Order.{headers};
 ghost use Rattle.source_words.specs.Spaced.{bare, spaced, spaced_behind, quoted};
 ghost use Rattle.colon_bodies.specs.Draft.{token};
-ghost use Rattle.colon_bodies.specs.Tokens.{NAME, NUMBER};
-ghost use Rattle.see.specs.Naming.{immediate_if, name_at};
-ghost use Rattle.see.specs.Printing.{is_structure, is_other_keyword, is_keyword, is_forced, keyword_text, called, all_printed};
+ghost use Rattle.colon_bodies.specs.Tokens.{NAME, NUMBER, TEXT};
+ghost use Rattle.see.specs.Seeing.{IsWritten};
+ghost use Rattle.see.specs.Printing.{is_keyword, keyword_text, called};
 
-use crate::naming::{immediate_if, name_if, number_text};
+use crate::naming::{is_free, is_quotable, is_word, meant, name_if, number_text};
+use crate::refusal::SeeRefused;
 use colon_bodies::BodyWord;
-use dictionary::header_at;
+use dictionary::{header_at, is_immediate};
 use memory::Memory;
+use metacompiler::keyword;
 use std::alloc::{AllocError, Global};
 
-/// Whether the name is that of a choice or of a loop without a count.
-#[tactic(auto, unfolding(crate::specs::Printing::is_structure))]
-fn is_structure(name: &[u8]) -> bool
-    ensures { result ≡ is_structure name.now }
-{
-    name == b"IF".as_slice()
-        || name == b"ELSE".as_slice()
-        || name == b"THEN".as_slice()
-        || name == b"BEGIN".as_slice()
-        || name == b"UNTIL".as_slice()
-        || name == b"AGAIN".as_slice()
-        || name == b"WHILE".as_slice()
-        || name == b"REPEAT".as_slice()
-}
-
-/// Whether the name is that of another keyword.
-#[tactic(auto, unfolding(crate::specs::Printing::is_other_keyword))]
-fn is_other_keyword(name: &[u8]) -> bool
-    ensures { result ≡ is_other_keyword name.now }
-{
-    name == b"DO".as_slice()
-        || name == b"LOOP".as_slice()
-        || name == b"+LOOP".as_slice()
-        || name == b".\"".as_slice()
-        || name == b"ABORT\"".as_slice()
-        || name == b"[']".as_slice()
-        || name == b"[COMPILE]".as_slice()
-        || name == b"COMPILE".as_slice()
-        || name == b"DOES>".as_slice()
-        || name == b";".as_slice()
-        || name == b"(".as_slice()
-}
-
-/// Whether the name is spelled as a keyword.
+/// Whether a word is one that a body reads as a keyword, or as the beginning of a comment.
+#[tactic(auto, unfolding(crate::specs::Printing::is_keyword, source_words::specs::Modes::begins_comment))]
 fn is_keyword(name: &[u8]) -> bool
     ensures { result ≡ is_keyword name.now }
 {
-    is_structure(name) || is_other_keyword(name)
+    name == b"(".as_slice() || keyword(name, b"".as_slice()).is_some()
 }
 
 /// How a keyword is spelled.
@@ -123,90 +94,124 @@ fn write_called(out: &mut Vec<u8>, forced: bool, name: &[u8]) -> Result<(), Allo
     write_word(out, name)
 }
 
-/// Whether the name of an address, of which this is the header, stands behind [COMPILE].
-fn is_forced_at(memory: &Memory, header: Option<u16>, name: &[u8]) -> bool
-    ensures { result ≡ (immediate_if memory.now header || is_keyword name.now) }
+/// Writes a name that means the header at `k`, behind [COMPILE] where that is immediate or the name is spelled as a keyword.
+fn write_meant(out: &mut Vec<u8>, memory: &Memory, k: u16, name: &[u8]) -> Result<(), AllocError>
+    ensures { IfOk result (λ _. out.new.items ≡ out.old.items ++ spaced_behind (called (is_immediate memory.now k || is_keyword name.now) name.now)) }
 {
-    immediate_if(memory, header) || is_keyword(name)
+    let forced = is_immediate(memory, k) || is_keyword(name);
+    write_called(out, forced, name)
 }
 
-/// Writes the name of an address, behind [COMPILE] where it is immediate or spelled as a keyword.
+/// Writes the name of an address, or says what is wrong with it.
 #[tactic(auto, using(crate::proofs::Printed::called_is), unfolding(crate::specs::Printing::is_forced, crate::specs::Naming::name_at))]
-fn write_name(
+fn show_name(
     alloc: Global,
     out: &mut Vec<u8>,
     memory: &Memory,
     listed: &[u16],
+    hidden: u16,
     w: u16,
-) -> Result<(), AllocError>
+) -> Result<(), SeeRefused>
     requires { listed.now ≡ headers memory.now }
-    ensures { IfOk result (λ _. out.new.items ≡ out.old.items ++ spaced_behind (all_printed memory.now (NAME w ∷ []))) }
+    ensures { IsWritten memory.now hidden (NAME w ∷ []) out.old.items out.new.items result }
 {
-    let header = header_at(memory, listed, w);
-    let name = name_if(alloc, memory, header)?;
-    write_called(out, is_forced_at(memory, header, &name), &name)
-}
-
-/// Writes a number.
-fn write_number(alloc: Global, out: &mut Vec<u8>, memory: &Memory, n: u16) -> Result<(), AllocError>
-    ensures { IfOk result (λ _. out.new.items ≡ out.old.items ++ spaced_behind (all_printed memory.now (NUMBER n ∷ []))) }
-{
-    let text = number_text(alloc, n)?;
-    write_word(out, text.as_str().as_bytes())
-}
-
-/// Writes a word of a body.
-fn write_body_word(
-    alloc: Global,
-    out: &mut Vec<u8>,
-    memory: &Memory,
-    listed: &[u16],
-    word: BodyWord,
-) -> Result<(), AllocError>
-    requires { listed.now ≡ headers memory.now }
-    ensures { IfOk result (λ _. out.new.items ≡ out.old.items ++ spaced_behind (all_printed memory.now (token word.entry ∷ []))) }
-{
-    match word {
-        BodyWord::Name(w) => write_name(alloc, out, memory, listed, w),
-        BodyWord::Number(n) => write_number(alloc, out, memory, n),
-        BodyWord::Text(_, text) => write_text(out, keyword_text(word), text),
-        _ => write_word(out, keyword_text(word)),
+    let name = name_if(alloc, memory, header_at(memory, listed, w))?;
+    if !is_word(&name) {
+        return Err(SeeRefused::Nameless(w));
+    }
+    match meant(memory, hidden, &name, w) {
+        Some(k) => {
+            write_meant(out, memory, k, &name)?;
+            Ok(())
+        }
+        None => Err(SeeRefused::Shadowed),
     }
 }
 
-/// Writes the words of a body.
-#[tactic(auto, using(crate::proofs::Printed::next_written, crate::proofs::Printed::none_written))]
-fn write_words(
+/// Writes a number, or says what is wrong with it.
+fn show_number(
+    alloc: Global,
+    out: &mut Vec<u8>,
+    memory: &Memory,
+    hidden: u16,
+    n: u16,
+) -> Result<(), SeeRefused>
+    ensures { IsWritten memory.now hidden (NUMBER n ∷ []) out.old.items out.new.items result }
+{
+    let text = number_text(alloc, n)?;
+    let text = text.as_str().as_bytes();
+    if !is_free(memory, hidden, text) {
+        return Err(SeeRefused::Shadowed);
+    }
+    write_word(out, text)?;
+    Ok(())
+}
+
+/// Writes a word with its text, or says what is wrong with that.
+fn show_text(
+    out: &mut Vec<u8>,
+    memory: &Memory,
+    hidden: u16,
+    aborts: bool,
+    text: &[u8],
+) -> Result<(), SeeRefused>
+    ensures { IsWritten memory.now hidden (TEXT aborts text.now ∷ []) out.old.items out.new.items result }
+{
+    if !is_quotable(text) {
+        return Err(SeeRefused::BadText);
+    }
+    write_text(out, keyword_text(BodyWord::Text(aborts, text)), text)?;
+    Ok(())
+}
+
+/// Writes a word of a body, or says what is wrong with it.
+fn show_word(
     alloc: Global,
     out: &mut Vec<u8>,
     memory: &Memory,
     listed: &[u16],
-    words: &[BodyWord],
-) -> Result<(), AllocError>
+    hidden: u16,
+    word: BodyWord,
+) -> Result<(), SeeRefused>
     requires { listed.now ≡ headers memory.now }
-    ensures { IfOk result (λ _. out.new.items ≡ out.old.items ++ spaced_behind (all_printed memory.now (map token words.now))) }
+    ensures { IsWritten memory.now hidden (token word.entry ∷ []) out.old.items out.new.items result }
+{
+    match word {
+        BodyWord::Name(w) => show_name(alloc, out, memory, listed, hidden, w),
+        BodyWord::Number(n) => show_number(alloc, out, memory, hidden, n),
+        BodyWord::Text(aborts, text) => show_text(out, memory, hidden, aborts, text),
+        _ => {
+            write_word(out, keyword_text(word))?;
+            Ok(())
+        }
+    }
+}
+
+/// Writes the words of a body, or says what is wrong with the first that can't be written.
+pub fn show_words(
+    alloc: Global,
+    out: &mut Vec<u8>,
+    memory: &Memory,
+    listed: &[u16],
+    hidden: u16,
+    words: &[BodyWord],
+) -> Result<(), SeeRefused>
+    requires { listed.now ≡ headers memory.now }
+    ensures { IsWritten memory.now hidden (map token words.now) out.old.items out.new.items result }
 {
     for word in words.iter() {
-        write_body_word(alloc, out, memory, listed, *word)?;
+        show_word(alloc, out, memory, listed, hidden, *word)?;
     }
     Ok(())
 }
 
-/// A definition of this name, as `: NAME`, its words and `;`, with single blanks between.
+/// Begins a definition: `: NAME`.
 #[tactic(auto, unfolding(source_words::specs::Spaced::spaced, source_words::specs::Spaced::spaced_behind, source_words::specs::Spaced::quoted))]
-pub fn print(
-    alloc: Global,
-    memory: &Memory,
-    listed: &[u16],
-    name: &[u8],
-    words: &[BodyWord],
-) -> Result<Vec<u8>, AllocError>
-    requires { listed.now ≡ headers memory.now }
-    ensures { IfOk result (λ v. v.items ≡ spaced (bare (codes ":") ∷ bare name.now ∷ all_printed memory.now (map token words.now))) }
+pub fn begin(alloc: Global, name: &[u8]) -> Result<Vec<u8>, AllocError>
+    ensures { IfOk result (λ v. v.items ≡ spaced (bare (codes ":") ∷ bare name.now ∷ [])) }
 {
     let mut out = Vec::new(alloc);
     out.push(b':')?;
     write_word(&mut out, name)?;
-    write_words(alloc, &mut out, memory, listed, words)?;
     Ok(out)
 }

@@ -1,18 +1,18 @@
 //! A colon word as the text of its definition.
 
-ghost use Rattle.std.specs.Prelude.{◌≡◌, ℕ, List, ◌∷◌, ◌++◌, [], None, IfErr, map};
+ghost use Rattle.std.specs.Prelude.{◌≡◌, ℕ, IfErr, map};
 ghost use Rattle.dictionary.specs.Order.{headers};
 ghost use Rattle.dictionary.specs.Search.{Found, sought};
 ghost use Rattle.colon_bodies.specs.Draft.{token};
-ghost use Rattle.colon_bodies.specs.Tree.{Definition, all_words};
-ghost use Rattle.colon_bodies.specs.Tokens.{SEMI};
-ghost use Rattle.see.specs.Naming.{first_fault};
+ghost use Rattle.colon_bodies.specs.Tree.{Definition};
+ghost use Rattle.see.specs.Naming.{IsReadable};
+ghost use Rattle.see.specs.Printing.{its_words};
 ghost use Rattle.see.specs.Seeing.{IsColon, IsDefined, IsPrinted, IsSeen};
 ghost use Rattle.see.specs.declared.refusal.SeeRefused.TheVariants.{OutOfMemory};
 
 use crate::extent::{controls_of, extent, parameter_field};
-use crate::naming::check;
-use crate::printing::print;
+use crate::naming::is_word;
+use crate::printing::{begin, show_words};
 use crate::refusal::SeeRefused;
 use crate::thread::thread_words;
 use colon_bodies::BodyWord;
@@ -23,7 +23,7 @@ use std::alloc::{AllocError, Global};
 /// The code field of colon words.
 const COLON: u16 = 1;
 
-/// Checks and prints the words of a definition.
+/// The words of a definition, as text.
 fn show(
     alloc: Global,
     memory: &Memory,
@@ -35,8 +35,12 @@ fn show(
     requires { listed.now ≡ headers memory.now }
     ensures { IsPrinted memory.now l name.now (map token words.now) result }
 {
-    check(alloc, memory, listed, l, name, words)?;
-    Ok(print(alloc, memory, listed, name, words)?)
+    if !is_word(name) {
+        return Err(SeeRefused::Nameless(compilation_address(memory, l)));
+    }
+    let mut out = begin(alloc, name)?;
+    show_words(alloc, &mut out, memory, listed, l, words)?;
+    Ok(out)
 }
 
 /// A colon word whose header is at `l`, as text.
@@ -92,7 +96,7 @@ fn see_named(alloc: Global, memory: &Memory, name: &[u8]) -> Result<Vec<u8>, See
 #[tactic(auto, using(crate::proofs::Answered::none_refused))]
 pub fn see(alloc: Global, memory: &Memory, name: &[u8]) -> Result<Vec<u8>, SeeRefused>
     ensures seen { IsSeen memory.now name.now result }
-    ensures complete { (l : ℕ) (d : Definition) → IsDefined memory.now name.now l d → first_fault memory.now l name.now (all_words d ++ SEMI ∷ []) ≡ None → IfErr result (λ e. e ≡ OutOfMemory) }
+    ensures complete { (l : ℕ) (d : Definition) → IsDefined memory.now name.now l d → IsReadable memory.now l name.now (its_words d) → IfErr result (λ e. e ≡ OutOfMemory) }
 {
     see_named(alloc, memory, name)
 }
