@@ -31,24 +31,24 @@ const STORES_NOTHING: &str = "5 PRIM EXIT 6 PRIM (LIT) 97 PRIM !
 /// Y's thread, EXIT alone, stands at 285; GO's at 296.
 const EMPTY: &str = "5 PRIM EXIT 23 PRIM BYE : Y ; : GO Y BYE ; BOOT GO";
 
-/// GO's thread stands at 297.
+/// GO's thread stands at 307.
 const ASKS: &str = "5 PRIM EXIT 118 PRIM KEY 120 PRIM EMIT 23 PRIM BYE
 : GO KEY EMIT BYE ; BOOT GO";
 
-/// GO's thread stands at 312.
+/// GO's thread stands at 321.
 const READS: &str = "5 PRIM EXIT 6 PRIM (LIT) 112 PRIM BLOCK 33 PRIM DROP
 23 PRIM BYE : GO 1 BLOCK DROP BYE ; BOOT GO";
 
 /// What a run under DEBUG left.
 #[derive(Drop)]
-struct Debugged {
+struct Left {
     trace: Vec<u8>,
     output: Vec<u8>,
     status: u8,
 }
 
 /// Runs an image with `a` typed and two blank blocks, and traces the word.
-fn debugged(alloc: Global, source: &str, name: &str) -> Result<Debugged, Fail> {
+fn debugged(alloc: Global, source: &str, name: &str) -> Result<Left, Fail> {
     let file = built(alloc, source)?;
     let mut blocks = Vec::new(alloc);
     for _ in 0..2 {
@@ -70,7 +70,7 @@ fn debugged(alloc: Global, source: &str, name: &str) -> Result<Debugged, Fail> {
         &mut writer,
         &mut trace,
     );
-    Ok(Debugged {
+    Ok(Left {
         trace: trace.into_inner(),
         output: writer.into_inner(),
         status: ended.status,
@@ -96,11 +96,17 @@ fn traces(rt: HostRuntime) -> Result<(), Fail> {
             "",
             3,
         ),
-        (ASKS, "GO", "308 KEY | | 0\n310 EMIT | 97 | 0\n312 BYE | | 0\n", "a", 0),
+        (
+            ASKS,
+            "GO",
+            "307 KEY | | 0\n309 EMIT | 97 | 0\n311 BYE | | 0\n",
+            "a",
+            0,
+        ),
         (
             READS,
             "GO",
-            "319 (LIT) | | 0\n323 BLOCK | 1 | 0\n325 DROP | -4096 | 0\n327 BYE | | 0\n",
+            "321 (LIT) | | 0\n325 BLOCK | 1 | 0\n327 DROP | -4096 | 0\n329 BYE | | 0\n",
             "",
             0,
         ),
@@ -169,7 +175,11 @@ fn a_trace_that_is_cut(rt: HostRuntime) -> Result<(), Fail> {
             &mut trace,
         );
         assert_eq!(rt; ended.status, 5);
-        assert!(rt; CHOICE_TRACE.as_bytes().starts_with(&trace.into_inner().taken));
+        assert!(rt;
+            CHOICE_TRACE
+                .as_bytes()
+                .starts_with(&trace.into_inner().taken)
+        );
     }
     Ok(())
 }

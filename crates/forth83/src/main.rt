@@ -200,7 +200,11 @@ fn trace_file(rt: &HostRuntime, name: &str) -> Result<Option<BufWriter<File>>, A
     let Ok(file) = create_file(rt, name) else {
         return Ok(None);
     };
-    let gathered = if file.is_terminal() { 0 } else { GATHERED_BYTES };
+    let gathered = if file.is_terminal() {
+        0
+    } else {
+        GATHERED_BYTES
+    };
     match BufWriter::with_capacity(rt.alloc(), gathered, file) {
         Ok(writer) => Ok(Some(writer)),
         Err(_) => Err(AllocError),
