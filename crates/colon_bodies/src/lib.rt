@@ -17,5 +17,5 @@ pub use compiling::{compile, finish, take_word};
 pub use draft::{Draft, Mark};
 pub use fault::{BodyCause, BodyFault};
 pub use image::{lay_cell, patch};
-pub use rules::is_semicolon;
+pub use rules::{half_behind, is_semicolon};
 pub use words::{BodyWord, Half};

@@ -1,11 +1,12 @@
 -- The machine's own search, and what it gives.
-use Rattle.std.proofs.Common.{◌≡◌, ◌≢◌, ℕ, ◌==◌, ◌||◌, ◌&&◌, not, List, [], ◌∷◌, length, Option, Some, None, Bool, true, false, refl, arith, sym, ◌∙◌, if◌then◌else◌}
-use Rattle.std.specs.Prelude.{All, find}
+use Rattle.std.proofs.Common.{◌≡◌, ◌≢◌, ℕ, ◌<◌, ◌==◌, ◌||◌, ◌&&◌, not, List, [], ◌∷◌, length, Option, Some, None, Bool, true, false, refl, arith, sym, ap, ◌∙◌, if◌then◌else◌}
+use Rattle.std.specs.Prelude.{All, find, Result, Ok, Err}
 use Rattle.std.proofs.lemmas.List.Elements.{All-head, All-tail}
 use Rattle.memory.specs.Bytes.{cell}
+use Rattle.dictionary.specs.declared.fault.ChainTooLong.{ChainTooLong}
 use Rattle.dictionary.specs.Header.{is_named}
 use Rattle.dictionary.specs.Chain.{chain, first_where, is_longer, is_missed}
-use Rattle.dictionary.specs.Search.{head_of, first_in, is_missed_in, first_from, is_missed_from, found_in, is_too_long_in, found_from, is_too_long_from, found, is_too_long, Sought, Found, Nowhere, TooLong, sought_in, sought, or_in_forth, sought_as}
+use Rattle.dictionary.specs.Search.{head_of, first_in, is_missed_in, first_from, is_missed_from, found_in, is_too_long_in, found_from, is_too_long_from, found, is_too_long, Sought, Found, Nowhere, TooLong, sought_in, sought, or_in_forth, sought_as, IsSought}
 use Rattle.dictionary.proofs.Firsts.{chain_nonzero}
 
 -- what is found in a list without 0 isn't 0
@@ -55,3 +56,18 @@ sought_is m name =
     (both_as m name (first_in (is_named m name) m (cell m 32) name) (first_in (is_named m name) m 42 name) (length name == 0)
     (is_missed_in (is_named m name) m (cell m 32) name) (first_in (is_named m name) m (cell m 32) name == 0) (is_missed_in (is_named m name) m 42 name)
     refl (in_first m 42 name))
+
+-- what the code's search answers, said of the search: a header isn't at 0
+some_header : (l : ℕ) (long b : Bool) → long ≡ false → (l == 0) ≡ b → 0 < l → (if long then TooLong else if b then Nowhere else Found l) ≡ Found l
+some_header l long true e q h = absurd (grind arith)
+some_header l long false e q h = rw e refl
+
+pub sought_found : (m name : List ℕ) (l : ℕ) → IsSought (found m name) (is_too_long m name) (Ok (Some l)) → sought m name ≡ Found l
+sought_found m name l h =
+    sought_is m name ∙ ap (λ (k : ℕ). sought_as k (is_too_long m name)) (sym h.0) ∙ some_header l (is_too_long m name) (l == 0) h.2 refl h.1
+
+pub sought_nowhere : (m name : List ℕ) → IsSought (found m name) (is_too_long m name) (Ok None) → sought m name ≡ Nowhere
+sought_nowhere m name h = sought_is m name ∙ rw (h.0, h.1) refl
+
+pub sought_long : (m name : List ℕ) (e : ChainTooLong) → IsSought (found m name) (is_too_long m name) (Err e) → sought m name ≡ TooLong
+sought_long m name e h = sought_is m name ∙ rw (h.0, h.1) refl

@@ -7,3 +7,4 @@ pub mod Newest
 pub mod Order
 pub mod Forgetting
 pub mod Marks
+pub mod Extents

@@ -7,6 +7,7 @@
 mod adding;
 mod bits;
 mod counting;
+mod extents;
 mod fault;
 mod fields;
 mod forgetting;
@@ -19,6 +20,7 @@ mod reading;
 mod site;
 
 pub use adding::{add_header, add_vocabulary, can_add, record_bytes};
+pub use extents::{extent_end, header_at};
 pub use fault::{AddFault, ChainTooLong, ForgetFault, HeadersFault};
 pub use fields::Header;
 pub use forgetting::{cut_by, forget, forget_target};

@@ -3,6 +3,7 @@ use Rattle.std.specs.Prelude.{◌≡◌, ℕ, List, Option}
 use Rattle.block_buffers.specs.Disks.{Disk}
 use Rattle.inner_interpreter.specs.declared.stop.Stop.{Stop}
 use Rattle.inner_interpreter.specs.declared.stop.Stop.TheVariants as stop
+use Rattle.debug_tracer.specs.Debugged.{EndsDebugged}
 use Rattle.inner_interpreter.specs.Runs.{World}
 use Rattle.inner_interpreter.specs.Worlds.{EndsFrom}
 
@@ -14,9 +15,16 @@ status_of (stop.Fault f) = 3
 status_of stop.Limit = 4
 status_of stop.InputFault = 5
 status_of stop.OutputFault = 5
+status_of stop.TraceFault = 5
 
 -- the run ends here, with the status of its stop
 pub record EndsWith (status : ℕ) (w : World) (unread : Option (List ℕ)) (disk : Option Disk) (sent : Option (List ℕ)) : Type 0 where
   pub stop : Stop
   pub status_is : status ≡ status_of stop
   pub ends : EndsFrom w unread disk sent stop
+
+-- the same, and the trace of the word of this name was sent
+pub record EndsTracedWith (status : ℕ) (w : World) (name : List ℕ) (unread : Option (List ℕ)) (disk : Option Disk) (sent : Option (List ℕ)) (old new : Option (List ℕ)) : Type 0 where
+  pub stop : Stop
+  pub status_is : status ≡ status_of stop
+  pub ends : EndsDebugged w name unread disk sent old new stop

@@ -26,7 +26,8 @@ pub struct Ended {
     pub file: Option<Vec<u8>>,
 }
 
-fn end_with(status: u8) -> Ended
+/// The end of a subcommand that makes no file.
+pub fn end_with(status: u8) -> Ended
     ensures status { result.status ≡ status }
     ensures file { IsNone result.file }
 {
@@ -44,19 +45,20 @@ fn end_with_file(file: Vec<u8>) -> Ended
     }
 }
 
-fn status_of(stop: Stop) -> u8
+/// The status of a run that stopped.
+pub fn status_of(stop: Stop) -> u8
     ensures { result ≡ status_of stop }
 {
     match stop {
         Stop::Bye | Stop::InputEnded => 0,
         Stop::Fault(_) => 3,
         Stop::Limit => 4,
-        Stop::InputFault | Stop::OutputFault => 5,
+        Stop::InputFault | Stop::OutputFault | Stop::TraceFault => 5,
     }
 }
 
 /// Prints a line, and ends with the status, or with 5 where the line can't be written.
-fn print<W: Output>(writer: &mut W, line: &[u8], status: u8) -> Ended
+pub fn print<W: Output>(writer: &mut W, line: &[u8], status: u8) -> Ended
     ensures printed { W.failed writer.new ≡ false → result.status ≡ status }
     ensures status { 0 < status → 0 < result.status }
     ensures file { IsNone result.file }
@@ -72,7 +74,8 @@ fn is_printed<W: Output>(writer: &mut W, line: &[u8]) -> bool {
     print(writer, line, 0).status == 0
 }
 
-fn print_out_of_memory<W: Output>(writer: &mut W) -> Ended
+/// Prints that memory ran out.
+pub fn print_out_of_memory<W: Output>(writer: &mut W) -> Ended
     ensures printed { W.failed writer.new ≡ false → result.status ≡ 1 }
     ensures status { 0 < result.status }
     ensures file { IsNone result.file }
@@ -85,7 +88,7 @@ fn refusal(alloc: Global, fault: ImageFault) -> Result<String, AllocError> {
 }
 
 /// Prints why bytes are no image.
-fn refuse_image<W: Output>(alloc: Global, fault: ImageFault, writer: &mut W) -> Ended
+pub fn refuse_image<W: Output>(alloc: Global, fault: ImageFault, writer: &mut W) -> Ended
     ensures printed { W.failed writer.new ≡ false → result.status ≡ 1 }
     ensures file { IsNone result.file }
 {

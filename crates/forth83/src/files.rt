@@ -56,12 +56,17 @@ pub fn read_image(rt: &HostRuntime, name: &str) -> Result<Option<Vec<u8>>, Alloc
     Ok(Some(bytes))
 }
 
-/// Makes a file anew, with these bytes. An error: it can't be opened, or can't be written whole.
-pub fn write_file(rt: &HostRuntime, name: &str, bytes: &[u8]) -> io::Result<()> {
-    let mut file = open_apart(
+/// Makes a file anew. An error: it can't be opened.
+pub fn create_file(rt: &HostRuntime, name: &str) -> io::Result<File> {
+    open_apart(
         rt,
         OpenOptions::new().write(true).create(true).truncate(true),
         name,
-    )?;
+    )
+}
+
+/// Makes a file anew, with these bytes. An error: it can't be opened, or can't be written whole.
+pub fn write_file(rt: &HostRuntime, name: &str, bytes: &[u8]) -> io::Result<()> {
+    let mut file = create_file(rt, name)?;
     file.write_all(bytes)
 }

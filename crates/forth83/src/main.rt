@@ -6,6 +6,9 @@ mod build_tests;
 #[cfg(test)]
 mod cases;
 mod commands;
+mod debug_command;
+#[cfg(test)]
+mod debug_tests;
 #[cfg(test)]
 mod end_tests;
 mod file_devices;
@@ -20,14 +23,23 @@ mod kernel_tests;
 mod kernel_text;
 mod laws;
 #[cfg(test)]
+mod round_trip_tests;
+mod see_command;
+#[cfg(test)]
+mod see_tests;
+#[cfg(test)]
 mod tests;
 mod words;
 
-use block_buffers::MemoryDevice;
+use block_buffers::{Device, MemoryDevice};
 use commands::{Ended, do_build, do_kernel, do_run, do_view};
+use debug_command::do_debug;
 use file_devices::{open_device, open_to_read};
-use files::{read_image, write_file};
+use files::{create_file, read_image, write_file};
 use inner_interpreter::{Reading, Writing};
+use see_command::do_see;
+use std::alloc::AllocError;
+use std::fs::File;
 use std::io;
 use std::io::{BufReader, BufWriter, IsTerminal, Stdout};
 use std::os::fd::AsFd;
@@ -122,6 +134,25 @@ fn view_word(rt: &HostRuntime, image: &str, name: &str) -> u8 {
     .status
 }
 
+/// Shows the definition of the word that `see` names.
+fn see_word(rt: &HostRuntime, image: &str, name: &str) -> u8 {
+    let bytes = match read_image(rt, image) {
+        Ok(Some(bytes)) => bytes,
+        Ok(None) => return cannot_open(rt, image),
+        Err(_) => return out_of_memory(rt),
+    };
+    let Ok(writer) = standard_output(rt) else {
+        return out_of_memory(rt);
+    };
+    do_see(
+        rt.alloc(),
+        bytes.as_slice(),
+        name,
+        &mut Writing::new(writer),
+    )
+    .status
+}
+
 /// Opens what `run` names, and runs the image over standard input and output.
 fn run_image(rt: &HostRuntime, image: &str, blocks: Option<&str>, limit: u64) -> u8 {
     let bytes = match read_image(rt, image) {
@@ -165,6 +196,82 @@ fn run_image(rt: &HostRuntime, image: &str, blocks: Option<&str>, limit: u64) ->
     ended.status
 }
 
+/// The file of a trace, made anew. What a terminal is shown is written at once.
+fn trace_file(rt: &HostRuntime, name: &str) -> Result<Option<BufWriter<File>>, AllocError> {
+    let Ok(file) = create_file(rt, name) else {
+        return Ok(None);
+    };
+    let gathered = if file.is_terminal() {
+        0
+    } else {
+        GATHERED_BYTES
+    };
+    match BufWriter::with_capacity(rt.alloc(), gathered, file) {
+        Ok(writer) => Ok(Some(writer)),
+        Err(_) => Err(AllocError),
+    }
+}
+
+/// Opens the trace that `debug` names, and runs the image over this device.
+fn debug_over<D: Device>(
+    rt: &HostRuntime,
+    image: &[u8],
+    name: &str,
+    trace: &str,
+    device: &mut D,
+    limit: u64,
+) -> u8 {
+    let lines = match trace_file(rt, trace) {
+        Ok(Some(lines)) => lines,
+        Ok(None) => return cannot_open(rt, trace),
+        Err(_) => return out_of_memory(rt),
+    };
+    let Ok(reader) = BufReader::new(rt.alloc(), rt.stdin()) else {
+        return out_of_memory(rt);
+    };
+    let Ok(writer) = standard_output(rt) else {
+        return out_of_memory(rt);
+    };
+    do_debug(
+        rt.alloc(),
+        image,
+        name,
+        device,
+        limit,
+        &mut Reading::new(reader),
+        &mut Writing::new(writer),
+        &mut Writing::new(lines),
+    )
+    .status
+}
+
+/// Opens what `debug` names, and runs the image with a trace of the word.
+fn debug_word(
+    rt: &HostRuntime,
+    image: &str,
+    name: &str,
+    trace: &str,
+    blocks: Option<&str>,
+    limit: u64,
+) -> u8 {
+    let bytes = match read_image(rt, image) {
+        Ok(Some(bytes)) => bytes,
+        Ok(None) => return cannot_open(rt, image),
+        Err(_) => return out_of_memory(rt),
+    };
+    let bytes = bytes.as_slice();
+    match blocks {
+        None => {
+            let mut none = MemoryDevice::new(Vec::new(rt.alloc()), Vec::new(rt.alloc()));
+            debug_over(rt, bytes, name, trace, &mut none, limit)
+        }
+        Some(file) => match open_device(rt, file) {
+            None => cannot_open(rt, file),
+            Some(mut device) => debug_over(rt, bytes, name, trace, &mut device, limit),
+        },
+    }
+}
+
 fn main(rt: HostRuntime) -> ExitCode {
     let status = match words::parse(&rt) {
         Parsed::Exit(status) => status,
@@ -185,6 +292,23 @@ fn main(rt: HostRuntime) -> ExitCode {
                 limit,
             },
         ) => run_image(&rt, image.as_str(), blocks.as_deref(), limit),
+        Parsed::Words(
+            Words::Debug {
+                image,
+                name,
+                trace,
+                blocks,
+                limit,
+            },
+        ) => debug_word(
+            &rt,
+            image.as_str(),
+            name.as_str(),
+            trace.as_str(),
+            blocks.as_deref(),
+            limit,
+        ),
+        Parsed::Words(Words::See { image, name }) => see_word(&rt, image.as_str(), name.as_str()),
         Parsed::Words(Words::View { image, name }) => view_word(&rt, image.as_str(), name.as_str()),
     };
     ExitCode::from(status)

@@ -28,6 +28,17 @@ pub enum Words {
         blocks: Option<String>,
         limit: u64,
     },
+    Debug {
+        image: String,
+        name: String,
+        trace: String,
+        blocks: Option<String>,
+        limit: u64,
+    },
+    See {
+        image: String,
+        name: String,
+    },
     View {
         image: String,
         name: String,
@@ -78,13 +89,17 @@ fn build_command<'a>(alloc: Global) -> Result<Command<'a>, AllocError> {
         )
 }
 
-fn run_command<'a>(alloc: Global) -> Result<Command<'a>, AllocError> {
-    let limit = Arg::new(alloc, "limit")
+/// How many ticks are allowed.
+fn limit<'a>(alloc: Global) -> Arg<'a> {
+    Arg::new(alloc, "limit")
         .long("limit")
         .value_name("N")
         .value_parser(value_parser!(u64))
         .default_value("1000000000000")
-        .help("Stop after N ticks");
+        .help("Stop after N ticks")
+}
+
+fn run_command<'a>(alloc: Global) -> Result<Command<'a>, AllocError> {
     Command::new(alloc, "run")
         .about("Run an image over standard input and output")
         .arg(
@@ -93,7 +108,36 @@ fn run_command<'a>(alloc: Global) -> Result<Command<'a>, AllocError> {
                 .help("The image file"),
         )?
         .arg(Arg::new(alloc, "BLOCKS").help("A file of blocks of 1,024 bytes"))?
-        .arg(limit)
+        .arg(limit(alloc))
+}
+
+fn debug_command<'a>(alloc: Global) -> Result<Command<'a>, AllocError> {
+    Command::new(alloc, "debug")
+        .about("Run an image, and write a line before each step of a word")
+        .arg(
+            Arg::new(alloc, "IMAGE")
+                .required(true)
+                .help("The image file"),
+        )?
+        .arg(Arg::new(alloc, "NAME").required(true).help("The word"))?
+        .arg(
+            Arg::new(alloc, "TRACE")
+                .required(true)
+                .help("The new file of the lines"),
+        )?
+        .arg(Arg::new(alloc, "BLOCKS").help("A file of blocks of 1,024 bytes"))?
+        .arg(limit(alloc))
+}
+
+fn see_command<'a>(alloc: Global) -> Result<Command<'a>, AllocError> {
+    Command::new(alloc, "see")
+        .about("Print the definition of a colon word")
+        .arg(
+            Arg::new(alloc, "IMAGE")
+                .required(true)
+                .help("The image file"),
+        )?
+        .arg(Arg::new(alloc, "NAME").required(true).help("The word"))
 }
 
 fn view_command<'a>(alloc: Global) -> Result<Command<'a>, AllocError> {
@@ -116,6 +160,8 @@ fn command<'a>(alloc: Global) -> Result<Command<'a>, AllocError> {
         .subcommand(kernel_command(alloc)?)?
         .subcommand(build_command(alloc)?)?
         .subcommand(run_command(alloc)?)?
+        .subcommand(see_command(alloc)?)?
+        .subcommand(debug_command(alloc)?)?
         .subcommand(view_command(alloc)?)
 }
 
@@ -164,14 +210,50 @@ fn run_words(alloc: Global, inner: &ArgMatches<'_>) -> Result<Option<Words>, All
     }))
 }
 
-fn view_words(alloc: Global, inner: &ArgMatches<'_>) -> Result<Option<Words>, AllocError> {
+fn debug_words(alloc: Global, inner: &ArgMatches<'_>) -> Result<Option<Words>, AllocError> {
+    let Some((image, name)) = image_and_name(alloc, inner)? else {
+        return Ok(None);
+    };
+    let Some(trace) = copied(alloc, inner, "TRACE")? else {
+        return Ok(None);
+    };
+    let blocks = copied(alloc, inner, "BLOCKS")?;
+    let limit = inner.get_one::<u64>("limit").unwrap_or(DEFAULT_LIMIT);
+    Ok(Some(Words::Debug {
+        image,
+        name,
+        trace,
+        blocks,
+        limit,
+    }))
+}
+
+/// An image and a word.
+fn image_and_name(
+    alloc: Global,
+    inner: &ArgMatches<'_>,
+) -> Result<Option<(String, String)>, AllocError> {
     let Some(image) = copied(alloc, inner, "IMAGE")? else {
         return Ok(None);
     };
     let Some(name) = copied(alloc, inner, "NAME")? else {
         return Ok(None);
     };
-    Ok(Some(Words::View { image, name }))
+    Ok(Some((image, name)))
+}
+
+fn see_words(alloc: Global, inner: &ArgMatches<'_>) -> Result<Option<Words>, AllocError> {
+    match image_and_name(alloc, inner)? {
+        Some((image, name)) => Ok(Some(Words::See { image, name })),
+        None => Ok(None),
+    }
+}
+
+fn view_words(alloc: Global, inner: &ArgMatches<'_>) -> Result<Option<Words>, AllocError> {
+    match image_and_name(alloc, inner)? {
+        Some((image, name)) => Ok(Some(Words::View { image, name })),
+        None => Ok(None),
+    }
 }
 
 fn words_of(alloc: Global, matches: &ArgMatches<'_>) -> Result<Option<Words>, AllocError> {
@@ -179,6 +261,8 @@ fn words_of(alloc: Global, matches: &ArgMatches<'_>) -> Result<Option<Words>, Al
         None => Ok(None),
         Some(("kernel", inner)) => kernel_words(alloc, inner),
         Some(("build", inner)) => build_words(alloc, inner),
+        Some(("debug", inner)) => debug_words(alloc, inner),
+        Some(("see", inner)) => see_words(alloc, inner),
         Some(("view", inner)) => view_words(alloc, inner),
         Some((_, inner)) => run_words(alloc, inner),
     }

@@ -1,89 +1,190 @@
 -- The ends of a run.
-use Rattle.std.proofs.Common.{◌≡◌, ◌⊎◌, ℕ, ◌+◌, Bool, true, false, List, Option, None, Some, refl, sym, ap, ◌∙◌, inl, inr}
-use Rattle.std.specs.Io.KnownBytes.{Keeps}
+use Rattle.std.proofs.Common.{◌≡◌, ◌⊎◌, ℕ, suc, ◌+◌, ◌<◌, Bool, true, false, List, [], ◌++◌, Option, None, Some, is_none, ◌&&◌, if◌then◌else◌, refl, sym, ap, subst, ◌∙◌, inl, inr, arith, append-nil}
+use Rattle.std.specs.Io.KnownBytes.{Appends, Keeps}
 use Rattle.block_buffers.specs.Disks.{Disk}
+use Rattle.plain_rows.specs.Whole.{Whole}
+use Rattle.plain_rows.specs.declared.parts.Request.{Request}
 use Rattle.inner_interpreter.specs.declared.act.Cause.{Cause}
 use Rattle.inner_interpreter.specs.declared.act.Cause.TheVariants as causes
 use Rattle.inner_interpreter.specs.declared.stop.Stop.{Stop}
 use Rattle.inner_interpreter.specs.declared.stop.Stop.TheVariants as stop
+use Rattle.inner_interpreter.specs.declared.tracing.Extent.{Extent}
 use Rattle.inner_interpreter.specs.State.{State}
-use Rattle.inner_interpreter.specs.Runs.{World, rounds, stop_by, stop_of}
+use Rattle.inner_interpreter.specs.Answer.{InputFault, asked_by, fits}
+use Rattle.inner_interpreter.specs.Runs.{World, rounds, stops, stop_by, stop_of}
+use Rattle.inner_interpreter.specs.Sent.{AppendsPart}
 use Rattle.inner_interpreter.specs.Served.{is_input_fault}
-use Rattle.inner_interpreter.specs.Worlds.{IsAt, IsFaulted, Ends, EndsCut, EndsFaulted, Made, MadeCut}
+use Rattle.inner_interpreter.specs.Tracing.{is_met, AddsLine, Made, MadeCut, MadeTraced, EndsTraced, EndsCutTraced, EndsFaultedTraced, EndsUntraced, Finishes, line_next, line_of, trace}
+use Rattle.inner_interpreter.specs.Worlds.{IsAt, IsFaulted, Ends, EndsCut, EndsFaulted}
 use Rattle.inner_interpreter.proofs.Running.{kept_at, kept_cut}
-use Rattle.inner_interpreter.proofs.Stretches.{rounds_add}
+use Rattle.inner_interpreter.proofs.Sending.{appends_both, part_second}
+use Rattle.inner_interpreter.proofs.Stretches.{rounds_add, runs_on, trace_add}
 
-pub none_made : (w : World) (s : State) (unread : Option (List ℕ)) (disk : Option Disk) (sent : Option (List ℕ)) (left : ℕ) → IsAt w s unread disk sent left → Made w s unread disk sent left
-unfolding rounds
-none_made w s unread disk sent left at = (0, at)
+appends_none : (a : Option (List ℕ)) → Appends a a []
+appends_none None = tt
+appends_none (Some xs) = sym (append-nil xs)
 
-pub more_made : (w : World) (s s' : State) (unread unread' : Option (List ℕ)) (disk disk' : Option Disk) (sent sent' : Option (List ℕ)) (left left' : ℕ)
-    → ((v : World) → IsAt v s unread disk sent left → Made v s' unread' disk' sent' left')
-    → Made w s unread disk sent left → Made w s' unread' disk' sent' left'
-more_made w s s' unread unread' disk disk' sent sent' left left' step made =
-    let more = step (rounds made.0 w) made.1 in
-    (more.0 + made.0, rw (rounds_add more.0 made.0 w) (more.1))
+appends_kept : (a b c : Option (List ℕ)) (xs : List ℕ) → Appends a b xs → Keeps b c → Appends a c xs
+appends_kept None b c xs h k = tt
+appends_kept (Some os) None c xs h k = absurd h
+appends_kept (Some os) (Some bs) None xs h k = absurd k
+appends_kept (Some os) (Some bs) (Some cs) xs h k = k ∙ h
 
-pub made_cause : (w : World) (s : State) (unread : Option (List ℕ)) (disk : Option Disk) (sent sent' : Option (List ℕ)) (left : ℕ) (c : Cause)
-    → s.halt ≡ Some c → Keeps sent sent' → Made w s unread disk sent left → Ends w s unread disk sent' (stop_of c)
-made_cause w s unread disk sent sent' left c h k made =
+part_all : (a b : Option (List ℕ)) (xs ys : List ℕ) → Appends a b xs → AppendsPart a b (xs ++ ys)
+part_all None b xs ys h = tt
+part_all (Some os) None xs ys h = absurd h
+part_all (Some os) (Some bs) xs ys h = (xs, ys, refl, h)
+
+-- where the run goes on, the line is that of the state
+line_goes : (e : Extent) (line : Whole → List ℕ) (w : World) (s : State) → s ≡ w.state → stops w ≡ None → line_of e line w ≡ line_next e line s
+unfolding line_of
+line_goes e line w s same goes = ap (λ o. if is_none o then line_next e line w.state else []) goes ∙ ap (line_next e line) (sym same)
+
+runs_at : (w : World) (s : State) (unread : Option (List ℕ)) (disk : Option Disk) (sent : Option (List ℕ)) (left : ℕ) → s.halt ≡ None → 0 < left → IsAt w s unread disk sent left → stops w ≡ None
+runs_at w s unread disk sent left halt some at = runs_on w (ap (λ (v : State). v.halt) (sym at.state_is) ∙ halt) (omega (arith, at.left_is, some))
+
+-- where a request stands, no line is due
+asked_line : (e : Extent) (line : Whole → List ℕ) (s : State) → fits (asked_by s.wait) InputFault ≡ true → line_next e line s ≡ []
+asked_line e line s h = by_wait (asked_by s.wait) h where
+  by_wait : (o : Option Request) → fits o InputFault ≡ true → (if is_none o && is_met e s.parts then line s.parts else []) ≡ []
+  by_wait None q = cc
+  by_wait (Some r) q = refl
+
+pub none_made : (e : Extent) (line : Whole → List ℕ) (w : World) (s : State) (unread : Option (List ℕ)) (disk : Option Disk) (sent : Option (List ℕ)) (left : ℕ) (t : Option (List ℕ))
+    → IsAt w s unread disk sent left → MadeTraced e line w s unread disk sent left t t
+unfolding rounds trace
+none_made e line w s unread disk sent left t at = (0, at, appends_none t)
+
+-- the trace of some rounds, and then of these
+more_trace : (e : Extent) (line : Whole → List ℕ) (w : World) (n m : ℕ) (ls : List ℕ) (t0 t1 t2 : Option (List ℕ))
+    → AddsLine e m (rounds n w) → line_of e line (rounds n w) ≡ ls → Appends t0 t1 (trace e line n w) → Appends t1 t2 ls → Appends t0 t2 (trace e line (m + n) w)
+more_trace e line w n m ls t0 t1 t2 adds same h k =
+    let all : trace e line (m + n) w ≡ trace e line n w ++ ls = trace_add e line m n w ∙ ap (λ xs. trace e line n w ++ xs) (adds line ∙ same) in
+    subst (Appends t0 t2) (sym all) (appends_both t0 t1 t2 (trace e line n w) ls h k)
+
+pub more_made : (e : Extent) (line : Whole → List ℕ) (w : World) (s s' : State) (unread unread' : Option (List ℕ)) (disk disk' : Option Disk) (sent sent' : Option (List ℕ)) (left left' : ℕ) (t0 t1 t2 : Option (List ℕ))
+    → s.halt ≡ None → 0 < left → Appends t1 t2 (line_next e line s)
+    → ((v : World) → IsAt v s unread disk sent left → Made e v s' unread' disk' sent' left')
+    → MadeTraced e line w s unread disk sent left t0 t1 → MadeTraced e line w s' unread' disk' sent' left' t0 t2
+more_made e line w s s' unread unread' disk disk' sent sent' left left' t0 t1 t2 halt some told step made =
+    let v = rounds made.0 w in
+    let more = step v made.1 in
+    let goes = runs_at v s unread disk sent left halt some made.1 in (
+      more.0 + made.0,
+      rw (rounds_add more.0 made.0 w) (more.2),
+      more_trace e line w made.0 more.0 (line_next e line s) t0 t1 t2 more.1 (line_goes e line v s made.1.state_is goes) made.2 told,
+    )
+
+pub made_cause : (e : Extent) (line : Whole → List ℕ) (w : World) (s : State) (unread : Option (List ℕ)) (disk : Option Disk) (sent sent' : Option (List ℕ)) (left : ℕ) (t0 t1 t2 : Option (List ℕ)) (c : Cause)
+    → s.halt ≡ Some c → Keeps sent sent' → Keeps t1 t2 → MadeTraced e line w s unread disk sent left t0 t1 → EndsTraced e line w s unread disk sent' t0 t2 (stop_of c)
+made_cause e line w s unread disk sent sent' left t0 t1 t2 c h k l made =
     let v = rounds made.0 w in
     let at = kept_at v s unread disk sent sent' left k made.1 in
     let cause : v.state.halt ≡ Some c = ap (λ (x : State). x.halt) (sym at.state_is) ∙ h in
     record {
-      count = made.0;
-      at = record { state_is = at.state_is; unread_is = at.unread_is; disk_is = at.disk_is; sent_is = at.sent_is; left_is = refl };
-      stops_so = ap (λ o. stop_by o v.left) cause;
+      ends = record {
+        count = made.0;
+        at = record { state_is = at.state_is; unread_is = at.unread_is; disk_is = at.disk_is; sent_is = at.sent_is; left_is = refl };
+        stops_so = ap (λ o. stop_by o v.left) cause;
+      };
+      trace_is = appends_kept t0 t1 t2 (trace e line made.0 w) made.2 l;
     }
 
-pub made_limit : (w : World) (s : State) (unread : Option (List ℕ)) (disk : Option Disk) (sent sent' : Option (List ℕ)) (left : ℕ)
-    → s.halt ≡ None → left ≡ 0 → Keeps sent sent' → Made w s unread disk sent left → Ends w s unread disk sent' stop.Limit
-made_limit w s unread disk sent sent' left h l k made =
+pub made_limit : (e : Extent) (line : Whole → List ℕ) (w : World) (s : State) (unread : Option (List ℕ)) (disk : Option Disk) (sent sent' : Option (List ℕ)) (left : ℕ) (t0 t1 t2 : Option (List ℕ))
+    → s.halt ≡ None → left ≡ 0 → Keeps sent sent' → Keeps t1 t2 → MadeTraced e line w s unread disk sent left t0 t1 → EndsTraced e line w s unread disk sent' t0 t2 stop.Limit
+made_limit e line w s unread disk sent sent' left t0 t1 t2 h none k l made =
     let v = rounds made.0 w in
     let at = kept_at v s unread disk sent sent' left k made.1 in
     let goes : v.state.halt ≡ None = ap (λ (x : State). x.halt) (sym at.state_is) ∙ h in
-    let none : v.left ≡ 0 = sym at.left_is ∙ l in
+    let nothing : v.left ≡ 0 = sym at.left_is ∙ none in
+    record {
+      ends = record {
+        count = made.0;
+        at = record { state_is = at.state_is; unread_is = at.unread_is; disk_is = at.disk_is; sent_is = at.sent_is; left_is = refl };
+        stops_so = ap (λ o. stop_by o v.left) goes ∙ ap (stop_by None) nothing;
+      };
+      trace_is = appends_kept t0 t1 t2 (trace e line made.0 w) made.2 l;
+    }
+
+pub made_cut : (e : Extent) (line : Whole → List ℕ) (w : World) (s : State) (unread : Option (List ℕ)) (disk : Option Disk) (sent sent' : Option (List ℕ)) (left : ℕ) (t0 t1 t2 : Option (List ℕ))
+    → Keeps sent sent' → Keeps t1 t2 → MadeTraced e line w s unread disk sent left t0 t1 → EndsCutTraced e line w s unread disk sent' t0 t2
+made_cut e line w s unread disk sent sent' left t0 t1 t2 k l made = record {
+  cut = record { count = made.0; cut = kept_cut (rounds made.0 w) s unread disk sent sent' left k made.1 };
+  trace_is = appends_kept t0 t1 t2 (trace e line made.0 w) made.2 l;
+}
+
+-- the trace's writer failed at last
+pub made_untraced : (e : Extent) (line : Whole → List ℕ) (w : World) (s : State) (unread : Option (List ℕ)) (disk : Option Disk) (sent sent' : Option (List ℕ)) (left : ℕ) (t0 t1 t2 : Option (List ℕ))
+    → Keeps sent sent' → Keeps t1 t2 → MadeTraced e line w s unread disk sent left t0 t1 → EndsUntraced e line w s unread disk sent' t0 t2
+unfolding trace
+made_untraced e line w s unread disk sent sent' left t0 t1 t2 k l made =
+    let at = kept_at (rounds made.0 w) s unread disk sent sent' left k made.1 in
     record {
       count = made.0;
       at = record { state_is = at.state_is; unread_is = at.unread_is; disk_is = at.disk_is; sent_is = at.sent_is; left_is = refl };
-      stops_so = ap (λ o. stop_by o v.left) goes ∙ ap (stop_by None) none;
+      trace_is = part_all t0 t2 (trace e line made.0 w) (line_of e line (rounds made.0 w)) (appends_kept t0 t1 t2 (trace e line made.0 w) made.2 l);
     }
 
-pub made_cut : (w : World) (s : State) (unread : Option (List ℕ)) (disk : Option Disk) (sent sent' : Option (List ℕ)) (left : ℕ)
-    → Keeps sent sent' → Made w s unread disk sent left → EndsCut w s unread disk sent'
-made_cut w s unread disk sent sent' left k made =
-    record { count = made.0; cut = kept_cut (rounds made.0 w) s unread disk sent sent' left k made.1 }
+-- the trace's writer failed in a line
+pub line_untraced : (e : Extent) (line : Whole → List ℕ) (w : World) (s : State) (unread : Option (List ℕ)) (disk : Option Disk) (sent : Option (List ℕ)) (left : ℕ) (t0 t1 t2 : Option (List ℕ))
+    → s.halt ≡ None → 0 < left → AppendsPart t1 t2 (line_next e line s) → MadeTraced e line w s unread disk sent left t0 t1 → EndsUntraced e line w s unread disk sent t0 t2
+unfolding trace
+line_untraced e line w s unread disk sent left t0 t1 t2 halt some told made =
+    let v = rounds made.0 w in
+    let at = made.1 in
+    let same : line_of e line v ≡ line_next e line s = line_goes e line v s at.state_is (runs_at v s unread disk sent left halt some at) in
+    record {
+      count = made.0;
+      at = record { state_is = at.state_is; unread_is = at.unread_is; disk_is = at.disk_is; sent_is = at.sent_is; left_is = refl };
+      trace_is = part_second t0 t1 t2 (trace e line made.0 w) (line_of e line v) made.2 (subst (AppendsPart t1 t2) (sym same) told);
+    }
 
-pub rounds_cut : (w : World) (s s' : State) (unread unread' : Option (List ℕ)) (disk disk' : Option Disk) (sent sent' : Option (List ℕ)) (left : ℕ)
-    → ((v : World) → IsAt v s unread disk sent left → MadeCut v s' unread' disk' sent')
-    → Made w s unread disk sent left → EndsCut w s' unread' disk' sent'
-rounds_cut w s s' unread unread' disk disk' sent sent' left step made =
-    let more = step (rounds made.0 w) made.1 in
-    record { count = more.0 + made.0; cut = rw (rounds_add more.0 made.0 w) (more.1) }
+pub rounds_cut : (e : Extent) (line : Whole → List ℕ) (w : World) (s s' : State) (unread unread' : Option (List ℕ)) (disk disk' : Option Disk) (sent sent' : Option (List ℕ)) (left : ℕ) (t0 t1 t2 : Option (List ℕ))
+    → s.halt ≡ None → 0 < left → Appends t1 t2 (line_next e line s)
+    → ((v : World) → IsAt v s unread disk sent left → MadeCut e v s' unread' disk' sent')
+    → MadeTraced e line w s unread disk sent left t0 t1 → EndsCutTraced e line w s' unread' disk' sent' t0 t2
+rounds_cut e line w s s' unread unread' disk disk' sent sent' left t0 t1 t2 halt some told step made =
+    let v = rounds made.0 w in
+    let more = step v made.1 in
+    let goes = runs_at v s unread disk sent left halt some made.1 in
+    record {
+      cut = record { count = more.0 + made.0; cut = rw (rounds_add more.0 made.0 w) (more.2) };
+      trace_is = more_trace e line w made.0 more.0 (line_next e line s) t0 t1 t2 more.1 (line_goes e line v s made.1.state_is goes) made.2 told;
+    }
 
-pub rounds_faulted : (w : World) (s s' : State) (unread : Option (List ℕ)) (disk disk' : Option Disk) (sent sent' : Option (List ℕ)) (left : ℕ)
-    → ((v : World) → IsAt v s unread disk sent left → IsFaulted v s' disk' sent')
-    → Made w s unread disk sent left → EndsFaulted w s' disk' sent'
-rounds_faulted w s s' unread disk disk' sent sent' left step made = record { count = made.0; faulted = step (rounds made.0 w) made.1 }
+pub rounds_faulted : (e : Extent) (line : Whole → List ℕ) (w : World) (s s' : State) (unread : Option (List ℕ)) (disk disk' : Option Disk) (sent sent' : Option (List ℕ)) (left : ℕ) (t0 t1 t2 : Option (List ℕ))
+    → Appends t1 t2 (line_next e line s) → ((v : World) → IsAt v s unread disk sent left → IsFaulted v s' disk' sent')
+    → MadeTraced e line w s unread disk sent left t0 t1 → EndsFaultedTraced e line w s' disk' sent' t0 t2
+rounds_faulted e line w s s' unread disk disk' sent sent' left t0 t1 t2 told step made =
+    let f = step (rounds made.0 w) made.1 in
+    let none : line_next e line s ≡ [] = asked_line e line s (ap (λ (v : State). fits (asked_by v.wait) InputFault) made.1.state_is ∙ f.asked) in
+    let all : trace e line made.0 w ++ [] ≡ trace e line made.0 w = append-nil (trace e line made.0 w) in
+    record {
+      faulted = record { count = made.0; faulted = f };
+      trace_is = subst (Appends t0 t2) all (appends_both t0 t1 t2 (trace e line made.0 w) [] made.2 (subst (Appends t1 t2) none told));
+    }
 
 -- a run that ends well ends with the stop
-pub done_so : (r s : Stop) (failed before : Bool) (P : Stop → Type 0) → ((r ≡ s) × (failed ≡ before)) ⊎ ((r ≡ stop.OutputFault) × (failed ≡ true)) → failed ≡ false → P s → P r
-done_so r s failed before P (inl h) f p = rw (h.0) p
-done_so r s failed before P (inr h) f p = absurd (let g : failed ≡ true = h.1 in cc)
+pub done_so : (r s : Stop) (w w' t t' : Bool) (P : Stop → Type 0) → Finishes r s w w' t t' → w' ≡ false → t' ≡ false → P s → P r
+done_so r s w w' t t' P (inl h) f g p = rw (h.0) p
+done_so r s w w' t t' P (inr (inl h)) f g p = absurd (let q : w' ≡ true = h.1 in cc)
+done_so r s w w' t t' P (inr (inr h)) f g p = absurd (let q : t' ≡ true = h.2 in cc)
 
 -- a halted machine doesn't stop for want of ticks
-pub not_limit : (c : Cause) (s r : Stop) (failed before : Bool) → s ≡ stop_of c → ((r ≡ s) × (failed ≡ before)) ⊎ ((r ≡ stop.OutputFault) × (failed ≡ true)) → r ≡ stop.Limit → ⊥
-not_limit causes.Bye s r failed before e (inl h) q = let no : stop.Bye ≡ stop.Limit = sym e ∙ sym h.0 ∙ q in cc
-not_limit causes.InputEnded s r failed before e (inl h) q = let no : stop.InputEnded ≡ stop.Limit = sym e ∙ sym h.0 ∙ q in cc
-not_limit causes.InputFault s r failed before e (inl h) q = let no : stop.InputFault ≡ stop.Limit = sym e ∙ sym h.0 ∙ q in cc
-not_limit (causes.Fault f) s r failed before e (inl h) q = let no : stop.Fault f ≡ stop.Limit = sym e ∙ sym h.0 ∙ q in cc
-not_limit c s r failed before e (inr h) q = let no : stop.OutputFault ≡ stop.Limit = sym h.0 ∙ q in cc
+pub not_limit : (c : Cause) (s r : Stop) (w w' t t' : Bool) → s ≡ stop_of c → Finishes r s w w' t t' → r ≡ stop.Limit → ⊥
+not_limit causes.Bye s r w w' t t' e (inl h) q = let no : stop.Bye ≡ stop.Limit = sym e ∙ sym h.0 ∙ q in cc
+not_limit causes.InputEnded s r w w' t t' e (inl h) q = let no : stop.InputEnded ≡ stop.Limit = sym e ∙ sym h.0 ∙ q in cc
+not_limit causes.InputFault s r w w' t t' e (inl h) q = let no : stop.InputFault ≡ stop.Limit = sym e ∙ sym h.0 ∙ q in cc
+not_limit (causes.Fault f) s r w w' t t' e (inl h) q = let no : stop.Fault f ≡ stop.Limit = sym e ∙ sym h.0 ∙ q in cc
+not_limit c s r w w' t t' e (inr (inl h)) q = let no : stop.OutputFault ≡ stop.Limit = sym h.0 ∙ q in cc
+not_limit c s r w w' t t' e (inr (inr h)) q = let no : stop.TraceFault ≡ stop.Limit = sym h.0 ∙ q in cc
 
 -- a machine that halted for another cause doesn't stop for a failed reader
-pub not_input_fault : (c : Cause) (h : Option Cause) (s r : Stop) (failed before : Bool) → is_input_fault h ≡ false → h ≡ Some c → s ≡ stop_of c → ((r ≡ s) × (failed ≡ before)) ⊎ ((r ≡ stop.OutputFault) × (failed ≡ true)) → r ≡ stop.InputFault → ⊥
+pub not_input_fault : (c : Cause) (h : Option Cause) (s r : Stop) (w w' t t' : Bool) → is_input_fault h ≡ false → h ≡ Some c → s ≡ stop_of c → Finishes r s w w' t t' → r ≡ stop.InputFault → ⊥
 unfolding is_input_fault
-not_input_fault causes.Bye h s r failed before n k e (inl d) q = let no : stop.Bye ≡ stop.InputFault = sym e ∙ sym d.0 ∙ q in cc
-not_input_fault causes.InputEnded h s r failed before n k e (inl d) q = let no : stop.InputEnded ≡ stop.InputFault = sym e ∙ sym d.0 ∙ q in cc
-not_input_fault causes.InputFault h s r failed before n k e (inl d) q = let no : true ≡ false = sym (ap is_input_fault k) ∙ n in cc
-not_input_fault (causes.Fault f) h s r failed before n k e (inl d) q = let no : stop.Fault f ≡ stop.InputFault = sym e ∙ sym d.0 ∙ q in cc
-not_input_fault c h s r failed before n k e (inr d) q = let no : stop.OutputFault ≡ stop.InputFault = sym d.0 ∙ q in cc
+not_input_fault causes.Bye h s r w w' t t' n k e (inl d) q = let no : stop.Bye ≡ stop.InputFault = sym e ∙ sym d.0 ∙ q in cc
+not_input_fault causes.InputEnded h s r w w' t t' n k e (inl d) q = let no : stop.InputEnded ≡ stop.InputFault = sym e ∙ sym d.0 ∙ q in cc
+not_input_fault causes.InputFault h s r w w' t t' n k e (inl d) q = let no : true ≡ false = sym (ap is_input_fault k) ∙ n in cc
+not_input_fault (causes.Fault f) h s r w w' t t' n k e (inl d) q = let no : stop.Fault f ≡ stop.InputFault = sym e ∙ sym d.0 ∙ q in cc
+not_input_fault c h s r w w' t t' n k e (inr (inl d)) q = let no : stop.OutputFault ≡ stop.InputFault = sym d.0 ∙ q in cc
+not_input_fault c h s r w w' t t' n k e (inr (inr d)) q = let no : stop.TraceFault ≡ stop.InputFault = sym d.0 ∙ q in cc

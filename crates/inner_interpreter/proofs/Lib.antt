@@ -1,4 +1,5 @@
 pub mod Ran
+pub mod Passing
 pub mod Sending
 pub mod Lining
 pub mod Answering

@@ -91,12 +91,12 @@ unfolding ran
 ran_so zero k p c = record { ticks = 0; count = omega arith; moved = moved_none (running p) c }
 ran_so (suc n) k p c = by_tick n k p c (ran_so n (k + 1) (ticked p).0.parts c) (is_quiet (ticked p).1) refl
 
--- a stretch of ticks, of which so many are left behind it
-pub moved_stretch : (n m : ℕ) (s t : State) (c : List Bool) → s ≡ running s.parts → t ≡ (ran 0 n s.parts).1 → m ≡ n - (ran 0 n s.parts).0 → (ran 0 n s.parts).0 ≤ n → HasMoved s t c c (n - m)
-moved_stretch n m s t c e h l most =
-    let r : RanSo n 0 s.parts c = ran_so n 0 s.parts c in
-    let same : n - m ≡ r.ticks = omega (arith, l, most, r.count) in
-    rw (e, h, same) r.moved
+-- a stretch of ticks
+pub moved_stretch : (m : ℕ) (s t : State) (c : List Bool) → s ≡ running s.parts → t ≡ (ran 0 m s.parts).1 → (ran 0 m s.parts).0 ≡ m → HasMoved s t c c m
+moved_stretch m s t c e h all =
+    let r : RanSo m 0 s.parts c = ran_so m 0 s.parts c in
+    let same : r.ticks ≡ m = omega (arith, all, r.count) in
+    rw (e, h) (subst (λ n. HasMoved (running s.parts) (ran 0 m s.parts).1 c c n) same r.moved)
 
 -- where moves are accepted, no more answers are made than ticks, but one where a request stood
 pub few_answers : (ts : List Turn) (s : State) → AreAccepted s ts → answers_in ts + waiting (after s ts).wait ≤ ticks_in ts + waiting s.wait

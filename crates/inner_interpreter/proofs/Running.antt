@@ -1,18 +1,22 @@
 -- Rounds of a run, by what its ends tell.
-use Rattle.std.proofs.Common.{◌≡◌, ℕ, ◌-◌, ◌<◌, ◌≤◌, List, [], ◌++◌, Option, None, Some, refl, sym, ap, ◌∙◌, append-nil, arith, Result, Ok, Err, OnOk}
+use Rattle.std.proofs.Common.{◌≡◌, ℕ, ◌-◌, ◌<◌, ◌≤◌, List, [], ◌++◌, Option, None, Some, refl, sym, ap, ◌∙◌, append-nil, arith, Result, Ok, Err, OnOk, is_none, ◌&&◌, if◌then◌else◌}
 use Rattle.std.specs.Io.KnownBytes.{Appends, Keeps}
 use Rattle.block_buffers.specs.Disks.{Disk}
 use Rattle.plain_rows.specs.declared.parts.Request.{Request}
 use Rattle.inner_interpreter.specs.State.{State}
-use Rattle.inner_interpreter.specs.Tick.{running}
+use Rattle.plain_rows.specs.Whole.{Whole}
+use Rattle.inner_interpreter.specs.declared.stop.Stop.{Stop}
+use Rattle.inner_interpreter.specs.declared.tracing.Extent.{Extent}
+use Rattle.inner_interpreter.specs.Tick.{running, ticked}
+use Rattle.inner_interpreter.specs.Tracing.{is_met, AreUnmet, AddsLine, Made, MadeCut, line_next, line_of, trace}
 use Rattle.inner_interpreter.specs.Answer.{answer_of, asked_by, fits, InputFault}
 use Rattle.inner_interpreter.specs.Moves.{shown_bytes}
 use Rattle.inner_interpreter.specs.Served.{Answered, served_move, Faults}
 use Rattle.inner_interpreter.specs.Sent.{AppendsPart, IsFront}
-use Rattle.inner_interpreter.specs.Runs.{World, round, round_by, rounds, answer_round, served}
-use Rattle.inner_interpreter.specs.Worlds.{IsAt, IsCut, IsFaulted, Made, MadeCut, stretch}
+use Rattle.inner_interpreter.specs.Runs.{World, round, round_by, rounds, stops, answer_round, served}
+use Rattle.inner_interpreter.specs.Worlds.{IsAt, IsCut, IsFaulted, stretch}
 use Rattle.inner_interpreter.proofs.Sending.{front_of}
-use Rattle.inner_interpreter.proofs.Stretches.{one_round, runs_on, stretched, behind}
+use Rattle.inner_interpreter.proofs.Stretches.{one_round, runs_on, stretched, behind, adds_line, adds_one}
 
 pub asked_none : (wait : Option (Request × ℕ)) → asked_by wait ≡ None → wait ≡ None
 asked_none None e = refl
@@ -36,33 +40,35 @@ sent_kept None new xs e h = absurd (cc)
 sent_kept (Some os) None xs e h = absurd h
 sent_kept (Some os) (Some ns) xs e h = ap (λ v. Some v) h ∙ e
 
-pub stretch_at : (w : World) (s s' : State) (unread : Option (List ℕ)) (disk : Option Disk) (sent sent' : Option (List ℕ)) (left left' : ℕ)
-    → s.halt ≡ None → s.wait ≡ None → s' ≡ (stretch left s).1 → left' ≡ left - (stretch left s).0
-    → Appends sent sent' (shown_bytes (stretch left s).1.parts.memory (stretch left s).2.shown)
-    → IsAt w s unread disk sent left → Made w s' unread disk sent' left'
-stretch_at w s s' unread disk sent sent' left left' halt wait state fewer more at =
+pub stretch_at : (e : Extent) (w : World) (s s' : State) (unread : Option (List ℕ)) (disk : Option Disk) (sent sent' : Option (List ℕ)) (left left' m : ℕ)
+    → s.halt ≡ None → s.wait ≡ None → s' ≡ (stretch m s).1 → (stretch m s).0 ≡ m → 0 < m → m ≤ left → left' ≡ left - m → AreUnmet e (m - 1) (ticked s.parts).0.parts
+    → Appends sent sent' (shown_bytes (stretch m s).1.parts.memory (stretch m s).2.shown)
+    → IsAt w s unread disk sent left → Made e w s' unread disk sent' left'
+stretch_at e w s s' unread disk sent sent' left left' m halt wait state all some most fewer unmet more at =
     let same : w.state ≡ running s.parts = sym at.state_is ∙ runs_running s halt wait in
-    let most : left ≤ w.left = omega (arith, at.left_is) in
-    let made = stretched left 0 w s.parts same most in
-    let r = stretch left s in
+    let fits : m ≤ w.left = omega (arith, at.left_is, most) in
+    let made = stretched m 0 w s.parts same fits in
+    let r = stretch m s in
+    let count : made.0 ≡ m = omega (arith, made.1, all) in
     let there : IsAt (behind w made.0 r.1 r.2) s' unread disk sent' left' = record {
       state_is = state;
       unread_is = at.unread_is;
       disk_is = at.disk_is;
       sent_is = sent_more sent sent' w.shown _ at.sent_is more;
-      left_is = omega (arith, at.left_is, fewer, made.1);
+      left_is = omega (arith, at.left_is, fewer, count);
     } in
-    (made.0, rw (made.2) there)
+    (made.0, rw count (adds_line e m w s.parts same fits some all unmet), rw (made.2) there)
 
-pub stretch_cut : (w : World) (s s' : State) (unread : Option (List ℕ)) (disk : Option Disk) (sent sent' : Option (List ℕ)) (left : ℕ)
-    → s.halt ≡ None → s.wait ≡ None → s' ≡ (stretch left s).1
-    → AppendsPart sent sent' (shown_bytes (stretch left s).1.parts.memory (stretch left s).2.shown)
-    → IsAt w s unread disk sent left → MadeCut w s' unread disk sent'
-stretch_cut w s s' unread disk sent sent' left halt wait state more at =
+pub stretch_cut : (e : Extent) (w : World) (s s' : State) (unread : Option (List ℕ)) (disk : Option Disk) (sent sent' : Option (List ℕ)) (left m : ℕ)
+    → s.halt ≡ None → s.wait ≡ None → s' ≡ (stretch m s).1 → (stretch m s).0 ≡ m → 0 < m → m ≤ left → AreUnmet e (m - 1) (ticked s.parts).0.parts
+    → AppendsPart sent sent' (shown_bytes (stretch m s).1.parts.memory (stretch m s).2.shown)
+    → IsAt w s unread disk sent left → MadeCut e w s' unread disk sent'
+stretch_cut e w s s' unread disk sent sent' left m halt wait state all some most unmet more at =
     let same : w.state ≡ running s.parts = sym at.state_is ∙ runs_running s halt wait in
-    let most : left ≤ w.left = omega (arith, at.left_is) in
-    let made = stretched left 0 w s.parts same most in
-    let r = stretch left s in
+    let fits : m ≤ w.left = omega (arith, at.left_is, most) in
+    let made = stretched m 0 w s.parts same fits in
+    let r = stretch m s in
+    let count : made.0 ≡ m = omega (arith, made.1, all) in
     let f : IsFront sent' (w.shown ++ shown_bytes r.1.parts.memory r.2.shown) = front_of sent sent' w.shown _ at.sent_is more in
     let there : IsCut (behind w made.0 r.1 r.2) s' unread disk sent' = record {
       state_is = state;
@@ -73,7 +79,7 @@ stretch_cut w s s' unread disk sent sent' left halt wait state more at =
       shown_is = f.2;
       sent_is = f.3;
     } in
-    (made.0, rw (made.2) there)
+    (made.0, rw count (adds_line e m w s.parts same fits some all unmet), rw (made.2) there)
 
 -- what an answer told of each known start
 abbrev pub Tells : State → Request → Option (List ℕ) → Option Disk → State → Option (List ℕ) → Option Disk → (List ℕ → Type 0) → Type 0
@@ -85,11 +91,11 @@ goes_at : (w : World) (s : State) (unread : Option (List ℕ)) (disk : Option Di
 goes_at w s unread disk sent left halt some at =
     one_round w (ap (λ (v : State). v.halt) (sym at.state_is) ∙ halt) (omega (arith, at.left_is))
 
-pub answer_at : (w : World) (s s' : State) (r : Request) (unread unread' : Option (List ℕ)) (disk disk' : Option Disk) (sent sent' : Option (List ℕ)) (left : ℕ)
-    → s.halt ≡ None → 0 < left → asked_by s.wait ≡ Some r → Tells s r unread disk s' unread' disk' (Appends sent sent') → IsAt w s unread disk sent left → Made w s' unread' disk' sent' left
-answer_at w s s' r unread unread' disk disk' sent sent' left halt some asks told at =
+pub answer_at : (e : Extent) (w : World) (s s' : State) (r : Request) (unread unread' : Option (List ℕ)) (disk disk' : Option Disk) (sent sent' : Option (List ℕ)) (left : ℕ)
+    → s.halt ≡ None → 0 < left → asked_by s.wait ≡ Some r → Tells s r unread disk s' unread' disk' (Appends sent sent') → IsAt w s unread disk sent left → Made e w s' unread' disk' sent' left
+answer_at e w s s' r unread unread' disk disk' sent sent' left halt some asks told at =
     let same : s ≡ w.state = at.state_is in
-    let e : asked_by w.state.wait ≡ Some r = ap (λ (v : State). asked_by v.wait) (sym same) ∙ asks in
+    let q : asked_by w.state.wait ≡ Some r = ap (λ (v : State). asked_by v.wait) (sym same) ∙ asks in
     let t = told w.typed at.unread_is w.disk at.disk_is in
     let made : IsAt (answer_round w r) s' unread' disk' sent' left = record {
       state_is = t.0.state_is ∙ ap (λ v. (served_move v r w.typed w.disk).state) same;
@@ -98,13 +104,13 @@ answer_at w s s' r unread unread' disk disk' sent sent' left halt some asks told
       sent_is = sent_more sent sent' w.shown _ at.sent_is t.1 ∙ ap (λ v. Some (w.shown ++ (served_move v r w.typed w.disk).bytes)) same;
       left_is = at.left_is;
     } in
-    (1, rw (goes_at w s unread disk sent left halt some at ∙ round_answer w r e) made)
+    (1, adds_one e w, rw (goes_at w s unread disk sent left halt some at ∙ round_answer w r q) made)
 
-pub answer_cut : (w : World) (s s' : State) (r : Request) (unread unread' : Option (List ℕ)) (disk disk' : Option Disk) (sent sent' : Option (List ℕ)) (left : ℕ)
-    → s.halt ≡ None → 0 < left → asked_by s.wait ≡ Some r → Tells s r unread disk s' unread' disk' (AppendsPart sent sent') → IsAt w s unread disk sent left → MadeCut w s' unread' disk' sent'
-answer_cut w s s' r unread unread' disk disk' sent sent' left halt some asks told at =
+pub answer_cut : (e : Extent) (w : World) (s s' : State) (r : Request) (unread unread' : Option (List ℕ)) (disk disk' : Option Disk) (sent sent' : Option (List ℕ)) (left : ℕ)
+    → s.halt ≡ None → 0 < left → asked_by s.wait ≡ Some r → Tells s r unread disk s' unread' disk' (AppendsPart sent sent') → IsAt w s unread disk sent left → MadeCut e w s' unread' disk' sent'
+answer_cut e w s s' r unread unread' disk disk' sent sent' left halt some asks told at =
     let same : s ≡ w.state = at.state_is in
-    let e : asked_by w.state.wait ≡ Some r = ap (λ (v : State). asked_by v.wait) (sym same) ∙ asks in
+    let q : asked_by w.state.wait ≡ Some r = ap (λ (v : State). asked_by v.wait) (sym same) ∙ asks in
     let t = told w.typed at.unread_is w.disk at.disk_is in
     let f : IsFront sent' (w.shown ++ (served_move s r w.typed w.disk).bytes) = front_of sent sent' w.shown _ at.sent_is t.1 in
     let made : IsCut (answer_round w r) s' unread' disk' sent' = record {
@@ -116,7 +122,7 @@ answer_cut w s s' r unread unread' disk disk' sent sent' left halt some asks tol
       shown_is = ap (λ v. w.shown ++ (served_move v r w.typed w.disk).bytes) (sym same) ∙ f.2;
       sent_is = f.3;
     } in
-    (1, rw (goes_at w s unread disk sent left halt some at ∙ round_answer w r e) made)
+    (1, adds_one e w, rw (goes_at w s unread disk sent left halt some at ∙ round_answer w r q) made)
 
 pub kept_cut : (w : World) (s : State) (unread : Option (List ℕ)) (disk : Option Disk) (sent sent' : Option (List ℕ)) (left : ℕ)
     → Keeps sent sent' → IsAt w s unread disk sent left → IsCut w s unread disk sent'
@@ -130,11 +136,21 @@ kept_cut w s unread disk sent sent' left k at = record {
   sent_is = sent_kept sent sent' w.shown at.sent_is k;
 }
 
+-- nothing is traced where a request stands
+line_asked : (e : Extent) (line : Whole → List ℕ) (w : World) (r : Request) → asked_by w.state.wait ≡ Some r → line_of e line w ≡ []
+unfolding line_of
+line_asked e line w r q = by_stop (stops w) where
+  by_stop : (o : Option Stop) → (if is_none o then line_next e line w.state else []) ≡ []
+  by_stop None = rw q refl
+  by_stop (Some t) = refl
+
 -- no round was made, and the writer failed in passing on
-pub flush_cut : (w : World) (s : State) (unread : Option (List ℕ)) (disk : Option Disk) (sent sent' : Option (List ℕ)) (left : ℕ)
-    → Keeps sent sent' → IsAt w s unread disk sent left → MadeCut w s unread disk sent'
-unfolding rounds
-flush_cut w s unread disk sent sent' left k at = (0, kept_cut w s unread disk sent sent' left k at)
+pub flush_cut : (e : Extent) (w : World) (s : State) (unread : Option (List ℕ)) (disk : Option Disk) (sent sent' : Option (List ℕ)) (left : ℕ)
+    → (r : Request) → asked_by s.wait ≡ Some r → Keeps sent sent' → IsAt w s unread disk sent left → MadeCut e w s unread disk sent'
+unfolding rounds trace
+flush_cut e w s unread disk sent sent' left r asks k at =
+    let q : asked_by w.state.wait ≡ Some r = ap (λ (v : State). asked_by v.wait) (sym at.state_is) ∙ asks in
+    (0, (λ line. sym (line_asked e line w r q)), kept_cut w s unread disk sent sent' left k at)
 
 pub kept_at : (w : World) (s : State) (unread : Option (List ℕ)) (disk : Option Disk) (sent sent' : Option (List ℕ)) (left : ℕ)
     → Keeps sent sent' → IsAt w s unread disk sent left → IsAt w s unread disk sent' left

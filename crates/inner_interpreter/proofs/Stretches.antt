@@ -1,12 +1,15 @@
 -- A stretch of ticks is as many rounds.
-use Rattle.std.proofs.Common.{◌≡◌, ℕ, zero, suc, ◌+◌, ◌-◌, ◌<◌, ◌≤◌, ◌++◌, List, Bool, true, false, None, refl, sym, ap, ◌∙◌, append-nil, arith}
+use Rattle.std.proofs.Common.{◌≡◌, ℕ, zero, suc, ◌+◌, ◌-◌, ◌<◌, ◌≤◌, ◌++◌, List, Bool, true, false, None, refl, sym, ap, ◌∙◌, append-nil, append_assoc, arith, Option, Some, [], if◌then◌else◌, is_none, ◌&&◌}
 use Rattle.plain_rows.specs.Whole.{Whole}
 use Rattle.inner_interpreter.specs.declared.act.Act.{Act}
 use Rattle.inner_interpreter.specs.State.{State}
 use Rattle.inner_interpreter.specs.Tick.{ran, ticked, is_quiet, running, quiet}
 use Rattle.inner_interpreter.specs.Answer.{asked_by}
 use Rattle.inner_interpreter.specs.Moves.{shown_bytes}
+use Rattle.inner_interpreter.specs.declared.stop.Stop.{Stop}
+use Rattle.inner_interpreter.specs.declared.tracing.Extent.{Extent}
 use Rattle.inner_interpreter.specs.Runs.{World, round, round_by, rounds, stops, stop_by, next_by, tick_round}
+use Rattle.inner_interpreter.specs.Tracing.{is_met, AreUnmet, AddsLine, line_next, line_of, trace}
 use Rattle.inner_interpreter.proofs.Quiet.{ticked_runs, quiet_shows}
 use Rattle.inner_interpreter.proofs.Ran.{ran_quiet, ran_loud}
 
@@ -90,3 +93,68 @@ pub stretched : (n k : ℕ) (w : World) (s : Whole) → w.state ≡ running s �
 unfolding ran rounds
 stretched zero k w s e h = (0, omega arith, no_tick w s e)
 stretched (suc n) k w s e h = by_tick n k w s e h (stretched n (k + 1) (behind w 1 (ticked s).0 (ticked s).1) (ticked s).0.parts) (is_quiet (ticked s).1) refl
+
+pub trace_add : (e : Extent) (line : Whole → List ℕ) (n m : ℕ) (w : World) → trace e line (n + m) w ≡ trace e line m w ++ trace e line n (rounds m w)
+unfolding trace
+trace_add e line zero m w = let none : 0 + m ≡ m = omega arith in ap (λ k. trace e line k w) none ∙ sym (append-nil (trace e line m w))
+trace_add e line (suc n) m w =
+    let more : suc n + m ≡ suc (n + m) = omega arith in
+    ap (λ k. trace e line k w) more
+    ∙ ap (λ ls. ls ++ line_of e line (rounds (n + m) w)) (trace_add e line n m w)
+    ∙ ap (λ v. (trace e line m w ++ trace e line n (rounds m w)) ++ line_of e line v) (rounds_add n m w)
+    ∙ append_assoc (trace e line m w) (trace e line n (rounds m w)) (line_of e line (rounds n (rounds m w)))
+
+trace_one : (e : Extent) (line : Whole → List ℕ) (w : World) → trace e line 1 w ≡ line_of e line w
+unfolding trace rounds
+trace_one e line w = refl
+
+pub adds_one : (e : Extent) (w : World) → AddsLine e 1 w
+adds_one e w = λ line. trace_one e line w
+
+-- nothing is traced where no token of the extent comes next
+line_unmet : (e : Extent) (line : Whole → List ℕ) (w : World) (s : Whole) → w.state ≡ running s → is_met e s ≡ false → line_of e line w ≡ []
+unfolding line_of
+line_unmet e line w s same unmet =
+    ap (λ (t : State). if is_none (stops w) then line_next e line t else []) same ∙ by_stop (stops w) where
+      by_stop : (o : Option Stop) → (if is_none o then line_next e line (running s) else []) ≡ []
+      by_stop None = rw unmet refl
+      by_stop (Some t) = refl
+
+by_quiet : (e : Extent) (line : Whole → List ℕ) (j k : ℕ) (w : World) (s : Whole) → w.state ≡ running s → suc j ≤ w.left → (ran k (suc j) s).0 ≡ k + suc j → AreUnmet e j (ticked s).0.parts
+    → ((ticked s).0 ≡ running (ticked s).0.parts → (ran (k + 1) j (ticked s).0.parts).0 ≡ k + 1 + j → trace e line j (behind w 1 (ticked s).0 (ticked s).1) ≡ [])
+    → (b : Bool) → is_quiet (ticked s).1 ≡ b → trace e line j (rounds 1 w) ≡ []
+unfolding trace
+by_quiet e line j k w s same left all unmet rest true q =
+    let less : suc j - 1 ≡ j = omega arith in
+    let on : ran k (suc j) s ≡ ran (k + 1) j (ticked s).0.parts = ran_quiet k (suc j) s (omega arith) q ∙ ap (λ i. ran (k + 1) i (ticked s).0.parts) less in
+    let count : (ran (k + 1) j (ticked s).0.parts).0 ≡ k + 1 + j = ap (λ (r : ℕ × State × Act). r.0) (sym on) ∙ all ∙ omega arith in
+    ap (λ v. trace e line j v) (first_tick w s same (omega arith)) ∙ rest (ticked_runs s q) count
+by_quiet e line j k w s same left all unmet rest false q =
+    let last : k + 1 ≡ k + suc j = ap (λ (r : ℕ × State × Act). r.0) (sym (ran_loud k (suc j) s (omega arith) q)) ∙ all in
+    let none : j ≡ 0 = omega (arith, last) in
+    ap (λ i. trace e line i (rounds 1 w)) none
+
+untraced : (e : Extent) (line : Whole → List ℕ) (j k : ℕ) (w : World) (s : Whole) → w.state ≡ running s → j ≤ w.left → (ran k j s).0 ≡ k + j → AreUnmet e j s → trace e line j w ≡ []
+unfolding trace AreUnmet
+untraced e line zero k w s same left all unmet = refl
+untraced e line (suc j) k w s same left all unmet =
+    let one : suc j ≡ j + 1 = omega arith in
+    let first : trace e line 1 w ≡ [] = trace_one e line w ∙ line_unmet e line w s same unmet.0 in
+    let rest : trace e line j (rounds 1 w) ≡ [] =
+    by_quiet e line j k w s same left all unmet.1
+    (λ runs count. untraced e line j (k + 1) (behind w 1 (ticked s).0 (ticked s).1) (ticked s).0.parts runs (omega (arith, left)) count unmet.1)
+    (is_quiet (ticked s).1) refl in
+    ap (λ i. trace e line i w) one ∙ trace_add e line j 1 w ∙ ap (λ ls. ls ++ trace e line j (rounds 1 w)) first ∙ rest
+
+-- a stretch of ticks of which only the first may be met
+pub adds_line : (e : Extent) (m : ℕ) (w : World) (s : Whole) → w.state ≡ running s → m ≤ w.left → 0 < m → (ran 0 m s).0 ≡ m → AreUnmet e (m - 1) (ticked s).0.parts → AddsLine e m w
+adds_line e m w s same left some all unmet = λ line.
+    let one : m ≡ (m - 1) + 1 = omega (arith, some) in
+    let more : m ≡ suc (m - 1) = omega (arith, some) in
+    let count : (ran 0 (suc (m - 1)) s).0 ≡ 0 + suc (m - 1) = ap (λ i. (ran 0 i s).0) (sym more) ∙ all ∙ more ∙ omega arith in
+    let fits : suc (m - 1) ≤ w.left = omega (arith, left, some) in
+    let later : trace e line (m - 1) (rounds 1 w) ≡ [] =
+    by_quiet e line (m - 1) 0 w s same fits count unmet
+    (λ runs rest. untraced e line (m - 1) 1 (behind w 1 (ticked s).0 (ticked s).1) (ticked s).0.parts runs (omega (arith, fits)) (rest ∙ omega arith) unmet)
+    (is_quiet (ticked s).1) refl in
+    ap (λ i. trace e line i w) one ∙ trace_add e line (m - 1) 1 w ∙ ap (λ ls. trace e line 1 w ++ ls) later ∙ append-nil (trace e line 1 w) ∙ trace_one e line w

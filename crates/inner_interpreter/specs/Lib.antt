@@ -11,3 +11,5 @@ pub mod Sent
 pub mod Runs
 pub mod Served
 pub mod Worlds
+pub mod Tracing
+pub mod Onward

@@ -73,11 +73,3 @@ pub record EndsCut (w : World) (state : State) (unread : Option (List ℕ)) (dis
 pub record EndsFaulted (w : World) (state : State) (disk : Option Disk) (sent : Option (List ℕ)) : Type 0 where
   pub count : ℕ
   pub faulted : IsFaulted (rounds count w) state disk sent
-
--- some rounds lead here
-abbrev pub Made : World → State → Option (List ℕ) → Option Disk → Option (List ℕ) → ℕ → Type 0
-Made w s unread disk sent left = (n : ℕ) × IsAt (rounds n w) s unread disk sent left
-
--- some rounds lead here, of what they show a front was sent
-abbrev pub MadeCut : World → State → Option (List ℕ) → Option Disk → Option (List ℕ) → Type 0
-MadeCut w s unread disk sent = (n : ℕ) × IsCut (rounds n w) s unread disk sent

@@ -9,13 +9,15 @@ ghost use Rattle.inner_interpreter.specs.Moves.{HasMoved, shown_bytes};
 ghost use Rattle.inner_interpreter.specs.Runs.{World};
 ghost use Rattle.inner_interpreter.specs.Sent.{AppendsPart};
 ghost use Rattle.inner_interpreter.specs.Served.{Answered, served_move, Faults, HasAnswered, HasNotFailed};
-ghost use Rattle.inner_interpreter.specs.Tick.{Runs};
-ghost use Rattle.inner_interpreter.specs.Worlds.{IsAt, IsCut, IsFaulted, rounds_left, stretch, Made, MadeCut};
+ghost use Rattle.inner_interpreter.specs.Tick.{Runs, ticked};
+ghost use Rattle.inner_interpreter.specs.Tracing.{AreUnmet, Made, MadeCut};
+ghost use Rattle.inner_interpreter.specs.Worlds.{IsAt, IsCut, IsFaulted, rounds_left, stretch};
 
 use crate::ends::{EndFault, Input, Output};
 use crate::machine::Machine;
 use crate::replies::settle;
 use crate::sends::show;
+use crate::tracing::Extent;
 use block_buffers::Device;
 use plain_rows::parts::Request;
 
@@ -26,25 +28,26 @@ pub enum Failed {
     Writer,
 }
 
-/// Ticks up to the first that isn't quiet, and what it shows.
+/// Ticks up to the first that isn't quiet or behind which a token of the extent comes next, and what it shows.
 #[tactic(auto, using(crate::proofs::Faultless::stretch_read))]
 fn make_stretch<W: Output>(
     machine: &mut Machine,
     writer: &mut W,
+    extent: Extent,
     left: &mut u64,
 ) -> Result<(), EndFault>
     requires runs { Runs machine.old }
     requires some { 0 < left.old }
-    ensures state { machine.new ≡ (stretch left.old machine.old).1 }
-    ensures left { left.new ≡ left.old - (stretch left.old machine.old).0 }
+    ensures state { machine.new ≡ (stretch (left.old - left.new) machine.old).1 }
+    ensures all { (stretch (left.old - left.new) machine.old).0 ≡ left.old - left.new }
     ensures fewer { left.new < left.old }
-    ensures most { (stretch left.old machine.old).0 ≤ left.old }
+    ensures unmet { AreUnmet extent (left.old - left.new - 1) (ticked machine.old.parts).0.parts }
     ensures read { HasNotFailed machine.new }
-    ensures ok { OnOk result (Appends (W.sent writer.old) (W.sent writer.new) (shown_bytes (stretch left.old machine.old).1.parts.memory (stretch left.old machine.old).2.shown)) }
-    ensures err { OnErr result (AppendsPart (W.sent writer.old) (W.sent writer.new) (shown_bytes (stretch left.old machine.old).1.parts.memory (stretch left.old machine.old).2.shown)) }
+    ensures ok { OnOk result (Appends (W.sent writer.old) (W.sent writer.new) (shown_bytes (stretch (left.old - left.new) machine.old).1.parts.memory (stretch (left.old - left.new) machine.old).2.shown)) }
+    ensures err { OnErr result (AppendsPart (W.sent writer.old) (W.sent writer.new) (shown_bytes (stretch (left.old - left.new) machine.old).1.parts.memory (stretch (left.old - left.new) machine.old).2.shown)) }
     ensures mark { Marks (W.failed writer.old) (W.failed writer.new) result }
 {
-    let (count, act) = machine.ticks(*left).unwrap();
+    let (count, act) = machine.ticks_onward(*left, extent);
     *left -= count;
     show(machine, writer, act.shown)
 }
@@ -92,7 +95,8 @@ fn flush_before<W: Output>(writer: &mut W, request: Request) -> Result<(), EndFa
     }
 }
 
-/// A request is answered, else ticks are made up to the first that isn't quiet; and what that shows is sent.
+/// A request is answered, else ticks are made up to the first that isn't quiet, or behind which a token of the extent comes
+/// next; and what that shows is sent.
 #[tactic(auto, using(crate::proofs::Running::asked_none))]
 pub fn make_rounds<R: Input, W: Output, D: Device>(
     line: &mut Vec<u8>,
@@ -100,6 +104,7 @@ pub fn make_rounds<R: Input, W: Output, D: Device>(
     reader: &mut R,
     writer: &mut W,
     device: &mut D,
+    extent: Extent,
     left: &mut u64,
 ) -> Result<(), Failed>
     requires goes { machine.old.halt ≡ None }
@@ -110,15 +115,15 @@ pub fn make_rounds<R: Input, W: Output, D: Device>(
     ensures moved { HasMoved machine.old machine.new (D.calls device.old) (D.calls device.new) (left.old - left.new) }
     ensures left { left.new ≤ left.old }
     ensures read { OnOk result (HasNotFailed machine.new) }
-    ensures ok { OnOk result ((w : World) → IsAt w machine.old (R.unread reader.old) (D.disk device.old) (W.sent writer.old) left.old → Made w machine.new (R.unread reader.new) (D.disk device.new) (W.sent writer.new) left.new) }
-    ensures cut { IsErrOf result Failed.Writer → (w : World) → IsAt w machine.old (R.unread reader.old) (D.disk device.old) (W.sent writer.old) left.old → MadeCut w machine.new (R.unread reader.new) (D.disk device.new) (W.sent writer.new) }
+    ensures ok { OnOk result ((w : World) → IsAt w machine.old (R.unread reader.old) (D.disk device.old) (W.sent writer.old) left.old → Made extent w machine.new (R.unread reader.new) (D.disk device.new) (W.sent writer.new) left.new) }
+    ensures cut { IsErrOf result Failed.Writer → (w : World) → IsAt w machine.old (R.unread reader.old) (D.disk device.old) (W.sent writer.old) left.old → MadeCut extent w machine.new (R.unread reader.new) (D.disk device.new) (W.sent writer.new) }
     ensures faulted { IsErrOf result Failed.Reader → (w : World) → IsAt w machine.old (R.unread reader.old) (D.disk device.old) (W.sent writer.old) left.old → IsFaulted w machine.new (D.disk device.new) (W.sent writer.new) }
     ensures reader { IsErrOf result Failed.Reader → (R.failed reader.new ≡ true) × (W.failed writer.new ≡ W.failed writer.old) }
     ensures writer { IsErrOf result Failed.Writer → (W.failed writer.new ≡ true) × (R.failed reader.new ≡ R.failed reader.old) }
     ensures good { OnOk result ((R.failed reader.new ≡ R.failed reader.old) × (W.failed writer.new ≡ W.failed writer.old)) }
 {
     match machine.asked() {
-        None => match make_stretch(machine, writer, left) {
+        None => match make_stretch(machine, writer, extent, left) {
             Ok(()) => Ok(()),
             Err(_) => Err(Failed::Writer),
         },

@@ -1,17 +1,21 @@
 //! The run of a machine over a reader, a writer and a device.
 
-ghost use Rattle.std.specs.Prelude.{◌≡◌, ◌≢◌, ◌↔◌, ◌≤◌, ◌⊎◌, Some, false, true, vec_capacity, IfOk, OnErr};
-ghost use Rattle.std.specs.Io.KnownBytes.{Keeps};
+ghost use Rattle.std.specs.Prelude.{◌≡◌, ◌≢◌, ◌↔◌, ◌≤◌, ◌⊎◌, Some, false, true, vec_capacity, IfOk, OnOk, OnErr};
+ghost use Rattle.std.specs.Io.KnownBytes.{Appends, Keeps};
+ghost use Rattle.inner_interpreter.specs.Ends.{Marks};
 ghost use Rattle.inner_interpreter.specs.Moves.{HasRun};
 ghost use Rattle.inner_interpreter.specs.Runs.{World, stop_by, stop_of};
+ghost use Rattle.inner_interpreter.specs.Sent.{AppendsPart};
 ghost use Rattle.inner_interpreter.specs.Served.{HasNotFailed};
+ghost use Rattle.inner_interpreter.specs.Tracing.{line_next, Finishes, EndsTraced, EndsCutTraced, EndsFaultedTraced, EndsUntraced};
 ghost use Rattle.inner_interpreter.specs.Worlds.{IsAt, Ends, EndsCut, EndsFaulted};
 
 use crate::act::Cause;
-use crate::ends::{Input, Output};
+use crate::ends::{EndFault, Input, Output};
 use crate::machine::Machine;
 use crate::rounds::{Failed, make_rounds};
 use crate::stop::Stop;
+use crate::tracing::{Nowhere, Tracer, Untraced};
 use block_buffers::Device;
 use memory::OutOfMemory;
 use std::alloc::Global;
@@ -31,49 +35,135 @@ fn stop_by_cause(cause: Cause) -> Stop
 }
 
 /// Flushes at the end.
-fn finish<W: Output>(writer: &mut W, stop: Stop) -> Stop
+fn finish<W: Output, T: Output>(writer: &mut W, trace: &mut T, stop: Stop) -> Stop
     ensures bytes { Keeps (W.sent writer.old) (W.sent writer.new) }
-    ensures done { ((result ≡ stop) × (W.failed writer.new ≡ W.failed writer.old)) ⊎ ((result ≡ Stop.OutputFault) × (W.failed writer.new ≡ true)) }
+    ensures lines { Keeps (T.sent trace.old) (T.sent trace.new) }
+    ensures done { Finishes result stop (W.failed writer.old) (W.failed writer.new) (T.failed trace.old) (T.failed trace.new) }
 {
-    match writer.flush() {
+    if writer.flush().is_err() {
+        return Stop::OutputFault;
+    }
+    match trace.flush() {
         Ok(()) => stop,
-        Err(_) => Stop::OutputFault,
+        Err(_) => Stop::TraceFault,
     }
 }
 
-/// `run`, with its line buffer.
-fn run_with<R: Input, W: Output, D: Device>(
+/// Sends the line of the tick that comes next, where its token is one of those that are traced.
+fn send_line<N: Tracer, T: Output>(
+    machine: &Machine,
+    tracer: &N,
+    trace: &mut T,
+) -> Result<(), EndFault>
+    ensures ok { OnOk result (Appends (T.sent trace.old) (T.sent trace.new) (line_next (N.extent tracer.now) (N.line tracer.now) machine.now)) }
+    ensures err { OnErr result (AppendsPart (T.sent trace.old) (T.sent trace.new) (line_next (N.extent tracer.now) (N.line tracer.now) machine.now)) }
+    ensures mark { Marks (T.failed trace.old) (T.failed trace.new) result }
+{
+    if machine.asked().is_none() && machine.is_met(tracer.extent()) {
+        return tracer.trace(machine, trace);
+    }
+    Ok(())
+}
+
+/// `run_traced`, with its line buffer.
+fn run_with<R: Input, W: Output, D: Device, N: Tracer, T: Output>(
     line: &mut Vec<u8>,
     machine: &mut Machine,
     reader: &mut R,
     writer: &mut W,
     device: &mut D,
+    tracer: &N,
+    trace: &mut T,
     limit: u64,
 ) -> Stop
     requires room { 65535 ≤ vec_capacity line.old }
-    ensures whole { R.failed reader.new ≡ false → W.failed writer.new ≡ false → (w : World) → IsAt w machine.old (R.unread reader.old) (D.disk device.old) (W.sent writer.old) limit → Ends w machine.new (R.unread reader.new) (D.disk device.new) (W.sent writer.new) result }
-    ensures ended { R.failed reader.new ≡ false → W.failed writer.new ≡ false → stop_by machine.new.halt 0 ≡ Some result }
+    ensures whole { R.failed reader.new ≡ false → W.failed writer.new ≡ false → T.failed trace.new ≡ false → (w : World) → IsAt w machine.old (R.unread reader.old) (D.disk device.old) (W.sent writer.old) limit → EndsTraced (N.extent tracer.now) (N.line tracer.now) w machine.new (R.unread reader.new) (D.disk device.new) (W.sent writer.new) (T.sent trace.old) (T.sent trace.new) result }
+    ensures ended { R.failed reader.new ≡ false → W.failed writer.new ≡ false → T.failed trace.new ≡ false → stop_by machine.new.halt 0 ≡ Some result }
     ensures output { W.failed writer.old ≡ false → (result ≡ Stop.OutputFault) ↔ (W.failed writer.new ≡ true) }
-    ensures cut { W.failed writer.old ≡ false → W.failed writer.new ≡ true → (w : World) → IsAt w machine.old (R.unread reader.old) (D.disk device.old) (W.sent writer.old) limit → EndsCut w machine.new (R.unread reader.new) (D.disk device.new) (W.sent writer.new) }
+    ensures cut { W.failed writer.old ≡ false → W.failed writer.new ≡ true → (w : World) → IsAt w machine.old (R.unread reader.old) (D.disk device.old) (W.sent writer.old) limit → EndsCutTraced (N.extent tracer.now) (N.line tracer.now) w machine.new (R.unread reader.new) (D.disk device.new) (W.sent writer.new) (T.sent trace.old) (T.sent trace.new) }
     ensures input { R.failed reader.old ≡ false → R.failed reader.new ≡ true → result ≡ Stop.InputFault }
-    ensures faulted { R.failed reader.old ≡ false → R.failed reader.new ≡ true → (w : World) → IsAt w machine.old (R.unread reader.old) (D.disk device.old) (W.sent writer.old) limit → EndsFaulted w machine.new (D.disk device.new) (W.sent writer.new) }
+    ensures faulted { R.failed reader.old ≡ false → R.failed reader.new ≡ true → (w : World) → IsAt w machine.old (R.unread reader.old) (D.disk device.old) (W.sent writer.old) limit → EndsFaultedTraced (N.extent tracer.now) (N.line tracer.now) w machine.new (D.disk device.new) (W.sent writer.new) (T.sent trace.old) (T.sent trace.new) }
     ensures one { R.failed reader.old ≡ false → R.failed reader.new ≡ true → W.failed writer.new ≡ W.failed writer.old }
     ensures told { HasNotFailed machine.old → R.failed reader.new ≡ false → result ≢ Stop.InputFault }
+    ensures trace { T.failed trace.old ≡ false → (result ≡ Stop.TraceFault) ↔ (T.failed trace.new ≡ true) }
+    ensures untraced { T.failed trace.old ≡ false → T.failed trace.new ≡ true → (w : World) → IsAt w machine.old (R.unread reader.old) (D.disk device.old) (W.sent writer.old) limit → EndsUntraced (N.extent tracer.now) (N.line tracer.now) w machine.new (R.unread reader.new) (D.disk device.new) (W.sent writer.new) (T.sent trace.old) (T.sent trace.new) }
     ensures moved { HasRun machine.old machine.new (D.calls device.old) (D.calls device.new) limit result }
 {
     let mut left = limit;
     loop {
         if let Some(cause) = machine.halted() {
-            return finish(writer, stop_by_cause(cause));
+            return finish(writer, trace, stop_by_cause(cause));
         }
         if left == 0 {
-            return finish(writer, Stop::Limit);
+            return finish(writer, trace, Stop::Limit);
         }
-        match make_rounds(line, machine, reader, writer, device, &mut left) {
+        match send_line(machine, tracer, trace) {
+            Ok(()) => {}
+            Err(_) => return Stop::TraceFault,
+        }
+        let extent = tracer.extent();
+        match make_rounds(line, machine, reader, writer, device, extent, &mut left) {
             Ok(()) => {}
             Err(Failed::Reader) => return Stop::InputFault,
             Err(Failed::Writer) => return Stop::OutputFault,
         }
+    }
+}
+
+/// Runs the machine as `run` does. Before each tick whose token is taken through `ip` in the tracer's extent, its line is
+/// sent to `trace`, which is flushed at the end. A line that can't be sent stops the run before its tick.
+pub fn run_traced<R: Input, W: Output, D: Device, N: Tracer, T: Output>(
+    alloc: Global,
+    machine: &mut Machine,
+    reader: &mut R,
+    writer: &mut W,
+    device: &mut D,
+    tracer: &N,
+    trace: &mut T,
+    limit: u64,
+) -> Result<Stop, OutOfMemory>
+    // Where no end fails, and all but the trace tell their bytes, the run ends as the written rounds do, and the trace is
+    // that of these rounds.
+    ensures whole { IfOk result (λ stop. R.failed reader.new ≡ false → W.failed writer.new ≡ false → T.failed trace.new ≡ false → (w : World) → IsAt w machine.old (R.unread reader.old) (D.disk device.old) (W.sent writer.old) limit → EndsTraced (N.extent tracer.now) (N.line tracer.now) w machine.new (R.unread reader.new) (D.disk device.new) (W.sent writer.new) (T.sent trace.old) (T.sent trace.new) stop) }
+
+    // Where no end fails, it stops for what the machine halted, and else for want of ticks.
+    ensures ended { IfOk result (λ stop. R.failed reader.new ≡ false → W.failed writer.new ≡ false → T.failed trace.new ≡ false → stop_by machine.new.halt 0 ≡ Some stop) }
+
+    // It stops for the writer exactly where the writer fails, and then some first rounds were made and traced.
+    ensures output { IfOk result (λ stop. W.failed writer.old ≡ false → (stop ≡ Stop.OutputFault) ↔ (W.failed writer.new ≡ true)) }
+    ensures cut { IfOk result (λ stop. W.failed writer.old ≡ false → W.failed writer.new ≡ true → (w : World) → IsAt w machine.old (R.unread reader.old) (D.disk device.old) (W.sent writer.old) limit → EndsCutTraced (N.extent tracer.now) (N.line tracer.now) w machine.new (R.unread reader.new) (D.disk device.new) (W.sent writer.new) (T.sent trace.old) (T.sent trace.new)) }
+
+    // Where the reader fails, it stops for the reader: some first rounds were made and traced, and then the machine was told
+    // so. Of a machine that hadn't halted so before, it stops for the reader only there.
+    ensures input { IfOk result (λ stop. R.failed reader.old ≡ false → R.failed reader.new ≡ true → stop ≡ Stop.InputFault) }
+    ensures faulted { IfOk result (λ stop. R.failed reader.old ≡ false → R.failed reader.new ≡ true → (w : World) → IsAt w machine.old (R.unread reader.old) (D.disk device.old) (W.sent writer.old) limit → EndsFaultedTraced (N.extent tracer.now) (N.line tracer.now) w machine.new (D.disk device.new) (W.sent writer.new) (T.sent trace.old) (T.sent trace.new)) }
+    ensures one { IfOk result (λ stop. R.failed reader.old ≡ false → R.failed reader.new ≡ true → W.failed writer.new ≡ W.failed writer.old) }
+    ensures told { IfOk result (λ stop. HasNotFailed machine.old → R.failed reader.new ≡ false → stop ≢ Stop.InputFault) }
+
+    // It stops for the trace exactly where the trace's writer fails: some first rounds were made, and the line of the tick
+    // that comes next was cut.
+    ensures trace { IfOk result (λ stop. T.failed trace.old ≡ false → (stop ≡ Stop.TraceFault) ↔ (T.failed trace.new ≡ true)) }
+    ensures untraced { IfOk result (λ stop. T.failed trace.old ≡ false → T.failed trace.new ≡ true → (w : World) → IsAt w machine.old (R.unread reader.old) (D.disk device.old) (W.sent writer.old) limit → EndsUntraced (N.extent tracer.now) (N.line tracer.now) w machine.new (R.unread reader.new) (D.disk device.new) (W.sent writer.new) (T.sent trace.old) (T.sent trace.new)) }
+
+    // Whatever the ends are: the machine moved by ticks and answers alone, at most `limit` and one more; and it was told
+    // of a device fault just where the very call of its device failed.
+    ensures moved { IfOk result (λ stop. HasRun machine.old machine.new (D.calls device.old) (D.calls device.new) limit stop) }
+
+    // On want of memory nothing was done.
+    ensures machine { OnErr result (machine.new ≡ machine.old) }
+    ensures reader { OnErr result (reader.new ≡ reader.old) }
+    ensures writer { OnErr result (writer.new ≡ writer.old) }
+    ensures device { OnErr result (device.new ≡ device.old) }
+    ensures lines { OnErr result (trace.new ≡ trace.old) }
+{
+    match Vec::with_capacity(alloc, LINE_SIZE) {
+        Ok(line) => {
+            let mut line = line;
+            Ok(run_with(
+                &mut line, machine, reader, writer, device, tracer, trace, limit,
+            ))
+        }
+        Err(_) => Err(OutOfMemory),
     }
 }
 
@@ -110,17 +200,23 @@ pub fn run<R: Input, W: Output, D: Device>(
     // of a device fault just where the very call of its device failed.
     ensures moved { IfOk result (λ stop. HasRun machine.old machine.new (D.calls device.old) (D.calls device.new) limit stop) }
 
+    // It is no traced run.
+    ensures untraced { IfOk result (λ stop. stop ≢ Stop.TraceFault) }
+
     // On want of memory nothing was done.
     ensures machine { OnErr result (machine.new ≡ machine.old) }
     ensures reader { OnErr result (reader.new ≡ reader.old) }
     ensures writer { OnErr result (writer.new ≡ writer.old) }
     ensures device { OnErr result (device.new ≡ device.old) }
 {
-    match Vec::with_capacity(alloc, LINE_SIZE) {
-        Ok(line) => {
-            let mut line = line;
-            Ok(run_with(&mut line, machine, reader, writer, device, limit))
-        }
-        Err(_) => Err(OutOfMemory),
-    }
+    run_traced(
+        alloc,
+        machine,
+        reader,
+        writer,
+        device,
+        &Untraced,
+        &mut Nowhere,
+        limit,
+    )
 }

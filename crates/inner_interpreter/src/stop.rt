@@ -10,4 +10,6 @@ pub enum Stop {
     /// All ticks that were allowed are done.
     Limit,
     OutputFault,
+    /// A line of the trace can't be written; a run that isn't traced never stops so.
+    TraceFault,
 }

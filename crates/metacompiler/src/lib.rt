@@ -21,3 +21,4 @@ mod tests;
 
 pub use building::build;
 pub use cause::{BuildFault, Cause};
+pub use spelled::keyword;

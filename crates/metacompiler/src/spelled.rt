@@ -179,9 +179,9 @@ fn ending(name: &[u8]) -> Option<BodyWord<'_>>
     }
 }
 
-/// A keyword of bodies.
+/// The keyword of bodies that a word is spelled as, with the text behind it where it takes one.
 #[tactic(auto, unfolding(crate::specs::Spelled::keyword))]
-fn keyword<'a>(name: &'a [u8], text: &'a [u8]) -> Option<BodyWord<'a>>
+pub fn keyword<'a>(name: &'a [u8], text: &'a [u8]) -> Option<BodyWord<'a>>
     ensures { option_map token result ≡ keyword name.now text.now }
 {
     if let Some(word) = naming(name) {

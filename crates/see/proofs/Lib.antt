@@ -1,1 +1,10 @@
-mod Viewed
+pub mod Viewed
+pub mod Printed
+pub mod Answered
+pub mod Walking
+pub mod Cutting
+pub mod Shutting
+pub mod Turning
+pub mod Showing
+pub mod Plainness
+pub mod Loneness

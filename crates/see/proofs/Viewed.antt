@@ -1,5 +1,5 @@
 -- What is told by what the code's search answers.
-use Rattle.std.proofs.Common.{◌≡◌, ℕ, ◌<◌, ◌==◌, List, Option, Some, None, Bool, true, false, refl, arith, sym, subst, if◌then◌else◌}
+use Rattle.std.proofs.Common.{◌≡◌, ℕ, ◌<◌, ◌==◌, List, Option, Some, None, Bool, true, false, refl, arith, ap, ◌∙◌, if◌then◌else◌}
 use Rattle.std.specs.Prelude.{Result, Ok, Err}
 use Rattle.dictionary.specs.declared.fault.ChainTooLong.{ChainTooLong}
 use Rattle.dictionary.specs.Header.{view_of}
@@ -19,10 +19,24 @@ some_header : (l : ℕ) (long : Bool) → long ≡ false → (b : Bool) → (l =
 some_header l long e true q h = absurd (grind arith)
 some_header l long e false q h = rw e refl
 
-told_as : (m : List ℕ) (l : ℕ) (long : Bool) (x : Result (Option ℕ) ChainTooLong) → IsSought l long x → viewed m (sought_as l long) ≡ told m x
-told_as m l long (Ok (Some w)) h = rw h.0 (rw (some_header l long h.2 (l == 0) refl (grind arith)) refl)
-told_as m l long (Ok None) h = rw (h.0, h.1) refl
-told_as m l long (Err e) h = rw h.1 refl
+-- what a search came to, by what its code answers
+abbrev pub answered : Result (Option ℕ) ChainTooLong → Sought
+answered (Ok (Some l)) = Found l
+answered (Ok None) = Nowhere
+answered (Err _) = TooLong
+
+answered_as : (l : ℕ) (long : Bool) (x : Result (Option ℕ) ChainTooLong) → IsSought l long x → sought_as l long ≡ answered x
+answered_as l long (Ok (Some w)) h = rw h.0 (some_header l long h.2 (l == 0) refl (grind arith))
+answered_as l long (Ok None) h = rw (h.0, h.1) refl
+answered_as l long (Err e) h = rw h.1 refl
+
+pub answered_is : (m name : List ℕ) (x y : Result (Option ℕ) ChainTooLong) → IsSought (found m name) (is_too_long m name) x → x ≡ y → sought m name ≡ answered y
+answered_is m name x y h e = sought_is m name ∙ answered_as (found m name) (is_too_long m name) x h ∙ ap answered e
+
+told_so : (m : List ℕ) (x : Result (Option ℕ) ChainTooLong) → viewed m (answered x) ≡ told m x
+told_so m (Ok (Some l)) = refl
+told_so m (Ok None) = refl
+told_so m (Err e) = refl
 
 pub viewed_by : (m name : List ℕ) (x : Result (Option ℕ) ChainTooLong) → IsSought (found m name) (is_too_long m name) x → viewed m (sought m name) ≡ told m x
-viewed_by m name x h = subst (λ (s : Sought). viewed m s ≡ told m x) (sym (sought_is m name)) (told_as m (found m name) (is_too_long m name) x h)
+viewed_by m name x h = ap (viewed m) (answered_is m name x x h refl) ∙ told_so m x

@@ -1,1 +1,10 @@
 pub mod View
+pub mod PlainWords
+pub mod Seen
+pub mod Places
+pub mod Apart
+pub mod Shown
+pub mod Extent
+pub mod Naming
+pub mod Printing
+pub mod Seeing

@@ -1,8 +1,8 @@
 use Rattle.std.proofs.Common.{rules, arith, ◌≡◌, None, Some, ap, Err, ◌∙◌}
 use Rattle.inner_interpreter.specs.declared.stop.Stop.TheVariants as stop
-use Rattle.inner_interpreter.specs.Worlds.{Ends}
+use Rattle.inner_interpreter.specs.Tracing.{EndsTraced}
 use Rattle.inner_interpreter.proofs.Moving.{moved_none, moved_still, moved_on, has_run}
-use Rattle.inner_interpreter.proofs.Ended.{none_made, more_made, made_cause, made_limit, made_cut, rounds_cut, rounds_faulted, done_so, not_limit, not_input_fault}
+use Rattle.inner_interpreter.proofs.Ended.{none_made, more_made, made_cause, made_limit, made_cut, made_untraced, line_untraced, rounds_cut, rounds_faulted, done_so, not_limit, not_input_fault}
 use Rattle.inner_interpreter.proofs.runs.run_with.Goals as goal
 
 pub loop-cause-init : goal.loop-cause-init
@@ -10,52 +10,64 @@ loop-cause-init g c = record {
   room = search rules;
   reader = search rules;
   writer = search rules;
+  trace = search rules;
   few = omega arith;
   read = λ h. h;
   moved = moved_still _ _ _ _ _ (moved_none _ _);
-  made = λ w at. none_made w _ _ _ _ _ at;
+  made = λ w at. none_made _ _ w _ _ _ _ _ _ at;
 }
 
 pub returns-in-Some-clause-whole : goal.returns-in-Some-clause-whole
-returns-in-Some-clause-whole g c = λ fine good w at.
+returns-in-Some-clause-whole g c = λ fine good kept w at.
     let halts : c.loop-cause.machine.halt ≡ Some c.in-Some.cause = search rules in
-    let ends = made_cause w _ _ _ _ _ _ c.in-Some.cause halts c.finish.ensures.bytes (c.loop-cause.invariant.made w at) in
-    done_so c.finish.result c.stop_by_cause.result _ _
-    (Ends w c.loop-cause.machine (g.R.Input.unread c.loop-cause.reader) (g.D.Device.disk c.loop-cause.device) (g.W.Output.sent c.finish.new.writer))
-    c.finish.ensures.done good (rw c.stop_by_cause.ensures ends)
+    let ends = made_cause _ _ w _ _ _ _ _ _ _ _ _ c.in-Some.cause halts c.finish.ensures.bytes c.finish.ensures.lines (c.loop-cause.invariant.made w at) in
+    done_so c.finish.result c.stop_by_cause.result _ _ _ _
+    (EndsTraced _ _ w c.loop-cause.machine (g.R.Input.unread c.loop-cause.reader) (g.D.Device.disk c.loop-cause.device) (g.W.Output.sent c.finish.new.writer) _ (g.T.Output.sent c.finish.new.trace))
+    c.finish.ensures.done good kept (rw c.stop_by_cause.ensures ends)
 
 pub returns-in-Some-clause-cut : goal.returns-in-Some-clause-cut
-returns-in-Some-clause-cut g c = λ fine failed w at. made_cut w _ _ _ _ _ _ c.finish.ensures.bytes (c.loop-cause.invariant.made w at)
+returns-in-Some-clause-cut g c = λ fine failed w at. made_cut _ _ w _ _ _ _ _ _ _ _ _ c.finish.ensures.bytes c.finish.ensures.lines (c.loop-cause.invariant.made w at)
+
+pub returns-in-Some-clause-untraced : goal.returns-in-Some-clause-untraced
+returns-in-Some-clause-untraced g c = λ fine failed w at. made_untraced _ _ w _ _ _ _ _ _ _ _ _ c.finish.ensures.bytes c.finish.ensures.lines (c.loop-cause.invariant.made w at)
 
 pub returns-then-left-eq0-clause-whole : goal.returns-then-left-eq0-clause-whole
-returns-then-left-eq0-clause-whole g c = λ fine good w at.
+returns-then-left-eq0-clause-whole g c = λ fine good kept w at.
     let goes : c.loop-cause.machine.halt ≡ None = search rules in
-    let ends = made_limit w _ _ _ _ _ _ goes c.if-left-eq0.true c.finish-then-left-eq0.ensures.bytes (c.loop-cause.invariant.made w at) in
-    done_so c.finish-then-left-eq0.result stop.Limit _ _
-    (Ends w c.loop-cause.machine (g.R.Input.unread c.loop-cause.reader) (g.D.Device.disk c.loop-cause.device) (g.W.Output.sent c.finish-then-left-eq0.new.writer))
-    c.finish-then-left-eq0.ensures.done good ends
+    let ends = made_limit _ _ w _ _ _ _ _ _ _ _ _ goes c.if-left-eq0.true c.finish-then-left-eq0.ensures.bytes c.finish-then-left-eq0.ensures.lines (c.loop-cause.invariant.made w at) in
+    done_so c.finish-then-left-eq0.result stop.Limit _ _ _ _
+    (EndsTraced _ _ w c.loop-cause.machine (g.R.Input.unread c.loop-cause.reader) (g.D.Device.disk c.loop-cause.device) (g.W.Output.sent c.finish-then-left-eq0.new.writer) _ (g.T.Output.sent c.finish-then-left-eq0.new.trace))
+    c.finish-then-left-eq0.ensures.done good kept ends
 
 pub returns-then-left-eq0-clause-cut : goal.returns-then-left-eq0-clause-cut
-returns-then-left-eq0-clause-cut g c = λ fine failed w at. made_cut w _ _ _ _ _ _ c.finish-then-left-eq0.ensures.bytes (c.loop-cause.invariant.made w at)
+returns-then-left-eq0-clause-cut g c = λ fine failed w at. made_cut _ _ w _ _ _ _ _ _ _ _ _ c.finish-then-left-eq0.ensures.bytes c.finish-then-left-eq0.ensures.lines (c.loop-cause.invariant.made w at)
+
+pub returns-then-left-eq0-clause-untraced : goal.returns-then-left-eq0-clause-untraced
+returns-then-left-eq0-clause-untraced g c = λ fine failed w at. made_untraced _ _ w _ _ _ _ _ _ _ _ _ c.finish-then-left-eq0.ensures.bytes c.finish-then-left-eq0.ensures.lines (c.loop-cause.invariant.made w at)
 
 pub loop-cause-preserved : goal.loop-cause-preserved
 loop-cause-preserved g c = record {
   room = search rules;
   reader = search rules;
   writer = search rules;
+  trace = search rules;
   few = omega (arith, c.loop-cause.invariant.few, c.make_rounds.ensures.left);
   read = λ h. search rules;
   moved = moved_on _ _ _ _ _ _ _ _ _ c.loop-cause.invariant.few c.make_rounds.ensures.left c.loop-cause.invariant.moved c.make_rounds.ensures.moved;
-  made = λ w at. more_made w _ _ _ _ _ _ _ _ _ _ c.in-Ok.ensures.ok (c.loop-cause.invariant.made w at);
+  made = λ w at. more_made _ _ w _ _ _ _ _ _ _ _ _ _ _ _ _ (search rules) (omega arith) (search rules) (λ v here. rw (← c.extent-extent.ensures) (c.in-Ok-make_rounds.ensures.ok v here)) (c.loop-cause.invariant.made w at);
 }
+
+pub returns-in-Err-clause-untraced : goal.returns-in-Err-clause-untraced
+returns-in-Err-clause-untraced g c = λ fine failed w at.
+    line_untraced _ _ w _ _ _ _ _ _ _ _ (search rules) (omega arith) (search rules) (c.loop-cause.invariant.made w at)
 
 pub returns-in-Err-Reader-clause-faulted : goal.returns-in-Err-Reader-clause-faulted
 returns-in-Err-Reader-clause-faulted g c = λ fine fails w at.
-    rounds_faulted w c.loop-cause.machine _ _ _ _ _ _ _ (c.make_rounds.ensures.faulted (c.in-Err-Reader.is ∙ ap Err c.in-Err-Reader.field-0-is)) (c.loop-cause.invariant.made w at)
+    rounds_faulted _ _ w c.loop-cause.machine _ _ _ _ _ _ _ _ _ _ (search rules) (c.make_rounds.ensures.faulted (c.in-Err-Reader.is ∙ ap Err c.in-Err-Reader.field-0-is)) (c.loop-cause.invariant.made w at)
 
 pub returns-in-Err-Writer-clause-cut : goal.returns-in-Err-Writer-clause-cut
 returns-in-Err-Writer-clause-cut g c = λ fine fails w at.
-    rounds_cut w c.loop-cause.machine _ _ _ _ _ _ _ _ (c.make_rounds.ensures.cut (c.in-Err-Writer.is ∙ ap Err c.in-Err-Writer.field-0-is)) (c.loop-cause.invariant.made w at)
+    rounds_cut _ _ w c.loop-cause.machine _ _ _ _ _ _ _ _ _ _ _ (search rules) (omega arith) (search rules) (λ v here. rw (← c.extent-extent.ensures) (c.make_rounds.ensures.cut (c.in-Err-Writer.is ∙ ap Err c.in-Err-Writer.field-0-is) v here)) (c.loop-cause.invariant.made w at)
 
 pub returns-in-Err-Reader-clause-moved : goal.returns-in-Err-Reader-clause-moved
 returns-in-Err-Reader-clause-moved g c =
@@ -67,13 +79,17 @@ returns-in-Err-Writer-clause-moved g c =
     has_run _ _ _ _ _ _ _ (omega (arith, c.loop-cause.invariant.few, c.make_rounds.ensures.left)) (λ q. cc)
     (moved_on _ _ _ _ _ _ _ _ _ c.loop-cause.invariant.few c.make_rounds.ensures.left c.loop-cause.invariant.moved c.make_rounds.ensures.moved)
 
+pub returns-in-Err-clause-moved : goal.returns-in-Err-clause-moved
+returns-in-Err-clause-moved g c =
+    has_run _ _ _ _ _ _ _ c.loop-cause.invariant.few (λ q. cc) c.loop-cause.invariant.moved
+
 pub returns-in-Some-clause-moved : goal.returns-in-Some-clause-moved
 returns-in-Some-clause-moved g c =
-    has_run _ _ _ _ _ _ _ c.loop-cause.invariant.few (λ q. absurd (not_limit c.in-Some.cause _ _ _ _ c.stop_by_cause.ensures c.finish.ensures.done q)) c.loop-cause.invariant.moved
+    has_run _ _ _ _ _ _ _ c.loop-cause.invariant.few (λ q. absurd (not_limit c.in-Some.cause _ _ _ _ _ _ c.stop_by_cause.ensures c.finish.ensures.done q)) c.loop-cause.invariant.moved
 
 pub returns-then-left-eq0-clause-moved : goal.returns-then-left-eq0-clause-moved
 returns-then-left-eq0-clause-moved g c = has_run _ _ _ _ _ _ _ c.loop-cause.invariant.few (λ q. c.if-left-eq0.true) c.loop-cause.invariant.moved
 
 pub returns-in-Some-clause-told : goal.returns-in-Some-clause-told
 returns-in-Some-clause-told g c = λ h fine q.
-    absurd (not_input_fault c.in-Some.cause _ _ _ _ _ (c.loop-cause.invariant.read h) (search rules) c.stop_by_cause.ensures c.finish.ensures.done q)
+    absurd (not_input_fault c.in-Some.cause _ _ _ _ _ _ _ (c.loop-cause.invariant.read h) (search rules) c.stop_by_cause.ensures c.finish.ensures.done q)

@@ -2,7 +2,8 @@ use Rattle.std.proofs.Common.{◌≡◌, ◌≤◌, ◌-◌, vec_capacity}
 use Rattle.inner_interpreter.specs.Moves.{HasMoved}
 use Rattle.inner_interpreter.specs.Runs.{World}
 use Rattle.inner_interpreter.specs.Served.{HasNotFailed}
-use Rattle.inner_interpreter.specs.Worlds.{IsAt, Made, rounds_left}
+use Rattle.inner_interpreter.specs.Tracing.{MadeTraced}
+use Rattle.inner_interpreter.specs.Worlds.{IsAt, rounds_left}
 use Rattle.inner_interpreter.proofs.runs.run_with.Given as goal
 
 -- some rounds of the run were made
@@ -11,11 +12,12 @@ invariant-loop-cause g l = record {
   room : 65535 ≤ vec_capacity l.line;
   reader : g.R.Input.failed l.reader ≡ g.R.Input.failed l.fn.reader;
   writer : g.W.Output.failed l.writer ≡ g.W.Output.failed l.fn.writer;
+  trace : g.T.Output.failed l.trace ≡ g.T.Output.failed l.fn.trace;
   few : l.left ≤ l.fn.limit;
   read : HasNotFailed l.fn.machine → HasNotFailed l.machine;
   moved : HasMoved l.fn.machine l.machine (g.D.Device.calls l.fn.device) (g.D.Device.calls l.device) (l.fn.limit - l.left);
   made : (w : World) → IsAt w l.fn.machine (g.R.Input.unread l.fn.reader) (g.D.Device.disk l.fn.device) (g.W.Output.sent l.fn.writer) l.fn.limit
-      → Made w l.machine (g.R.Input.unread l.reader) (g.D.Device.disk l.device) (g.W.Output.sent l.writer) l.left;
+      → MadeTraced (g.N.Tracer.extent l.tracer) (g.N.Tracer.line l.tracer) w l.machine (g.R.Input.unread l.reader) (g.D.Device.disk l.device) (g.W.Output.sent l.writer) l.left (g.T.Output.sent l.fn.trace) (g.T.Output.sent l.trace);
 }
 
 abbrev pub decreases-loop-cause : goal.decreases-loop-cause

@@ -1,0 +1,41 @@
+-- Lines that are sent in several pieces.
+use Rattle.std.proofs.Common.{◌≡◌, ℕ, zero, suc, ◌+◌, List, [], ◌∷◌, ◌++◌, Option, Some, None, refl, sym, ap, ◌∙◌, subst, arith, append_assoc, append-nil}
+use Rattle.std.specs.Prelude.{take, drop, slice_get, Result, Ok, Err, OnErr}
+use Rattle.std.specs.List.{flat_map}
+use Rattle.std.specs.Io.KnownBytes.{Appends}
+use Rattle.inner_interpreter.specs.Sent.{AppendsPart}
+use Rattle.inner_interpreter.proofs.Sending.{appends_both, part_first, part_second}
+
+-- the texts of some cells, of which the first i were sent
+past_end : {X : Type 0} (i : ℕ) (xs : List X) → slice_get xs i ≡ None → take i xs ≡ xs
+past_end zero [] h = refl
+past_end zero (x ∷ xs) h = cc
+past_end (suc i) [] h = refl
+past_end (suc i) (x ∷ xs) h = ap (λ ys. x ∷ ys) (past_end i xs h)
+
+cut_at : (f : ℕ → List ℕ) (i : ℕ) (xs : List ℕ) (x : ℕ) → slice_get xs i ≡ Some x → flat_map f (take (suc i) xs) ≡ flat_map f (take i xs) ++ f x
+cut_at f i [] x h = cc
+cut_at f zero (y ∷ ys) x h = let same : y ≡ x = cc in rw same (append-nil (f x))
+cut_at f (suc i) (y ∷ ys) x h = ap (λ bs. f y ++ bs) (cut_at f i ys x h) ∙ sym (append_assoc (f y) (flat_map f (take i ys)) (f x))
+
+rest_at : (f : ℕ → List ℕ) (i : ℕ) (xs : List ℕ) (x : ℕ) → slice_get xs i ≡ Some x → flat_map f xs ≡ flat_map f (take i xs) ++ (f x ++ flat_map f (drop (suc i) xs))
+rest_at f i [] x h = cc
+rest_at f zero (y ∷ ys) x h = let same : y ≡ x = cc in rw same refl
+rest_at f (suc i) (y ∷ ys) x h = ap (λ bs. f y ++ bs) (rest_at f i ys x h) ∙ sym (append_assoc (f y) (flat_map f (take i ys)) (f x ++ flat_map f (drop (suc i) ys)))
+
+pub sent_more : (f : ℕ → List ℕ) (i : ℕ) (xs : List ℕ) (x : ℕ) (a b c : Option (List ℕ)) → slice_get xs i ≡ Some x → Appends a b (flat_map f (take i xs)) → Appends b c (f x) → Appends a c (flat_map f (take (i + 1) xs))
+sent_more f i xs x a b c h k l = let next : i + 1 ≡ suc i = omega arith in rw (next, cut_at f i xs x h) (appends_both a b c (flat_map f (take i xs)) (f x) k l)
+
+pub sent_cut : (f : ℕ → List ℕ) (i : ℕ) (xs : List ℕ) (x : ℕ) (a b c : Option (List ℕ)) → slice_get xs i ≡ Some x → Appends a b (flat_map f (take i xs)) → AppendsPart b c (f x) → AppendsPart a c (flat_map f xs)
+sent_cut f i xs x a b c h k l = rw (rest_at f i xs x h) (part_second a b c (flat_map f (take i xs)) (f x ++ flat_map f (drop (suc i) xs)) k (part_first b c (f x) (flat_map f (drop (suc i) xs)) l))
+
+pub sent_all : (f : ℕ → List ℕ) (i : ℕ) (xs : List ℕ) (a b : Option (List ℕ)) → slice_get xs i ≡ None → Appends a b (flat_map f (take i xs)) → Appends a b (flat_map f xs)
+sent_all f i xs a b h k = subst (λ ys. Appends a b (flat_map f ys)) (past_end i xs h) k
+
+pub sent_none : (f : ℕ → List ℕ) (xs : List ℕ) (a : Option (List ℕ)) → Appends a a (flat_map f (take 0 xs))
+sent_none f xs None = tt
+sent_none f xs (Some os) = sym (append-nil os)
+
+pub on_err_then : {T E : Type 0} (r : Result T E) (P Q : Type 0) → (P → Q) → OnErr r P → OnErr r Q
+on_err_then (Ok x) P Q f h = tt
+on_err_then (Err e) P Q f h = f h

@@ -1,0 +1,48 @@
+-- Which word is traced.
+use Rattle.std.specs.Prelude.{◌≡◌, ◌⊎◌, ℕ, ◌+◌, ◌==◌, List, if◌then◌else◌, Option, Result, Ok, Err, IsOk}
+use Rattle.cells.specs.Cell.{wrap}
+use Rattle.memory.specs.Bytes.{cell}
+use Rattle.dictionary.specs.Extents.{extent_end}
+use Rattle.dictionary.specs.Header.{compilation_address}
+use Rattle.dictionary.specs.Order.{headers, is_beyond_limit}
+use Rattle.dictionary.specs.Search.{Sought, Found, Nowhere, TooLong, sought}
+use Rattle.block_buffers.specs.Disks.{Disk}
+use Rattle.plain_rows.specs.Whole.{Whole}
+use Rattle.inner_interpreter.specs.declared.stop.Stop.{Stop}
+use Rattle.inner_interpreter.specs.State.{State}
+use Rattle.inner_interpreter.specs.Runs.{World}
+use Rattle.inner_interpreter.specs.Tracing.{EndsTraced}
+use Rattle.inner_interpreter.specs.declared.tracing.Extent.{Extent}
+use Rattle.debug_tracer.specs.declared.fault.DebugFault.{DebugFault}
+use Rattle.debug_tracer.specs.declared.fault.DebugFault.TheVariants as f
+use Rattle.debug_tracer.specs.Lines.{line}
+
+-- the thread of the word whose header is at l: from its parameter field to where the next header begins, or to DP
+unfoldable pub thread_of : List ℕ → ℕ → Extent
+thread_of m l =
+    let from = wrap (compilation_address m l + 2) in record { from = from; end = extent_end m (headers m) from }
+
+-- the thread that is traced, by what the search of a name came to, or why none is
+abbrev pub thread_or_fault : List ℕ → Sought → Result Extent DebugFault
+thread_or_fault m Nowhere = Err f.NotFound
+thread_or_fault m TooLong = Err f.ChainTooLong
+thread_or_fault m (Found l) =
+    if is_beyond_limit m then Err f.ChainTooLong
+    else if cell m (compilation_address m l) == 1 then Ok (thread_of m l) else Err f.NotColon
+
+unfoldable pub debugged : List ℕ → List ℕ → Result Extent DebugFault
+debugged m name = thread_or_fault m (sought m name)
+
+-- the fault is the one for which no word is traced, or one could be, and memory ran out
+abbrev pub IsFault : Result Extent DebugFault → DebugFault → Type 0
+IsFault found fault = (found ≡ Err fault) ⊎ ((fault ≡ f.OutOfMemory) × IsOk found)
+
+-- the lines of a machine whose memory was m at the start
+abbrev pub line_from : List ℕ → Whole → List ℕ
+line_from m = line m (headers m)
+
+-- the run from this world ends here with this stop, and the trace of the word of this name was sent
+abbrev pub EndsDebugged : World → List ℕ → Option (List ℕ) → Option Disk → Option (List ℕ) → Option (List ℕ) → Option (List ℕ) → Stop → Type 0
+EndsDebugged w name unread disk sent old new stop =
+    (thread : Extent) → debugged w.state.parts.memory name ≡ Ok thread
+    → (state : State) × EndsTraced thread (line_from w.state.parts.memory) w state unread disk sent old new stop

@@ -1,0 +1,10 @@
+//! DEBUG: a run, and a line before each tick of one word's thread.
+#![tactic(auto)]
+
+mod debugging;
+mod fault;
+mod lines;
+mod word;
+
+pub use debugging::debug;
+pub use fault::DebugFault;

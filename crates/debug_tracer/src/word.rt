@@ -1,0 +1,116 @@
+//! The word that is traced, and the names of its tokens.
+
+ghost use Rattle.std.specs.Prelude.{◌≡◌, Ok, IfOk, IfErr};
+ghost use Rattle.dictionary.specs.Order.{headers};
+ghost use Rattle.dictionary.specs.Search.{Found};
+ghost use Rattle.debug_tracer.specs.Debugged.{debugged, thread_of, thread_or_fault, IsFault};
+
+use crate::fault::DebugFault;
+use crate::lines::send_line;
+use dictionary::{
+    ChainTooLong, HeadersFault, compilation_address, extent_end, headers_in_order, search,
+};
+use inner_interpreter::{EndFault, Extent, Machine, Output, Tracer};
+use memory::{Memory, OutOfMemory};
+use std::alloc::Global;
+
+/// The code field of a colon definition.
+const COLON: u16 = 1;
+
+/// The thread of the word that is traced, and memory as it was at the start, with its headers: tokens are named by these.
+#[derive(Drop)]
+pub struct Word {
+    pub thread: Extent,
+    pub memory: Memory,
+    pub headers: Vec<u16>,
+}
+
+impl Tracer for Word {
+    ghost use Rattle.debug_tracer.specs.Lines.{line};
+
+    ghost extent = { λ w. w.thread };
+
+    ghost line = { λ w s. line w.memory w.headers.items s };
+
+    fn extent(&self) -> Extent {
+        self.thread
+    }
+
+    fn trace<T: Output>(&self, machine: &Machine, trace: &mut T) -> Result<(), EndFault> {
+        send_line(&self.memory, self.headers.as_slice(), machine, trace)
+    }
+}
+
+/// A copy of memory.
+#[tactic(auto, using(crate::proofs::Words::front_all))]
+fn copied(alloc: Global, memory: &Memory) -> Result<Memory, OutOfMemory>
+    ensures { IfOk result (λ copy. copy ≡ memory.now) }
+{
+    Memory::with_front(alloc, &memory.bytes[..])
+}
+
+/// Where the thread stands of the word whose header is at `l`.
+#[tactic(auto, unfolding(crate::specs::Debugged::thread_of))]
+fn thread_of(memory: &Memory, listed: &[u16], l: u16) -> Extent
+    requires { listed.now ≡ headers memory.now }
+    ensures { result ≡ thread_of memory.now l }
+{
+    let from = compilation_address(memory, l).wrapping_add(2);
+    Extent {
+        from,
+        end: extent_end(memory, listed, from),
+    }
+}
+
+/// The word whose header is at `l`, and what its trace needs.
+fn taken(alloc: Global, memory: &Memory, listed: Vec<u16>, l: u16) -> Result<Word, OutOfMemory>
+    requires { listed.items ≡ headers memory.now }
+    ensures thread { IfOk result (λ word. word.thread ≡ thread_of memory.now l) }
+    ensures memory { IfOk result (λ word. word.memory ≡ memory.now) }
+    ensures headers { IfOk result (λ word. word.headers.items ≡ headers memory.now) }
+{
+    let copy = copied(alloc, memory)?;
+    Ok(Word {
+        thread: thread_of(memory, listed.as_slice(), l),
+        memory: copy,
+        headers: listed,
+    })
+}
+
+/// The word whose header is at `l`, where it can be traced.
+fn colon_word(alloc: Global, memory: &Memory, l: u16) -> Result<Word, DebugFault>
+    ensures thread { IfOk result (λ word. thread_or_fault memory.now (Found l) ≡ Ok word.thread) }
+    ensures memory { IfOk result (λ word. word.memory ≡ memory.now) }
+    ensures headers { IfOk result (λ word. word.headers.items ≡ headers memory.now) }
+    ensures refused { IfErr result (λ fault. IsFault (thread_or_fault memory.now (Found l)) fault) }
+{
+    let listed = headers_in_order(alloc, memory);
+    if let Err(HeadersFault::ChainTooLong) = listed {
+        return Err(DebugFault::ChainTooLong);
+    }
+    if memory.cell(compilation_address(memory, l)) != COLON {
+        return Err(DebugFault::NotColon);
+    }
+    let Ok(found) = listed else {
+        return Err(DebugFault::OutOfMemory);
+    };
+    match taken(alloc, memory, found, l) {
+        Ok(word) => Ok(word),
+        Err(OutOfMemory) => Err(DebugFault::OutOfMemory),
+    }
+}
+
+/// The word that a name means, where it can be traced.
+#[tactic(auto, using(dictionary::proofs::Soughts::sought_found, dictionary::proofs::Soughts::sought_nowhere, dictionary::proofs::Soughts::sought_long), unfolding(crate::specs::Debugged::debugged))]
+pub fn word_of(alloc: Global, memory: &Memory, name: &[u8]) -> Result<Word, DebugFault>
+    ensures thread { IfOk result (λ word. debugged memory.now name.now ≡ Ok word.thread) }
+    ensures memory { IfOk result (λ word. word.memory ≡ memory.now) }
+    ensures headers { IfOk result (λ word. word.headers.items ≡ headers memory.now) }
+    ensures refused { IfErr result (λ fault. IsFault (debugged memory.now name.now) fault) }
+{
+    match search(memory, name) {
+        Ok(Some(l)) => colon_word(alloc, memory, l),
+        Ok(None) => Err(DebugFault::NotFound),
+        Err(ChainTooLong) => Err(DebugFault::ChainTooLong),
+    }
+}

@@ -1,0 +1,82 @@
+-- Tracing a run: a line for each tick whose token is taken through ip in an extent.
+use Rattle.std.specs.Prelude.{◌≡◌, ◌⊎◌, true, ℕ, zero, suc, List, [], ◌++◌, Option, Bool, false, is_none, nat_le, nat_lt, ◌&&◌, if◌then◌else◌}
+use Rattle.std.specs.Io.KnownBytes.{Appends}
+use Rattle.block_buffers.specs.Disks.{Disk}
+use Rattle.plain_rows.specs.Whole.{Whole}
+use Rattle.inner_interpreter.specs.declared.stop.Stop.{Stop}
+use Rattle.inner_interpreter.specs.declared.stop.Stop.TheVariants as stop
+use Rattle.inner_interpreter.specs.declared.tracing.Extent.{Extent}
+use Rattle.inner_interpreter.specs.State.{State}
+use Rattle.inner_interpreter.specs.Tick.{ticked}
+use Rattle.inner_interpreter.specs.Answer.{asked_by}
+use Rattle.inner_interpreter.specs.Runs.{World, rounds, stops}
+use Rattle.inner_interpreter.specs.Sent.{AppendsPart}
+use Rattle.inner_interpreter.specs.Worlds.{IsAt, IsCut, Ends, EndsCut, EndsFaulted}
+
+-- the next token is taken through ip, and ip lies in the extent
+unfoldable pub is_met : Extent → Whole → Bool
+is_met extent s = is_none s.pending && (nat_le extent.from s.ip && nat_lt s.ip extent.end)
+
+-- no token of the extent comes next before any of n ticks
+unfoldable pub AreUnmet : Extent → ℕ → Whole → Type 0
+AreUnmet extent zero s = Unit {0}
+AreUnmet extent (suc n) s = (is_met extent s ≡ false) × AreUnmet extent n (ticked s).0.parts
+
+-- the line of a state in which no request stands and a token of the extent comes next
+abbrev pub line_next : Extent → (Whole → List ℕ) → State → List ℕ
+line_next extent line s = if is_none (asked_by s.wait) && is_met extent s.parts then line s.parts else []
+
+-- the same, where the run goes on from there: the state is followed by a tick
+unfoldable pub line_of : Extent → (Whole → List ℕ) → World → List ℕ
+line_of extent line w = if is_none (stops w) then line_next extent line w.state else []
+
+-- the trace of a run: the lines of its first n states, in their order
+unfoldable pub trace : Extent → (Whole → List ℕ) → ℕ → World → List ℕ
+trace extent line zero w = []
+trace extent line (suc n) w = trace extent line n w ++ line_of extent line (rounds n w)
+
+-- so many rounds add to the trace just the line of the tick that comes first
+abbrev pub AddsLine : Extent → ℕ → World → Type 0
+AddsLine extent n w = (line : Whole → List ℕ) → trace extent line n w ≡ line_of extent line w
+
+-- some rounds lead here, and only the first may begin where a token of the extent comes next
+abbrev pub Made : Extent → World → State → Option (List ℕ) → Option Disk → Option (List ℕ) → ℕ → Type 0
+Made extent w s unread disk sent left = (n : ℕ) × AddsLine extent n w × IsAt (rounds n w) s unread disk sent left
+
+-- the same, and of what they show a front was sent
+abbrev pub MadeCut : Extent → World → State → Option (List ℕ) → Option Disk → Option (List ℕ) → Type 0
+MadeCut extent w s unread disk sent = (n : ℕ) × AddsLine extent n w × IsCut (rounds n w) s unread disk sent
+
+-- the run stops here after some rounds, and its trace was sent
+pub record EndsTraced (extent : Extent) (line : Whole → List ℕ) (w : World) (state : State) (unread : Option (List ℕ)) (disk : Option Disk) (sent : Option (List ℕ)) (old new : Option (List ℕ)) (stop : Stop) : Type 0 where
+  pub ends : Ends w state unread disk sent stop
+  pub trace_is : Appends old new (trace extent line ends.count w)
+
+-- a writer failed in this run, after some first rounds, whose trace was sent
+pub record EndsCutTraced (extent : Extent) (line : Whole → List ℕ) (w : World) (state : State) (unread : Option (List ℕ)) (disk : Option Disk) (sent : Option (List ℕ)) (old new : Option (List ℕ)) : Type 0 where
+  pub cut : EndsCut w state unread disk sent
+  pub trace_is : Appends old new (trace extent line cut.count w)
+
+-- a reader failed in this run, after some first rounds, whose trace was sent
+pub record EndsFaultedTraced (extent : Extent) (line : Whole → List ℕ) (w : World) (state : State) (disk : Option Disk) (sent : Option (List ℕ)) (old new : Option (List ℕ)) : Type 0 where
+  pub faulted : EndsFaulted w state disk sent
+  pub trace_is : Appends old new (trace extent line faulted.count w)
+
+-- the trace's writer failed in this run: some first rounds were made, and no tick of the line that was cut. Their trace was
+-- sent, and a front of that line
+pub record EndsUntraced (extent : Extent) (line : Whole → List ℕ) (w : World) (state : State) (unread : Option (List ℕ)) (disk : Option Disk) (sent : Option (List ℕ)) (old new : Option (List ℕ)) : Type 0 where
+  pub count : ℕ
+  pub at : IsAt (rounds count w) state unread disk sent (rounds count w).left
+  pub trace_is : AppendsPart old new (trace extent line (suc count) w)
+
+-- some rounds lead here, and their trace was sent
+abbrev pub MadeTraced : Extent → (Whole → List ℕ) → World → State → Option (List ℕ) → Option Disk → Option (List ℕ) → ℕ → Option (List ℕ) → Option (List ℕ) → Type 0
+MadeTraced extent line w s unread disk sent left old new =
+    (n : ℕ) × IsAt (rounds n w) s unread disk sent left × Appends old new (trace extent line n w)
+
+-- a run ended with its stop, or the writer or the trace's writer failed at last
+abbrev pub Finishes : Stop → Stop → Bool → Bool → Bool → Bool → Type 0
+Finishes result wanted writer writer' traces traces' =
+    ((result ≡ wanted) × (writer' ≡ writer) × (traces' ≡ traces))
+    ⊎ (((result ≡ stop.OutputFault) × (writer' ≡ true) × (traces' ≡ traces))
+    ⊎ ((result ≡ stop.TraceFault) × (writer' ≡ writer) × (traces' ≡ true)))

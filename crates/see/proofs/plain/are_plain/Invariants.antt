@@ -1,0 +1,8 @@
+use Rattle.std.proofs.Common.{take, map}
+use Rattle.std.specs.Prelude.{slice_index}
+use Rattle.colon_bodies.specs.Draft.{token}
+use Rattle.see.proofs.Plainness.{Plainly}
+use Rattle.see.proofs.plain.are_plain.Given as goal
+
+abbrev pub invariant-loop-word : goal.invariant-loop-word
+invariant-loop-word l = Plainly (slice_index l.runtime) l.half (map token (take l.word-index l.words))

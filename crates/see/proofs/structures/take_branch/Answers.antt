@@ -1,0 +1,20 @@
+use Rattle.std.proofs.Common.{arith}
+use Rattle.see.proofs.Shutting.{branch_forward, branch_over, branch_back, start_back}
+use Rattle.see.proofs.structures.take_branch.Goals as goal
+
+pub returns-then-here-to : goal.returns-then-here-to
+returns-then-here-to c = λ f g b d s e. c.take_else.ensures c.args.at f g b d s (branch_forward f b c.args.here c.args.to _ c.if-here-to.true e)
+
+pub returns-then-to-body_start : goal.returns-then-to-body_start
+returns-then-to-body_start c = λ f g b d s e.
+    let i = c.body_start.ensures f s.frames_are in
+    let j = start_back c.args.at f b c.args.here _ _ s in
+    let lt = c.if-to-body_start.true in
+    c.take_repeat.ensures c.args.at c.args.here f g b d s (omega (arith, i, lt)) (branch_over f b c.args.here c.args.to _ (omega arith) (omega (arith, i, j, lt)) e)
+
+pub returns : goal.returns
+returns c = λ f g b d s e.
+    let i = c.body_start.ensures f s.frames_are in
+    let j = start_back c.args.at f b c.args.here _ _ s in
+    let ge = c.if-to-body_start.false in
+    c.take_again.ensures c.args.at f g b d c.args.frames.now.items s (branch_back f b c.args.here c.args.to _ (omega arith) (omega (arith, i, j, ge)) e)

@@ -1,0 +1,66 @@
+-- What the decompiler keeps while it reads.
+use Rattle.std.specs.Prelude.{◌≡◌, ℕ, ◌+◌, ◌≤◌, List, [], ◌∷◌, ◌++◌, length, Option, Some, None}
+use Rattle.see.specs.declared.structures.Frame.{Frame}
+use Rattle.see.specs.declared.structures.Frame.TheVariants as k
+use Rattle.colon_bodies.specs.Tokens.{Token, IF, ELSE, DO, DOES}
+use Rattle.colon_bodies.specs.Tree.{Body, words}
+use Rattle.colon_bodies.specs.Code.{size}
+use Rattle.colon_bodies.specs.Structures.{Frames, FTop, FPast, FIf, FElse, FDo}
+
+-- the words of the open structures; no BEGIN is among them
+abbrev pub frame_words : Frames → List Token
+frame_words FTop = []
+frame_words (FPast t) = words t ++ DOES ∷ []
+frame_words (FIf f t to) = frame_words f ++ (words t ++ IF ∷ [])
+frame_words (FElse f t a to) = frame_words f ++ (words t ++ (IF ∷ (words a ++ ELSE ∷ [])))
+frame_words (FDo f t) = frame_words f ++ (words t ++ DO ∷ [])
+
+-- where the innermost body begins
+abbrev pub start : ℕ → Frames → ℕ
+start at FTop = at
+start at (FPast t) = at + (size t + 2)
+start at (FIf f t to) = start at f + (size t + 4)
+start at (FElse f t a to) = start at f + (size t + (8 + size a))
+start at (FDo f t) = start at f + (size t + 4)
+
+abbrev pub frames_of : ℕ → Frames → List Frame
+frames_of at FTop = []
+frames_of at (FPast t) = k.Past (at + (size t + 2)) ∷ []
+frames_of at (FIf f t to) = frames_of at f ++ k.If (length (frame_words f ++ words t)) to (start at f + (size t + 4)) ∷ []
+frames_of at (FElse f t a to) = frames_of at f ++ k.Else to (start at f + (size t + (8 + size a))) ∷ []
+frames_of at (FDo f t) = frames_of at f ++ k.Do (start at f + (size t + 4)) ∷ []
+
+pub record Seen (at : ℕ) (f : Frames) (c : Body) (here : ℕ) (seen : List Token) (frames : List Frame) : Type 0 where
+  pub words_are : seen ≡ frame_words f ++ words c
+  pub frames_are : frames ≡ frames_of at f
+  pub here_is : here ≡ start at f + size c
+
+abbrev pub top_frame : ℕ → Frames → Option Frame
+top_frame at FTop = None
+top_frame at (FPast t) = Some (k.Past (at + (size t + 2)))
+top_frame at (FIf f t to) = Some (k.If (length (frame_words f ++ words t)) to (start at f + (size t + 4)))
+top_frame at (FElse f t a to) = Some (k.Else to (start at f + (size t + (8 + size a))))
+top_frame at (FDo f t) = Some (k.Do (start at f + (size t + 4)))
+
+abbrev pub beneath : Frames → Frames
+beneath FTop = FTop
+beneath (FPast t) = FTop
+beneath (FIf f t to) = f
+beneath (FElse f t a to) = f
+beneath (FDo f t) = f
+
+-- a structure ends here
+abbrev pub EndsHere : Frames → ℕ → Type 0
+EndsHere FTop here = ⊥
+EndsHere (FPast t) here = ⊥
+EndsHere (FIf f t to) here = to ≤ here
+EndsHere (FElse f t a to) here = to ≤ here
+EndsHere (FDo f t) here = ⊥
+
+-- where a frame says that the innermost body begins
+abbrev pub begins_at : ℕ → Option Frame → ℕ
+begins_at at None = at
+begins_at at (Some (k.Past s)) = s
+begins_at at (Some (k.If index to s)) = s
+begins_at at (Some (k.Else to s)) = s
+begins_at at (Some (k.Do s)) = s

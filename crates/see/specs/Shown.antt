@@ -1,0 +1,37 @@
+-- What the decompiler shows.
+use Rattle.std.specs.Prelude.{◌≡◌, ◌≢◌, ℕ, ◌+◌, ◌≤◌, List, [], ◌∷◌, ◌++◌}
+use Rattle.colon_bodies.specs.Tokens.{Token, SEMI, laid, AreShort}
+use Rattle.colon_bodies.specs.Tree.{Definition, all_words, all_depth}
+use Rattle.colon_bodies.specs.Code.{thread}
+use Rattle.colon_bodies.specs.Rules.{AreKnown}
+use Rattle.colon_bodies.specs.Plain.{IsPlain}
+
+-- these bytes are the thread of a plain definition, whose structures lie at most 64 deep and whose texts have at most 255 bytes
+pub record IsThread (rt : ℕ → ℕ) (at : ℕ) (bytes : List ℕ) (d : Definition) : Type 0 where
+  pub plain : IsPlain rt d
+  pub exit : rt 5 ≢ 0
+  pub shallow : all_depth d ≤ 64
+  pub short : AreShort (all_words d)
+  pub is : thread rt d at ≡ bytes
+
+-- and these are its words, and ;
+pub record Shown (rt : ℕ → ℕ) (at : ℕ) (bytes : List ℕ) (shown : List Token) : Type 0 where
+  pub body : Definition
+  pub words_are : shown ≡ all_words body ++ SEMI ∷ []
+  pub is : IsThread rt at bytes body
+
+-- words that are compiled to these bytes
+pub record Makes (rt : ℕ → ℕ) (at : ℕ) (bytes : List ℕ) (words : List Token) : Type 0 where
+  pub body : Definition
+  pub words_are : words ≡ all_words body ++ SEMI ∷ []
+  pub bytes_are : bytes ≡ thread rt body at
+  pub shallow : all_depth body ≤ 64
+  pub known : AreKnown rt (all_words body ++ SEMI ∷ [])
+  pub short : AreShort (all_words body)
+
+-- a definition that can be compiled
+pub record Compiles (rt : ℕ → ℕ) (at limit : ℕ) (d : Definition) : Type 0 where
+  pub shallow : all_depth d ≤ 64
+  pub known : AreKnown rt (all_words d ++ SEMI ∷ [])
+  pub short : AreShort (all_words d)
+  pub room : at + laid (all_words d ++ SEMI ∷ []) ≤ limit

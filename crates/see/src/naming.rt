@@ -1,0 +1,94 @@
+//! What the cells of a thread are called, and what can't be printed.
+
+ghost use Rattle.std.specs.Prelude.{◌≡◌, ◌==◌, true, false, not, IfOk, MatchOption};
+ghost use Rattle.std.specs.List.{list_all};
+ghost use Rattle.dictionary.specs.Header.{name_of};
+ghost use Rattle.dictionary.specs.Search.{found_hiding};
+ghost use Rattle.see.specs.Naming.{name_if, number_text, is_word, is_quotable, is_meant, is_free};
+
+use crate::extent::copied;
+use dictionary::{compilation_address, header, search_hiding};
+use memory::Memory;
+use std::alloc::{AllocError, Global};
+
+/// The name of a header.
+#[tactic(auto, unfolding(dictionary::specs::Header::name_of))]
+fn name_of(alloc: Global, memory: &Memory, l: u16) -> Result<Vec<u8>, AllocError>
+    ensures { IfOk result (λ v. v.items ≡ name_of memory.now l) }
+{
+    copied(
+        alloc,
+        memory,
+        l.wrapping_add(3),
+        u16::from(header(memory, l).length),
+    )
+}
+
+/// The name of an address, by its header; the empty one where it has none.
+pub fn name_if(alloc: Global, memory: &Memory, header: Option<u16>) -> Result<Vec<u8>, AllocError>
+    ensures { IfOk result (λ v. v.items ≡ name_if memory.now header) }
+{
+    match header {
+        Some(l) => name_of(alloc, memory, l),
+        None => Ok(Vec::new(alloc)),
+    }
+}
+
+/// Whether none of the bytes is this one.
+fn is_free_of(bytes: &[u8], stop: u8) -> bool
+    ensures { result ≡ list_all (λ b. not (b == stop)) bytes.now }
+{
+    bytes.iter().all(|b| *b != stop)
+}
+
+/// Whether a name is one word: it has a byte, and no blank.
+#[tactic(auto, unfolding(crate::specs::Naming::is_word))]
+pub fn is_word(name: &[u8]) -> bool
+    ensures { result ≡ is_word name.now }
+{
+    if name.is_empty() {
+        return false;
+    }
+    is_free_of(name, b' ')
+}
+
+/// Whether a text has no quote.
+#[tactic(auto, unfolding(crate::specs::Naming::is_quotable))]
+pub fn is_quotable(text: &[u8]) -> bool
+    ensures { result ≡ is_quotable text.now }
+{
+    is_free_of(text, b'"')
+}
+
+/// The header that the search of a name gives, where the one at `hidden` counts as hidden, if this is its compilation
+/// address.
+#[tactic(auto, unfolding(crate::specs::Naming::is_meant))]
+pub fn meant(memory: &Memory, hidden: u16, name: &[u8], w: u16) -> Option<u16>
+    ensures { MatchOption result (is_meant memory.now hidden name.now w ≡ false) (λ k. (is_meant memory.now hidden name.now w ≡ true) × (k ≡ found_hiding memory.now name.now hidden)) }
+{
+    match search_hiding(memory, name, hidden) {
+        Ok(Some(k)) => {
+            if compilation_address(memory, k) == w {
+                return Some(k);
+            }
+            None
+        }
+        _ => None,
+    }
+}
+
+/// Whether the search of a name ends with none.
+#[tactic(auto, unfolding(crate::specs::Naming::is_free))]
+pub fn is_free(memory: &Memory, hidden: u16, name: &[u8]) -> bool
+    ensures { result ≡ is_free memory.now hidden name.now }
+{
+    matches!(search_hiding(memory, name, hidden), Ok(None))
+}
+
+/// A number as a signed decimal.
+#[tactic(auto, unfolding(crate::specs::Naming::number_text))]
+pub fn number_text(alloc: Global, n: u16) -> Result<String, AllocError>
+    ensures { IfOk result (λ s. s.bytes.items ≡ number_text n) }
+{
+    n.cast_signed().to_string(alloc)
+}

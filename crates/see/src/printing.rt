@@ -1,0 +1,217 @@
+//! A definition as text.
+
+ghost use Rattle.std.specs.Prelude.{◌≡◌, ◌||◌, ◌++◌, true, [], ◌∷◌, map, codes, Some, IfOk};
+ghost use Rattle.dictionary.specs.Header.{is_immediate};
+ghost use Rattle.dictionary.specs.Order.{headers};
+ghost use Rattle.source_words.specs.Spaced.{bare, spaced, spaced_behind, quoted};
+ghost use Rattle.colon_bodies.specs.Draft.{token};
+ghost use Rattle.colon_bodies.specs.Tokens.{NAME, NUMBER, TEXT};
+ghost use Rattle.see.specs.Seeing.{IsWritten};
+ghost use Rattle.see.specs.Printing.{is_keyword, keyword_text, called};
+
+use crate::naming::{is_free, is_quotable, is_word, meant, name_if, number_text};
+use crate::refusal::SeeRefused;
+use colon_bodies::BodyWord;
+use dictionary::{header_at, is_immediate};
+use memory::Memory;
+use metacompiler::keyword;
+use std::alloc::{AllocError, Global};
+
+/// Whether a word is one that a body reads as a keyword, or as the beginning of a comment.
+#[tactic(auto, unfolding(crate::specs::Printing::is_keyword, source_words::specs::Modes::begins_comment))]
+fn is_keyword(name: &[u8]) -> bool
+    ensures { result ≡ is_keyword name.now }
+{
+    name == b"(".as_slice() || keyword(name, b"".as_slice()).is_some()
+}
+
+/// How a keyword is spelled.
+fn keyword_text(word: BodyWord) -> &'static [u8]
+    ensures { result.now ≡ keyword_text (token word.entry) }
+{
+    match word {
+        BodyWord::Tick => b"[']".as_slice(),
+        BodyWord::Force => b"[COMPILE]".as_slice(),
+        BodyWord::Compile => b"COMPILE".as_slice(),
+        BodyWord::If => b"IF".as_slice(),
+        BodyWord::Else => b"ELSE".as_slice(),
+        BodyWord::Then => b"THEN".as_slice(),
+        BodyWord::Begin => b"BEGIN".as_slice(),
+        BodyWord::Until => b"UNTIL".as_slice(),
+        BodyWord::Again => b"AGAIN".as_slice(),
+        BodyWord::While => b"WHILE".as_slice(),
+        BodyWord::Repeat => b"REPEAT".as_slice(),
+        BodyWord::Do => b"DO".as_slice(),
+        BodyWord::Loop(false) => b"LOOP".as_slice(),
+        BodyWord::Loop(true) => b"+LOOP".as_slice(),
+        BodyWord::Text(false, _) => b".\"".as_slice(),
+        BodyWord::Text(true, _) => b"ABORT\"".as_slice(),
+        BodyWord::Does => b"DOES>".as_slice(),
+        BodyWord::Semicolon => b";".as_slice(),
+        BodyWord::Name(_) | BodyWord::Number(_) | BodyWord::Double(_) => b"".as_slice(),
+    }
+}
+
+/// Writes a word behind a blank.
+#[tactic(auto, unfolding(source_words::specs::Spaced::spaced_behind, source_words::specs::Spaced::quoted))]
+fn write_word(out: &mut Vec<u8>, name: &[u8]) -> Result<(), AllocError>
+    ensures { IfOk result (λ _. out.new.items ≡ out.old.items ++ spaced_behind (bare name.now ∷ [])) }
+{
+    out.push(b' ')?;
+    out.extend_from_slice(name)?;
+    Ok(())
+}
+
+/// Writes a word and its text.
+#[tactic(auto, unfolding(source_words::specs::Spaced::spaced_behind, source_words::specs::Spaced::quoted))]
+fn write_text(out: &mut Vec<u8>, name: &[u8], text: &[u8]) -> Result<(), AllocError>
+    ensures { IfOk result (λ _. out.new.items ≡ out.old.items ++ spaced_behind (record { name = name.now; text = Some text.now } ∷ [])) }
+{
+    out.push(b' ')?;
+    out.extend_from_slice(name)?;
+    out.push(b' ')?;
+    out.extend_from_slice(text)?;
+    out.push(b'"')?;
+    Ok(())
+}
+
+/// Writes a name behind [COMPILE].
+fn write_forced(out: &mut Vec<u8>, name: &[u8]) -> Result<(), AllocError>
+    ensures { IfOk result (λ _. out.new.items ≡ out.old.items ++ spaced_behind (called true name.now)) }
+{
+    write_word(out, b"[COMPILE]".as_slice())?;
+    write_word(out, name)?;
+    Ok(())
+}
+
+/// Writes a name, behind [COMPILE] where it is forced.
+fn write_called(out: &mut Vec<u8>, forced: bool, name: &[u8]) -> Result<(), AllocError>
+    ensures { IfOk result (λ _. out.new.items ≡ out.old.items ++ spaced_behind (called forced name.now)) }
+{
+    if forced {
+        return write_forced(out, name);
+    }
+    write_word(out, name)
+}
+
+/// Writes a name that means the header at `k`, behind [COMPILE] where that is immediate or the name is spelled as a keyword.
+fn write_meant(out: &mut Vec<u8>, memory: &Memory, k: u16, name: &[u8]) -> Result<(), AllocError>
+    ensures { IfOk result (λ _. out.new.items ≡ out.old.items ++ spaced_behind (called (is_immediate memory.now k || is_keyword name.now) name.now)) }
+{
+    let forced = is_immediate(memory, k) || is_keyword(name);
+    write_called(out, forced, name)
+}
+
+/// Writes the name of an address, or says what is wrong with it.
+#[tactic(auto, using(crate::proofs::Printed::called_is), unfolding(crate::specs::Printing::is_forced, crate::specs::Naming::name_at))]
+fn show_name(
+    alloc: Global,
+    out: &mut Vec<u8>,
+    memory: &Memory,
+    listed: &[u16],
+    hidden: u16,
+    w: u16,
+) -> Result<(), SeeRefused>
+    requires { listed.now ≡ headers memory.now }
+    ensures { IsWritten memory.now hidden (NAME w ∷ []) out.old.items out.new.items result }
+{
+    let name = name_if(alloc, memory, header_at(memory, listed, w))?;
+    if !is_word(&name) {
+        return Err(SeeRefused::Nameless(w));
+    }
+    match meant(memory, hidden, &name, w) {
+        Some(k) => {
+            write_meant(out, memory, k, &name)?;
+            Ok(())
+        }
+        None => Err(SeeRefused::Shadowed),
+    }
+}
+
+/// Writes a number, or says what is wrong with it.
+fn show_number(
+    alloc: Global,
+    out: &mut Vec<u8>,
+    memory: &Memory,
+    hidden: u16,
+    n: u16,
+) -> Result<(), SeeRefused>
+    ensures { IsWritten memory.now hidden (NUMBER n ∷ []) out.old.items out.new.items result }
+{
+    let text = number_text(alloc, n)?;
+    let text = text.as_str().as_bytes();
+    if !is_free(memory, hidden, text) {
+        return Err(SeeRefused::Shadowed);
+    }
+    write_word(out, text)?;
+    Ok(())
+}
+
+/// Writes a word with its text, or says what is wrong with that.
+fn show_text(
+    out: &mut Vec<u8>,
+    memory: &Memory,
+    hidden: u16,
+    aborts: bool,
+    text: &[u8],
+) -> Result<(), SeeRefused>
+    ensures { IsWritten memory.now hidden (TEXT aborts text.now ∷ []) out.old.items out.new.items result }
+{
+    if !is_quotable(text) {
+        return Err(SeeRefused::BadText);
+    }
+    write_text(out, keyword_text(BodyWord::Text(aborts, text)), text)?;
+    Ok(())
+}
+
+/// Writes a word of a body, or says what is wrong with it.
+fn show_word(
+    alloc: Global,
+    out: &mut Vec<u8>,
+    memory: &Memory,
+    listed: &[u16],
+    hidden: u16,
+    word: BodyWord,
+) -> Result<(), SeeRefused>
+    requires { listed.now ≡ headers memory.now }
+    ensures { IsWritten memory.now hidden (token word.entry ∷ []) out.old.items out.new.items result }
+{
+    match word {
+        BodyWord::Name(w) => show_name(alloc, out, memory, listed, hidden, w),
+        BodyWord::Number(n) => show_number(alloc, out, memory, hidden, n),
+        BodyWord::Text(aborts, text) => show_text(out, memory, hidden, aborts, text),
+        _ => {
+            write_word(out, keyword_text(word))?;
+            Ok(())
+        }
+    }
+}
+
+/// Writes the words of a body, or says what is wrong with the first that can't be written.
+pub fn show_words(
+    alloc: Global,
+    out: &mut Vec<u8>,
+    memory: &Memory,
+    listed: &[u16],
+    hidden: u16,
+    words: &[BodyWord],
+) -> Result<(), SeeRefused>
+    requires { listed.now ≡ headers memory.now }
+    ensures { IsWritten memory.now hidden (map token words.now) out.old.items out.new.items result }
+{
+    for word in words.iter() {
+        show_word(alloc, out, memory, listed, hidden, *word)?;
+    }
+    Ok(())
+}
+
+/// Begins a definition: `: NAME`.
+#[tactic(auto, unfolding(source_words::specs::Spaced::spaced, source_words::specs::Spaced::spaced_behind, source_words::specs::Spaced::quoted))]
+pub fn begin(alloc: Global, name: &[u8]) -> Result<Vec<u8>, AllocError>
+    ensures { IfOk result (λ v. v.items ≡ spaced (bare (codes ":") ∷ bare name.now ∷ [])) }
+{
+    let mut out = Vec::new(alloc);
+    out.push(b':')?;
+    write_word(&mut out, name)?;
+    Ok(out)
+}

@@ -1,0 +1,250 @@
+//! Finds the structures again.
+
+ghost use Rattle.std.specs.Prelude.{◌≡◌, ◌↔◌, IsTrue, IsSome, OnOk, true, ◌≤◌, ◌<◌, ◌^◌, ◌+◌, ◌-◌, ℕ, List, ◌∷◌, ◌++◌, IfOk, length, map, Some};
+ghost use Rattle.colon_bodies.specs.Tokens.{Token, BEGIN, laid};
+ghost use Rattle.colon_bodies.specs.Tree.{Body};
+ghost use Rattle.colon_bodies.specs.Draft.{token};
+ghost use Rattle.see.specs.Places.{Leads, EndsWell};
+ghost use Rattle.colon_bodies.specs.Structures.{Frames, In, step, else_at, again_at, repeat_at, loop_at, split, shut};
+ghost use Rattle.colon_bodies.specs.Instructions.{IQuery, IBranch, IDo, ILoop, IDoes};
+ghost use Rattle.see.specs.Seen.{Seen, frames_of, top_frame, beneath, start, begins_at, EndsHere};
+ghost use Rattle.see.specs.declared.structures.Frame.{Frame};
+
+use crate::places::begin_place;
+use colon_bodies::BodyWord;
+use std::alloc::AllocError;
+
+/// A structure that is open. An address is that of the byte where its innermost body begins, or of the one behind its end.
+#[derive(Clone, Copy)]
+pub enum Frame {
+    /// What is behind DOES>: where it begins.
+    Past(usize),
+    /// IF, or the WHILE of a loop: the place of its word, where it ends, and where its body begins.
+    If(usize, usize, usize),
+    /// ELSE: where it ends, and where its body begins.
+    Else(usize, usize),
+    /// DO: where its body begins.
+    Do(usize),
+}
+
+/// Puts a BEGIN before the words of the last `n` bytes of the first `end` words.
+fn insert_begin(words: &mut Vec<BodyWord>, end: usize, n: usize) -> Result<bool, AllocError>
+    requires { end ≤ length words.old.items }
+    ensures { (front back rest : List Token) → map token words.old.items ≡ front ++ (back ++ rest) → end ≡ length (front ++ back) → laid back ≡ n → Leads back → EndsWell front → IfOk result (λ ok. (ok ≡ true) × (map token words.new.items ≡ front ++ (BEGIN ∷ (back ++ rest)))) }
+{
+    match begin_place(&words[..end], n) {
+        Some(place) => {
+            words.insert(place, BodyWord::Begin)?;
+            Ok(true)
+        }
+        None => Ok(false),
+    }
+}
+
+/// ?BRANCH: forward it is an IF, back an UNTIL.
+pub fn take_query(
+    words: &mut Vec<BodyWord>,
+    frames: &mut Vec<Frame>,
+    here: usize,
+    to: usize,
+) -> Result<bool, AllocError>
+    requires { here + 4 < 2 ^ 64 }
+    ensures { (at : ℕ) (f g : Frames) (c d : Body) → Seen at f c here (map token words.old.items) frames.old.items → step f c here (IQuery to) ≡ Some (In g d) → IfOk result (λ ok. (ok ≡ true) × Seen at g d (here + 4) (map token words.new.items) frames.new.items) }
+{
+    if here < to {
+        frames.push(Frame::If(words.len(), to, here + 4))?;
+        words.push(BodyWord::If)?;
+        return Ok(true);
+    }
+    let end = words.len();
+    if !insert_begin(words, end, here - to)? {
+        return Ok(false);
+    }
+    words.push(BodyWord::Until)?;
+    Ok(true)
+}
+
+/// Takes off the innermost open structure.
+fn pop_frame(frames: &mut Vec<Frame>) -> Option<Frame>
+    ensures top { (at : ℕ) (f : Frames) → frames.old.items ≡ frames_of at f → (result ≡ top_frame at f) × (frames.new.items ≡ frames_of at (beneath f)) }
+    ensures shorter { IsSome result → length frames.new.items + 1 ≡ length frames.old.items }
+    ensures some { 0 < length frames.old.items → IsSome result }
+{
+    frames.pop()
+}
+
+/// BRANCH forward: an ELSE.
+fn take_else(
+    words: &mut Vec<BodyWord>,
+    frames: &mut Vec<Frame>,
+    here: usize,
+    to: usize,
+) -> Result<bool, AllocError>
+    requires { here + 4 < 2 ^ 64 }
+    ensures { (at : ℕ) (f g : Frames) (c d : Body) → Seen at f c here (map token words.old.items) frames.old.items → else_at f c to ≡ Some (In g d) → IfOk result (λ ok. (ok ≡ true) × Seen at g d (here + 4) (map token words.new.items) frames.new.items) }
+{
+    match pop_frame(frames) {
+        Some(Frame::If(_, _, _)) => {
+            frames.push(Frame::Else(to, here + 4))?;
+            words.push(BodyWord::Else)?;
+            Ok(true)
+        }
+        _ => Ok(false),
+    }
+}
+
+/// BRANCH back within the innermost body: an AGAIN.
+fn take_again(words: &mut Vec<BodyWord>, here: usize, to: usize) -> Result<bool, AllocError>
+    requires { to ≤ here }
+    ensures { (at : ℕ) (f g : Frames) (c d : Body) (frames : List Frame) → Seen at f c here (map token words.old.items) frames → again_at f (split c (here - to)) ≡ Some (In g d) → IfOk result (λ ok. (ok ≡ true) × Seen at g d (here + 4) (map token words.new.items) frames) }
+{
+    let end = words.len();
+    if !insert_begin(words, end, here - to)? {
+        return Ok(false);
+    }
+    words.push(BodyWord::Again)?;
+    Ok(true)
+}
+
+/// BRANCH back over the start of the innermost body: a REPEAT, and what was read as IF is a WHILE.
+fn take_repeat(
+    words: &mut Vec<BodyWord>,
+    frames: &mut Vec<Frame>,
+    to: usize,
+) -> Result<bool, AllocError>
+    ensures { (at here : ℕ) (f g : Frames) (c d : Body) → Seen at f c here (map token words.old.items) frames.old.items → to < start at f → repeat_at f c here to ≡ Some (In g d) → IfOk result (λ ok. (ok ≡ true) × Seen at g d (here + 4) (map token words.new.items) frames.new.items) }
+{
+    match pop_frame(frames) {
+        Some(Frame::If(index, _, start)) => {
+            if index >= words.len() {
+                return Ok(false);
+            }
+            words[index] = BodyWord::While;
+            if !insert_begin(words, index, start.saturating_sub(4).saturating_sub(to))? {
+                return Ok(false);
+            }
+            words.push(BodyWord::Repeat)?;
+            Ok(true)
+        }
+        _ => Ok(false),
+    }
+}
+
+/// (DO).
+pub fn take_do(
+    words: &mut Vec<BodyWord>,
+    frames: &mut Vec<Frame>,
+    here: usize,
+) -> Result<bool, AllocError>
+    requires { here + 4 < 2 ^ 64 }
+    ensures { (at to : ℕ) (f g : Frames) (c d : Body) → Seen at f c here (map token words.old.items) frames.old.items → step f c here (IDo to) ≡ Some (In g d) → IfOk result (λ ok. (ok ≡ true) × Seen at g d (here + 4) (map token words.new.items) frames.new.items) }
+{
+    frames.push(Frame::Do(here + 4))?;
+    words.push(BodyWord::Do)?;
+    Ok(true)
+}
+
+/// (LOOP) or (+LOOP).
+pub fn take_loop(
+    words: &mut Vec<BodyWord>,
+    frames: &mut Vec<Frame>,
+    plus: bool,
+) -> Result<bool, AllocError>
+    ensures { (at here to : ℕ) (f g : Frames) (c d : Body) → Seen at f c here (map token words.old.items) frames.old.items → step f c here (ILoop plus to) ≡ Some (In g d) → IfOk result (λ ok. (ok ≡ true) × Seen at g d (here + 4) (map token words.new.items) frames.new.items) }
+{
+    match pop_frame(frames) {
+        Some(Frame::Do(_)) => {
+            words.push(BodyWord::Loop(plus))?;
+            Ok(true)
+        }
+        _ => Ok(false),
+    }
+}
+
+/// (DOES>).
+pub fn take_does(
+    words: &mut Vec<BodyWord>,
+    frames: &mut Vec<Frame>,
+    here: usize,
+) -> Result<bool, AllocError>
+    requires { here + 2 < 2 ^ 64 }
+    ensures { (at : ℕ) (f g : Frames) (c d : Body) → Seen at f c here (map token words.old.items) frames.old.items → step f c here IDoes ≡ Some (In g d) → IfOk result (λ ok. (ok ≡ true) × Seen at g d (here + 2) (map token words.new.items) frames.new.items) }
+{
+    frames.push(Frame::Past(here + 2))?;
+    words.push(BodyWord::Does)?;
+    Ok(true)
+}
+
+/// The innermost open structure.
+fn top(frames: &Vec<Frame>) -> Option<Frame>
+    ensures { (at : ℕ) (f : Frames) → frames.now.items ≡ frames_of at f → result ≡ top_frame at f }
+{
+    frames.last().copied()
+}
+
+/// Where the body of the innermost open structure begins; without one, where the definition does.
+fn start_in(at: usize, top: Option<Frame>) -> usize
+    ensures { result ≡ begins_at at top }
+{
+    match top {
+        None => at,
+        Some(Frame::Past(start)) => start,
+        Some(Frame::If(_, _, start)) => start,
+        Some(Frame::Else(_, start)) => start,
+        Some(Frame::Do(start)) => start,
+    }
+}
+
+/// Where the innermost body begins.
+fn body_start(frames: &Vec<Frame>, at: usize) -> usize
+    ensures { (f : Frames) → frames.now.items ≡ frames_of at f → result ≡ start at f }
+{
+    start_in(at, top(frames))
+}
+
+/// BRANCH.
+pub fn take_branch(
+    words: &mut Vec<BodyWord>,
+    frames: &mut Vec<Frame>,
+    at: usize,
+    here: usize,
+    to: usize,
+) -> Result<bool, AllocError>
+    requires { here + 4 < 2 ^ 64 }
+    ensures { (f g : Frames) (c d : Body) → Seen at f c here (map token words.old.items) frames.old.items → step f c here (IBranch to) ≡ Some (In g d) → IfOk result (λ ok. (ok ≡ true) × Seen at g d (here + 4) (map token words.new.items) frames.new.items) }
+{
+    if here < to {
+        return take_else(words, frames, here, to);
+    }
+    if to < body_start(frames, at) {
+        return take_repeat(words, frames, to);
+    }
+    take_again(words, here, to)
+}
+
+/// Whether the innermost open structure ends here.
+fn ends_here(frames: &Vec<Frame>, here: usize) -> bool
+    ensures meaning { (at : ℕ) (f : Frames) → frames.now.items ≡ frames_of at f → IsTrue result ↔ EndsHere f here }
+    ensures some { IsTrue result → 0 < length frames.now.items }
+{
+    match frames.last() {
+        Some(Frame::If(_, to, _)) => *to <= here,
+        Some(Frame::Else(to, _)) => *to <= here,
+        _ => false,
+    }
+}
+
+/// Ends the structures that end here.
+pub fn close_here(
+    words: &mut Vec<BodyWord>,
+    frames: &mut Vec<Frame>,
+    here: usize,
+) -> Result<(), AllocError>
+    ensures { (at : ℕ) (f g : Frames) (c d : Body) → Seen at f c here (map token words.old.items) frames.old.items → shut f c here ≡ In g d → OnOk result (Seen at g d here (map token words.new.items) frames.new.items) }
+{
+    while ends_here(frames, here) {
+        let _ = pop_frame(frames);
+        words.push(BodyWord::Then)?;
+    }
+    Ok(())
+}
