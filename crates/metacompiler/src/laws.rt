@@ -2,14 +2,14 @@
 
 ghost use Rattle.std.specs.Prelude.{◌≡◌, ℕ, ◌+◌, ◌-◌, ◌<◌, ◌≤◌, ◌*◌, ◌++◌, ◌⊎◌, List, ◌∷◌, length, sum, Some, None};
 ghost use Rattle.memory.specs.Bytes.{cell};
-ghost use Rattle.memory.specs.declared.system.TheConstants.{DP};
+ghost use Rattle.memory.specs.declared.system.TheConstants.{DP, RUNTIME_CELLS};
 ghost use Rattle.block_buffers.specs.Disks.{Disk};
 ghost use Rattle.source_words.specs.Words.{SourceWord, source_words};
 ghost use Rattle.metacompiler.specs.Spelled.{all_placed};
 ghost use Rattle.metacompiler.specs.Sources.{Done, AreThere, IsRefused, source_of, screens};
 ghost use Rattle.metacompiler.specs.declared.cause.BuildFault.{BuildFault};
 ghost use Rattle.metacompiler.specs.Places.{Place};
-ghost use Rattle.metacompiler.specs.Items.{Items, image, names, current, end_of, link_of};
+ghost use Rattle.metacompiler.specs.Items.{Items, image, system, controls, names, current, end_of, link_of};
 ghost use Rattle.metacompiler.specs.Names.{Name, within, found};
 ghost use Rattle.dictionary.specs.Header.{view_of};
 ghost use Rattle.dictionary.specs.Search.{Found, Nowhere, sought_in, sought};
@@ -42,6 +42,13 @@ pub fn refusal_law()
 pub fn size_law()
     ensures length { (t : Items) → length (image t) ≡ 256 + sum (sizes t) }
     ensures end { (t : Items) → cell (memory_of t) DP ≡ 256 + sum (sizes t) }
+{}
+
+/// The cells of an image's memory below 64 are the system's, as its items make them; and each runtime cell is the compilation
+/// address of its control primitive, 0 where it has no name.
+pub fn cells_law()
+    ensures system { (t : Items) (i : ℕ) → i < 32 → cell (memory_of t) (2 * i) ≡ system t (2 * i) }
+    ensures runtime { (t : Items) (k : ℕ) → k < 32 → cell (memory_of t) (RUNTIME_CELLS + 2 * k) ≡ controls t k }
 {}
 
 /// In an image's memory the chain of each class of a vocabulary is exactly the names of that vocabulary and class, newest

@@ -1,13 +1,18 @@
 -- The rows of a body's keywords.
-use Rattle.std.proofs.Common.{◌≡◌, ℕ, ◌+◌, ◌≤◌, List, ◌∷◌, ◌++◌, length, Some, refl, sym, subst, arith}
+use Rattle.std.proofs.Common.{◌≡◌, ℕ, ◌+◌, ◌≤◌, List, ◌∷◌, ◌++◌, length, Some, refl, sym, ap, subst, arith}
 use Rattle.std.specs.Prelude.{true, false, nat_lt, Option}
-use Rattle.memory.specs.Bytes.{cell, cell_bytes}
+use Rattle.memory.specs.Bytes.{cell, put_cell, cell_bytes}
 use Rattle.dictionary.specs.Laying.{fits}
 use Rattle.plain_rows.specs.Whole.{Whole}
 use Rattle.plain_rows.specs.declared.parts.Outcome.TheVariants.{Done}
 use Rattle.plain_rows.specs.Row.{After, takes1, takes2, room}
 use Rattle.primitives.specs.Compiling.{compiles, resolves}
 use Rattle.primitives.specs.Table.{row, compiling}
+use Rattle.primitives.specs.Interpret.{compiles_past}
+use Rattle.primitives.specs.Defining.{lays_past}
+use Rattle.input_source.specs.declared.words.Word.{Word}
+use Rattle.memory.proofs.Kept.{cell_beside}
+use Rattle.dictionary.specs.Laying.{laid_at}
 use Rattle.compiling_words.specs.Code.{runtime, control_code}
 use Rattle.compiling_words.specs.Definitions.{ended}
 use Rattle.compiling_words.specs.Laying.{laid}
@@ -136,3 +141,25 @@ row_is before at o p t u h k n w s below r g q e d =
 pub semicolon_is : (s : Whole) (w : ℕ) → cell s.memory 28 + 2 ≤ 61440 → row 169 w s ≡ (record s { memory = ended s.memory }, Done)
 unfolding row compiling
 semicolon_is s w h = rw (fits_is s.memory 2 h) refl
+
+-- >IN moves, and then bytes are laid
+moved_here : (m : List ℕ) (q : ℕ) → cell (put_cell m 20 q) 28 ≡ cell m 28
+moved_here m q = cell_beside m 20 q 28 (omega arith) (omega arith) (omega arith) (omega arith) (omega arith)
+
+pub compiles_past_is : (s : Whole) (w : Word) (bs : List ℕ) → cell s.memory 28 + length bs ≤ 61440 → length s.values ≤ 255 → compiles_past s w bs ≡ (record s { values = 65535 ∷ s.values; memory = laid (put_cell s.memory 20 w.next) bs }, Done)
+unfolding compiles_past room
+compiles_past_is s w bs h g =
+    rw (fits_is s.memory (length bs) h, room_is (length (65535 ∷ s.values)) (omega arith))
+    (ap (λ (n : ℕ). after s (65535 ∷ s.values) (laid_at n (put_cell s.memory 20 w.next) bs)) (sym (moved_here s.memory w.next)))
+  where
+    after : Whole → List ℕ → List ℕ → After
+    after s d m = (record s { values = d; memory = m }, Done)
+
+pub lays_past_is : (s : Whole) (w : Word) (bs : List ℕ) → cell s.memory 28 + length bs ≤ 61440 → lays_past s w bs ≡ (record s { memory = laid (put_cell s.memory 20 w.next) bs }, Done)
+unfolding lays_past
+lays_past_is s w bs h =
+    rw (fits_is s.memory (length bs) h)
+    (ap (λ (n : ℕ). after s (laid_at n (put_cell s.memory 20 w.next) bs)) (sym (moved_here s.memory w.next)))
+  where
+    after : Whole → List ℕ → After
+    after s m = (record s { memory = m }, Done)

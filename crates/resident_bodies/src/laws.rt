@@ -10,6 +10,10 @@ ghost use Rattle.compiling_words.specs.Laying.{laid};
 ghost use Rattle.plain_rows.specs.Whole.{Whole};
 ghost use Rattle.plain_rows.specs.declared.parts.Outcome.TheVariants.{Done};
 ghost use Rattle.primitives.specs.Table.{row};
+ghost use Rattle.primitives.specs.Interpret.{compiles_past};
+ghost use Rattle.primitives.specs.Defining.{lays_past};
+ghost use Rattle.input_source.specs.declared.words.Word.{Word};
+ghost use Rattle.stacks.specs.Cells.{◌▸◌};
 ghost use Rattle.colon_bodies.specs.declared.words.Half.TheVariants.{Free};
 ghost use Rattle.colon_bodies.specs.declared.words.Half.{Half};
 ghost use Rattle.colon_bodies.specs.Tokens.{Token, NAME, NUMBER, DOUBLE, TEXT, text_control, laid_by};
@@ -50,10 +54,12 @@ pub fn body_law()
     ensures stack { (m d : List ℕ) (at : ℕ) (body : Definition) → length m ≡ 65536 → cell m DP ≡ at → 256 ≤ at → at + all_size body ≤ 61440 → (lays_all (all_words body) m d).1 ≡ d }
 {}
 
-/// A row that takes a name, a number or a text out of the stream moves >IN first, and lays what the word lays there; that
-/// leaves a definition laid in part as it is. What `[']` lays at once is what its two words lay.
+/// A row that takes a name, a number or a text out of the stream moves >IN first, and lays what the word lays there; that >IN
+/// moves leaves a definition laid in part as it is. What `[']` lays at once is what its two words lay.
 pub fn stream_law()
     ensures moved { (before : List ℕ) (at : ℕ) (o : Outer) (t : Body) (h : Half) (m d below : List ℕ) (q : ℕ) → 256 ≤ at → Draft before at o t h m d below → Draft before at o t h (put_cell m TO_IN q) d below }
+    ensures compiles { (s : Whole) (word : Word) (bs : List ℕ) → cell s.memory DP + length bs ≤ 61440 → length s.values ≤ 255 → compiles_past s word bs ≡ (record s { values = s.values ▸ 65535; memory = laid (put_cell s.memory TO_IN word.next) bs }, Done) }
+    ensures lays { (s : Whole) (word : Word) (bs : List ℕ) → cell s.memory DP + length bs ≤ 61440 → lays_past s word bs ≡ (record s { memory = laid (put_cell s.memory TO_IN word.next) bs }, Done) }
     ensures name { (m d : List ℕ) (q w : ℕ) → (lays (NAME w) (put_cell m TO_IN q) d).0 ≡ laid_at (cell m DP) (put_cell m TO_IN q) (cell_bytes w) }
     ensures number { (m d : List ℕ) (q n : ℕ) → (lays (NUMBER n) (put_cell m TO_IN q) d).0 ≡ laid_at (cell m DP) (put_cell m TO_IN q) (literal_code m n) }
     ensures double { (m d : List ℕ) (q n : ℕ) → (lays (DOUBLE n) (put_cell m TO_IN q) d).0 ≡ laid_at (cell m DP) (put_cell m TO_IN q) (literal_code m (n % 65536) ++ literal_code m (n / 65536)) }

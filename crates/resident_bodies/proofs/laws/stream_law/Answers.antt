@@ -1,4 +1,5 @@
 use Rattle.resident_bodies.proofs.Moved.{moved, moved_name, moved_number, moved_double, moved_text}
+use Rattle.resident_bodies.proofs.Rows.{compiles_past_is, lays_past_is}
 use Rattle.resident_bodies.proofs.Words.{tick_name}
 use Rattle.resident_bodies.proofs.laws.stream_law.Goals as goal
 
@@ -19,3 +20,9 @@ returns-clause-text c = moved_text
 
 pub returns-clause-tick : goal.returns-clause-tick
 returns-clause-tick c = tick_name
+
+pub returns-clause-compiles : goal.returns-clause-compiles
+returns-clause-compiles c = compiles_past_is
+
+pub returns-clause-lays : goal.returns-clause-lays
+returns-clause-lays c = lays_past_is
