@@ -1,6 +1,10 @@
 pub mod Viewed
 pub mod Printed
 pub mod Answered
+pub mod Figures
+pub mod Stepping
+pub mod Telling
+pub mod Rereading
 pub mod Walking
 pub mod Cutting
 pub mod Shutting
