@@ -55,13 +55,13 @@ figured n h = elim (cases_lt n 32768) [
     value = rw (text_value-expansion 10 n refl) (omega arith);
   }
   | inr p ↦
-    let m : ℕ = suc (65536 - suc n) in
-    record {
-      minus = true;
-      ds = map byte_of (expansion 10 m);
-      is = ap signed_decimal (negative n p) ∙ ap (λ l. 45 ∷ l) (decimal_is m (omega arith));
-      some = some_digits m (omega arith);
-      digits = are_digits-expansion 10 m refl;
-      value = rw (text_value-expansion 10 m refl) (omega arith);
-    }
+      let m : ℕ = suc (65536 - suc n) in
+      record {
+        minus = true;
+        ds = map byte_of (expansion 10 m);
+        is = ap signed_decimal (negative n p) ∙ ap (λ l. 45 ∷ l) (decimal_is m (omega arith));
+        some = some_digits m (omega arith);
+        digits = are_digits-expansion 10 m refl;
+        value = rw (text_value-expansion 10 m refl) (omega arith);
+      }
 ]
