@@ -1,6 +1,6 @@
 -- A whole definition that is printed is read as it was.
 use Rattle.std.proofs.Common.{◌≡◌, ◌≢◌, ℕ, ◌+◌, ◌<◌, Bool, true, false, not, ◌&&◌, ◌==◌, List, [], ◌∷◌, ◌++◌, length, map, Option, Some, None, refl, sym, ap, ◌∙◌, subst, arith, append_assoc, append-nil}
-use Rattle.std.specs.Prelude.{All, codes, slice_index}
+use Rattle.std.specs.Prelude.{All, codes, slice_index, Result, Ok, Err, IfOk, Vec}
 use Rattle.std.specs.List.{list_all}
 use Rattle.std.proofs.lemmas.List.Elements.{All-nil, All-cons}
 use Rattle.std.proofs.lemmas.List.{map-append}
@@ -20,7 +20,9 @@ use Rattle.see.specs.Extent.{controls_of, parameter_field, extent}
 use Rattle.see.specs.Naming.{is_word, is_quotable, name_at, number_text, IsReadable, IsReadableWord, AreReadableWords}
 use Rattle.see.specs.Printing.{printed, called, all_printed, is_forced, is_keyword, keyword_text, its_words, text}
 use Rattle.see.specs.Reading.{tokens_of, AreCells, IsReadAs}
-use Rattle.see.specs.Seeing.{IsDefined}
+use Rattle.see.specs.Seeing.{IsDefined, IsSeen, IsReadBack}
+use Rattle.see.specs.declared.refusal.SeeRefused.{SeeRefused}
+use Rattle.std.specs.declared.alloc.Global.{Global}
 use Rattle.see.proofs.Stepping.{bare_is, bare_step, neither}
 use Rattle.see.proofs.Telling.{number_bare, number_word}
 use Rattle.see.proofs.Rereading.{all_told}
@@ -187,3 +189,9 @@ read_again m name l d h r c =
       record { body = all_printed m l (its_words d); words_are = λ screen. words_read m l name d screen h.code.plain r c; tokens_are = tokens_read m l d h.code.plain r.words c },
       spelled_thread rt (is_forced m l) d (parameter_field m l) ∙ h.code.is,
     )
+
+pub seen_read : (m name : List ℕ) (x : Result (Vec ℕ Global) SeeRefused) → IsSeen m name x → IfOk x (λ v. IsReadBack m name v.items)
+seen_read m name (Ok v) s =
+    let r = read_again m name s.0 s.1 s.2 s.3 s.4 in
+    (s.0, r.0, s.2.colon, subst (λ b. IsReadAs m s.0 name b r.0) (sym s.5) r.1, r.2)
+seen_read m name (Err e) s = tt

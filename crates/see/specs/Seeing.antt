@@ -8,10 +8,11 @@ use Rattle.dictionary.specs.Search.{Sought, Found, Nowhere, TooLong, sought}
 use Rattle.colon_bodies.specs.Tree.{Definition}
 use Rattle.colon_bodies.specs.Tokens.{Token}
 use Rattle.colon_bodies.specs.Plain.{AreApart}
+use Rattle.colon_bodies.specs.Code.{thread}
 use Rattle.see.specs.Shown.{IsThread}
 use Rattle.see.specs.Extent.{parameter_field, extent, controls_of}
 use Rattle.see.specs.Naming.{words_fault, first_fault, IsReadable}
-use Rattle.see.specs.Reading.{AreCells}
+use Rattle.see.specs.Reading.{AreCells, IsReadAs}
 use Rattle.see.specs.Printing.{its_words, all_printed, printed_text, text}
 use Rattle.source_words.specs.Spaced.{spaced_behind}
 use Rattle.see.specs.declared.refusal.SeeRefused.{SeeRefused}
@@ -59,3 +60,8 @@ IsSeen m name (Err r.NotColon) = (l : ℕ) × IsHeader m name l × (cell m (comp
 IsSeen m name (Err r.NotStructured) = (l : ℕ) × IsColon m name l × (HasControlsApart m → (d : Definition) → IsCode m l d → ⊥)
 IsSeen m name (Err r.OutOfMemory) = Unit {0}
 IsSeen m name (Err e) = (l : ℕ) × (d : Definition) × IsDefined m name l d × (first_fault m l name (its_words d) ≡ Some e)
+
+-- bytes that are read, as a source is, as a definition which is laid as the extent of the colon word that the name means
+abbrev pub IsReadBack : List ℕ → List ℕ → List ℕ → Type 0
+IsReadBack m name bytes =
+    (l : ℕ) × (e : Definition) × IsColon m name l × IsReadAs m l name bytes e × (thread (slice_index (controls_of m)) e (parameter_field m l) ≡ extent m (parameter_field m l))
