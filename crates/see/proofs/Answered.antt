@@ -11,6 +11,7 @@ use Rattle.dictionary.specs.Header.{compilation_address}
 use Rattle.see.specs.Shown.{Shown, IsThread}
 use Rattle.see.specs.Extent.{parameter_field, extent, controls_of}
 use Rattle.see.specs.Naming.{IsReadableWord, AreReadableWords, IsReadable, word_fault, words_fault, first_fault, or_fault, is_word, name_at, is_meant, is_free, number_text, is_quotable}
+use Rattle.see.specs.Reading.{AreCells}
 use Rattle.see.specs.Printing.{its_words, printed_text, text}
 use Rattle.see.specs.Seeing.{IsHeader, IsColon, IsCode, HasControlsApart, IsDefined, IsPrinted, IsSeen}
 use Rattle.see.specs.declared.refusal.SeeRefused.{SeeRefused}
@@ -109,7 +110,7 @@ faultless m l name ws p = rw p.named (words_passed m l ws p.words)
 pub seen_by : (m name : List ℕ) (l : ℕ) (ws : List Token) (x : Result (Vec ℕ Global) SeeRefused) → IsColon m name l → HasControlsApart m → Shown (slice_index (controls_of m)) (parameter_field m l) (extent m (parameter_field m l)) ws → IsPrinted m l name ws x → IsSeen m name x
 unfolding text
 seen_by m name l ws (Ok v) c a s p =
-    (l, s.body, record { colon = c; apart = a; code = s.is }, readable m l name (its_words s.body) (subst (λ w. first_fault m l name w ≡ None) s.words_are p.0), subst (λ w. v.items ≡ printed_text m l name w) s.words_are p.1)
+    (l, s.body, record { colon = c; apart = a; code = s.is }, readable m l name (its_words s.body) (subst (λ w. first_fault m l name w ≡ None) s.words_are p.0), subst AreCells s.words_are p.1, subst (λ w. v.items ≡ printed_text m l name w) s.words_are p.2)
 seen_by m name l ws (Err r.OutOfMemory) c a s p = tt
 seen_by m name l ws (Err (r.Nameless w)) c a s (inr q) = (l, s.body, record { colon = c; apart = a; code = s.is }, subst (λ v. first_fault m l name v ≡ Some (r.Nameless w)) s.words_are q)
 seen_by m name l ws (Err r.Shadowed) c a s (inr q) = (l, s.body, record { colon = c; apart = a; code = s.is }, subst (λ v. first_fault m l name v ≡ Some (r.Shadowed)) s.words_are q)

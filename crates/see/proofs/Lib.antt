@@ -1,6 +1,11 @@
 pub mod Viewed
 pub mod Printed
 pub mod Answered
+pub mod Figures
+pub mod Stepping
+pub mod Telling
+pub mod Rereading
+pub mod Whole
 pub mod Walking
 pub mod Cutting
 pub mod Shutting

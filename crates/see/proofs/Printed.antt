@@ -1,5 +1,5 @@
 -- Words are printed one behind another.
-use Rattle.std.proofs.Common.{◌≡◌, ℕ, Bool, true, false, List, [], ◌∷◌, ◌++◌, refl, sym, ap, ◌∙◌, append_assoc, append-nil, map, length, drop, suc, ◌<◌, ◌≤◌, get_or, Option, Some, None, ◌⊎◌, inl, inr}
+use Rattle.std.proofs.Common.{◌≡◌, ℕ, Bool, true, false, List, [], ◌∷◌, ◌++◌, refl, sym, ap, subst, ◌∙◌, append_assoc, append-nil, map, length, drop, suc, ◌<◌, ◌≤◌, get_or, Option, Some, None, ◌⊎◌, inl, inr}
 use Rattle.std.proofs.Math.Seq.{drop-cons}
 use Rattle.std.proofs.Math.ListN.{drop_of_length-le}
 use Rattle.colon_bodies.specs.declared.words.BodyWord.{BodyWord}
@@ -7,9 +7,10 @@ use Rattle.colon_bodies.specs.Draft.{token}
 use Rattle.std.proofs.lemmas.List.{map-append}
 use Rattle.source_words.specs.Spaced.{Spelling, bare, spaced, spaced_behind, quoted}
 use Rattle.std.specs.Prelude.{codes}
-use Rattle.colon_bodies.specs.Tokens.{Token, NAME}
+use Rattle.colon_bodies.specs.Tokens.{Token, NAME, NUMBER}
 use Rattle.colon_bodies.specs.Tree.{named}
 use Rattle.colon_bodies.specs.Plain.{respelled}
+use Rattle.see.specs.Reading.{AreCells}
 use Rattle.see.specs.Printing.{is_forced, printed, called, all_printed, printed_text}
 use Rattle.see.specs.Naming.{is_word, name_at, word_fault, words_fault, first_fault, or_fault}
 use Rattle.see.specs.declared.refusal.SeeRefused.{SeeRefused}
@@ -102,5 +103,18 @@ refused_here m h ws i d z lt (inl e) k = inl e
 refused_here m h ws i d z lt (inr e) k = inr (fault_here m h ws i d (words_fault m h (map token ws)) z lt e k)
 
 -- a whole definition is written
-pub all_shown : (m : List ℕ) (l : ℕ) (name : List ℕ) (ws : List Token) (old new : List ℕ) → is_word name ≡ true → words_fault m l ws ≡ None → old ≡ spaced (bare (codes ":") ∷ bare name ∷ []) → new ≡ old ++ spaced_behind (all_printed m l ws) → (first_fault m l name ws ≡ None) × (new ≡ printed_text m l name ws)
-all_shown m l name ws old new w f e g = (rw w f, shown_behind m l name ws old new e g)
+pub all_shown : (m : List ℕ) (l : ℕ) (name : List ℕ) (ws : List Token) (old new : List ℕ) → is_word name ≡ true → words_fault m l ws ≡ None → AreCells ws → old ≡ spaced (bare (codes ":") ∷ bare name ∷ []) → new ≡ old ++ spaced_behind (all_printed m l ws) → (first_fault m l name ws ≡ None) × AreCells ws × (new ≡ printed_text m l name ws)
+all_shown m l name ws old new w f c e g = (rw w f, c, shown_behind m l name ws old new e g)
+
+-- numbers that are cells
+cells_join : (xs ys : List Token) → AreCells xs → AreCells ys → AreCells (xs ++ ys)
+cells_join [] ys h k = k
+cells_join (NUMBER n ∷ xs) ys h k = (h.0, cells_join xs ys h.1 k)
+cells_join (_ ∷ xs) ys h k = cells_join xs ys h k
+
+pub cells_on : (ws : List BodyWord) (i : ℕ) (d : BodyWord) (all : Type 0) → i < length ws → AreCells (token (get_or ws i d) ∷ []) → (AreCells (map token (drop i ws)) → all) → AreCells (map token (drop (suc i) ws)) → all
+cells_on ws i d all lt c k rest =
+    k (subst (λ l. AreCells (map token l)) (sym (drop-cons ws i d lt)) (cells_join (token (get_or ws i d) ∷ []) (map token (drop (suc i) ws)) c rest))
+
+pub cells_end : (ws : List BodyWord) (i : ℕ) (all : Type 0) → length ws ≤ i → (AreCells (map token (drop i ws)) → all) → all
+cells_end ws i all le k = k (subst (λ l. AreCells (map token l)) (sym (drop_of_length-le ws le)) tt)

@@ -8,3 +8,4 @@ pub mod Extent
 pub mod Naming
 pub mod Printing
 pub mod Seeing
+pub mod Reading

@@ -8,9 +8,11 @@ use Rattle.dictionary.specs.Search.{Sought, Found, Nowhere, TooLong, sought}
 use Rattle.colon_bodies.specs.Tree.{Definition}
 use Rattle.colon_bodies.specs.Tokens.{Token}
 use Rattle.colon_bodies.specs.Plain.{AreApart}
+use Rattle.colon_bodies.specs.Code.{thread}
 use Rattle.see.specs.Shown.{IsThread}
 use Rattle.see.specs.Extent.{parameter_field, extent, controls_of}
 use Rattle.see.specs.Naming.{words_fault, first_fault, IsReadable}
+use Rattle.see.specs.Reading.{AreCells, IsReadAs}
 use Rattle.see.specs.Printing.{its_words, all_printed, printed_text, text}
 use Rattle.source_words.specs.Spaced.{spaced_behind}
 use Rattle.see.specs.declared.refusal.SeeRefused.{SeeRefused}
@@ -40,21 +42,26 @@ pub record IsDefined (m name : List ℕ) (l : ℕ) (d : Definition) : Type 0 whe
 
 -- words are written behind what was written, or are refused for their first fault
 abbrev pub IsWritten : List ℕ → (hidden : ℕ) → List Token → (old new : List ℕ) → Result (Unit {0}) SeeRefused → Type 0
-IsWritten m hidden ws old new (Ok u) = (words_fault m hidden ws ≡ None) × (new ≡ old ++ spaced_behind (all_printed m hidden ws))
+IsWritten m hidden ws old new (Ok u) = (words_fault m hidden ws ≡ None) × AreCells ws × (new ≡ old ++ spaced_behind (all_printed m hidden ws))
 IsWritten m hidden ws old new (Err e) = (e ≡ r.OutOfMemory) ⊎ (words_fault m hidden ws ≡ Some e)
 
 -- these words printed, or the first fault of a definition of them
 abbrev pub IsPrinted : List ℕ → ℕ → List ℕ → List Token → Result (Vec ℕ Global) SeeRefused → Type 0
-IsPrinted m l name ws (Ok v) = (first_fault m l name ws ≡ None) × (v.items ≡ printed_text m l name ws)
+IsPrinted m l name ws (Ok v) = (first_fault m l name ws ≡ None) × AreCells ws × (v.items ≡ printed_text m l name ws)
 IsPrinted m l name ws (Err e) = (e ≡ r.OutOfMemory) ⊎ (first_fault m l name ws ≡ Some e)
 
 -- what is answered: the text of a readable definition, or why there is none
 abbrev pub IsSeen : List ℕ → List ℕ → Result (Vec ℕ Global) SeeRefused → Type 0
 IsSeen m name (Ok v) =
-    (l : ℕ) × (d : Definition) × IsDefined m name l d × IsReadable m l name (its_words d) × (v.items ≡ text m l name d)
+    (l : ℕ) × (d : Definition) × IsDefined m name l d × IsReadable m l name (its_words d) × AreCells (its_words d) × (v.items ≡ text m l name d)
 IsSeen m name (Err r.NotFound) = sought m name ≡ Nowhere
 IsSeen m name (Err r.ChainTooLong) = (sought m name ≡ TooLong) ⊎ ((l : ℕ) × (sought m name ≡ Found l) × (is_beyond_limit m ≡ true))
 IsSeen m name (Err r.NotColon) = (l : ℕ) × IsHeader m name l × (cell m (compilation_address m l) ≢ 1)
 IsSeen m name (Err r.NotStructured) = (l : ℕ) × IsColon m name l × (HasControlsApart m → (d : Definition) → IsCode m l d → ⊥)
 IsSeen m name (Err r.OutOfMemory) = Unit {0}
 IsSeen m name (Err e) = (l : ℕ) × (d : Definition) × IsDefined m name l d × (first_fault m l name (its_words d) ≡ Some e)
+
+-- bytes that are read, as a source is, as a definition which is laid as the extent of the colon word that the name means
+abbrev pub IsReadBack : List ℕ → List ℕ → List ℕ → Type 0
+IsReadBack m name bytes =
+    (l : ℕ) × (e : Definition) × IsColon m name l × IsReadAs m l name bytes e × (thread (slice_index (controls_of m)) e (parameter_field m l) ≡ extent m (parameter_field m l))

@@ -1,13 +1,13 @@
 //! A colon word as the text of its definition.
 
-ghost use Rattle.std.specs.Prelude.{◌≡◌, ℕ, IfErr, map};
+ghost use Rattle.std.specs.Prelude.{◌≡◌, ℕ, IfErr, IfOk, map};
 ghost use Rattle.dictionary.specs.Order.{headers};
 ghost use Rattle.dictionary.specs.Search.{Found, sought};
 ghost use Rattle.colon_bodies.specs.Draft.{token};
 ghost use Rattle.colon_bodies.specs.Tree.{Definition};
 ghost use Rattle.see.specs.Naming.{IsReadable};
 ghost use Rattle.see.specs.Printing.{its_words};
-ghost use Rattle.see.specs.Seeing.{IsColon, IsDefined, IsPrinted, IsSeen};
+ghost use Rattle.see.specs.Seeing.{IsColon, IsDefined, IsPrinted, IsReadBack, IsSeen};
 ghost use Rattle.see.specs.declared.refusal.SeeRefused.TheVariants.{OutOfMemory};
 
 use crate::extent::{controls_of, extent, parameter_field};
@@ -93,9 +93,10 @@ fn see_named(alloc: Global, memory: &Memory, name: &[u8]) -> Result<Vec<u8>, See
 /// The colon word that a name means, as text: `: NAME`, the body and `;`, with single blanks between. Numbers are signed
 /// decimals, and `[COMPILE]` stands before a name that is immediate or spelled as a keyword. What is printed compiles to
 /// the word's thread again. The refusals are those of `SeeRefused`.
-#[tactic(auto, using(crate::proofs::Answered::none_refused))]
+#[tactic(auto, using(crate::proofs::Answered::none_refused, crate::proofs::Whole::seen_read))]
 pub fn see(alloc: Global, memory: &Memory, name: &[u8]) -> Result<Vec<u8>, SeeRefused>
     ensures seen { IsSeen memory.now name.now result }
+    ensures read { IfOk result (λ v. IsReadBack memory.now name.now v.items) }
     ensures complete { (l : ℕ) (d : Definition) → IsDefined memory.now name.now l d → IsReadable memory.now l name.now (its_words d) → IfErr result (λ e. e ≡ OutOfMemory) }
 {
     see_named(alloc, memory, name)

@@ -68,6 +68,9 @@ fn found_again(rt: HostRuntime) -> Result<(), Fail> {
     let Ok((image, _)) = compile(rt.alloc(), words.as_slice(), &RUNTIME, 1000, 61440) else {
         return Err("refused".into());
     };
+    if image.len() > 200 {
+        return Err("too long".into());
+    }
     match thread_words(rt.alloc(), &image, &RUNTIME, 1000) {
         Ok(Some(seen)) => assert_eq!(rt; seen.as_slice(), words.as_slice()),
         _ => return Err("no thread".into()),

@@ -1,6 +1,6 @@
 use Rattle.std.proofs.Common.{add-one, rules}
 use Rattle.colon_bodies.specs.declared.words.BodyWord.TheVariants as w
-use Rattle.see.proofs.Printed.{step_written, end_written, refused_here, fault_on, fault_none}
+use Rattle.see.proofs.Printed.{step_written, end_written, cells_on, cells_end, refused_here, fault_on, fault_none}
 use Rattle.see.proofs.printing.show_words.Goals as goal
 
 pub returns-in_err-show_word : goal.returns-in_err-show_word
@@ -11,11 +11,13 @@ returns-in_err-show_word c =
 pub loop-word-preserved : goal.loop-word-preserved
 loop-word-preserved c = rw add-one (
   fault_on c.args.memory.now c.args.hidden c.args.words.now c.loop-word.word-index (w.Name 0) _ c.loop-word-test.true c.in_ok-show_word.ensures.0 c.loop-word.invariant.0,
-  step_written c.args.memory.now c.args.hidden c.args.words.now c.loop-word.word-index (w.Name 0) _ _ _ c.loop-word-test.true c.in_ok-show_word.ensures.1 c.loop-word.invariant.1,
+  cells_on c.args.words.now c.loop-word.word-index (w.Name 0) _ c.loop-word-test.true c.in_ok-show_word.ensures.1 c.loop-word.invariant.1,
+  step_written c.args.memory.now c.args.hidden c.args.words.now c.loop-word.word-index (w.Name 0) _ _ _ c.loop-word-test.true c.in_ok-show_word.ensures.2 c.loop-word.invariant.2,
 )
 
 pub returns : goal.returns
 returns c = (
   fault_none c.args.memory.now c.args.hidden c.args.words.now c.loop-word.word-index _ c.loop-word-test.false c.loop-word.invariant.0,
-  end_written c.args.memory.now c.args.hidden c.args.words.now c.loop-word.word-index _ _ c.loop-word-test.false c.loop-word.invariant.1,
+  cells_end c.args.words.now c.loop-word.word-index _ c.loop-word-test.false c.loop-word.invariant.1,
+  end_written c.args.memory.now c.args.hidden c.args.words.now c.loop-word.word-index _ _ c.loop-word-test.false c.loop-word.invariant.2,
 )

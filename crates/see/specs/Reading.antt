@@ -1,0 +1,79 @@
+-- A definition's text read again as a source is, with the names and the runtime cells of the same memory.
+use Rattle.std.specs.Prelude.{◌≡◌, ◌<◌, ℕ, Bool, true, false, not, ◌==◌, ◌&&◌, ◌||◌, List, [], ◌∷◌, Option, Some, None, if◌then◌else◌, map, codes, slice_index}
+use Rattle.std.specs.List.{list_any}
+use Rattle.dictionary.specs.Header.{is_immediate, compilation_address}
+use Rattle.dictionary.specs.Search.{Sought, Found, Nowhere, TooLong, sought_as, found_hiding, is_too_long_hiding}
+use Rattle.source_words.specs.declared.modes.Mode.TheVariants.{Outside}
+use Rattle.source_words.specs.Words.{screen_words}
+use Rattle.source_words.specs.Spaced.{Spelling, spelling, bare}
+use Rattle.colon_bodies.specs.Tokens.{Token, NAME, NUMBER, DOUBLE}
+use Rattle.colon_bodies.specs.Tree.{Definition}
+use Rattle.colon_bodies.specs.Rules.{half_after}
+use Rattle.colon_bodies.specs.declared.words.Half.{Half}
+use Rattle.colon_bodies.specs.declared.words.Half.TheVariants.{Free, Ticked, Forced, Compiling, Both}
+use Rattle.metacompiler.specs.Places.{Sense, Plain, Keyword, Figure, Wide, Remark}
+use Rattle.metacompiler.specs.Spelled.{sense_of_word, text_of}
+use Rattle.see.specs.Extent.{controls_of}
+use Rattle.see.specs.Printing.{its_words}
+
+-- the controls that only a keyword or a number lays
+abbrev pub inner_controls : List ℕ
+inner_controls = 6 ∷ 7 ∷ 8 ∷ 9 ∷ 10 ∷ 11 ∷ 16 ∷ 17 ∷ 18 ∷ []
+
+-- the address is that of one of them
+unfoldable pub is_inner : List ℕ → ℕ → Bool
+is_inner controls w = list_any (λ k. not (slice_index controls k == 0) && (w == slice_index controls k)) inner_controls
+
+-- what a name stands for behind what is half read, by its header: an immediate name stands behind [COMPILE], and so does that
+-- of such a control where nothing is half read
+abbrev pub named_token : List ℕ → Half → ℕ → Option Token
+named_token m Free k = if is_immediate m k || is_inner (controls_of m) (compilation_address m k) then None else Some (NAME (compilation_address m k))
+named_token m Compiling k = if is_immediate m k then None else Some (NAME (compilation_address m k))
+named_token m _ k = Some (NAME (compilation_address m k))
+
+-- what a word is that is no name
+abbrev pub unnamed_token : Sense → Option Token
+unnamed_token (Keyword w) = Some w
+unnamed_token (Figure n) = Some (NUMBER n)
+unnamed_token (Wide n) = Some (DOUBLE n)
+unnamed_token _ = None
+
+abbrev pub name_first : List ℕ → Half → Sought → Sense → Option Token
+name_first m h (Found k) s = named_token m h k
+name_first m h Nowhere s = unnamed_token s
+name_first m h TooLong s = None
+
+-- behind ['] and [COMPILE] a word is a name first, elsewhere a keyword
+abbrev pub token_as : List ℕ → Half → Sought → Sense → Option Token
+token_as m Free l (Keyword w) = Some w
+token_as m Compiling l (Keyword w) = Some w
+token_as m h l s = name_first m h l s
+
+-- what the search of a name comes to, where the header at `hidden` counts as hidden
+abbrev pub sought_hiding : List ℕ → (hidden : ℕ) → List ℕ → Sought
+sought_hiding m hidden name = sought_as (found_hiding m name hidden) (is_too_long_hiding m name hidden)
+
+-- what a word of a body is, behind what is half read
+abbrev pub token_of : List ℕ → (hidden : ℕ) → Half → Spelling → Option Token
+token_of m hidden h w = token_as m h (sought_hiding m hidden w.name) (sense_of_word w.name (text_of w.text))
+
+abbrev pub half_past : Half → Option Token → Half
+half_past h None = h
+half_past h (Some w) = half_after h w
+
+-- what words of a body are, each behind what those before it leave half read
+abbrev pub tokens_of : List ℕ → (hidden : ℕ) → Half → List Spelling → List (Option Token)
+tokens_of m hidden h [] = []
+tokens_of m hidden h (w ∷ ws) = token_of m hidden h w ∷ tokens_of m hidden (half_past h (token_of m hidden h w)) ws
+
+-- numbers are cells
+abbrev pub AreCells : List Token → Type 0
+AreCells [] = Unit {0}
+AreCells (NUMBER n ∷ ws) = (n < 65536) × AreCells ws
+AreCells (_ ∷ ws) = AreCells ws
+
+-- bytes are read as this definition of a name, where the header at l counts as hidden: `: NAME`, its words and ;
+pub record IsReadAs (m : List ℕ) (l : ℕ) (name : List ℕ) (bytes : List ℕ) (d : Definition) : Type 0 where
+  pub body : List Spelling
+  pub words_are : (screen : ℕ) → map spelling (screen_words Outside screen bytes) ≡ bare (codes ":") ∷ bare name ∷ body
+  pub tokens_are : tokens_of m l Free body ≡ map (λ w. Some w) (its_words d)
