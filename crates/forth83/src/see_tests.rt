@@ -35,7 +35,11 @@ pub fn built(alloc: Global, source: &str) -> Result<Vec<u8>, Fail> {
 
 /// A cell of the image in a file, which has 14 bytes before memory.
 fn set_cell(file: &mut Vec<u8>, at: usize, cell: u16) {
-    for (to, from) in file.iter_mut().skip(14 + at).zip([cell % 256, cell / 256]) {
+    for (to, from) in file
+        .iter_mut()
+        .skip(at.saturating_add(14))
+        .zip([cell % 256, cell / 256])
+    {
         *to = from as u8;
     }
 }
