@@ -60,6 +60,7 @@ fn stamps_that_run_out(rt: HostRuntime) {
     for block in 1..5 {
         buffers.assign(block);
     }
+    assert!(rt; buffers.find(2).is_some());
     buffers.touch(2);
     buffers.assign(5);
     let wanted = [
