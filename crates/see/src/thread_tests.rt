@@ -29,50 +29,52 @@ fn a_loop(rt: HostRuntime) -> Result<(), Fail> {
     Ok(())
 }
 
-/// Each structure, nested, behind and before DOES>, is found again in what it compiles to, and only at its address.
+/// Each structure, nested, behind and before DOES>.
+const NESTED: [BodyWord<'static>; 31] = [
+    BodyWord::Begin,
+    BodyWord::Begin,
+    BodyWord::Name(300),
+    BodyWord::While,
+    BodyWord::If,
+    BodyWord::Begin,
+    BodyWord::Name(304),
+    BodyWord::If,
+    BodyWord::Then,
+    BodyWord::Again,
+    BodyWord::Else,
+    BodyWord::Do,
+    BodyWord::Number(7),
+    BodyWord::Do,
+    BodyWord::Loop(false),
+    BodyWord::Loop(true),
+    BodyWord::Then,
+    BodyWord::Repeat,
+    BodyWord::Until,
+    BodyWord::Text(false, b"Hi"),
+    BodyWord::Compile,
+    BodyWord::Name(275),
+    BodyWord::Does,
+    BodyWord::Begin,
+    BodyWord::Text(true, b""),
+    BodyWord::Again,
+    BodyWord::If,
+    BodyWord::If,
+    BodyWord::Then,
+    BodyWord::Then,
+    BodyWord::Semicolon,
+];
+
+/// Each of these structures is found again in what it compiles to, and only at its address.
 #[test]
 fn found_again(rt: HostRuntime) -> Result<(), Fail> {
-    let words = [
-        BodyWord::Begin,
-        BodyWord::Begin,
-        BodyWord::Name(300),
-        BodyWord::While,
-        BodyWord::If,
-        BodyWord::Begin,
-        BodyWord::Name(304),
-        BodyWord::If,
-        BodyWord::Then,
-        BodyWord::Again,
-        BodyWord::Else,
-        BodyWord::Do,
-        BodyWord::Number(7),
-        BodyWord::Do,
-        BodyWord::Loop(false),
-        BodyWord::Loop(true),
-        BodyWord::Then,
-        BodyWord::Repeat,
-        BodyWord::Until,
-        BodyWord::Text(false, b"Hi"),
-        BodyWord::Compile,
-        BodyWord::Name(275),
-        BodyWord::Does,
-        BodyWord::Begin,
-        BodyWord::Text(true, b""),
-        BodyWord::Again,
-        BodyWord::If,
-        BodyWord::If,
-        BodyWord::Then,
-        BodyWord::Then,
-        BodyWord::Semicolon,
-    ];
-    let Ok((image, _)) = compile(rt.alloc(), words.as_slice(), &RUNTIME, 1000, 61440) else {
+    let Ok((image, _)) = compile(rt.alloc(), &NESTED, &RUNTIME, 1000, 61440) else {
         return Err("refused".into());
     };
     if image.len() > 200 {
         return Err("too long".into());
     }
     match thread_words(rt.alloc(), &image, &RUNTIME, 1000) {
-        Ok(Some(seen)) => assert_eq!(rt; seen.as_slice(), words.as_slice()),
+        Ok(Some(seen)) => assert_eq!(rt; seen.as_slice(), NESTED.as_slice()),
         _ => return Err("no thread".into()),
     }
     match thread_words(rt.alloc(), &image, &RUNTIME, 1002) {
