@@ -1,5 +1,5 @@
 -- The word that is traced.
-use Rattle.std.proofs.Common.{◌≡◌, ℕ, List, ◌++◌, length, refl, sym, ◌∙◌, ap, subst, append-nil, arith}
+use Rattle.std.proofs.Common.{◌≡◌, ℕ, List, ◌++◌, length, sym, ◌∙◌, ap, subst, append-nil}
 use Rattle.std.specs.Prelude.{drop, Result, Ok, Err}
 use Rattle.memory.specs.Bytes.{front_put, zeros}
 use Rattle.dictionary.specs.Order.{headers}

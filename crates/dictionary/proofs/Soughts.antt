@@ -1,6 +1,6 @@
 -- The machine's own search, and what it gives.
 use Rattle.std.proofs.Common.{◌≡◌, ◌≢◌, ℕ, ◌<◌, ◌==◌, ◌||◌, ◌&&◌, not, List, [], ◌∷◌, length, Option, Some, None, Bool, true, false, refl, arith, sym, ap, ◌∙◌, if◌then◌else◌}
-use Rattle.std.specs.Prelude.{All, find, Result, Ok, Err}
+use Rattle.std.specs.Prelude.{All, find, Ok, Err}
 use Rattle.std.proofs.lemmas.List.Elements.{All-head, All-tail}
 use Rattle.memory.specs.Bytes.{cell}
 use Rattle.dictionary.specs.declared.fault.ChainTooLong.{ChainTooLong}

@@ -1,7 +1,7 @@
 -- Where a word's thread ends, and what an address is called.
-use Rattle.std.specs.Prelude.{ℕ, ◌+◌, ◌==◌, List, map, nat_le, min, find, Option, Some, None}
+use Rattle.std.specs.Prelude.{ℕ, ◌==◌, List, map, nat_le, min, find, Option, Some, None}
 use Rattle.std.specs.List.{filter, reduce}
-use Rattle.cells.specs.Cell.{wrap, difference}
+use Rattle.cells.specs.Cell.{difference}
 use Rattle.memory.specs.Bytes.{cell}
 use Rattle.memory.specs.declared.system.TheConstants.{DP}
 use Rattle.dictionary.specs.Header.{compilation_address}

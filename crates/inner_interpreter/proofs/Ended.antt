@@ -1,5 +1,5 @@
 -- The ends of a run.
-use Rattle.std.proofs.Common.{◌≡◌, ◌⊎◌, ℕ, suc, ◌+◌, ◌<◌, Bool, true, false, List, [], ◌++◌, Option, None, Some, is_none, ◌&&◌, if◌then◌else◌, refl, sym, ap, subst, ◌∙◌, inl, inr, arith, append-nil}
+use Rattle.std.proofs.Common.{◌≡◌, ℕ, ◌+◌, ◌<◌, Bool, true, false, List, [], ◌++◌, Option, None, Some, is_none, ◌&&◌, if◌then◌else◌, refl, sym, ap, subst, ◌∙◌, inl, inr, arith, append-nil}
 use Rattle.std.specs.Io.KnownBytes.{Appends, Keeps}
 use Rattle.block_buffers.specs.Disks.{Disk}
 use Rattle.plain_rows.specs.Whole.{Whole}
@@ -15,7 +15,7 @@ use Rattle.inner_interpreter.specs.Runs.{World, rounds, stops, stop_by, stop_of}
 use Rattle.inner_interpreter.specs.Sent.{AppendsPart}
 use Rattle.inner_interpreter.specs.Served.{is_input_fault}
 use Rattle.inner_interpreter.specs.Tracing.{is_met, AddsLine, Made, MadeCut, MadeTraced, EndsTraced, EndsCutTraced, EndsFaultedTraced, EndsUntraced, Finishes, line_next, line_of, trace}
-use Rattle.inner_interpreter.specs.Worlds.{IsAt, IsFaulted, Ends, EndsCut, EndsFaulted}
+use Rattle.inner_interpreter.specs.Worlds.{IsAt, IsFaulted}
 use Rattle.inner_interpreter.proofs.Running.{kept_at, kept_cut}
 use Rattle.inner_interpreter.proofs.Sending.{appends_both, part_second}
 use Rattle.inner_interpreter.proofs.Stretches.{rounds_add, runs_on, trace_add}

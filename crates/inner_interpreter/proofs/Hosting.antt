@@ -1,5 +1,5 @@
 -- What a host sees of its calls is what the moves of a list leave.
-use Rattle.std.proofs.Common.{◌≡◌, ℕ, zero, suc, ◌+◌, ◌-◌, ◌≤◌, List, [], ◌∷◌, ◌++◌, Option, Some, None, Bool, true, false, is_none, IsSome, ◌&&◌, IsOkAnd, IsErrOf, OnErr, Result, Ok, Err, refl, sym, ap, subst, ◌∙◌, arith, append-nil, append_assoc, replicate, if◌then◌else◌}
+use Rattle.std.proofs.Common.{◌≡◌, ℕ, zero, suc, ◌+◌, ◌-◌, List, [], ◌∷◌, ◌++◌, Option, Some, None, Bool, true, false, is_none, IsSome, ◌&&◌, Ok, Err, refl, sym, ap, subst, ◌∙◌, arith, replicate}
 use Rattle.plain_rows.specs.Whole.{Whole}
 use Rattle.plain_rows.specs.declared.parts.Request.{Request}
 use Rattle.inner_interpreter.specs.declared.act.Act.{Act}
@@ -11,10 +11,10 @@ use Rattle.inner_interpreter.specs.declared.act.Shown.TheVariants.{Nothing, Byte
 use Rattle.inner_interpreter.specs.declared.act.Refused.{Refused}
 use Rattle.inner_interpreter.specs.declared.act.Refused.TheVariants.{Waiting, Halted, NotAsked}
 use Rattle.inner_interpreter.specs.State.{State}
-use Rattle.inner_interpreter.specs.Tick.{Runs, running, is_running, is_quiet, quiet, ran, ticked, IsRefused}
-use Rattle.inner_interpreter.specs.Answer.{Reply, answer_of, asked_by, fits}
+use Rattle.inner_interpreter.specs.Tick.{Runs, running, is_quiet, ran, ticked, IsRefused}
+use Rattle.inner_interpreter.specs.Answer.{asked_by, fits}
 use Rattle.inner_interpreter.specs.Moves.{Turn, Tick, Answer, shown_bytes}
-use Rattle.inner_interpreter.specs.Histories.{Made, Call, Ticked, Answered, ManyTicked, Answers, Ensures, IsHistory, acted, behind, made, moves_of, moves_made, seen_bytes, seen_events, takes, told_event}
+use Rattle.inner_interpreter.specs.Histories.{Made, Call, Ticked, Answered, ManyTicked, Ensures, IsHistory, acted, behind, made, moves_of, moves_made, seen_bytes, seen_events, takes, told_event}
 use Rattle.inner_interpreter.proofs.Quiet.{ticked_runs, quiet_shows}
 use Rattle.inner_interpreter.proofs.Ran.{ran_quiet, ran_loud}
 

@@ -1,5 +1,5 @@
 -- Rounds of a run, by what its ends tell.
-use Rattle.std.proofs.Common.{◌≡◌, ℕ, ◌-◌, ◌<◌, ◌≤◌, List, [], ◌++◌, Option, None, Some, refl, sym, ap, ◌∙◌, append-nil, arith, Result, Ok, Err, OnOk, is_none, ◌&&◌, if◌then◌else◌}
+use Rattle.std.proofs.Common.{◌≡◌, ℕ, ◌-◌, ◌<◌, ◌≤◌, List, [], ◌++◌, Option, None, Some, refl, sym, ap, ◌∙◌, append-nil, arith, Result, Ok, Err, OnOk, is_none, if◌then◌else◌}
 use Rattle.std.specs.Io.KnownBytes.{Appends, Keeps}
 use Rattle.block_buffers.specs.Disks.{Disk}
 use Rattle.plain_rows.specs.declared.parts.Request.{Request}
@@ -8,7 +8,7 @@ use Rattle.plain_rows.specs.Whole.{Whole}
 use Rattle.inner_interpreter.specs.declared.stop.Stop.{Stop}
 use Rattle.inner_interpreter.specs.declared.tracing.Extent.{Extent}
 use Rattle.inner_interpreter.specs.Tick.{running, ticked}
-use Rattle.inner_interpreter.specs.Tracing.{is_met, AreUnmet, AddsLine, Made, MadeCut, line_next, line_of, trace}
+use Rattle.inner_interpreter.specs.Tracing.{AreUnmet, Made, MadeCut, line_next, line_of, trace}
 use Rattle.inner_interpreter.specs.Answer.{answer_of, asked_by, fits, InputFault}
 use Rattle.inner_interpreter.specs.Moves.{shown_bytes}
 use Rattle.inner_interpreter.specs.Served.{Answered, served_move, Faults}

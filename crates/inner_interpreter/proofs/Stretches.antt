@@ -1,5 +1,5 @@
 -- A stretch of ticks is as many rounds.
-use Rattle.std.proofs.Common.{◌≡◌, ℕ, zero, suc, ◌+◌, ◌-◌, ◌<◌, ◌≤◌, ◌++◌, List, Bool, true, false, None, refl, sym, ap, ◌∙◌, append-nil, append_assoc, arith, Option, Some, [], if◌then◌else◌, is_none, ◌&&◌}
+use Rattle.std.proofs.Common.{◌≡◌, ℕ, zero, suc, ◌+◌, ◌-◌, ◌<◌, ◌≤◌, ◌++◌, List, Bool, true, false, None, refl, sym, ap, ◌∙◌, append-nil, append_assoc, arith, Option, Some, [], if◌then◌else◌, is_none}
 use Rattle.plain_rows.specs.Whole.{Whole}
 use Rattle.inner_interpreter.specs.declared.act.Act.{Act}
 use Rattle.inner_interpreter.specs.State.{State}

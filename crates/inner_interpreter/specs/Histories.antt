@@ -2,7 +2,7 @@
 use Rattle.std.specs.Prelude.{◌≡◌, ℕ, List, [], ◌∷◌, ◌++◌, Bool, None, is_none, ◌&&◌, IsSome, IsOkAnd, IsErrOf, OnErr, Result, Ok, Err, true, false, replicate, if◌then◌else◌}
 use Rattle.inner_interpreter.specs.declared.act.Act.{Act}
 use Rattle.inner_interpreter.specs.declared.act.Event.{Event}
-use Rattle.inner_interpreter.specs.declared.act.Event.TheVariants.{Went, Ask, Fault, Halt}
+use Rattle.inner_interpreter.specs.declared.act.Event.TheVariants.{Went}
 use Rattle.inner_interpreter.specs.declared.act.Refused.{Refused}
 use Rattle.inner_interpreter.specs.declared.act.Refused.TheVariants.{Halted, NotAsked}
 use Rattle.inner_interpreter.specs.State.{State}

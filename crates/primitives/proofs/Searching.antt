@@ -1,25 +1,17 @@
 -- What the code's search answers, and how rows go on with it.
-use Rattle.std.proofs.Common.{◌≡◌, ℕ, ◌<◌, ◌==◌, List, Option, Some, None, Bool, true, false, refl, arith, sym, subst, ap, ◌∙◌, if◌then◌else◌}
+use Rattle.std.proofs.Common.{◌≡◌, ℕ, ◌==◌, List, Option, Some, None, Bool, true, false, refl, ap, ◌∙◌, if◌then◌else◌}
 use Rattle.std.specs.Prelude.{Result, Ok, Err}
 use Rattle.dictionary.specs.declared.fault.ChainTooLong.{ChainTooLong}
-use Rattle.dictionary.specs.Search.{found_in, is_too_long_in, found, is_too_long, Sought, Found, Nowhere, TooLong, sought_in, sought, sought_as, IsSought}
-use Rattle.dictionary.proofs.Soughts.{sought_in_is, sought_is}
+use Rattle.dictionary.specs.Search.{found_in, is_too_long_in, found, is_too_long, Sought, Found, Nowhere, TooLong, sought_in, sought, IsSought}
+use Rattle.dictionary.proofs.Soughts.{sought_in_is, sought_found, sought_nowhere, sought_long}
 use Rattle.plain_rows.specs.Whole.{Whole}
 use Rattle.plain_rows.specs.Row.{After, fault}
 use Rattle.primitives.specs.Names.{searches, IsSoughtAs}
 
--- a header isn't at 0
-some_header : (l : ℕ) (long : Bool) → long ≡ false → (b : Bool) → (l == 0) ≡ b → 0 < l → (if long then TooLong else if b then Nowhere else Found l) ≡ Found l
-some_header l long e true q h = absurd (grind arith)
-some_header l long e false q h = rw e refl
-
-answers_as : (l : ℕ) (long : Bool) (r : Result (Option ℕ) ChainTooLong) → IsSought l long r → IsSoughtAs (sought_as l long) r
-answers_as l long (Ok (Some w)) h = rw h.0 (some_header l long h.2 (l == 0) refl (grind arith))
-answers_as l long (Ok None) h = rw (h.0, h.1) refl
-answers_as l long (Err e) h = rw h.1 refl
-
 pub sought_by : (m name : List ℕ) (r : Result (Option ℕ) ChainTooLong) → IsSought (found m name) (is_too_long m name) r → IsSoughtAs (sought m name) r
-sought_by m name r h = subst (λ (x : Sought). IsSoughtAs x r) (sym (sought_is m name)) (answers_as (found m name) (is_too_long m name) r h)
+sought_by m name (Ok (Some l)) h = sought_found m name l h
+sought_by m name (Ok None) h = sought_nowhere m name h
+sought_by m name (Err e) h = sought_long m name e h
 
 pub searches_found : (s : Whole) (x : Sought) (l : ℕ) (nowhere : After) (found : ℕ → After) → x ≡ Found l → searches s x nowhere found ≡ found l
 unfolding searches

@@ -6,7 +6,7 @@ use Rattle.compiling_words.specs.declared.text.TextWord.TheVariants.{Show, Abort
 use Rattle.dictionary.specs.Adding.{site_of}
 use Rattle.dictionary.specs.Laying.{fits, laid_at}
 use Rattle.input_source.specs.declared.words.Word.{Word}
-use Rattle.memory.specs.Bytes.{cell, put_cell, cell_bytes, Write, PutCell, written}
+use Rattle.memory.specs.Bytes.{cell, put_cell, cell_bytes, PutCell, written}
 use Rattle.memory.specs.declared.system.TheConstants.{TO_IN, DP, CURRENT}
 use Rattle.plain_rows.specs.Whole.{Whole}
 use Rattle.plain_rows.specs.Row.{After, done, takes1, needs}

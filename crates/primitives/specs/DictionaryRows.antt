@@ -7,7 +7,7 @@ use Rattle.dictionary.specs.Newest.{with_immediate}
 use Rattle.dictionary.specs.Order.{is_beyond_limit}
 use Rattle.dictionary.specs.Search.{sought_in, sought}
 use Rattle.input_source.specs.declared.words.Word.{Word}
-use Rattle.memory.specs.Bytes.{cell, put_cell, Write, PutCell, written}
+use Rattle.memory.specs.Bytes.{cell, put_cell, PutCell, written}
 use Rattle.memory.specs.declared.system.TheConstants.{TO_IN, DP, CONTEXT, CURRENT, VOC_LINK, FENCE}
 use Rattle.number_text.specs.Picture.{pad}
 use Rattle.plain_rows.specs.Whole.{Whole}

@@ -1,5 +1,5 @@
 -- Names and texts that rows take out of the stream, and what a search of a name comes to.
-use Rattle.std.specs.Prelude.{◌≡◌, ℕ, ◌+◌, List, Bool, not, ◌==◌, ◌&&◌, nat_le, Option, Some, None, Result, Ok, Err}
+use Rattle.std.specs.Prelude.{◌≡◌, ℕ, ◌+◌, List, not, ◌==◌, ◌&&◌, nat_le, Option, Some, None, Result, Ok, Err}
 use Rattle.cells.specs.Cell.{wrap}
 use Rattle.dictionary.specs.declared.fault.ChainTooLong.{ChainTooLong}
 use Rattle.dictionary.specs.Header.{compilation_address}

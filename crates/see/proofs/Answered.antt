@@ -1,19 +1,19 @@
 -- What SEE answers is true, and says all.
-use Rattle.std.proofs.Common.{◌≡◌, ℕ, Bool, true, false, List, [], ◌∷◌, ◌++◌, Option, Some, None, inl, inr, refl, sym, ap, subst, ◌∙◌, if◌then◌else◌, not, Vec}
+use Rattle.std.proofs.Common.{◌≡◌, ℕ, Bool, true, false, List, [], ◌∷◌, Option, Some, None, inl, inr, refl, sym, ap, subst, ◌∙◌, if◌then◌else◌, not, Vec}
 use Rattle.std.specs.Prelude.{Result, Ok, Err, IfErr, slice_index}
 use Rattle.std.specs.declared.alloc.Global.{Global}
-use Rattle.dictionary.specs.Search.{Sought, Found, Nowhere, TooLong, sought}
+use Rattle.dictionary.specs.Search.{Found, Nowhere, TooLong, sought}
 use Rattle.colon_bodies.specs.Tree.{Definition}
 use Rattle.colon_bodies.specs.Tokens.{Token, NAME, NUMBER, TEXT}
 use Rattle.colon_bodies.proofs.Bytes.{one_thread}
 use Rattle.memory.specs.Bytes.{cell}
 use Rattle.dictionary.specs.Header.{compilation_address}
-use Rattle.see.specs.Shown.{Shown, IsThread}
+use Rattle.see.specs.Shown.{Shown}
 use Rattle.see.specs.Extent.{parameter_field, extent, controls_of}
 use Rattle.see.specs.Naming.{IsReadableWord, AreReadableWords, IsReadable, word_fault, words_fault, first_fault, or_fault, is_word, name_at, is_meant, is_free, number_text, is_quotable}
 use Rattle.see.specs.Reading.{AreCells}
 use Rattle.see.specs.Printing.{its_words, printed_text, text}
-use Rattle.see.specs.Seeing.{IsHeader, IsColon, IsCode, HasControlsApart, IsDefined, IsPrinted, IsSeen}
+use Rattle.see.specs.Seeing.{IsColon, IsCode, HasControlsApart, IsDefined, IsPrinted, IsSeen}
 use Rattle.see.specs.declared.refusal.SeeRefused.{SeeRefused}
 use Rattle.see.specs.declared.refusal.SeeRefused.TheVariants as r
 

@@ -1,6 +1,6 @@
 -- A number's text spells it.
 use Rattle.std.proofs.Common.{◌≡◌, ◌<◌, ◌≤◌, ◌+◌, ◌-◌, ◌%◌, ℕ, Bool, true, false, List, [], ◌∷◌, ◌++◌, map, length, suc, refl, sym, ap, subst, ◌∙◌, arith, nat_lt, inl, inr}
-use Rattle.std.specs.Prelude.{ℤ, pos, negsuc, ◌^◌}
+use Rattle.std.specs.Prelude.{pos, negsuc, ◌^◌}
 use Rattle.std.specs.Int.{cast_signed, w16}
 use Rattle.std.specs.Int.Digits.{digits_of}
 use Rattle.std.specs.List.{AllByRecursion}

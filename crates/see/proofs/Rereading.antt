@@ -1,12 +1,9 @@
 -- A printed definition is read as it was.
-use Rattle.std.proofs.Common.{◌≡◌, ◌≢◌, ℕ, ◌<◌, Bool, true, false, not, ◌&&◌, ◌==◌, List, [], ◌∷◌, ◌++◌, length, map, Option, Some, None, refl, sym, ap, ◌∙◌, subst, arith, append_assoc, append-nil}
-use Rattle.std.specs.Prelude.{All, codes, slice_index}
-use Rattle.std.specs.List.{list_all}
-use Rattle.std.proofs.lemmas.List.Elements.{All-nil, All-cons}
+use Rattle.std.proofs.Common.{◌≡◌, ℕ, ◌<◌, Bool, true, false, List, [], ◌∷◌, ◌++◌, map, Some, refl, sym, ap, ◌∙◌, subst}
+use Rattle.std.specs.Prelude.{codes, slice_index}
 use Rattle.std.proofs.lemmas.List.{map-append}
-use Rattle.source_words.specs.Modes.{takes_text, begins_comment, ends_body, names_in_body}
-use Rattle.source_words.specs.Spaced.{Spelling, bare, IsStep, AreSteps, IsWhole, joined, is_plain_word, colon_words}
-use Rattle.source_words.proofs.Colons.{plain_word_step, led_step, text_step}
+use Rattle.source_words.specs.Modes.{begins_comment}
+use Rattle.source_words.specs.Spaced.{Spelling, bare}
 use Rattle.colon_bodies.specs.Tokens.{Token, NAME, NUMBER, DOUBLE, TICK, FORCE, COMPILE, IF, ELSE, THEN, BEGIN, UNTIL, AGAIN, WHILE, REPEAT, DO, LOOP, TEXT, DOES, SEMI}
 use Rattle.colon_bodies.specs.Plain.{respelled}
 use Rattle.colon_bodies.specs.Tree.{named}
@@ -16,11 +13,10 @@ use Rattle.colon_bodies.specs.declared.words.Half.TheVariants.{Free, Ticked, For
 use Rattle.metacompiler.specs.Spelled.{keyword, naming, choosing, repeating, counting, saying, ending, sense_of_word}
 use Rattle.see.specs.PlainWords.{IsPlainWord, ArePlainWords}
 use Rattle.see.specs.Extent.{controls_of}
-use Rattle.see.specs.Naming.{is_word, is_quotable, name_at, is_meant, IsReadableWord, AreReadableWords, number_text}
-use Rattle.see.specs.Printing.{printed, called, all_printed, is_forced, keyword_text}
+use Rattle.see.specs.Naming.{name_at, is_meant, IsReadableWord, AreReadableWords}
+use Rattle.see.specs.Printing.{printed, called, all_printed, is_forced}
 use Rattle.see.specs.Reading.{token_of, tokens_of, AreCells}
-use Rattle.see.proofs.Stepping.{bare_is, bare_step, neither}
-use Rattle.see.proofs.Telling.{Loose, told_keyword, told_number, told_name, told_forced, told_both, number_bare, number_word}
+use Rattle.see.proofs.Telling.{Loose, told_keyword, told_number, told_name, told_forced, told_both}
 
 -- the words that plain definitions have
 abbrev IsPrintable : Token → Type 0

@@ -1,15 +1,15 @@
 -- The words that are printed are read as they were.
-use Rattle.std.proofs.Common.{◌≡◌, ◌≢◌, ℕ, ◌<◌, ◌≤◌, Bool, true, false, not, ◌&&◌, ◌||◌, ◌==◌, nat_lt, List, [], ◌∷◌, ◌++◌, length, map, Option, Some, None, refl, sym, ap, ◌∙◌, subst, arith, append_assoc, append-nil, if◌then◌else◌}
-use Rattle.std.specs.Prelude.{All, codes, is_some}
+use Rattle.std.proofs.Common.{◌≡◌, ℕ, Bool, true, false, not, ◌&&◌, ◌||◌, ◌==◌, nat_lt, List, [], ◌∷◌, length, Option, Some, None, refl, arith, if◌then◌else◌}
+use Rattle.std.specs.Prelude.{codes, is_some}
 use Rattle.std.specs.List.{list_all}
 use Rattle.std.specs.Str.{bytes_eq}
 use Rattle.source_words.specs.Modes.{takes_text, begins_comment, ends_body, names_in_body}
-use Rattle.source_words.specs.Spaced.{Spelling, bare, IsStep, AreSteps, IsWhole, joined, is_plain_word}
-use Rattle.source_words.proofs.Colons.{plain_word_step, led_step, text_step}
-use Rattle.colon_bodies.specs.Tokens.{Token, NAME, NUMBER, DOUBLE, TICK, FORCE, COMPILE, IF, ELSE, THEN, BEGIN, UNTIL, AGAIN, WHILE, REPEAT, DO, LOOP, TEXT, DOES, SEMI}
+use Rattle.source_words.specs.Spaced.{bare, IsStep, is_plain_word}
+use Rattle.source_words.proofs.Colons.{plain_word_step}
+use Rattle.colon_bodies.specs.Tokens.{Token, TICK, FORCE, COMPILE, TEXT, DOES, SEMI}
 use Rattle.metacompiler.specs.Spelled.{keyword, naming, choosing, repeating, counting, saying, ending, either_token}
-use Rattle.see.specs.Naming.{is_word, is_quotable, name_at}
-use Rattle.see.specs.Printing.{is_keyword, keyword_text, printed, called, all_printed, is_forced}
+use Rattle.see.specs.Naming.{is_word}
+use Rattle.see.specs.Printing.{is_keyword}
 
 both : (a b : Bool) → (a && b) ≡ true → (a ≡ true) × (b ≡ true)
 both true b h = (refl, h)

@@ -1,26 +1,25 @@
 -- What each printed word is read as.
-use Rattle.std.proofs.Common.{◌≡◌, ◌≢◌, ℕ, ◌<◌, ◌≤◌, ◌+◌, ◌%◌, Bool, true, false, not, ◌&&◌, ◌||◌, ◌==◌, nat_lt, List, [], ◌∷◌, ◌++◌, length, map, Option, Some, None, refl, sym, ap, ◌∙◌, subst, arith, append_assoc, append-nil, if◌then◌else◌, ◌⊎◌, inl, inr, zero, suc}
-use Rattle.std.specs.Prelude.{codes, slice_index}
+use Rattle.std.proofs.Common.{◌≡◌, ◌≢◌, ℕ, ◌<◌, ◌≤◌, ◌%◌, Bool, true, false, not, ◌&&◌, ◌==◌, List, [], ◌∷◌, ◌++◌, length, Some, refl, sym, ap, ◌∙◌, subst, arith, append-nil, if◌then◌else◌, ◌⊎◌, inl, inr, zero, suc}
+use Rattle.std.specs.Prelude.{slice_index}
 use Rattle.std.specs.List.{list_all}
 use Rattle.dictionary.specs.Header.{is_immediate, compilation_address}
-use Rattle.dictionary.specs.Search.{Sought, Found, Nowhere, TooLong, found_hiding, is_too_long_hiding}
+use Rattle.dictionary.specs.Search.{Found, Nowhere, found_hiding, is_too_long_hiding}
 use Rattle.source_words.specs.Modes.{begins_comment}
 use Rattle.source_words.specs.Spaced.{Spelling, bare}
 use Rattle.number_text.specs.Digits.{is_digit, digit, are_digits}
-use Rattle.number_text.specs.Numbers.{is_number, is_double, number_value, spelled, sign, IsSpelling}
+use Rattle.number_text.specs.Numbers.{is_number, is_double, spelled, sign, IsSpelling}
 use Rattle.number_text.proofs.Spellings.{spelling}
-use Rattle.colon_bodies.specs.Tokens.{Token, NAME, NUMBER, TICK, FORCE, COMPILE, IF, ELSE, THEN, BEGIN, UNTIL, AGAIN, WHILE, REPEAT, DO, LOOP, TEXT, DOES, SEMI}
+use Rattle.colon_bodies.specs.Tokens.{Token, NAME, NUMBER}
 use Rattle.colon_bodies.specs.Plain.{IsPlainCell}
-use Rattle.colon_bodies.specs.Rules.{half_after}
 use Rattle.colon_bodies.specs.declared.words.Half.{Half}
 use Rattle.colon_bodies.specs.declared.words.Half.TheVariants.{Free, Ticked, Forced, Compiling, Both}
-use Rattle.metacompiler.specs.Places.{Sense, Plain, Keyword, Figure, Wide, Remark}
+use Rattle.metacompiler.specs.Places.{Plain, Keyword, Figure, Wide}
 use Rattle.metacompiler.specs.Spelled.{keyword, naming, choosing, repeating, counting, saying, ending, sense_of_word, figure_of, text_of}
 use Rattle.see.specs.Naming.{number_text, is_word, is_meant, is_free, name_at}
 use Rattle.see.specs.Printing.{is_forced, is_keyword}
 use Rattle.see.specs.Extent.{controls_of}
 use Rattle.see.specs.Reading.{is_inner, named_token, token_as, sought_hiding, token_of}
-use Rattle.see.proofs.Figures.{IsFigure, figured}
+use Rattle.see.proofs.Figures.{figured}
 use Rattle.see.proofs.Stepping.{IsBare, bare_is, neither}
 
 -- nothing, or COMPILE, is half read

@@ -1,5 +1,5 @@
 -- A whole definition that is printed is read as it was.
-use Rattle.std.proofs.Common.{◌≡◌, ◌≢◌, ℕ, ◌+◌, ◌<◌, Bool, true, false, not, ◌&&◌, ◌==◌, List, [], ◌∷◌, ◌++◌, length, map, Option, Some, None, refl, sym, ap, ◌∙◌, subst, arith, append_assoc, append-nil}
+use Rattle.std.proofs.Common.{◌≡◌, ◌≢◌, ℕ, Bool, true, false, not, ◌&&◌, ◌==◌, List, [], ◌∷◌, ◌++◌, length, map, Some, refl, sym, ap, ◌∙◌, subst, arith, append_assoc}
 use Rattle.std.specs.Prelude.{All, codes, slice_index, Result, Ok, Err, IfOk, Vec}
 use Rattle.std.specs.List.{list_all}
 use Rattle.std.proofs.lemmas.List.Elements.{All-nil, All-cons}
@@ -15,10 +15,9 @@ use Rattle.colon_bodies.specs.Code.{thread}
 use Rattle.colon_bodies.specs.Plain.{respelled, IsPlainBody, IsPlain, all_spelled}
 use Rattle.colon_bodies.proofs.Spelling.{spelled_thread, all_spelled_words}
 use Rattle.colon_bodies.specs.declared.words.Half.TheVariants.{Free}
-use Rattle.see.specs.PlainWords.{ArePlainWords}
 use Rattle.see.specs.Extent.{controls_of, parameter_field, extent}
-use Rattle.see.specs.Naming.{is_word, is_quotable, name_at, number_text, IsReadable, IsReadableWord, AreReadableWords}
-use Rattle.see.specs.Printing.{printed, called, all_printed, is_forced, is_keyword, keyword_text, its_words, text}
+use Rattle.see.specs.Naming.{is_word, is_quotable, name_at, number_text, IsReadable, AreReadableWords}
+use Rattle.see.specs.Printing.{printed, called, all_printed, is_forced, is_keyword, its_words, text}
 use Rattle.see.specs.Reading.{tokens_of, AreCells, IsReadAs}
 use Rattle.see.specs.Seeing.{IsDefined, IsSeen, IsReadBack}
 use Rattle.see.specs.declared.refusal.SeeRefused.{SeeRefused}

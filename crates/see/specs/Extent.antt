@@ -1,8 +1,8 @@
 -- Where the thread of a word stands.
-use Rattle.std.specs.Prelude.{ℕ, zero, suc, ◌+◌, ◌-◌, ◌*◌, ◌==◌, List, [], ◌∷◌, ◌++◌, nat_le, min, if◌then◌else◌, map}
-use Rattle.cells.specs.Cell.{wrap, difference}
+use Rattle.std.specs.Prelude.{ℕ, zero, suc, ◌+◌, ◌-◌, ◌*◌, List, [], ◌∷◌, ◌++◌}
+use Rattle.cells.specs.Cell.{wrap}
 use Rattle.memory.specs.Bytes.{cell, bytes}
-use Rattle.memory.specs.declared.system.TheConstants.{DP, RUNTIME_CELLS}
+use Rattle.memory.specs.declared.system.TheConstants.{RUNTIME_CELLS}
 use Rattle.dictionary.specs.Header.{compilation_address}
 use Rattle.dictionary.specs.Order.{headers}
 use Rattle.dictionary.specs.Extents.{extent_end}

@@ -1,10 +1,9 @@
 -- What the cells of a thread are called, and what can't be printed so that it is read again.
-use Rattle.std.specs.Prelude.{ℕ, Bool, true, false, not, ◌==◌, ◌&&◌, ◌||◌, List, [], ◌∷◌, Option, Some, None, if◌then◌else◌, length, codes, find, ◌≡◌, ◌⊎◌, Result, Ok, Err}
-use Rattle.std.specs.List.{list_all, list_any}
-use Rattle.std.specs.Str.{bytes_eq}
+use Rattle.std.specs.Prelude.{ℕ, Bool, true, not, ◌==◌, ◌&&◌, List, [], ◌∷◌, Option, Some, None, if◌then◌else◌, length, ◌≡◌}
+use Rattle.std.specs.List.{list_all}
 use Rattle.std.specs.Fmt.{signed_decimal}
 use Rattle.cells.specs.Cell.{signed}
-use Rattle.dictionary.specs.Header.{name_of, is_immediate, compilation_address}
+use Rattle.dictionary.specs.Header.{name_of, compilation_address}
 use Rattle.dictionary.specs.Order.{headers}
 use Rattle.dictionary.specs.Extents.{header_at}
 use Rattle.dictionary.specs.Search.{found_hiding, is_too_long_hiding}

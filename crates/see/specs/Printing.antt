@@ -1,7 +1,7 @@
 -- A definition as text.
-use Rattle.std.specs.Prelude.{ℕ, Bool, true, false, ◌||◌, List, [], ◌∷◌, ◌++◌, Option, Some, None, map, codes, is_some}
-use Rattle.source_words.specs.Spaced.{Spelling, bare, spaced, spaced_behind}
-use Rattle.colon_bodies.specs.Tokens.{Token, NAME, NUMBER, DOUBLE, TICK, FORCE, COMPILE, IF, ELSE, THEN, BEGIN, UNTIL, AGAIN, WHILE, REPEAT, DO, LOOP, TEXT, DOES, SEMI}
+use Rattle.std.specs.Prelude.{ℕ, Bool, true, false, ◌||◌, List, [], ◌∷◌, ◌++◌, Some, map, codes, is_some}
+use Rattle.source_words.specs.Spaced.{Spelling, bare, spaced}
+use Rattle.colon_bodies.specs.Tokens.{Token, NAME, NUMBER, TICK, FORCE, COMPILE, IF, ELSE, THEN, BEGIN, UNTIL, AGAIN, WHILE, REPEAT, DO, LOOP, TEXT, DOES, SEMI}
 use Rattle.colon_bodies.specs.Tree.{Definition, all_words}
 use Rattle.colon_bodies.specs.Plain.{respelled}
 use Rattle.dictionary.specs.Header.{is_immediate}

@@ -1,5 +1,5 @@
 -- A definition's text read again as a source is, with the names and the runtime cells of the same memory.
-use Rattle.std.specs.Prelude.{◌≡◌, ◌<◌, ℕ, Bool, true, false, not, ◌==◌, ◌&&◌, ◌||◌, List, [], ◌∷◌, Option, Some, None, if◌then◌else◌, map, codes, slice_index}
+use Rattle.std.specs.Prelude.{◌≡◌, ◌<◌, ℕ, Bool, not, ◌==◌, ◌&&◌, ◌||◌, List, [], ◌∷◌, Option, Some, None, if◌then◌else◌, map, codes, slice_index}
 use Rattle.std.specs.List.{list_any}
 use Rattle.dictionary.specs.Header.{is_immediate, compilation_address}
 use Rattle.dictionary.specs.Search.{Sought, Found, Nowhere, TooLong, sought_as, found_hiding, is_too_long_hiding}
@@ -10,8 +10,8 @@ use Rattle.colon_bodies.specs.Tokens.{Token, NAME, NUMBER, DOUBLE}
 use Rattle.colon_bodies.specs.Tree.{Definition}
 use Rattle.colon_bodies.specs.Rules.{half_after}
 use Rattle.colon_bodies.specs.declared.words.Half.{Half}
-use Rattle.colon_bodies.specs.declared.words.Half.TheVariants.{Free, Ticked, Forced, Compiling, Both}
-use Rattle.metacompiler.specs.Places.{Sense, Plain, Keyword, Figure, Wide, Remark}
+use Rattle.colon_bodies.specs.declared.words.Half.TheVariants.{Free, Compiling}
+use Rattle.metacompiler.specs.Places.{Sense, Keyword, Figure, Wide}
 use Rattle.metacompiler.specs.Spelled.{sense_of_word, text_of}
 use Rattle.see.specs.Extent.{controls_of}
 use Rattle.see.specs.Printing.{its_words}

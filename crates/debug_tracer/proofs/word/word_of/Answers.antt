@@ -1,4 +1,4 @@
-use Rattle.std.proofs.Common.{◌≡◌, ap, inl}
+use Rattle.std.proofs.Common.{ap, inl}
 use Rattle.dictionary.proofs.Soughts.{sought_long}
 use Rattle.debug_tracer.specs.Debugged.{debugged, thread_or_fault}
 use Rattle.debug_tracer.proofs.word.word_of.Goals as goal
