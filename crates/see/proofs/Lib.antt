@@ -6,8 +6,9 @@ pub mod Stepping
 pub mod Telling
 pub mod Rereading
 pub mod Whole
-pub mod Walking
+pub mod Sketching
 pub mod Cutting
+pub mod Growing
 pub mod Shutting
 pub mod Turning
 pub mod Showing

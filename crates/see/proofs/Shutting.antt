@@ -1,5 +1,5 @@
 -- Structures that end.
-use Rattle.std.proofs.Common.{◌≡◌, ℕ, ◌+◌, ◌-◌, Option, ◌<◌, ◌≤◌, cond, List, [], ◌∷◌, ◌++◌, map, refl, sym, ap, ◌∙◌, arith, append_assoc}
+use Rattle.std.proofs.Common.{◌≡◌, ℕ, ◌+◌, ◌-◌, Option, ◌<◌, ◌≤◌, cond, List, [], ◌∷◌, ◌++◌, map, refl, sym, ap, ◌∙◌, subst, arith, append_assoc}
 use Rattle.std.proofs.Math.Dec.{ltb}
 use Rattle.std.proofs.lemmas.Bool.{le-ltb, lt-ltb}
 use Rattle.colon_bodies.specs.Tokens.{Token, IF, ELSE, THEN}
@@ -9,7 +9,7 @@ use Rattle.colon_bodies.specs.Structures.{Frames, FTop, FPast, FIf, FElse, FDo, 
 use Rattle.colon_bodies.specs.Instructions.{IBranch}
 use Rattle.see.specs.declared.structures.Frame.{Frame}
 use Rattle.see.specs.Seen.{frame_words, start, frames_of, beneath, top_frame, begins_at, Seen, EndsHere}
-use Rattle.see.proofs.Cutting.{map_snoc}
+use Rattle.see.proofs.Growing.{SeenAs, one_more}
 
 abbrev pub ended : Frames → Body → Body
 ended FTop c = c
@@ -34,44 +34,35 @@ shut_none (FElse f t a to) c here h =
     let k : here < to = omega (arith, λ (q : to ≤ here). h q) in ap (λ b. cond b (In (FElse f t a to) c) (shut f (IfElse t a c) here)) (lt-ltb here to k)
 shut_none (FDo f t) c here h = refl
 
-one_seen : {X : Type 0} (tok : X → Token) (at : ℕ) (f : Frames) (c : Body) (here : ℕ) (seen seen1 : List X) (w : X) (frames frames' : List Frame) → EndsHere f here → tok w ≡ THEN → Seen at f c here (map tok seen) frames → seen1 ≡ seen ++ w ∷ [] → frames' ≡ frames_of at (beneath f) → Seen at (beneath f) (ended f c) here (map tok seen1) frames'
-one_seen tok at FTop c here seen seen1 w frames frames' h tw s e k = absurd h
-one_seen tok at (FPast t) c here seen seen1 w frames frames' h tw s e k = absurd h
-one_seen tok at (FIf f t to) c here seen seen1 w frames frames' h tw s e k =
-    let all : map tok seen1 ≡ ((frame_words f ++ (words t ++ IF ∷ [])) ++ words c) ++ THEN ∷ [] = ap (map tok) e ∙ map_snoc tok seen w ∙ ap (λ l. l ++ tok w ∷ []) s.words_are ∙ ap (λ v. ((frame_words f ++ (words t ++ IF ∷ [])) ++ words c) ++ v ∷ []) tw in
-    record { words_are = all ∙ simp append_assoc; frames_are = k; here_is = s.here_is ∙ omega arith }
-one_seen tok at (FElse f t a to) c here seen seen1 w frames frames' h tw s e k =
-    let all : map tok seen1 ≡ ((frame_words f ++ (words t ++ (IF ∷ (words a ++ ELSE ∷ [])))) ++ words c) ++ THEN ∷ [] = ap (map tok) e ∙ map_snoc tok seen w ∙ ap (λ l. l ++ tok w ∷ []) s.words_are ∙ ap (λ v. ((frame_words f ++ (words t ++ (IF ∷ (words a ++ ELSE ∷ [])))) ++ words c) ++ v ∷ []) tw in
-    record { words_are = all ∙ simp append_assoc; frames_are = k; here_is = s.here_is ∙ omega arith }
-one_seen tok at (FDo f t) c here seen seen1 w frames frames' h tw s e k = absurd h
+one_seen : {X : Type 0} (tok : X → Token) (at : ℕ) (f : Frames) (c : Body) (here : ℕ) (seen seen1 : List X) (w : X) (counts : List ℕ) (frames frames' : List Frame) → EndsHere f here → tok w ≡ THEN → Seen at f c here (map tok seen) counts frames → seen1 ≡ seen ++ w ∷ [] → frames' ≡ frames_of at (beneath f) → Seen at (beneath f) (ended f c) here (map tok seen1) counts frames'
+one_seen tok at FTop c here seen seen1 w counts frames frames' h tw s e k = absurd h
+one_seen tok at (FPast t) c here seen seen1 w counts frames frames' h tw s e k = absurd h
+one_seen tok at (FIf f t to) c here seen seen1 w counts frames frames' h tw s e k =
+    one_more tok at (FIf f t to) f f c (IfThen t c) (IfThen t c) here here seen seen1 w THEN counts frames frames' s tt tw e (simp append_assoc) k (omega (arith, s.here_is)) (omega arith) refl
+one_seen tok at (FElse f t a to) c here seen seen1 w counts frames frames' h tw s e k =
+    one_more tok at (FElse f t a to) f f c (IfElse t a c) (IfElse t a c) here here seen seen1 w THEN counts frames frames' s tt tw e (simp append_assoc) k (omega (arith, s.here_is)) (omega arith) refl
+one_seen tok at (FDo f t) c here seen seen1 w counts frames frames' h tw s e k = absurd h
 
 -- what is left to end leads to the same
-pub record Shuts (at : ℕ) (g : Frames) (d : Body) (here : ℕ) (seen : List Token) (frames : List Frame) : Type 0 where
+pub record Shuts (at : ℕ) (g : Frames) (d : Body) (here : ℕ) (seen : List Token) (counts : List ℕ) (frames : List Frame) : Type 0 where
   pub frame : Frames
   pub body : Body
-  pub is : Seen at frame body here seen frames
+  pub is : Seen at frame body here seen counts frames
   pub leads : shut frame body here ≡ In g d
 
-pub shuts_turn : {X : Type 0} (tok : X → Token) (at : ℕ) (g : Frames) (d : Body) (here : ℕ) (seen seen1 : List X) (w : X) (frames frames' : List Frame) (s : Shuts at g d here (map tok seen) frames) → EndsHere s.frame here → tok w ≡ THEN → seen1 ≡ seen ++ w ∷ [] → frames' ≡ frames_of at (beneath s.frame) → Shuts at g d here (map tok seen1) frames'
-shuts_turn tok at g d here seen seen1 w frames frames' s h tw e k =
+pub shuts_turn : {X : Type 0} (tok : X → Token) (at : ℕ) (g : Frames) (d : Body) (here : ℕ) (seen seen1 : List X) (w : X) (counts : List ℕ) (frames frames' : List Frame) (s : Shuts at g d here (map tok seen) counts frames) → EndsHere s.frame here → tok w ≡ THEN → seen1 ≡ seen ++ w ∷ [] → frames' ≡ frames_of at (beneath s.frame) → Shuts at g d here (map tok seen1) counts frames'
+shuts_turn tok at g d here seen seen1 w counts frames frames' s h tw e k =
     record {
       frame = beneath s.frame;
       body = ended s.frame s.body;
-      is = one_seen tok at s.frame s.body here seen seen1 w frames frames' h tw s.is e k;
+      is = one_seen tok at s.frame s.body here seen seen1 w counts frames frames' h tw s.is e k;
       leads = sym (shut_one s.frame s.body here h) ∙ s.leads;
     }
 
-pub shuts_end : (at : ℕ) (g : Frames) (d : Body) (here : ℕ) (seen : List Token) (frames : List Frame) (s : Shuts at g d here seen frames) → (EndsHere s.frame here → ⊥) → Seen at g d here seen frames
-shuts_end at g d here seen frames s h =
+pub shuts_end : (at : ℕ) (g : Frames) (d : Body) (here : ℕ) (seen : List Token) (counts : List ℕ) (frames : List Frame) (s : Shuts at g d here seen counts frames) → (EndsHere s.frame here → ⊥) → Seen at g d here seen counts frames
+shuts_end at g d here seen counts frames s h =
     let e : In s.frame s.body ≡ In g d = sym (shut_none s.frame s.body here h) ∙ s.leads in
-    let f : s.frame ≡ g = cc in
-    let b : s.body ≡ d = cc in
-    let x = s.is in
-    record {
-      words_are = x.words_are ∙ ap (λ q. frame_words q ++ words s.body) f ∙ ap (λ u. frame_words g ++ words u) b;
-      frames_are = x.frames_are ∙ ap (frames_of at) f;
-      here_is = x.here_is ∙ ap (λ q. start at q + size s.body) f ∙ ap (λ u. start at g + size u) b;
-    }
+    subst (SeenAs at here seen counts frames) e s.is
 
 -- where the innermost body begins
 pub begins_top : (at : ℕ) (f : Frames) → begins_at at (top_frame at f) ≡ start at f
@@ -97,5 +88,5 @@ branch_back f c here to s h k e =
     ∙ ap (λ b. cond b (repeat_at f c here to) (again_at f (split c (here - to)))) (le-ltb to (here - size c) k)) ∙ e
 
 -- the start of the innermost body, from where it ends
-pub start_back : (at : ℕ) (f : Frames) (c : Body) (here : ℕ) (seen : List Token) (frames : List Frame) → Seen at f c here seen frames → start at f ≡ here - size c
-start_back at f c here seen frames s = let h = s.here_is in omega arith
+pub start_back : (at : ℕ) (f : Frames) (c : Body) (here : ℕ) (seen : List Token) (counts : List ℕ) (frames : List Frame) → Seen at f c here seen counts frames → start at f ≡ here - size c
+start_back at f c here seen counts frames s = let h = s.here_is in omega arith

@@ -1,14 +1,18 @@
 -- One instruction after another.
-use Rattle.std.proofs.Common.{◌≡◌, Bool, true, false, ℕ, ◌+◌, ◌*◌, ◌<◌, cond, List, [], ◌∷◌, length, take, drop, Option, Some, None, IfSome, zero, suc, refl, sym, ap, ◌∙◌, arith, append_assoc}
+use Rattle.std.proofs.Common.{◌≡◌, Bool, true, false, ℕ, ◌+◌, ◌*◌, ◌<◌, cond, List, [], ◌∷◌, ◌++◌, length, take, drop, Option, Some, None, IfSome, zero, suc, inl, inr, refl, sym, ap, ◌∙◌, subst, arith, append_assoc}
 use Rattle.std.proofs.Math.Dec.{eqb}
-use Rattle.colon_bodies.specs.Tokens.{Token}
+use Rattle.std.specs.Prelude.{slice_index, replicate}
+use Rattle.std.proofs.lemmas.Bool.{cases_lt}
+use Rattle.std.proofs.lemmas.List.{get_or-replicate, get_or_past, length-replicate}
+use Rattle.colon_bodies.specs.Tokens.{Token, DOES}
 use Rattle.colon_bodies.specs.Tree.{Body, Empty, Definition, Simple, Doing, words, all_words}
-use Rattle.colon_bodies.specs.Instructions.{Instr, ICall, INum, ICompile, IQuery, IBranch, IDo, ILoop, len}
+use Rattle.colon_bodies.specs.Instructions.{Instr, ICall, INum, ICompile, IText, IQuery, IBranch, IDo, ILoop, len}
 use Rattle.colon_bodies.specs.Structures.{Frames, FTop, FPast, FIf, FElse, FDo, Shape, In, shut, step, went, onward, done, run}
 use Rattle.colon_bodies.specs.Found.{Front, Off, First, peel, with_cell, with_text, of_control, first, with_first, and_more, instrs, if_exit, before_exit, before_last, built_of, found}
 use Rattle.see.specs.declared.front.Taken.{Taken}
 use Rattle.see.specs.declared.structures.Frame.{Frame}
 use Rattle.see.specs.Apart.{instr, front}
+use Rattle.see.specs.Places.{IsSketch, AreUnforced}
 use Rattle.see.specs.Seen.{Seen}
 
 -- how long what is taken off is
@@ -199,24 +203,50 @@ walk_end rt t bs f c here i rest w e h =
         let z = exit_none (rt 5) (opened rt t bs f c here w).i js k in
         record { frame = s.0; body = s.1; shuts = s.2; ends = ap done (sym s.2) ∙ ap (λ l. run l f c here) (sym z) ∙ u }
 
+-- zeros
+zeros : (n p : ℕ) → slice_index (replicate n 0) p ≡ 0
+zeros n p =
+    elim (cases_lt p n) [
+      | inl h ↦ get_or-replicate n p 0 0 h
+      | inr h ↦ get_or_past (replicate n 0) p 0 (let z : ℕ = 0 in omega (arith, length-replicate n z))
+    ]
+
 -- all the words
-pub done_words : (at : ℕ) (t : Definition) (f : Frames) (c : Body) (here : ℕ) (seen : List Token) (frames : List Frame) → Seen at f c here seen frames → done (In f c) ≡ Some t → seen ≡ all_words t
-done_words at t FTop c here seen frames s e = let q : Simple c ≡ t = cc in s.words_are ∙ ap all_words q
-done_words at t (FPast a) c here seen frames s e = let q : Doing a c ≡ t = cc in s.words_are ∙ append_assoc (words a) _ (words c) ∙ ap all_words q
-done_words at t (FIf f a to) c here seen frames s e = cc
-done_words at t (FElse f a b to) c here seen frames s e = cc
-done_words at t (FDo f a) c here seen frames s e = cc
+pub done_words : (at : ℕ) (t : Definition) (f : Frames) (c : Body) (here : ℕ) (seen : List Token) (counts : List ℕ) (frames : List Frame) → Seen at f c here seen counts frames → done (In f c) ≡ Some t → IsSketch (all_words t) seen counts × AreUnforced (all_words t)
+done_words at t FTop c here seen counts frames s e =
+    let q : Simple c ≡ t = cc in
+    (subst (λ d. IsSketch (all_words d) seen counts) q s.sketch, subst (λ d. AreUnforced (all_words d)) q s.unforced)
+done_words at t (FPast a) c here seen counts frames s e =
+    let q : Doing a c ≡ t = cc in
+    let l : (words a ++ DOES ∷ []) ++ words c ≡ all_words t = append_assoc (words a) (DOES ∷ []) (words c) ∙ ap all_words q in
+    (subst (λ ws. IsSketch ws seen counts) l s.sketch, subst (λ ws. AreUnforced ws) l s.unforced)
+done_words at t (FIf f a to) c here seen counts frames s e = cc
+done_words at t (FElse f a b to) c here seen counts frames s e = cc
+done_words at t (FDo f a) c here seen counts frames s e = cc
 
 -- the words so far, of a definition that is found
-pub record Going (rt : ℕ → ℕ) (t : Definition) (at : ℕ) (left : List ℕ) (here : ℕ) (seen : List Token) (frames : List Frame) : Type 0 where
+pub record Going (rt : ℕ → ℕ) (t : Definition) (at : ℕ) (left : List ℕ) (here : ℕ) (seen : List Token) (counts : List ℕ) (frames : List Frame) : Type 0 where
   pub frame : Frames
   pub body : Body
   pub walk : Walk rt t left frame body here
-  pub is : Seen at frame body here seen frames
+  pub is : Seen at frame body here seen counts frames
 
-pub going_start : (rt : ℕ → ℕ) (t : Definition) (bs : List ℕ) (at : ℕ) (seen : List Token) (frames : List Frame) → seen ≡ [] → frames ≡ [] → found rt bs at ≡ Some t → Going rt t at bs at seen frames
-going_start rt t bs at seen frames a b e =
-    record { frame = FTop; body = Empty; walk = walk_start rt t bs at e; is = record { words_are = a; frames_are = b; here_is = omega arith } }
+pub going_start : (rt : ℕ → ℕ) (t : Definition) (bs : List ℕ) (at n : ℕ) (seen : List Token) (counts : List ℕ) (frames : List Frame) → seen ≡ [] → counts ≡ replicate n 0 → frames ≡ [] → found rt bs at ≡ Some t → Going rt t at bs at seen counts frames
+going_start rt t bs at n seen counts frames a z b e =
+    record {
+      frame = FTop;
+      body = Empty;
+      walk = walk_start rt t bs at e;
+      is = record { sketch = record { words_are = a; counts_are = none }; unforced = tt; few = λ p. omega (arith, none p); frames_are = b; here_is = omega arith };
+    }
+  where
+    none : (p : ℕ) → slice_index counts p ≡ 0
+    none p = ap (λ l. slice_index l p) z ∙ zeros n p
 
 pub some_length : (xs : List ℕ) → (length xs ≡ 0 → ⊥) → 0 < length xs
 some_length xs h = omega (arith, λ (q : length xs ≡ 0). h q)
+
+-- an instruction has bytes
+pub some_bytes : (i : Instr) → 0 < len i
+some_bytes (IText k bs) = omega arith
+some_bytes _ = omega arith

@@ -1,11 +1,12 @@
 -- What the decompiler keeps while it reads.
-use Rattle.std.specs.Prelude.{◌≡◌, ℕ, ◌+◌, ◌≤◌, List, [], ◌∷◌, ◌++◌, length, Option, Some, None}
+use Rattle.std.specs.Prelude.{◌≡◌, ℕ, ◌+◌, ◌≤◌, List, [], ◌∷◌, ◌++◌, length, Option, Some, None, slice_index}
 use Rattle.see.specs.declared.structures.Frame.{Frame}
 use Rattle.see.specs.declared.structures.Frame.TheVariants as k
 use Rattle.colon_bodies.specs.Tokens.{Token, IF, ELSE, DO, DOES}
 use Rattle.colon_bodies.specs.Tree.{Body, words}
 use Rattle.colon_bodies.specs.Code.{size}
 use Rattle.colon_bodies.specs.Structures.{Frames, FTop, FPast, FIf, FElse, FDo}
+use Rattle.see.specs.Places.{without_begins, IsSketch, AreUnforced}
 
 -- the words of the open structures; no BEGIN is among them
 abbrev pub frame_words : Frames → List Token
@@ -26,19 +27,22 @@ start at (FDo f t) = start at f + (size t + 4)
 abbrev pub frames_of : ℕ → Frames → List Frame
 frames_of at FTop = []
 frames_of at (FPast t) = k.Past (at + (size t + 2)) ∷ []
-frames_of at (FIf f t to) = frames_of at f ++ k.If (length (frame_words f ++ words t)) to (start at f + (size t + 4)) ∷ []
+frames_of at (FIf f t to) = frames_of at f ++ k.If (length (without_begins (frame_words f ++ words t))) to (start at f + (size t + 4)) ∷ []
 frames_of at (FElse f t a to) = frames_of at f ++ k.Else to (start at f + (size t + (8 + size a))) ∷ []
 frames_of at (FDo f t) = frames_of at f ++ k.Do (start at f + (size t + 4)) ∷ []
 
-pub record Seen (at : ℕ) (f : Frames) (c : Body) (here : ℕ) (seen : List Token) (frames : List Frame) : Type 0 where
-  pub words_are : seen ≡ frame_words f ++ words c
+-- the words so far, their BEGINs by places, and what is open
+pub record Seen (at : ℕ) (f : Frames) (c : Body) (here : ℕ) (seen : List Token) (begins : List ℕ) (frames : List Frame) : Type 0 where
+  pub sketch : IsSketch (frame_words f ++ words c) seen begins
+  pub unforced : AreUnforced (frame_words f ++ words c)
+  pub few : (place : ℕ) → slice_index begins place ≤ here
   pub frames_are : frames ≡ frames_of at f
   pub here_is : here ≡ start at f + size c
 
 abbrev pub top_frame : ℕ → Frames → Option Frame
 top_frame at FTop = None
 top_frame at (FPast t) = Some (k.Past (at + (size t + 2)))
-top_frame at (FIf f t to) = Some (k.If (length (frame_words f ++ words t)) to (start at f + (size t + 4)))
+top_frame at (FIf f t to) = Some (k.If (length (without_begins (frame_words f ++ words t))) to (start at f + (size t + 4)))
 top_frame at (FElse f t a to) = Some (k.Else to (start at f + (size t + (8 + size a))))
 top_frame at (FDo f t) = Some (k.Do (start at f + (size t + 4)))
 

@@ -12,6 +12,7 @@ ghost use Rattle.see.specs.Seen.{Seen};
 ghost use Rattle.see.specs.declared.structures.Frame.{Frame};
 
 use crate::front::{Instruction, first_off};
+use crate::places::{no_begins, with_begins};
 use crate::structures::{
     Frame, close_here, take_branch, take_do, take_does, take_loop, take_query,
 };
@@ -20,7 +21,7 @@ use std::alloc::{AllocError, Global};
 
 /// A word.
 fn take_call(words: &mut Vec<BodyWord>, w: u16) -> Result<bool, AllocError>
-    ensures { (at here : ℕ) (f g : Frames) (c d : Body) (frames : List Frame) → Seen at f c here (map token words.old.items) frames → step f c here (ICall w) ≡ Some (In g d) → IfOk result (λ ok. (ok ≡ true) × Seen at g d (here + 2) (map token words.new.items) frames) }
+    ensures { (at here : ℕ) (begins : List ℕ) (f g : Frames) (c d : Body) (frames : List Frame) → Seen at f c here (map token words.old.items) begins frames → step f c here (ICall w) ≡ Some (In g d) → IfOk result (λ ok. (ok ≡ true) × Seen at g d (here + 2) (map token words.new.items) begins frames) }
 {
     words.push(BodyWord::Name(w))?;
     Ok(true)
@@ -28,7 +29,7 @@ fn take_call(words: &mut Vec<BodyWord>, w: u16) -> Result<bool, AllocError>
 
 /// A number.
 fn take_number(words: &mut Vec<BodyWord>, n: u16) -> Result<bool, AllocError>
-    ensures { (at here : ℕ) (f g : Frames) (c d : Body) (frames : List Frame) → Seen at f c here (map token words.old.items) frames → step f c here (INum n) ≡ Some (In g d) → IfOk result (λ ok. (ok ≡ true) × Seen at g d (here + 4) (map token words.new.items) frames) }
+    ensures { (at here : ℕ) (begins : List ℕ) (f g : Frames) (c d : Body) (frames : List Frame) → Seen at f c here (map token words.old.items) begins frames → step f c here (INum n) ≡ Some (In g d) → IfOk result (λ ok. (ok ≡ true) × Seen at g d (here + 4) (map token words.new.items) begins frames) }
 {
     words.push(BodyWord::Number(n))?;
     Ok(true)
@@ -36,7 +37,7 @@ fn take_number(words: &mut Vec<BodyWord>, n: u16) -> Result<bool, AllocError>
 
 /// COMPILE and a word.
 fn take_pair(words: &mut Vec<BodyWord>, w: u16) -> Result<bool, AllocError>
-    ensures { (at here : ℕ) (f g : Frames) (c d : Body) (frames : List Frame) → Seen at f c here (map token words.old.items) frames → step f c here (ICompile w) ≡ Some (In g d) → IfOk result (λ ok. (ok ≡ true) × Seen at g d (here + 4) (map token words.new.items) frames) }
+    ensures { (at here : ℕ) (begins : List ℕ) (f g : Frames) (c d : Body) (frames : List Frame) → Seen at f c here (map token words.old.items) begins frames → step f c here (ICompile w) ≡ Some (In g d) → IfOk result (λ ok. (ok ≡ true) × Seen at g d (here + 4) (map token words.new.items) begins frames) }
 {
     words.push(BodyWord::Compile)?;
     words.push(BodyWord::Name(w))?;
@@ -49,7 +50,7 @@ fn take_text<'a>(
     aborts: bool,
     text: &'a [u8],
 ) -> Result<bool, AllocError>
-    ensures { (at here : ℕ) (f g : Frames) (c d : Body) (frames : List Frame) → Seen at f c here (map token words.old.items) frames → step f c here (IText aborts text.now) ≡ Some (In g d) → IfOk result (λ ok. (ok ≡ true) × Seen at g d (here + (3 + length text.now)) (map token words.new.items) frames) }
+    ensures { (at here : ℕ) (begins : List ℕ) (f g : Frames) (c d : Body) (frames : List Frame) → Seen at f c here (map token words.old.items) begins frames → step f c here (IText aborts text.now) ≡ Some (In g d) → IfOk result (λ ok. (ok ≡ true) × Seen at g d (here + (3 + length text.now)) (map token words.new.items) begins frames) }
 {
     words.push(BodyWord::Text(aborts, text))?;
     Ok(true)
@@ -69,21 +70,22 @@ fn bytes_of(flat: Instruction) -> usize
 /// Takes one instruction.
 fn take<'a>(
     words: &mut Vec<BodyWord<'a>>,
+    begins: &mut [usize],
     frames: &mut Vec<Frame>,
     at: usize,
     here: usize,
     flat: Instruction<'a>,
 ) -> Result<bool, AllocError>
     requires { here + len (instr flat) < 2 ^ 64 }
-    ensures { (f g : Frames) (c d : Body) → Seen at f c here (map token words.old.items) frames.old.items → step f c here (instr flat.entry) ≡ Some (In g d) → IfOk result (λ ok. (ok ≡ true) × Seen at g d (here + len (instr flat.entry)) (map token words.new.items) frames.new.items) }
+    ensures { (f g : Frames) (c d : Body) → Seen at f c here (map token words.old.items) begins.old frames.old.items → here < at + length begins.old → step f c here (instr flat.entry) ≡ Some (In g d) → IfOk result (λ ok. (ok ≡ true) × Seen at g d (here + len (instr flat.entry)) (map token words.new.items) begins.new frames.new.items) }
 {
     match flat {
         Instruction::Call(w) => take_call(words, w),
         Instruction::Number(n) => take_number(words, n),
         Instruction::Pair(w) => take_pair(words, w),
         Instruction::Text(aborts, text) => take_text(words, aborts, text),
-        Instruction::Query(to) => take_query(words, frames, here, to as usize),
-        Instruction::Branch(to) => take_branch(words, frames, at, here, to as usize),
+        Instruction::Query(to) => take_query(words, begins, frames, at, here, to as usize),
+        Instruction::Branch(to) => take_branch(words, begins, frames, at, here, to as usize),
         Instruction::Do(_) => take_do(words, frames, here),
         Instruction::Loop(plus, _) => take_loop(words, frames, plus),
         Instruction::Does => take_does(words, frames, here),
@@ -110,6 +112,7 @@ pub fn find<'a>(
     ensures { (t : Definition) → found (slice_index runtime.now) bytes.now at ≡ Some t → IfOk result (λ o. IsSome o × IfSome o (λ ws. map token ws.items ≡ all_words t ++ SEMI ∷ [])) }
 {
     let mut words = Vec::new(alloc);
+    let mut begins = no_begins(alloc, bytes.len())?;
     let mut frames = Vec::new(alloc);
     let mut here = at as usize;
     let mut left = bytes;
@@ -117,9 +120,16 @@ pub fn find<'a>(
         close_here(&mut words, &mut frames, here)?;
         if is_nothing(next.rest) {
             words.push(BodyWord::Semicolon)?;
-            return Ok(Some(words));
+            return Ok(Some(with_begins(alloc, &words, &begins)?));
         }
-        if !take(&mut words, &mut frames, at as usize, here, next.first)? {
+        if !take(
+            &mut words,
+            &mut begins,
+            &mut frames,
+            at as usize,
+            here,
+            next.first,
+        )? {
             return Ok(None);
         }
         here += bytes_of(next.first);

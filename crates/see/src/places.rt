@@ -1,11 +1,12 @@
-//! Where a BEGIN belongs.
+//! Where the BEGINs belong.
 
-ghost use Rattle.std.specs.Prelude.{◌≡◌, ◌≤◌, IfSome, true, false, ℕ, List, ◌++◌, IsTrue, length, map, Some};
-ghost use Rattle.colon_bodies.specs.Tokens.{Token, laid, laid_by};
+ghost use Rattle.std.specs.Prelude.{◌≡◌, ◌<◌, ◌==◌, ◌+◌, ◌^◌, true, ℕ, List, [], ◌++◌, IfOk, OnOk, length, map, drop, replicate, slice_index, slice_set, if◌then◌else◌};
+ghost use Rattle.colon_bodies.specs.Tokens.{Token, laid_by};
 ghost use Rattle.colon_bodies.specs.Draft.{token};
-ghost use Rattle.see.specs.Places.{ahead, Leads, EndsWell};
+ghost use Rattle.see.specs.Places.{IsSketch, AreLed, opened};
 
 use colon_bodies::BodyWord;
+use std::alloc::{AllocError, Global};
 
 /// How many bytes a word lays.
 pub fn bytes_of(word: BodyWord) -> usize
@@ -24,39 +25,74 @@ pub fn bytes_of(word: BodyWord) -> usize
     }
 }
 
-/// Whether the word lays nothing, and belongs to what stands behind it.
-fn is_ahead(word: BodyWord) -> bool
-    ensures { result ≡ ahead (token word.entry) }
+/// No BEGIN, at each of so many places.
+pub fn no_begins(alloc: Global, places: usize) -> Result<Vec<usize>, AllocError>
+    ensures { IfOk result (λ v. v.items ≡ replicate places 0) }
 {
-    matches!(word, BodyWord::Begin | BodyWord::Force)
+    vec![in alloc; 0; places]
 }
 
-/// Whether what `left` bytes are still to stand behind begins behind this word.
-fn stops_at(word: BodyWord, left: usize) -> bool
-    ensures stops { IsTrue result → (left ≡ 0) × (ahead (token word.entry) ≡ false) }
-    ensures goes_on { result ≡ false → left ≡ 0 → ahead (token word.entry) ≡ true }
+/// Counts one more BEGIN at `to`, in a thread that stands at `at`. False where it has no such place.
+pub fn count_begin(begins: &mut [usize], at: usize, to: usize) -> bool
+    ensures { (place : ℕ) → to ≡ at + place → place < length begins.old → slice_index begins.old place + 1 < 2 ^ 64 → (result ≡ true) × (begins.new ≡ slice_set begins.old place (slice_index begins.old place + 1)) }
 {
-    left == 0 && !is_ahead(word)
-}
-
-/// The place before the last n bytes' words.
-pub fn begin_place(words: &[BodyWord], n: usize) -> Option<usize>
-    ensures found { (front back : List Token) → map token words.now ≡ front ++ back → laid back ≡ n → Leads back → EndsWell front → result ≡ Some (length front) }
-    ensures within { IfSome result (λ place. place ≤ length words.now) }
-{
-    let mut end = words.len();
-    let mut left = n;
-    while end > 0 {
-        let last = words[end - 1];
-        if stops_at(last, left) {
-            return Some(end);
-        }
-        let k = bytes_of(last);
-        if k > left {
-            return None;
-        }
-        left -= k;
-        end -= 1;
+    if to < at {
+        return false;
     }
-    if left == 0 { Some(0) } else { None }
+    let place = to - at;
+    if place >= begins.len() {
+        return false;
+    }
+    begins[place] = begins[place].saturating_add(1);
+    true
+}
+
+/// How many BEGINs belong before a word that lays so many bytes at the first of these places.
+fn begins_before(begins: &[usize], size: usize) -> usize
+    ensures { result ≡ (if size == 0 then 0 else slice_index begins.now 0) }
+{
+    if size == 0 {
+        return 0;
+    }
+    begins.first().copied().unwrap_or(0)
+}
+
+/// The places behind the first `n`.
+fn places_behind(begins: &[usize], n: usize) -> &[usize]
+    ensures { result.now ≡ drop n begins.now }
+{
+    if n < begins.len() {
+        &begins[n..]
+    } else {
+        &begins[begins.len()..]
+    }
+}
+
+/// Writes `n` BEGINs.
+fn push_begins(words: &mut Vec<BodyWord>, n: usize) -> Result<(), AllocError>
+    ensures { OnOk result (map token words.new.items ≡ map token words.old.items ++ opened n []) }
+{
+    for _ in 0..n {
+        words.push(BodyWord::Begin)?;
+    }
+    Ok(())
+}
+
+/// Words with their BEGINs, of which so many belong at each place.
+pub fn with_begins<'a>(
+    alloc: Global,
+    words: &[BodyWord<'a>],
+    begins: &[usize],
+) -> Result<Vec<BodyWord<'a>>, AllocError>
+    ensures { (whole : List Token) → IsSketch whole (map token words.now) begins.now → AreLed whole → IfOk result (λ ws. map token ws.items ≡ whole) }
+{
+    let mut whole = Vec::new(alloc);
+    let mut left = begins;
+    for word in words.iter() {
+        let size = bytes_of(*word);
+        push_begins(&mut whole, begins_before(left, size))?;
+        whole.push(*word)?;
+        left = places_behind(left, size);
+    }
+    Ok(whole)
 }

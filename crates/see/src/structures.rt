@@ -1,16 +1,14 @@
 //! Finds the structures again.
 
 ghost use Rattle.std.specs.Prelude.{◌≡◌, ◌↔◌, IsTrue, IsSome, OnOk, true, ◌≤◌, ◌<◌, ◌^◌, ◌+◌, ◌-◌, ℕ, List, ◌∷◌, ◌++◌, IfOk, length, map, Some};
-ghost use Rattle.colon_bodies.specs.Tokens.{Token, BEGIN, laid};
 ghost use Rattle.colon_bodies.specs.Tree.{Body};
 ghost use Rattle.colon_bodies.specs.Draft.{token};
-ghost use Rattle.see.specs.Places.{Leads, EndsWell};
 ghost use Rattle.colon_bodies.specs.Structures.{Frames, In, step, else_at, again_at, repeat_at, loop_at, split, shut};
 ghost use Rattle.colon_bodies.specs.Instructions.{IQuery, IBranch, IDo, ILoop, IDoes};
 ghost use Rattle.see.specs.Seen.{Seen, frames_of, top_frame, beneath, start, begins_at, EndsHere};
 ghost use Rattle.see.specs.declared.structures.Frame.{Frame};
 
-use crate::places::begin_place;
+use crate::places::count_begin;
 use colon_bodies::BodyWord;
 use std::alloc::AllocError;
 
@@ -27,37 +25,24 @@ pub enum Frame {
     Do(usize),
 }
 
-/// Puts a BEGIN before the words of the last `n` bytes of the first `end` words.
-fn insert_begin(words: &mut Vec<BodyWord>, end: usize, n: usize) -> Result<bool, AllocError>
-    requires { end ≤ length words.old.items }
-    ensures { (front back rest : List Token) → map token words.old.items ≡ front ++ (back ++ rest) → end ≡ length (front ++ back) → laid back ≡ n → Leads back → EndsWell front → IfOk result (λ ok. (ok ≡ true) × (map token words.new.items ≡ front ++ (BEGIN ∷ (back ++ rest)))) }
-{
-    match begin_place(&words[..end], n) {
-        Some(place) => {
-            words.insert(place, BodyWord::Begin)?;
-            Ok(true)
-        }
-        None => Ok(false),
-    }
-}
-
 /// ?BRANCH: forward it is an IF, back an UNTIL.
 pub fn take_query(
     words: &mut Vec<BodyWord>,
+    begins: &mut [usize],
     frames: &mut Vec<Frame>,
+    at: usize,
     here: usize,
     to: usize,
 ) -> Result<bool, AllocError>
     requires { here + 4 < 2 ^ 64 }
-    ensures { (at : ℕ) (f g : Frames) (c d : Body) → Seen at f c here (map token words.old.items) frames.old.items → step f c here (IQuery to) ≡ Some (In g d) → IfOk result (λ ok. (ok ≡ true) × Seen at g d (here + 4) (map token words.new.items) frames.new.items) }
+    ensures { (f g : Frames) (c d : Body) → Seen at f c here (map token words.old.items) begins.old frames.old.items → here < at + length begins.old → step f c here (IQuery to) ≡ Some (In g d) → IfOk result (λ ok. (ok ≡ true) × Seen at g d (here + 4) (map token words.new.items) begins.new frames.new.items) }
 {
     if here < to {
         frames.push(Frame::If(words.len(), to, here + 4))?;
         words.push(BodyWord::If)?;
         return Ok(true);
     }
-    let end = words.len();
-    if !insert_begin(words, end, here - to)? {
+    if !count_begin(begins, at, to) {
         return Ok(false);
     }
     words.push(BodyWord::Until)?;
@@ -81,7 +66,7 @@ fn take_else(
     to: usize,
 ) -> Result<bool, AllocError>
     requires { here + 4 < 2 ^ 64 }
-    ensures { (at : ℕ) (f g : Frames) (c d : Body) → Seen at f c here (map token words.old.items) frames.old.items → else_at f c to ≡ Some (In g d) → IfOk result (λ ok. (ok ≡ true) × Seen at g d (here + 4) (map token words.new.items) frames.new.items) }
+    ensures { (at : ℕ) (begins : List ℕ) (f g : Frames) (c d : Body) → Seen at f c here (map token words.old.items) begins frames.old.items → else_at f c to ≡ Some (In g d) → IfOk result (λ ok. (ok ≡ true) × Seen at g d (here + 4) (map token words.new.items) begins frames.new.items) }
 {
     match pop_frame(frames) {
         Some(Frame::If(_, _, _)) => {
@@ -94,12 +79,18 @@ fn take_else(
 }
 
 /// BRANCH back within the innermost body: an AGAIN.
-fn take_again(words: &mut Vec<BodyWord>, here: usize, to: usize) -> Result<bool, AllocError>
-    requires { to ≤ here }
-    ensures { (at : ℕ) (f g : Frames) (c d : Body) (frames : List Frame) → Seen at f c here (map token words.old.items) frames → again_at f (split c (here - to)) ≡ Some (In g d) → IfOk result (λ ok. (ok ≡ true) × Seen at g d (here + 4) (map token words.new.items) frames) }
+fn take_again(
+    words: &mut Vec<BodyWord>,
+    begins: &mut [usize],
+    at: usize,
+    here: usize,
+    to: usize,
+) -> Result<bool, AllocError>
+    requires room { here + 4 < 2 ^ 64 }
+    requires back { to ≤ here }
+    ensures { (f g : Frames) (c d : Body) (frames : List Frame) → Seen at f c here (map token words.old.items) begins.old frames → here < at + length begins.old → again_at f (split c (here - to)) ≡ Some (In g d) → IfOk result (λ ok. (ok ≡ true) × Seen at g d (here + 4) (map token words.new.items) begins.new frames) }
 {
-    let end = words.len();
-    if !insert_begin(words, end, here - to)? {
+    if !count_begin(begins, at, to) {
         return Ok(false);
     }
     words.push(BodyWord::Again)?;
@@ -109,10 +100,12 @@ fn take_again(words: &mut Vec<BodyWord>, here: usize, to: usize) -> Result<bool,
 /// BRANCH back over the start of the innermost body: a REPEAT, and what was read as IF is a WHILE.
 fn take_repeat(
     words: &mut Vec<BodyWord>,
+    begins: &mut [usize],
     frames: &mut Vec<Frame>,
+    at: usize,
     to: usize,
 ) -> Result<bool, AllocError>
-    ensures { (at here : ℕ) (f g : Frames) (c d : Body) → Seen at f c here (map token words.old.items) frames.old.items → to < start at f → repeat_at f c here to ≡ Some (In g d) → IfOk result (λ ok. (ok ≡ true) × Seen at g d (here + 4) (map token words.new.items) frames.new.items) }
+    ensures { (here : ℕ) (f g : Frames) (c d : Body) → Seen at f c here (map token words.old.items) begins.old frames.old.items → here < at + length begins.old → here + 4 < 2 ^ 64 → to < start at f → repeat_at f c here to ≡ Some (In g d) → IfOk result (λ ok. (ok ≡ true) × Seen at g d (here + 4) (map token words.new.items) begins.new frames.new.items) }
 {
     match pop_frame(frames) {
         Some(Frame::If(index, _, start)) => {
@@ -120,7 +113,7 @@ fn take_repeat(
                 return Ok(false);
             }
             words[index] = BodyWord::While;
-            if !insert_begin(words, index, start.saturating_sub(4).saturating_sub(to))? {
+            if !count_begin(begins, at, to.min(start.saturating_sub(4))) {
                 return Ok(false);
             }
             words.push(BodyWord::Repeat)?;
@@ -137,7 +130,7 @@ pub fn take_do(
     here: usize,
 ) -> Result<bool, AllocError>
     requires { here + 4 < 2 ^ 64 }
-    ensures { (at to : ℕ) (f g : Frames) (c d : Body) → Seen at f c here (map token words.old.items) frames.old.items → step f c here (IDo to) ≡ Some (In g d) → IfOk result (λ ok. (ok ≡ true) × Seen at g d (here + 4) (map token words.new.items) frames.new.items) }
+    ensures { (at to : ℕ) (begins : List ℕ) (f g : Frames) (c d : Body) → Seen at f c here (map token words.old.items) begins frames.old.items → step f c here (IDo to) ≡ Some (In g d) → IfOk result (λ ok. (ok ≡ true) × Seen at g d (here + 4) (map token words.new.items) begins frames.new.items) }
 {
     frames.push(Frame::Do(here + 4))?;
     words.push(BodyWord::Do)?;
@@ -150,7 +143,7 @@ pub fn take_loop(
     frames: &mut Vec<Frame>,
     plus: bool,
 ) -> Result<bool, AllocError>
-    ensures { (at here to : ℕ) (f g : Frames) (c d : Body) → Seen at f c here (map token words.old.items) frames.old.items → step f c here (ILoop plus to) ≡ Some (In g d) → IfOk result (λ ok. (ok ≡ true) × Seen at g d (here + 4) (map token words.new.items) frames.new.items) }
+    ensures { (at here to : ℕ) (begins : List ℕ) (f g : Frames) (c d : Body) → Seen at f c here (map token words.old.items) begins frames.old.items → step f c here (ILoop plus to) ≡ Some (In g d) → IfOk result (λ ok. (ok ≡ true) × Seen at g d (here + 4) (map token words.new.items) begins frames.new.items) }
 {
     match pop_frame(frames) {
         Some(Frame::Do(_)) => {
@@ -168,7 +161,7 @@ pub fn take_does(
     here: usize,
 ) -> Result<bool, AllocError>
     requires { here + 2 < 2 ^ 64 }
-    ensures { (at : ℕ) (f g : Frames) (c d : Body) → Seen at f c here (map token words.old.items) frames.old.items → step f c here IDoes ≡ Some (In g d) → IfOk result (λ ok. (ok ≡ true) × Seen at g d (here + 2) (map token words.new.items) frames.new.items) }
+    ensures { (at : ℕ) (begins : List ℕ) (f g : Frames) (c d : Body) → Seen at f c here (map token words.old.items) begins frames.old.items → step f c here IDoes ≡ Some (In g d) → IfOk result (λ ok. (ok ≡ true) × Seen at g d (here + 2) (map token words.new.items) begins frames.new.items) }
 {
     frames.push(Frame::Past(here + 2))?;
     words.push(BodyWord::Does)?;
@@ -205,21 +198,22 @@ fn body_start(frames: &Vec<Frame>, at: usize) -> usize
 /// BRANCH.
 pub fn take_branch(
     words: &mut Vec<BodyWord>,
+    begins: &mut [usize],
     frames: &mut Vec<Frame>,
     at: usize,
     here: usize,
     to: usize,
 ) -> Result<bool, AllocError>
     requires { here + 4 < 2 ^ 64 }
-    ensures { (f g : Frames) (c d : Body) → Seen at f c here (map token words.old.items) frames.old.items → step f c here (IBranch to) ≡ Some (In g d) → IfOk result (λ ok. (ok ≡ true) × Seen at g d (here + 4) (map token words.new.items) frames.new.items) }
+    ensures { (f g : Frames) (c d : Body) → Seen at f c here (map token words.old.items) begins.old frames.old.items → here < at + length begins.old → step f c here (IBranch to) ≡ Some (In g d) → IfOk result (λ ok. (ok ≡ true) × Seen at g d (here + 4) (map token words.new.items) begins.new frames.new.items) }
 {
     if here < to {
         return take_else(words, frames, here, to);
     }
     if to < body_start(frames, at) {
-        return take_repeat(words, frames, to);
+        return take_repeat(words, begins, frames, at, to);
     }
-    take_again(words, here, to)
+    take_again(words, begins, at, here, to)
 }
 
 /// Whether the innermost open structure ends here.
@@ -240,7 +234,7 @@ pub fn close_here(
     frames: &mut Vec<Frame>,
     here: usize,
 ) -> Result<(), AllocError>
-    ensures { (at : ℕ) (f g : Frames) (c d : Body) → Seen at f c here (map token words.old.items) frames.old.items → shut f c here ≡ In g d → OnOk result (Seen at g d here (map token words.new.items) frames.new.items) }
+    ensures { (at : ℕ) (begins : List ℕ) (f g : Frames) (c d : Body) → Seen at f c here (map token words.old.items) begins frames.old.items → shut f c here ≡ In g d → OnOk result (Seen at g d here (map token words.new.items) begins frames.new.items) }
 {
     while ends_here(frames, here) {
         let _ = pop_frame(frames);

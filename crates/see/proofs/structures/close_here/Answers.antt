@@ -12,12 +12,12 @@ loop-frames-smaller c =
     omega (arith, s)
 
 pub loop-frames-preserved : goal.loop-frames-preserved
-loop-frames-preserved c = λ at f g b d s e.
-    let i = c.loop-frames.invariant at f g b d s e in
+loop-frames-preserved c = λ at n f g b d s e.
+    let i = c.loop-frames.invariant at n f g b d s e in
     let h = (c.ends_here.ensures.meaning at i.frame i.is.frames_are).0 c.loop-frames-test.true in
-    shuts_turn token at g d c.args.here _ _ w.Then _ _ i h refl c.in_ok-push.ensures.items (c.pop_frame.ensures.top at i.frame i.is.frames_are).1
+    shuts_turn token at g d c.args.here _ _ w.Then n _ _ i h refl c.in_ok-push.ensures.items (c.pop_frame.ensures.top at i.frame i.is.frames_are).1
 
 pub returns : goal.returns
-returns c = λ at f g b d s e.
-    let i = c.loop-frames.invariant at f g b d s e in
-    shuts_end at g d c.args.here _ _ i (false_test _ _ (c.ends_here.ensures.meaning at i.frame i.is.frames_are) c.loop-frames-test.false)
+returns c = λ at n f g b d s e.
+    let i = c.loop-frames.invariant at n f g b d s e in
+    shuts_end at g d c.args.here _ n _ i (false_test _ _ (c.ends_here.ensures.meaning at i.frame i.is.frames_are) c.loop-frames-test.false)

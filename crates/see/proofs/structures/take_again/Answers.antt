@@ -1,20 +1,25 @@
-use Rattle.std.proofs.Common.{◌++◌, [], refl, ◌∙◌, ◌-◌}
+use Rattle.std.proofs.Common.{◌-◌, ◌++◌, refl, arith}
 use Rattle.colon_bodies.specs.Draft.{token}
-use Rattle.colon_bodies.specs.Tree.{words}
+use Rattle.colon_bodies.specs.Tokens.{AGAIN, laid}
+use Rattle.colon_bodies.specs.Tree.{Again, words}
 use Rattle.see.specs.Seen.{frame_words}
 use Rattle.colon_bodies.specs.declared.words.BodyWord.TheVariants as w
-use Rattle.see.proofs.Cutting.{again_cut, again_seen, ends_open, laid_back, cut_words, cut_end}
-use Rattle.see.proofs.Walking.{leads_words}
+use Rattle.see.proofs.Cutting.{again_cut}
+use Rattle.see.proofs.Growing.{back_place, back_seen}
 use Rattle.see.proofs.structures.take_again.Goals as goal
 
-pub returns-then-not-branch : goal.returns-then-not-branch
-returns-then-not-branch c = λ at f g b d frames s e.
+pub returns-then-not-count_begin : goal.returns-then-not-count_begin
+returns-then-not-count_begin c = λ f g b d frames s within e.
     let u = again_cut f g b d (c.args.here - c.args.to) e in
-    let r = c.in_ok-insert_begin.ensures (frame_words f ++ words u.0) (words u.1) [] (cut_words at f b u.0 u.1 c.args.here _ _ _ s u.2) (c.len-end.ensures ∙ c.args.words.now.ok.0 ∙ cut_end token at f b u.0 u.1 c.args.here _ _ _ s u.2) (laid_back b _ u.0 u.1 u.2) (leads_words u.1) (ends_open f u.0) in
-    absurd (let z = c.if-not-branch.true in let y = r.0 in cc)
+    let place = laid (frame_words f ++ words u.0) in
+    let p = back_place c.args.at f b u.0 u.1 c.args.here c.args.to _ _ _ c.requires.back s u.2 in
+    let r = c.count_begin.ensures place p (omega arith) (omega (arith, s.few place)) in
+    absurd (let z = c.if-not-count_begin.true in let y = r.0 in cc)
 
 pub returns : goal.returns
-returns c = λ at f g b d frames s e.
+returns c = λ f g b d frames s within e.
     let u = again_cut f g b d (c.args.here - c.args.to) e in
-    let r = c.in_ok-insert_begin.ensures (frame_words f ++ words u.0) (words u.1) [] (cut_words at f b u.0 u.1 c.args.here _ _ _ s u.2) (c.len-end.ensures ∙ c.args.words.now.ok.0 ∙ cut_end token at f b u.0 u.1 c.args.here _ _ _ s u.2) (laid_back b _ u.0 u.1 u.2) (leads_words u.1) (ends_open f u.0) in
-    (refl, again_seen token at f g b d u.0 u.1 c.args.here c.args.to c.args.words.now.items _ _ w.Again _ c.requires refl s u.2 u.3 u.4 r.1 c.in_ok-push.ensures.items)
+    let place = laid (frame_words f ++ words u.0) in
+    let p = back_place c.args.at f b u.0 u.1 c.args.here c.args.to _ _ _ c.requires.back s u.2 in
+    let r = c.count_begin.ensures place p (omega arith) (omega (arith, s.few place)) in
+    (refl, back_seen token c.args.at f g b d u.0 u.1 (Again u.0 u.1) c.args.here c.args.to _ _ w.Again AGAIN _ _ _ c.requires.back tt refl refl refl s within u.2 u.3 u.4 c.in_ok-push.ensures.items r.1)
