@@ -29,5 +29,5 @@ pub told : (file : Contents) (m name typed : List ℕ) (answer : Result ℕ View
     → EndsViewed file name status old new
 told file m name typed answer status old new same spelled is printed =
     let all : answer ≡ viewed (memory_of file) (sought (memory_of file) name) =
-      is ∙ ap (λ t. viewed m (sought m t)) spelled ∙ ap (λ x. viewed x (sought x name)) same in
+    is ∙ ap (λ t. viewed m (sought m t)) spelled ∙ ap (λ x. viewed x (sought x name)) same in
     subst (λ r. PrintsViewed name r status old new ⊎ PrintsOutOfMemory status old new) all printed

@@ -12,6 +12,6 @@ pub returns-in-Ok-see-clause-seen : goal.returns-in-Ok-see-clause-seen
 returns-in-Ok-see-clause-seen g c = λ fine file is.
     let m = in_memory c.in-Ok.image file c.in-Ok-with_front.memory c.bytes.result.now (c.in-Ok.ensures.accepted file is) c.bytes.ensures.bytes c.in-Ok-with_front.ensures in
     elim (c.print_definition.ensures.printed fine) [
-      inl p ↦ seen _ _ _ _ (Ok c.in-Ok-see.text) _ _ _ m c.as_bytes.ensures.value c.in-Ok-see.ensures.seen p
-    | inr p ↦ seen_none _ _ _ _ _ p
+      | inl p ↦ seen _ _ _ _ (Ok c.in-Ok-see.text) _ _ _ m c.as_bytes.ensures.value c.in-Ok-see.ensures.seen p
+      | inr p ↦ seen_none _ _ _ _ _ p
     ]
