@@ -1,10 +1,11 @@
 //! The subcommands, over values.
 
-ghost use Rattle.std.specs.Prelude.{◌≡◌, ◌≢◌, ◌<◌, ℕ, List, false, true, Some, IsNone, IfSome, MatchOption};
+ghost use Rattle.std.specs.Prelude.{◌≡◌, ◌≢◌, ◌<◌, ◌⊎◌, ℕ, List, codes, decimal, false, true, Some, IsNone, IfOk, IfSome, MatchOption, string_bytes, ◌++◌};
 ghost use Rattle.block_buffers.specs.Calls.{failures};
 ghost use Rattle.block_buffers.specs.Disks.{Disk};
 ghost use Rattle.forth83.specs.Kernel.{filled, blocks_of};
 ghost use Rattle.forth83.specs.Images.{IsBuiltFile};
+ghost use Rattle.forth83.specs.Lines.{EndsViewed, Prints, PrintsOutOfMemory, PrintsRefusal, line};
 ghost use Rattle.forth83.specs.Statuses.{status_of, EndsWith};
 ghost use Rattle.image_loader.specs.Files.{Contents, IsFile};
 ghost use Rattle.inner_interpreter.specs.Worlds.{loaded};
@@ -16,8 +17,9 @@ use image_loader::{Image, ImageFault};
 use inner_interpreter::{Input, Output, Stop, run_file, send_all};
 use memory::{Memory, OutOfMemory};
 use metacompiler::{BuildFault, Cause, build};
-use see::{ViewRefused, view};
+use see::view;
 use std::alloc::{AllocError, Global};
+use std::fmt::Display;
 
 /// How a subcommand ended: the program's status, and the bytes of the file that it makes, if it makes one.
 #[derive(Drop)]
@@ -59,7 +61,8 @@ pub fn status_of(stop: Stop) -> u8
 
 /// Prints a line, and ends with the status, or with 5 where the line can't be written.
 pub fn print<W: Output>(writer: &mut W, line: &[u8], status: u8) -> Ended
-    ensures printed { W.failed writer.new ≡ false → result.status ≡ status }
+    ensures printed { W.failed writer.new ≡ false → Prints line.now status result.status (W.sent writer.old) (W.sent writer.new) }
+    ensures cut { W.failed writer.old ≡ false → W.failed writer.new ≡ true → result.status ≡ 5 }
     ensures status { 0 < status → 0 < result.status }
     ensures file { IsNone result.file }
 {
@@ -76,29 +79,54 @@ fn is_printed<W: Output>(writer: &mut W, line: &[u8]) -> bool {
 
 /// Prints that memory ran out.
 pub fn print_out_of_memory<W: Output>(writer: &mut W) -> Ended
-    ensures printed { W.failed writer.new ≡ false → result.status ≡ 1 }
+    ensures printed { W.failed writer.new ≡ false → PrintsOutOfMemory result.status (W.sent writer.old) (W.sent writer.new) }
+    ensures cut { W.failed writer.old ≡ false → W.failed writer.new ≡ true → result.status ≡ 5 }
     ensures status { 0 < result.status }
     ensures file { IsNone result.file }
 {
     print(writer, b"out of memory\n", 1)
 }
 
-fn refusal(alloc: Global, fault: ImageFault) -> Result<String, AllocError> {
-    format!(in alloc; "image: {fault}\n")
+/// The line that tells why something is refused.
+fn refusal(alloc: Global, what: &str, cause: &str) -> Result<String, AllocError>
+    ensures { IfOk result (λ s. string_bytes s ≡ what.now ++ (codes ": " ++ line cause.now)) }
+{
+    format!(in alloc; "{what}: {cause}\n")
+}
+
+/// Prints why something is refused: `WHAT: CAUSE`.
+pub fn refuse<C: Display + Drop, W: Output>(
+    alloc: Global,
+    what: &str,
+    why: C,
+    writer: &mut W,
+) -> Ended
+    ensures printed { W.failed writer.new ≡ false → PrintsRefusal what.now result.status (W.sent writer.old) (W.sent writer.new) }
+    ensures cut { W.failed writer.old ≡ false → W.failed writer.new ≡ true → result.status ≡ 5 }
+    ensures status { 0 < result.status }
+    ensures file { IsNone result.file }
+{
+    let Ok(cause) = format!(in alloc; "{why}") else {
+        return print_out_of_memory(writer);
+    };
+    match refusal(alloc, what, cause.as_str()) {
+        Ok(line) => print(writer, line.as_str().as_bytes(), 1),
+        Err(_) => print_out_of_memory(writer),
+    }
 }
 
 /// Prints why bytes are no image.
 pub fn refuse_image<W: Output>(alloc: Global, fault: ImageFault, writer: &mut W) -> Ended
-    ensures printed { W.failed writer.new ≡ false → result.status ≡ 1 }
+    ensures printed { W.failed writer.new ≡ false → PrintsRefusal (codes "image") result.status (W.sent writer.old) (W.sent writer.new) }
+    ensures out_of_memory { W.failed writer.new ≡ false → fault ≡ ImageFault.OutOfMemory → PrintsOutOfMemory result.status (W.sent writer.old) (W.sent writer.new) }
+    ensures cut { W.failed writer.old ≡ false → W.failed writer.new ≡ true → result.status ≡ 5 }
+    ensures status { 0 < result.status }
     ensures file { IsNone result.file }
 {
     if fault == ImageFault::OutOfMemory {
         return print_out_of_memory(writer);
     }
-    match refusal(alloc, fault) {
-        Ok(line) => print(writer, line.as_str().as_bytes(), 1),
-        Err(_) => print_out_of_memory(writer),
-    }
+    refuse(alloc, "image", fault, writer)
 }
 
 /// Makes the block file with the kernel's sources, of 64 blocks. Status 0; without a file 1, where memory ran out, or 5,
@@ -162,15 +190,12 @@ pub fn do_build<W: Output, D: Device>(
     end_with(5)
 }
 
-/// Prints why nothing is told of a word, whose name is printed as it was typed.
-fn refuse_name<W: Output>(alloc: Global, name: &str, why: ViewRefused, writer: &mut W) -> Ended {
-    match format!(in alloc; "{name}: {why}\n") {
-        Ok(line) => print(writer, line.as_str().as_bytes(), 1),
-        Err(_) => print_out_of_memory(writer),
-    }
-}
-
-fn print_number<W: Output>(alloc: Global, number: u16, writer: &mut W) -> Ended {
+/// Prints a number on a line.
+fn print_number<W: Output>(alloc: Global, number: u16, writer: &mut W) -> Ended
+    ensures printed { W.failed writer.new ≡ false → Prints (line (decimal number)) 0 result.status (W.sent writer.old) (W.sent writer.new) ⊎ PrintsOutOfMemory result.status (W.sent writer.old) (W.sent writer.new) }
+    ensures cut { W.failed writer.old ≡ false → W.failed writer.new ≡ true → result.status ≡ 5 }
+    ensures file { IsNone result.file }
+{
     match format!(in alloc; "{number}\n") {
         Ok(line) => print(writer, line.as_str().as_bytes(), 0),
         Err(_) => print_out_of_memory(writer),
@@ -179,7 +204,14 @@ fn print_number<W: Output>(alloc: Global, number: u16, writer: &mut W) -> Ended 
 
 /// Prints the number of the screen in which an image's word was made. Status 0; 1: the bytes are no image (`image: CAUSE` is
 /// printed), the name isn't found (`NAME: CAUSE`) or memory ran out; 5: the line can't be printed.
-pub fn do_view<W: Output>(alloc: Global, image: &[u8], name: &str, writer: &mut W) -> Ended {
+pub fn do_view<W: Output>(alloc: Global, image: &[u8], name: &str, writer: &mut W) -> Ended
+    // Where the bytes are an image's file, the word's screen is printed, or why there is none.
+    ensures viewed { W.failed writer.new ≡ false → (file : Contents) → IsFile image.now file → EndsViewed file name.now result.status (W.sent writer.old) (W.sent writer.new) }
+    // Where they are none, that is printed.
+    ensures refused { W.failed writer.new ≡ false → ((file : Contents) → IsFile image.now file → ⊥) → PrintsRefusal (codes "image") result.status (W.sent writer.old) (W.sent writer.new) }
+    ensures cut { W.failed writer.old ≡ false → W.failed writer.new ≡ true → result.status ≡ 5 }
+    ensures file { IsNone result.file }
+{
     let image = match image_loader::read(alloc, image) {
         Ok(image) => image,
         Err(fault) => return refuse_image(alloc, fault, writer),
@@ -189,7 +221,7 @@ pub fn do_view<W: Output>(alloc: Global, image: &[u8], name: &str, writer: &mut 
     };
     match view(&memory, name.as_bytes()) {
         Ok(screen) => print_number(alloc, screen, writer),
-        Err(why) => refuse_name(alloc, name, why, writer),
+        Err(why) => refuse(alloc, name, why, writer),
     }
 }
 

@@ -7,7 +7,7 @@ ghost use Rattle.forth83.specs.Statuses.{EndsTracedWith};
 ghost use Rattle.image_loader.specs.Files.{Contents, IsFile};
 ghost use Rattle.inner_interpreter.specs.Worlds.{loaded};
 
-use crate::commands::{Ended, end_with, print, print_out_of_memory, refuse_image, status_of};
+use crate::commands::{Ended, end_with, print_out_of_memory, refuse, refuse_image, status_of};
 use block_buffers::Device;
 use debug_tracer::{DebugFault, debug};
 use image_loader::Image;
@@ -22,10 +22,7 @@ fn refuse_debug<W: Output>(alloc: Global, name: &str, why: DebugFault, writer: &
     if why == DebugFault::OutOfMemory {
         return print_out_of_memory(writer);
     }
-    match format!(in alloc; "{name}: {why}\n") {
-        Ok(line) => print(writer, line.as_str().as_bytes(), 1),
-        Err(_) => print_out_of_memory(writer),
-    }
+    refuse(alloc, name, why, writer)
 }
 
 /// Loads an image and runs it, with a trace of the word that `name` means.

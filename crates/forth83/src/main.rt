@@ -34,14 +34,12 @@ mod words;
 use block_buffers::{Device, MemoryDevice};
 use commands::{Ended, do_build, do_kernel, do_run, do_view};
 use debug_command::do_debug;
-use file_devices::{open_device, open_to_read};
+use file_devices::{FileDevice, open_device, open_to_read};
 use files::{create_file, read_image, write_file};
 use inner_interpreter::{Reading, Writing};
 use see_command::do_see;
-use std::alloc::AllocError;
 use std::fs::File;
-use std::io;
-use std::io::{BufReader, BufWriter, IsTerminal, Stdout};
+use std::io::{BufReader, BufWriter, IsTerminal, Stdin, Stdout};
 use std::os::fd::AsFd;
 use std::process::ExitCode;
 use words::{Parsed, Words};
@@ -71,14 +69,47 @@ fn is_closed(rt: &HostRuntime) -> bool {
 }
 
 /// Standard output. What a terminal is shown is written at once, so that a run can be watched, and stopped at any time;
-/// where it is closed, that too is seen at once.
-fn standard_output(rt: &HostRuntime) -> io::Result<BufWriter<Stdout>> {
+/// where it is closed, that too is seen at once. Want of memory is printed, and the status is the error.
+fn standard_output(rt: &HostRuntime) -> Result<Writing<BufWriter<Stdout>>, u8> {
     let gathered = if rt.stdout().is_terminal() || is_closed(rt) {
         0
     } else {
         GATHERED_BYTES
     };
-    BufWriter::with_capacity(rt.alloc(), gathered, rt.stdout())
+    match BufWriter::with_capacity(rt.alloc(), gathered, rt.stdout()) {
+        Ok(writer) => Ok(Writing::new(writer)),
+        Err(_) => Err(out_of_memory(rt)),
+    }
+}
+
+/// Standard input. Want of memory is printed, and the status is the error.
+fn standard_input(rt: &HostRuntime) -> Result<Reading<BufReader<Stdin>>, u8> {
+    match BufReader::new(rt.alloc(), rt.stdin()) {
+        Ok(reader) => Ok(Reading::new(reader)),
+        Err(_) => Err(out_of_memory(rt)),
+    }
+}
+
+/// The bytes of an image's file. Where there are none it is printed why, and the status is the error.
+fn image_bytes(rt: &HostRuntime, image: &str) -> Result<Vec<u8>, u8> {
+    match read_image(rt, image) {
+        Ok(Some(bytes)) => Ok(bytes),
+        Ok(None) => Err(cannot_open(rt, image)),
+        Err(_) => Err(out_of_memory(rt)),
+    }
+}
+
+/// The file of blocks of a run. Where it can't be opened that is printed, and the status is the error.
+fn run_blocks(rt: &HostRuntime, blocks: &str) -> Result<FileDevice, u8> {
+    match open_device(rt, blocks) {
+        Some(device) => Ok(device),
+        None => Err(cannot_open(rt, blocks)),
+    }
+}
+
+/// The device of a run without a file of blocks.
+fn no_blocks(rt: &HostRuntime) -> MemoryDevice {
+    MemoryDevice::new(Vec::new(rt.alloc()), Vec::new(rt.alloc()))
 }
 
 /// Makes the new file of a subcommand, if it has one, and answers the status.
@@ -94,112 +125,74 @@ fn finish(rt: &HostRuntime, ended: Ended, name: &str) -> u8 {
 }
 
 /// Writes the new file that `kernel` names.
-fn write_kernel(rt: &HostRuntime, blocks: &str) -> u8 {
-    let Ok(writer) = standard_output(rt) else {
-        return out_of_memory(rt);
-    };
-    let ended = do_kernel(rt.alloc(), &mut Writing::new(writer));
-    finish(rt, ended, blocks)
+fn write_kernel(rt: &HostRuntime, blocks: &str) -> Result<u8, u8> {
+    let mut writer = standard_output(rt)?;
+    let ended = do_kernel(rt.alloc(), &mut writer);
+    Ok(finish(rt, ended, blocks))
 }
 
 /// Builds the screens that `build` names, and writes the image.
-fn build_image(rt: &HostRuntime, blocks: &str, from: u16, to: u16, image: &str) -> u8 {
+fn build_image(rt: &HostRuntime, blocks: &str, from: u16, to: u16, image: &str) -> Result<u8, u8> {
     let Some(mut device) = open_to_read(rt, blocks) else {
-        return cannot_open(rt, blocks);
+        return Err(cannot_open(rt, blocks));
     };
-    let Ok(writer) = standard_output(rt) else {
-        return out_of_memory(rt);
-    };
-    let mut writer = Writing::new(writer);
+    let mut writer = standard_output(rt)?;
     let ended = do_build(rt.alloc(), &mut device, from, to, &mut writer);
-    finish(rt, ended, image)
+    Ok(finish(rt, ended, image))
 }
 
 /// Says in which screen the word that `view` names was made.
-fn view_word(rt: &HostRuntime, image: &str, name: &str) -> u8 {
-    let bytes = match read_image(rt, image) {
-        Ok(Some(bytes)) => bytes,
-        Ok(None) => return cannot_open(rt, image),
-        Err(_) => return out_of_memory(rt),
-    };
-    let Ok(writer) = standard_output(rt) else {
-        return out_of_memory(rt);
-    };
-    do_view(
-        rt.alloc(),
-        bytes.as_slice(),
-        name,
-        &mut Writing::new(writer),
-    )
-    .status
+fn view_word(rt: &HostRuntime, image: &str, name: &str) -> Result<u8, u8> {
+    let bytes = image_bytes(rt, image)?;
+    let mut writer = standard_output(rt)?;
+    Ok(do_view(rt.alloc(), bytes.as_slice(), name, &mut writer).status)
 }
 
 /// Shows the definition of the word that `see` names.
-fn see_word(rt: &HostRuntime, image: &str, name: &str) -> u8 {
-    let bytes = match read_image(rt, image) {
-        Ok(Some(bytes)) => bytes,
-        Ok(None) => return cannot_open(rt, image),
-        Err(_) => return out_of_memory(rt),
-    };
-    let Ok(writer) = standard_output(rt) else {
-        return out_of_memory(rt);
-    };
-    do_see(
-        rt.alloc(),
-        bytes.as_slice(),
-        name,
-        &mut Writing::new(writer),
-    )
-    .status
+fn see_word(rt: &HostRuntime, image: &str, name: &str) -> Result<u8, u8> {
+    let bytes = image_bytes(rt, image)?;
+    let mut writer = standard_output(rt)?;
+    Ok(do_see(rt.alloc(), bytes.as_slice(), name, &mut writer).status)
 }
 
 /// Opens what `run` names, and runs the image over standard input and output.
-fn run_image(rt: &HostRuntime, image: &str, blocks: Option<&str>, limit: u64) -> u8 {
-    let bytes = match read_image(rt, image) {
-        Ok(Some(bytes)) => bytes,
-        Ok(None) => return cannot_open(rt, image),
-        Err(_) => return out_of_memory(rt),
-    };
-    let Ok(reader) = BufReader::new(rt.alloc(), rt.stdin()) else {
-        return out_of_memory(rt);
-    };
-    let Ok(writer) = standard_output(rt) else {
-        return out_of_memory(rt);
-    };
-    let mut reader = Reading::new(reader);
-    let mut writer = Writing::new(writer);
+fn run_image(rt: &HostRuntime, image: &str, blocks: Option<&str>, limit: u64) -> Result<u8, u8> {
+    let bytes = image_bytes(rt, image)?;
     let bytes = bytes.as_slice();
+    let mut reader = standard_input(rt)?;
+    let mut writer = standard_output(rt)?;
     let ended = match blocks {
         None => {
-            let mut none = MemoryDevice::new(Vec::new(rt.alloc()), Vec::new(rt.alloc()));
+            let mut device = no_blocks(rt);
             do_run(
-                rt.alloc(),
-                bytes,
-                &mut none,
-                limit,
-                &mut reader,
-                &mut writer,
-            )
-        }
-        Some(name) => match open_device(rt, name) {
-            None => return cannot_open(rt, name),
-            Some(mut device) => do_run(
                 rt.alloc(),
                 bytes,
                 &mut device,
                 limit,
                 &mut reader,
                 &mut writer,
-            ),
-        },
+            )
+        }
+        Some(name) => {
+            let mut device = run_blocks(rt, name)?;
+            do_run(
+                rt.alloc(),
+                bytes,
+                &mut device,
+                limit,
+                &mut reader,
+                &mut writer,
+            )
+        }
     };
-    ended.status
+    Ok(ended.status)
 }
 
-/// The file of a trace, made anew. What a terminal is shown is written at once.
-fn trace_file(rt: &HostRuntime, name: &str) -> Result<Option<BufWriter<File>>, AllocError> {
+/// The file of a trace, made anew. What a terminal is shown is written at once. Where the file can't be opened that is
+/// printed, and the status is the error.
+fn trace_file(rt: &HostRuntime, name: &str) -> Result<Writing<BufWriter<File>>, u8> {
     let Ok(file) = create_file(rt, name) else {
-        return Ok(None);
+        return Err(cannot_open(rt, name));
     };
     let gathered = if file.is_terminal() {
         0
@@ -207,8 +200,8 @@ fn trace_file(rt: &HostRuntime, name: &str) -> Result<Option<BufWriter<File>>, A
         GATHERED_BYTES
     };
     match BufWriter::with_capacity(rt.alloc(), gathered, file) {
-        Ok(writer) => Ok(Some(writer)),
-        Err(_) => Err(AllocError),
+        Ok(writer) => Ok(Writing::new(writer)),
+        Err(_) => Err(out_of_memory(rt)),
     }
 }
 
@@ -220,29 +213,21 @@ fn debug_over<D: Device>(
     trace: &str,
     device: &mut D,
     limit: u64,
-) -> u8 {
-    let lines = match trace_file(rt, trace) {
-        Ok(Some(lines)) => lines,
-        Ok(None) => return cannot_open(rt, trace),
-        Err(_) => return out_of_memory(rt),
-    };
-    let Ok(reader) = BufReader::new(rt.alloc(), rt.stdin()) else {
-        return out_of_memory(rt);
-    };
-    let Ok(writer) = standard_output(rt) else {
-        return out_of_memory(rt);
-    };
-    do_debug(
+) -> Result<u8, u8> {
+    let mut lines = trace_file(rt, trace)?;
+    let mut reader = standard_input(rt)?;
+    let mut writer = standard_output(rt)?;
+    let ended = do_debug(
         rt.alloc(),
         image,
         name,
         device,
         limit,
-        &mut Reading::new(reader),
-        &mut Writing::new(writer),
-        &mut Writing::new(lines),
-    )
-    .status
+        &mut reader,
+        &mut writer,
+        &mut lines,
+    );
+    Ok(ended.status)
 }
 
 /// Opens what `debug` names, and runs the image with a trace of the word.
@@ -253,22 +238,52 @@ fn debug_word(
     trace: &str,
     blocks: Option<&str>,
     limit: u64,
-) -> u8 {
-    let bytes = match read_image(rt, image) {
-        Ok(Some(bytes)) => bytes,
-        Ok(None) => return cannot_open(rt, image),
-        Err(_) => return out_of_memory(rt),
-    };
+) -> Result<u8, u8> {
+    let bytes = image_bytes(rt, image)?;
     let bytes = bytes.as_slice();
     match blocks {
         None => {
-            let mut none = MemoryDevice::new(Vec::new(rt.alloc()), Vec::new(rt.alloc()));
-            debug_over(rt, bytes, name, trace, &mut none, limit)
+            let mut device = no_blocks(rt);
+            debug_over(rt, bytes, name, trace, &mut device, limit)
         }
-        Some(file) => match open_device(rt, file) {
-            None => cannot_open(rt, file),
-            Some(mut device) => debug_over(rt, bytes, name, trace, &mut device, limit),
-        },
+        Some(file) => {
+            let mut device = run_blocks(rt, file)?;
+            debug_over(rt, bytes, name, trace, &mut device, limit)
+        }
+    }
+}
+
+/// Does what the words say, and answers the status; it is an error where a subcommand's files can't be opened.
+fn obey(rt: &HostRuntime, words: Words) -> Result<u8, u8> {
+    match words {
+        Words::Kernel { blocks } => write_kernel(rt, blocks.as_str()),
+        Words::Build {
+            blocks,
+            from,
+            to,
+            image,
+        } => build_image(rt, blocks.as_str(), from, to, image.as_str()),
+        Words::Run {
+            image,
+            blocks,
+            limit,
+        } => run_image(rt, image.as_str(), blocks.as_deref(), limit),
+        Words::Debug {
+            image,
+            name,
+            trace,
+            blocks,
+            limit,
+        } => debug_word(
+            rt,
+            image.as_str(),
+            name.as_str(),
+            trace.as_str(),
+            blocks.as_deref(),
+            limit,
+        ),
+        Words::See { image, name } => see_word(rt, image.as_str(), name.as_str()),
+        Words::View { image, name } => view_word(rt, image.as_str(), name.as_str()),
     }
 }
 
@@ -276,40 +291,9 @@ fn main(rt: HostRuntime) -> ExitCode {
     let status = match words::parse(&rt) {
         Parsed::Exit(status) => status,
         Parsed::OutOfMemory => out_of_memory(&rt),
-        Parsed::Words(Words::Kernel { blocks }) => write_kernel(&rt, blocks.as_str()),
-        Parsed::Words(
-            Words::Build {
-                blocks,
-                from,
-                to,
-                image,
-            },
-        ) => build_image(&rt, blocks.as_str(), from, to, image.as_str()),
-        Parsed::Words(
-            Words::Run {
-                image,
-                blocks,
-                limit,
-            },
-        ) => run_image(&rt, image.as_str(), blocks.as_deref(), limit),
-        Parsed::Words(
-            Words::Debug {
-                image,
-                name,
-                trace,
-                blocks,
-                limit,
-            },
-        ) => debug_word(
-            &rt,
-            image.as_str(),
-            name.as_str(),
-            trace.as_str(),
-            blocks.as_deref(),
-            limit,
-        ),
-        Parsed::Words(Words::See { image, name }) => see_word(&rt, image.as_str(), name.as_str()),
-        Parsed::Words(Words::View { image, name }) => view_word(&rt, image.as_str(), name.as_str()),
+        Parsed::Words(words) => match obey(&rt, words) {
+            Ok(status) | Err(status) => status,
+        },
     };
     ExitCode::from(status)
 }

@@ -1,0 +1,54 @@
+-- Lines that the program prints, and its status.
+use Rattle.std.specs.Prelude.{◌≡◌, ◌⊎◌, ℕ, List, [], ◌∷◌, ◌++◌, Option, Result, Ok, Err, Vec, codes, decimal}
+use Rattle.std.specs.declared.alloc.Global.{Global}
+use Rattle.std.specs.Io.KnownBytes.{Appends}
+use Rattle.dictionary.specs.Search.{sought}
+use Rattle.image_loader.specs.Files.{Contents}
+use Rattle.memory.specs.Bytes.{front_put, zeros}
+use Rattle.see.specs.Seeing.{IsSeen}
+use Rattle.see.specs.View.{viewed}
+use Rattle.see.specs.declared.refusal.SeeRefused.{SeeRefused}
+use Rattle.see.specs.declared.refusal.SeeRefused.TheVariants as see
+use Rattle.see.specs.declared.refusal.ViewRefused.{ViewRefused}
+
+-- a text and a line feed
+abbrev pub line : List ℕ → List ℕ
+line text = text ++ 10 ∷ []
+
+-- just this line was printed, and the program's status is the wanted one
+abbrev pub Prints : List ℕ → (wanted status : ℕ) → (old new : Option (List ℕ)) → Type 0
+Prints bytes wanted status old new = (status ≡ wanted) × Appends old new bytes
+
+abbrev pub PrintsOutOfMemory : (status : ℕ) → (old new : Option (List ℕ)) → Type 0
+PrintsOutOfMemory status old new = Prints (line (codes "out of memory")) 1 status old new
+
+-- status 1, and `WHAT: CAUSE` was printed, with some cause, or that memory ran out
+abbrev pub PrintsRefusal : (what : List ℕ) → (status : ℕ) → (old new : Option (List ℕ)) → Type 0
+PrintsRefusal what status old new =
+    (status ≡ 1) × (((cause : List ℕ) × Appends old new (what ++ (codes ": " ++ line cause))) ⊎ Appends old new (line (codes "out of memory")))
+
+-- the memory that an image is loaded to
+abbrev pub memory_of : Contents → List ℕ
+memory_of image = front_put image.bytes zeros
+
+-- the number of a screen was printed, or why there is none
+abbrev pub PrintsViewed : (name : List ℕ) → Result ℕ ViewRefused → (status : ℕ) → (old new : Option (List ℕ)) → Type 0
+PrintsViewed name (Ok screen) status old new = Prints (line (decimal screen)) 0 status old new
+PrintsViewed name (Err why) status old new = PrintsRefusal name status old new
+
+-- the text of a word was printed, or why there is none
+abbrev pub PrintsSeen : (name : List ℕ) → Result (Vec ℕ Global) SeeRefused → (status : ℕ) → (old new : Option (List ℕ)) → Type 0
+PrintsSeen name (Ok text) status old new = Prints (line text.items) 0 status old new
+PrintsSeen name (Err see.OutOfMemory) status old new = PrintsOutOfMemory status old new
+PrintsSeen name (Err why) status old new = PrintsRefusal name status old new
+
+-- what VIEW tells of a name in an image was printed, or that memory ran out
+abbrev pub EndsViewed : Contents → (name : List ℕ) → (status : ℕ) → (old new : Option (List ℕ)) → Type 0
+EndsViewed image name status old new =
+    PrintsViewed name (viewed (memory_of image) (sought (memory_of image) name)) status old new ⊎ PrintsOutOfMemory status old new
+
+-- what SEE answers of a name in an image was printed; it may answer that memory ran out
+pub record EndsSeen (image : Contents) (name : List ℕ) (status : ℕ) (old new : Option (List ℕ)) : Type 0 where
+  pub answer : Result (Vec ℕ Global) SeeRefused
+  pub is_seen : IsSeen (memory_of image) name answer
+  pub printed : PrintsSeen name answer status old new
