@@ -3,7 +3,7 @@ use Rattle.std.proofs.Common.{◌≡◌, ℕ, ◌+◌, ◌-◌, ◌<◌, ◌≤�
 use Rattle.std.proofs.Math.Dec.{ltb}
 use Rattle.std.proofs.lemmas.Bool.{le-ltb, lt-ltb, ltb-false}
 use Rattle.colon_bodies.specs.Tokens.{Token, laid}
-use Rattle.colon_bodies.specs.Tree.{Body, Empty, Call, Tick, Pair, Literal, Double, Text, IfThen, IfElse, Until, Again, While, Loop, words, named}
+use Rattle.colon_bodies.specs.Tree.{Body, Empty, Call, Tick, Pair, Literal, Double, Text, IfThen, IfElse, Until, Again, While, Loop, words}
 use Rattle.colon_bodies.specs.Code.{size}
 use Rattle.colon_bodies.specs.Structures.{Cut, Nowhere, Between, onto, cut_last, split, Frames, FTop, FPast, FIf, FElse, FDo, In, until_at, again_at, while_at, repeat_at}
 use Rattle.colon_bodies.proofs.Taking.{laid-words, laid-append}

@@ -1,13 +1,12 @@
 -- One word more, or a BEGIN where words already are.
-use Rattle.std.proofs.Common.{◌≡◌, Bool, ℕ, ◌+◌, ◌-◌, ◌<◌, ◌≤◌, List, [], ◌∷◌, ◌++◌, length, map, get_or, set, inl, inr, min, Some, refl, sym, ap, ◌∙◌, subst, arith, append_assoc, append-nil, length-append}
+use Rattle.std.proofs.Common.{◌≡◌, Bool, ℕ, ◌+◌, ◌-◌, ◌<◌, ◌≤◌, List, [], ◌∷◌, ◌++◌, length, map, inl, inr, min, Some, refl, sym, ap, ◌∙◌, subst, arith, append_assoc, append-nil, length-append}
 use Rattle.std.proofs.lemmas.Bool.{cases_eq}
 use Rattle.std.proofs.lemmas.List.{get_or-set_same, get_or-set_other}
 use Rattle.std.specs.Prelude.{slice_index, slice_set}
-use Rattle.colon_bodies.specs.Tokens.{Token, NAME, NUMBER, TEXT, FORCE, COMPILE, IF, ELSE, THEN, BEGIN, UNTIL, AGAIN, WHILE, REPEAT, DO, LOOP, DOES, laid}
-use Rattle.colon_bodies.specs.Tree.{Body, Empty, Call, Pair, Literal, Text, Until, Again, While, Loop, words}
+use Rattle.colon_bodies.specs.Tokens.{Token, FORCE, IF, ELSE, BEGIN, WHILE, REPEAT, DO, LOOP, DOES, laid}
+use Rattle.colon_bodies.specs.Tree.{Body, Empty, While, Loop, words}
 use Rattle.colon_bodies.specs.Code.{size}
-use Rattle.colon_bodies.specs.Structures.{Frames, FTop, FPast, FIf, FElse, FDo, Shape, In, step, else_at, loop_at, does_at}
-use Rattle.colon_bodies.specs.Instructions.{ICall, INum, ICompile, IText, IDo, ILoop, IDoes}
+use Rattle.colon_bodies.specs.Structures.{Frames, FTop, FPast, FIf, FElse, FDo, Shape, In, else_at, loop_at, does_at}
 use Rattle.see.specs.declared.structures.Frame.{Frame}
 use Rattle.see.specs.declared.structures.Frame.TheVariants as k
 use Rattle.see.specs.Places.{without_begins, once, begins, IsSketch, AreUnforced}

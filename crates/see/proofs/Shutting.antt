@@ -1,14 +1,14 @@
 -- Structures that end.
-use Rattle.std.proofs.Common.{◌≡◌, ℕ, ◌+◌, ◌-◌, Option, ◌<◌, ◌≤◌, cond, List, [], ◌∷◌, ◌++◌, map, refl, sym, ap, ◌∙◌, subst, arith, append_assoc}
+use Rattle.std.proofs.Common.{◌≡◌, ℕ, ◌-◌, Option, ◌<◌, ◌≤◌, cond, List, [], ◌∷◌, ◌++◌, map, refl, sym, ap, ◌∙◌, subst, arith, append_assoc}
 use Rattle.std.proofs.Math.Dec.{ltb}
 use Rattle.std.proofs.lemmas.Bool.{le-ltb, lt-ltb}
-use Rattle.colon_bodies.specs.Tokens.{Token, IF, ELSE, THEN}
-use Rattle.colon_bodies.specs.Tree.{Body, IfThen, IfElse, words}
+use Rattle.colon_bodies.specs.Tokens.{Token, THEN}
+use Rattle.colon_bodies.specs.Tree.{Body, IfThen, IfElse}
 use Rattle.colon_bodies.specs.Code.{size}
 use Rattle.colon_bodies.specs.Structures.{Frames, FTop, FPast, FIf, FElse, FDo, In, Shape, split, shut, step, else_at, again_at, repeat_at}
 use Rattle.colon_bodies.specs.Instructions.{IBranch}
 use Rattle.see.specs.declared.structures.Frame.{Frame}
-use Rattle.see.specs.Seen.{frame_words, start, frames_of, beneath, top_frame, begins_at, Seen, EndsHere}
+use Rattle.see.specs.Seen.{start, frames_of, beneath, top_frame, begins_at, Seen, EndsHere}
 use Rattle.see.proofs.Growing.{SeenAs, one_more}
 
 abbrev pub ended : Frames → Body → Body

@@ -1,10 +1,10 @@
 -- Words without their BEGINs, and how many of these stand at each place.
-use Rattle.std.proofs.Common.{◌≡◌, ◌≢◌, Bool, true, false, ℕ, zero, suc, ◌+◌, ◌-◌, ◌<◌, ◌≤◌, ◌⊎◌, inl, inr, ◌==◌, if◌then◌else◌, List, [], ◌∷◌, ◌++◌, length, map, take, drop, set, get_or, refl, sym, ap, ◌∙◌, subst, arith, append_assoc, append-nil}
+use Rattle.std.proofs.Common.{◌≡◌, Bool, true, false, ℕ, zero, suc, ◌+◌, ◌<◌, ◌≤◌, inl, inr, ◌==◌, if◌then◌else◌, List, [], ◌∷◌, ◌++◌, length, map, drop, get_or, refl, sym, ap, ◌∙◌, subst, arith, append_assoc, append-nil}
 use Rattle.std.proofs.lemmas.Bool.{eq-eqb, ne_eqb, cases_eq}
 use Rattle.std.proofs.lemmas.List.{get_or-drop, drop_more, drop_all}
 use Rattle.std.specs.Prelude.{slice_index}
-use Rattle.colon_bodies.specs.Tokens.{Token, NAME, NUMBER, DOUBLE, TICK, FORCE, COMPILE, IF, ELSE, THEN, BEGIN, UNTIL, AGAIN, WHILE, REPEAT, DO, LOOP, TEXT, DOES, SEMI, laid, laid_by}
-use Rattle.colon_bodies.specs.Tree.{Body, Empty, Call, Tick, Pair, Literal, Double, Text, IfThen, IfElse, Until, Again, While, Loop, Definition, Simple, Doing, words, all_words, named}
+use Rattle.colon_bodies.specs.Tokens.{Token, NAME, NUMBER, DOUBLE, TEXT, TICK, FORCE, COMPILE, IF, ELSE, THEN, BEGIN, UNTIL, AGAIN, WHILE, REPEAT, DO, LOOP, DOES, SEMI, laid, laid_by}
+use Rattle.colon_bodies.specs.Tree.{Body, Empty, Call, Tick, Pair, Literal, Double, Text, IfThen, IfElse, Until, Again, While, Loop, Definition, Simple, Doing, words, named, all_words}
 use Rattle.see.specs.Places.{without_begins, once, begins, IsSketch, opened, Leads, AreLed, AreUnforced}
 
 -- words behind words
@@ -154,69 +154,70 @@ led-append [] ys h k = k
 led-append (BEGIN ∷ xs) ys h k = (leads-append xs ys h.0, led-append xs ys h.1 k)
 led-append (x ∷ xs) ys h k = led-append xs ys h k
 
-leads_behind : (xs tail ys : List Token) → ((zs : List Token) → Leads zs → Leads (xs ++ zs)) → Leads (tail ++ ys) → Leads ((xs ++ tail) ++ ys)
-leads_behind xs tail ys ih h = subst (λ l. Leads l) (sym (append_assoc xs tail ys)) (ih (tail ++ ys) h)
+leads_behind : (xs tail ys : List Token) → ((zs : List Token) → AreUnforced xs → Leads zs → Leads (xs ++ zs)) → AreUnforced (xs ++ tail) → Leads (tail ++ ys) → Leads ((xs ++ tail) ++ ys)
+leads_behind xs tail ys ih u h = subst (λ l. Leads l) (sym (append_assoc xs tail ys)) (ih (tail ++ ys) (unforced_parts xs tail u).0 h)
 
 -- a body in front of what leads
 leads_words : (t : Body) (ys : List Token) → AreUnforced (words t) → Leads ys → Leads (words t ++ ys)
 leads_words Empty ys u h = h
-leads_words (Call t false w) ys u h = leads_behind (words t) _ ys (λ zs. leads_words t zs (unforced_parts (words t) _ u).0) (omega arith)
-leads_words (Call t true w) ys u h = absurd (unforced_parts (words t) _ u).1
-leads_words (Tick t w) ys u h = leads_behind (words t) _ ys (λ zs. leads_words t zs (unforced_parts (words t) _ u).0) (omega arith)
-leads_words (Pair t f w) ys u h = leads_behind (words t) _ ys (λ zs. leads_words t zs (unforced_parts (words t) _ u).0) (omega arith)
-leads_words (Double t n) ys u h = leads_behind (words t) _ ys (λ zs. leads_words t zs (unforced_parts (words t) _ u).0) (omega arith)
-leads_words (Literal t n) ys u h = leads_behind (words t) _ ys (λ zs. leads_words t zs (unforced_parts (words t) _ u).0) (omega arith)
-leads_words (Text t k bs) ys u h = leads_behind (words t) _ ys (λ zs. leads_words t zs (unforced_parts (words t) _ u).0) (omega arith)
-leads_words (IfThen t a) ys u h = leads_behind (words t) _ ys (λ zs. leads_words t zs (unforced_parts (words t) _ u).0) (omega arith)
-leads_words (IfElse t a b) ys u h = leads_behind (words t) _ ys (λ zs. leads_words t zs (unforced_parts (words t) _ u).0) (omega arith)
-leads_words (Loop t a k) ys u h = leads_behind (words t) _ ys (λ zs. leads_words t zs (unforced_parts (words t) _ u).0) (omega arith)
+leads_words (Call t false w) ys u h = leads_behind (words t) (NAME w ∷ []) ys (λ zs v k. leads_words t zs v k) u (omega arith)
+leads_words (Call t true w) ys u h = absurd (unforced_parts (words t) (FORCE ∷ NAME w ∷ []) u).1
+leads_words (Tick t w) ys u h = leads_behind (words t) (TICK ∷ NAME w ∷ []) ys (λ zs v k. leads_words t zs v k) u (omega arith)
+leads_words (Pair t f w) ys u h = leads_behind (words t) (COMPILE ∷ named f w) ys (λ zs v k. leads_words t zs v k) u (omega arith)
+leads_words (Double t n) ys u h = leads_behind (words t) (DOUBLE n ∷ []) ys (λ zs v k. leads_words t zs v k) u (omega arith)
+leads_words (Literal t n) ys u h = leads_behind (words t) (NUMBER n ∷ []) ys (λ zs v k. leads_words t zs v k) u (omega arith)
+leads_words (Text t k bs) ys u h = leads_behind (words t) (TEXT k bs ∷ []) ys (λ zs v j. leads_words t zs v j) u (omega arith)
+leads_words (IfThen t a) ys u h = leads_behind (words t) (IF ∷ (words a ++ THEN ∷ [])) ys (λ zs v k. leads_words t zs v k) u (omega arith)
+leads_words (IfElse t a b) ys u h = leads_behind (words t) (IF ∷ (words a ++ (ELSE ∷ (words b ++ THEN ∷ [])))) ys (λ zs v k. leads_words t zs v k) u (omega arith)
+leads_words (Loop t a k) ys u h = leads_behind (words t) (DO ∷ (words a ++ LOOP k ∷ [])) ys (λ zs v j. leads_words t zs v j) u (omega arith)
 leads_words (Until t a) ys u h =
-    let p = unforced_parts (words t) (BEGIN ∷ (words a ++ UNTIL ∷ [])) u in
-    leads_behind (words t) _ ys (λ zs. leads_words t zs p.0) (leads-append (words a ++ UNTIL ∷ []) ys (leads_words a (UNTIL ∷ []) (unforced_parts (words a) _ p.1).0 (omega arith)))
+    let q = (unforced_parts (words t) (BEGIN ∷ (words a ++ UNTIL ∷ [])) u).1 in
+    let inner = leads_words a (UNTIL ∷ []) (unforced_parts (words a) (UNTIL ∷ []) q).0 (omega arith) in
+    leads_behind (words t) (BEGIN ∷ (words a ++ UNTIL ∷ [])) ys (λ zs v k. leads_words t zs v k) u (leads-append (words a ++ UNTIL ∷ []) ys inner)
 leads_words (Again t a) ys u h =
-    let p = unforced_parts (words t) (BEGIN ∷ (words a ++ AGAIN ∷ [])) u in
-    leads_behind (words t) _ ys (λ zs. leads_words t zs p.0) (leads-append (words a ++ AGAIN ∷ []) ys (leads_words a (AGAIN ∷ []) (unforced_parts (words a) _ p.1).0 (omega arith)))
+    let q = (unforced_parts (words t) (BEGIN ∷ (words a ++ AGAIN ∷ [])) u).1 in
+    let inner = leads_words a (AGAIN ∷ []) (unforced_parts (words a) (AGAIN ∷ []) q).0 (omega arith) in
+    leads_behind (words t) (BEGIN ∷ (words a ++ AGAIN ∷ [])) ys (λ zs v k. leads_words t zs v k) u (leads-append (words a ++ AGAIN ∷ []) ys inner)
 leads_words (While t a b) ys u h =
-    let p = unforced_parts (words t) (BEGIN ∷ (words a ++ (WHILE ∷ (words b ++ REPEAT ∷ [])))) u in
-    leads_behind (words t) _ ys (λ zs. leads_words t zs p.0) (leads-append (words a ++ (WHILE ∷ (words b ++ REPEAT ∷ []))) ys (leads_words a (WHILE ∷ (words b ++ REPEAT ∷ [])) (unforced_parts (words a) _ p.1).0 (omega arith)))
+    let q = (unforced_parts (words t) (BEGIN ∷ (words a ++ (WHILE ∷ (words b ++ REPEAT ∷ [])))) u).1 in
+    let inner = leads_words a (WHILE ∷ (words b ++ REPEAT ∷ [])) (unforced_parts (words a) (WHILE ∷ (words b ++ REPEAT ∷ [])) q).0 (omega arith) in
+    leads_behind (words t) (BEGIN ∷ (words a ++ (WHILE ∷ (words b ++ REPEAT ∷ [])))) ys (λ zs v k. leads_words t zs v k) u (leads-append (words a ++ (WHILE ∷ (words b ++ REPEAT ∷ []))) ys inner)
 
--- a body, and one more behind it
+-- a body, and more behind it
+led_behind : (xs tail : List Token) → (AreUnforced xs → AreLed xs) → AreUnforced (xs ++ tail) → (AreUnforced tail → AreLed tail) → AreLed (xs ++ tail)
+led_behind xs tail ih u h = let p = unforced_parts xs tail u in led-append xs tail (ih p.0) (h p.1)
+
 led_words : (t : Body) → AreUnforced (words t) → AreLed (words t)
 led_words Empty u = tt
-led_words (Call t false w) u = led-append (words t) _ (led_words t (unforced_parts (words t) _ u).0) tt
-led_words (Call t true w) u = absurd (unforced_parts (words t) _ u).1
-led_words (Tick t w) u = led-append (words t) _ (led_words t (unforced_parts (words t) _ u).0) tt
-led_words (Pair t false w) u = led-append (words t) _ (led_words t (unforced_parts (words t) _ u).0) tt
-led_words (Pair t true w) u = led-append (words t) _ (led_words t (unforced_parts (words t) _ u).0) tt
-led_words (Double t n) u = led-append (words t) _ (led_words t (unforced_parts (words t) _ u).0) tt
-led_words (Literal t n) u = led-append (words t) _ (led_words t (unforced_parts (words t) _ u).0) tt
-led_words (Text t k bs) u = led-append (words t) _ (led_words t (unforced_parts (words t) _ u).0) tt
+led_words (Call t false w) u = led_behind (words t) (NAME w ∷ []) (λ v. led_words t v) u (λ q. tt)
+led_words (Call t true w) u = absurd (unforced_parts (words t) (FORCE ∷ NAME w ∷ []) u).1
+led_words (Tick t w) u = led_behind (words t) (TICK ∷ NAME w ∷ []) (λ v. led_words t v) u (λ q. tt)
+led_words (Pair t false w) u = led_behind (words t) (COMPILE ∷ NAME w ∷ []) (λ v. led_words t v) u (λ q. tt)
+led_words (Pair t true w) u = absurd (unforced_parts (words t) (COMPILE ∷ FORCE ∷ NAME w ∷ []) u).1
+led_words (Double t n) u = led_behind (words t) (DOUBLE n ∷ []) (λ v. led_words t v) u (λ q. tt)
+led_words (Literal t n) u = led_behind (words t) (NUMBER n ∷ []) (λ v. led_words t v) u (λ q. tt)
+led_words (Text t k bs) u = led_behind (words t) (TEXT k bs ∷ []) (λ v. led_words t v) u (λ q. tt)
 led_words (IfThen t a) u =
-    let p = unforced_parts (words t) (IF ∷ (words a ++ THEN ∷ [])) u in
-    led-append (words t) _ (led_words t p.0) (led-append (words a) _ (led_words a (unforced_parts (words a) _ p.1).0) tt)
+    led_behind (words t) (IF ∷ (words a ++ THEN ∷ [])) (λ v. led_words t v) u (λ q. led_behind (words a) (THEN ∷ []) (λ v. led_words a v) q (λ r. tt))
 led_words (IfElse t a b) u =
-    let p = unforced_parts (words t) (IF ∷ (words a ++ (ELSE ∷ (words b ++ THEN ∷ [])))) u in
-    let q = unforced_parts (words a) (ELSE ∷ (words b ++ THEN ∷ [])) p.1 in
-    led-append (words t) _ (led_words t p.0) (led-append (words a) _ (led_words a q.0) (led-append (words b) _ (led_words b (unforced_parts (words b) _ q.1).0) tt))
+    led_behind (words t) (IF ∷ (words a ++ (ELSE ∷ (words b ++ THEN ∷ [])))) (λ v. led_words t v) u
+    (λ q. led_behind (words a) (ELSE ∷ (words b ++ THEN ∷ [])) (λ v. led_words a v) q (λ r. led_behind (words b) (THEN ∷ []) (λ v. led_words b v) r (λ z. tt)))
 led_words (Loop t a k) u =
-    let p = unforced_parts (words t) (DO ∷ (words a ++ LOOP k ∷ [])) u in
-    led-append (words t) _ (led_words t p.0) (led-append (words a) _ (led_words a (unforced_parts (words a) _ p.1).0) tt)
+    led_behind (words t) (DO ∷ (words a ++ LOOP k ∷ [])) (λ v. led_words t v) u (λ q. led_behind (words a) (LOOP k ∷ []) (λ v. led_words a v) q (λ r. tt))
 led_words (Until t a) u =
-    let p = unforced_parts (words t) (BEGIN ∷ (words a ++ UNTIL ∷ [])) u in
-    let v = (unforced_parts (words a) (UNTIL ∷ []) p.1).0 in
-    led-append (words t) _ (led_words t p.0) (leads_words a (UNTIL ∷ []) v (omega arith), led-append (words a) _ (led_words a v) tt)
+    led_behind (words t) (BEGIN ∷ (words a ++ UNTIL ∷ [])) (λ v. led_words t v) u
+    (λ q. (leads_words a (UNTIL ∷ []) (unforced_parts (words a) (UNTIL ∷ []) q).0 (omega arith), led_behind (words a) (UNTIL ∷ []) (λ v. led_words a v) q (λ r. tt)))
 led_words (Again t a) u =
-    let p = unforced_parts (words t) (BEGIN ∷ (words a ++ AGAIN ∷ [])) u in
-    let v = (unforced_parts (words a) (AGAIN ∷ []) p.1).0 in
-    led-append (words t) _ (led_words t p.0) (leads_words a (AGAIN ∷ []) v (omega arith), led-append (words a) _ (led_words a v) tt)
+    led_behind (words t) (BEGIN ∷ (words a ++ AGAIN ∷ [])) (λ v. led_words t v) u
+    (λ q. (leads_words a (AGAIN ∷ []) (unforced_parts (words a) (AGAIN ∷ []) q).0 (omega arith), led_behind (words a) (AGAIN ∷ []) (λ v. led_words a v) q (λ r. tt)))
 led_words (While t a b) u =
-    let p = unforced_parts (words t) (BEGIN ∷ (words a ++ (WHILE ∷ (words b ++ REPEAT ∷ [])))) u in
-    let q = unforced_parts (words a) (WHILE ∷ (words b ++ REPEAT ∷ [])) p.1 in
-    led-append (words t) _ (led_words t p.0)
-    (leads_words a (WHILE ∷ (words b ++ REPEAT ∷ [])) q.0 (omega arith), led-append (words a) _ (led_words a q.0) (led-append (words b) _ (led_words b (unforced_parts (words b) _ q.1).0) tt))
+    led_behind (words t) (BEGIN ∷ (words a ++ (WHILE ∷ (words b ++ REPEAT ∷ [])))) (λ v. led_words t v) u
+    (λ q. (
+      leads_words a (WHILE ∷ (words b ++ REPEAT ∷ [])) (unforced_parts (words a) (WHILE ∷ (words b ++ REPEAT ∷ [])) q).0 (omega arith),
+      led_behind (words a) (WHILE ∷ (words b ++ REPEAT ∷ [])) (λ v. led_words a v) q (λ r. led_behind (words b) (REPEAT ∷ []) (λ v. led_words b v) r (λ z. tt)),
+    ))
 
 pub led_definition : (d : Definition) → AreUnforced (all_words d) → AreLed (all_words d ++ SEMI ∷ [])
-led_definition (Simple t) u = led-append (words t) _ (led_words t u) tt
+led_definition (Simple t) u = led-append (words t) (SEMI ∷ []) (led_words t u) tt
 led_definition (Doing t a) u =
-    let p = unforced_parts (words t) (DOES ∷ words a) u in
-    led-append (words t ++ (DOES ∷ words a)) _ (led-append (words t) _ (led_words t p.0) (led_words a p.1)) tt
+    led-append (words t ++ (DOES ∷ words a)) (SEMI ∷ []) (led_behind (words t) (DOES ∷ words a) (λ v. led_words t v) u (λ q. led_words a q)) tt

@@ -120,7 +120,8 @@ pub fn find<'a>(
         close_here(&mut words, &mut frames, here)?;
         if is_nothing(next.rest) {
             words.push(BodyWord::Semicolon)?;
-            return Ok(Some(with_begins(alloc, &words, &begins)?));
+            let whole = with_begins(alloc, &words, &begins)?;
+            return Ok(Some(whole));
         }
         if !take(
             &mut words,

@@ -1,6 +1,6 @@
-//! Finds the structures again.
+//! Finds the structures again. The words have no BEGINs: how many of them belong at each place in the thread is counted.
 
-ghost use Rattle.std.specs.Prelude.{◌≡◌, ◌↔◌, IsTrue, IsSome, OnOk, true, ◌≤◌, ◌<◌, ◌^◌, ◌+◌, ◌-◌, ℕ, List, ◌∷◌, ◌++◌, IfOk, length, map, Some};
+ghost use Rattle.std.specs.Prelude.{◌≡◌, ◌↔◌, IsTrue, IsSome, OnOk, true, ◌≤◌, ◌<◌, ◌^◌, ◌+◌, ◌-◌, ℕ, List, IfOk, length, map, Some};
 ghost use Rattle.colon_bodies.specs.Tree.{Body};
 ghost use Rattle.colon_bodies.specs.Draft.{token};
 ghost use Rattle.colon_bodies.specs.Structures.{Frames, In, step, else_at, again_at, repeat_at, loop_at, split, shut};
@@ -17,7 +17,7 @@ use std::alloc::AllocError;
 pub enum Frame {
     /// What is behind DOES>: where it begins.
     Past(usize),
-    /// IF, or the WHILE of a loop: the place of its word, where it ends, and where its body begins.
+    /// IF, or the WHILE of a loop: the index of its word, where it ends, and where its body begins.
     If(usize, usize, usize),
     /// ELSE: where it ends, and where its body begins.
     Else(usize, usize),
@@ -97,7 +97,8 @@ fn take_again(
     Ok(true)
 }
 
-/// BRANCH back over the start of the innermost body: a REPEAT, and what was read as IF is a WHILE.
+/// BRANCH back over the start of the innermost body: a REPEAT, and what was read as IF is a WHILE. A jump into the bytes of
+/// that WHILE counts as one to it.
 fn take_repeat(
     words: &mut Vec<BodyWord>,
     begins: &mut [usize],

@@ -29,6 +29,36 @@ fn a_loop(rt: HostRuntime) -> Result<(), Fail> {
     Ok(())
 }
 
+/// Loops that begin at one place, behind a THEN, and with nothing in them, at 1000: `BEGIN BEGIN DUP UNTIL UNTIL IF THEN
+/// BEGIN AGAIN BEGIN WHILE REPEAT ;`.
+#[test]
+fn loops_at_one_place(rt: HostRuntime) -> Result<(), Fail> {
+    let bytes = [
+        0x37_u8, 1, 0x2E, 1, 0xE8, 3, 0x2E, 1, 0xE8, 3, 0x2E, 1, 0xF6, 3, 0x20, 1, 0xF6, 3, 0x2E,
+        1, 2, 4, 0x20, 1, 0xFA, 3, 9, 1,
+    ];
+    let words = [
+        BodyWord::Begin,
+        BodyWord::Begin,
+        BodyWord::Name(311),
+        BodyWord::Until,
+        BodyWord::Until,
+        BodyWord::If,
+        BodyWord::Then,
+        BodyWord::Begin,
+        BodyWord::Again,
+        BodyWord::Begin,
+        BodyWord::While,
+        BodyWord::Repeat,
+        BodyWord::Semicolon,
+    ];
+    match thread_words(rt.alloc(), &bytes, &RUNTIME, 1000) {
+        Ok(Some(seen)) => assert_eq!(rt; seen.as_slice(), words.as_slice()),
+        _ => return Err("no thread".into()),
+    }
+    Ok(())
+}
+
 /// Each structure, nested, behind and before DOES>.
 const NESTED: [BodyWord<'static>; 31] = [
     BodyWord::Begin,

@@ -30,7 +30,7 @@ returns-then-is_nothing c = λ t e.
     let whole = sketch_more token (all_words t) (SEMI ∷ []) _ _ _ d.0 tt (ap (map token) c.in_ok-push.ensures.items ∙ map_snoc token _ w.Semicolon) in
     let all = all_words t ++ SEMI ∷ [] in
     let here = subst (λ l. IsSketch all (map token l) c.deref-then-is_nothing.result.now) (sym c.deref.ensures.value) (subst (λ l. IsSketch all (map token c.push.new.self.items) l) (sym c.deref-then-is_nothing.ensures.value) whole) in
-    (refl, c.in_ok-with_begins.ensures all here (led_definition t d.1))
+    (refl, c.in_ok-whole.ensures all here (led_definition t d.1))
 
 pub returns-then-not-branch : goal.returns-then-not-branch
 returns-then-not-branch c = λ t e.

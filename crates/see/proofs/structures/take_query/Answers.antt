@@ -1,4 +1,4 @@
-use Rattle.std.proofs.Common.{◌+◌, ◌-◌, ◌++◌, refl, ◌∙◌, arith}
+use Rattle.std.proofs.Common.{◌+◌, ◌++◌, refl, ◌∙◌, arith}
 use Rattle.colon_bodies.specs.Draft.{token}
 use Rattle.colon_bodies.specs.Tokens.{UNTIL, laid}
 use Rattle.colon_bodies.specs.Tree.{Until, words}

@@ -1,4 +1,4 @@
-use Rattle.std.proofs.Common.{◌≡◌, ◌<◌, ◌≤◌, ◌++◌, ◌+◌, ◌-◌, length, Some, refl, ap, ◌∙◌, min, arith}
+use Rattle.std.proofs.Common.{◌≡◌, ◌<◌, ◌++◌, ◌+◌, length, Some, refl, ap, ◌∙◌, min, arith}
 use Rattle.colon_bodies.specs.Draft.{token}
 use Rattle.colon_bodies.specs.Tree.{words}
 use Rattle.colon_bodies.specs.Code.{size}
