@@ -5,6 +5,7 @@
 mod build_tests;
 #[cfg(test)]
 mod cases;
+mod causes;
 mod commands;
 mod debug_command;
 #[cfg(test)]
