@@ -1,4 +1,5 @@
-//! How refusals are spelled where they are printed.
+//! How refusals are spelled where they are printed. What a derived `Display` writes is known to no clause, so the program spells
+//! them itself, and clauses know what it prints.
 
 ghost use Rattle.std.specs.Prelude.{◌≡◌, ℕ, List, IfOk, string_bytes};
 ghost use Rattle.forth83.specs.Causes.{image_cause, view_cause, see_cause, debug_cause};
