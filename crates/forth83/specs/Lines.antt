@@ -3,6 +3,7 @@ use Rattle.std.specs.Prelude.{◌≡◌, ◌⊎◌, ℕ, List, [], ◌∷◌, �
 use Rattle.std.specs.declared.alloc.Global.{Global}
 use Rattle.std.specs.Io.KnownBytes.{Appends}
 use Rattle.dictionary.specs.Search.{sought}
+use Rattle.forth83.specs.Causes.{view_cause, see_cause}
 use Rattle.image_loader.specs.Files.{Contents}
 use Rattle.memory.specs.Bytes.{front_put, zeros}
 use Rattle.see.specs.Seeing.{IsSeen}
@@ -22,10 +23,10 @@ Prints bytes wanted status old new = (status ≡ wanted) × Appends old new byte
 abbrev pub PrintsOutOfMemory : (status : ℕ) → (old new : Option (List ℕ)) → Type 0
 PrintsOutOfMemory status old new = Prints (line (codes "out of memory")) 1 status old new
 
--- status 1, and `WHAT: CAUSE` was printed, with some cause, or that memory ran out
-abbrev pub PrintsRefusal : (what : List ℕ) → (status : ℕ) → (old new : Option (List ℕ)) → Type 0
-PrintsRefusal what status old new =
-    (status ≡ 1) × (((cause : List ℕ) × Appends old new (what ++ (codes ": " ++ line cause))) ⊎ Appends old new (line (codes "out of memory")))
+-- status 1, and `WHAT: CAUSE` was printed, or that memory ran out
+abbrev pub PrintsRefusal : (what cause : List ℕ) → (status : ℕ) → (old new : Option (List ℕ)) → Type 0
+PrintsRefusal what cause status old new =
+    (status ≡ 1) × (Appends old new (what ++ (codes ": " ++ line cause)) ⊎ Appends old new (line (codes "out of memory")))
 
 -- the memory that an image is loaded to
 abbrev pub memory_of : Contents → List ℕ
@@ -34,13 +35,13 @@ memory_of image = front_put image.bytes zeros
 -- the number of a screen was printed, or why there is none
 abbrev pub PrintsViewed : (name : List ℕ) → Result ℕ ViewRefused → (status : ℕ) → (old new : Option (List ℕ)) → Type 0
 PrintsViewed name (Ok screen) status old new = Prints (line (decimal screen)) 0 status old new
-PrintsViewed name (Err why) status old new = PrintsRefusal name status old new
+PrintsViewed name (Err why) status old new = PrintsRefusal name (view_cause why) status old new
 
 -- the text of a word was printed, or why there is none
 abbrev pub PrintsSeen : (name : List ℕ) → Result (Vec ℕ Global) SeeRefused → (status : ℕ) → (old new : Option (List ℕ)) → Type 0
 PrintsSeen name (Ok text) status old new = Prints (line text.items) 0 status old new
 PrintsSeen name (Err see.OutOfMemory) status old new = PrintsOutOfMemory status old new
-PrintsSeen name (Err why) status old new = PrintsRefusal name status old new
+PrintsSeen name (Err why) status old new = PrintsRefusal name (see_cause why) status old new
 
 -- what VIEW tells of a name in an image was printed, or that memory ran out
 abbrev pub EndsViewed : Contents → (name : List ℕ) → (status : ℕ) → (old new : Option (List ℕ)) → Type 0

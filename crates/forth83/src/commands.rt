@@ -5,11 +5,14 @@ ghost use Rattle.block_buffers.specs.Calls.{failures};
 ghost use Rattle.block_buffers.specs.Disks.{Disk};
 ghost use Rattle.forth83.specs.Kernel.{filled, blocks_of};
 ghost use Rattle.forth83.specs.Images.{IsBuiltFile};
+ghost use Rattle.forth83.specs.Causes.{IsNoFile, image_cause};
 ghost use Rattle.forth83.specs.Lines.{EndsViewed, Prints, PrintsOutOfMemory, PrintsRefusal, line};
 ghost use Rattle.forth83.specs.Statuses.{status_of, EndsWith};
 ghost use Rattle.image_loader.specs.Files.{Contents, IsFile};
+ghost use Rattle.image_loader.specs.declared.fault.ImageFault.{ImageFault};
 ghost use Rattle.inner_interpreter.specs.Worlds.{loaded};
 
+use crate::causes::Reason;
 use crate::kernel::kernel_file;
 use crate::kernel_text::TEXT;
 use block_buffers::Device;
@@ -19,7 +22,6 @@ use memory::{Memory, OutOfMemory};
 use metacompiler::{BuildFault, Cause, build};
 use see::view;
 use std::alloc::{AllocError, Global};
-use std::fmt::Display;
 
 /// How a subcommand ended: the program's status, and the bytes of the file that it makes, if it makes one.
 #[derive(Drop)]
@@ -95,18 +97,18 @@ fn refusal(alloc: Global, what: &str, cause: &str) -> Result<String, AllocError>
 }
 
 /// Prints why something is refused: `WHAT: CAUSE`.
-pub fn refuse<C: Display + Drop, W: Output>(
+pub fn refuse<C: Reason + Drop, W: Output>(
     alloc: Global,
     what: &str,
     why: C,
     writer: &mut W,
 ) -> Ended
-    ensures printed { W.failed writer.new ≡ false → PrintsRefusal what.now result.status (W.sent writer.old) (W.sent writer.new) }
+    ensures printed { W.failed writer.new ≡ false → PrintsRefusal what.now (C.spelling why) result.status (W.sent writer.old) (W.sent writer.new) }
     ensures cut { W.failed writer.old ≡ false → W.failed writer.new ≡ true → result.status ≡ 5 }
     ensures status { 0 < result.status }
     ensures file { IsNone result.file }
 {
-    let Ok(cause) = format!(in alloc; "{why}") else {
+    let Ok(cause) = why.spelled(alloc) else {
         return print_out_of_memory(writer);
     };
     match refusal(alloc, what, cause.as_str()) {
@@ -117,7 +119,7 @@ pub fn refuse<C: Display + Drop, W: Output>(
 
 /// Prints why bytes are no image.
 pub fn refuse_image<W: Output>(alloc: Global, fault: ImageFault, writer: &mut W) -> Ended
-    ensures printed { W.failed writer.new ≡ false → PrintsRefusal (codes "image") result.status (W.sent writer.old) (W.sent writer.new) }
+    ensures printed { W.failed writer.new ≡ false → PrintsRefusal (codes "image") (image_cause fault) result.status (W.sent writer.old) (W.sent writer.new) }
     ensures out_of_memory { W.failed writer.new ≡ false → fault ≡ ImageFault.OutOfMemory → PrintsOutOfMemory result.status (W.sent writer.old) (W.sent writer.new) }
     ensures cut { W.failed writer.old ≡ false → W.failed writer.new ≡ true → result.status ≡ 5 }
     ensures status { 0 < result.status }
@@ -207,8 +209,8 @@ fn print_number<W: Output>(alloc: Global, number: u16, writer: &mut W) -> Ended
 pub fn do_view<W: Output>(alloc: Global, image: &[u8], name: &str, writer: &mut W) -> Ended
     // Where the bytes are an image's file, the word's screen is printed, or why there is none.
     ensures viewed { W.failed writer.new ≡ false → (file : Contents) → IsFile image.now file → EndsViewed file name.now result.status (W.sent writer.old) (W.sent writer.new) }
-    // Where they are none, that is printed.
-    ensures refused { W.failed writer.new ≡ false → ((file : Contents) → IsFile image.now file → ⊥) → PrintsRefusal (codes "image") result.status (W.sent writer.old) (W.sent writer.new) }
+    // Where they are none, it is printed why.
+    ensures refused { W.failed writer.new ≡ false → (fault : ImageFault) → IsNoFile image.now fault → PrintsRefusal (codes "image") (image_cause fault) result.status (W.sent writer.old) (W.sent writer.new) }
     ensures cut { W.failed writer.old ≡ false → W.failed writer.new ≡ true → result.status ≡ 5 }
     ensures file { IsNone result.file }
 {

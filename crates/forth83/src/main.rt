@@ -5,6 +5,7 @@
 mod build_tests;
 #[cfg(test)]
 mod cases;
+mod causes;
 mod commands;
 mod debug_command;
 #[cfg(test)]
@@ -253,7 +254,8 @@ fn debug_word(
     }
 }
 
-/// Does what the words say, and answers the status; it is an error where a subcommand's files can't be opened.
+/// Does what the words say, and answers the status. Where a subcommand can't begin it is printed why, and the status is the
+/// error.
 fn obey(rt: &HostRuntime, words: Words) -> Result<u8, u8> {
     match words {
         Words::Kernel { blocks } => write_kernel(rt, blocks.as_str()),

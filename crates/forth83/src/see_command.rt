@@ -1,8 +1,10 @@
 //! The subcommand that shows a word's definition.
 
 ghost use Rattle.std.specs.Prelude.{◌≡◌, ◌⊎◌, codes, false, true, IsNone, Err};
+ghost use Rattle.forth83.specs.Causes.{IsNoFile, image_cause};
 ghost use Rattle.forth83.specs.Lines.{EndsSeen, Prints, PrintsOutOfMemory, PrintsRefusal, PrintsSeen, line};
 ghost use Rattle.image_loader.specs.Files.{Contents, IsFile};
+ghost use Rattle.image_loader.specs.declared.fault.ImageFault.{ImageFault};
 
 use crate::commands::{Ended, print, print_out_of_memory, refuse, refuse_image};
 use inner_interpreter::Output;
@@ -39,8 +41,8 @@ fn print_definition<W: Output>(mut text: Vec<u8>, writer: &mut W) -> Ended
 pub fn do_see<W: Output>(alloc: Global, image: &[u8], name: &str, writer: &mut W) -> Ended
     // Where the bytes are an image's file, the word's text is printed, or why there is none.
     ensures seen { W.failed writer.new ≡ false → (file : Contents) → IsFile image.now file → EndsSeen file name.now result.status (W.sent writer.old) (W.sent writer.new) }
-    // Where they are none, that is printed.
-    ensures refused { W.failed writer.new ≡ false → ((file : Contents) → IsFile image.now file → ⊥) → PrintsRefusal (codes "image") result.status (W.sent writer.old) (W.sent writer.new) }
+    // Where they are none, it is printed why.
+    ensures refused { W.failed writer.new ≡ false → (fault : ImageFault) → IsNoFile image.now fault → PrintsRefusal (codes "image") (image_cause fault) result.status (W.sent writer.old) (W.sent writer.new) }
     ensures cut { W.failed writer.old ≡ false → W.failed writer.new ≡ true → result.status ≡ 5 }
     ensures file { IsNone result.file }
 {

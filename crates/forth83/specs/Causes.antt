@@ -1,0 +1,48 @@
+-- How refusals are spelled.
+use Rattle.std.specs.Prelude.{ℕ, List, ◌++◌, codes, decimal}
+use Rattle.debug_tracer.specs.declared.fault.DebugFault.{DebugFault}
+use Rattle.debug_tracer.specs.declared.fault.DebugFault.TheVariants as debug
+use Rattle.image_loader.specs.Files.{IsCutShort, IsFollowed, HasBadMagic, HasBadVersion, HasBadSize}
+use Rattle.image_loader.specs.declared.fault.ImageFault.{ImageFault}
+use Rattle.image_loader.specs.declared.fault.ImageFault.TheVariants as image
+use Rattle.see.specs.declared.refusal.SeeRefused.{SeeRefused}
+use Rattle.see.specs.declared.refusal.SeeRefused.TheVariants as see
+use Rattle.see.specs.declared.refusal.ViewRefused.{ViewRefused}
+use Rattle.see.specs.declared.refusal.ViewRefused.TheVariants as view
+
+abbrev pub image_cause : ImageFault → List ℕ
+image_cause image.Truncated = codes "Truncated"
+image_cause image.BadMagic = codes "BadMagic"
+image_cause image.BadVersion = codes "BadVersion"
+image_cause image.BadSize = codes "BadSize"
+image_cause image.TrailingBytes = codes "TrailingBytes"
+image_cause image.OutOfMemory = codes "OutOfMemory"
+
+abbrev pub view_cause : ViewRefused → List ℕ
+view_cause view.NotFound = codes "NotFound"
+view_cause view.ChainTooLong = codes "ChainTooLong"
+
+abbrev pub see_cause : SeeRefused → List ℕ
+see_cause see.NotFound = codes "NotFound"
+see_cause see.ChainTooLong = codes "ChainTooLong"
+see_cause see.NotColon = codes "NotColon"
+see_cause see.NotStructured = codes "NotStructured"
+see_cause (see.Nameless cell) = codes "Nameless " ++ decimal cell
+see_cause see.Shadowed = codes "Shadowed"
+see_cause see.BadText = codes "BadText"
+see_cause see.OutOfMemory = codes "OutOfMemory"
+
+abbrev pub debug_cause : DebugFault → List ℕ
+debug_cause debug.NotFound = codes "NotFound"
+debug_cause debug.ChainTooLong = codes "ChainTooLong"
+debug_cause debug.NotColon = codes "NotColon"
+debug_cause debug.OutOfMemory = codes "OutOfMemory"
+
+-- why these bytes are no image's file
+abbrev pub IsNoFile : List ℕ → ImageFault → Type 0
+IsNoFile bytes image.Truncated = IsCutShort bytes
+IsNoFile bytes image.BadMagic = HasBadMagic bytes
+IsNoFile bytes image.BadVersion = HasBadVersion bytes
+IsNoFile bytes image.BadSize = HasBadSize bytes
+IsNoFile bytes image.TrailingBytes = IsFollowed bytes
+IsNoFile bytes image.OutOfMemory = ⊥
