@@ -2,8 +2,10 @@
 use Rattle.std.specs.Prelude.{◌≡◌, ◌⊎◌, ℕ, List, [], ◌∷◌, ◌++◌, Option, Result, Ok, Err, Vec, codes, decimal}
 use Rattle.std.specs.declared.alloc.Global.{Global}
 use Rattle.std.specs.Io.KnownBytes.{Appends}
+use Rattle.debug_tracer.specs.declared.fault.DebugFault.{DebugFault}
+use Rattle.debug_tracer.specs.declared.fault.DebugFault.TheVariants as debug
 use Rattle.dictionary.specs.Search.{sought}
-use Rattle.forth83.specs.Causes.{view_cause, see_cause}
+use Rattle.forth83.specs.Causes.{debug_cause, view_cause, see_cause}
 use Rattle.image_loader.specs.Files.{Contents}
 use Rattle.memory.specs.Bytes.{front_put, zeros}
 use Rattle.see.specs.Seeing.{IsSeen}
@@ -42,6 +44,11 @@ abbrev pub PrintsSeen : (name : List ℕ) → Result (Vec ℕ Global) SeeRefused
 PrintsSeen name (Ok text) status old new = Prints (line text.items) 0 status old new
 PrintsSeen name (Err see.OutOfMemory) status old new = PrintsOutOfMemory status old new
 PrintsSeen name (Err why) status old new = PrintsRefusal name (see_cause why) status old new
+
+-- why a word isn't traced was printed
+abbrev pub PrintsUntraced : (name : List ℕ) → DebugFault → (status : ℕ) → (old new : Option (List ℕ)) → Type 0
+PrintsUntraced name debug.OutOfMemory status old new = PrintsOutOfMemory status old new
+PrintsUntraced name why status old new = PrintsRefusal name (debug_cause why) status old new
 
 -- what VIEW tells of a name in an image was printed, or that memory ran out
 abbrev pub EndsViewed : Contents → (name : List ℕ) → (status : ℕ) → (old new : Option (List ℕ)) → Type 0

@@ -240,6 +240,8 @@ pub fn do_run<R: Input, W: Output, D: Device>(
     // Where the bytes are an image's file, memory is found and no end fails, the status, the output, the unread bytes and
     // the blocks are those of the written rounds.
     ensures ran { result.status ≢ 1 → R.failed reader.new ≡ false → W.failed writer.new ≡ false → (file : Contents) → IsFile image.now file → (typed : List ℕ) → R.unread reader.old ≡ Some typed → (disk : Disk) → D.disk device.old ≡ Some disk → (sent : List ℕ) → W.sent writer.old ≡ Some sent → EndsWith result.status (loaded file typed disk sent limit) (R.unread reader.new) (D.disk device.new) (W.sent writer.new) }
+    // Where they are none, that is printed.
+    ensures refused { W.failed writer.new ≡ false → (fault : ImageFault) → IsNoFile image.now fault → PrintsRefusal (codes "image") (image_cause fault) result.status (W.sent writer.old) (W.sent writer.new) }
     ensures file { IsNone result.file }
 {
     match run_file(alloc, image, reader, writer, device, limit) {

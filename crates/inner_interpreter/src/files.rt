@@ -1,6 +1,6 @@
 //! From the bytes of an image's file to the bytes of output.
 
-ghost use Rattle.std.specs.Prelude.{◌≡◌, ◌↔◌, List, ℕ, Some, false, IfOk, IfErr, IsErrOf, MatchResult};
+ghost use Rattle.std.specs.Prelude.{◌≡◌, ◌↔◌, List, ℕ, Some, false, IfOk, IfErr, IsErrOf, MatchResult, OnErr};
 ghost use Rattle.block_buffers.specs.Disks.{Disk};
 ghost use Rattle.image_loader.specs.Files.{Contents, IsFile, IsCutShort, IsFollowed, HasBadMagic, HasBadVersion, HasBadSize};
 ghost use Rattle.inner_interpreter.specs.Worlds.{loaded, EndsFrom};
@@ -23,7 +23,10 @@ fn load_and_run<R: Input, W: Output, D: Device>(
     device: &mut D,
     limit: u64,
 ) -> Result<Stop, OutOfMemory>
-    ensures { IfOk result (λ stop. R.failed reader.new ≡ false → W.failed writer.new ≡ false → (typed : List ℕ) → R.unread reader.old ≡ Some typed → (disk : Disk) → D.disk device.old ≡ Some disk → (sent : List ℕ) → W.sent writer.old ≡ Some sent → EndsFrom (loaded image.now typed disk sent limit) (R.unread reader.new) (D.disk device.new) (W.sent writer.new) stop) }
+    ensures whole { IfOk result (λ stop. R.failed reader.new ≡ false → W.failed writer.new ≡ false → (typed : List ℕ) → R.unread reader.old ≡ Some typed → (disk : Disk) → D.disk device.old ≡ Some disk → (sent : List ℕ) → W.sent writer.old ≡ Some sent → EndsFrom (loaded image.now typed disk sent limit) (R.unread reader.new) (D.disk device.new) (W.sent writer.new) stop) }
+    ensures reader { OnErr result (reader.new ≡ reader.old) }
+    ensures writer { OnErr result (writer.new ≡ writer.old) }
+    ensures device { OnErr result (device.new ≡ device.old) }
 {
     let mut machine = Machine::load(alloc, image, device.count())?;
     run(alloc, &mut machine, reader, writer, device, limit)
@@ -54,6 +57,11 @@ pub fn run_file<R: Input, W: Output, D: Device>(
     ensures bad_magic { IsErrOf result ImageFault.BadMagic ↔ HasBadMagic bytes.now }
     ensures bad_version { IsErrOf result ImageFault.BadVersion ↔ HasBadVersion bytes.now }
     ensures bad_size { IsErrOf result ImageFault.BadSize ↔ HasBadSize bytes.now }
+
+    // Where they are refused nothing was done.
+    ensures reader { OnErr result (reader.new ≡ reader.old) }
+    ensures writer { OnErr result (writer.new ≡ writer.old) }
+    ensures device { OnErr result (device.new ≡ device.old) }
 {
     match image_loader::read(alloc, bytes) {
         Ok(image) => match load_and_run(alloc, &image, reader, writer, device, limit) {

@@ -8,4 +8,4 @@ pub returns-in-Ok-load_and_debug-clause-ran : goal.returns-in-Ok-load_and_debug-
 returns-in-Ok-load_and_debug-clause-ran g c = λ other fine good kept file f typed u disk k sent s.
     let same : c.in-Ok.image ≡ file = c.in-Ok.ensures.accepted file f in
     subst (λ (i : Contents). EndsTracedWith c.end_with.result.status (loaded i typed disk sent c.args.limit) c.args.name.now (g.R.Input.unread c.load_and_debug.new.reader) (g.D.Device.disk c.load_and_debug.new.device) (g.W.Output.sent c.load_and_debug.new.writer) (g.T.Output.sent c.args.trace.now) (g.T.Output.sent c.load_and_debug.new.trace)) same
-    (record { stop = c.in-Ok-load_and_debug.stop; status_is = search rules; ends = c.in-Ok-load_and_debug.ensures fine good kept typed u disk k sent s })
+    (record { stop = c.in-Ok-load_and_debug.stop; status_is = search rules; ends = c.in-Ok-load_and_debug.ensures.ran fine good kept typed u disk k sent s })

@@ -7,8 +7,8 @@ use Rattle.inner_interpreter.specs.Tracing.{EndsTraced}
 use Rattle.inner_interpreter.specs.Worlds.{loaded}
 use Rattle.forth83.proofs.debug_command.load_and_debug.Goals as goal
 
-pub returns : goal.returns
-returns g c = IfOk-weaker c.debug.result _ _ (λ stop h. λ fine good kept typed u disk k sent s thread is.
+pub returns-clause-ran : goal.returns-clause-ran
+returns-clause-ran g c = IfOk-weaker c.debug.result _ _ (λ stop h. λ fine good kept typed u disk k sent s thread is.
     let n : c.count.result ≡ length disk.blocks = subst (λ o. IfSome o (λ x. c.count.result ≡ length x.blocks)) k c.count.ensures.told in
     let m : c.in-Ok.machine ≡ start c.args.image.now (length disk.blocks) = c.in-Ok.ensures ∙ ap (start c.args.image.now) n in (
       c.debug.new.machine,

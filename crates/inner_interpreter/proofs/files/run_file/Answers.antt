@@ -7,4 +7,4 @@ pub returns-in-Ok-load_and_run-clause-whole : goal.returns-in-Ok-load_and_run-cl
 returns-in-Ok-load_and_run-clause-whole g c = λ fine good image f typed u disk k sent s.
     let same : c.in-Ok.image ≡ image = c.in-Ok.ensures.accepted image f in
     subst (λ (i : Contents). EndsFrom (loaded i typed disk sent c.args.limit) (g.R.Input.unread c.load_and_run.new.reader) (g.D.Device.disk c.load_and_run.new.device) (g.W.Output.sent c.load_and_run.new.writer) c.in-Ok-load_and_run.stop) same
-    (c.in-Ok-load_and_run.ensures fine good typed u disk k sent s)
+    (c.in-Ok-load_and_run.ensures.whole fine good typed u disk k sent s)
