@@ -5,6 +5,8 @@ use Rattle.debug_tracer.specs.declared.fault.DebugFault.TheVariants as debug
 use Rattle.image_loader.specs.Files.{IsCutShort, IsFollowed, HasBadMagic, HasBadVersion, HasBadSize}
 use Rattle.image_loader.specs.declared.fault.ImageFault.{ImageFault}
 use Rattle.image_loader.specs.declared.fault.ImageFault.TheVariants as image
+use Rattle.metacompiler.specs.declared.cause.Cause.{Cause}
+use Rattle.metacompiler.specs.declared.cause.Cause.TheVariants as build
 use Rattle.see.specs.declared.refusal.SeeRefused.{SeeRefused}
 use Rattle.see.specs.declared.refusal.SeeRefused.TheVariants as see
 use Rattle.see.specs.declared.refusal.ViewRefused.{ViewRefused}
@@ -17,6 +19,19 @@ image_cause image.BadVersion = codes "BadVersion"
 image_cause image.BadSize = codes "BadSize"
 image_cause image.TrailingBytes = codes "TrailingBytes"
 image_cause image.OutOfMemory = codes "OutOfMemory"
+
+abbrev pub build_cause : Cause → List ℕ
+build_cause build.OutOfMemory = codes "out of memory"
+build_cause build.EndsInside = codes "EndsInside"
+build_cause build.BadNumber = codes "BadNumber"
+build_cause build.BadPrimitive = codes "BadPrimitive"
+build_cause build.Misplaced = codes "Misplaced"
+build_cause build.Unbalanced = codes "Unbalanced"
+build_cause build.Unknown = codes "Unknown"
+build_cause build.BadName = codes "BadName"
+build_cause build.Full = codes "Full"
+build_cause build.NoBoot = codes "NoBoot"
+build_cause build.Device = codes "Device"
 
 abbrev pub view_cause : ViewRefused → List ℕ
 view_cause view.NotFound = codes "NotFound"

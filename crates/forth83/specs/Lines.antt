@@ -1,12 +1,17 @@
 -- Lines that the program prints, and its status.
-use Rattle.std.specs.Prelude.{◌≡◌, ◌⊎◌, ℕ, List, [], ◌∷◌, ◌++◌, Option, Result, Ok, Err, Vec, codes, decimal}
+use Rattle.std.specs.Prelude.{◌≡◌, ◌⊎◌, ℕ, List, [], ◌∷◌, ◌++◌, length, Option, Result, Ok, Err, Vec, codes, decimal}
 use Rattle.std.specs.declared.alloc.Global.{Global}
 use Rattle.std.specs.Io.KnownBytes.{Appends}
+use Rattle.block_buffers.specs.Disks.{Disk}
 use Rattle.debug_tracer.specs.declared.fault.DebugFault.{DebugFault}
 use Rattle.debug_tracer.specs.declared.fault.DebugFault.TheVariants as debug
 use Rattle.dictionary.specs.Search.{sought}
-use Rattle.forth83.specs.Causes.{debug_cause, view_cause, see_cause}
-use Rattle.image_loader.specs.Files.{Contents}
+use Rattle.forth83.specs.Causes.{build_cause, debug_cause, view_cause, see_cause}
+use Rattle.image_loader.specs.Files.{Contents, IsFile}
+use Rattle.metacompiler.specs.Sources.{Done, IsRefused}
+use Rattle.metacompiler.specs.declared.cause.BuildFault.{BuildFault}
+use Rattle.metacompiler.specs.declared.cause.Cause.{Cause}
+use Rattle.metacompiler.specs.declared.cause.Cause.TheVariants as build
 use Rattle.memory.specs.Bytes.{front_put, zeros}
 use Rattle.see.specs.Seeing.{IsSeen}
 use Rattle.see.specs.View.{viewed}
@@ -33,6 +38,32 @@ PrintsRefusal what cause status old new =
 -- the memory that an image is loaded to
 abbrev pub memory_of : Contents → List ℕ
 memory_of image = front_put image.bytes zeros
+
+-- `screen S offset O: CAUSE`, with some spelling of the cause
+abbrev pub fault_line : (screen offset : ℕ) → List ℕ → List ℕ
+fault_line screen offset cause = codes "screen " ++ (decimal screen ++ (codes " offset " ++ (decimal offset ++ (codes ": " ++ line cause))))
+
+-- status 1, and where and why a source is refused was printed, or that memory ran out
+abbrev pub PrintsFault : (screen offset : ℕ) → Cause → (status : ℕ) → (old new : Option (List ℕ)) → Type 0
+PrintsFault screen offset build.OutOfMemory status old new = PrintsOutOfMemory status old new
+PrintsFault screen offset cause status old new =
+    (status ≡ 1) × (Appends old new (fault_line screen offset (build_cause cause)) ⊎ Appends old new (line (codes "out of memory")))
+
+-- the screens from..to are refused for a fault, and that was printed
+pub record EndsRefused (d : Disk) (from to : ℕ) (done : Done) (status : ℕ) (old new : Option (List ℕ)) : Type 0 where
+  pub fault : BuildFault
+  pub is_refused : IsRefused d from to fault done
+  pub printed : PrintsFault fault.screen fault.offset fault.cause status old new
+
+-- `size S entry E`
+abbrev pub image_line : Contents → List ℕ
+image_line image = codes "size " ++ (decimal (length image.bytes) ++ (codes " entry " ++ line (decimal image.entry)))
+
+-- these bytes are an image's file, and its line was printed
+pub record IsTold (bytes : List ℕ) (old new : Option (List ℕ)) : Type 0 where
+  pub image : Contents
+  pub is_file : IsFile bytes image
+  pub printed : Appends old new (image_line image)
 
 -- the number of a screen was printed, or why there is none
 abbrev pub PrintsViewed : (name : List ℕ) → Result ℕ ViewRefused → (status : ℕ) → (old new : Option (List ℕ)) → Type 0

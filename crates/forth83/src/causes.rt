@@ -2,10 +2,11 @@
 //! them itself, and clauses know what it prints.
 
 ghost use Rattle.std.specs.Prelude.{◌≡◌, ℕ, List, IfOk, string_bytes};
-ghost use Rattle.forth83.specs.Causes.{image_cause, view_cause, see_cause, debug_cause};
+ghost use Rattle.forth83.specs.Causes.{image_cause, build_cause, view_cause, see_cause, debug_cause};
 
 use debug_tracer::DebugFault;
 use image_loader::ImageFault;
+use metacompiler::Cause;
 use see::{SeeRefused, ViewRefused};
 use std::alloc::{AllocError, Global};
 
@@ -30,6 +31,26 @@ impl Reason for ImageFault {
             ImageFault::BadSize => "BadSize".to_string(alloc),
             ImageFault::TrailingBytes => "TrailingBytes".to_string(alloc),
             ImageFault::OutOfMemory => "OutOfMemory".to_string(alloc),
+        }
+    }
+}
+
+impl Reason for Cause {
+    ghost spelling = { λ c. build_cause c };
+
+    fn spelled(&self, alloc: Global) -> Result<String, AllocError> {
+        match *self {
+            Cause::OutOfMemory => "out of memory".to_string(alloc),
+            Cause::EndsInside => "EndsInside".to_string(alloc),
+            Cause::BadNumber => "BadNumber".to_string(alloc),
+            Cause::BadPrimitive => "BadPrimitive".to_string(alloc),
+            Cause::Misplaced => "Misplaced".to_string(alloc),
+            Cause::Unbalanced => "Unbalanced".to_string(alloc),
+            Cause::Unknown => "Unknown".to_string(alloc),
+            Cause::BadName => "BadName".to_string(alloc),
+            Cause::Full => "Full".to_string(alloc),
+            Cause::NoBoot => "NoBoot".to_string(alloc),
+            Cause::Device => "Device".to_string(alloc),
         }
     }
 }

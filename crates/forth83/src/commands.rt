@@ -1,12 +1,13 @@
 //! The subcommands, over values.
 
 ghost use Rattle.std.specs.Prelude.{◌≡◌, ◌≢◌, ◌<◌, ◌⊎◌, ℕ, List, codes, decimal, false, true, Some, IsNone, IfOk, IfSome, MatchOption, string_bytes, ◌++◌};
+ghost use Rattle.std.specs.Io.KnownBytes.{Appends};
 ghost use Rattle.block_buffers.specs.Calls.{failures};
 ghost use Rattle.block_buffers.specs.Disks.{Disk};
 ghost use Rattle.forth83.specs.Kernel.{filled, blocks_of};
 ghost use Rattle.forth83.specs.Images.{IsBuiltFile};
 ghost use Rattle.forth83.specs.Causes.{IsNoFile, image_cause};
-ghost use Rattle.forth83.specs.Lines.{EndsViewed, Prints, PrintsOutOfMemory, PrintsRefusal, line};
+ghost use Rattle.forth83.specs.Lines.{EndsRefused, EndsViewed, IsTold, Prints, PrintsFault, PrintsOutOfMemory, PrintsRefusal, fault_line, image_line, line};
 ghost use Rattle.forth83.specs.Statuses.{status_of, EndsWith};
 ghost use Rattle.image_loader.specs.Files.{Contents, IsFile};
 ghost use Rattle.image_loader.specs.declared.fault.ImageFault.{ImageFault};
@@ -75,7 +76,9 @@ pub fn print<W: Output>(writer: &mut W, line: &[u8], status: u8) -> Ended
 }
 
 /// Prints a line, and answers whether all of it was written.
-fn is_printed<W: Output>(writer: &mut W, line: &[u8]) -> bool {
+fn is_printed<W: Output>(writer: &mut W, line: &[u8]) -> bool
+    ensures { W.failed writer.new ≡ false → (result ≡ true) × Appends (W.sent writer.old) (W.sent writer.new) line.now }
+{
     print(writer, line, 0).status == 0
 }
 
@@ -142,22 +145,35 @@ pub fn do_kernel<W: Output>(alloc: Global, writer: &mut W) -> Ended
     }
 }
 
-/// Prints why a source is refused.
+/// The line that tells where and why a source is refused.
+fn fault_line(alloc: Global, screen: u16, offset: u16, cause: &str) -> Result<String, AllocError>
+    ensures { IfOk result (λ s. string_bytes s ≡ fault_line screen offset cause.now) }
+{
+    format!(in alloc; "screen {screen} offset {offset}: {cause}\n")
+}
+
+/// Prints where and why a source is refused.
 fn refuse_source<W: Output>(alloc: Global, fault: BuildFault, writer: &mut W) -> Ended
+    ensures printed { W.failed writer.new ≡ false → PrintsFault fault.screen fault.offset fault.cause result.status (W.sent writer.old) (W.sent writer.new) }
     ensures status { 0 < result.status }
     ensures file { IsNone result.file }
 {
     if fault.cause == Cause::OutOfMemory {
         return print_out_of_memory(writer);
     }
-    match format!(in alloc; "{fault}\n") {
+    let Ok(cause) = fault.cause.spelled(alloc) else {
+        return print_out_of_memory(writer);
+    };
+    match fault_line(alloc, fault.screen, fault.offset, cause.as_str()) {
         Ok(line) => print(writer, line.as_str().as_bytes(), 1),
         Err(_) => print_out_of_memory(writer),
     }
 }
 
 /// The line that tells of an image which was built.
-fn report(alloc: Global, image: &Image) -> Result<String, AllocError> {
+fn report(alloc: Global, image: &Image) -> Result<String, AllocError>
+    ensures { IfOk result (λ s. string_bytes s ≡ image_line image.now) }
+{
     let size = image.bytes().len();
     let entry = image.entry();
     format!(in alloc; "size {size} entry {entry}\n")
@@ -175,6 +191,9 @@ pub fn do_build<W: Output, D: Device>(
 ) -> Ended
     ensures status { MatchOption result.file (0 < result.status) (λ _. result.status ≡ 0) }
     ensures file { (d : Disk) → D.disk device.old ≡ Some d → IfSome result.file (λ file. IsBuiltFile file.items d from to (record { disk = D.disk device.new; before = failures (D.calls device.old); after = failures (D.calls device.new) })) }
+    // Where there is a file, its line is printed; where there is none, it is printed why.
+    ensures told { W.failed writer.new ≡ false → IfSome result.file (λ file. IsTold file.items (W.sent writer.old) (W.sent writer.new)) }
+    ensures refused { W.failed writer.new ≡ false → IsNone result.file → (d : Disk) → D.disk device.old ≡ Some d → EndsRefused d from to (record { disk = D.disk device.new; before = failures (D.calls device.old); after = failures (D.calls device.new) }) result.status (W.sent writer.old) (W.sent writer.new) ⊎ PrintsOutOfMemory result.status (W.sent writer.old) (W.sent writer.new) }
 {
     let image = match build(alloc, device, from, to) {
         Ok(image) => image,
