@@ -1,9 +1,9 @@
 //! A stretch of ticks leaves what as many single ticks leave.
 
 use crate::first_words::HI;
-use crate::fixtures::machine;
+use crate::fixtures::{assert_run, machine};
 use crate::threads::{DEPTHS, OVERWRITES};
-use inner_interpreter::Machine;
+use inner_interpreter::{Machine, Stop};
 use std::alloc::Global;
 use std::process::Abort;
 use std::test::Fail;
@@ -139,6 +139,50 @@ fn threads_at_the_end_of_memory(rt: HostRuntime) -> Result<(), Fail> {
             let mut single = machine(&rt, 264, bytes.as_slice(), &[], 0)?;
             assert_stretch(&rt, &mut stretched, &mut single, n);
         }
+    }
+    Ok(())
+}
+
+/// Each row that reads or writes memory, over addresses at its end and at its beginning, as many as stand behind its end too.
+#[test]
+fn stores_at_both_ends_of_memory(rt: HostRuntime) -> Result<(), Fail> {
+    for code in [96, 97, 98, 99, 100, 106] {
+        for at in [0, 1, 13, 14, 15, 16, 17, 65533, 65534, 65535] {
+            let bytes = thread(rt.alloc(), code, 2, 1, at)?;
+            let mut stretched = machine(&rt, 264, bytes.as_slice(), &[], 0)?;
+            let mut single = machine(&rt, 264, bytes.as_slice(), &[], 0)?;
+            assert_stretch(&rt, &mut stretched, &mut single, 2000);
+        }
+    }
+    Ok(())
+}
+
+/// At 256 the code fields of (LIT), `!`, EMIT, BYE, BRANCH and CMOVE; at 268 a colon word that moves the twelve cells at 288
+/// to `at` and goes on there: 33, EMIT's token to where the BYE behind the 34 stands, 34, that BYE, EMIT, BYE.
+fn thread_moved_to(alloc: Global, at: u16) -> Result<Vec<u8>, Fail> {
+    let mut bytes = Vec::new(alloc);
+    let patched = at.wrapping_add(18);
+    for cell in [
+        6, 97, 120, 23, 7, 103, 1, 256, 288, 256, at, 256, 24, 266, 264, at,
+    ] {
+        lay(&mut bytes, cell)?;
+    }
+    for cell in [256, 33, 256, 260, 256, patched, 258, 256, 34, 262, 260, 262] {
+        lay(&mut bytes, cell)?;
+    }
+    Ok(bytes)
+}
+
+/// A thread that lies over the end of memory and writes over the token behind it, which it then reaches: 34 is shown, and then 33.
+/// Six ticks move it and go there, and eight are its own.
+#[test]
+fn threads_that_write_over_the_end_of_memory(rt: HostRuntime) -> Result<(), Fail> {
+    for at in 65496..=65535 {
+        let bytes = thread_moved_to(rt.alloc(), at)?;
+        let mut whole = machine(&rt, 268, bytes.as_slice(), &[], 0)?;
+        assert_run(&rt, &mut whole, b"", 14, Stop::Bye, &[34, 33])?;
+        let mut cut = machine(&rt, 268, bytes.as_slice(), &[], 0)?;
+        assert_run(&rt, &mut cut, b"", 13, Stop::Limit, &[34, 33])?;
     }
     Ok(())
 }

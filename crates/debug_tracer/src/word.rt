@@ -46,7 +46,7 @@ impl Tracer for Word {
 fn copied(alloc: Global, memory: &Memory) -> Result<Memory, OutOfMemory>
     ensures { IfOk result (λ copy. copy ≡ memory.now) }
 {
-    Memory::with_front(alloc, &memory.bytes[..])
+    Memory::with_front(alloc, memory.as_slice())
 }
 
 /// Where the thread stands of the word whose header is at `l`.

@@ -1,6 +1,7 @@
 //! Laws of memory.
 
 ghost use Rattle.std.specs.Prelude.{◌≡◌};
+ghost use Rattle.memory.specs.declared.mirrored.TheConstants.{MIRRORED};
 ghost use Rattle.memory.specs.declared.system.TheConstants.{STATE, BASE, TO_IN, BLK, NUMBER_TIB, SPAN, DP, LAST, CONTEXT, CURRENT, HLD, SCR, FAULT, FORTH_VOC, VOC_LINK, FENCE, RUNTIME_CELLS, TIB};
 
 /// Where the system's cells stand, and the terminal's buffer.
@@ -23,4 +24,9 @@ pub fn system_law()
     ensures fence { FENCE ≡ 54 }
     ensures runtime_cells { RUNTIME_CELLS ≡ 64 }
     ensures tib { TIB ≡ 128 }
+{}
+
+/// How many bytes are mirrored.
+pub fn mirrored_law()
+    ensures { MIRRORED ≡ 16 }
 {}

@@ -3,10 +3,11 @@
 
 mod access;
 pub mod laws;
+pub mod mirrored;
 mod snapshot;
 pub mod system;
 
-ghost use Rattle.std.specs.Prelude.{◌≡◌, ℕ, ◌+◌, ◌*◌, ◌<◌, ◌≤◌, ◌++◌, List, length, slice_index, IfOk};
+ghost use Rattle.std.specs.Prelude.{◌≡◌, ℕ, ◌+◌, ◌*◌, ◌<◌, ◌≤◌, ◌++◌, List, length, take, drop, slice_index, IfOk};
 ghost use Rattle.memory.specs.Bytes.{byte, cell, put_byte, put_cell, bytes, zeros, front_put, page, with_page, filled, moved_up, moved_down, put_bytes};
 
 pub use access::{byte_at, cell_at, cell_bytes, set_byte_at, set_cell_at};
@@ -24,27 +25,37 @@ pub const FIRST_BUFFER: usize = 61440;
 #[derive(Clone, Copy, Debug, PartialEq, Eq)]
 pub struct OutOfMemory;
 
-/// 65,536 bytes. A cell is two of them, the low byte at the lower address.
+/// 65,536 bytes. A cell is two of them, the low byte at the lower address. The sixteen bytes behind them are no part of memory:
+/// a loop may keep the first ones there (`mirrored`).
 #[derive(Drop)]
 pub struct Memory {
-    pub bytes: Box<[u8; 65536]>,
+    pub bytes: Box<[u8; 65552]>,
 }
 
 impl Model for Memory {
     ghost use Rattle.std.specs.Prelude.{List, ℕ};
+    ghost use Rattle.memory.specs.Mirrored.{front};
 
     ghost Value = { List ℕ };
 
-    ghost view = { λ m. m.bytes.value };
+    ghost view = { λ m. front m.bytes.value };
+}
+
+/// Writes `part` from the place `start` on.
+fn put_part(bytes: &mut [u8], start: usize, part: &[u8])
+    requires { start + length part.now ≤ length bytes.old }
+    ensures bytes { bytes.new ≡ take start bytes.old ++ (part.now ++ drop (start + length part.now) bytes.old) }
+{
+    bytes[start..start + part.len()].copy_from_slice(part);
 }
 
 impl Memory {
     /// Memory of zeros.
-    #[tactic(auto, unfolding(crate::specs::Bytes::zeros))]
+    #[tactic(auto, using(crate::proofs::Behind::zeros_are))]
     pub fn new(alloc: Global) -> Result<Memory, OutOfMemory>
         ensures { IfOk result (λ m. m ≡ zeros) }
     {
-        match Box::new(alloc, [0; 65536]) {
+        match Box::new(alloc, [0; 65552]) {
             Ok(bytes) => Ok(Memory { bytes }),
             Err(_) => Err(OutOfMemory),
         }
@@ -61,7 +72,7 @@ impl Memory {
     }
 
     /// Writes `bytes` from address 0 on.
-    #[tactic(auto, unfolding(crate::specs::Bytes::front_put))]
+    #[tactic(auto, using(crate::proofs::Behind::front_begun))]
     fn put_front(&mut self, bytes: &[u8])
         requires { length bytes.now ≤ 65536 }
         ensures { self.new ≡ front_put bytes.now self.old }
@@ -70,12 +81,21 @@ impl Memory {
         self.bytes[0..end].copy_from_slice(bytes);
     }
 
+    /// All bytes.
+    #[tactic(auto, using(crate::proofs::Behind::front_is, crate::proofs::Behind::length_front))]
+    pub fn as_slice(&self) -> &[u8]
+        ensures bytes { result.now ≡ self.now }
+        ensures len { length self.now ≡ 65536 }
+    {
+        &self.bytes[..SIZE]
+    }
+
     /// How many bytes there are, which every range and every cell rests on.
     pub fn len(&self) -> usize
         ensures value { result ≡ 65536 }
         ensures bytes { length self.now ≡ 65536 }
     {
-        self.bytes[..].len()
+        self.as_slice().len()
     }
 
     /// The byte at `at`.
@@ -154,7 +174,7 @@ impl Memory {
         ensures bytes { result.0.now ++ result.1.now ≡ bytes self.now at n }
         ensures len { length result.0.now + length result.1.now ≡ n }
     {
-        let memory: &[u8; 65536] = &self.bytes;
+        let memory = self.as_slice();
         let start = at as usize;
         let end = start + n as usize;
         if end <= SIZE {
@@ -171,7 +191,7 @@ impl Memory {
         ensures value { result ≡ slice_index (bytes self.now at n) i }
         ensures len { length (bytes self.now at n) ≡ n }
     {
-        self.bytes[at.wrapping_add(i) as usize]
+        self.as_slice()[at.wrapping_add(i) as usize]
     }
 
     /// The 1,024 bytes of the buffer of a slot.
@@ -181,20 +201,20 @@ impl Memory {
         ensures { result.now ≡ page self.now slot }
     {
         let start = FIRST_BUFFER + 1024 * slot;
-        let Some((page, _)) = self.bytes[start..].split_first_chunk::<1024>() else {
+        let Some((page, _)) = self.as_slice()[start..].split_first_chunk::<1024>() else {
             unreachable!()
         };
         page
     }
 
     /// Writes the buffer of a slot.
-    #[tactic(auto, unfolding(crate::specs::Bytes::with_page))]
+    #[tactic(auto, using(crate::proofs::Behind::front_page))]
     pub fn set_page(&mut self, slot: usize, page: &[u8; 1024])
         requires { slot < 4 }
         ensures { self.new ≡ with_page self.old slot page.now }
     {
         let start = FIRST_BUFFER + 1024 * slot;
-        self.bytes[start..start + 1024].copy_from_slice(page);
+        put_part(&mut self.bytes[..], start, page);
     }
 
     /// A copy of all bytes, which takes no memory.

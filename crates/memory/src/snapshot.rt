@@ -2,6 +2,7 @@
 
 ghost use Rattle.std.specs.Prelude.{◌≡◌};
 ghost use Rattle.memory.specs.Bytes.{byte, cell};
+ghost use Rattle.memory.specs.Mirrored.{front};
 
 use crate::access::{byte_at, cell_at};
 use std::marker::Model;
@@ -9,21 +10,22 @@ use std::marker::Model;
 /// A copy of memory, for calls that read all before they write.
 #[derive(Drop)]
 pub struct Snapshot {
-    bytes: [u8; 65536],
+    bytes: [u8; 65552],
 }
 
 impl Model for Snapshot {
     ghost use Rattle.std.specs.Prelude.{List, ℕ};
+    ghost use Rattle.memory.specs.Mirrored.{front};
 
     ghost Value = { List ℕ };
 
-    ghost view = { λ s. s.bytes };
+    ghost view = { λ s. front s.bytes };
 }
 
 impl Snapshot {
-    /// The copy of these bytes.
-    pub fn of(bytes: &[u8; 65536]) -> Snapshot
-        ensures { result ≡ bytes.now }
+    /// The copy of memory.
+    pub fn of(bytes: &[u8; 65552]) -> Snapshot
+        ensures { result ≡ front bytes.now }
     {
         Snapshot { bytes: *bytes }
     }
