@@ -81,8 +81,7 @@ pub fn um_divide(ud: u32, u: u16) -> Option<(u16, u16)>
 pub fn ends_next(index: u16, limit: u16) -> bool
     ensures { result ≡ crosses index limit 1 }
 {
-    // Compilers take a test against -1 to fail as a rule: so a loop that goes round again is one straight line.
-    index.wrapping_sub(limit) == u16::MAX
+    index.wrapping_add(1) == limit
 }
 
 /// Whether a counted loop ends: its step, a signed cell, takes the index over the boundary between `limit - 1` and
