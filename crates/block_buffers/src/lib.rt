@@ -11,8 +11,6 @@ mod lines;
 mod memory_devices;
 mod screens;
 mod stamped;
-#[cfg(test)]
-mod tests;
 
 pub use buffers::Buffers;
 pub use call_log::CallLog;

@@ -9,8 +9,6 @@ mod image;
 pub mod laws;
 mod rules;
 mod steps;
-#[cfg(test)]
-mod tests;
 mod words;
 
 pub use compiling::{compile, finish, take_word};

@@ -9,8 +9,6 @@ mod control;
 mod definitions;
 mod laying;
 mod marks;
-#[cfg(test)]
-mod tests;
 mod text;
 
 pub use control::{Control, control_code, literal_code, runtime};

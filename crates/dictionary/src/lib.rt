@@ -30,6 +30,3 @@ pub use lookups::{find, search, search_from, search_hiding};
 pub use newest::{newest_count, reveal, revealed, set_immediate};
 pub use reading::{compilation_address, header, is_immediate};
 pub use site::Site;
-
-#[cfg(test)]
-mod tests;

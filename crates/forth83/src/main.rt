@@ -1,48 +1,18 @@
 //! A Forth-83 system with block storage.
 #![tactic(auto)]
 
-#[cfg(test)]
-mod build_tests;
-#[cfg(test)]
-mod cases;
-mod causes;
-mod commands;
-mod debug_command;
-#[cfg(test)]
-mod debug_tests;
-#[cfg(test)]
-mod end_tests;
-mod file_devices;
-#[cfg(test)]
-mod file_tests;
-mod files;
-mod kernel;
-#[cfg(test)]
-mod kernel_runs;
-#[cfg(test)]
-mod kernel_tests;
-mod kernel_text;
-mod laws;
-#[cfg(test)]
-mod round_trip_tests;
-mod see_command;
-#[cfg(test)]
-mod see_tests;
-#[cfg(test)]
-mod tests;
 mod words;
 
 use block_buffers::{Device, MemoryDevice};
-use commands::{Ended, do_build, do_kernel, do_run, do_view};
-use debug_command::do_debug;
-use file_devices::{FileDevice, open_device, open_to_read};
-use files::{create_file, read_image, write_file};
 use inner_interpreter::{Reading, Writing};
-use see_command::do_see;
 use std::fs::File;
 use std::io::{BufReader, BufWriter, IsTerminal, Stdin, Stdout};
 use std::os::fd::AsFd;
 use std::process::ExitCode;
+use subcommands::{
+    Ended, FileDevice, create_file, do_build, do_debug, do_kernel, do_run, do_see, do_view,
+    open_device, open_to_read, read_image, write_file,
+};
 use words::{Parsed, Words};
 
 /// Prints a line of the program's own, and answers the status: 5 where it can't be written.

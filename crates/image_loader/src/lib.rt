@@ -7,16 +7,13 @@ mod image;
 mod reader;
 mod writer;
 
+ghost use Rattle.std.specs.Prelude.{◌≡◌, List, ℕ};
+ghost use Rattle.image_loader.specs.Files.{Contents, IsFile};
+
 pub use fault::ImageFault;
 pub use image::Image;
 pub use reader::read;
 pub use writer::write;
-
-#[cfg(test)]
-mod tests;
-
-ghost use Rattle.std.specs.Prelude.{◌≡◌, List, ℕ};
-ghost use Rattle.image_loader.specs.Files.{Contents, IsFile};
 
 /// The law of files: bytes are the file of one image at most. So what `read` gives of what
 /// `write` made of an image is that image.

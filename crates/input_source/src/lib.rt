@@ -3,8 +3,6 @@
 
 mod placing;
 mod streams;
-#[cfg(test)]
-mod tests;
 mod words;
 
 pub use placing::{TooLong, place_word, word_bytes};

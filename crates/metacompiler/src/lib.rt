@@ -16,8 +16,6 @@ mod spelled;
 mod spot;
 mod state;
 mod take;
-#[cfg(test)]
-mod tests;
 
 pub use building::build;
 pub use cause::{BuildFault, Cause};

@@ -5,8 +5,6 @@ mod base;
 mod conversion;
 mod digits;
 mod picture;
-#[cfg(test)]
-mod tests;
 mod text;
 mod value;
 

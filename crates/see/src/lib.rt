@@ -20,8 +20,3 @@ pub use refusal::{SeeRefused, ViewRefused};
 pub use seeing::see;
 pub use thread::thread_words;
 pub use viewing::view;
-
-#[cfg(test)]
-mod tests;
-#[cfg(test)]
-mod thread_tests;

@@ -7,8 +7,6 @@ mod modes;
 mod reading;
 mod scanner;
 mod spans;
-#[cfg(test)]
-mod tests;
 mod word;
 
 pub use modes::Mode;

@@ -1,0 +1,205 @@
+use block_buffers::laws::buffers_from;
+use block_buffers::{
+    BLOCK_SIZE, Buffers, Device, DeviceFault, Entry, LINE_SIZE, MemoryDevice, delete_line,
+    insert_line, put_line, screen_line, wipe,
+};
+use std::process::Abort;
+use std::test::Fail;
+
+fn entry(slot: usize, block: Option<u16>, updated: bool) -> Entry {
+    Entry {
+        slot,
+        block,
+        updated,
+    }
+}
+
+fn assert_entries(rt: &impl Abort, buffers: &Buffers, wanted: [Entry; 4]) {
+    for (place, &entry) in wanted.iter().enumerate() {
+        if place < 4 {
+            assert_eq!(rt; buffers.entry(place), entry, "at place {place}");
+        }
+    }
+}
+
+/// Blocks 1 to 4, each read and updated, fill the slots 0 to 3.
+fn four_updated() -> Buffers {
+    let mut buffers = Buffers::new();
+    for block in 1..5 {
+        buffers.assign(block);
+        buffers.mark_front();
+    }
+    buffers
+}
+
+#[test]
+fn updated_victim_is_written_and_given_away(rt: HostRuntime) {
+    let mut buffers = four_updated();
+    assert_eq!(rt; buffers.victim(), entry(0, Some(1), true));
+    buffers.clean(0);
+    assert_eq!(rt; buffers.victim(), entry(0, Some(1), false));
+    buffers.assign(5);
+    let wanted = [
+        entry(0, Some(5), false),
+        entry(3, Some(4), true),
+        entry(2, Some(3), true),
+        entry(1, Some(2), true),
+    ];
+    assert_entries(&rt, &buffers, wanted);
+    assert_eq!(rt; buffers.find(5), Some(0));
+    assert_eq!(rt; buffers.find(1), None);
+    assert_eq!(rt; buffers.slot_of(3), 2);
+    assert_eq!(rt; buffers.slot_of(1), 1, "the victim's");
+}
+
+/// Six references from two below the greatest stamp on: the stamps are numbered anew on the way, and no one sees it.
+#[test]
+fn stamps_that_run_out(rt: HostRuntime) {
+    let mut buffers = buffers_from(u64::MAX - 2);
+    for block in 1..5 {
+        buffers.assign(block);
+    }
+    assert!(rt; buffers.find(2).is_some());
+    buffers.touch(2);
+    buffers.assign(5);
+    let wanted = [
+        entry(0, Some(5), false),
+        entry(1, Some(2), false),
+        entry(3, Some(4), false),
+        entry(2, Some(3), false),
+    ];
+    assert_entries(&rt, &buffers, wanted);
+}
+
+#[test]
+fn reference_keeps_the_others_in_their_order(rt: HostRuntime) {
+    let mut buffers = four_updated();
+    assert!(rt; buffers.find(2).is_some());
+    buffers.touch(2);
+    let wanted = [
+        entry(1, Some(2), true),
+        entry(3, Some(4), true),
+        entry(2, Some(3), true),
+        entry(0, Some(1), true),
+    ];
+    assert_entries(&rt, &buffers, wanted);
+}
+
+#[test]
+fn lowest_slot_is_written_first(rt: HostRuntime) {
+    let mut buffers = four_updated();
+    assert!(rt; buffers.find(1).is_some());
+    buffers.touch(1);
+    assert_eq!(rt; buffers.first_dirty(), Some(entry(0, Some(1), true)));
+    buffers.clean(0);
+    assert_eq!(rt; buffers.first_dirty(), Some(entry(1, Some(2), true)));
+    buffers.unmark(9);
+    assert_eq!(rt; buffers.first_dirty(), Some(entry(1, Some(2), true)));
+    buffers.unmark(2);
+    assert_eq!(rt; buffers.first_dirty(), Some(entry(2, Some(3), true)));
+    buffers.unassign_all();
+    assert_eq!(rt; buffers.first_dirty(), None);
+    buffers.mark_front();
+    let wanted = [
+        entry(0, None, false),
+        entry(3, None, false),
+        entry(2, None, false),
+        entry(1, None, false),
+    ];
+    assert_entries(&rt, &buffers, wanted);
+}
+
+#[test]
+fn devices_of_the_least_and_the_greatest_size(rt: HostRuntime) -> Result<(), Fail> {
+    let mut none = MemoryDevice::new(Vec::new(rt.alloc()), Vec::new(rt.alloc()));
+    let mut page = [1; BLOCK_SIZE];
+    assert_eq!(rt; none.count(), 0);
+    assert_eq!(rt; none.read(0, &mut page), Err(DeviceFault));
+    assert_eq!(rt; none.write(0, &page), Err(DeviceFault));
+    let blocks = vec![in rt.alloc(); [0; BLOCK_SIZE]; 65536]?;
+    assert_eq!(rt; blocks.len(), 65536);
+    let mut all = MemoryDevice::new(blocks, Vec::new(rt.alloc()));
+    assert_eq!(rt; all.count(), 65536);
+    assert_eq!(rt; all.write(65535, &page), Ok(()));
+    let mut copy = [0; BLOCK_SIZE];
+    assert_eq!(rt; all.read(65535, &mut copy), Ok(()));
+    assert!(rt; copy == page);
+    assert_eq!(rt; all.read(65534, &mut copy), Ok(()));
+    assert!(rt; copy == [0; BLOCK_SIZE]);
+    Ok(())
+}
+
+#[test]
+fn calls_fail_where_they_were_chosen_to(rt: HostRuntime) -> Result<(), Fail> {
+    let blocks = vec![in rt.alloc(); [1; BLOCK_SIZE], [2; BLOCK_SIZE]]?;
+    let coming = vec![in rt.alloc(); false, true, true, false]?;
+    assert_eq!(rt; blocks.len(), 2);
+    let mut device = MemoryDevice::new(blocks, coming);
+    let mut page = [0; BLOCK_SIZE];
+    assert_eq!(rt; device.read(1, &mut page), Ok(()));
+    assert!(rt; page == [2; BLOCK_SIZE]);
+    assert_eq!(rt; device.read(0, &mut page), Err(DeviceFault));
+    assert_eq!(rt; device.write(1, &[3; BLOCK_SIZE]), Err(DeviceFault));
+    assert!(rt; device.blocks() == [[1; BLOCK_SIZE], [2; BLOCK_SIZE]].as_slice());
+    assert_eq!(rt;
+        device.read(2, &mut page),
+        Err(DeviceFault),
+        "no such block"
+    );
+    assert_eq!(rt;
+        device.write(0, &[4; BLOCK_SIZE]),
+        Ok(()),
+        "no result is left"
+    );
+    assert!(rt; device.blocks() == [[4; BLOCK_SIZE], [2; BLOCK_SIZE]].as_slice());
+    Ok(())
+}
+
+/// Line 0 is 64 times `a`, line 15 is 64 times `p`.
+fn lettered() -> [u8; BLOCK_SIZE] {
+    let mut screen = [0; BLOCK_SIZE];
+    for n in 0..16u16 {
+        put_line(&mut screen, n, &[97 + n as u8; LINE_SIZE]);
+    }
+    screen
+}
+
+/// The first byte of each line, where all bytes of the line are that byte; else 0.
+fn letters(screen: &[u8; BLOCK_SIZE]) -> [u8; 16] {
+    let mut letters = [0; 16];
+    for n in 0..16u16 {
+        let line = screen_line(screen, n);
+        if line.iter().all(|&byte| byte == line[0]) {
+            letters[n as usize] = line[0];
+        }
+    }
+    letters
+}
+
+#[test]
+fn lines_of_a_screen(rt: HostRuntime) {
+    let mut screen = lettered();
+    assert_eq!(rt; letters(&screen), *b"abcdefghijklmnop");
+    insert_line(
+        &mut screen,
+        15,
+        b"----------------------------------------------------------------",
+    );
+    assert_eq!(rt;
+        letters(&screen),
+        *b"abcdefghijklmno-",
+        "the old last line alone is lost"
+    );
+    insert_line(&mut screen, 16, &[b'+'; LINE_SIZE]);
+    assert_eq!(rt; letters(&screen), *b"+abcdefghijklmno", "line 16 is line 0");
+    delete_line(&mut screen, 3);
+    assert_eq!(rt; letters(&screen), *b"+abdefghijklmno ");
+    put_line(&mut screen, 65535, &[b'*'; LINE_SIZE]);
+    assert_eq!(rt;
+        letters(&screen),
+        *b"+abdefghijklmno*",
+        "65,535 is 15 modulo 16"
+    );
+    wipe(&mut screen);
+    assert!(rt; screen == [b' '; BLOCK_SIZE]);
+}

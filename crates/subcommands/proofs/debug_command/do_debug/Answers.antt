@@ -1,0 +1,11 @@
+use Rattle.std.proofs.Common.{◌≡◌, ◌∙◌, ap, subst, rules}
+use Rattle.subcommands.specs.Statuses.{EndsTracedWith}
+use Rattle.image_loader.specs.Files.{Contents}
+use Rattle.inner_interpreter.specs.Worlds.{loaded}
+use Rattle.subcommands.proofs.debug_command.do_debug.Goals as goal
+
+pub returns-in-Ok-load_and_debug-clause-ran : goal.returns-in-Ok-load_and_debug-clause-ran
+returns-in-Ok-load_and_debug-clause-ran g c = λ other fine good kept file f typed u disk k sent s.
+    let same : c.in-Ok.image ≡ file = c.in-Ok.ensures.accepted file f in
+    subst (λ (i : Contents). EndsTracedWith c.end_with.result.status (loaded i typed disk sent c.args.limit) c.args.name.now (g.R.Input.unread c.load_and_debug.new.reader) (g.D.Device.disk c.load_and_debug.new.device) (g.W.Output.sent c.load_and_debug.new.writer) (g.T.Output.sent c.args.trace.now) (g.T.Output.sent c.load_and_debug.new.trace)) same
+    (record { stop = c.in-Ok-load_and_debug.stop; status_is = search rules; ends = c.in-Ok-load_and_debug.ensures.ran fine good kept typed u disk k sent s })

@@ -1,0 +1,270 @@
+//! The subcommands, over values.
+
+ghost use Rattle.std.specs.Prelude.{◌≡◌, ◌≢◌, ◌<◌, ◌⊎◌, ℕ, List, codes, decimal, false, true, Some, IsNone, IfOk, IfSome, MatchOption, string_bytes, ◌++◌};
+ghost use Rattle.std.specs.Io.KnownBytes.{Appends};
+ghost use Rattle.block_buffers.specs.Calls.{failures};
+ghost use Rattle.block_buffers.specs.Disks.{Disk};
+ghost use Rattle.subcommands.specs.Kernel.{filled, blocks_of};
+ghost use Rattle.subcommands.specs.Images.{IsBuiltFile};
+ghost use Rattle.subcommands.specs.Causes.{IsNoFile, image_cause};
+ghost use Rattle.subcommands.specs.Lines.{EndsRefused, EndsViewed, IsTold, Prints, PrintsFault, PrintsOutOfMemory, PrintsRefusal, fault_line, image_line, line};
+ghost use Rattle.subcommands.specs.Statuses.{status_of, EndsWith};
+ghost use Rattle.image_loader.specs.Files.{Contents, IsFile};
+ghost use Rattle.image_loader.specs.declared.fault.ImageFault.{ImageFault};
+ghost use Rattle.inner_interpreter.specs.Worlds.{loaded};
+
+use crate::causes::Reason;
+use crate::kernel::kernel_file;
+use crate::kernel_text::TEXT;
+use block_buffers::Device;
+use image_loader::{Image, ImageFault};
+use inner_interpreter::{Input, Output, Stop, run_file, send_all};
+use memory::{Memory, OutOfMemory};
+use metacompiler::{BuildFault, Cause, build};
+use see::view;
+use std::alloc::{AllocError, Global};
+
+/// How a subcommand ended: the program's status, and the bytes of the file that it makes, if it makes one.
+#[derive(Drop)]
+pub struct Ended {
+    pub status: u8,
+    pub file: Option<Vec<u8>>,
+}
+
+/// The end of a subcommand that makes no file.
+pub fn end_with(status: u8) -> Ended
+    ensures status { result.status ≡ status }
+    ensures file { IsNone result.file }
+{
+    Ended { status, file: None }
+}
+
+/// The end of a subcommand that makes a file.
+fn end_with_file(file: Vec<u8>) -> Ended
+    ensures status { result.status ≡ 0 }
+    ensures file { result.file ≡ Some file }
+{
+    Ended {
+        status: 0,
+        file: Some(file),
+    }
+}
+
+/// The status of a run that stopped.
+pub fn status_of(stop: Stop) -> u8
+    ensures { result ≡ status_of stop }
+{
+    match stop {
+        Stop::Bye | Stop::InputEnded => 0,
+        Stop::Fault(_) => 3,
+        Stop::Limit => 4,
+        Stop::InputFault | Stop::OutputFault | Stop::TraceFault => 5,
+    }
+}
+
+/// Prints a line, and ends with the status, or with 5 where the line can't be written.
+pub fn print<W: Output>(writer: &mut W, line: &[u8], status: u8) -> Ended
+    ensures printed { W.failed writer.new ≡ false → Prints line.now status result.status (W.sent writer.old) (W.sent writer.new) }
+    ensures cut { W.failed writer.old ≡ false → W.failed writer.new ≡ true → result.status ≡ 5 }
+    ensures status { 0 < status → 0 < result.status }
+    ensures file { IsNone result.file }
+{
+    if send_all(writer, line).is_err() || writer.flush().is_err() {
+        return end_with(5);
+    }
+    end_with(status)
+}
+
+/// Prints a line, and answers whether all of it was written.
+fn is_printed<W: Output>(writer: &mut W, line: &[u8]) -> bool
+    ensures { W.failed writer.new ≡ false → (result ≡ true) × Appends (W.sent writer.old) (W.sent writer.new) line.now }
+{
+    print(writer, line, 0).status == 0
+}
+
+/// Prints that memory ran out.
+pub fn print_out_of_memory<W: Output>(writer: &mut W) -> Ended
+    ensures printed { W.failed writer.new ≡ false → PrintsOutOfMemory result.status (W.sent writer.old) (W.sent writer.new) }
+    ensures cut { W.failed writer.old ≡ false → W.failed writer.new ≡ true → result.status ≡ 5 }
+    ensures status { 0 < result.status }
+    ensures file { IsNone result.file }
+{
+    print(writer, b"out of memory\n", 1)
+}
+
+/// The line that tells why something is refused.
+fn refusal(alloc: Global, what: &str, cause: &str) -> Result<String, AllocError>
+    ensures { IfOk result (λ s. string_bytes s ≡ what.now ++ (codes ": " ++ line cause.now)) }
+{
+    format!(in alloc; "{what}: {cause}\n")
+}
+
+/// Prints why something is refused: `WHAT: CAUSE`.
+pub fn refuse<C: Reason + Drop, W: Output>(
+    alloc: Global,
+    what: &str,
+    why: C,
+    writer: &mut W,
+) -> Ended
+    ensures printed { W.failed writer.new ≡ false → PrintsRefusal what.now (C.spelling why) result.status (W.sent writer.old) (W.sent writer.new) }
+    ensures cut { W.failed writer.old ≡ false → W.failed writer.new ≡ true → result.status ≡ 5 }
+    ensures status { 0 < result.status }
+    ensures file { IsNone result.file }
+{
+    let Ok(cause) = why.spelled(alloc) else {
+        return print_out_of_memory(writer);
+    };
+    match refusal(alloc, what, cause.as_str()) {
+        Ok(line) => print(writer, line.as_str().as_bytes(), 1),
+        Err(_) => print_out_of_memory(writer),
+    }
+}
+
+/// Prints why bytes are no image.
+pub fn refuse_image<W: Output>(alloc: Global, fault: ImageFault, writer: &mut W) -> Ended
+    ensures printed { W.failed writer.new ≡ false → PrintsRefusal (codes "image") (image_cause fault) result.status (W.sent writer.old) (W.sent writer.new) }
+    ensures out_of_memory { W.failed writer.new ≡ false → fault ≡ ImageFault.OutOfMemory → PrintsOutOfMemory result.status (W.sent writer.old) (W.sent writer.new) }
+    ensures cut { W.failed writer.old ≡ false → W.failed writer.new ≡ true → result.status ≡ 5 }
+    ensures status { 0 < result.status }
+    ensures file { IsNone result.file }
+{
+    if fault == ImageFault::OutOfMemory {
+        return print_out_of_memory(writer);
+    }
+    refuse(alloc, "image", fault, writer)
+}
+
+/// Makes the block file with the kernel's sources, of 64 blocks. Status 0; without a file 1, where memory ran out, or 5,
+/// where that can't be printed.
+pub fn do_kernel<W: Output>(alloc: Global, writer: &mut W) -> Ended
+    ensures { MatchOption result.file (0 < result.status) (λ file. (result.status ≡ 0) × (file.items ≡ filled 65536 (blocks_of TEXT.now))) }
+{
+    match kernel_file(alloc) {
+        Ok(file) => end_with_file(file),
+        Err(_) => print_out_of_memory(writer),
+    }
+}
+
+/// The line that tells where and why a source is refused.
+fn fault_line(alloc: Global, screen: u16, offset: u16, cause: &str) -> Result<String, AllocError>
+    ensures { IfOk result (λ s. string_bytes s ≡ fault_line screen offset cause.now) }
+{
+    format!(in alloc; "screen {screen} offset {offset}: {cause}\n")
+}
+
+/// Prints where and why a source is refused.
+fn refuse_source<W: Output>(alloc: Global, fault: BuildFault, writer: &mut W) -> Ended
+    ensures printed { W.failed writer.new ≡ false → PrintsFault fault.screen fault.offset fault.cause result.status (W.sent writer.old) (W.sent writer.new) }
+    ensures status { 0 < result.status }
+    ensures file { IsNone result.file }
+{
+    if fault.cause == Cause::OutOfMemory {
+        return print_out_of_memory(writer);
+    }
+    let Ok(cause) = fault.cause.spelled(alloc) else {
+        return print_out_of_memory(writer);
+    };
+    match fault_line(alloc, fault.screen, fault.offset, cause.as_str()) {
+        Ok(line) => print(writer, line.as_str().as_bytes(), 1),
+        Err(_) => print_out_of_memory(writer),
+    }
+}
+
+/// The line that tells of an image which was built.
+fn report(alloc: Global, image: &Image) -> Result<String, AllocError>
+    ensures { IfOk result (λ s. string_bytes s ≡ image_line image.now) }
+{
+    let size = image.bytes().len();
+    let entry = image.entry();
+    format!(in alloc; "size {size} entry {entry}\n")
+}
+
+/// Builds the source in the screens from `from` to `to` to an image, and prints `size S entry E`. Status 0, with the bytes of
+/// the image's file. Without a file 1: the source is refused (`screen S offset O: CAUSE` is printed) or memory ran out;
+/// 5: a line can't be printed.
+pub fn do_build<W: Output, D: Device>(
+    alloc: Global,
+    device: &mut D,
+    from: u16,
+    to: u16,
+    writer: &mut W,
+) -> Ended
+    ensures status { MatchOption result.file (0 < result.status) (λ _. result.status ≡ 0) }
+    ensures file { (d : Disk) → D.disk device.old ≡ Some d → IfSome result.file (λ file. IsBuiltFile file.items d from to (record { disk = D.disk device.new; before = failures (D.calls device.old); after = failures (D.calls device.new) })) }
+    // Where there is a file, its line is printed; where there is none, it is printed why.
+    ensures told { W.failed writer.new ≡ false → IfSome result.file (λ file. IsTold file.items (W.sent writer.old) (W.sent writer.new)) }
+    ensures refused { W.failed writer.new ≡ false → IsNone result.file → (d : Disk) → D.disk device.old ≡ Some d → EndsRefused d from to (record { disk = D.disk device.new; before = failures (D.calls device.old); after = failures (D.calls device.new) }) result.status (W.sent writer.old) (W.sent writer.new) ⊎ PrintsOutOfMemory result.status (W.sent writer.old) (W.sent writer.new) }
+{
+    let image = match build(alloc, device, from, to) {
+        Ok(image) => image,
+        Err(fault) => return refuse_source(alloc, fault, writer),
+    };
+    let Ok(file) = image_loader::write(alloc, &image) else {
+        return print_out_of_memory(writer);
+    };
+    let Ok(line) = report(alloc, &image) else {
+        return print_out_of_memory(writer);
+    };
+    if is_printed(writer, line.as_str().as_bytes()) {
+        return end_with_file(file);
+    }
+    end_with(5)
+}
+
+/// Prints a number on a line.
+fn print_number<W: Output>(alloc: Global, number: u16, writer: &mut W) -> Ended
+    ensures printed { W.failed writer.new ≡ false → Prints (line (decimal number)) 0 result.status (W.sent writer.old) (W.sent writer.new) ⊎ PrintsOutOfMemory result.status (W.sent writer.old) (W.sent writer.new) }
+    ensures cut { W.failed writer.old ≡ false → W.failed writer.new ≡ true → result.status ≡ 5 }
+    ensures file { IsNone result.file }
+{
+    match format!(in alloc; "{number}\n") {
+        Ok(line) => print(writer, line.as_str().as_bytes(), 0),
+        Err(_) => print_out_of_memory(writer),
+    }
+}
+
+/// Prints the number of the screen in which an image's word was made. Status 0; 1: the bytes are no image (`image: CAUSE` is
+/// printed), the name isn't found (`NAME: CAUSE`) or memory ran out; 5: the line can't be printed.
+pub fn do_view<W: Output>(alloc: Global, image: &[u8], name: &str, writer: &mut W) -> Ended
+    // Where the bytes are an image's file, the word's screen is printed, or why there is none.
+    ensures viewed { W.failed writer.new ≡ false → (file : Contents) → IsFile image.now file → EndsViewed file name.now result.status (W.sent writer.old) (W.sent writer.new) }
+    // Where they are none, it is printed why.
+    ensures refused { W.failed writer.new ≡ false → (fault : ImageFault) → IsNoFile image.now fault → PrintsRefusal (codes "image") (image_cause fault) result.status (W.sent writer.old) (W.sent writer.new) }
+    ensures cut { W.failed writer.old ≡ false → W.failed writer.new ≡ true → result.status ≡ 5 }
+    ensures file { IsNone result.file }
+{
+    let image = match image_loader::read(alloc, image) {
+        Ok(image) => image,
+        Err(fault) => return refuse_image(alloc, fault, writer),
+    };
+    let Ok(memory) = Memory::with_front(alloc, image.bytes()) else {
+        return print_out_of_memory(writer);
+    };
+    match view(&memory, name.as_bytes()) {
+        Ok(screen) => print_number(alloc, screen, writer),
+        Err(why) => refuse(alloc, name, why, writer),
+    }
+}
+
+/// Loads an image and runs it for at most `limit` ticks. Status 0: BYE or the end of input; 1: the bytes are no
+/// image (`image: CAUSE` is printed) or memory ran out; 3: a fault; 4: the limit; 5: an end failed.
+pub fn do_run<R: Input, W: Output, D: Device>(
+    alloc: Global,
+    image: &[u8],
+    device: &mut D,
+    limit: u64,
+    reader: &mut R,
+    writer: &mut W,
+) -> Ended
+    // Where the bytes are an image's file, memory is found and no end fails, the status, the output, the unread bytes and
+    // the blocks are those of the written rounds.
+    ensures ran { result.status ≢ 1 → R.failed reader.new ≡ false → W.failed writer.new ≡ false → (file : Contents) → IsFile image.now file → (typed : List ℕ) → R.unread reader.old ≡ Some typed → (disk : Disk) → D.disk device.old ≡ Some disk → (sent : List ℕ) → W.sent writer.old ≡ Some sent → EndsWith result.status (loaded file typed disk sent limit) (R.unread reader.new) (D.disk device.new) (W.sent writer.new) }
+    // Where they are none, that is printed.
+    ensures refused { W.failed writer.new ≡ false → (fault : ImageFault) → IsNoFile image.now fault → PrintsRefusal (codes "image") (image_cause fault) result.status (W.sent writer.old) (W.sent writer.new) }
+    ensures file { IsNone result.file }
+{
+    match run_file(alloc, image, reader, writer, device, limit) {
+        Ok(stop) => end_with(status_of(stop)),
+        Err(fault) => refuse_image(alloc, fault, writer),
+    }
+}

@@ -1,0 +1,94 @@
+//! The subcommand that runs an image and traces one word.
+
+ghost use Rattle.std.specs.Prelude.{◌≡◌, ◌≢◌, ◌⊎◌, ℕ, List, codes, false, Some, Err, IsNone, IsOk, IfOk, IfErr, OnErr};
+ghost use Rattle.block_buffers.specs.Disks.{Disk};
+ghost use Rattle.debug_tracer.specs.Debugged.{EndsDebugged, debugged};
+ghost use Rattle.debug_tracer.specs.declared.fault.DebugFault.{DebugFault};
+ghost use Rattle.subcommands.specs.Causes.{IsNoFile, debug_cause, image_cause};
+ghost use Rattle.subcommands.specs.Lines.{PrintsRefusal, PrintsUntraced, memory_of};
+ghost use Rattle.subcommands.specs.Statuses.{EndsTracedWith};
+ghost use Rattle.image_loader.specs.Files.{Contents, IsFile};
+ghost use Rattle.image_loader.specs.declared.fault.ImageFault.{ImageFault};
+ghost use Rattle.inner_interpreter.specs.Worlds.{loaded};
+
+use crate::commands::{Ended, end_with, print_out_of_memory, refuse, refuse_image, status_of};
+use block_buffers::Device;
+use debug_tracer::{DebugFault, debug};
+use image_loader::Image;
+use inner_interpreter::{Input, Machine, Output, Stop};
+use std::alloc::Global;
+
+/// Prints why a word isn't traced. Its name is printed as it was typed.
+fn refuse_debug<W: Output>(alloc: Global, name: &str, why: DebugFault, writer: &mut W) -> Ended
+    ensures printed { W.failed writer.new ≡ false → PrintsUntraced name.now why result.status (W.sent writer.old) (W.sent writer.new) }
+    ensures status { W.failed writer.new ≡ false → result.status ≡ 1 }
+    ensures file { IsNone result.file }
+{
+    if why == DebugFault::OutOfMemory {
+        return print_out_of_memory(writer);
+    }
+    refuse(alloc, name, why, writer)
+}
+
+/// Loads an image and runs it, with a trace of the word that `name` means.
+fn load_and_debug<R: Input, W: Output, D: Device, T: Output>(
+    alloc: Global,
+    image: &Image,
+    name: &str,
+    reader: &mut R,
+    writer: &mut W,
+    device: &mut D,
+    trace: &mut T,
+    limit: u64,
+) -> Result<Stop, DebugFault>
+    ensures ran { IfOk result (λ stop. R.failed reader.new ≡ false → W.failed writer.new ≡ false → T.failed trace.new ≡ false → (typed : List ℕ) → R.unread reader.old ≡ Some typed → (disk : Disk) → D.disk device.old ≡ Some disk → (sent : List ℕ) → W.sent writer.old ≡ Some sent → EndsDebugged (loaded image.now typed disk sent limit) name.now (R.unread reader.new) (D.disk device.new) (W.sent writer.new) (T.sent trace.old) (T.sent trace.new) stop) }
+    ensures found { IfOk result (λ _. IsOk (debugged (memory_of image.now) name.now)) }
+    ensures refused { IfErr result (λ fault. (debugged (memory_of image.now) name.now ≡ Err fault) ⊎ (fault ≡ DebugFault.OutOfMemory)) }
+    ensures writer { OnErr result (writer.new ≡ writer.old) }
+{
+    let Ok(mut machine) = Machine::load(alloc, image, device.count()) else {
+        return Err(DebugFault::OutOfMemory);
+    };
+    debug(
+        alloc,
+        &mut machine,
+        name.as_bytes(),
+        reader,
+        writer,
+        device,
+        trace,
+        limit,
+    )
+}
+
+/// Loads an image and runs it as `do_run` does, and writes a line into `trace` before each tick of the thread of the word
+/// that `name` means. Statuses are those of `do_run`; 1 also where the word isn't traced (`NAME: CAUSE` is printed), 5 also
+/// where a line can't be written into `trace`.
+pub fn do_debug<R: Input, W: Output, D: Device, T: Output>(
+    alloc: Global,
+    image: &[u8],
+    name: &str,
+    device: &mut D,
+    limit: u64,
+    reader: &mut R,
+    writer: &mut W,
+    trace: &mut T,
+) -> Ended
+    // Where the bytes are an image's file, the word can be traced, memory is found and no end fails, the status, the output,
+    // the unread bytes and the blocks are those of the written rounds, and the trace is that of these rounds.
+    ensures ran { result.status ≢ 1 → R.failed reader.new ≡ false → W.failed writer.new ≡ false → T.failed trace.new ≡ false → (file : Contents) → IsFile image.now file → (typed : List ℕ) → R.unread reader.old ≡ Some typed → (disk : Disk) → D.disk device.old ≡ Some disk → (sent : List ℕ) → W.sent writer.old ≡ Some sent → EndsTracedWith result.status (loaded file typed disk sent limit) name.now (R.unread reader.new) (D.disk device.new) (W.sent writer.new) (T.sent trace.old) (T.sent trace.new) }
+    // Where the word can't be traced, it is printed why.
+    ensures untraced { W.failed writer.new ≡ false → (file : Contents) → IsFile image.now file → (why : DebugFault) → debugged (memory_of file) name.now ≡ Err why → PrintsRefusal name.now (debug_cause why) result.status (W.sent writer.old) (W.sent writer.new) }
+    // Where the bytes are no image's file, that is printed.
+    ensures refused { W.failed writer.new ≡ false → (fault : ImageFault) → IsNoFile image.now fault → PrintsRefusal (codes "image") (image_cause fault) result.status (W.sent writer.old) (W.sent writer.new) }
+    ensures file { IsNone result.file }
+{
+    let image = match image_loader::read(alloc, image) {
+        Ok(image) => image,
+        Err(fault) => return refuse_image(alloc, fault, writer),
+    };
+    match load_and_debug(alloc, &image, name, reader, writer, device, trace, limit) {
+        Ok(stop) => end_with(status_of(stop)),
+        Err(fault) => refuse_debug(alloc, name, fault, writer),
+    }
+}

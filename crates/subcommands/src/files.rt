@@ -1,0 +1,72 @@
+//! Opening files.
+
+ghost use Rattle.std.specs.Prelude.{IfOk};
+ghost use Rattle.subcommands.specs.Streams.{IsApart};
+
+use std::alloc::AllocError;
+use std::fs::{File, OpenOptions};
+use std::io;
+use std::io::{ErrorKind, Read, Write};
+use std::os::fd::{AsRawFd, RawFd};
+
+/// The greatest number that a standard stream has: standard error's.
+const LAST_STREAM: RawFd = 2;
+
+const MOST_BYTES: usize = 65536;
+
+/// Opens a file that stands in for no standard stream. Where one of these is closed, the system gives its number to the
+/// file that is opened next; such a file is moved to a number of its own, so that the stream stays closed, and reading
+/// or writing it fails. An error: the file can't be opened, or can't be moved.
+pub fn open_apart(rt: &HostRuntime, options: &OpenOptions, name: &str) -> io::Result<File>
+    ensures { IfOk result IsApart }
+{
+    let file = options.open(rt, name)?;
+    if file.as_raw_fd() > LAST_STREAM {
+        return Ok(file);
+    }
+    let moved = file.try_clone()?;
+    if moved.as_raw_fd() > LAST_STREAM {
+        return Ok(moved);
+    }
+    Err(ErrorKind::Other.into())
+}
+
+/// Reads at most 65,536 bytes of a file. `None`: it can't be opened or read.
+pub fn read_image(rt: &HostRuntime, name: &str) -> Result<Option<Vec<u8>>, AllocError> {
+    let Ok(mut file) = open_apart(rt, OpenOptions::new().read(true), name) else {
+        return Ok(None);
+    };
+    let mut bytes = vec![in rt.alloc(); 0; MOST_BYTES]?;
+    let mut length = 0;
+    for _ in 0..u64::MAX {
+        if length >= bytes.len() {
+            break;
+        }
+        match file.read(&mut bytes.as_mut_slice()[length..]) {
+            Ok(0) => break,
+            Ok(count) => length += count,
+            Err(error) => {
+                if error.kind() != ErrorKind::Interrupted {
+                    return Ok(None);
+                }
+            }
+        }
+    }
+    bytes.truncate(length);
+    Ok(Some(bytes))
+}
+
+/// Makes a file anew. An error: it can't be opened.
+pub fn create_file(rt: &HostRuntime, name: &str) -> io::Result<File> {
+    open_apart(
+        rt,
+        OpenOptions::new().write(true).create(true).truncate(true),
+        name,
+    )
+}
+
+/// Makes a file anew, with these bytes. An error: it can't be opened, or can't be written whole.
+pub fn write_file(rt: &HostRuntime, name: &str, bytes: &[u8]) -> io::Result<()> {
+    let mut file = create_file(rt, name)?;
+    file.write_all(bytes)
+}

@@ -1,0 +1,19 @@
+//! What each subcommand does, prints and ends with, and the files that it is given.
+#![tactic(auto)]
+
+mod causes;
+mod commands;
+mod debug_command;
+mod file_devices;
+mod files;
+mod kernel;
+mod kernel_text;
+pub mod laws;
+mod see_command;
+
+pub use commands::{Ended, do_build, do_kernel, do_run, do_view};
+pub use debug_command::do_debug;
+pub use file_devices::{FileDevice, open_device, open_to_read};
+pub use files::{create_file, read_image, write_file};
+pub use kernel_text::TEXT;
+pub use see_command::do_see;
