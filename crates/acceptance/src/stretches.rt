@@ -8,10 +8,11 @@ use std::alloc::Global;
 use std::process::Abort;
 use std::test::Fail;
 
-/// The codes of the rows that are done in place, and of two that aren't (ABS and (+LOOP)).
-const CODES: [u8; 43] = [
-    1, 2, 3, 5, 6, 7, 8, 9, 10, 11, 13, 20, 21, 22, 32, 33, 34, 35, 36, 41, 42, 48, 49, 56, 57, 58,
-    59, 60, 63, 66, 67, 68, 70, 72, 73, 74, 75, 96, 97, 98, 99, 100, 106,
+/// The codes of the rows that are done in place, and of two that aren't (2/ and ABS).
+const CODES: [u8; 53] = [
+    1, 2, 3, 5, 6, 7, 8, 9, 10, 11, 12, 13, 14, 20, 21, 22, 32, 33, 34, 35, 36, 39, 41, 42, 48, 49,
+    50, 56, 57, 58, 59, 60, 61, 62, 63, 66, 67, 68, 69, 70, 71, 72, 73, 74, 75, 76, 77, 96, 97, 98,
+    99, 100, 106,
 ];
 
 /// Depths at both ends of a stack.
@@ -103,18 +104,33 @@ fn thread(alloc: Global, code: u8, deep: usize, far: usize, cell: u16) -> Result
     Ok(bytes)
 }
 
-/// Each row in place, at both ends of both stacks, over cells that are addresses at the end of memory.
+/// The row does the same in a stretch as in single ticks, at both ends of both stacks, over such cells on the data stack.
+fn assert_row(rt: &(impl Abort + Alloc<A = Global>), code: u8, cell: u16) -> Result<(), Fail> {
+    for deep in DEPTHS_TRIED {
+        for far in [0, 1, 2, 3, 4, 255, 256] {
+            let bytes = thread(rt.alloc(), code, deep, far, cell)?;
+            let mut stretched = machine(rt, 264, bytes.as_slice(), &[], 0)?;
+            let mut single = machine(rt, 264, bytes.as_slice(), &[], 0)?;
+            assert_stretch(rt, &mut stretched, &mut single, 2000);
+        }
+    }
+    Ok(())
+}
+
+/// Each row in place, over cells that are addresses at the end of memory (and -1).
 #[test]
 fn rows_at_both_ends_of_both_stacks(rt: HostRuntime) -> Result<(), Fail> {
     for code in CODES {
-        for deep in DEPTHS_TRIED {
-            for far in [0, 1, 2, 255, 256] {
-                let bytes = thread(rt.alloc(), code, deep, far, 65535)?;
-                let mut stretched = machine(&rt, 264, bytes.as_slice(), &[], 0)?;
-                let mut single = machine(&rt, 264, bytes.as_slice(), &[], 0)?;
-                assert_stretch(&rt, &mut stretched, &mut single, 2000);
-            }
-        }
+        assert_row(&rt, code, 65535)?;
+    }
+    Ok(())
+}
+
+/// The rows that do something else over 0: ?BRANCH, (+LOOP), ?DUP and those that compare with 0.
+#[test]
+fn rows_over_zero(rt: HostRuntime) -> Result<(), Fail> {
+    for code in [8, 11, 39, 75, 76, 77] {
+        assert_row(&rt, code, 0)?;
     }
     Ok(())
 }
