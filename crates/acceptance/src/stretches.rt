@@ -104,14 +104,29 @@ fn thread(alloc: Global, code: u8, deep: usize, far: usize, cell: u16) -> Result
     Ok(bytes)
 }
 
-/// The row does the same in a stretch as in single ticks, at both ends of both stacks, over such cells on the data stack.
+/// The row does the same in a stretch as in single ticks, over so many such cells on the data stack and so many on the return
+/// stack.
+fn assert_row_at(
+    rt: &(impl Abort + Alloc<A = Global>),
+    code: u8,
+    (deep, far): (usize, usize),
+    cell: u16,
+) -> Result<(), Fail> {
+    let bytes = thread(rt.alloc(), code, deep, far, cell)?;
+    let mut stretched = machine(rt, 264, bytes.as_slice(), &[], 0)?;
+    let mut single = machine(rt, 264, bytes.as_slice(), &[], 0)?;
+    assert_stretch(rt, &mut stretched, &mut single, 2000);
+    Ok(())
+}
+
+/// The same at both ends of both stacks.
 fn assert_row(rt: &(impl Abort + Alloc<A = Global>), code: u8, cell: u16) -> Result<(), Fail> {
     for deep in DEPTHS_TRIED {
-        for far in [0, 1, 2, 3, 4, 255, 256] {
-            let bytes = thread(rt.alloc(), code, deep, far, cell)?;
-            let mut stretched = machine(rt, 264, bytes.as_slice(), &[], 0)?;
-            let mut single = machine(rt, 264, bytes.as_slice(), &[], 0)?;
-            assert_stretch(rt, &mut stretched, &mut single, 2000);
+        assert_row_at(rt, code, (deep, 3), cell)?;
+    }
+    for deep in [0, 2, 256] {
+        for far in [0, 1, 2, 4, 255, 256] {
+            assert_row_at(rt, code, (deep, far), cell)?;
         }
     }
     Ok(())
