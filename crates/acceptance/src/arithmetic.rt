@@ -4,6 +4,7 @@ use crate::arithmetic_cases::{
     COMPARISONS, DIVISIONS, DOUBLE_COMPARISONS, DOUBLE_EXTREMES, DOUBLE_SUMS, EXTREMES, LOOPS,
     SCALED_DIVISIONS, SINGLE_CELLS, SINGLE_DOUBLES, SUMS, UNSIGNED_DIVISIONS,
 };
+use crate::assertions::assert_equal;
 use crate::fixtures::{assert_cells, assert_row, fill, parts};
 use plain_rows::parts::{Outcome, Parts};
 use primitives::row;
@@ -107,11 +108,11 @@ fn assert_loops(
     assert_row(rt, parts, number, taken, Outcome::Done, &[]);
     match wanted {
         Some(index) => {
-            assert_eq!(rt; parts.ip, 700, "{loops:?} goes on");
+            assert_equal(rt, (loops, parts.ip), (loops, 700));
             assert_cells(rt, &parts.returns, &[7, leave, limit, index]);
         }
         None => {
-            assert_eq!(rt; parts.ip, 302, "{loops:?} ends");
+            assert_equal(rt, (loops, parts.ip), (loops, 302));
             assert_cells(rt, &parts.returns, &[7]);
         }
     }

@@ -1,5 +1,6 @@
 //! Images that need blocks: what they ask, and the buffers that they leave.
 
+use crate::assertions::assert_equal;
 use crate::fixtures::{
     Course, assert_cells, assert_entries, assert_row, assert_ticks, device, follow, machine, none,
     output_over, parts,
@@ -55,7 +56,7 @@ const FIVE_ENTRIES: [(usize, Option<u16>, bool); 4] = [
 ];
 
 fn assert_requests(rt: &impl Abort, course: &Course, wanted: &[Request]) {
-    assert_eq!(rt; course.requests.as_slice(), wanted);
+    assert_equal(rt, course.requests.as_slice(), wanted);
 }
 
 #[test]
@@ -63,8 +64,8 @@ fn an_updated_victim_is_written_first(rt: HostRuntime) -> Result<(), Fail> {
     let mut machine = five(&rt, 6)?;
     let course = follow(rt.alloc(), &mut machine, &mut device(&rt, 6, &[])?)?;
     assert_requests(&rt, &course, &FIVE_REQUESTS);
-    assert_eq!(rt; course.ticks, 26);
-    assert_eq!(rt; machine.halted(), Some(Cause::Bye));
+    assert_equal(&rt, course.ticks, 26);
+    assert_equal(&rt, machine.halted(), Some(Cause::Bye));
     assert_cells(&rt, machine.values(), &[61440]);
     assert_entries(&rt, machine.buffers(), FIVE_ENTRIES);
     Ok(())
@@ -117,8 +118,8 @@ fn stamps_that_run_out(rt: HostRuntime) -> Result<(), Fail> {
             parts.pending = Some(token);
         }
     }
-    assert_eq!(rt; outcome, Outcome::Halt);
-    assert_eq!(rt; requests.as_slice(), FIVE_REQUESTS.as_slice());
+    assert_equal(&rt, outcome, Outcome::Halt);
+    assert_equal(&rt, requests.as_slice(), FIVE_REQUESTS.as_slice());
     assert_cells(&rt, &parts.values, &[61440]);
     assert_entries(&rt, &parts.buffers, FIVE_ENTRIES);
     Ok(())
@@ -131,7 +132,7 @@ fn a_run_over_blocks(rt: HostRuntime) -> Result<(), Fail> {
         let mut machine = five(&rt, 6)?;
         let mut device = device(&rt, 6, &[])?;
         let (stopped, written) = output_over(&rt, &mut machine, b"", &mut device, limit)?;
-        assert_eq!(rt; stopped, stop);
+        assert_equal(&rt, stopped, stop);
         assert!(rt; written.is_empty());
         assert_cells(&rt, machine.values(), &[61440]);
     }
@@ -158,7 +159,7 @@ fn each_request_fails(rt: HostRuntime) -> Result<(), Fail> {
         let mut machine = five(&rt, 6)?;
         let mut device = device(&rt, 6, &[call])?;
         let (stop, _) = output_over(&rt, &mut machine, b"", &mut device, 1000)?;
-        assert_eq!(rt; stop, Stop::Fault(fault), "call {call} fails");
+        assert_equal(&rt, (call, stop), (call, Stop::Fault(fault)));
         assert_cells(&rt, machine.values(), &[fault]);
         assert_entries(&rt, machine.buffers(), entries);
     }
@@ -183,7 +184,7 @@ fn flush_after_a_failed_write(rt: HostRuntime) -> Result<(), Fail> {
         Request::Write { block: 4 },
     ];
     assert_requests(&rt, &course, &wanted);
-    assert_eq!(rt; machine.halted(), Some(Cause::Bye));
+    assert_equal(&rt, machine.halted(), Some(Cause::Bye));
     assert_cells(&rt, machine.values(), &[10]);
     let entries = [
         (3, None, false),
@@ -202,7 +203,7 @@ fn a_block_past_the_end(rt: HostRuntime) -> Result<(), Fail> {
     let course = follow(rt.alloc(), &mut machine, &mut device(&rt, 3, &[])?)?;
     let wanted = [Request::Read { block: 1 }, Request::Read { block: 2 }];
     assert_requests(&rt, &course, &wanted);
-    assert_eq!(rt; machine.halted(), Some(Cause::Fault(7)));
+    assert_equal(&rt, machine.halted(), Some(Cause::Fault(7)));
     assert_cells(&rt, machine.values(), &[7]);
     Ok(())
 }
@@ -215,7 +216,7 @@ fn no_block_at_all(rt: HostRuntime) -> Result<(), Fail> {
     }
     let mut machine = five(&rt, 0)?;
     let (stop, _) = output_over(&rt, &mut machine, b"", &mut none(rt.alloc()), 1000)?;
-    assert_eq!(rt; stop, Stop::Fault(7));
+    assert_equal(&rt, stop, Stop::Fault(7));
     Ok(())
 }
 
@@ -228,14 +229,14 @@ const LAST_BLOCK: [u8; 16] = [
 #[test]
 fn the_last_of_all_blocks(rt: HostRuntime) -> Result<(), Fail> {
     let mut device = device(&rt, 65536, &[])?;
-    assert_eq!(rt; device.write(65535, &[0xA5; 1024]), Ok(()));
+    assert_equal(&rt, device.write(65535, &[0xA5; 1024]), Ok(()));
     let mut machine = machine(&rt, 262, &LAST_BLOCK, &[], 65536)?;
     let (stop, _) = output_over(&rt, &mut machine, b"", &mut device, 1000)?;
-    assert_eq!(rt; stop, Stop::Bye);
+    assert_equal(&rt, stop, Stop::Bye);
     assert_cells(&rt, machine.values(), &[61440]);
     assert!(rt; machine.memory().page(0) == &[0xA5; 1024]);
-    assert_eq!(rt; machine.memory().byte(61439), 0);
-    assert_eq!(rt; machine.memory().byte(62464), 0);
+    assert_equal(&rt, machine.memory().byte(61439), 0);
+    assert_equal(&rt, machine.memory().byte(62464), 0);
     Ok(())
 }
 
@@ -251,7 +252,7 @@ fn a_changed_block_is_written(rt: HostRuntime) -> Result<(), Fail> {
     let mut machine = machine(&rt, 268, &CHANGES, &[], 2)?;
     let mut device = device(&rt, 2, &[])?;
     let (stop, _) = output_over(&rt, &mut machine, b"", &mut device, 1000)?;
-    assert_eq!(rt; stop, Stop::Bye);
+    assert_equal(&rt, stop, Stop::Bye);
     let mut wanted = [0; 1024];
     wanted[0] = 65;
     assert!(rt; device.blocks() == [[0; 1024], wanted].as_slice());
@@ -273,14 +274,18 @@ fn the_page_that_is_asked(rt: HostRuntime) -> Result<(), Fail> {
     let read = Event::Ask(Request::Read { block: 1 });
     assert_ticks(&rt, &mut machine, 100, 4, Shown::Nothing, read);
     assert!(rt; machine.asked_page().is_none());
-    assert_eq!(rt; machine.answer(Answer::WriteOk), Err(Refused::NotAsked));
+    assert_equal(&rt, machine.answer(Answer::WriteOk), Err(Refused::NotAsked));
     machine.answer(Answer::ReadOk(&[7; 1024]))?;
     let write = Event::Ask(Request::Write { block: 1 });
     assert_ticks(&rt, &mut machine, 100, 4, Shown::Nothing, write);
     let mut wanted = [7; 1024];
     wanted[0] = 65;
     assert!(rt; machine.asked_page().is_some_and(|page| page == &wanted));
-    assert_eq!(rt; machine.answer(Answer::ReadFault), Err(Refused::NotAsked));
+    assert_equal(
+        &rt,
+        machine.answer(Answer::ReadFault),
+        Err(Refused::NotAsked),
+    );
     assert!(rt; machine.asked_page().is_some_and(|page| page == &wanted));
     machine.answer(Answer::WriteOk)?;
     assert!(rt; machine.asked_page().is_none());
@@ -313,14 +318,14 @@ fn a_buffer_without_its_bytes(rt: HostRuntime) -> Result<(), Fail> {
     let mut parts = parts(rt.alloc())?;
     parts.block_count = 6;
     parts.memory.set_byte(61440, 7);
-    assert_eq!(rt; row(&mut parts, 114, 0), Outcome::Done);
+    assert_equal(&rt, row(&mut parts, 114, 0), Outcome::Done);
     assert_row(&rt, &mut parts, 113, &[3], Outcome::Done, &[61440]);
-    assert_eq!(rt; parts.memory.byte(61440), 7);
-    assert_eq!(rt; row(&mut parts, 114, 0), Outcome::Done);
+    assert_equal(&rt, parts.memory.byte(61440), 7);
+    assert_equal(&rt, row(&mut parts, 114, 0), Outcome::Done);
     let (free1, free2, free3) = ((1, None, false), (2, None, false), (3, None, false));
     let entries = [(0, Some(3), true), free3, free2, free1];
     assert_entries(&rt, &parts.buffers, entries);
-    assert_eq!(rt; row(&mut parts, 117, 0), Outcome::Done);
+    assert_equal(&rt, row(&mut parts, 117, 0), Outcome::Done);
     let entries = [(0, None, false), free3, free2, free1];
     assert_entries(&rt, &parts.buffers, entries);
     Ok(())
@@ -340,7 +345,7 @@ fn a_buffer_over_an_updated_victim(rt: HostRuntime) -> Result<(), Fail> {
             Outcome::Done,
             &[60416 + 1024 * block],
         );
-        assert_eq!(rt; row(&mut parts, 114, 0), Outcome::Done);
+        assert_equal(&rt, row(&mut parts, 114, 0), Outcome::Done);
     }
     let write = Outcome::Ask(Request::Write { block: 1 });
     assert_row(&rt, &mut parts, 113, &[5], write, &[5]);

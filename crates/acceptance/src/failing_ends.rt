@@ -2,6 +2,7 @@
 
 ghost use Rattle.std.specs.Prelude.{◌≡◌, false, None};
 
+use crate::assertions::assert_equal;
 use crate::fixtures::{machine, none};
 use inner_interpreter::{Cause, EndFault, Input, Output, Reading, Stop, Writing, run};
 use plain_rows::parts::Span;
@@ -111,9 +112,9 @@ fn a_writer_that_fails(rt: HostRuntime) -> Result<(), Fail> {
             &mut none,
             1000,
         )?;
-        assert_eq!(rt; stop, Stop::OutputFault, "room for {room}");
-        assert_eq!(rt; writer.taken.as_slice(), wanted);
-        assert_eq!(rt; machine.halted(), halted);
+        assert_equal(&rt, (room, stop), (room, Stop::OutputFault));
+        assert_equal(&rt, writer.taken.as_slice(), wanted);
+        assert_equal(&rt, machine.halted(), halted);
     }
     Ok(())
 }
@@ -138,12 +139,12 @@ fn a_reader_that_fails_within_a_line(rt: HostRuntime) -> Result<(), Fail> {
         &mut none,
         1000,
     )?;
-    assert_eq!(rt; stop, Stop::InputFault);
+    assert_equal(&rt, stop, Stop::InputFault);
     assert!(rt; writer.into_inner().is_empty());
     let (bytes, _) = machine.shown(Span { at: 300, len: 3 });
-    assert_eq!(rt; bytes, [0; 3].as_slice());
-    assert_eq!(rt; machine.halted(), Some(Cause::InputFault));
-    assert_eq!(rt; machine.memory().cell(26), 0);
+    assert_equal(&rt, bytes, [0; 3].as_slice());
+    assert_equal(&rt, machine.halted(), Some(Cause::InputFault));
+    assert_equal(&rt, machine.memory().cell(26), 0);
     Ok(())
 }
 
@@ -162,7 +163,7 @@ fn a_flush_that_fails_before_a_line(rt: HostRuntime) -> Result<(), Fail> {
         &mut none,
         1000,
     )?;
-    assert_eq!(rt; stop, Stop::OutputFault);
-    assert_eq!(rt; reader.byte(), Ok(Some(b'a')));
+    assert_equal(&rt, stop, Stop::OutputFault);
+    assert_equal(&rt, reader.byte(), Ok(Some(b'a')));
     Ok(())
 }

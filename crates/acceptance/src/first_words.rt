@@ -1,5 +1,6 @@
 //! Images of a few tokens: from their bytes to their output, and by single ticks.
 
+use crate::assertions::assert_equal;
 use crate::fixtures::{
     assert_cells, assert_quiet_tick, assert_row, assert_run, assert_tick, assert_ticks, machine,
     parts,
@@ -40,7 +41,7 @@ fn a_file_is_read_and_run(rt: HostRuntime) -> Result<(), Fail> {
 fn a_file_is_written_as_it_was_read(rt: HostRuntime) -> Result<(), Fail> {
     let image = read(rt.alloc(), &hi_file())?;
     let written = write(rt.alloc(), &image)?;
-    assert_eq!(rt; written.as_slice(), hi_file().as_slice());
+    assert_equal(&rt, written.as_slice(), hi_file().as_slice());
     Ok(())
 }
 
@@ -48,7 +49,7 @@ fn a_file_is_written_as_it_was_read(rt: HostRuntime) -> Result<(), Fail> {
 fn memory_is_zero_at_first(rt: HostRuntime) -> Result<(), Fail> {
     let memory = Memory::new(rt.alloc())?;
     for at in 0..=65535 {
-        assert_eq!(rt; memory.byte(at), 0, "at {at}");
+        assert_equal(&rt, (at, memory.byte(at)), (at, 0));
     }
     Ok(())
 }
@@ -85,9 +86,9 @@ fn ticks_stop_at_what_shows(rt: HostRuntime) -> Result<(), Fail> {
     assert_ticks(&rt, &mut machine, 10, 2, Shown::Byte(105), Event::Went);
     let bye = Event::Halt(Cause::Bye);
     assert_ticks(&rt, &mut machine, 10, 1, Shown::Nothing, bye);
-    assert_eq!(rt; machine.ticks(0), Err(Refused::Halted));
-    assert_eq!(rt; machine.tick(), Err(Refused::Halted));
-    assert_eq!(rt; machine.halted(), Some(Cause::Bye));
+    assert_equal(&rt, machine.ticks(0), Err(Refused::Halted));
+    assert_equal(&rt, machine.tick(), Err(Refused::Halted));
+    assert_equal(&rt, machine.halted(), Some(Cause::Bye));
     Ok(())
 }
 
@@ -95,17 +96,17 @@ fn ticks_stop_at_what_shows(rt: HostRuntime) -> Result<(), Fail> {
 #[test]
 fn a_machine_begins_at_the_entry(rt: HostRuntime) -> Result<(), Fail> {
     let mut machine = machine(&rt, 262, &HI, &[], 0)?;
-    assert_eq!(rt; machine.pending(), Some(262));
-    assert_eq!(rt; machine.ip(), 0);
-    assert_eq!(rt; machine.memory().cell(276), 260);
-    assert_eq!(rt; machine.memory().cell(278), 0);
+    assert_equal(&rt, machine.pending(), Some(262));
+    assert_equal(&rt, machine.ip(), 0);
+    assert_equal(&rt, machine.memory().cell(276), 260);
+    assert_equal(&rt, machine.memory().cell(278), 0);
     assert_cells(&rt, machine.values(), &[]);
     assert_cells(&rt, machine.returns(), &[]);
-    assert_eq!(rt; machine.halted(), None);
+    assert_equal(&rt, machine.halted(), None);
     assert_ticks(&rt, &mut machine, 0, 0, Shown::Nothing, Event::Went);
     assert_quiet_tick(&rt, &mut machine);
-    assert_eq!(rt; machine.pending(), None);
-    assert_eq!(rt; machine.ip(), 264);
+    assert_equal(&rt, machine.pending(), None);
+    assert_equal(&rt, machine.ip(), 264);
     assert_cells(&rt, machine.returns(), &[0]);
     Ok(())
 }
@@ -122,8 +123,8 @@ fn a_thread_of_a_defining_word(rt: HostRuntime) -> Result<(), Fail> {
     assert_quiet_tick(&rt, &mut machine);
     assert_cells(&rt, machine.values(), &[260]);
     assert_cells(&rt, machine.returns(), &[0, 266]);
-    assert_eq!(rt; machine.ip(), 268);
-    assert_eq!(rt; machine.pending(), None);
+    assert_equal(&rt, machine.ip(), 268);
+    assert_equal(&rt, machine.pending(), None);
     let bye = Event::Halt(Cause::Bye);
     assert_tick(&rt, &mut machine, Shown::Nothing, bye);
     Ok(())
@@ -137,7 +138,7 @@ fn a_thread_without_end(rt: HostRuntime) -> Result<(), Fail> {
     assert_quiet_tick(&rt, &mut machine);
     assert_cells(&rt, machine.values(), &[258]);
     assert_cells(&rt, machine.returns(), &[0]);
-    assert_eq!(rt; machine.ip(), 256);
+    assert_equal(&rt, machine.ip(), 256);
     let fault = Event::Halt(Cause::Fault(2));
     assert_ticks(&rt, &mut machine, 1000, 256, Shown::Nothing, fault);
     assert_cells(&rt, machine.values(), &[2]);
@@ -153,7 +154,7 @@ fn an_entry_at_the_end_of_memory(rt: HostRuntime) -> Result<(), Fail> {
     assert_quiet_tick(&rt, &mut machine);
     assert_cells(&rt, machine.values(), &[1]);
     assert_cells(&rt, machine.returns(), &[0]);
-    assert_eq!(rt; machine.ip(), 256);
+    assert_equal(&rt, machine.ip(), 256);
     let fault = Event::Halt(Cause::Fault(4));
     assert_ticks(&rt, &mut machine, 1000, 256, Shown::Nothing, fault);
     assert_cells(&rt, machine.values(), &[4]);
@@ -168,8 +169,8 @@ fn unknown_code_halts_without_a_fault_thread(rt: HostRuntime) -> Result<(), Fail
         let fault = Event::Halt(Cause::Fault(6));
         assert_tick(&rt, &mut machine, Shown::Nothing, fault);
         assert_cells(&rt, machine.values(), &[6]);
-        assert_eq!(rt; machine.ip(), 0);
-        assert_eq!(rt; machine.tick(), Err(Refused::Halted));
+        assert_equal(&rt, machine.ip(), 0);
+        assert_equal(&rt, machine.tick(), Err(Refused::Halted));
     }
     Ok(())
 }
@@ -192,9 +193,9 @@ fn unknown_code_goes_on_with_the_fault_thread(rt: HostRuntime) -> Result<(), Fai
     let mut machine = machine(&rt, 256, &code, &[(40, 262)], 0)?;
     assert_tick(&rt, &mut machine, Shown::Nothing, Event::Fault(6));
     assert_cells(&rt, machine.values(), &[6]);
-    assert_eq!(rt; machine.ip(), 262);
-    assert_eq!(rt; machine.pending(), None);
-    assert_eq!(rt; machine.halted(), None);
+    assert_equal(&rt, machine.ip(), 262);
+    assert_equal(&rt, machine.pending(), None);
+    assert_equal(&rt, machine.halted(), None);
     assert_run(&rt, &mut machine, b"", 2, Stop::Bye, &[6])
 }
 
@@ -221,10 +222,11 @@ fn shown_bytes_are_those_of_the_span(rt: HostRuntime) -> Result<(), Fail> {
     let text = Span { at: 269, len: 2 };
     assert_ticks(&rt, &mut machine, 9, 2, Shown::Span(text), Event::Went);
     let (front, back) = machine.shown(text);
-    assert_eq!(rt; front, b"Hi".as_slice());
+    assert_equal(&rt, front, b"Hi".as_slice());
     assert!(rt; back.is_empty());
+    // Memory goes on at address 0.
     let (front, back) = machine.shown(Span { at: 65535, len: 2 });
-    assert_eq!(rt; front, b"\0".as_slice());
-    assert_eq!(rt; back, b"\x42".as_slice(), "memory goes on at address 0");
+    assert_equal(&rt, front, b"\0".as_slice());
+    assert_equal(&rt, back, b"\x42".as_slice());
     Ok(())
 }

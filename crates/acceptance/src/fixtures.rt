@@ -1,5 +1,6 @@
 //! What the tests are built from.
 
+use crate::assertions::assert_equal;
 use block_buffers::{Buffers, Device, Entry, MemoryDevice};
 use image_loader::Image;
 use inner_interpreter::{Act, Answer, Event, Machine, Reading, Shown, Stop, Writing, run};
@@ -65,19 +66,15 @@ pub fn parts(alloc: Global) -> Result<Parts, Fail> {
 pub fn fill(rt: &impl Abort, stack: &mut Stack, cells: &[u16]) {
     stack.clear();
     for &cell in cells {
-        assert_eq!(rt; stack.push(cell), Ok(()));
+        assert_equal(rt, stack.push(cell), Ok(()));
     }
 }
 
 /// A stack has these cells, the first one lowest.
 pub fn assert_cells(rt: &impl Abort, stack: &Stack, wanted: &[u16]) {
-    assert_eq!(rt; stack.depth(), wanted.len(), "depth");
+    assert_equal(rt, stack.depth(), wanted.len());
     for (place, &cell) in wanted.iter().enumerate() {
-        assert_eq!(rt;
-            stack.get(place),
-            Some(cell),
-            "at place {place} from the bottom"
-        );
+        assert_equal(rt, (place, stack.get(place)), (place, Some(cell)));
     }
 }
 
@@ -91,13 +88,17 @@ pub fn assert_row(
     left: &[u16],
 ) {
     fill(rt, &mut parts.values, given);
-    assert_eq!(rt; row(parts, number, 0), outcome, "row {number} of {given:?}");
+    assert_equal(
+        rt,
+        (number, given, row(parts, number, 0)),
+        (number, given, outcome),
+    );
     assert_cells(rt, &parts.values, left);
 }
 
 /// The next tick of a machine.
 pub fn assert_tick(rt: &impl Abort, machine: &mut Machine, shown: Shown, event: Event) {
-    assert_eq!(rt; machine.tick(), Ok(Act { shown, event }));
+    assert_equal(rt, machine.tick(), Ok(Act { shown, event }));
 }
 
 /// A machine goes on by a tick that shows nothing.
@@ -114,7 +115,7 @@ pub fn assert_ticks(
     shown: Shown,
     event: Event,
 ) {
-    assert_eq!(rt; machine.ticks(most), Ok((wanted, Act { shown, event })));
+    assert_equal(rt, machine.ticks(most), Ok((wanted, Act { shown, event })));
 }
 
 /// A run of a machine stops so, and writes this.
@@ -127,8 +128,8 @@ pub fn assert_run(
     written: &[u8],
 ) -> Result<(), Fail> {
     let (stopped, output) = output(rt, machine, typed, limit)?;
-    assert_eq!(rt; stopped, stop);
-    assert_eq!(rt; output.as_slice(), written);
+    assert_equal(rt, stopped, stop);
+    assert_equal(rt, output.as_slice(), written);
     Ok(())
 }
 
@@ -240,7 +241,7 @@ pub fn assert_entries(rt: &impl Abort, buffers: &Buffers, wanted: [(usize, Optio
                 block,
                 updated,
             };
-            assert_eq!(rt; buffers.entry(place), entry, "at place {place}");
+            assert_equal(rt, (place, buffers.entry(place)), (place, entry));
         }
     }
 }

@@ -6,6 +6,8 @@ mod arithmetic;
 #[cfg(test)]
 mod arithmetic_cases;
 #[cfg(test)]
+mod assertions;
+#[cfg(test)]
 mod blocks;
 #[cfg(test)]
 mod failing_ends;

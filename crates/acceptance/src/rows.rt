@@ -1,5 +1,6 @@
 //! Rows of the table by worked examples.
 
+use crate::assertions::assert_equal;
 use crate::fixtures::{assert_cells, assert_row, fill, parts};
 use plain_rows::parts::{Outcome, Span};
 use primitives::row;
@@ -27,12 +28,12 @@ fn loops_end_at_the_boundary(rt: HostRuntime) -> Result<(), Fail> {
     fill(&rt, &mut parts.returns, &[900, 10, 10]);
     assert_row(&rt, &mut parts, 11, &[65535], Outcome::Done, &[]);
     assert_cells(&rt, &parts.returns, &[]);
-    assert_eq!(rt; parts.ip, 302);
+    assert_equal(&rt, parts.ip, 302);
     parts.ip = 300;
     fill(&rt, &mut parts.returns, &[900, 10, 9]);
     assert_row(&rt, &mut parts, 11, &[0], Outcome::Done, &[]);
     assert_cells(&rt, &parts.returns, &[900, 10, 9]);
-    assert_eq!(rt; parts.ip, 700);
+    assert_equal(&rt, parts.ip, 700);
     Ok(())
 }
 
@@ -43,11 +44,11 @@ fn moves_that_overlap(rt: HostRuntime) -> Result<(), Fail> {
     parts.memory.set_bytes(300, &[1, 2, 3]);
     assert_row(&rt, &mut parts, 103, &[300, 301, 4], Outcome::Done, &[]);
     let (front, _) = parts.memory.span(299, 7);
-    assert_eq!(rt; front, [0, 1, 1, 1, 1, 1, 0].as_slice());
+    assert_equal(&rt, front, [0, 1, 1, 1, 1, 1, 0].as_slice());
     parts.memory.set_bytes(300, &[1, 2, 3, 0, 0]);
     assert_row(&rt, &mut parts, 104, &[300, 301, 2], Outcome::Done, &[]);
     let (front, _) = parts.memory.span(299, 6);
-    assert_eq!(rt; front, [0, 1, 1, 2, 0, 0].as_slice());
+    assert_equal(&rt, front, [0, 1, 1, 2, 0, 0].as_slice());
     Ok(())
 }
 
@@ -144,7 +145,7 @@ fn places_in_the_thread(rt: HostRuntime) -> Result<(), Fail> {
         fill(&rt, &mut parts.returns, returns);
         assert_row(&rt, &mut parts, number, given, Outcome::Done, &[]);
         assert_cells(&rt, &parts.returns, &[]);
-        assert_eq!(rt; parts.ip, place, "row {number}");
+        assert_equal(&rt, (number, parts.ip), (number, place));
     }
     Ok(())
 }
@@ -165,12 +166,13 @@ fn filled_bytes(rt: HostRuntime) -> Result<(), Fail> {
     let mut parts = parts(rt.alloc())?;
     assert_row(&rt, &mut parts, 105, &[300, 3, 0x4102], Outcome::Done, &[]);
     let (bytes, _) = parts.memory.span(299, 5);
-    assert_eq!(rt; bytes, [0, 2, 2, 2, 0].as_slice());
+    assert_equal(&rt, bytes, [0, 2, 2, 2, 0].as_slice());
     assert_row(&rt, &mut parts, 98, &[302], Outcome::Done, &[2]);
     assert_row(&rt, &mut parts, 106, &[302], Outcome::Done, &[303, 2]);
+    // 0x0202 + 0xFDFF is 1.
     assert_row(&rt, &mut parts, 100, &[0xFDFF, 300], Outcome::Done, &[]);
     let (bytes, _) = parts.memory.span(299, 5);
-    assert_eq!(rt; bytes, [0, 1, 0, 2, 0].as_slice(), "0x0202 + 0xFDFF is 1");
+    assert_equal(&rt, bytes, [0, 1, 0, 2, 0].as_slice());
     Ok(())
 }
 
@@ -182,8 +184,8 @@ fn cells_wrap_at_the_end_of_memory(rt: HostRuntime) -> Result<(), Fail> {
     assert_row(&rt, &mut parts, 99, &[1, 0], Outcome::Done, &[]);
     assert_row(&rt, &mut parts, 96, &[65535], Outcome::Done, &[263]);
     assert_row(&rt, &mut parts, 97, &[0x1234, 65535], Outcome::Done, &[]);
-    assert_eq!(rt; parts.memory.byte(65535), 0x34);
-    assert_eq!(rt; parts.memory.byte(0), 0x12);
+    assert_equal(&rt, parts.memory.byte(65535), 0x34);
+    assert_equal(&rt, parts.memory.byte(0), 0x12);
     Ok(())
 }
 
@@ -193,8 +195,8 @@ fn doubles_in_memory(rt: HostRuntime) -> Result<(), Fail> {
     let mut parts = parts(rt.alloc())?;
     let (low, high) = (0x5678, 0x1234);
     assert_row(&rt, &mut parts, 102, &[low, high, 300], Outcome::Done, &[]);
-    assert_eq!(rt; parts.memory.cell(300), high);
-    assert_eq!(rt; parts.memory.cell(302), low);
+    assert_equal(&rt, parts.memory.cell(300), high);
+    assert_equal(&rt, parts.memory.cell(302), low);
     assert_row(&rt, &mut parts, 101, &[300], Outcome::Done, &[low, high]);
     Ok(())
 }
@@ -265,13 +267,13 @@ fn room_for_a_loop(rt: HostRuntime) -> Result<(), Fail> {
     parts.memory.set_cell(300, 900);
     fill(&rt, &mut parts.returns, &[1; 254]);
     assert_row(&rt, &mut parts, 9, &[10, 0], Outcome::Fault(4), &[10, 0]);
-    assert_eq!(rt; parts.returns.depth(), 254);
+    assert_equal(&rt, parts.returns.depth(), 254);
     fill(&rt, &mut parts.returns, &[1; 253]);
     assert_row(&rt, &mut parts, 9, &[10, 0], Outcome::Done, &[]);
-    assert_eq!(rt; parts.returns.pick(2), Some(900));
-    assert_eq!(rt; parts.returns.pick(1), Some(10));
-    assert_eq!(rt; parts.returns.pick(0), Some(0));
-    assert_eq!(rt; parts.ip, 302);
+    assert_equal(&rt, parts.returns.pick(2), Some(900));
+    assert_equal(&rt, parts.returns.pick(1), Some(10));
+    assert_equal(&rt, parts.returns.pick(0), Some(0));
+    assert_equal(&rt, parts.ip, 302);
     Ok(())
 }
 
@@ -302,12 +304,12 @@ fn trailing_blanks(rt: HostRuntime) -> Result<(), Fail> {
 fn tokens_and_what_stands_behind_them(rt: HostRuntime) -> Result<(), Fail> {
     let mut parts = parts(rt.alloc())?;
     assert_row(&rt, &mut parts, 15, &[300], Outcome::Done, &[]);
-    assert_eq!(rt; parts.pending, Some(300));
+    assert_equal(&rt, parts.pending, Some(300));
     parts.memory.set_cell(402, 99);
-    assert_eq!(rt; row(&mut parts, 2, 400), Outcome::Done);
-    assert_eq!(rt; row(&mut parts, 3, 400), Outcome::Done);
+    assert_equal(&rt, row(&mut parts, 2, 400), Outcome::Done);
+    assert_equal(&rt, row(&mut parts, 3, 400), Outcome::Done);
     assert_cells(&rt, &parts.values, &[402, 99]);
-    assert_eq!(rt; row(&mut parts, 4, 400), Outcome::Done);
-    assert_eq!(rt; parts.memory.cell(32), 402);
+    assert_equal(&rt, row(&mut parts, 4, 400), Outcome::Done);
+    assert_equal(&rt, parts.memory.cell(32), 402);
     Ok(())
 }

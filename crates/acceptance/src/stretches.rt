@@ -1,5 +1,6 @@
 //! A stretch of ticks leaves what as many single ticks leave.
 
+use crate::assertions::assert_equal;
 use crate::first_words::HI;
 use crate::fixtures::{assert_run, machine};
 use crate::threads::{DEPTHS, OVERWRITES};
@@ -20,17 +21,17 @@ const DEPTHS_TRIED: [usize; 8] = [0, 1, 2, 3, 253, 254, 255, 256];
 
 /// Two machines are in the same state.
 fn assert_same(rt: &impl Abort, one: &Machine, other: &Machine) {
-    assert_eq!(rt; one.ip(), other.ip());
-    assert_eq!(rt; one.pending(), other.pending());
-    assert_eq!(rt; one.halted(), other.halted());
-    assert_eq!(rt; one.values().depth(), other.values().depth());
-    assert_eq!(rt; one.returns().depth(), other.returns().depth());
+    assert_equal(rt, one.ip(), other.ip());
+    assert_equal(rt, one.pending(), other.pending());
+    assert_equal(rt, one.halted(), other.halted());
+    assert_equal(rt, one.values().depth(), other.values().depth());
+    assert_equal(rt, one.returns().depth(), other.returns().depth());
     for place in 0..256 {
-        assert_eq!(rt; one.values().get(place), other.values().get(place));
-        assert_eq!(rt; one.returns().get(place), other.returns().get(place));
+        assert_equal(rt, one.values().get(place), other.values().get(place));
+        assert_equal(rt, one.returns().get(place), other.returns().get(place));
     }
     assert!(rt; one.memory().span(0, 65535).0 == other.memory().span(0, 65535).0);
-    assert_eq!(rt; one.memory().byte(65535), other.memory().byte(65535));
+    assert_equal(rt, one.memory().byte(65535), other.memory().byte(65535));
 }
 
 /// Makes at most `n` ticks in stretches, until a request, a fault that halts or BYE: how many.

@@ -1,5 +1,6 @@
 //! Keys and lines: what is asked, what fits, and what a run reads and writes.
 
+use crate::assertions::assert_equal;
 use crate::fixtures::{
     assert_cells, assert_quiet_tick, assert_row, assert_run, assert_tick, assert_ticks, machine,
     none, parts,
@@ -38,8 +39,8 @@ fn lines_are_shown_and_stored(rt: HostRuntime) -> Result<(), Fail> {
         let mut machine = expects(&rt, 300, 3)?;
         assert_run(&rt, &mut machine, typed, 5, Stop::Bye, written)?;
         let (bytes, _) = machine.shown(Span { at: 300, len: 4 });
-        assert_eq!(rt; bytes, stored.as_slice());
-        assert_eq!(rt; machine.memory().cell(26), span);
+        assert_equal(&rt, bytes, stored.as_slice());
+        assert_equal(&rt, machine.memory().cell(26), span);
         assert_cells(&rt, machine.values(), &[]);
     }
     Ok(())
@@ -60,10 +61,10 @@ fn a_full_line_leaves_the_rest(rt: HostRuntime) -> Result<(), Fail> {
         &mut none,
         5,
     )?;
-    assert_eq!(rt; stop, Stop::Bye);
-    assert_eq!(rt; reader.byte(), Ok(Some(b'd')));
-    assert_eq!(rt; reader.byte(), Ok(None));
-    assert_eq!(rt; writer.into_inner().as_slice(), b"abc".as_slice());
+    assert_equal(&rt, stop, Stop::Bye);
+    assert_equal(&rt, reader.byte(), Ok(Some(b'd')));
+    assert_equal(&rt, reader.byte(), Ok(None));
+    assert_equal(&rt, writer.into_inner().as_slice(), b"abc".as_slice());
     Ok(())
 }
 
@@ -72,7 +73,7 @@ fn a_full_line_leaves_the_rest(rt: HostRuntime) -> Result<(), Fail> {
 fn a_limit_while_a_line_is_asked(rt: HostRuntime) -> Result<(), Fail> {
     let mut machine = expects(&rt, 300, 3)?;
     assert_run(&rt, &mut machine, b"abcd", 4, Stop::Limit, b"")?;
-    assert_eq!(rt; machine.asked(), Some(Request::Line { n: 3 }));
+    assert_equal(&rt, machine.asked(), Some(Request::Line { n: 3 }));
     assert_run(&rt, &mut machine, b"xy", 1, Stop::Bye, b"xy")
 }
 
@@ -80,9 +81,9 @@ fn a_limit_while_a_line_is_asked(rt: HostRuntime) -> Result<(), Fail> {
 fn nothing_typed_ends_the_input(rt: HostRuntime) -> Result<(), Fail> {
     let mut machine = expects(&rt, 300, 3)?;
     assert_run(&rt, &mut machine, b"", 1000, Stop::InputEnded, b"")?;
-    assert_eq!(rt; machine.halted(), Some(Cause::InputEnded));
+    assert_equal(&rt, machine.halted(), Some(Cause::InputEnded));
     assert_cells(&rt, machine.values(), &[300, 3]);
-    assert_eq!(rt; machine.memory().cell(26), 7);
+    assert_equal(&rt, machine.memory().cell(26), 7);
     Ok(())
 }
 
@@ -92,7 +93,7 @@ fn a_line_of_no_bytes(rt: HostRuntime) -> Result<(), Fail> {
     let mut machine = expects(&rt, 300, 0)?;
     let bye = Event::Halt(Cause::Bye);
     assert_ticks(&rt, &mut machine, 1000, 5, Shown::Nothing, bye);
-    assert_eq!(rt; machine.memory().cell(26), 0);
+    assert_equal(&rt, machine.memory().cell(26), 0);
     assert_cells(&rt, machine.values(), &[]);
     Ok(())
 }
@@ -102,7 +103,7 @@ fn a_line_of_no_bytes(rt: HostRuntime) -> Result<(), Fail> {
 fn a_line_over_its_own_count(rt: HostRuntime) -> Result<(), Fail> {
     let mut machine = expects(&rt, 26, 2)?;
     assert_run(&rt, &mut machine, b"AB", 1000, Stop::Bye, b"AB")?;
-    assert_eq!(rt; machine.memory().cell(26), 16961);
+    assert_equal(&rt, machine.memory().cell(26), 16961);
     Ok(())
 }
 
@@ -111,8 +112,8 @@ fn a_line_over_its_own_count(rt: HostRuntime) -> Result<(), Fail> {
 fn a_line_over_the_end_of_memory(rt: HostRuntime) -> Result<(), Fail> {
     let mut machine = expects(&rt, 65534, 3)?;
     assert_run(&rt, &mut machine, b"xyz", 1000, Stop::Bye, b"xyz")?;
-    assert_eq!(rt; machine.memory().byte(65535), b'y');
-    assert_eq!(rt; machine.memory().byte(0), b'z');
+    assert_equal(&rt, machine.memory().byte(65535), b'y');
+    assert_equal(&rt, machine.memory().byte(0), b'z');
     Ok(())
 }
 
@@ -126,12 +127,12 @@ fn waits_for_line(rt: &(impl Abort + Alloc<A = Global>)) -> Result<Machine, Fail
 
 /// An answer that is refused leaves the machine as it was.
 fn assert_not_asked(rt: &impl Abort, machine: &mut Machine, answer: Answer<'_>) {
-    assert_eq!(rt; machine.answer(answer), Err(Refused::NotAsked));
-    assert_eq!(rt; machine.asked(), Some(Request::Line { n: 3 }));
+    assert_equal(rt, machine.answer(answer), Err(Refused::NotAsked));
+    assert_equal(rt, machine.asked(), Some(Request::Line { n: 3 }));
     assert_cells(rt, machine.values(), &[300, 3]);
-    assert_eq!(rt; machine.memory().cell(26), 7);
-    assert_eq!(rt; machine.memory().cell(300), 0);
-    assert_eq!(rt; machine.halted(), None);
+    assert_equal(rt, machine.memory().cell(26), 7);
+    assert_equal(rt, machine.memory().cell(300), 0);
+    assert_equal(rt, machine.halted(), None);
 }
 
 #[test]
@@ -171,11 +172,12 @@ fn lines_that_fit(rt: HostRuntime) -> Result<(), Fail> {
             shown,
             event: Event::Went,
         };
-        assert_eq!(rt;
+        assert_equal(
+            &rt,
             machine.answer(Answer::Line { bytes, returned }),
-            Ok(wanted)
+            Ok(wanted),
         );
-        assert_eq!(rt; machine.asked(), None);
+        assert_equal(&rt, machine.asked(), None);
         let bye = Event::Halt(Cause::Bye);
         assert_tick(&rt, &mut machine, Shown::Nothing, bye);
     }
@@ -195,12 +197,12 @@ fn input_that_stops(rt: HostRuntime) -> Result<(), Fail> {
             event: Event::Halt(cause),
         };
         let mut line = waits_for_line(&rt)?;
-        assert_eq!(rt; line.answer(answer), Ok(wanted));
-        assert_eq!(rt; line.answer(answer), Err(Refused::Halted));
-        assert_eq!(rt; line.tick(), Err(Refused::Halted));
+        assert_equal(&rt, line.answer(answer), Ok(wanted));
+        assert_equal(&rt, line.answer(answer), Err(Refused::Halted));
+        assert_equal(&rt, line.tick(), Err(Refused::Halted));
         let mut key = waits_for_key(&rt)?;
-        assert_eq!(rt; key.answer(answer), Ok(wanted));
-        assert_eq!(rt; key.halted(), Some(cause));
+        assert_equal(&rt, key.answer(answer), Ok(wanted));
+        assert_equal(&rt, key.halted(), Some(cause));
     }
     Ok(())
 }
@@ -217,10 +219,10 @@ fn waits_for_key(rt: &(impl Abort + Alloc<A = Global>)) -> Result<Machine, Fail>
 
 /// A machine that waits for a key, at the same place.
 fn assert_waits_for_key(rt: &impl Abort, machine: &Machine) {
-    assert_eq!(rt; machine.asked(), Some(Request::Key));
-    assert_eq!(rt; machine.ip(), 264);
-    assert_eq!(rt; machine.pending(), None);
-    assert_eq!(rt; machine.halted(), None);
+    assert_equal(rt, machine.asked(), Some(Request::Key));
+    assert_equal(rt, machine.ip(), 264);
+    assert_equal(rt, machine.pending(), None);
+    assert_equal(rt, machine.halted(), None);
     assert_cells(rt, machine.values(), &[]);
     assert_cells(rt, machine.returns(), &[0]);
 }
@@ -229,26 +231,26 @@ fn assert_waits_for_key(rt: &impl Abort, machine: &Machine) {
 fn a_key_is_asked(rt: HostRuntime) -> Result<(), Fail> {
     let mut machine = waits_for_key(&rt)?;
     assert_waits_for_key(&rt, &machine);
-    assert_eq!(rt; machine.tick(), Err(Refused::Waiting));
-    assert_eq!(rt; machine.ticks(0), Err(Refused::Waiting));
-    assert_eq!(rt; machine.ticks(5), Err(Refused::Waiting));
-    assert_eq!(rt; machine.answer(Answer::WriteOk), Err(Refused::NotAsked));
+    assert_equal(&rt, machine.tick(), Err(Refused::Waiting));
+    assert_equal(&rt, machine.ticks(0), Err(Refused::Waiting));
+    assert_equal(&rt, machine.ticks(5), Err(Refused::Waiting));
+    assert_equal(&rt, machine.answer(Answer::WriteOk), Err(Refused::NotAsked));
     let line = Answer::Line {
         bytes: b"A",
         returned: false,
     };
-    assert_eq!(rt; machine.answer(line), Err(Refused::NotAsked));
+    assert_equal(&rt, machine.answer(line), Err(Refused::NotAsked));
     assert_waits_for_key(&rt, &machine);
     let wanted = Act {
         shown: Shown::Nothing,
         event: Event::Went,
     };
-    assert_eq!(rt; machine.answer(Answer::Key(65)), Ok(wanted));
+    assert_equal(&rt, machine.answer(Answer::Key(65)), Ok(wanted));
     assert_cells(&rt, machine.values(), &[65]);
-    assert_eq!(rt; machine.answer(Answer::Key(66)), Err(Refused::NotAsked));
+    assert_equal(&rt, machine.answer(Answer::Key(66)), Err(Refused::NotAsked));
     let bye = Event::Halt(Cause::Bye);
     assert_tick(&rt, &mut machine, Shown::Nothing, bye);
-    assert_eq!(rt; machine.answer(Answer::Key(66)), Err(Refused::Halted));
+    assert_equal(&rt, machine.answer(Answer::Key(66)), Err(Refused::Halted));
     Ok(())
 }
 

@@ -1,5 +1,6 @@
 //! Images whose threads fault, never end, or write over themselves.
 
+use crate::assertions::assert_equal;
 use crate::fixtures::{
     assert_cells, assert_quiet_tick, assert_run, assert_tick, assert_ticks, machine,
 };
@@ -16,13 +17,13 @@ pub const DEPTHS: [u8; 12] = [
 fn a_stack_is_full_at_256_cells(rt: HostRuntime) -> Result<(), Fail> {
     let mut machine = machine(&rt, 260, &DEPTHS, &[], 0)?;
     assert_ticks(&rt, &mut machine, 513, 513, Shown::Nothing, Event::Went);
-    assert_eq!(rt; machine.values().depth(), 256);
-    assert_eq!(rt; machine.values().get(255), Some(255));
+    assert_equal(&rt, machine.values().depth(), 256);
+    assert_equal(&rt, machine.values().get(255), Some(255));
     let fault = Event::Halt(Cause::Fault(2));
     assert_tick(&rt, &mut machine, Shown::Nothing, fault);
     assert_cells(&rt, machine.values(), &[2]);
     assert_cells(&rt, machine.returns(), &[]);
-    assert_eq!(rt; machine.tick(), Err(Refused::Halted));
+    assert_equal(&rt, machine.tick(), Err(Refused::Halted));
     Ok(())
 }
 
@@ -46,7 +47,7 @@ fn a_fault_goes_on_with_its_thread(rt: HostRuntime) -> Result<(), Fail> {
     assert_tick(&rt, &mut machine, Shown::Nothing, Event::Fault(1));
     assert_cells(&rt, machine.values(), &[1]);
     assert_cells(&rt, machine.returns(), &[]);
-    assert_eq!(rt; machine.ip(), 262);
+    assert_equal(&rt, machine.ip(), 262);
     assert_tick(&rt, &mut machine, Shown::Byte(1), Event::Went);
     let bye = Event::Halt(Cause::Bye);
     assert_tick(&rt, &mut machine, Shown::Nothing, bye);
@@ -77,7 +78,7 @@ fn a_fault_thread_that_faults(rt: HostRuntime) -> Result<(), Fail> {
 fn a_fault_without_a_thread(rt: HostRuntime) -> Result<(), Fail> {
     let mut machine = machine(&rt, 266, &DIVIDES, &[], 0)?;
     assert_run(&rt, &mut machine, b"", 10, Stop::Fault(1), b"")?;
-    assert_eq!(rt; machine.halted(), Some(Cause::Fault(1)));
+    assert_equal(&rt, machine.halted(), Some(Cause::Fault(1)));
     assert_cells(&rt, machine.values(), &[1]);
     Ok(())
 }

@@ -2,6 +2,7 @@
 
 ghost use Rattle.std.specs.Prelude.{◌≤◌, vec_len};
 
+use crate::assertions::assert_equal;
 use block_buffers::MemoryDevice;
 use inner_interpreter::Writing;
 use std::alloc::Global;
@@ -53,9 +54,9 @@ fn sources_are_refused(rt: HostRuntime) -> Result<(), Fail> {
         let mut device = device(rt.alloc())?;
         let mut writer = Writing::new(Vec::new(rt.alloc()));
         let Ended { status, file } = do_build(rt.alloc(), &mut device, from, to, &mut writer);
-        assert_eq!(rt; status, 1);
+        assert_equal(&rt, status, 1);
         assert!(rt; file.is_none());
-        assert_eq!(rt; writer.into_inner().as_slice(), line);
+        assert_equal(&rt, writer.into_inner().as_slice(), line);
     }
     Ok(())
 }
@@ -97,13 +98,14 @@ fn an_image_is_built(rt: HostRuntime) -> Result<(), Fail> {
     let mut device = device(rt.alloc())?;
     let mut writer = Writing::new(Vec::new(rt.alloc()));
     let Ended { status, file } = do_build(rt.alloc(), &mut device, 1, 1, &mut writer);
-    assert_eq!(rt; status, 0);
-    assert_eq!(rt;
+    assert_equal(&rt, status, 0);
+    assert_equal(
+        &rt,
         writer.into_inner().as_slice(),
-        b"size 290 entry 284\n".as_slice()
+        b"size 290 entry 284\n".as_slice(),
     );
     let file = file.expect(&rt, "a file");
-    assert_eq!(rt; file.as_slice(), wanted.as_slice());
+    assert_equal(&rt, file.as_slice(), wanted.as_slice());
     Ok(())
 }
 
@@ -114,7 +116,7 @@ fn a_line_that_is_not_written(rt: HostRuntime) -> Result<(), Fail> {
     let mut room = [0; 18];
     let mut writer = Writing::new(room.as_mut_slice());
     let Ended { status, file } = do_build(rt.alloc(), &mut device, 1, 1, &mut writer);
-    assert_eq!(rt; status, 5);
+    assert_equal(&rt, status, 5);
     assert!(rt; file.is_none());
     Ok(())
 }
@@ -137,8 +139,8 @@ fn the_screen_of_the_newest_word(rt: HostRuntime) -> Result<(), Fail> {
     ] {
         let mut writer = Writing::new(Vec::new(rt.alloc()));
         let ended = do_view(rt.alloc(), file.as_slice(), name, &mut writer);
-        assert_eq!(rt; ended.status, 0);
-        assert_eq!(rt; writer.into_inner().as_slice(), line.as_slice());
+        assert_equal(&rt, ended.status, 0);
+        assert_equal(&rt, writer.into_inner().as_slice(), line.as_slice());
     }
     Ok(())
 }
@@ -158,15 +160,16 @@ fn the_screen_of_a_word(rt: HostRuntime) -> Result<(), Fail> {
     for (name, status, line) in cases {
         let mut writer = Writing::new(Vec::new(rt.alloc()));
         let ended = do_view(rt.alloc(), file.as_slice(), name, &mut writer);
-        assert_eq!(rt; ended.status, status);
-        assert_eq!(rt; writer.into_inner().as_slice(), line);
+        assert_equal(&rt, ended.status, status);
+        assert_equal(&rt, writer.into_inner().as_slice(), line);
     }
     let mut writer = Writing::new(Vec::new(rt.alloc()));
     let ended = do_view(rt.alloc(), b"GTH", "GO", &mut writer);
-    assert_eq!(rt; ended.status, 1);
-    assert_eq!(rt;
+    assert_equal(&rt, ended.status, 1);
+    assert_equal(
+        &rt,
         writer.into_inner().as_slice(),
-        b"image: BadMagic\n".as_slice()
+        b"image: BadMagic\n".as_slice(),
     );
     Ok(())
 }

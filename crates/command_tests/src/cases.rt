@@ -3,6 +3,7 @@
 
 ghost use Rattle.std.specs.Prelude.{◌≡◌, ◌≤◌, vec_len, false};
 
+use crate::assertions::assert_equal;
 use block_buffers::MemoryDevice;
 use inner_interpreter::{Reading, Writing};
 use std::alloc::Global;
@@ -191,8 +192,8 @@ fn assert_run(
         &mut reader,
         &mut writer,
     );
-    assert_eq!(rt; writer.into_inner().as_slice(), shown);
-    assert_eq!(rt; ended.status, status);
+    assert_equal(rt, writer.into_inner().as_slice(), shown);
+    assert_equal(rt, ended.status, status);
     Ok(())
 }
 
@@ -215,7 +216,7 @@ fn assert_block(rt: &impl Abort, device: &MemoryDevice, block: usize, front: &[u
         } else {
             rest
         };
-        assert_eq!(rt; byte, wanted, "byte {place} of block {block}");
+        assert_equal(rt, (place, block, byte), (place, block, wanted));
     }
 }
 

@@ -2,6 +2,7 @@
 
 ghost use Rattle.std.specs.Prelude.{◌≤◌, vec_len};
 
+use crate::assertions::assert_equal;
 use crate::see_tests::{CHOICE, built};
 use block_buffers::MemoryDevice;
 use inner_interpreter::{Reading, Writing};
@@ -112,9 +113,9 @@ fn traces(rt: HostRuntime) -> Result<(), Fail> {
         ),
     ] {
         let left = debugged(rt.alloc(), source, name)?;
-        assert_eq!(rt; left.trace.as_slice(), trace.as_bytes());
-        assert_eq!(rt; left.output.as_slice(), output.as_bytes());
-        assert_eq!(rt; left.status, status);
+        assert_equal(&rt, left.trace.as_slice(), trace.as_bytes());
+        assert_equal(&rt, left.output.as_slice(), output.as_bytes());
+        assert_equal(&rt, left.status, status);
     }
     Ok(())
 }
@@ -127,9 +128,9 @@ fn words_that_are_not_traced(rt: HostRuntime) -> Result<(), Fail> {
         ("", ": NotFound\n"),
     ] {
         let left = debugged(rt.alloc(), CHOICE, name)?;
-        assert_eq!(rt; left.trace.len(), 0);
-        assert_eq!(rt; left.output.as_slice(), output.as_bytes());
-        assert_eq!(rt; left.status, 1);
+        assert_equal(&rt, left.trace.len(), 0);
+        assert_equal(&rt, left.output.as_slice(), output.as_bytes());
+        assert_equal(&rt, left.status, 1);
     }
     Ok(())
 }
@@ -174,7 +175,7 @@ fn a_trace_that_is_cut(rt: HostRuntime) -> Result<(), Fail> {
             &mut Writing::new(Vec::new(rt.alloc())),
             &mut trace,
         );
-        assert_eq!(rt; ended.status, 5);
+        assert_equal(&rt, ended.status, 5);
         assert!(rt;
             CHOICE_TRACE
                 .as_bytes()

@@ -1,5 +1,6 @@
 //! Readers and writers of `std` as the ends of a run: what a signal interrupts is done again, and flushes go on.
 
+use crate::assertions::assert_equal;
 use inner_interpreter::{Input, Output, Reading, Writing};
 use std::io;
 use std::io::{ErrorKind, Read, Write};
@@ -60,8 +61,8 @@ fn an_interrupted_read_is_done_again(rt: HostRuntime) {
         bytes: b"a",
         was_interrupted: false,
     });
-    assert_eq!(rt; reader.byte(), Ok(Some(b'a')));
-    assert_eq!(rt; reader.byte(), Ok(None));
+    assert_equal(&rt, reader.byte(), Ok(Some(b'a')));
+    assert_equal(&rt, reader.byte(), Ok(None));
 }
 
 #[test]
@@ -71,9 +72,9 @@ fn interrupted_writes_and_flushes_are_done_again(rt: HostRuntime) {
         flushes: 0,
         was_interrupted: false,
     });
-    assert_eq!(rt; writer.send(b"Hi"), Ok(2));
-    assert_eq!(rt; writer.flush(), Ok(()));
+    assert_equal(&rt, writer.send(b"Hi"), Ok(2));
+    assert_equal(&rt, writer.flush(), Ok(()));
     let inner = writer.into_inner();
-    assert_eq!(rt; inner.taken.as_slice(), b"Hi".as_slice());
-    assert_eq!(rt; inner.flushes, 1);
+    assert_equal(&rt, inner.taken.as_slice(), b"Hi".as_slice());
+    assert_equal(&rt, inner.flushes, 1);
 }

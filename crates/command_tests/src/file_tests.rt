@@ -1,5 +1,6 @@
 //! A device over a file of blocks.
 
+use crate::assertions::assert_equal;
 use block_buffers::{Device, DeviceFault};
 use std::fs;
 use std::test::Fail;
@@ -16,15 +17,15 @@ fn blocks_are_read_and_written_at_their_places(rt: HostRuntime) -> Result<(), Fa
     bytes[1024..2048].fill(2);
     fs::write(&rt, NAME, bytes.as_slice())?;
     let mut device = open_device(&rt, NAME).expect(&rt, "the file is there");
-    assert_eq!(rt; device.count(), 2);
+    assert_equal(&rt, device.count(), 2);
     let mut page = [0u8; 1024];
-    assert_eq!(rt; device.read(1, &mut page), Ok(()));
+    assert_equal(&rt, device.read(1, &mut page), Ok(()));
     assert!(rt; page == [2; 1024], "block 1 as it was");
-    assert_eq!(rt; device.write(0, &[9; 1024]), Ok(()));
-    assert_eq!(rt; device.read(0, &mut page), Ok(()));
+    assert_equal(&rt, device.write(0, &[9; 1024]), Ok(()));
+    assert_equal(&rt, device.read(0, &mut page), Ok(()));
     assert!(rt; page == [9; 1024], "block 0 as it was written");
-    assert_eq!(rt; device.read(2, &mut page), Err(DeviceFault));
-    assert_eq!(rt; device.write(2, &page), Err(DeviceFault));
+    assert_equal(&rt, device.read(2, &mut page), Err(DeviceFault));
+    assert_equal(&rt, device.write(2, &page), Err(DeviceFault));
     let kept = fs::read(&rt, NAME)?;
     bytes[..1024].fill(9);
     assert!(rt; kept.as_slice() == bytes.as_slice(), "the file");

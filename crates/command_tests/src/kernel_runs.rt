@@ -4,6 +4,7 @@
 ghost use Rattle.std.specs.Prelude.{◌≡◌, ◌≤◌, vec_len, false, None};
 ghost use Rattle.block_buffers.specs.Calls.{Logs};
 
+use crate::assertions::assert_equal;
 use block_buffers::{Device, DeviceFault, MemoryDevice};
 use inner_interpreter::{Reading, Writing};
 use std::alloc::Global;
@@ -196,9 +197,17 @@ fn typed_at_the_kernel(rt: HostRuntime) -> Result<(), Fail> {
             &mut reader,
             &mut writer,
         );
-        assert_eq!(rt; status, 0, "{typed}");
-        assert_eq!(rt; writer.into_inner().as_slice(), shown.as_bytes(), "{typed}");
-        assert_eq!(rt; watched.asked.as_slice(), asked.as_bytes(), "{typed}");
+        assert_equal(&rt, (typed, status), (typed, 0));
+        assert_equal(
+            &rt,
+            (typed, writer.into_inner().as_slice()),
+            (typed, shown.as_bytes()),
+        );
+        assert_equal(
+            &rt,
+            (typed, watched.asked.as_slice()),
+            (typed, asked.as_bytes()),
+        );
     }
     Ok(())
 }
@@ -221,7 +230,7 @@ fn a_line_is_put(rt: HostRuntime) -> Result<(), Fail> {
         &mut reader,
         &mut writer,
     );
-    assert_eq!(rt; ended.status, 0);
+    assert_equal(&rt, ended.status, 0);
     let mut wanted = [b'x'; 1024];
     wanted[..64].fill(b' ');
     wanted[..2].copy_from_slice(b"hi");

@@ -1,5 +1,6 @@
 //! The kernel's block file.
 
+use crate::assertions::assert_equal;
 use inner_interpreter::Writing;
 use subcommands::{TEXT, do_kernel};
 
@@ -39,7 +40,7 @@ fn the_text_is_twenty_screens(rt: HostRuntime) {
         }
         count = count.saturating_add(1);
     }
-    assert_eq!(rt; count, 320);
+    assert_equal(&rt, count, 320);
 }
 
 /// Nothing is printed; blocks 0 and 21 to 63 are blank, and the lines stand at their places.
@@ -47,13 +48,13 @@ fn the_text_is_twenty_screens(rt: HostRuntime) {
 fn the_file_has_64_blocks(rt: HostRuntime) {
     let mut writer = Writing::new(Vec::new(rt.alloc()));
     let ended = do_kernel(rt.alloc(), &mut writer);
-    assert_eq!(rt; ended.status, 0);
+    assert_equal(&rt, ended.status, 0);
     assert!(rt; writer.into_inner().is_empty());
     let file = ended.file.expect(&rt, "a file");
     let file = file.as_slice();
-    assert_eq!(rt; file.len(), 65536);
-    assert_eq!(rt; blanks_at(file, 0), 1024);
-    assert_eq!(rt; blanks_at(file, 1024 * 21), 1024 * 43);
+    assert_equal(&rt, file.len(), 65536);
+    assert_equal(&rt, blanks_at(file, 0), 1024);
+    assert_equal(&rt, blanks_at(file, 1024 * 21), 1024 * 43);
     assert!(rt; stands(file, 1, 0, b"(  1  "));
     assert!(rt; stands(file, 1, 1, b"  5 PRIM EXIT "));
     assert!(rt; stands(file, 2, 1, b" 19 PRIM COMPILE "));

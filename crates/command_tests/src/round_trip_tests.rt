@@ -2,6 +2,7 @@
 
 ghost use Rattle.std.specs.Prelude.{◌≤◌, vec_len};
 
+use crate::assertions::assert_equal;
 use block_buffers::MemoryDevice;
 use dictionary::headers_in_order;
 use image_loader::Image;
@@ -123,12 +124,12 @@ fn the_kernel_from_its_definitions(rt: HostRuntime) -> Result<(), Fail> {
     let shown = rewritten(alloc, sources.as_slice(), &memory_of(alloc, &kernel)?)?;
     let last = shown.len().saturating_sub(1).min(63) as u16;
     let again = built(alloc, shown, last)?;
-    assert_eq!(rt; again.entry(), kernel.entry());
-    assert_eq!(rt; again.bytes().len(), kernel.bytes().len());
+    assert_equal(&rt, again.entry(), kernel.entry());
+    assert_equal(&rt, again.bytes().len(), kernel.bytes().len());
     let before = without_screens(alloc, &kernel)?;
     let after = without_screens(alloc, &again)?;
     for at in 0..=65535_u16 {
-        assert_eq!(rt; after.byte(at), before.byte(at), "address {at}");
+        assert_equal(&rt, (at, after.byte(at)), (at, before.byte(at)));
     }
     Ok(())
 }

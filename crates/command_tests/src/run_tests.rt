@@ -2,6 +2,7 @@
 
 ghost use Rattle.std.specs.Prelude.{◌≡◌, false, None};
 
+use crate::assertions::assert_equal;
 use block_buffers::MemoryDevice;
 use inner_interpreter::{EndFault, Input, Reading, Writing};
 use std::alloc::Global;
@@ -69,11 +70,11 @@ fn status_with_room(alloc: Global, file: &[u8], room: &mut [u8]) -> u8 {
 #[test]
 fn an_image_runs_to_its_end(rt: HostRuntime) {
     let (status, printed) = ran(rt.alloc(), &hi(), DEFAULT_LIMIT);
-    assert_eq!(rt; status, 0);
-    assert_eq!(rt; printed.as_slice(), b"Hi".as_slice());
+    assert_equal(&rt, status, 0);
+    assert_equal(&rt, printed.as_slice(), b"Hi".as_slice());
     let (status, printed) = ran(rt.alloc(), &hi(), 3);
-    assert_eq!(rt; status, 4);
-    assert_eq!(rt; printed.as_slice(), b"H".as_slice());
+    assert_equal(&rt, status, 4);
+    assert_equal(&rt, printed.as_slice(), b"H".as_slice());
 }
 
 /// Two bytes of the file are changed: the version 3, the size 61,441, and a magic that begins with `G`.
@@ -89,8 +90,8 @@ fn wrong_fields_are_refused(rt: HostRuntime) {
         file[place] = field[0];
         file[place + 1] = field[1];
         let (status, printed) = ran(rt.alloc(), &file, DEFAULT_LIMIT);
-        assert_eq!(rt; status, 1);
-        assert_eq!(rt; printed.as_slice(), line);
+        assert_equal(&rt, status, 1);
+        assert_equal(&rt, printed.as_slice(), line);
     }
 }
 
@@ -106,8 +107,8 @@ fn wrong_lengths_are_refused(rt: HostRuntime) {
     ];
     for (file, line) in files {
         let (status, printed) = ran(rt.alloc(), file, DEFAULT_LIMIT);
-        assert_eq!(rt; status, 1);
-        assert_eq!(rt; printed.as_slice(), line);
+        assert_equal(&rt, status, 1);
+        assert_equal(&rt, printed.as_slice(), line);
     }
 }
 
@@ -118,7 +119,7 @@ fn a_fault_and_the_end_of_input(rt: HostRuntime) {
         let mut file = hi();
         file[EMIT] = number;
         let (status, printed) = ran(rt.alloc(), &file, DEFAULT_LIMIT);
-        assert_eq!(rt; status, wanted, "row {number}");
+        assert_equal(&rt, (number, status), (number, wanted));
         assert!(rt; printed.is_empty());
     }
 }
@@ -126,22 +127,22 @@ fn a_fault_and_the_end_of_input(rt: HostRuntime) {
 #[test]
 fn a_writer_that_fails(rt: HostRuntime) {
     let mut room = [0; 1];
-    assert_eq!(rt; status_with_room(rt.alloc(), &hi(), &mut room), 5);
-    assert_eq!(rt; room, *b"H");
+    assert_equal(&rt, status_with_room(rt.alloc(), &hi(), &mut room), 5);
+    assert_equal(&rt, room, *b"H");
     let mut room = [0; 2];
-    assert_eq!(rt; status_with_room(rt.alloc(), &hi(), &mut room), 0);
-    assert_eq!(rt; room, *b"Hi");
+    assert_equal(&rt, status_with_room(rt.alloc(), &hi(), &mut room), 0);
+    assert_equal(&rt, room, *b"Hi");
 }
 
 /// The line of a refused image has 17 bytes; where a byte of it isn't written, the status says so.
 #[test]
 fn a_line_that_is_not_written(rt: HostRuntime) {
     let mut room = [0; 16];
-    assert_eq!(rt; status_with_room(rt.alloc(), b"FTH", &mut room), 5);
-    assert_eq!(rt; room, *b"image: Truncated");
+    assert_equal(&rt, status_with_room(rt.alloc(), b"FTH", &mut room), 5);
+    assert_equal(&rt, room, *b"image: Truncated");
     let mut room = [0; 17];
-    assert_eq!(rt; status_with_room(rt.alloc(), b"FTH", &mut room), 1);
-    assert_eq!(rt; room, *b"image: Truncated\n");
+    assert_equal(&rt, status_with_room(rt.alloc(), b"FTH", &mut room), 1);
+    assert_equal(&rt, room, *b"image: Truncated\n");
 }
 
 /// Fails at its first read.
@@ -185,6 +186,6 @@ fn a_reader_that_fails(rt: HostRuntime) {
         &mut reader,
         &mut writer,
     );
-    assert_eq!(rt; ended.status, 5);
+    assert_equal(&rt, ended.status, 5);
     assert!(rt; ended.file.is_none());
 }

@@ -2,6 +2,7 @@
 
 ghost use Rattle.std.specs.Prelude.{◌≤◌, vec_len};
 
+use crate::assertions::assert_equal;
 use block_buffers::MemoryDevice;
 use inner_interpreter::Writing;
 use std::alloc::Global;
@@ -66,12 +67,12 @@ fn words_of_an_image(rt: HostRuntime) -> Result<(), Fail> {
         ("", ": NotFound\n", 1),
     ] {
         let (text, ended) = shown(rt.alloc(), &file, name);
-        assert_eq!(rt; text.as_slice(), line.as_bytes());
-        assert_eq!(rt; ended, status);
+        assert_equal(&rt, text.as_slice(), line.as_bytes());
+        assert_equal(&rt, ended, status);
     }
     let (text, ended) = shown(rt.alloc(), b"GTH".as_slice(), "Z");
-    assert_eq!(rt; text.as_slice(), b"image: BadMagic\n".as_slice());
-    assert_eq!(rt; ended, 1);
+    assert_equal(&rt, text.as_slice(), b"image: BadMagic\n".as_slice());
+    assert_equal(&rt, ended, 1);
     Ok(())
 }
 
@@ -94,8 +95,8 @@ fn cells_that_are_changed(rt: HostRuntime) -> Result<(), Fail> {
         let mut file = built(rt.alloc(), CHOICE)?;
         set_cell(&mut file, at, cell);
         let (text, ended) = shown(rt.alloc(), &file, "Z");
-        assert_eq!(rt; text.as_slice(), line.as_bytes());
-        assert_eq!(rt; ended, 1);
+        assert_equal(&rt, text.as_slice(), line.as_bytes());
+        assert_equal(&rt, ended, 1);
     }
     Ok(())
 }
@@ -112,8 +113,8 @@ fn a_thread_that_ends_at_here(rt: HostRuntime) -> Result<(), Fail> {
         let mut file = built(rt.alloc(), CHOICE)?;
         set_cell(&mut file, 28, here);
         let (text, ended) = shown(rt.alloc(), &file, "GO");
-        assert_eq!(rt; text.as_slice(), line.as_bytes());
-        assert_eq!(rt; ended, status);
+        assert_equal(&rt, text.as_slice(), line.as_bytes());
+        assert_equal(&rt, ended, status);
     }
     Ok(())
 }
@@ -124,11 +125,11 @@ fn a_text_with_a_quote(rt: HostRuntime) -> Result<(), Fail> {
     let source = r#"5 PRIM EXIT 16 PRIM (.") : Q ." Hi" ; BOOT Q"#;
     let mut file = built(rt.alloc(), source)?;
     let (text, _) = shown(rt.alloc(), &file, "Q");
-    assert_eq!(rt; text.as_slice(), b": Q .\" Hi\" ;\n".as_slice());
+    assert_equal(&rt, text.as_slice(), b": Q .\" Hi\" ;\n".as_slice());
     set_cell(&mut file, 289, 0x2248);
     let (text, ended) = shown(rt.alloc(), &file, "Q");
-    assert_eq!(rt; text.as_slice(), b"Q: BadText\n".as_slice());
-    assert_eq!(rt; ended, 1);
+    assert_equal(&rt, text.as_slice(), b"Q: BadText\n".as_slice());
+    assert_equal(&rt, ended, 1);
     Ok(())
 }
 
@@ -147,7 +148,7 @@ fn names_that_are_shadowed(rt: HostRuntime) -> Result<(), Fail> {
         ("X", ": X Y ;\n"),
     ] {
         let (text, _) = shown(rt.alloc(), &file, name);
-        assert_eq!(rt; text.as_slice(), line.as_bytes());
+        assert_equal(&rt, text.as_slice(), line.as_bytes());
     }
     Ok(())
 }
@@ -160,11 +161,12 @@ const COUNTDOWN: &str = "5 PRIM EXIT 7 PRIM BRANCH 8 PRIM ?BRANCH 32 PRIM DUP 57
 fn a_loop(rt: HostRuntime) -> Result<(), Fail> {
     let file = built(rt.alloc(), COUNTDOWN)?;
     let (text, ended) = shown(rt.alloc(), &file, "L");
-    assert_eq!(rt;
+    assert_equal(
+        &rt,
         text.as_slice(),
-        b": L BEGIN DUP WHILE 1- REPEAT ;\n".as_slice()
+        b": L BEGIN DUP WHILE 1- REPEAT ;\n".as_slice(),
     );
-    assert_eq!(rt; ended, 0);
+    assert_equal(&rt, ended, 0);
     Ok(())
 }
 
@@ -203,7 +205,7 @@ fn keywords_and_words_behind_compile(rt: HostRuntime) -> Result<(), Fail> {
         ("(", ": ( BYE ;\n"),
     ] {
         let (text, _) = shown(rt.alloc(), &file, name);
-        assert_eq!(rt; text.as_slice(), line.as_bytes());
+        assert_equal(&rt, text.as_slice(), line.as_bytes());
     }
     Ok(())
 }

@@ -1,3 +1,4 @@
+use crate::assertions::assert_equal;
 use block_buffers::laws::buffers_from;
 use block_buffers::{
     BLOCK_SIZE, Buffers, Device, DeviceFault, Entry, LINE_SIZE, MemoryDevice, delete_line,
@@ -17,7 +18,7 @@ fn entry(slot: usize, block: Option<u16>, updated: bool) -> Entry {
 fn assert_entries(rt: &impl Abort, buffers: &Buffers, wanted: [Entry; 4]) {
     for (place, &entry) in wanted.iter().enumerate() {
         if place < 4 {
-            assert_eq!(rt; buffers.entry(place), entry, "at place {place}");
+            assert_equal(rt, (place, buffers.entry(place)), (place, entry));
         }
     }
 }
@@ -35,9 +36,9 @@ fn four_updated() -> Buffers {
 #[test]
 fn updated_victim_is_written_and_given_away(rt: HostRuntime) {
     let mut buffers = four_updated();
-    assert_eq!(rt; buffers.victim(), entry(0, Some(1), true));
+    assert_equal(&rt, buffers.victim(), entry(0, Some(1), true));
     buffers.clean(0);
-    assert_eq!(rt; buffers.victim(), entry(0, Some(1), false));
+    assert_equal(&rt, buffers.victim(), entry(0, Some(1), false));
     buffers.assign(5);
     let wanted = [
         entry(0, Some(5), false),
@@ -46,10 +47,11 @@ fn updated_victim_is_written_and_given_away(rt: HostRuntime) {
         entry(1, Some(2), true),
     ];
     assert_entries(&rt, &buffers, wanted);
-    assert_eq!(rt; buffers.find(5), Some(0));
-    assert_eq!(rt; buffers.find(1), None);
-    assert_eq!(rt; buffers.slot_of(3), 2);
-    assert_eq!(rt; buffers.slot_of(1), 1, "the victim's");
+    assert_equal(&rt, buffers.find(5), Some(0));
+    assert_equal(&rt, buffers.find(1), None);
+    assert_equal(&rt, buffers.slot_of(3), 2);
+    // No buffer has block 1, so it's the victim's.
+    assert_equal(&rt, buffers.slot_of(1), 1);
 }
 
 /// Six references from two below the greatest stamp on: the stamps are numbered anew on the way, and no one sees it.
@@ -90,15 +92,15 @@ fn lowest_slot_is_written_first(rt: HostRuntime) {
     let mut buffers = four_updated();
     assert!(rt; buffers.find(1).is_some());
     buffers.touch(1);
-    assert_eq!(rt; buffers.first_dirty(), Some(entry(0, Some(1), true)));
+    assert_equal(&rt, buffers.first_dirty(), Some(entry(0, Some(1), true)));
     buffers.clean(0);
-    assert_eq!(rt; buffers.first_dirty(), Some(entry(1, Some(2), true)));
+    assert_equal(&rt, buffers.first_dirty(), Some(entry(1, Some(2), true)));
     buffers.unmark(9);
-    assert_eq!(rt; buffers.first_dirty(), Some(entry(1, Some(2), true)));
+    assert_equal(&rt, buffers.first_dirty(), Some(entry(1, Some(2), true)));
     buffers.unmark(2);
-    assert_eq!(rt; buffers.first_dirty(), Some(entry(2, Some(3), true)));
+    assert_equal(&rt, buffers.first_dirty(), Some(entry(2, Some(3), true)));
     buffers.unassign_all();
-    assert_eq!(rt; buffers.first_dirty(), None);
+    assert_equal(&rt, buffers.first_dirty(), None);
     buffers.mark_front();
     let wanted = [
         entry(0, None, false),
@@ -113,18 +115,18 @@ fn lowest_slot_is_written_first(rt: HostRuntime) {
 fn devices_of_the_least_and_the_greatest_size(rt: HostRuntime) -> Result<(), Fail> {
     let mut none = MemoryDevice::new(Vec::new(rt.alloc()), Vec::new(rt.alloc()));
     let mut page = [1; BLOCK_SIZE];
-    assert_eq!(rt; none.count(), 0);
-    assert_eq!(rt; none.read(0, &mut page), Err(DeviceFault));
-    assert_eq!(rt; none.write(0, &page), Err(DeviceFault));
+    assert_equal(&rt, none.count(), 0);
+    assert_equal(&rt, none.read(0, &mut page), Err(DeviceFault));
+    assert_equal(&rt, none.write(0, &page), Err(DeviceFault));
     let blocks = vec![in rt.alloc(); [0; BLOCK_SIZE]; 65536]?;
-    assert_eq!(rt; blocks.len(), 65536);
+    assert_equal(&rt, blocks.len(), 65536);
     let mut all = MemoryDevice::new(blocks, Vec::new(rt.alloc()));
-    assert_eq!(rt; all.count(), 65536);
-    assert_eq!(rt; all.write(65535, &page), Ok(()));
+    assert_equal(&rt, all.count(), 65536);
+    assert_equal(&rt, all.write(65535, &page), Ok(()));
     let mut copy = [0; BLOCK_SIZE];
-    assert_eq!(rt; all.read(65535, &mut copy), Ok(()));
+    assert_equal(&rt, all.read(65535, &mut copy), Ok(()));
     assert!(rt; copy == page);
-    assert_eq!(rt; all.read(65534, &mut copy), Ok(()));
+    assert_equal(&rt, all.read(65534, &mut copy), Ok(()));
     assert!(rt; copy == [0; BLOCK_SIZE]);
     Ok(())
 }
@@ -133,24 +135,17 @@ fn devices_of_the_least_and_the_greatest_size(rt: HostRuntime) -> Result<(), Fai
 fn calls_fail_where_they_were_chosen_to(rt: HostRuntime) -> Result<(), Fail> {
     let blocks = vec![in rt.alloc(); [1; BLOCK_SIZE], [2; BLOCK_SIZE]]?;
     let coming = vec![in rt.alloc(); false, true, true, false]?;
-    assert_eq!(rt; blocks.len(), 2);
+    assert_equal(&rt, blocks.len(), 2);
     let mut device = MemoryDevice::new(blocks, coming);
     let mut page = [0; BLOCK_SIZE];
-    assert_eq!(rt; device.read(1, &mut page), Ok(()));
+    assert_equal(&rt, device.read(1, &mut page), Ok(()));
     assert!(rt; page == [2; BLOCK_SIZE]);
-    assert_eq!(rt; device.read(0, &mut page), Err(DeviceFault));
-    assert_eq!(rt; device.write(1, &[3; BLOCK_SIZE]), Err(DeviceFault));
+    assert_equal(&rt, device.read(0, &mut page), Err(DeviceFault));
+    assert_equal(&rt, device.write(1, &[3; BLOCK_SIZE]), Err(DeviceFault));
     assert!(rt; device.blocks() == [[1; BLOCK_SIZE], [2; BLOCK_SIZE]].as_slice());
-    assert_eq!(rt;
-        device.read(2, &mut page),
-        Err(DeviceFault),
-        "no such block"
-    );
-    assert_eq!(rt;
-        device.write(0, &[4; BLOCK_SIZE]),
-        Ok(()),
-        "no result is left"
-    );
+    // There is no block 2, and then no result is left.
+    assert_equal(&rt, device.read(2, &mut page), Err(DeviceFault));
+    assert_equal(&rt, device.write(0, &[4; BLOCK_SIZE]), Ok(()));
     assert!(rt; device.blocks() == [[4; BLOCK_SIZE], [2; BLOCK_SIZE]].as_slice());
     Ok(())
 }
@@ -179,27 +174,22 @@ fn letters(screen: &[u8; BLOCK_SIZE]) -> [u8; 16] {
 #[test]
 fn lines_of_a_screen(rt: HostRuntime) {
     let mut screen = lettered();
-    assert_eq!(rt; letters(&screen), *b"abcdefghijklmnop");
+    assert_equal(&rt, letters(&screen), *b"abcdefghijklmnop");
     insert_line(
         &mut screen,
         15,
         b"----------------------------------------------------------------",
     );
-    assert_eq!(rt;
-        letters(&screen),
-        *b"abcdefghijklmno-",
-        "the old last line alone is lost"
-    );
+    // The old last line alone is lost.
+    assert_equal(&rt, letters(&screen), *b"abcdefghijklmno-");
+    // Line 16 is line 0.
     insert_line(&mut screen, 16, &[b'+'; LINE_SIZE]);
-    assert_eq!(rt; letters(&screen), *b"+abcdefghijklmno", "line 16 is line 0");
+    assert_equal(&rt, letters(&screen), *b"+abcdefghijklmno");
     delete_line(&mut screen, 3);
-    assert_eq!(rt; letters(&screen), *b"+abdefghijklmno ");
+    assert_equal(&rt, letters(&screen), *b"+abdefghijklmno ");
+    // 65,535 is 15 modulo 16.
     put_line(&mut screen, 65535, &[b'*'; LINE_SIZE]);
-    assert_eq!(rt;
-        letters(&screen),
-        *b"+abdefghijklmno*",
-        "65,535 is 15 modulo 16"
-    );
+    assert_equal(&rt, letters(&screen), *b"+abdefghijklmno*");
     wipe(&mut screen);
     assert!(rt; screen == [b' '; BLOCK_SIZE]);
 }

@@ -1,5 +1,6 @@
 //! Expected bytes and places are worked out by hand from the words' definitions.
 
+use crate::assertions::assert_equal;
 use compiling_words::{
     Control, Full, TextWord, allot, begin_definition, can_allot, comma, comma_byte, control_code,
     end_definition, inline_text, lay, literal, literal_code, mark_back, mark_forward, resolve_back,
@@ -24,10 +25,10 @@ fn memory_at(alloc: Global, rt: &impl Abort, here: u16) -> Memory {
 fn assert_laid(rt: &impl Abort, memory: &Memory, at: u16, want: &[u8], here: u16) {
     let mut place = at;
     for byte in want {
-        assert_eq!(rt; memory.byte(place), *byte, "at {place}");
+        assert_equal(rt, (place, memory.byte(place)), (place, *byte));
         place = place.wrapping_add(1);
     }
-    assert_eq!(rt; memory.cell(28), here);
+    assert_equal(rt, memory.cell(28), here);
 }
 
 #[test]
@@ -36,11 +37,11 @@ fn if_else_then(rt: HostRuntime) {
     memory.set_cell(78, 700);
     memory.set_cell(80, 800);
     let zero_branch = runtime(&memory, Control::ZeroBranch);
-    assert_eq!(rt; comma(&mut memory, zero_branch), Ok(()));
-    assert_eq!(rt; mark_forward(&mut memory), Ok(292));
+    assert_equal(&rt, comma(&mut memory, zero_branch), Ok(()));
+    assert_equal(&rt, mark_forward(&mut memory), Ok(292));
     let branch = runtime(&memory, Control::Branch);
-    assert_eq!(rt; comma(&mut memory, branch), Ok(()));
-    assert_eq!(rt; mark_forward(&mut memory), Ok(296));
+    assert_equal(&rt, comma(&mut memory, branch), Ok(()));
+    assert_equal(&rt, mark_forward(&mut memory), Ok(296));
     resolve_forward(&mut memory, 292);
     resolve_forward(&mut memory, 296);
     // 800, 298, 700, 298
@@ -57,12 +58,12 @@ fn if_else_then(rt: HostRuntime) {
 fn branches_back(rt: HostRuntime) {
     let mut memory = memory_at(rt.alloc(), &rt, 300);
     let a = mark_back(&memory);
-    assert_eq!(rt; a, 300);
-    assert_eq!(rt; lay(&mut memory, b"AB"), Ok(300));
+    assert_equal(&rt, a, 300);
+    assert_equal(&rt, lay(&mut memory, b"AB"), Ok(300));
     let code = control_code(&memory, Control::Branch, a);
     // 1007, 300
-    assert_eq!(rt; lay(&mut memory, &code), Ok(302));
-    assert_eq!(rt; resolve_back(&mut memory, a), Ok(()));
+    assert_equal(&rt, lay(&mut memory, &code), Ok(302));
+    assert_equal(&rt, resolve_back(&mut memory, a), Ok(()));
     assert_laid(&rt, &memory, 300, &[65, 66, 0xEF, 3, 0x2C, 1, 0x2C, 1], 308);
 }
 
@@ -82,27 +83,27 @@ fn runtime_cells(rt: HostRuntime) {
         (Control::Does, 1018),
     ];
     for (control, want) in table {
-        assert_eq!(rt; runtime(&memory, control), want, "{control:?}");
+        assert_equal(&rt, (control, runtime(&memory, control)), (control, want));
     }
-    assert_eq!(rt; literal_code(&memory, 0x1234), [0xEE, 3, 0x34, 0x12]);
+    assert_equal(&rt, literal_code(&memory, 0x1234), [0xEE, 3, 0x34, 0x12]);
 }
 
 #[test]
 fn bytes_at_the_end(rt: HostRuntime) {
     let mut memory = memory_at(rt.alloc(), &rt, 61439);
     memory.set_bytes(61438, b"XYZ");
-    assert_eq!(rt; comma(&mut memory, 0x4142), Err(Full));
-    assert_eq!(rt; mark_forward(&mut memory), Err(Full));
-    assert_eq!(rt; resolve_back(&mut memory, 0x4142), Err(Full));
+    assert_equal(&rt, comma(&mut memory, 0x4142), Err(Full));
+    assert_equal(&rt, mark_forward(&mut memory), Err(Full));
+    assert_equal(&rt, resolve_back(&mut memory, 0x4142), Err(Full));
     assert_laid(&rt, &memory, 61438, b"XYZ", 61439);
-    assert_eq!(rt; comma_byte(&mut memory, 0x41), Ok(()));
+    assert_equal(&rt, comma_byte(&mut memory, 0x41), Ok(()));
     assert_laid(&rt, &memory, 61438, b"XAZ", 61440);
-    assert_eq!(rt; comma_byte(&mut memory, 0x42), Err(Full));
-    assert_eq!(rt; lay(&mut memory, b""), Ok(61440));
+    assert_equal(&rt, comma_byte(&mut memory, 0x42), Err(Full));
+    assert_equal(&rt, lay(&mut memory, b""), Ok(61440));
     assert_laid(&rt, &memory, 61438, b"XAZ", 61440);
     memory.set_cell(28, 65535);
-    assert_eq!(rt; comma_byte(&mut memory, 0x42), Err(Full));
-    assert_eq!(rt; lay(&mut memory, b""), Err(Full));
+    assert_equal(&rt, comma_byte(&mut memory, 0x42), Err(Full));
+    assert_equal(&rt, lay(&mut memory, b""), Err(Full));
     assert_laid(&rt, &memory, 65535, &[0, 0], 65535);
 }
 
@@ -110,11 +111,11 @@ fn bytes_at_the_end(rt: HostRuntime) {
 fn dp_is_written_behind_the_bytes(rt: HostRuntime) {
     // The cell 0x0102 at 27 and 28, and then DP, which is at 28 and 29.
     let mut memory = memory_at(rt.alloc(), &rt, 27);
-    assert_eq!(rt; comma(&mut memory, 0x0102), Ok(()));
+    assert_equal(&rt, comma(&mut memory, 0x0102), Ok(()));
     assert_laid(&rt, &memory, 27, &[2, 29, 0], 29);
     // 1016, the count 2 and `ab` from 25 on: `b` is at 29, and DP goes over both.
     let mut memory = memory_at(rt.alloc(), &rt, 25);
-    assert_eq!(rt; inline_text(&mut memory, TextWord::Show, b"ab"), Ok(()));
+    assert_equal(&rt, inline_text(&mut memory, TextWord::Show, b"ab"), Ok(()));
     assert_laid(&rt, &memory, 25, &[0xF8, 3, 2, 30, 0], 30);
 }
 
@@ -140,9 +141,21 @@ fn here_moves(rt: HostRuntime) {
     for (here, n, want) in table {
         let mut memory = memory_at(rt.alloc(), &rt, here);
         let n = n.cast_unsigned();
-        assert_eq!(rt; can_allot(&memory, n), want.is_ok(), "{here} {n}");
-        assert_eq!(rt; allot(&mut memory, n).is_ok(), want.is_ok(), "{here} {n}");
-        assert_eq!(rt; memory.cell(28), want.unwrap_or(here), "{here} {n}");
+        assert_equal(
+            &rt,
+            (here, n, can_allot(&memory, n)),
+            (here, n, want.is_ok()),
+        );
+        assert_equal(
+            &rt,
+            (here, n, allot(&mut memory, n).is_ok()),
+            (here, n, want.is_ok()),
+        );
+        assert_equal(
+            &rt,
+            (here, n, memory.cell(28)),
+            (here, n, want.unwrap_or(here)),
+        );
     }
 }
 
@@ -151,7 +164,11 @@ fn literals(rt: HostRuntime) {
     // HERE, and whether the four bytes fit there.
     for (here, fits) in [(300u16, true), (61436, true), (61437, false)] {
         let mut memory = memory_at(rt.alloc(), &rt, here);
-        assert_eq!(rt; literal(&mut memory, 0x1234).is_ok(), fits, "at {here}");
+        assert_equal(
+            &rt,
+            (here, literal(&mut memory, 0x1234).is_ok()),
+            (here, fits),
+        );
         if fits {
             assert_laid(
                 &rt,
@@ -174,15 +191,15 @@ fn texts(rt: HostRuntime) {
     ];
     for (word, want) in table {
         let mut memory = memory_at(rt.alloc(), &rt, 61434);
-        assert_eq!(rt; inline_text(&mut memory, word, b"bad"), Ok(()));
+        assert_equal(&rt, inline_text(&mut memory, word, b"bad"), Ok(()));
         assert_laid(&rt, &memory, 61434, &want, 61440);
         let mut memory = memory_at(rt.alloc(), &rt, 61435);
-        assert_eq!(rt; inline_text(&mut memory, word, b"bad"), Err(Full));
+        assert_equal(&rt, inline_text(&mut memory, word, b"bad"), Err(Full));
         assert_laid(&rt, &memory, 61435, &[0, 0, 0, 0, 0, 0], 61435);
-        assert_eq!(rt; inline_text(&mut memory, word, b""), Ok(()));
-        assert_eq!(rt; memory.cell(28), 61438);
+        assert_equal(&rt, inline_text(&mut memory, word, b""), Ok(()));
+        assert_equal(&rt, memory.cell(28), 61438);
         let mut memory = memory_at(rt.alloc(), &rt, 300);
-        assert_eq!(rt; inline_text(&mut memory, word, &[7; 255]), Ok(()));
+        assert_equal(&rt, inline_text(&mut memory, word, &[7; 255]), Ok(()));
         assert_laid(&rt, &memory, 302, &[255, 7], 558);
         assert_laid(&rt, &memory, 557, &[7, 0], 558);
     }
@@ -196,14 +213,15 @@ fn definition_begins_and_ends(rt: HostRuntime) {
     memory.set_cell(34, 42);
     // G is 71, so its class is 3.
     memory.set_cell(48, 279);
-    assert_eq!(rt; begin_definition(&mut memory, b"GO"), Ok(()));
+    assert_equal(&rt, begin_definition(&mut memory, b"GO"), Ok(()));
     assert_laid(&rt, &memory, 290, &[7, 0, 0x17, 1, 0xA2, 71, 79, 1, 0], 299);
-    assert_eq!(rt; (memory.cell(48), memory.cell(30)), (292, 292));
-    assert_eq!(rt;
+    assert_equal(&rt, (memory.cell(48), memory.cell(30)), (292, 292));
+    assert_equal(
+        &rt,
         (memory.cell(16), memory.cell(32), memory.cell(34)),
-        (65535, 42, 42)
+        (65535, 42, 42),
     );
-    assert_eq!(rt; end_definition(&mut memory), Ok(()));
+    assert_equal(&rt, end_definition(&mut memory), Ok(()));
     assert_laid(
         &rt,
         &memory,
@@ -211,44 +229,49 @@ fn definition_begins_and_ends(rt: HostRuntime) {
         &[7, 0, 0x17, 1, 0x82, 71, 79, 1, 0, 0xED, 3],
         301,
     );
-    assert_eq!(rt; (memory.cell(16), memory.cell(30)), (0, 292));
+    assert_equal(&rt, (memory.cell(16), memory.cell(30)), (0, 292));
 }
 
 #[test]
 fn definitions_that_are_refused(rt: HostRuntime) {
     let mut memory = memory_at(rt.alloc(), &rt, 61402);
     memory.set_cell(34, 42);
-    assert_eq!(rt;
+    assert_equal(
+        &rt,
         begin_definition(&mut memory, b""),
-        Err(AddFault::NameLength)
+        Err(AddFault::NameLength),
     );
-    assert_eq!(rt;
+    assert_equal(
+        &rt,
         begin_definition(&mut memory, &[65; 32]),
-        Err(AddFault::NameLength)
+        Err(AddFault::NameLength),
     );
-    assert_eq!(rt; begin_definition(&mut memory, &[65; 31]), Ok(()));
-    assert_eq!(rt; memory.cell(28), 61440);
+    assert_equal(&rt, begin_definition(&mut memory, &[65; 31]), Ok(()));
+    assert_equal(&rt, memory.cell(28), 61440);
     let mut memory = memory_at(rt.alloc(), &rt, 61403);
     memory.set_cell(34, 42);
-    assert_eq!(rt;
+    assert_equal(
+        &rt,
         begin_definition(&mut memory, &[65; 32]),
-        Err(AddFault::NameLength)
+        Err(AddFault::NameLength),
     );
-    assert_eq!(rt;
+    assert_equal(
+        &rt,
         begin_definition(&mut memory, &[65; 31]),
-        Err(AddFault::Full)
+        Err(AddFault::Full),
     );
-    assert_eq!(rt;
+    assert_equal(
+        &rt,
         (memory.cell(28), memory.cell(16), memory.cell(32)),
-        (61403, 0, 0)
+        (61403, 0, 0),
     );
     memory.set_cell(28, 61439);
     memory.set_cell(16, 9);
-    assert_eq!(rt; end_definition(&mut memory), Err(Full));
-    assert_eq!(rt; (memory.cell(28), memory.cell(16)), (61439, 9));
+    assert_equal(&rt, end_definition(&mut memory), Err(Full));
+    assert_equal(&rt, (memory.cell(28), memory.cell(16)), (61439, 9));
     memory.set_cell(28, 61438);
-    assert_eq!(rt; end_definition(&mut memory), Ok(()));
-    assert_eq!(rt; (memory.cell(28), memory.cell(16)), (61440, 0));
+    assert_equal(&rt, end_definition(&mut memory), Ok(()));
+    assert_equal(&rt, (memory.cell(28), memory.cell(16)), (61440, 0));
 }
 
 #[test]
@@ -257,13 +280,13 @@ fn count_byte_is_read_before_exit_is_laid(rt: HostRuntime) {
     let mut memory = memory_at(rt.alloc(), &rt, 300);
     memory.set_cell(30, 298);
     memory.set_byte(300, 0xA5);
-    assert_eq!(rt; end_definition(&mut memory), Ok(()));
+    assert_equal(&rt, end_definition(&mut memory), Ok(()));
     assert_laid(&rt, &memory, 300, &[0x85, 3], 302);
     // LAST is read before too: 298 is at 30, where EXIT's address goes.
     let mut memory = memory_at(rt.alloc(), &rt, 30);
     memory.set_cell(30, 298);
     memory.set_byte(300, 0xA5);
-    assert_eq!(rt; end_definition(&mut memory), Ok(()));
+    assert_equal(&rt, end_definition(&mut memory), Ok(()));
     assert_laid(&rt, &memory, 30, &[0xED, 3], 32);
-    assert_eq!(rt; memory.byte(300), 0x85);
+    assert_equal(&rt, memory.byte(300), 0x85);
 }

@@ -1,3 +1,4 @@
+use crate::assertions::assert_equal;
 use dictionary::{
     AddFault, ChainTooLong, ForgetFault, Header, HeadersFault, Site, add_header, add_vocabulary,
     compilation_address, cut_by, find, fits, forget, forget_target, header, headers_in_order,
@@ -67,10 +68,13 @@ fn no_words(alloc: Global) -> Result<Memory, OutOfMemory> {
 }
 
 fn add(rt: &impl Abort, memory: &mut Memory, name: &str, code: u16, extra: &[u8]) {
-    assert_eq!(rt;
-        add_header(memory, name.as_bytes(), code, extra, false),
-        Ok(()),
-        "{name}"
+    assert_equal(
+        rt,
+        (
+            name,
+            add_header(memory, name.as_bytes(), code, extra, false),
+        ),
+        (name, Ok(())),
     );
 }
 
@@ -80,7 +84,11 @@ fn add_to(rt: &impl Abort, memory: &mut Memory, voc: u16, name: &str) {
 }
 
 fn add_voc(rt: &impl Abort, memory: &mut Memory, name: &str) {
-    assert_eq!(rt; add_vocabulary(memory, name.as_bytes()), Ok(()), "{name}");
+    assert_equal(
+        rt,
+        (name, add_vocabulary(memory, name.as_bytes())),
+        (name, Ok(())),
+    );
 }
 
 fn assert_add(
@@ -91,12 +99,16 @@ fn assert_add(
     wanted: Result<(), AddFault>,
 ) {
     let size = name.len();
-    assert_eq!(rt; add_header(memory, name, 2, extra, false), wanted, "{size}");
+    assert_equal(
+        rt,
+        (size, add_header(memory, name, 2, extra, false)),
+        (size, wanted),
+    );
 }
 
 fn assert_add_voc(rt: &impl Abort, memory: &mut Memory, name: &[u8], wanted: Result<(), AddFault>) {
     let size = name.len();
-    assert_eq!(rt; add_vocabulary(memory, name), wanted, "{size}");
+    assert_equal(rt, (size, add_vocabulary(memory, name)), (size, wanted));
 }
 
 fn assert_find(
@@ -105,12 +117,16 @@ fn assert_find(
     name: &[u8],
     wanted: Result<Option<u16>, ChainTooLong>,
 ) {
-    assert_eq!(rt; find(memory, name), wanted);
+    assert_equal(rt, find(memory, name), wanted);
 }
 
 fn assert_found(rt: &impl Abort, memory: &Memory, names: &[(&str, Option<u16>)]) {
     for (name, wanted) in names {
-        assert_eq!(rt; find(memory, name.as_bytes()), Ok(*wanted), "{name}");
+        assert_equal(
+            rt,
+            (name, find(memory, name.as_bytes())),
+            (name, Ok(*wanted)),
+        );
     }
 }
 
@@ -121,7 +137,7 @@ fn assert_sought(
     name: &[u8],
     wanted: Result<Option<u16>, ChainTooLong>,
 ) {
-    assert_eq!(rt; search_from(memory, voc, name), wanted, "from {voc}");
+    assert_equal(rt, (voc, search_from(memory, voc, name)), (voc, wanted));
 }
 
 fn assert_forget(
@@ -130,40 +146,41 @@ fn assert_forget(
     name: &str,
     wanted: Result<(), ForgetFault>,
 ) {
-    assert_eq!(rt; forget(memory, name.as_bytes()), wanted, "{name}");
+    assert_equal(rt, (name, forget(memory, name.as_bytes())), (name, wanted));
 }
 
 fn assert_headers(rt: &impl Abort, alloc: Global, memory: &Memory, wanted: &[u16]) {
     match headers_in_order(alloc, memory) {
-        Ok(headers) => assert_eq!(rt; headers.as_slice(), wanted),
+        Ok(headers) => assert_equal(rt, headers.as_slice(), wanted),
         Err(fault) => panic!(rt; "{fault}"),
     }
 }
 
 fn assert_no_headers(rt: &impl Abort, alloc: Global, memory: &Memory) {
-    assert_eq!(rt;
+    assert_equal(
+        rt,
         headers_in_order(alloc, memory).err(),
-        Some(HeadersFault::ChainTooLong)
+        Some(HeadersFault::ChainTooLong),
     );
 }
 
 fn assert_cells(rt: &impl Abort, memory: &Memory, cells: &[(u16, u16)]) {
     for (at, wanted) in cells {
-        assert_eq!(rt; memory.cell(*at), *wanted, "at {at}");
+        assert_equal(rt, (at, memory.cell(*at)), (at, *wanted));
     }
 }
 
 fn assert_bytes(rt: &impl Abort, memory: &Memory, at: u16, bytes: &[u8]) {
     let mut place = at;
     for wanted in bytes {
-        assert_eq!(rt; memory.byte(place), *wanted, "at {place}");
+        assert_equal(rt, (place, memory.byte(place)), (place, *wanted));
         place = place.wrapping_add(1);
     }
 }
 
 fn assert_same(rt: &impl Abort, memory: &Memory, other: &Memory) {
     for at in 0..=65535 {
-        assert_eq!(rt; memory.byte(at), other.byte(at), "at {at}");
+        assert_equal(rt, (at, memory.byte(at)), (at, other.byte(at)));
     }
 }
 
@@ -176,8 +193,8 @@ fn finds_what_stands_in_the_chains(rt: HostRuntime) -> Result<(), Fail> {
         &[("EXIT", Some(265)), ("BYE", Some(275)), ("GO", Some(284))],
     );
     assert_found(&rt, &memory, &[("E", None), ("EXITS", None), ("", None)]);
-    assert_eq!(rt; search(&memory, b"GO"), Ok(Some(279)));
-    assert_eq!(rt; compilation_address(&memory, 279), 284);
+    assert_equal(&rt, search(&memory, b"GO"), Ok(Some(279)));
+    assert_equal(&rt, compilation_address(&memory, 279), 284);
     let wanted = Header {
         view: 1,
         link: 0,
@@ -186,7 +203,7 @@ fn finds_what_stands_in_the_chains(rt: HostRuntime) -> Result<(), Fail> {
         hidden: false,
         compilation_address: 275,
     };
-    assert_eq!(rt; header(&memory, 269), wanted);
+    assert_equal(&rt, header(&memory, 269), wanted);
     assert_headers(&rt, rt.alloc(), &memory, &[258, 269, 279]);
     memory.set_cell(258, 258);
     assert_find(&rt, &memory, b"E", Err(ChainTooLong));
@@ -215,9 +232,9 @@ fn added_headers_are_the_bytes_written_by_hand(rt: HostRuntime) -> Result<(), Fa
 #[test]
 fn hidden_header_is_passed_over(rt: HostRuntime) -> Result<(), Fail> {
     let mut memory = three_words(rt.alloc())?;
-    assert_eq!(rt; add_header(&mut memory, b"GO", 1, &[], true), Ok(()));
+    assert_equal(&rt, add_header(&mut memory, b"GO", 1, &[], true), Ok(()));
     assert_bytes(&rt, &memory, 294, &[162]);
-    assert_eq!(rt; newest_count(&memory), 294);
+    assert_equal(&rt, newest_count(&memory), 294);
     assert_found(&rt, &memory, &[("GO", Some(284))]);
     assert!(rt; header(&memory, 292).hidden);
     reveal(&mut memory);
@@ -230,9 +247,9 @@ fn hidden_header_is_passed_over(rt: HostRuntime) -> Result<(), Fail> {
 fn one_more_header_counts_as_hidden(rt: HostRuntime) -> Result<(), Fail> {
     let mut memory = three_words(rt.alloc())?;
     add(&rt, &mut memory, "GO", 1, &[]);
-    assert_eq!(rt; search_hiding(&memory, b"GO", 292), Ok(Some(279)));
-    assert_eq!(rt; search_hiding(&memory, b"GO", 279), Ok(Some(292)));
-    assert_eq!(rt; search_hiding(&memory, b"BYE", 269), Ok(None));
+    assert_equal(&rt, search_hiding(&memory, b"GO", 292), Ok(Some(279)));
+    assert_equal(&rt, search_hiding(&memory, b"GO", 279), Ok(Some(292)));
+    assert_equal(&rt, search_hiding(&memory, b"BYE", 269), Ok(None));
     Ok(())
 }
 
@@ -244,7 +261,7 @@ fn newest_header_becomes_immediate(rt: HostRuntime) -> Result<(), Fail> {
     assert!(rt; is_immediate(&memory, 279));
     assert!(rt; !is_immediate(&memory, 269));
     assert_found(&rt, &memory, &[("GO", Some(284))]);
-    assert_eq!(rt; revealed(162), 130);
+    assert_equal(&rt, revealed(162), 130);
     Ok(())
 }
 
@@ -436,7 +453,7 @@ fn forgets_down_to_the_fence(rt: HostRuntime) -> Result<(), Fail> {
     memory.set_cell(FENCE, 290);
     assert_same(&rt, &memory, &three_words(rt.alloc())?);
     memory.set_cell(FENCE, 267);
-    assert_eq!(rt; forget_target(&memory, b"BYE"), Ok(267));
+    assert_equal(&rt, forget_target(&memory, b"BYE"), Ok(267));
     assert_forget(&rt, &mut memory, "BYE", Ok(()));
     assert_cells(
         &rt,
@@ -543,13 +560,15 @@ fn sites_take_what_was_read_before(rt: HostRuntime) -> Result<(), Fail> {
 #[test]
 fn faults_are_spelled_as_their_variants(rt: HostRuntime) -> Result<(), Fail> {
     let alloc = rt.alloc();
-    assert_eq!(rt;
+    assert_equal(
+        &rt,
         format!(in alloc; "{}", ChainTooLong)?.as_str(),
-        "ChainTooLong"
+        "ChainTooLong",
     );
-    assert_eq!(rt;
+    assert_equal(
+        &rt,
         format!(in alloc; "{} {}", AddFault::NameLength, AddFault::Full)?.as_str(),
-        "NameLength Full"
+        "NameLength Full",
     );
     let forgets = format!(in alloc;
         "{} {} {}",
@@ -557,12 +576,12 @@ fn faults_are_spelled_as_their_variants(rt: HostRuntime) -> Result<(), Fail> {
         ForgetFault::NotFound,
         ForgetFault::ChainTooLong
     )?;
-    assert_eq!(rt; forgets.as_str(), "NameLength NotFound ChainTooLong");
+    assert_equal(&rt, forgets.as_str(), "NameLength NotFound ChainTooLong");
     let headers = format!(in alloc;
         "{} {}",
         HeadersFault::ChainTooLong,
         HeadersFault::OutOfMemory
     )?;
-    assert_eq!(rt; headers.as_str(), "ChainTooLong OutOfMemory");
+    assert_equal(&rt, headers.as_str(), "ChainTooLong OutOfMemory");
     Ok(())
 }

@@ -1,3 +1,4 @@
+use crate::assertions::assert_equal;
 use image_loader::{Image, ImageFault, read, write};
 use std::test::Fail;
 
@@ -29,18 +30,18 @@ fn file() -> [u8; 292] {
 #[test]
 fn reads_a_file(rt: HostRuntime) -> Result<(), Fail> {
     let image = read(rt.alloc(), &file())?;
-    assert_eq!(rt; image.entry(), 262);
-    assert_eq!(rt; image.bytes(), memory().as_slice());
+    assert_equal(&rt, image.entry(), 262);
+    assert_equal(&rt, image.bytes(), memory().as_slice());
     Ok(())
 }
 
 #[test]
 fn writes_the_file_again(rt: HostRuntime) -> Result<(), Fail> {
     let bytes = memory().to_vec(rt.alloc())?;
-    assert_eq!(rt; bytes.len(), 278);
+    assert_equal(&rt, bytes.len(), 278);
     let image = Image::new(262, bytes);
     match write(rt.alloc(), &image) {
-        Ok(written) => assert_eq!(rt; written.as_slice(), file().as_slice()),
+        Ok(written) => assert_equal(&rt, written.as_slice(), file().as_slice()),
         Err(_) => assert!(rt; false, "out of memory"),
     }
     Ok(())
@@ -55,10 +56,10 @@ fn fault(rt: &HostRuntime, bytes: &[u8]) -> Option<ImageFault> {
 fn each_beginning_is_truncated(rt: HostRuntime) {
     let file = file();
     for n in 0..file.len() {
-        assert_eq!(rt;
-            fault(&rt, &file[..n]),
-            Some(ImageFault::Truncated),
-            "{n} bytes"
+        assert_equal(
+            &rt,
+            (n, fault(&rt, &file[..n])),
+            (n, Some(ImageFault::Truncated)),
         );
     }
 }
@@ -67,7 +68,7 @@ fn each_beginning_is_truncated(rt: HostRuntime) {
 fn a_byte_more_is_trailing(rt: HostRuntime) {
     let mut longer = [0; 293];
     longer[..292].copy_from_slice(&file());
-    assert_eq!(rt; fault(&rt, &longer), Some(ImageFault::TrailingBytes));
+    assert_equal(&rt, fault(&rt, &longer), Some(ImageFault::TrailingBytes));
 }
 
 /// Two bytes of a whole file are changed. The sizes are 255, 61,441 and 279.
@@ -84,7 +85,11 @@ fn wrong_fields_are_refused(rt: HostRuntime) {
         let mut bytes = file();
         bytes[place] = field[0];
         bytes[place + 1] = field[1];
-        assert_eq!(rt; fault(&rt, &bytes), Some(want), "{field:?} at {place}");
+        assert_equal(
+            &rt,
+            (field, place, fault(&rt, &bytes)),
+            (field, place, Some(want)),
+        );
     }
 }
 
@@ -99,7 +104,7 @@ fn beginnings_of_bad_files_are_refused(rt: HostRuntime) {
         (b"FTH83IMG\x01\x00\xFF\xFF\xFF", ImageFault::Truncated),
     ];
     for (bytes, want) in beginnings {
-        assert_eq!(rt; fault(&rt, bytes), Some(want), "{bytes:?}");
+        assert_equal(&rt, (bytes, fault(&rt, bytes)), (bytes, Some(want)));
     }
 }
 
@@ -111,7 +116,7 @@ fn the_least_and_the_greatest_size_are_read(rt: HostRuntime) -> Result<(), Fail>
         bytes[12] = low;
         bytes[13] = high;
         let image = read(rt.alloc(), bytes.as_slice())?;
-        assert_eq!(rt; image.bytes().len(), size);
+        assert_equal(&rt, image.bytes().len(), size);
     }
     Ok(())
 }
@@ -127,7 +132,7 @@ fn faults_are_spelled_as_their_variants(rt: HostRuntime) -> Result<(), Fail> {
         (ImageFault::OutOfMemory, "OutOfMemory"),
     ];
     for (fault, text) in spelled {
-        assert_eq!(rt; format!(in rt.alloc(); "{fault}")?.as_str(), text);
+        assert_equal(&rt, format!(in rt.alloc(); "{fault}")?.as_str(), text);
     }
     Ok(())
 }

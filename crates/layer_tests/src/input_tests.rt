@@ -1,5 +1,6 @@
 //! Expected places are counted by hand from the bytes that each test writes.
 
+use crate::assertions::assert_equal;
 use block_buffers::Buffers;
 use input_source::{NeedsBlock, Stream, TooLong, Word, next_word, parse_to, place_word, stream};
 use memory::Memory;
@@ -25,7 +26,7 @@ fn typed(alloc: Global, rt: &impl Abort, text: &[u8], in_place: u16) -> Memory {
 fn assert_bytes(rt: &impl Abort, memory: &Memory, at: u16, want: &[u8]) {
     let mut place = at;
     for byte in want {
-        assert_eq!(rt; memory.byte(place), *byte, "at {place}");
+        assert_equal(rt, (place, memory.byte(place)), (place, *byte));
         place = place.wrapping_add(1);
     }
 }
@@ -46,11 +47,11 @@ fn words_of_the_terminal(rt: HostRuntime) {
     for (in_place, (at, len, next)) in table {
         let memory = typed(rt.alloc(), &rt, b"  AB C", in_place);
         let stream = stream(&memory, &Buffers::new()).expect(&rt, "the terminal");
-        assert_eq!(rt; (stream.at, stream.size), (128, 6));
-        assert_eq!(rt;
-            next_word(&memory, stream, 32),
-            Word { at, len, next },
-            ">IN {in_place}"
+        assert_equal(&rt, (stream.at, stream.size), (128, 6));
+        assert_equal(
+            &rt,
+            (in_place, next_word(&memory, stream, 32)),
+            (in_place, Word { at, len, next }),
         );
     }
 }
@@ -70,14 +71,14 @@ fn parsing_does_not_skip(rt: HostRuntime) {
     let source = stream(&memory, &Buffers::new()).expect(&rt, "the terminal");
     for (place, (at, len, next)) in table {
         let later = Stream { place, ..source };
-        assert_eq!(rt;
-            parse_to(&memory, later, 41),
-            word(at, len, next),
-            "place {place}"
+        assert_equal(
+            &rt,
+            (place, parse_to(&memory, later, 41)),
+            (place, word(at, len, next)),
         );
     }
     let past = Stream { place: 9, ..source };
-    assert_eq!(rt; next_word(&memory, past, 32), word(8, 0, 8));
+    assert_equal(&rt, next_word(&memory, past, 32), word(8, 0, 8));
 }
 
 #[test]
@@ -90,22 +91,23 @@ fn stream_goes_on_at_address_0(rt: HostRuntime) {
     memory.set_cell(28, 300);
     memory.set_bytes(65534, b"ABCD");
     let source = stream(&memory, &Buffers::new()).expect(&rt, "the terminal");
-    assert_eq!(rt;
+    assert_equal(
+        &rt,
         source,
         Stream {
             at: 128,
             size: 65535,
-            place: 0
-        }
+            place: 0,
+        },
     );
     // No `)`: all bytes but the one at 127.
-    assert_eq!(rt; parse_to(&memory, source, 41), word(0, 65535, 65535));
+    assert_equal(&rt, parse_to(&memory, source, 41), word(0, 65535, 65535));
     // 65534 - 128, and the blank at address 2 is four places on.
     let found = next_word(&memory, source, 32);
-    assert_eq!(rt; found, word(65406, 4, 65411));
-    assert_eq!(rt; place_word(&mut memory, source, found), Ok(300));
+    assert_equal(&rt, found, word(65406, 4, 65411));
+    assert_equal(&rt, place_word(&mut memory, source, found), Ok(300));
     assert_bytes(&rt, &memory, 300, b"\x04ABCD ");
-    assert_eq!(rt; memory.cell(20), 65411);
+    assert_equal(&rt, memory.cell(20), 65411);
 }
 
 #[test]
@@ -113,45 +115,49 @@ fn blocks_are_found(rt: HostRuntime) {
     let mut memory = typed(rt.alloc(), &rt, b"typed", 1000);
     let mut buffers = Buffers::new();
     memory.set_cell(22, 9);
-    assert_eq!(rt; stream(&memory, &buffers), Err(NeedsBlock));
+    assert_equal(&rt, stream(&memory, &buffers), Err(NeedsBlock));
     buffers.assign(1);
     buffers.assign(9);
-    assert_eq!(rt;
+    assert_equal(
+        &rt,
         stream(&memory, &buffers),
         Ok(Stream {
             at: 62464,
             size: 1024,
-            place: 1000
-        })
+            place: 1000,
+        }),
     );
     memory.set_cell(20, 1025);
-    assert_eq!(rt;
+    assert_equal(
+        &rt,
         stream(&memory, &buffers),
         Ok(Stream {
             at: 62464,
             size: 1024,
-            place: 1024
-        })
+            place: 1024,
+        }),
     );
     memory.set_cell(22, 1);
-    assert_eq!(rt;
+    assert_equal(
+        &rt,
         stream(&memory, &buffers),
         Ok(Stream {
             at: 61440,
             size: 1024,
-            place: 1024
-        })
+            place: 1024,
+        }),
     );
     memory.set_cell(22, 2);
-    assert_eq!(rt; stream(&memory, &buffers), Err(NeedsBlock));
+    assert_equal(&rt, stream(&memory, &buffers), Err(NeedsBlock));
     memory.set_cell(22, 0);
-    assert_eq!(rt;
+    assert_equal(
+        &rt,
         stream(&memory, &buffers),
         Ok(Stream {
             at: 128,
             size: 5,
-            place: 5
-        })
+            place: 5,
+        }),
     );
 }
 
@@ -166,7 +172,7 @@ fn word_at_the_end_of_a_block(rt: HostRuntime) {
     // What stands behind the block isn't part of it.
     memory.set_bytes(61440 + 1024, b"CD");
     let source = stream(&memory, &buffers).expect(&rt, "block 1");
-    assert_eq!(rt; next_word(&memory, source, 32), word(1022, 2, 1024));
+    assert_equal(&rt, next_word(&memory, source, 32), word(1022, 2, 1024));
 }
 
 #[test]
@@ -186,16 +192,21 @@ fn long_words_are_refused(rt: HostRuntime) {
         memory.fill(61440, len, 65);
         let source = stream(&memory, &buffers).expect(&rt, "block 1");
         let found = next_word(&memory, source, 32);
-        assert_eq!(rt; found, word(0, len, next));
-        assert_eq!(rt; place_word(&mut memory, source, found), want, "{len} bytes");
+        assert_equal(&rt, found, word(0, len, next));
+        assert_equal(
+            &rt,
+            (len, place_word(&mut memory, source, found)),
+            (len, want),
+        );
         if want.is_ok() {
-            assert_eq!(rt; (memory.cell(20), memory.byte(300)), (256, 255));
-            assert_eq!(rt;
+            assert_equal(&rt, (memory.cell(20), memory.byte(300)), (256, 255));
+            assert_equal(
+                &rt,
                 (memory.byte(301), memory.byte(555), memory.byte(556)),
-                (65, 65, 32)
+                (65, 65, 32),
             );
         } else {
-            assert_eq!(rt; (memory.cell(20), memory.cell(300)), (0, 0));
+            assert_equal(&rt, (memory.cell(20), memory.cell(300)), (0, 0));
         }
     }
 }
@@ -207,7 +218,7 @@ fn words_are_read_before_memory_is_written(rt: HostRuntime) {
     memory.set_cell(28, 130);
     let source = stream(&memory, &Buffers::new()).expect(&rt, "the terminal");
     let found = next_word(&memory, source, 32);
-    assert_eq!(rt; place_word(&mut memory, source, found), Ok(130));
+    assert_equal(&rt, place_word(&mut memory, source, found), Ok(130));
     assert_bytes(&rt, &memory, 130, b"\x02AB ");
     // The word is the two bytes of >IN.
     let mut memory = typed(rt.alloc(), &rt, b"", 0x4443);
@@ -216,9 +227,9 @@ fn words_are_read_before_memory_is_written(rt: HostRuntime) {
         size: 6,
         place: 2,
     };
-    assert_eq!(rt; place_word(&mut memory, source, word(2, 2, 5)), Ok(300));
+    assert_equal(&rt, place_word(&mut memory, source, word(2, 2, 5)), Ok(300));
     assert_bytes(&rt, &memory, 300, b"\x02CD ");
-    assert_eq!(rt; memory.cell(20), 5);
+    assert_equal(&rt, memory.cell(20), 5);
 }
 
 #[test]
@@ -227,13 +238,18 @@ fn words_are_placed_over_cells(rt: HostRuntime) {
     let source = stream(&memory, &Buffers::new()).expect(&rt, "the terminal");
     // >IN is written first, and then the word over it.
     memory.set_cell(28, 19);
-    assert_eq!(rt; place_word(&mut memory, source, word(0, 2, 2)), Ok(19));
+    assert_equal(&rt, place_word(&mut memory, source, word(0, 2, 2)), Ok(19));
     assert_bytes(&rt, &memory, 19, b"\x02CD ");
     // An empty word over the end of memory.
     memory.set_cell(28, 65535);
-    assert_eq!(rt; place_word(&mut memory, source, word(2, 0, 2)), Ok(65535));
-    assert_eq!(rt;
+    assert_equal(
+        &rt,
+        place_word(&mut memory, source, word(2, 0, 2)),
+        Ok(65535),
+    );
+    assert_equal(
+        &rt,
         (memory.byte(65535), memory.byte(0), memory.cell(20)),
-        (0, 32, 2)
+        (0, 32, 2),
     );
 }

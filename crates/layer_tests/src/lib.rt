@@ -2,6 +2,8 @@
 #![tactic(auto)]
 
 #[cfg(test)]
+mod assertions;
+#[cfg(test)]
 mod block_buffer_tests;
 #[cfg(test)]
 mod colon_body_tests;

@@ -1,5 +1,6 @@
 //! Sources and what is built of them: the expected values are worked out by hand from the sizes of headers and bodies.
 
+use crate::assertions::assert_equal;
 use block_buffers::{BLOCK_SIZE, MemoryDevice};
 use image_loader::Image;
 use metacompiler::build;
@@ -92,7 +93,7 @@ fn assert_answers(
     for line in lines.lines() {
         let (screens, wanted) = line.split_once(" | ").ok_or("no answer")?;
         let answer = answer(alloc, range, screens, wanted)?;
-        assert_eq!(rt; answer.as_str(), wanted, "{line}");
+        assert_equal(rt, (line, answer.as_str()), (line, wanted));
     }
     Ok(())
 }
@@ -123,9 +124,17 @@ fn assert_last_place(
 ) -> Result<(), Fail> {
     let last = 61440u16.saturating_sub(bytes);
     let fits = placed(alloc, last, text)?;
-    assert_eq!(rt; fits.as_str(), full_at(alloc, next)?.as_str(), "{text}");
+    assert_equal(
+        rt,
+        (text, fits.as_str()),
+        (text, full_at(alloc, next)?.as_str()),
+    );
     let full = placed(alloc, last.saturating_add(1), text)?;
-    assert_eq!(rt; full.as_str(), full_at(alloc, offset)?.as_str(), "{text}");
+    assert_equal(
+        rt,
+        (text, full.as_str()),
+        (text, full_at(alloc, offset)?.as_str()),
+    );
     Ok(())
 }
 
@@ -162,8 +171,8 @@ fn each_byte(rt: HostRuntime) -> Result<(), Fail> {
     wanted[256..].copy_from_slice(behind);
     let mut device = device(rt.alloc(), "5 PRIM EXIT 23 PRIM BYE : GO BYE ; BOOT GO")?;
     let image = build(rt.alloc(), &mut device, 1, 1)?;
-    assert_eq!(rt; image.entry(), 284);
-    assert_eq!(rt; image.bytes(), wanted.as_slice());
+    assert_equal(&rt, image.entry(), 284);
+    assert_equal(&rt, image.bytes(), wanted.as_slice());
     Ok(())
 }
 
@@ -272,7 +281,7 @@ CREATE ABCDEFGHIJKLMNOPQRSTUVWXYZ123456 | screen 2 offset 7: BadName
     for line in lines.lines() {
         let (text, wanted) = line.split_once(" | ").ok_or("no answer")?;
         let answer = placed(rt.alloc(), 61440, text)?;
-        assert_eq!(rt; answer.as_str(), wanted, "{line}");
+        assert_equal(&rt, (line, answer.as_str()), (line, wanted));
     }
     Ok(())
 }

@@ -1,3 +1,4 @@
+use crate::assertions::assert_equal;
 use source_words::{Mode, Scanner};
 use std::test::Fail;
 
@@ -26,8 +27,8 @@ fn listed(rt: &HostRuntime, text: &[u8], mode: Mode) -> Result<(String, Mode), F
 macro_rules! reads {
     ($rt:expr, $text:expr, $words:expr, $mode:expr) => {{
         let (words, mode) = listed(&$rt, $text.as_slice(), Mode::Outside)?;
-        assert_eq!($rt; words.as_str(), $words);
-        assert_eq!($rt; mode, $mode);
+        assert_equal(&$rt, words.as_str(), $words);
+        assert_equal(&$rt, mode, $mode);
     }};
 }
 

@@ -1,3 +1,4 @@
+use crate::assertions::assert_equal;
 use colon_bodies::{BodyWord, compile};
 use see::thread_words;
 use std::test::Fail;
@@ -23,7 +24,7 @@ fn a_loop(rt: HostRuntime) -> Result<(), Fail> {
         BodyWord::Semicolon,
     ];
     match thread_words(rt.alloc(), &bytes, &RUNTIME, 321) {
-        Ok(Some(seen)) => assert_eq!(rt; seen.as_slice(), words.as_slice()),
+        Ok(Some(seen)) => assert_equal(&rt, seen.as_slice(), words.as_slice()),
         _ => return Err("no thread".into()),
     }
     Ok(())
@@ -53,7 +54,7 @@ fn loops_at_one_place(rt: HostRuntime) -> Result<(), Fail> {
         BodyWord::Semicolon,
     ];
     match thread_words(rt.alloc(), &bytes, &RUNTIME, 1000) {
-        Ok(Some(seen)) => assert_eq!(rt; seen.as_slice(), words.as_slice()),
+        Ok(Some(seen)) => assert_equal(&rt, seen.as_slice(), words.as_slice()),
         _ => return Err("no thread".into()),
     }
     Ok(())
@@ -104,7 +105,7 @@ fn found_again(rt: HostRuntime) -> Result<(), Fail> {
         return Err("too long".into());
     }
     match thread_words(rt.alloc(), &image, &RUNTIME, 1000) {
-        Ok(Some(seen)) => assert_eq!(rt; seen.as_slice(), NESTED.as_slice()),
+        Ok(Some(seen)) => assert_equal(&rt, seen.as_slice(), NESTED.as_slice()),
         _ => return Err("no thread".into()),
     }
     match thread_words(rt.alloc(), &image, &RUNTIME, 1002) {

@@ -1,3 +1,4 @@
+use crate::assertions::assert_equal;
 use memory::system::{CONTEXT, DP};
 use memory::{Memory, OutOfMemory};
 use see::{ViewRefused, view};
@@ -22,13 +23,13 @@ fn the_block_of_a_word(rt: HostRuntime) -> Result<(), Fail> {
     let Ok(mut memory) = three_words(rt.alloc()) else {
         return Err("no memory".into());
     };
-    assert_eq!(rt; view(&memory, b"EXIT"), Ok(1));
-    assert_eq!(rt; view(&memory, b"Z"), Ok(258));
-    assert_eq!(rt; view(&memory, b"GO"), Err(ViewRefused::NotFound));
-    assert_eq!(rt; view(&memory, b"EXI"), Err(ViewRefused::NotFound));
-    assert_eq!(rt; view(&memory, b""), Err(ViewRefused::NotFound));
+    assert_equal(&rt, view(&memory, b"EXIT"), Ok(1));
+    assert_equal(&rt, view(&memory, b"Z"), Ok(258));
+    assert_equal(&rt, view(&memory, b"GO"), Err(ViewRefused::NotFound));
+    assert_equal(&rt, view(&memory, b"EXI"), Err(ViewRefused::NotFound));
+    assert_equal(&rt, view(&memory, b""), Err(ViewRefused::NotFound));
     memory.set_cell(258, 258);
-    assert_eq!(rt; view(&memory, b"EXIT"), Ok(1));
-    assert_eq!(rt; view(&memory, b"A"), Err(ViewRefused::ChainTooLong));
+    assert_equal(&rt, view(&memory, b"EXIT"), Ok(1));
+    assert_equal(&rt, view(&memory, b"A"), Err(ViewRefused::ChainTooLong));
     Ok(())
 }
