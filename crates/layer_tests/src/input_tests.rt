@@ -11,6 +11,10 @@ fn word(at: u16, len: u16, next: u16) -> Word {
     Word { at, len, next }
 }
 
+fn source_at(at: u16, size: u16, place: u16) -> Stream {
+    Stream { at, size, place }
+}
+
 /// Memory of zeros with a text in the terminal's buffer, `in_place` as >IN, and HERE at 300.
 fn typed(alloc: Global, rt: &impl Abort, text: &[u8], in_place: u16) -> Memory {
     let mut memory = Memory::new(alloc).expect(rt, "memory");
@@ -91,15 +95,7 @@ fn stream_goes_on_at_address_0(rt: HostRuntime) {
     memory.set_cell(28, 300);
     memory.set_bytes(65534, b"ABCD");
     let source = stream(&memory, &Buffers::new()).expect(&rt, "the terminal");
-    assert_equal(
-        &rt,
-        source,
-        Stream {
-            at: 128,
-            size: 65535,
-            place: 0,
-        },
-    );
+    assert_equal(&rt, source, source_at(128, 65535, 0));
     // No `)`: all bytes but the one at 127.
     assert_equal(&rt, parse_to(&memory, source, 41), word(0, 65535, 65535));
     // 65534 - 128, and the blank at address 2 is four places on.
@@ -121,44 +117,24 @@ fn blocks_are_found(rt: HostRuntime) {
     assert_equal(
         &rt,
         stream(&memory, &buffers),
-        Ok(Stream {
-            at: 62464,
-            size: 1024,
-            place: 1000,
-        }),
+        Ok(source_at(62464, 1024, 1000)),
     );
     memory.set_cell(20, 1025);
     assert_equal(
         &rt,
         stream(&memory, &buffers),
-        Ok(Stream {
-            at: 62464,
-            size: 1024,
-            place: 1024,
-        }),
+        Ok(source_at(62464, 1024, 1024)),
     );
     memory.set_cell(22, 1);
     assert_equal(
         &rt,
         stream(&memory, &buffers),
-        Ok(Stream {
-            at: 61440,
-            size: 1024,
-            place: 1024,
-        }),
+        Ok(source_at(61440, 1024, 1024)),
     );
     memory.set_cell(22, 2);
     assert_equal(&rt, stream(&memory, &buffers), Err(NeedsBlock));
     memory.set_cell(22, 0);
-    assert_equal(
-        &rt,
-        stream(&memory, &buffers),
-        Ok(Stream {
-            at: 128,
-            size: 5,
-            place: 5,
-        }),
-    );
+    assert_equal(&rt, stream(&memory, &buffers), Ok(source_at(128, 5, 5)));
 }
 
 #[test]
@@ -222,11 +198,7 @@ fn words_are_read_before_memory_is_written(rt: HostRuntime) {
     assert_bytes(&rt, &memory, 130, b"\x02AB ");
     // The word is the two bytes of >IN.
     let mut memory = typed(rt.alloc(), &rt, b"", 0x4443);
-    let source = Stream {
-        at: 18,
-        size: 6,
-        place: 2,
-    };
+    let source = source_at(18, 6, 2);
     assert_equal(&rt, place_word(&mut memory, source, word(2, 2, 5)), Ok(300));
     assert_bytes(&rt, &memory, 300, b"\x02CD ");
     assert_equal(&rt, memory.cell(20), 5);
