@@ -9,11 +9,11 @@ use std::alloc::Global;
 use std::process::Abort;
 use std::test::Fail;
 
-/// The codes of the rows that are done in place, and of two that aren't (2/ and ABS).
-const CODES: [u8; 53] = [
-    1, 2, 3, 5, 6, 7, 8, 9, 10, 11, 12, 13, 14, 20, 21, 22, 32, 33, 34, 35, 36, 39, 41, 42, 48, 49,
-    50, 56, 57, 58, 59, 60, 61, 62, 63, 66, 67, 68, 69, 70, 71, 72, 73, 74, 75, 76, 77, 96, 97, 98,
-    99, 100, 106,
+/// The codes of the rows that are done in place, and of two that aren't (DEPTH and 2OVER).
+const CODES: [u8; 57] = [
+    1, 2, 3, 5, 6, 7, 8, 9, 10, 11, 12, 13, 14, 20, 21, 22, 32, 33, 34, 35, 36, 39, 40, 41, 42, 43,
+    48, 49, 50, 56, 57, 58, 59, 60, 61, 62, 63, 64, 65, 66, 67, 68, 69, 70, 71, 72, 73, 74, 75, 76,
+    77, 96, 97, 98, 99, 100, 106,
 ];
 
 /// Depths at both ends of a stack.
