@@ -9,11 +9,12 @@ use std::alloc::Global;
 use std::process::Abort;
 use std::test::Fail;
 
-/// The codes of the rows that are done in place, and of two that aren't (DEPTH and 2OVER).
-const CODES: [u8; 57] = [
-    1, 2, 3, 5, 6, 7, 8, 9, 10, 11, 12, 13, 14, 20, 21, 22, 32, 33, 34, 35, 36, 39, 40, 41, 42, 43,
-    48, 49, 50, 56, 57, 58, 59, 60, 61, 62, 63, 64, 65, 66, 67, 68, 69, 70, 71, 72, 73, 74, 75, 76,
-    77, 96, 97, 98, 99, 100, 106,
+/// The codes of the rows that are done in place, EXECUTE's, which is done with the row of its word, and those of two that aren't
+/// (DEPTH and 2OVER).
+const CODES: [u8; 58] = [
+    1, 2, 3, 5, 6, 7, 8, 9, 10, 11, 12, 13, 14, 15, 20, 21, 22, 32, 33, 34, 35, 36, 39, 40, 41, 42,
+    43, 48, 49, 50, 56, 57, 58, 59, 60, 61, 62, 63, 64, 65, 66, 67, 68, 69, 70, 71, 72, 73, 74, 75,
+    76, 77, 96, 97, 98, 99, 100, 106,
 ];
 
 /// Depths at both ends of a stack.
@@ -83,11 +84,23 @@ fn lay(bytes: &mut Vec<u8>, cell: u16) -> Result<(), Fail> {
     Ok(())
 }
 
-/// At 256 the code fields of (LIT), >R, the row and BYE; at 264 a colon word that puts `deep` cells on the data stack
-/// and `far` on the return stack, does the row over the cell 274 behind it, and halts.
-fn thread(alloc: Global, code: u8, deep: usize, far: usize, cell: u16) -> Result<Vec<u8>, Fail> {
+/// A row's word by its token.
+const PLAIN: [u16; 1] = [260];
+
+/// The same by EXECUTE of its address.
+const EXECUTED: [u16; 3] = [256, 260, 264];
+
+/// At 256 the code fields of (LIT), >R, the row, BYE and EXECUTE; at 266 a colon word that puts `deep` cells on the data stack
+/// and `far` on the return stack, does the row by these tokens over the cell 276 behind them, and halts.
+fn thread(
+    alloc: Global,
+    code: u8,
+    tokens: &[u16],
+    (deep, far): (usize, usize),
+    cell: u16,
+) -> Result<Vec<u8>, Fail> {
     let mut bytes = Vec::new(alloc);
-    for field in [6, 20, u16::from(code), 23, 1] {
+    for field in [6, 20, u16::from(code), 23, 15, 1] {
         lay(&mut bytes, field)?;
     }
     for _ in 0..far {
@@ -99,9 +112,11 @@ fn thread(alloc: Global, code: u8, deep: usize, far: usize, cell: u16) -> Result
         lay(&mut bytes, 256)?;
         lay(&mut bytes, cell)?;
     }
-    for token in [260, 274, 262] {
-        lay(&mut bytes, token)?;
+    for token in tokens {
+        lay(&mut bytes, *token)?;
     }
+    lay(&mut bytes, 276)?;
+    lay(&mut bytes, 262)?;
     Ok(bytes)
 }
 
@@ -110,12 +125,13 @@ fn thread(alloc: Global, code: u8, deep: usize, far: usize, cell: u16) -> Result
 fn assert_row_at(
     rt: &(impl Abort + Alloc<A = Global>),
     code: u8,
-    (deep, far): (usize, usize),
+    tokens: &[u16],
+    depths: (usize, usize),
     cell: u16,
 ) -> Result<(), Fail> {
-    let bytes = thread(rt.alloc(), code, deep, far, cell)?;
-    let mut stretched = machine(rt, 264, bytes.as_slice(), &[], 0)?;
-    let mut single = machine(rt, 264, bytes.as_slice(), &[], 0)?;
+    let bytes = thread(rt.alloc(), code, tokens, depths, cell)?;
+    let mut stretched = machine(rt, 266, bytes.as_slice(), &[], 0)?;
+    let mut single = machine(rt, 266, bytes.as_slice(), &[], 0)?;
     assert_stretch(rt, &mut stretched, &mut single, 2000);
     Ok(())
 }
@@ -123,11 +139,11 @@ fn assert_row_at(
 /// The same at both ends of both stacks.
 fn assert_row(rt: &(impl Abort + Alloc<A = Global>), code: u8, cell: u16) -> Result<(), Fail> {
     for deep in DEPTHS_TRIED {
-        assert_row_at(rt, code, (deep, 3), cell)?;
+        assert_row_at(rt, code, &PLAIN, (deep, 3), cell)?;
     }
     for deep in [0, 2, 256] {
         for far in [0, 1, 2, 4, 255, 256] {
-            assert_row_at(rt, code, (deep, far), cell)?;
+            assert_row_at(rt, code, &PLAIN, (deep, far), cell)?;
         }
     }
     Ok(())
@@ -138,6 +154,46 @@ fn assert_row(rt: &(impl Abort + Alloc<A = Global>), code: u8, cell: u16) -> Res
 fn rows_at_both_ends_of_both_stacks(rt: HostRuntime) -> Result<(), Fail> {
     for code in CODES {
         assert_row(&rt, code, 65535)?;
+    }
+    Ok(())
+}
+
+/// Each of these rows by EXECUTE of its word, over as few and as many cells; `-1 EXECUTE` too.
+#[test]
+fn rows_that_are_executed(rt: HostRuntime) -> Result<(), Fail> {
+    for code in CODES {
+        for depths in [
+            (0, 0),
+            (1, 1),
+            (2, 2),
+            (3, 4),
+            (254, 3),
+            (255, 255),
+            (2, 256),
+        ] {
+            assert_row_at(&rt, code, &EXECUTED, depths, 65535)?;
+        }
+    }
+    Ok(())
+}
+
+/// At 256 the code fields of (LIT), EXECUTE, BRANCH and EXIT, and a word that EXITs at once (264); at 268 a colon word that executes
+/// it, and EXECUTE of it, without end.
+const EXECUTES: [u16; 17] = [
+    6, 15, 7, 5, 1, 262, 1, 256, 264, 258, 256, 264, 256, 258, 258, 260, 270,
+];
+
+/// Each number of ticks up to 40: so a stretch ends before EXECUTE, between it and its word, and behind both.
+#[test]
+fn stretches_of_executes(rt: HostRuntime) -> Result<(), Fail> {
+    let mut bytes = Vec::new(rt.alloc());
+    for cell in EXECUTES {
+        lay(&mut bytes, cell)?;
+    }
+    for n in 0..41 {
+        let mut stretched = machine(&rt, 268, bytes.as_slice(), &[], 0)?;
+        let mut single = machine(&rt, 268, bytes.as_slice(), &[], 0)?;
+        assert_stretch(&rt, &mut stretched, &mut single, n);
     }
     Ok(())
 }
@@ -180,10 +236,7 @@ fn threads_at_the_end_of_memory(rt: HostRuntime) -> Result<(), Fail> {
 fn stores_at_both_ends_of_memory(rt: HostRuntime) -> Result<(), Fail> {
     for code in [96, 97, 98, 99, 100, 106] {
         for at in [0, 1, 13, 14, 15, 16, 17, 65533, 65534, 65535] {
-            let bytes = thread(rt.alloc(), code, 2, 1, at)?;
-            let mut stretched = machine(&rt, 264, bytes.as_slice(), &[], 0)?;
-            let mut single = machine(&rt, 264, bytes.as_slice(), &[], 0)?;
-            assert_stretch(&rt, &mut stretched, &mut single, 2000);
+            assert_row_at(&rt, code, &PLAIN, (2, 1), at)?;
         }
     }
     Ok(())

@@ -3,6 +3,7 @@
 
 mod act;
 mod ends;
+mod executing;
 mod files;
 mod in_place;
 pub mod laws;
