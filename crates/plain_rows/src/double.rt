@@ -3,7 +3,8 @@
 #![tactic(auto, using(crate::proofs::Takes::takes))]
 
 ghost use Rattle.std.specs.Prelude.{◌≡◌, ◌≤◌, length, drop};
-ghost use Rattle.plain_rows.specs.Double.{double, leaves_double, d_magnitude, d_halved, d_least, d_greatest, d_plus, d_minus, d_negate, d_absolute, d_two_slash, d_min, d_max, d_equals, d_zero_equals, d_less, du_less};
+ghost use Rattle.plain_rows.specs.Row.{leaves, double, ◌▸▸◌};
+ghost use Rattle.plain_rows.specs.Double.{d_magnitude, d_halved, d_least, d_greatest, d_plus, d_minus, d_negate, d_absolute, d_two_slash, d_min, d_max, d_equals, d_zero_equals, d_less, du_less};
 
 use crate::cell::flag;
 use crate::ending::{from_one, from_two, leave};
@@ -19,7 +20,7 @@ pub fn double_of(low: u16, high: u16) -> u32
 
 fn leave_double(parts: &mut Parts, taken: usize, n: u32) -> Outcome
     requires { taken ≤ length parts.old.values }
-    ensures { (parts.new, result) ≡ leaves_double parts.old n (drop taken parts.old.values) }
+    ensures { (parts.new, result) ≡ leaves parts.old (drop taken parts.old.values ▸▸ n) }
 {
     leave(parts, taken, &[(n / 65536) as u16, (n % 65536) as u16])
 }
