@@ -3,7 +3,7 @@ use Rattle.std.proofs.Common.{◌≡◌, ℕ, ◌==◌, ◌||◌, List, [], ◌�
 use Rattle.std.proofs.lemmas.Bool.{eqb-true, cases_lt}
 use Rattle.block_buffers.specs.Entries.{holds, slot_of, victim, assigned, unassigned}
 use Rattle.input_source.specs.declared.words.Word.{Word}
-use Rattle.memory.specs.Bytes.{cell}
+use Rattle.memory.specs.Bytes.{cell, Write}
 use Rattle.memory.specs.declared.system.TheConstants.{SCR}
 use Rattle.plain_rows.specs.Whole.{Whole}
 use Rattle.plain_rows.specs.Row.{After, done, fault, takes1}
@@ -37,9 +37,9 @@ pub behaves_leaves_past : (m : Option After) (s : Whole) (w : Word) (d : List �
 unfolding leaves_past
 behaves_leaves_past m s w d = search (rules, behaves)
 
-pub behaves_creates : (m : Option After) (s : Whole) (w : Word) (name : List ℕ) (code : ℕ) (extra d : List ℕ) → Behaves m s (creates s w name code extra d)
+pub behaves_creates : (m : Option After) (s : Whole) (w : Word) (name : List ℕ) (hidden : Bool) (code : ℕ) (extra : List ℕ) (more : List Write) (d : List ℕ) → Behaves m s (creates s w name hidden code extra more d)
 unfolding creates
-behaves_creates m s w name code extra d = search (rules, behaves)
+behaves_creates m s w name hidden code extra more d = search (rules, behaves)
 
 pub behaves_compiles_past : (m : Option After) (s : Whole) (w : Word) (bs : List ℕ) → Behaves m s (compiles_past s w bs)
 unfolding compiles_past

@@ -42,19 +42,19 @@ right_bracket s = done (record s { memory = put_cell s.memory STATE 65535 })
 
 -- 172 , ( x -- )
 abbrev pub comma : Whole → After
-comma s = takes1 s (λ x d. compiles s (cell_bytes x) d)
+comma s = takes1 s (λ x rest. compiles s (cell_bytes x) rest)
 
 -- 173 C, ( c -- )
 abbrev pub c_comma : Whole → After
-c_comma s = takes1 s (λ c d. compiles s (c % 256 ∷ []) d)
+c_comma s = takes1 s (λ c rest. compiles s (c % 256 ∷ []) rest)
 
 -- 174 ALLOT ( n -- )
 abbrev pub allot : Whole → After
-allot s = takes1 s (λ n d. needs s DICTIONARY_FULL (can_allot s.memory n) (done (record s { values = d; memory = allotted s.memory n })))
+allot s = takes1 s (λ n rest. needs s DICTIONARY_FULL (can_allot s.memory n) (done (record s { values = rest; memory = allotted s.memory n })))
 
 -- 175 LITERAL ( x -- )
 abbrev pub literal : Whole → After
-literal s = takes1 s (λ x d. compiles s (literal_code s.memory x) d)
+literal s = takes1 s (λ x rest. compiles s (literal_code s.memory x) rest)
 
 -- 178 DOES> ( -- )
 abbrev pub compile_does : Whole → After
@@ -66,11 +66,11 @@ if_row s = compiles s (control_code s.memory 8 0) (s.values ▸ ahead s 2)
 
 -- 180 ELSE ( a -- a2 ): the IF goes behind the branch, and a2 is where the branch's target will be
 abbrev pub else_row : Whole → After
-else_row s = takes1 s (λ a d. resolves s (control_code s.memory 7 0) a (d ▸ ahead s 2))
+else_row s = takes1 s (λ a rest. resolves s (control_code s.memory 7 0) a (rest ▸ ahead s 2))
 
 -- 181 THEN ( a -- )
 abbrev pub then_row : Whole → After
-then_row s = takes1 s (λ a d. done (record s { values = d; memory = resolved s.memory a }))
+then_row s = takes1 s (λ a rest. done (record s { values = rest; memory = resolved s.memory a }))
 
 -- 182 BEGIN ( -- a )
 abbrev pub begin : Whole → After
@@ -78,7 +78,7 @@ begin s = leaves s (s.values ▸ cell s.memory DP)
 
 -- 183 UNTIL ( a -- )
 abbrev pub until : Whole → After
-until s = takes1 s (λ a d. compiles s (control_code s.memory 8 a) d)
+until s = takes1 s (λ a rest. compiles s (control_code s.memory 8 a) rest)
 
 -- 184 WHILE ( -- a ): as IF
 abbrev pub while_row : Whole → After
@@ -86,11 +86,11 @@ while_row s = if_row s
 
 -- 185 REPEAT ( a b -- ): back to a, and the WHILE of b goes behind that
 abbrev pub repeat : Whole → After
-repeat s = takes2 s (λ a b d. resolves s (control_code s.memory 7 a) b d)
+repeat s = takes2 s (λ a b rest. resolves s (control_code s.memory 7 a) b rest)
 
 -- 186 AGAIN ( a -- )
 abbrev pub again : Whole → After
-again s = takes1 s (λ a d. compiles s (control_code s.memory 7 a) d)
+again s = takes1 s (λ a rest. compiles s (control_code s.memory 7 a) rest)
 
 -- 187 DO ( -- a b ): a is where the loop's end will be, and b is its body
 abbrev pub do_row : Whole → After
@@ -98,11 +98,11 @@ do_row s = compiles s (control_code s.memory 9 0) (s.values ▸ ahead s 2 ▸ ah
 
 -- 188 LOOP ( a b -- )
 abbrev pub loop_row : Whole → After
-loop_row s = takes2 s (λ a b d. resolves s (control_code s.memory 10 b) a d)
+loop_row s = takes2 s (λ a b rest. resolves s (control_code s.memory 10 b) a rest)
 
 -- 189 +LOOP ( a b -- )
 abbrev pub plus_loop : Whole → After
-plus_loop s = takes2 s (λ a b d. resolves s (control_code s.memory 11 b) a d)
+plus_loop s = takes2 s (λ a b rest. resolves s (control_code s.memory 11 b) a rest)
 
 -- 194 <MARK ( -- a )
 abbrev pub mark_back : Whole → After
@@ -110,7 +110,7 @@ mark_back s = leaves s (s.values ▸ cell s.memory DP)
 
 -- 195 <RESOLVE ( a -- )
 abbrev pub resolve_back : Whole → After
-resolve_back s = takes1 s (λ a d. compiles s (cell_bytes a) d)
+resolve_back s = takes1 s (λ a rest. compiles s (cell_bytes a) rest)
 
 -- 196 >MARK ( -- a )
 abbrev pub mark_forward : Whole → After
@@ -118,4 +118,4 @@ mark_forward s = compiles s (cell_bytes 0) (s.values ▸ cell s.memory DP)
 
 -- 197 >RESOLVE ( a -- )
 abbrev pub resolve_forward : Whole → After
-resolve_forward s = takes1 s (λ a d. done (record s { values = d; memory = resolved s.memory a }))
+resolve_forward s = takes1 s (λ a rest. done (record s { values = rest; memory = resolved s.memory a }))

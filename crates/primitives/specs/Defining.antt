@@ -1,24 +1,21 @@
-use Rattle.std.specs.Prelude.{ℕ, ◌+◌, List, ◌∷◌, length, nat_le}
+use Rattle.std.specs.Prelude.{ℕ, ◌+◌, List, [], ◌∷◌, length, nat_le, true, false}
 use Rattle.compiling_words.specs.Code.{runtime, literal_code, text_code, text_number}
-use Rattle.compiling_words.specs.Definitions.{begun_writes}
 use Rattle.compiling_words.specs.declared.text.TextWord.{TextWord}
 use Rattle.compiling_words.specs.declared.text.TextWord.TheVariants.{Show, Abort}
-use Rattle.dictionary.specs.Adding.{site_of}
 use Rattle.dictionary.specs.Laying.{fits, laid_at}
 use Rattle.input_source.specs.declared.words.Word.{Word}
-use Rattle.memory.specs.Bytes.{cell, put_cell, cell_bytes, PutCell, written}
-use Rattle.memory.specs.declared.system.TheConstants.{TO_IN, DP, CURRENT}
+use Rattle.memory.specs.Bytes.{cell, put_cell, cell_bytes, PutCell}
+use Rattle.memory.specs.declared.system.TheConstants.{STATE, TO_IN, DP, CONTEXT, CURRENT}
 use Rattle.plain_rows.specs.Whole.{Whole}
 use Rattle.plain_rows.specs.Row.{After, done, takes1, needs}
 use Rattle.plain_rows.specs.declared.faults.TheConstants.{DICTIONARY_FULL, BAD_LENGTH}
 use Rattle.primitives.specs.DictionaryRows.{creates}
-use Rattle.primitives.specs.Names.{reads_name, parses, finds_word, admits_header}
+use Rattle.primitives.specs.Names.{reads_name, parses, finds_word}
 
--- 168 : ( -- ): a hidden header with code field 1; then STATE := -1, CONTEXT := CURRENT
+-- 168 : ( -- ): as CREATE with code field 1, hidden; then STATE := -1, CONTEXT := CURRENT
 abbrev pub colon : Whole → After
-colon s = reads_name s (λ t w name. admits_header t w 0 (done (record t {
-  memory = written t.memory (PutCell TO_IN w.next ∷ begun_writes (site_of t.memory name) (cell t.memory CURRENT) name);
-})))
+colon s = reads_name s (λ t w name. creates t w name true 1 []
+    (PutCell STATE 65535 ∷ PutCell CONTEXT (cell t.memory CURRENT) ∷ []) t.values)
 
 -- the bytes are laid, and >IN is behind the word
 unfoldable pub lays_past : Whole → Word → List ℕ → After
@@ -27,7 +24,8 @@ lays_past t w bs = needs t DICTIONARY_FULL (fits t.memory (length bs))
 
 -- 176 ['] ( -- ): lays the next word's compilation address as a literal
 abbrev pub bracket_tick : Whole → After
-bracket_tick s = reads_name s (λ t name_word name. finds_word t name_word name (λ w. lays_past t name_word (literal_code t.memory w)))
+bracket_tick s = reads_name s (λ t name_word name.
+    finds_word t name_word name (λ w. lays_past t name_word (literal_code t.memory w)))
 
 -- 177 [COMPILE] ( -- ): lays the next word's compilation address
 abbrev pub bracket_compile : Whole → After
@@ -38,7 +36,9 @@ abbrev pub quotes : TextWord → Whole → After
 quotes word s = parses s 34 (λ t w text.
     needs t BAD_LENGTH (nat_le w.len 255)
     (needs t DICTIONARY_FULL (fits t.memory (3 + w.len))
-    (done (record t { memory = laid_at (cell t.memory DP) (put_cell t.memory TO_IN w.next) (text_code (runtime t.memory (text_number word)) text) }))))
+    (done (record t {
+      memory = laid_at (cell t.memory DP) (put_cell t.memory TO_IN w.next) (text_code (runtime t.memory (text_number word)) text);
+    }))))
 
 -- 190 ." ( -- )
 abbrev pub dot_quote : Whole → After
@@ -50,8 +50,8 @@ abort_quote s = quotes Abort s
 
 -- 192 CONSTANT ( x -- )
 abbrev pub constant : Whole → After
-constant s = takes1 s (λ x d. reads_name s (λ t w name. creates t w name 3 (cell_bytes x) d))
+constant s = takes1 s (λ x rest. reads_name s (λ t w name. creates t w name false 3 (cell_bytes x) [] rest))
 
 -- 193 VARIABLE ( -- )
 abbrev pub variable : Whole → After
-variable s = reads_name s (λ t w name. creates t w name 2 (cell_bytes 0) t.values)
+variable s = reads_name s (λ t w name. creates t w name false 2 (cell_bytes 0) [] t.values)

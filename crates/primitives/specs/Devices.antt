@@ -12,7 +12,7 @@ use Rattle.primitives.specs.Blocks.{address_of, write_of, fetches, with_block}
 
 -- 112 BLOCK ( u -- a ): a is where block u is, which is fetched and referenced
 abbrev pub block : Whole → After
-block s = takes1 s (λ u d. fetches s u (λ t slot. done (record t { values = d ▸ address_of slot })))
+block s = takes1 s (λ u rest. fetches s u (λ t slot. done (record t { values = rest ▸ address_of slot })))
 
 -- goes on where the victim isn't updated; else its write is asked
 unfoldable pub saves_victim : Whole → After → After
@@ -20,9 +20,9 @@ saves_victim s after = if (victim s.buffers).updated then (s, write_of (victim s
 
 -- 113 BUFFER ( u -- a ): as BLOCK, but that no bytes are read
 abbrev pub buffer : Whole → After
-buffer s = takes1 s (λ u d. needs s NO_BLOCK (nat_lt u s.block_count) (
-    if holds s.buffers u then done (record (with_block s u) { values = d ▸ address_of (slot_of s.buffers u) })
-    else saves_victim s (done (record s { values = d ▸ address_of (victim s.buffers).slot; buffers = assigned u s.buffers }))))
+buffer s = takes1 s (λ u rest. needs s NO_BLOCK (nat_lt u s.block_count) (
+    if holds s.buffers u then done (record (with_block s u) { values = rest ▸ address_of (slot_of s.buffers u) })
+    else saves_victim s (done (record s { values = rest ▸ address_of (victim s.buffers).slot; buffers = assigned u s.buffers }))))
 
 -- 114 UPDATE ( -- )
 abbrev pub update : Whole → After
@@ -50,14 +50,14 @@ key s = room s (s.values ▸ 0) (s, Ask Key)
 
 -- 119 EXPECT ( a u -- ): a line is asked; where u is 0 none is, and SPAN := 0
 abbrev pub expect : Whole → After
-expect s = takes2 s (λ a u d.
-    if u == 0 then done (record s { values = d; memory = put_cell s.memory SPAN 0 })
+expect s = takes2 s (λ a u rest.
+    if u == 0 then done (record s { values = rest; memory = put_cell s.memory SPAN 0 })
     else (s, Ask (Line u)))
 
 -- 120 EMIT ( c -- ): shows the byte
 abbrev pub emit : Whole → After
-emit s = takes1 s (λ c d. (record s { values = d }, Byte (c % 256)))
+emit s = takes1 s (λ c rest. (record s { values = rest }, Byte (c % 256)))
 
 -- 121 TYPE ( a u -- ): shows u bytes from a on
 abbrev pub type_out : Whole → After
-type_out s = takes2 s (λ a u d. (record s { values = d }, Show (record { at = a; len = u })))
+type_out s = takes2 s (λ a u rest. (record s { values = rest }, Show (record { at = a; len = u })))

@@ -1,13 +1,13 @@
-use Rattle.std.specs.Prelude.{ℕ, ◌+◌, List, [], ◌∷◌, length, not, ◌==◌, nat_le, if◌then◌else◌}
+use Rattle.std.specs.Prelude.{ℕ, ◌+◌, List, [], ◌∷◌, ◌++◌, length, Bool, false, not, ◌==◌, nat_le, if◌then◌else◌}
 use Rattle.cells.specs.Cell.{wrap, difference}
-use Rattle.dictionary.specs.Adding.{site_of, header_writes, vocabulary_writes}
+use Rattle.dictionary.specs.Adding.{site_of, header_writes, new_count, record_bytes}
 use Rattle.dictionary.specs.Forgetting.{cuts}
 use Rattle.dictionary.specs.Header.{compilation_address, is_immediate}
 use Rattle.dictionary.specs.Newest.{with_immediate}
 use Rattle.dictionary.specs.Order.{is_beyond_limit}
 use Rattle.dictionary.specs.Search.{sought_in, sought}
 use Rattle.input_source.specs.declared.words.Word.{Word}
-use Rattle.memory.specs.Bytes.{cell, put_cell, PutCell, written}
+use Rattle.memory.specs.Bytes.{cell, put_cell, Write, PutCell, written}
 use Rattle.memory.specs.declared.system.TheConstants.{TO_IN, DP, CONTEXT, CURRENT, VOC_LINK, FENCE}
 use Rattle.number_text.specs.Picture.{pad}
 use Rattle.plain_rows.specs.Whole.{Whole}
@@ -18,9 +18,9 @@ use Rattle.stacks.specs.Cells.{◌▸◌}
 
 -- 147 FIND ( a -- a 0, w -1, w 1 ): the counted string at a; 1 where it is immediate
 abbrev pub find : Whole → After
-find s = takes1 s (λ a d. searches s (sought s.memory (counted_string s.memory a))
-    (leaves s (d ▸ a ▸ 0))
-    (λ l. leaves s (d ▸ compilation_address s.memory l ▸ (if is_immediate s.memory l then 1 else 65535))))
+find s = takes1 s (λ a rest. searches s (sought s.memory (counted_string s.memory a))
+    (leaves s (rest ▸ a ▸ 0))
+    (λ l. leaves s (rest ▸ compilation_address s.memory l ▸ (if is_immediate s.memory l then 1 else 65535))))
 
 -- the data stack becomes d, and >IN is behind the word
 unfoldable pub leaves_past : Whole → Word → List ℕ → After
@@ -30,16 +30,18 @@ leaves_past t w d = room t d (done (record t { values = d; memory = put_cell t.m
 abbrev pub tick : Whole → After
 tick s = reads_name s (λ t name_word name. finds_word t name_word name (λ w. leaves_past t name_word (t.values ▸ w)))
 
--- a header of the name with this code field, and the bytes that are laid with it; d is the data stack then
-unfoldable pub creates : Whole → Word → List ℕ → ℕ → List ℕ → List ℕ → After
-creates t w name code extra d = admits_header t w (length extra) (done (record t {
+-- as CREATE: a header of the name with this code field, hidden or not, and the bytes that are laid with it; more is written behind
+-- it, and d is the data stack then
+unfoldable pub creates : Whole → Word → List ℕ → Bool → ℕ → List ℕ → List Write → List ℕ → After
+creates t w name hidden code extra more d = admits_header t w (length extra) (done (record t {
   values = d;
-  memory = written t.memory (PutCell TO_IN w.next ∷ header_writes (site_of t.memory name) name (128 + length name) code extra);
+  memory = written t.memory
+      (PutCell TO_IN w.next ∷ (header_writes (site_of t.memory name) name (new_count hidden name) code extra ++ more));
 }))
 
 -- 150 CREATE ( -- )
 abbrev pub create : Whole → After
-create s = reads_name s (λ t w name. creates t w name 2 [] t.values)
+create s = reads_name s (λ t w name. creates t w name false 2 [] [] t.values)
 
 -- 151 IMMEDIATE ( -- )
 abbrev pub immediate : Whole → After
@@ -59,7 +61,7 @@ forget s = reads_name s (λ t w name.
 
 -- 153 >BODY ( w -- w+2 )
 abbrev pub to_body : Whole → After
-to_body s = takes1 s (λ w d. leaves s (d ▸ wrap (w + 2)))
+to_body s = takes1 s (λ w rest. leaves s (rest ▸ wrap (w + 2)))
 
 -- 154 HERE ( -- a )
 abbrev pub here : Whole → After
@@ -69,11 +71,14 @@ here s = leaves s (s.values ▸ cell s.memory DP)
 abbrev pub pad_row : Whole → After
 pad_row s = leaves s (s.values ▸ pad s.memory)
 
--- 156 VOCABULARY ( -- )
+-- where the parameter field of a new header of the name is
+abbrev pub new_body : List ℕ → List ℕ → ℕ
+new_body m name = wrap ((site_of m name).here + (7 + length name))
+
+-- 156 VOCABULARY ( -- ): as CREATE with code field 4 and a record laid with it: four empty chains and VOC-LINK; last VOC-LINK := it
 abbrev pub vocabulary : Whole → After
-vocabulary s = reads_name s (λ t w name. admits_header t w 10 (done (record t {
-  memory = written t.memory (PutCell TO_IN w.next ∷ vocabulary_writes (site_of t.memory name) (cell t.memory VOC_LINK) name);
-})))
+vocabulary s = reads_name s (λ t w name. creates t w name false 4 (record_bytes (cell t.memory VOC_LINK))
+    (PutCell VOC_LINK (new_body t.memory name) ∷ []) t.values)
 
 -- 157 DEFINITIONS ( -- ): CURRENT := CONTEXT
 abbrev pub definitions : Whole → After

@@ -18,28 +18,29 @@ line_text m stream = front_put (bytes m (wrap (stream.at + stream.place)) (min (
 
 -- 200 LINE ( n -- a 64 )
 abbrev pub line : Whole → After
-line s = takes1 s (λ n d. fetches s (cell s.memory SCR) (λ t slot. leaves t (d ▸ address_of slot + line_start n ▸ 64)))
+line s = takes1 s (λ n rest. fetches s (cell s.memory SCR) (λ t slot.
+    leaves t (rest ▸ address_of slot + line_start n ▸ 64)))
+
+-- a line's text is taken from the stream, whose end >IN becomes, and makes another page of the screen
+abbrev pub edits : Whole → (List ℕ → ℕ → List ℕ → List ℕ) → After
+edits s edited = takes1 s (λ n rest. reads s (λ r stream. fetches r (cell r.memory SCR) (λ t slot. done (record t {
+  values = rest;
+  buffers = front_marked t.buffers;
+  memory = with_page (put_cell t.memory TO_IN stream.size) slot (edited (page t.memory slot) n (line_text t.memory stream));
+}))))
 
 -- 201 PUT ( n -- ): line n := the text
 abbrev pub put : Whole → After
-put s = takes1 s (λ n d. reads s (λ r stream. fetches r (cell r.memory SCR) (λ t slot. done (record t {
-  values = d;
-  buffers = front_marked t.buffers;
-  memory = with_page (put_cell t.memory TO_IN stream.size) slot (with_line (page t.memory slot) n (line_text t.memory stream));
-}))))
+put s = edits s with_line
 
 -- 202 INSERT ( n -- ): the text comes before line n, and the last line is lost
 abbrev pub insert : Whole → After
-insert s = takes1 s (λ n d. reads s (λ r stream. fetches r (cell r.memory SCR) (λ t slot. done (record t {
-  values = d;
-  buffers = front_marked t.buffers;
-  memory = with_page (put_cell t.memory TO_IN stream.size) slot (line_inserted (page t.memory slot) n (line_text t.memory stream));
-}))))
+insert s = edits s line_inserted
 
 -- 203 DELETE ( n -- ): line n goes, and a blank line comes last
 abbrev pub delete : Whole → After
-delete s = takes1 s (λ n d. fetches s (cell s.memory SCR) (λ t slot. done (record t {
-  values = d;
+delete s = takes1 s (λ n rest. fetches s (cell s.memory SCR) (λ t slot. done (record t {
+  values = rest;
   buffers = front_marked t.buffers;
   memory = with_page t.memory slot (line_deleted (page t.memory slot) n);
 })))

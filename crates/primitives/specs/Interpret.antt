@@ -1,4 +1,4 @@
-use Rattle.std.specs.Prelude.{ℕ, ◌%◌, ◌/◌, List, ◌++◌, length, ◌||◌, ◌==◌, if◌then◌else◌}
+use Rattle.std.specs.Prelude.{ℕ, ◌%◌, ◌/◌, List, ◌++◌, length, Bool, ◌||◌, ◌==◌, if◌then◌else◌}
 use Rattle.compiling_words.specs.Code.{literal_code}
 use Rattle.dictionary.specs.Header.{compilation_address, is_immediate}
 use Rattle.dictionary.specs.Laying.{fits, laid_at}
@@ -9,7 +9,7 @@ use Rattle.memory.specs.declared.system.TheConstants.{STATE, BASE, TO_IN, DP}
 use Rattle.number_text.specs.Base.{has_base}
 use Rattle.number_text.specs.Numbers.{is_number, is_double, number_value}
 use Rattle.plain_rows.specs.Whole.{Whole}
-use Rattle.plain_rows.specs.Row.{After, done, needs, room}
+use Rattle.plain_rows.specs.Row.{After, done, needs, room, ◌▸▸◌}
 use Rattle.plain_rows.specs.declared.faults.TheConstants.{DICTIONARY_FULL, BAD_BASE, NOT_FOUND}
 use Rattle.primitives.specs.DictionaryRows.{leaves_past}
 use Rattle.primitives.specs.Names.{reads_name, searches}
@@ -23,22 +23,36 @@ compiles_past t w bs = let d = t.values ▸ 65535 in
       memory = laid_at (cell t.memory DP) (put_cell t.memory TO_IN w.next) bs;
     })))
 
--- 149 (INTERPRET) ( -- 0, w 1, -1, n -1, d -1 )
+-- words are executed
+abbrev pub executes : Whole → Bool
+executes t = cell t.memory STATE == 0
+
+-- a header has the name: its word is left below 1 where it is immediate or words are executed; else it is compiled
+abbrev pub found_word : Whole → Word → ℕ → After
+found_word t word l = let w = compilation_address t.memory l in
+    if is_immediate t.memory l || executes t then leaves_past t word (t.values ▸ w ▸ 1)
+    else compiles_past t word (cell_bytes w)
+
+-- a single number, or a double, is left below -1 where words are executed; else it is compiled
+abbrev pub single_word : Whole → Word → ℕ → After
+single_word t word x =
+    if executes t then leaves_past t word (t.values ▸ x ▸ 65535) else compiles_past t word (literal_code t.memory x)
+
+abbrev pub double_word : Whole → Word → ℕ → After
+double_word t word n =
+    if executes t then leaves_past t word (t.values ▸▸ n ▸ 65535)
+    else compiles_past t word (literal_code t.memory (n % 65536) ++ literal_code t.memory (n / 65536))
+
+-- no header has the name: it is a number in BASE (12, 13)
+abbrev pub number_word : Whole → Word → List ℕ → After
+number_word t word name =
+    let n = number_value (cell t.memory BASE) name in
+    needs t BAD_BASE (has_base t.memory)
+    (needs t NOT_FOUND (is_number (cell t.memory BASE) name)
+    (if is_double name then double_word t word n else single_word t word (n % 65536)))
+
+-- 149 (INTERPRET) ( -- 0, w 1, -1, n -1, d -1 ): 0 where the stream has no word more
 abbrev pub interpret : Whole → After
 interpret s = reads_name s (λ t word name.
-    let m = t.memory in
-    let base = cell m BASE in
-    let n = number_value base name in
-    let executes = cell m STATE == 0 in
     if word.len == 0 then leaves_past t word (t.values ▸ 0)
-    else searches t (sought m name)
-    (needs t BAD_BASE (has_base m)
-    (needs t NOT_FOUND (is_number base name)
-    (if is_double name
-    then (if executes then leaves_past t word (t.values ▸ n % 65536 ▸ n / 65536 ▸ 65535)
-    else compiles_past t word (literal_code m (n % 65536) ++ literal_code m (n / 65536)))
-    else (if executes then leaves_past t word (t.values ▸ n % 65536 ▸ 65535)
-    else compiles_past t word (literal_code m (n % 65536))))))
-    (λ l. let w = compilation_address m l in
-    if is_immediate m l || executes then leaves_past t word (t.values ▸ w ▸ 1)
-    else compiles_past t word (cell_bytes w)))
+    else searches t (sought t.memory name) (number_word t word name) (found_word t word))

@@ -1,9 +1,8 @@
 use Rattle.std.specs.Prelude.{◌/◌, ◌%◌}
 use Rattle.plain_rows.specs.Whole.{Whole}
-use Rattle.plain_rows.specs.Row.{After, done, takes1, takes2, takes3, leaves, needs}
+use Rattle.plain_rows.specs.Row.{After, done, takes1, takes3, takes_double, leaves, needs, double, ◌▸▸◌}
 use Rattle.plain_rows.specs.declared.faults.TheConstants.{BAD_BASE}
 use Rattle.stacks.specs.Cells.{◌▸◌}
-use Rattle.plain_rows.specs.Double.{double}
 use Rattle.cells.specs.Cell.{difference}
 use Rattle.memory.specs.Bytes.{cell}
 use Rattle.memory.specs.declared.system.TheConstants.{BASE, HLD}
@@ -18,29 +17,31 @@ open_picture s = done (record s { memory = opened s.memory })
 
 -- 129 # ( ud -- ud2 ): the digit of the remainder by BASE is held
 abbrev pub picture_digit : Whole → After
-picture_digit s = takes2 s (λ low high d. let ud2 = double low high / cell s.memory BASE in
+picture_digit s = takes_double s (λ ud rest.
     needs s BAD_BASE (has_base s.memory)
-    (done (record s { values = d ▸ ud2 % 65536 ▸ ud2 / 65536; memory = with_digit s.memory (double low high) })))
+    (done (record s { values = rest ▸▸ ud / cell s.memory BASE; memory = with_digit s.memory ud })))
 
 -- 130 #S ( ud -- 0 0 ): the digits of ud in BASE are put below HLD
 abbrev pub picture_digits : Whole → After
-picture_digits s = takes2 s (λ low high d. needs s BAD_BASE (has_base s.memory)
-    (done (record s { values = d ▸ 0 ▸ 0; memory = with_digits s.memory (double low high) })))
+picture_digits s = takes_double s (λ ud rest.
+    needs s BAD_BASE (has_base s.memory)
+    (done (record s { values = rest ▸ 0 ▸ 0; memory = with_digits s.memory ud })))
 
 -- 131 #> ( d -- a u ): from HLD to PAD
 abbrev pub close_picture : Whole → After
-close_picture s = takes2 s (λ low high d. leaves s (d ▸ cell s.memory HLD ▸ difference (pad s.memory) (cell s.memory HLD)))
+close_picture s = takes_double s (λ d rest.
+    leaves s (rest ▸ cell s.memory HLD ▸ difference (pad s.memory) (cell s.memory HLD)))
 
 -- 132 HOLD ( c -- )
 abbrev pub hold : Whole → After
-hold s = takes1 s (λ c d. done (record s { values = d; memory = held s.memory (c % 256) }))
+hold s = takes1 s (λ c rest. done (record s { values = rest; memory = held s.memory (c % 256) }))
 
 -- 133 SIGN ( n -- )
 abbrev pub sign : Whole → After
-sign s = takes1 s (λ n d. done (record s { values = d; memory = signed_picture s.memory n }))
+sign s = takes1 s (λ n rest. done (record s { values = rest; memory = signed_picture s.memory n }))
 
 -- 134 CONVERT ( ud a -- ud2 a2 ): ud goes on with the digits behind a, and a2 is behind them
 abbrev pub convert : Whole → After
-convert s = takes3 s (λ low high a d. let ud2 = continued (cell s.memory BASE) (double low high) (digits_behind s.memory a) in
-    needs s BAD_BASE (has_base s.memory)
-    (leaves s (d ▸ ud2 % 65536 ▸ ud2 / 65536 ▸ address_behind s.memory a)))
+convert s = takes3 s (λ low high a rest.
+    let ud2 = continued (cell s.memory BASE) (double low high) (digits_behind s.memory a) in
+    needs s BAD_BASE (has_base s.memory) (leaves s (rest ▸▸ ud2 ▸ address_behind s.memory a)))

@@ -24,18 +24,21 @@ has_stream s = (cell s.memory BLK == 0) || has_block s (cell s.memory BLK)
 
 -- the stream's block is referenced
 unfoldable pub stream_buffers : Whole → List Entry
-stream_buffers s = if cell s.memory BLK == 0 then s.buffers else moved_front (slot_of s.buffers (cell s.memory BLK)) s.buffers
+stream_buffers s =
+    if cell s.memory BLK == 0 then s.buffers else moved_front (slot_of s.buffers (cell s.memory BLK)) s.buffers
 
 abbrev pub with_stream : Whole → Whole
 with_stream s = record s { buffers = stream_buffers s }
 
 -- a row that needs the stream: goes on with its block referenced; else the row stops as for that block
 abbrev pub reads : Whole → (Whole → Stream → After) → After
-reads s after = if has_stream s then after (with_stream s) (stream_of s.memory s.buffers) else (s, without_block s (cell s.memory BLK))
+reads s after =
+    if has_stream s then after (with_stream s) (stream_of s.memory s.buffers) else (s, without_block s (cell s.memory BLK))
 
 -- what the code's open answers
 abbrev pub IsOpened : Whole → Whole → Result Stream Outcome → Type 0
-IsOpened old new (Ok stream) = IsTrue (has_stream old) × (new ≡ with_stream old) × (stream ≡ stream_of old.memory old.buffers) × (stream.place ≤ stream.size)
+IsOpened old new (Ok stream) =
+    IsTrue (has_stream old) × (new ≡ with_stream old) × (stream ≡ stream_of old.memory old.buffers) × (stream.place ≤ stream.size)
 IsOpened old new (Err o) = IsFalse (has_stream old) × (new ≡ old) × (o ≡ without_block old (cell old.memory BLK))
 
 -- >IN is the place behind a word
@@ -44,8 +47,9 @@ past m w = put_cell m TO_IN w.next
 
 -- 144 WORD ( c -- a ): the next word, at HERE with its count before it and a blank behind it
 abbrev pub word : Whole → After
-word s = takes1 s (λ c d. reads s (λ t stream. let w = word_in t.memory stream (c % 256) in
-    needs t BAD_LENGTH (nat_le w.len 255) (done (record t { values = d ▸ cell t.memory DP; memory = with_word t.memory stream w }))))
+word s = takes1 s (λ c rest. reads s (λ t stream. let w = word_in t.memory stream (c % 256) in
+    needs t BAD_LENGTH (nat_le w.len 255)
+    (done (record t { values = rest ▸ cell t.memory DP; memory = with_word t.memory stream w }))))
 
 -- 145 ( ( -- ): parses to )
 abbrev pub paren : Whole → After

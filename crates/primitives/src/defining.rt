@@ -17,7 +17,7 @@ use plain_rows::faults::{BAD_LENGTH, CHAIN_TOO_LONG, DATA_UNDERFLOW, DICTIONARY_
 use plain_rows::parts::{Outcome, Parts};
 
 /// 168 `:` ( -- )
-#[tactic(auto, unfolding(dictionary::specs::Adding::with_header_at, memory::specs::Bytes::written))]
+#[tactic(auto, unfolding(crate::specs::DictionaryRows::creates, dictionary::specs::Adding::with_header_at, memory::specs::Bytes::written))]
 pub fn colon(parts: &mut Parts) -> Outcome
     ensures { (parts.new, result) ≡ colon parts.old }
 {

@@ -2,7 +2,7 @@
 
 #![tactic(auto, using(plain_rows::proofs::Takes::takes, crate::proofs::Searching::searching))]
 
-ghost use Rattle.std.specs.Prelude.{◌≡◌, ◌≤◌, ◌++◌, length, drop};
+ghost use Rattle.std.specs.Prelude.{◌≡◌, ◌≤◌, [], ◌++◌, length, drop, false};
 ghost use Rattle.primitives.specs.DictionaryRows.{find, leaves_past, tick, creates, create, immediate, forget, to_body, here, pad_row, vocabulary, definitions};
 ghost use Rattle.primitives.specs.Names.{name_word, name_in, counted_string};
 
@@ -86,7 +86,7 @@ pub fn create_with(
 ) -> Outcome
     requires extra { length extra.now ≤ 2 }
     requires taken { taken ≤ length parts.old.values }
-    ensures { (parts.new, result) ≡ creates parts.old (name_word parts.old.memory stream) (name_in parts.old.memory stream) code extra.now (drop taken parts.old.values) }
+    ensures { (parts.new, result) ≡ creates parts.old (name_word parts.old.memory stream) (name_in parts.old.memory stream) false code extra.now [] (drop taken parts.old.values) }
 {
     let word = next_word(&parts.memory, stream, b' ');
     if word.len == 0 || word.len > 31 {
@@ -175,7 +175,7 @@ pub fn pad_row(parts: &mut Parts) -> Outcome
 }
 
 /// 156 `VOCABULARY` ( -- )
-#[tactic(auto, unfolding(dictionary::specs::Adding::with_vocabulary_at, memory::specs::Bytes::written))]
+#[tactic(auto, unfolding(crate::specs::DictionaryRows::creates, dictionary::specs::Adding::with_vocabulary_at, dictionary::specs::Adding::record_bytes, memory::specs::Bytes::cell_bytes, memory::specs::Bytes::written))]
 pub fn vocabulary(parts: &mut Parts) -> Outcome
     ensures { (parts.new, result) ≡ vocabulary parts.old }
 {

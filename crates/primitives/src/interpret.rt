@@ -2,17 +2,10 @@
 
 #![tactic(auto, using(crate::proofs::Searching::searching))]
 
-ghost use Rattle.std.specs.Prelude.{◌≡◌, ◌≤◌, ◌++◌, ◌%◌, ◌/◌, ◌||◌, ◌==◌, length, if◌then◌else◌};
+ghost use Rattle.std.specs.Prelude.{◌≡◌, ◌++◌, length};
 ghost use Rattle.input_source.specs.Words.{bytes_in};
 ghost use Rattle.compiling_words.specs.Code.{literal_code};
-ghost use Rattle.dictionary.specs.Header.{compilation_address, is_immediate};
-ghost use Rattle.memory.specs.Bytes.{cell, cell_bytes};
-ghost use Rattle.number_text.specs.Base.{has_base};
-ghost use Rattle.number_text.specs.Numbers.{is_number, is_double, number_value};
-ghost use Rattle.plain_rows.specs.Row.{needs};
-ghost use Rattle.primitives.specs.DictionaryRows.{leaves_past};
-ghost use Rattle.primitives.specs.Interpret.{compiles_past, interpret};
-ghost use Rattle.stacks.specs.Cells.{◌▸◌};
+ghost use Rattle.primitives.specs.Interpret.{compiles_past, found_word, single_word, double_word, number_word, interpret};
 
 use crate::dictionary_rows::leave_past;
 use crate::names::{number_in, sought};
@@ -45,10 +38,7 @@ fn compile_past(parts: &mut Parts, word: Word, bytes: &[u8]) -> Outcome
 
 /// A header was found: its word is to be executed, or compiled.
 fn take_word(parts: &mut Parts, word: Word, link_field: u16) -> Outcome
-    ensures { let w = compilation_address parts.old.memory link_field in
-        (parts.new, result) ≡ (if is_immediate parts.old.memory link_field || (cell parts.old.memory STATE == 0)
-        then leaves_past parts.old word (parts.old.values ▸ w ▸ 1)
-        else compiles_past parts.old word (cell_bytes w)) }
+    ensures { (parts.new, result) ≡ found_word parts.old word link_field }
 {
     let w = compilation_address(&parts.memory, link_field);
     if is_immediate(&parts.memory, link_field) {
@@ -72,9 +62,7 @@ fn literals_code(memory: &Memory, low: u16, high: u16) -> [u8; 8]
 
 /// A single number is left below -1, or compiled.
 fn take_single(parts: &mut Parts, word: Word, x: u16) -> Outcome
-    ensures { (parts.new, result) ≡ (if cell parts.old.memory STATE == 0
-        then leaves_past parts.old word (parts.old.values ▸ x ▸ 65535)
-        else compiles_past parts.old word (literal_code parts.old.memory x)) }
+    ensures { (parts.new, result) ≡ single_word parts.old word x }
 {
     if parts.memory.cell(STATE) == 0 {
         return leave_past(parts, word, &[65535, x]);
@@ -85,9 +73,7 @@ fn take_single(parts: &mut Parts, word: Word, x: u16) -> Outcome
 
 /// A double is left below -1, or compiled.
 fn take_double(parts: &mut Parts, word: Word, n: u32) -> Outcome
-    ensures { (parts.new, result) ≡ (if cell parts.old.memory STATE == 0
-        then leaves_past parts.old word (parts.old.values ▸ n % 65536 ▸ n / 65536 ▸ 65535)
-        else compiles_past parts.old word (literal_code parts.old.memory (n % 65536) ++ literal_code parts.old.memory (n / 65536))) }
+    ensures { (parts.new, result) ≡ double_word parts.old word n }
 {
     let low = (n % 65536) as u16;
     let high = (n / 65536) as u16;
@@ -101,16 +87,7 @@ fn take_double(parts: &mut Parts, word: Word, n: u32) -> Outcome
 /// No header was found: the word is a number, or unknown.
 #[tactic(auto, unfolding(number_text::specs::Base::has_base))]
 fn take_number(parts: &mut Parts, stream: Stream, word: Word) -> Outcome
-    ensures { let m = parts.old.memory in
-        let name = bytes_in m stream word in
-        let n = number_value (cell m BASE) name in
-        (parts.new, result) ≡ needs parts.old BAD_BASE (has_base m)
-        (needs parts.old NOT_FOUND (is_number (cell m BASE) name)
-        (if is_double name then
-        if cell m STATE == 0 then leaves_past parts.old word (parts.old.values ▸ n % 65536 ▸ n / 65536 ▸ 65535)
-        else compiles_past parts.old word (literal_code m (n % 65536) ++ literal_code m (n / 65536))
-        else if cell m STATE == 0 then leaves_past parts.old word (parts.old.values ▸ n % 65536 ▸ 65535)
-        else compiles_past parts.old word (literal_code m (n % 65536)))) }
+    ensures { (parts.new, result) ≡ number_word parts.old word (bytes_in parts.old.memory stream word) }
 {
     let base = parts.memory.cell(BASE);
     if base < 2 || base > 72 {
