@@ -7,3 +7,4 @@ pub mod Controls
 pub mod Items
 pub mod Ending
 pub mod Twice
+pub mod Gaps
