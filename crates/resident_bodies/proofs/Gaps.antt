@@ -218,20 +218,28 @@ past_editor n s h =
     ∙ above n 204 _ _ (omega (arith, h))
 
 -- the group of a number
-row_of_control : (n w : ℕ) (s : Whole) → n < 32 → row n w s ≡ control n w s
+pub row_of_control : (n w : ℕ) (s : Whole) → n < 32 → row n w s ≡ control n w s
 unfolding row
 row_of_control n w s b =
     let e32 : nat_lt n 32 ≡ true = grind arith in
     rw e32 refl
 
-row_of_stack : (n w : ℕ) (s : Whole) → 32 ≤ n → n < 48 → row n w s ≡ stack n s
+pub row_of_stack : (n w : ℕ) (s : Whole) → 32 ≤ n → n < 48 → row n w s ≡ stack n s
 unfolding row
 row_of_stack n w s a b =
     let e32 : nat_lt n 32 ≡ false = grind arith in
     let e48 : nat_lt n 48 ≡ true = grind arith in
     rw (e32, e48) refl
 
-row_of_doubles : (n w : ℕ) (s : Whole) → 80 ≤ n → n < 96 → row n w s ≡ doubles n s
+pub row_of_cells : (n w : ℕ) (s : Whole) → 48 ≤ n → n < 80 → row n w s ≡ cells n s
+unfolding row
+row_of_cells n w s a b =
+    let e32 : nat_lt n 32 ≡ false = grind arith in
+    let e48 : nat_lt n 48 ≡ false = grind arith in
+    let e80 : nat_lt n 80 ≡ true = grind arith in
+    rw (e32, e48, e80) refl
+
+pub row_of_doubles : (n w : ℕ) (s : Whole) → 80 ≤ n → n < 96 → row n w s ≡ doubles n s
 unfolding row
 row_of_doubles n w s a b =
     let e32 : nat_lt n 32 ≡ false = grind arith in
@@ -240,7 +248,7 @@ row_of_doubles n w s a b =
     let e96 : nat_lt n 96 ≡ true = grind arith in
     rw (e32, e48, e80, e96) refl
 
-row_of_memory : (n w : ℕ) (s : Whole) → 96 ≤ n → n < 112 → row n w s ≡ memory n s
+pub row_of_memory : (n w : ℕ) (s : Whole) → 96 ≤ n → n < 112 → row n w s ≡ memory n s
 unfolding row
 row_of_memory n w s a b =
     let e32 : nat_lt n 32 ≡ false = grind arith in
@@ -250,7 +258,7 @@ row_of_memory n w s a b =
     let e112 : nat_lt n 112 ≡ true = grind arith in
     rw (e32, e48, e80, e96, e112) refl
 
-row_of_devices : (n w : ℕ) (s : Whole) → 112 ≤ n → n < 128 → row n w s ≡ devices n s
+pub row_of_devices : (n w : ℕ) (s : Whole) → 112 ≤ n → n < 128 → row n w s ≡ devices n s
 unfolding row
 row_of_devices n w s a b =
     let e32 : nat_lt n 32 ≡ false = grind arith in
@@ -261,7 +269,7 @@ row_of_devices n w s a b =
     let e128 : nat_lt n 128 ≡ true = grind arith in
     rw (e32, e48, e80, e96, e112, e128) refl
 
-row_of_numbers : (n w : ℕ) (s : Whole) → 128 ≤ n → n < 144 → row n w s ≡ numbers n s
+pub row_of_numbers : (n w : ℕ) (s : Whole) → 128 ≤ n → n < 144 → row n w s ≡ numbers n s
 unfolding row
 row_of_numbers n w s a b =
     let e32 : nat_lt n 32 ≡ false = grind arith in
@@ -273,7 +281,7 @@ row_of_numbers n w s a b =
     let e144 : nat_lt n 144 ≡ true = grind arith in
     rw (e32, e48, e80, e96, e112, e128, e144) refl
 
-row_of_input : (n w : ℕ) (s : Whole) → 144 ≤ n → n < 160 → row n w s ≡ input n s
+pub row_of_input : (n w : ℕ) (s : Whole) → 144 ≤ n → n < 160 → row n w s ≡ input n s
 unfolding row
 row_of_input n w s a b =
     let e32 : nat_lt n 32 ≡ false = grind arith in
@@ -286,7 +294,7 @@ row_of_input n w s a b =
     let e160 : nat_lt n 160 ≡ true = grind arith in
     rw (e32, e48, e80, e96, e112, e128, e144, e160) refl
 
-row_of_compiling : (n w : ℕ) (s : Whole) → 160 ≤ n → n < 200 → row n w s ≡ compiling n s
+pub row_of_compiling : (n w : ℕ) (s : Whole) → 160 ≤ n → n < 200 → row n w s ≡ compiling n s
 unfolding row
 row_of_compiling n w s a b =
     let e32 : nat_lt n 32 ≡ false = grind arith in
@@ -300,7 +308,7 @@ row_of_compiling n w s a b =
     let e200 : nat_lt n 200 ≡ true = grind arith in
     rw (e32, e48, e80, e96, e112, e128, e144, e160, e200) refl
 
-row_of_editor : (n w : ℕ) (s : Whole) → 200 ≤ n → row n w s ≡ editor n s
+pub row_of_editor : (n w : ℕ) (s : Whole) → 200 ≤ n → row n w s ≡ editor n s
 unfolding row
 row_of_editor n w s a =
     let e32 : nat_lt n 32 ≡ false = grind arith in

@@ -8,3 +8,4 @@ pub mod Items
 pub mod Ending
 pub mod Twice
 pub mod Gaps
+pub mod Known

@@ -1,6 +1,6 @@
 //! Laws of what the resident compiler lays.
 
-ghost use Rattle.std.specs.Prelude.{◌≡◌, ◌<◌, ◌≤◌, ℕ, Bool, true, ◌+◌, ◌/◌, ◌%◌, ◌++◌, List, Some, length};
+ghost use Rattle.std.specs.Prelude.{◌≡◌, ◌≢◌, ◌<◌, ◌≤◌, ℕ, Bool, true, false, ◌+◌, ◌/◌, ◌%◌, ◌++◌, List, Some, length};
 ghost use Rattle.memory.specs.Bytes.{cell, cell_bytes, put_cell};
 ghost use Rattle.memory.specs.declared.system.TheConstants.{BLK, DP, TO_IN, FENCE};
 ghost use Rattle.dictionary.specs.Laying.{laid_at};
@@ -10,7 +10,7 @@ ghost use Rattle.compiling_words.specs.Laying.{laid};
 ghost use Rattle.plain_rows.specs.Whole.{Whole};
 ghost use Rattle.plain_rows.specs.Row.{fault};
 ghost use Rattle.plain_rows.specs.declared.faults.TheConstants.{UNKNOWN_CODE};
-ghost use Rattle.plain_rows.specs.declared.parts.Outcome.TheVariants.{Done};
+ghost use Rattle.plain_rows.specs.declared.parts.Outcome.TheVariants.{Done, Fault};
 ghost use Rattle.primitives.specs.Table.{row};
 ghost use Rattle.primitives.specs.Interpret.{compiles_past};
 ghost use Rattle.primitives.specs.Defining.{lays_past};
@@ -69,9 +69,11 @@ pub fn stream_law()
     ensures tick { (before : List ℕ) (at : ℕ) (o : Outer) (t : Body) (m d below : List ℕ) (w : ℕ) → 256 ≤ at → at + open_size o t Free + 4 ≤ 61440 → Draft before at o t Free m d below → Draft before at o (Tick t w) Free (laid m (literal_code m w)) d below }
 {}
 
-/// The numbers that no primitive may have, for the metacompiler, are those of no row: the table answers unknown code.
+/// The numbers that no primitive may have, for the metacompiler, are those of no row: there the table answers unknown code, and
+/// the row of no other number below 205 ever does, but for (FAULT), which answers the fault that it takes.
 pub fn gap_law()
     ensures gap { (n w : ℕ) (s : Whole) → is_gap n ≡ true → row n w s ≡ fault s UNKNOWN_CODE }
+    ensures rows { (n w : ℕ) (s : Whole) → 0 < n → n < 205 → is_gap n ≡ false → n ≢ 26 → (row n w s).1 ≢ Fault UNKNOWN_CODE }
     ensures past { (n w : ℕ) (s : Whole) → 204 < n → row n w s ≡ fault s UNKNOWN_CODE }
 {}
 
