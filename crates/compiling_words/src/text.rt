@@ -1,6 +1,7 @@
 //! Texts in the thread.
 
-ghost use Rattle.std.specs.Prelude.{◌≡◌, ◌≤◌, length};
+ghost use Rattle.std.specs.Prelude.{◌≡◌, ◌<◌, ◌≤◌, length, true};
+ghost use Rattle.std.specs.Result.{is_err};
 ghost use Rattle.compiling_words.specs.Code.{runtime, text_number, text_code};
 ghost use Rattle.compiling_words.specs.Laying.{IsLaid};
 ghost use Rattle.dictionary.specs.Laying.{laid_at};
@@ -42,13 +43,16 @@ pub fn lay_text(memory: &mut Memory, here: u16, token: u16, text: &[u8])
     memory.set_cell(DP, here.wrapping_add(3 + text.len() as u16));
 }
 
-/// Lays a text of at most 255 bytes (Forth-83 `."` and `ABORT"`): the control primitive of `word`, a count byte, the
-/// text.
+/// Lays a text (Forth-83 `."` and `ABORT"`): the control primitive of `word`, a count byte, the text. `Full`, with nothing
+/// written, also where the text has more than the 255 bytes that a count byte counts.
 #[tactic(auto, using(crate::proofs::Texts::texts))]
 pub fn inline_text(memory: &mut Memory, word: TextWord, text: &[u8]) -> Result<(), Full>
-    requires { length text.now ≤ 255 }
-    ensures { IsLaid memory.old memory.new (text_code (runtime memory.old (text_number word)) text.now) result }
+    ensures counted { length text.now ≤ 255 → IsLaid memory.old memory.new (text_code (runtime memory.old (text_number word)) text.now) result }
+    ensures long { 255 < length text.now → (is_err result ≡ true) × (memory.new ≡ memory.old) }
 {
+    if text.len() > 255 {
+        return Err(Full);
+    }
     if !fits(memory, 3 + text.len()) {
         return Err(Full);
     }

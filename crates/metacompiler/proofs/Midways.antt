@@ -72,7 +72,7 @@ read_done d s (Err u) page new before after e x n = cc
 -- a screen that the device has, and failed to read
 pub read_failed : (d : Disk) (s : ℕ) (r : Result Unit DeviceFault) (page : List ℕ) (new : Option Disk) (before after : List Bool) → is_err r ≡ true → s < length d.blocks → Reads d s new page r → Logs before after r → HasFailed d s (record { disk = new; before = failures before; after = failures after })
 read_failed d s (Ok u) page new before after e l x n = cc
-read_failed d s (Err u) page new before after e l x n = record { there = l; disk = x.1; failures = failed before after u n }
+read_failed d s (Err u) page new before after e l x n = record { there = l; fails = x.0; disk = x.1; failures = failed before after u n }
 
 -- a screen that was read, and its words
 pub screen_taken : (d : Disk) (s : ℕ) (m : Mode) (front : List SourceWord) (r : Result Mode Stop) (old new : Compilation) (done : Done) → Holds old front → HasRead d s done → TakesAll m front (screen_words m s (block_at d.blocks s)) r new → TakesScreen d s m front r old new done

@@ -26,7 +26,7 @@ use Rattle.metacompiler.specs.Meanings.{look, meaning}
 use Rattle.metacompiler.specs.Stages.{Stage, Whole, Counted, Due, Chosen, Inside, body_at}
 use Rattle.metacompiler.specs.Faults.{AtItem, AtNumber, AtName, AtVocabulary, InBody, Applies, IsFault, IsGood}
 use Rattle.metacompiler.specs.State.{IsBuilt}
-use Rattle.metacompiler.specs.Sources.{Done, AreThere, Because, IsRefused, IsBuiltOf, IsFaultless, screens, source_of}
+use Rattle.metacompiler.specs.Sources.{CantBeRead, Done, AreThere, Because, IsRefused, IsBuiltOf, IsFaultless, screens, source_of}
 use Rattle.metacompiler.specs.Reading.{Stopped, TookAll, Why, refusal, settled}
 use Rattle.metacompiler.proofs.Exact.{no_fault}
 use Rattle.metacompiler.proofs.Looping.{IsOfWord, sense_cause}
@@ -80,7 +80,7 @@ word_because d from to k screen offset c.Full done q o h = (q, o, λ rest. h res
 
 because : (d : Disk) (from to k : ℕ) (e : Stop) (done : Done) → Why d from to k e done → Because d from to k (refusal e from).screen (refusal e from).offset (refusal e from).cause done
 because d from to k (stop.Device u) done h =
-    (refl, h.0, h.1, elim h.3 as (λ v. ((length d.blocks ≤ u) × (from + k ≡ u) × (done.after ≡ done.before)) ⊎ ((u < length d.blocks) × (from + k ≡ u + 1) × (done.after ≡ done.before + 1))) [ inl x ↦ inr x | inr x ↦ inl x ], h.2)
+    (refl, h.0, h.1, elim h.3 as (λ v. ((length d.blocks ≤ u) × (from + k ≡ u) × (done.after ≡ done.before)) ⊎ (CantBeRead d from u × (from + k ≡ u + 1) × (done.after ≡ done.before + 1))) [ inl x ↦ inr x | inr x ↦ inl x ], h.2)
 because d from to k (stop.Word f) done h = word_because d from to k f.screen f.offset f.cause done h.0 h.1 h.2
 
 pub stopped_refused : (d : Disk) (from to : ℕ) (e : Stop) (done : Done) → Stopped d from to e done → IsRefused d from to (refusal e from) done

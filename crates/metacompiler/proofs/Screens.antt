@@ -77,7 +77,7 @@ screen_stops d from s to m (stop.Device u) old new done step h k t f =
         k = s + 1 - from;
         few = omega arith;
         disk = failed.disk ∙ ap Some (reads-more d from s h.above);
-        because = rw t.0 (h.above, k, faultless old _ t.1, inl (failed.there, omega arith, failed.failures ∙ ap (λ n. n + 1) (f ∙ h.failures)));
+        because = rw t.0 (h.above, k, faultless old _ t.1, inl ((failed.there, failed.fails), omega arith, failed.failures ∙ ap (λ n. n + 1) (f ∙ h.failures)));
       }
       | inr none ↦ record {
         k = s - from;

@@ -20,11 +20,15 @@ use Rattle.metacompiler.specs.declared.entry.Lead.{Lead}
 use Rattle.metacompiler.specs.declared.entry.Lead.TheVariants.{Makes, Defines, Starts}
 use Rattle.metacompiler.specs.Places.{Place}
 use Rattle.metacompiler.specs.Names.{Name, address}
-use Rattle.metacompiler.specs.Items.{Header, Colon, Cell, Byte, Allot, Immediate, Boot, Items, Nothing, Then, controls}
+use Rattle.metacompiler.specs.Items.{Header, Colon, Cell, Byte, Allot, Immediate, Boot, Items, Nothing, Then, controls, item_words, boot, image}
 use Rattle.metacompiler.specs.Meanings.{look, meaning}
 use Rattle.metacompiler.specs.Grammar.{AreSound, IsSound}
 use Rattle.metacompiler.specs.Stages.{Stage, Whole, Counted, Due, Chosen, Inside, body_at, Begun, IsFront}
-use Rattle.metacompiler.specs.Faults.{AtItem, AtNumber, AtName, AtVocabulary, InBody, Applies, FirstCause, refusal, rank, IsFault, Next}
+use Rattle.metacompiler.specs.Faults.{IsGood, AtItem, AtNumber, AtName, AtVocabulary, InBody, Applies, FirstCause, refusal, rank, IsFault, Next}
+use Rattle.block_buffers.specs.Disks.{Disk}
+use Rattle.image_loader.specs.Files.{Contents}
+use Rattle.metacompiler.specs.Spelled.{all_placed}
+use Rattle.metacompiler.specs.Sources.{Done, IsBuiltOf, source_of}
 use Rattle.metacompiler.proofs.Running.{St, At, chosen, at_item, at_number, started, at_name, at_vocabulary, is_semi, closed, in_body, step, then, run, front_run}
 use Rattle.metacompiler.proofs.Exact.{items_in, keeps, semi_is, no_refusal}
 
@@ -368,3 +372,23 @@ by_view limit source last p q o n a b (inr (inr f)) (inr (inr g)) =
 
 pub one_fault : (limit : ℕ) (source : List Place) (last p q o n : ℕ) (a b : Cause) → IsFault limit source last p o a → IsFault limit source last q n b → (a ≡ c.OutOfMemory) ⊎ (b ≡ c.OutOfMemory) ⊎ ((p ≡ q) × (o ≡ n) × (a ≡ b))
 one_fault limit source last p q o n a b f g = by_view limit source last p q o n a b (view limit source last p o a f) (view limit source last q n b g)
+
+-- a good source is the words of one list of items
+good_front : (limit : ℕ) (source : List Place) (t : Items) (e : ℕ) → IsGood limit source t e → IsFront limit source t [] Whole
+good_front limit source t e g = record { is = g.is ∙ sym (append-nil (item_words t)); sound = g.sound; begun = refl }
+
+pub one_list : (limit : ℕ) (source : List Place) (t u : Items) (e f : ℕ) → IsGood limit source t e → IsGood limit source u f → (t ≡ u) × (e ≡ f)
+one_list limit source t u e f g h =
+    let s = same_state limit source t u [] [] Whole Whole (good_front limit source t e g) (good_front limit source u f h) in
+    let b : boot t ≡ boot u = ap boot s.0 in
+    let k : Some e ≡ Some f = sym g.starts ∙ b ∙ h.starts in
+    (s.0, cc)
+
+pub one_image : (d : Disk) (from to : ℕ) (a b : Contents) (x y : Done) → IsBuiltOf d from to a x → IsBuiltOf d from to b y → a ≡ b
+one_image d from to a b x y g h =
+    let s = one_list 61440 (all_placed (source_of d from to)) g.items h.items a.entry b.entry g.good h.good in
+    let i : a.bytes ≡ b.bytes = g.is ∙ ap image s.0 ∙ sym h.is in
+    same_contents a b s.1 i
+  where
+    same_contents : (a b : Contents) → a.entry ≡ b.entry → a.bytes ≡ b.bytes → a ≡ b
+    same_contents a b e i = rw (e, i) refl

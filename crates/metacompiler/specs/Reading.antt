@@ -1,6 +1,6 @@
 -- How far the screens of a source are read. No public clause speaks of it.
-use Rattle.std.specs.Prelude.{◌≡◌, ℕ, ◌+◌, ◌-◌, ◌<◌, ◌≤◌, ◌⊎◌, List, ◌++◌, ◌∷◌, [], length, Some, Result, Ok, Err}
-use Rattle.block_buffers.specs.Disks.{Disk, block_at, called}
+use Rattle.std.specs.Prelude.{◌≡◌, ℕ, false, ◌+◌, ◌-◌, ◌<◌, ◌≤◌, ◌⊎◌, List, ◌++◌, ◌∷◌, [], length, Some, Result, Ok, Err}
+use Rattle.block_buffers.specs.Disks.{Disk, block_at, called, succeeds}
 use Rattle.source_words.specs.declared.modes.Mode.{Mode}
 use Rattle.source_words.specs.declared.modes.Mode.TheVariants.{Outside}
 use Rattle.source_words.specs.declared.scanner.Scanner.{Scanner}
@@ -18,7 +18,7 @@ use Rattle.metacompiler.specs.Items.{Items, item_words}
 use Rattle.metacompiler.specs.Stages.{Stage}
 use Rattle.metacompiler.specs.Faults.{IsFault}
 use Rattle.metacompiler.specs.State.{Shows, IsState}
-use Rattle.metacompiler.specs.Sources.{Done, IsFaultless, after_reads, screens}
+use Rattle.metacompiler.specs.Sources.{CantBeRead, Done, IsFaultless, after_reads, screens}
 
 -- it took these words
 pub record Holds (k : Compilation) (front : List SourceWord) : Type 0 where
@@ -62,8 +62,10 @@ pub record HasRead (d : Disk) (s : ℕ) (done : Done) : Type 0 where
   pub disk : done.disk ≡ Some (called d)
   pub failures : done.after ≡ done.before
 
+-- the device has the screen, and its read failed
 pub record HasFailed (d : Disk) (s : ℕ) (done : Done) : Type 0 where
   pub there : s < length d.blocks
+  pub fails : succeeds d s ≡ false
   pub disk : done.disk ≡ Some (called d)
   pub failures : done.after ≡ done.before + 1
 
@@ -101,7 +103,7 @@ abbrev pub Why : Disk → (from to k : ℕ) → Stop → Done → Type 0
 Why d from to k (stop.Device s) done =
     (from ≤ s) × (s ≤ to)
     × IsFaultless (source_words from (screens d from (s - from)))
-    × (((s < length d.blocks) × (from + k ≡ s + 1) × (done.after ≡ done.before + 1))
+    × ((CantBeRead d from s × (from + k ≡ s + 1) × (done.after ≡ done.before + 1))
     ⊎ ((length d.blocks ≤ s) × (from + k ≡ s) × (done.after ≡ done.before)))
 Why d from to k (stop.Word f) done = (done.after ≡ done.before) × IsFaultless (source_words from (screens d from (k - 1))) × IsFaultOf (source_words from (screens d from k)) f
 

@@ -1,6 +1,6 @@
 -- A whole source on a device: what is built of it, and why it is refused.
-use Rattle.std.specs.Prelude.{◌≡◌, ℕ, ◌+◌, ◌-◌, ◌<◌, ◌≤◌, ◌⊎◌, List, ◌++◌, length, take, drop, Option, Some}
-use Rattle.block_buffers.specs.Disks.{Disk}
+use Rattle.std.specs.Prelude.{◌≡◌, ℕ, false, ◌+◌, ◌-◌, ◌<◌, ◌≤◌, ◌⊎◌, List, ◌++◌, length, take, drop, Option, Some}
+use Rattle.block_buffers.specs.Disks.{Disk, succeeds}
 use Rattle.image_loader.specs.Files.{Contents}
 use Rattle.source_words.specs.Words.{SourceWord, source_words}
 use Rattle.metacompiler.specs.declared.cause.BuildFault.{BuildFault}
@@ -50,11 +50,15 @@ pub record IsBuiltOf (d : Disk) (from to : ℕ) (built : Contents) (done : Done)
   pub disk : done.disk ≡ Some (after_reads (to + 1 - from) d)
   pub failures : done.after ≡ done.before
 
+-- the device has this screen, and behind one read each of the screens before it a read of it fails
+abbrev pub CantBeRead : Disk → (from screen : ℕ) → Type 0
+CantBeRead d from screen = (screen < length d.blocks) × (succeeds (after_reads (screen - from) d) screen ≡ false)
+
 -- a screen that isn't the device's, before which k were read; or one that couldn't be read, the last of the k
 abbrev pub IsUnread : Disk → (from k screen : ℕ) → Done → Type 0
 IsUnread d from k screen done =
     ((length d.blocks ≤ screen) × (from + k ≡ screen) × (done.after ≡ done.before))
-    ⊎ ((screen < length d.blocks) × (from + k ≡ screen + 1) × (done.after ≡ done.before + 1))
+    ⊎ (CantBeRead d from screen × (from + k ≡ screen + 1) × (done.after ≡ done.before + 1))
 
 -- why it is refused, once k screens were read: want of memory, a screen, the end of all screens, or a word. That is the
 -- first fault of every source that begins with the words of these k, and before the last of these was read none was known

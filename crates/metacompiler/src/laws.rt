@@ -4,9 +4,10 @@ ghost use Rattle.std.specs.Prelude.{◌≡◌, ℕ, ◌+◌, ◌-◌, ◌<◌, �
 ghost use Rattle.memory.specs.Bytes.{cell};
 ghost use Rattle.memory.specs.declared.system.TheConstants.{DP, RUNTIME_CELLS};
 ghost use Rattle.block_buffers.specs.Disks.{Disk};
+ghost use Rattle.image_loader.specs.Files.{Contents};
 ghost use Rattle.source_words.specs.Words.{SourceWord, source_words};
 ghost use Rattle.metacompiler.specs.Spelled.{all_placed};
-ghost use Rattle.metacompiler.specs.Sources.{Done, AreThere, IsRefused, source_of, screens};
+ghost use Rattle.metacompiler.specs.Sources.{Done, AreThere, IsBuiltOf, IsRefused, source_of, screens};
 ghost use Rattle.metacompiler.specs.declared.cause.BuildFault.{BuildFault};
 ghost use Rattle.metacompiler.specs.Places.{Place};
 ghost use Rattle.metacompiler.specs.Items.{Items, image, system, controls, names, current, end_of, link_of};
@@ -27,6 +28,12 @@ pub fn good_has_no_fault()
 /// A source has one first fault at most; want of memory aside.
 pub fn one_fault()
     ensures { (limit : ℕ) (source : List Place) (last p q o n : ℕ) (a b : Cause) → IsFault limit source last p o a → IsFault limit source last q n b → (a ≡ OutOfMemory) ⊎ (b ≡ OutOfMemory) ⊎ ((p ≡ q) × (o ≡ n) × (a ≡ b)) }
+{}
+
+/// A good source is the words of one list of items, and has one entry; so there is one image of it.
+pub fn one_image()
+    ensures items { (limit : ℕ) (source : List Place) (t u : Items) (e f : ℕ) → IsGood limit source t e → IsGood limit source u f → (t ≡ u) × (e ≡ f) }
+    ensures image { (d : Disk) (from to : ℕ) (a b : Contents) (x y : Done) → IsBuiltOf d from to a x → IsBuiltOf d from to b y → a ≡ b }
 {}
 
 /// A refusal of a source whose screens are all there, and of which none fails, is the source's first fault; so a good

@@ -114,7 +114,8 @@ fn take_screen<D: Device>(
     ensures taken { (d : Disk) → D.disk device.old ≡ Some d → (front : List SourceWord) → Holds compilation.old front → TakesScreen d screen mode front result compilation.old compilation.new (record { disk = D.disk device.new; before = failures (D.calls device.old); after = failures (D.calls device.new) }) }
     ensures held { OnOk result (IsHeld compilation.new) }
 {
-    if u32::from(screen) >= device.count() {
+    let count = device.count();
+    if u32::from(screen) >= count {
         return Err(Stop::Device(screen));
     }
     if device.read(screen, page).is_err() {

@@ -1,17 +1,17 @@
-use Rattle.std.proofs.Common.{◌≡◌, ◌≢◌, ℕ, ◌+◌, ◌-◌, ◌%◌, ◌<◌, List, [], ◌∷◌, ◌++◌, ◌∙◌, length, length-append, take, drop, slice_index, refl, sym, ap, arith, IsTrue, Bool, true, false, not, ◌&&◌, ◌==◌, if◌then◌else◌}
+use Rattle.std.proofs.Common.{◌≡◌, ◌≢◌, ℕ, ◌+◌, ◌-◌, ◌%◌, ◌<◌, List, [], ◌∷◌, ◌++◌, ◌∙◌, length, length-append, take, drop, slice_index, refl, sym, ap, arith, Bool, true, false, not, ◌&&◌, ◌==◌, if◌then◌else◌}
 use Rattle.std.proofs.lemmas.List.{append-nil, drop_more, drop_all, take-append-drop}
 use Rattle.std.proofs.lemmas.List.Sums.{AllPass-from_list_all}
 use Rattle.std.proofs.Math.ListN.{get_or-append}
 use Rattle.std.proofs.Math.Seq.{take-append_seam, get_or-append_seam}
-use Rattle.number_text.specs.Digits.{is_base, digit, is_digit, are_digits, text_value}
+use Rattle.number_text.specs.Digits.{digit, is_digit, are_digits, text_value}
 use Rattle.number_text.specs.Numbers.{is_minus, has_dot, behind_minus, before_dot, digit_part, is_number, is_double, number_value, with_sign, sign, point, spelled, IsSpelling}
 
 -- neither `-` nor `.` is a digit
-minus_no_digit : (base x : ℕ) → IsTrue (is_base base) → x ≡ 45 → is_digit base x ≡ false
+minus_no_digit : (base x : ℕ) → base < 65536 → x ≡ 45 → is_digit base x ≡ false
 unfolding is_digit digit
 minus_no_digit base x h e = rw e (grind arith)
 
-dot_no_digit : (base x : ℕ) → IsTrue (is_base base) → x ≡ 46 → is_digit base x ≡ false
+dot_no_digit : (base x : ℕ) → base < 65536 → x ≡ 46 → is_digit base x ≡ false
 unfolding is_digit digit
 dot_no_digit base x h e = rw e (grind arith)
 
@@ -19,10 +19,10 @@ digit_at : (base k : ℕ) (ds : List ℕ) → are_digits base ds ≡ true → k 
 unfolding are_digits
 digit_at base k ds h q = AllPass-from_list_all (is_digit base) ds h k 0 q
 
-no_minus_at : (base k : ℕ) (ds : List ℕ) → IsTrue (is_base base) → are_digits base ds ≡ true → k < length ds → slice_index ds k ≢ 45
+no_minus_at : (base k : ℕ) (ds : List ℕ) → base < 65536 → are_digits base ds ≡ true → k < length ds → slice_index ds k ≢ 45
 no_minus_at base k ds b h q e = let t = digit_at base k ds h q in let f = minus_no_digit base (slice_index ds k) b e in cc
 
-no_dot_at : (base k : ℕ) (ds : List ℕ) → IsTrue (is_base base) → are_digits base ds ≡ true → k < length ds → slice_index ds k ≢ 46
+no_dot_at : (base k : ℕ) (ds : List ℕ) → base < 65536 → are_digits base ds ≡ true → k < length ds → slice_index ds k ≢ 46
 no_dot_at base k ds b h q e = let t = digit_at base k ds h q in let f = dot_no_digit base (slice_index ds k) b e in cc
 
 is_minus_no : (t : List ℕ) → 0 < length t → slice_index t 0 ≢ 45 → is_minus t ≡ false
@@ -55,7 +55,7 @@ finish base text rest ds minus dot m b d p some digits =
     }
 
 -- behind the digits
-point_parts : (base : ℕ) (ds : List ℕ) (dot : Bool) → IsTrue (is_base base) → 0 < length ds → are_digits base ds ≡ true →
+point_parts : (base : ℕ) (ds : List ℕ) (dot : Bool) → base < 65536 → 0 < length ds → are_digits base ds ≡ true →
     (has_dot (ds ++ point dot) ≡ dot) × (before_dot (ds ++ point dot) ≡ ds)
 point_parts base ds false b some digits =
     let no : has_dot ds ≡ false = has_dot_no ds some (no_dot_at base (length ds - 1) ds b digits (omega arith)) in
@@ -67,7 +67,7 @@ point_parts base ds true b some digits =
     (yes, rw (yes, last) (take-append_seam ds (46 ∷ [])))
 
 -- before the digits
-sign_parts : (base : ℕ) (ds ys : List ℕ) (minus : Bool) → IsTrue (is_base base) → 0 < length ds → are_digits base ds ≡ true →
+sign_parts : (base : ℕ) (ds ys : List ℕ) (minus : Bool) → base < 65536 → 0 < length ds → are_digits base ds ≡ true →
     (is_minus (sign minus ++ (ds ++ ys)) ≡ minus) × (behind_minus (sign minus ++ (ds ++ ys)) ≡ ds ++ ys)
 sign_parts base ds ys true b some digits = let yes : is_minus (45 ∷ ds ++ ys) ≡ true = is_minus_yes (ds ++ ys) in (yes, rw yes refl)
 sign_parts base ds ys false b some digits =
@@ -77,7 +77,7 @@ sign_parts base ds ys false b some digits =
     (no, rw no refl)
 
 -- each spelling is a number
-pub spelling : (base : ℕ) (ds : List ℕ) (minus dot : Bool) → IsTrue (is_base base) → 0 < length ds → are_digits base ds ≡ true →
+pub spelling : (base : ℕ) (ds : List ℕ) (minus dot : Bool) → base < 65536 → 0 < length ds → are_digits base ds ≡ true →
     IsSpelling base (spelled minus ds dot) minus ds dot
 spelling base ds minus dot b some digits =
     let front : (is_minus (spelled minus ds dot) ≡ minus) × (behind_minus (spelled minus ds dot) ≡ ds ++ point dot) = sign_parts base ds (point dot) minus b some digits in

@@ -1,9 +1,9 @@
 //! Digits in memory that are read behind a number (CONVERT).
 
-ghost use Rattle.std.specs.Prelude.{◌≡◌, ◌+◌, IsTrue, length};
+ghost use Rattle.std.specs.Prelude.{◌≡◌, ◌+◌, length};
 ghost use Rattle.cells.specs.Cell.{wrap};
 ghost use Rattle.memory.specs.Bytes.{bytes};
-ghost use Rattle.number_text.specs.Digits.{is_base, leading_digits, continued};
+ghost use Rattle.number_text.specs.Digits.{leading_digits, continued};
 ghost use Rattle.number_text.specs.Conversion.{IsConverted};
 
 use crate::base::{BadBase, base_of};
@@ -13,7 +13,6 @@ use memory::Memory;
 /// The number with the digits from `at` on behind its own, and the place of the first byte that is none.
 #[tactic(auto, using(crate::proofs::Conversions::runs, memory::proofs::Ranges::ranges))]
 fn converted(memory: &Memory, number: u32, at: u16, base: u16) -> (u32, u16)
-    requires { IsTrue (is_base base) }
     ensures number { result.0 ≡ continued base number (leading_digits base (bytes memory.now at 65535)) }
     ensures place { result.1 ≡ wrap (at + length (leading_digits base (bytes memory.now at 65535))) }
 {

@@ -1,14 +1,13 @@
 //! Digits, and the bytes that show them.
 
-ghost use Rattle.std.specs.Prelude.{◌≡◌, ◌<◌, ◌≤◌, ℕ, IsTrue, MatchOption};
-ghost use Rattle.number_text.specs.Digits.{is_base, byte_of, digit, IsDigit, IsNoDigit, IsContinued, AreNoDigits};
+ghost use Rattle.std.specs.Prelude.{◌≡◌, ◌<◌, ◌≤◌, ◌%◌, ℕ, MatchOption};
+ghost use Rattle.number_text.specs.Digits.{byte_of, digit, IsDigit, IsNoDigit, IsContinued, AreNoDigits};
 
-/// The digit that a byte shows in a base of 2 to 72: `0` to `9` show 0 to 9, the bytes from `A` on 10 and more.
+/// The digit that a byte shows: `0` to `9` show 0 to 9, the bytes from `A` on 10 and more.
 ///
-/// None where the byte shows no digit below the base.
+/// None where the byte shows no digit below the base, whatever that is.
 #[tactic(auto, unfolding(crate::specs::Digits::digit))]
 pub fn digit_of(byte: u8, base: u16) -> Option<u8>
-    requires { IsTrue (is_base base) }
     ensures { MatchOption result (IsNoDigit base byte) (IsDigit base byte) }
 {
     if byte < b'0' {
@@ -28,22 +27,21 @@ pub fn digit_of(byte: u8, base: u16) -> Option<u8>
     }
 }
 
-/// The byte that shows a digit below 72.
+/// The byte that shows a digit: `0` to `9`, and from `A` on for 10 and more. Behind the last byte, which shows 200, they
+/// begin at 0 again.
 pub fn byte_of_digit(digit: u8) -> u8
-    requires { digit < 72 }
-    ensures { result ≡ byte_of digit }
+    ensures { result ≡ byte_of digit % 256 }
 {
     if digit < 10 {
         b'0' + digit
     } else {
-        b'A' + (digit - 10)
+        b'A'.wrapping_add(digit - 10)
     }
 }
 
 /// The number with the digits of a text behind its own, modulo 2^32. None where a byte shows no digit below the base.
 #[tactic(auto, using(crate::proofs::Values::steps))]
 pub(crate) fn continued(start: u32, text: &[u8], base: u16) -> Option<u32>
-    requires { IsTrue (is_base base) }
     ensures { MatchOption result (AreNoDigits base text.now) (IsContinued base start text.now) }
 {
     let mut number = start;

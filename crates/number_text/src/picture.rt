@@ -1,7 +1,7 @@
 //! Pictures of numbers, built in memory from their last byte down to their first. HLD holds the address of the
 //! byte that was put last.
 
-ghost use Rattle.std.specs.Prelude.{◌≡◌, ◌<◌, ℕ, All, IsTrue, OnOk, [], ◌∷◌, true, length, map, reverse, slice_index};
+ghost use Rattle.std.specs.Prelude.{◌≡◌, ◌<◌, ◌%◌, ℕ, All, IsTrue, OnOk, [], ◌∷◌, true, length, map, reverse, slice_index};
 ghost use Rattle.cells.specs.Cell.{difference};
 ghost use Rattle.memory.specs.Bytes.{cell};
 ghost use Rattle.number_text.specs.Digits.{is_base, byte_of, are_digits, expansion, value, text_value};
@@ -52,6 +52,14 @@ pub fn sign(memory: &mut Memory, n: u16)
     }
 }
 
+/// The byte of a number's lowest digit.
+fn lowest(number: u32, base: u32) -> u8
+    requires { IsTrue (is_base base) }
+    ensures { result ≡ byte_of (number % base) }
+{
+    byte_of_digit((number % base) as u8)
+}
+
 /// Puts the lowest digit of a number in BASE before the picture, and answers the number divided by BASE.
 ///
 /// `BadBase`, with memory as it was, where BASE is outside 2 to 72. This is `#` of the Standard.
@@ -60,7 +68,7 @@ pub fn picture_digit(memory: &mut Memory, number: u32) -> Result<u32, BadBase>
     ensures { IsDigitPictured memory.old memory.new number result }
 {
     let base = u32::from(base_of(memory)?);
-    hold(memory, byte_of_digit((number % base) as u8));
+    hold(memory, lowest(number, base));
     Ok(number / base)
 }
 
@@ -89,10 +97,10 @@ fn put_digits(memory: &mut Memory, end: u16, number: u32, base: u32)
     let mut rest = number;
     while rest >= base {
         place = place.wrapping_sub(1);
-        memory.set_byte(place, byte_of_digit((rest % base) as u8));
+        memory.set_byte(place, lowest(rest, base));
         rest /= base;
     }
-    memory.set_byte(place.wrapping_sub(1), byte_of_digit((rest % base) as u8));
+    memory.set_byte(place.wrapping_sub(1), lowest(rest, base));
 }
 
 /// Puts all digits of a number in BASE before the picture, at least one: HLD is lowered by their count, and then

@@ -1,7 +1,7 @@
 //! Numbers that texts spell.
 
-ghost use Rattle.std.specs.Prelude.{◌≡◌, ◌<◌, ℕ, List, Bool, true, length, IsTrue, MatchOption};
-ghost use Rattle.number_text.specs.Digits.{is_base, are_digits};
+ghost use Rattle.std.specs.Prelude.{◌≡◌, ◌<◌, ℕ, List, Bool, true, length, MatchOption};
+ghost use Rattle.number_text.specs.Digits.{are_digits};
 ghost use Rattle.number_text.specs.Numbers.{IsNumber, IsNoNumber, IsSpelling, with_sign, is_minus, has_dot, behind_minus, before_dot, digit_part, is_double, spelled};
 
 use crate::digits::continued;
@@ -48,13 +48,11 @@ fn negated(value: u32, minus: bool) -> u32
     value
 }
 
-/// The number that a text spells in a base of 2 to 72: an optional `-`, one or more digits below the base, an
-/// optional last `.`.
+/// The number that a text spells in a base: an optional `-`, one or more digits below the base, an optional last `.`.
 ///
 /// With the `.` it is a double, modulo 2^32; else a single, the low 16 bits. None where the text spells no number.
 #[tactic(auto, using(crate::proofs::Values::value_is), unfolding(crate::specs::Numbers::is_number, crate::specs::Numbers::is_double, crate::specs::Numbers::number_value))]
 pub fn number(text: &[u8], base: u16) -> Option<Number>
-    requires { IsTrue (is_base base) }
     ensures { MatchOption result (IsNoNumber base text.now) (IsNumber base text.now) }
 {
     let (minus, unsigned) = split_minus(text);
@@ -75,7 +73,7 @@ pub fn number(text: &[u8], base: u16) -> Option<Number>
 /// The law of numbers: a text of an optional `-`, one or more digits and an optional `.` is a number of their value,
 /// and every text is put together so from the parts that it is tested by.
 pub fn number_law()
-    ensures read { (base : ℕ) (ds : List ℕ) (minus dot : Bool) → IsTrue (is_base base) → 0 < length ds → are_digits base ds ≡ true →
+    ensures read { (base : ℕ) (ds : List ℕ) (minus dot : Bool) → base < 65536 → 0 < length ds → are_digits base ds ≡ true →
         IsSpelling base (spelled minus ds dot) minus ds dot }
     ensures parts { (text : List ℕ) → text ≡ spelled (is_minus text) (digit_part text) (is_double text) }
 {}

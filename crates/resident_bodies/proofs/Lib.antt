@@ -7,3 +7,5 @@ pub mod Controls
 pub mod Items
 pub mod Ending
 pub mod Twice
+pub mod Gaps
+pub mod Known

@@ -1,6 +1,6 @@
 //! Laws of what the resident compiler lays.
 
-ghost use Rattle.std.specs.Prelude.{◌≡◌, ◌≤◌, ℕ, Bool, ◌+◌, ◌/◌, ◌%◌, ◌++◌, List, Some, length};
+ghost use Rattle.std.specs.Prelude.{◌≡◌, ◌≢◌, ◌<◌, ◌≤◌, ℕ, Bool, true, false, ◌+◌, ◌/◌, ◌%◌, ◌++◌, List, Some, length};
 ghost use Rattle.memory.specs.Bytes.{cell, cell_bytes, put_cell};
 ghost use Rattle.memory.specs.declared.system.TheConstants.{BLK, DP, TO_IN, FENCE};
 ghost use Rattle.dictionary.specs.Laying.{laid_at};
@@ -8,7 +8,9 @@ ghost use Rattle.compiling_words.specs.Code.{runtime, literal_code, text_code};
 ghost use Rattle.compiling_words.specs.Definitions.{begun, ended};
 ghost use Rattle.compiling_words.specs.Laying.{laid};
 ghost use Rattle.plain_rows.specs.Whole.{Whole};
-ghost use Rattle.plain_rows.specs.declared.parts.Outcome.TheVariants.{Done};
+ghost use Rattle.plain_rows.specs.Row.{fault};
+ghost use Rattle.plain_rows.specs.declared.faults.TheConstants.{UNKNOWN_CODE};
+ghost use Rattle.plain_rows.specs.declared.parts.Outcome.TheVariants.{Done, Fault};
 ghost use Rattle.primitives.specs.Table.{row};
 ghost use Rattle.primitives.specs.Interpret.{compiles_past};
 ghost use Rattle.primitives.specs.Defining.{lays_past};
@@ -22,7 +24,7 @@ ghost use Rattle.colon_bodies.specs.Code.{all_size};
 ghost use Rattle.colon_bodies.specs.Open.{Outer, At, open_size, read};
 ghost use Rattle.metacompiler.specs.Places.{Place};
 ghost use Rattle.metacompiler.specs.Items.{Items, Then, Colon, end_of};
-ghost use Rattle.metacompiler.specs.Grammar.{AreSound};
+ghost use Rattle.metacompiler.specs.Grammar.{AreSound, is_gap};
 ghost use Rattle.metacompiler.specs.Headers.{memory_of};
 ghost use Rattle.resident_bodies.specs.Definitions.{Opens, Agrees, laid_definition};
 ghost use Rattle.resident_bodies.specs.Words.{lays, lays_all, row_of};
@@ -65,6 +67,14 @@ pub fn stream_law()
     ensures double { (m d : List ℕ) (q n : ℕ) → (lays (DOUBLE n) (put_cell m TO_IN q) d).0 ≡ laid_at (cell m DP) (put_cell m TO_IN q) (literal_code m (n % 65536) ++ literal_code m (n / 65536)) }
     ensures text { (m d text : List ℕ) (q : ℕ) (aborts : Bool) → (lays (TEXT aborts text) (put_cell m TO_IN q) d).0 ≡ laid_at (cell m DP) (put_cell m TO_IN q) (text_code (runtime m (text_control aborts)) text) }
     ensures tick { (before : List ℕ) (at : ℕ) (o : Outer) (t : Body) (m d below : List ℕ) (w : ℕ) → 256 ≤ at → at + open_size o t Free + 4 ≤ 61440 → Draft before at o t Free m d below → Draft before at o (Tick t w) Free (laid m (literal_code m w)) d below }
+{}
+
+/// The numbers that no primitive may have, for the metacompiler, are those of no row: there the table answers unknown code, and
+/// the row of no other number below 205 ever does, but for (FAULT), which answers the fault that it takes.
+pub fn gap_law()
+    ensures gap { (n w : ℕ) (s : Whole) → is_gap n ≡ true → row n w s ≡ fault s UNKNOWN_CODE }
+    ensures rows { (n w : ℕ) (s : Whole) → 0 < n → n < 205 → is_gap n ≡ false → n ≢ 26 → (row n w s).1 ≢ Fault UNKNOWN_CODE }
+    ensures past { (n w : ℕ) (s : Whole) → 204 < n → row n w s ≡ fault s UNKNOWN_CODE }
 {}
 
 /// A colon item of the metacompiler is one header with its code behind it: the image's memory with it is the memory before

@@ -5,6 +5,7 @@ pub mod Figures
 pub mod Stepping
 pub mod Telling
 pub mod Rereading
+pub mod Within
 pub mod Whole
 pub mod Sketching
 pub mod Cutting

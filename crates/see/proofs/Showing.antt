@@ -78,7 +78,7 @@ plain_known rt (Again t a) h = known-append rt (words t) _ (plain_known rt t h.0
 plain_known rt (While t a b) h = known-append rt (words t) _ (plain_known rt t h.0) (tt, known-append rt (words a) _ (plain_known rt a h.1) (h.2, known-append rt (words b) _ (plain_known rt b h.3) (h.4, tt)))
 plain_known rt (Loop t a k) h = known-append rt (words t) _ (plain_known rt t h.0) (h.1, known-append rt (words a) _ (plain_known rt a h.2) (h.3, tt))
 
-all_known : (rt : ℕ → ℕ) (d : Definition) → IsPlain rt d → AreKnown rt (all_words d)
+pub all_known : (rt : ℕ → ℕ) (d : Definition) → IsPlain rt d → AreKnown rt (all_words d)
 all_known rt (Simple t) h = plain_known rt t h
 all_known rt (Doing t a) h = known-append rt (words t) _ (plain_known rt t h.0) (h.1, plain_known rt a h.2)
 

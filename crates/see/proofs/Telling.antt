@@ -176,7 +176,7 @@ unfolding figure_of
 number_figure n h =
     let f = figured n h in
     let t : number_text n ≡ spelled f.minus f.ds false = f.is ∙ ap (λ l. sign f.minus ++ l) (sym (append-nil f.ds)) in
-    let s : IsSpelling 10 (number_text n) f.minus f.ds false = subst (λ l. IsSpelling 10 l f.minus f.ds false) (sym t) (spelling 10 f.ds f.minus false refl f.some f.digits) in
+    let s : IsSpelling 10 (number_text n) f.minus f.ds false = subst (λ l. IsSpelling 10 l f.minus f.ds false) (sym t) (spelling 10 f.ds f.minus false (omega arith) f.some f.digits) in
     rw (s.number, s.double) (ap Figure (ap (λ v. v % 65536) s.value ∙ f.value))
 
 pub told_number : (m : List ℕ) (l : ℕ) (h : Half) (n : ℕ) → n < 65536 → Loose h → is_free m l (number_text n) ≡ true → token_of m l h (bare (number_text n)) ≡ Some (NUMBER n)

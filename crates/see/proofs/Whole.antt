@@ -11,21 +11,21 @@ use Rattle.source_words.specs.Spaced.{Spelling, spelling, bare, spaced, IsStep, 
 use Rattle.source_words.proofs.Colons.{colon_reread, plain_word_step, led_step, text_step}
 use Rattle.colon_bodies.specs.Tokens.{Token, NAME, NUMBER, DOUBLE, TICK, FORCE, COMPILE, IF, ELSE, THEN, BEGIN, UNTIL, AGAIN, WHILE, REPEAT, DO, LOOP, TEXT, DOES, SEMI}
 use Rattle.colon_bodies.specs.Tree.{Body, Empty, Call, Literal, Double, Tick, Pair, IfThen, IfElse, Until, Again, While, Loop, Text, Definition, Simple, Doing, words, all_words, named}
-use Rattle.colon_bodies.specs.Code.{thread}
 use Rattle.colon_bodies.specs.Plain.{respelled, IsPlainBody, IsPlain, all_spelled}
 use Rattle.colon_bodies.proofs.Spelling.{spelled_thread, all_spelled_words}
 use Rattle.colon_bodies.specs.declared.words.Half.TheVariants.{Free}
 use Rattle.see.specs.Extent.{controls_of, parameter_field, extent}
 use Rattle.see.specs.Naming.{is_word, is_quotable, name_at, number_text, IsReadable, AreReadableWords}
 use Rattle.see.specs.Printing.{printed, called, all_printed, is_forced, is_keyword, its_words, text}
-use Rattle.see.specs.Reading.{tokens_of, AreCells, IsReadAs}
-use Rattle.see.specs.Seeing.{IsDefined, IsSeen, IsReadBack}
+use Rattle.see.specs.Reading.{tokens_of, AreCells}
+use Rattle.see.specs.Seeing.{IsAgain, IsDefined, IsSeen, IsReadBack}
 use Rattle.see.specs.declared.refusal.SeeRefused.{SeeRefused}
 use Rattle.std.specs.declared.alloc.Global.{Global}
 use Rattle.see.proofs.Stepping.{bare_is, bare_step, neither}
 use Rattle.see.proofs.Telling.{number_bare, number_word}
 use Rattle.see.proofs.Rereading.{all_told}
 use Rattle.see.proofs.Plainness.{are_all_plain}
+use Rattle.see.proofs.Within.{spelled_within}
 
 -- ; ends a definition, and stands nowhere else
 abbrev NoEnd : List Token → Type 0
@@ -181,16 +181,19 @@ tokens_read m l d p r c =
     ∙ ap (map (λ w. Some w)) (respelled_end (is_forced m l) (all_words d) ∙ ap (λ k. k ++ SEMI ∷ []) (sym (all_spelled_words rt (is_forced m l) d p)))
 
 -- the text is read as a definition that is laid as the word's extent
-pub read_again : (m name : List ℕ) (l : ℕ) (d : Definition) → IsDefined m name l d → IsReadable m l name (its_words d) → AreCells (its_words d) → (e : Definition) × IsReadAs m l name (text m l name d) e × (thread (slice_index (controls_of m)) e (parameter_field m l) ≡ extent m (parameter_field m l))
+pub read_again : (m name : List ℕ) (l : ℕ) (d : Definition) → IsDefined m name l d → IsReadable m l name (its_words d) → AreCells (its_words d) → (e : Definition) × IsAgain m l name (text m l name d) e
 read_again m name l d h r c =
     let rt = slice_index (controls_of m) in (
       all_spelled (is_forced m l) d,
-      record { body = all_printed m l (its_words d); words_are = λ screen. words_read m l name d screen h.code.plain r c; tokens_are = tokens_read m l d h.code.plain r.words c },
-      spelled_thread rt (is_forced m l) d (parameter_field m l) ∙ h.code.is,
+      record {
+        read = record { body = all_printed m l (its_words d); words_are = λ screen. words_read m l name d screen h.code.plain r c; tokens_are = tokens_read m l d h.code.plain r.words c };
+        within = spelled_within rt (parameter_field m l) (extent m (parameter_field m l)) (is_forced m l) d h.code;
+        is = spelled_thread rt (is_forced m l) d (parameter_field m l) ∙ h.code.is;
+      },
     )
 
 pub seen_read : (m name : List ℕ) (x : Result (Vec ℕ Global) SeeRefused) → IsSeen m name x → IfOk x (λ v. IsReadBack m name v.items)
 seen_read m name (Ok v) s =
     let r = read_again m name s.0 s.1 s.2 s.3 s.4 in
-    (s.0, r.0, s.2.colon, subst (λ b. IsReadAs m s.0 name b r.0) (sym s.5) r.1, r.2)
+    (s.0, r.0, s.2.colon, subst (λ b. IsAgain m s.0 name b r.0) (sym s.5) r.1)
 seen_read m name (Err e) s = tt

@@ -9,7 +9,7 @@ use Rattle.colon_bodies.specs.Tree.{Definition}
 use Rattle.colon_bodies.specs.Tokens.{Token}
 use Rattle.colon_bodies.specs.Plain.{AreApart}
 use Rattle.colon_bodies.specs.Code.{thread}
-use Rattle.see.specs.Shown.{IsThread}
+use Rattle.see.specs.Shown.{IsThread, IsWithinBounds}
 use Rattle.see.specs.Extent.{parameter_field, extent, controls_of}
 use Rattle.see.specs.Naming.{words_fault, first_fault, IsReadable}
 use Rattle.see.specs.Reading.{AreCells, IsReadAs}
@@ -61,7 +61,12 @@ IsSeen m name (Err r.NotStructured) = (l : ℕ) × IsColon m name l × (HasContr
 IsSeen m name (Err r.OutOfMemory) = Unit {0}
 IsSeen m name (Err e) = (l : ℕ) × (d : Definition) × IsDefined m name l d × (first_fault m l name (its_words d) ≡ Some e)
 
--- bytes that are read, as a source is, as a definition which is laid as the extent of the colon word that the name means
+-- bytes that are read, as a source is, as this definition, which is within a source's bounds and laid as the word's extent
+pub record IsAgain (m : List ℕ) (l : ℕ) (name : List ℕ) (bytes : List ℕ) (e : Definition) : Type 0 where
+  pub read : IsReadAs m l name bytes e
+  pub within : IsWithinBounds (slice_index (controls_of m)) e
+  pub is : thread (slice_index (controls_of m)) e (parameter_field m l) ≡ extent m (parameter_field m l)
+
+-- bytes that are read so as a definition of the colon word that the name means
 abbrev pub IsReadBack : List ℕ → List ℕ → List ℕ → Type 0
-IsReadBack m name bytes =
-    (l : ℕ) × (e : Definition) × IsColon m name l × IsReadAs m l name bytes e × (thread (slice_index (controls_of m)) e (parameter_field m l) ≡ extent m (parameter_field m l))
+IsReadBack m name bytes = (l : ℕ) × (e : Definition) × IsColon m name l × IsAgain m l name bytes e

@@ -1,14 +1,12 @@
 //! Laws of the definitions.
 
-ghost use Rattle.std.specs.Prelude.{◌≡◌, ℕ, List, None, slice_index};
+ghost use Rattle.std.specs.Prelude.{◌≡◌, ℕ, List, None};
 ghost use Rattle.colon_bodies.specs.Tokens.{Token};
 ghost use Rattle.colon_bodies.specs.Tree.{Definition};
-ghost use Rattle.colon_bodies.specs.Code.{thread};
-ghost use Rattle.see.specs.Extent.{controls_of, parameter_field, extent};
 ghost use Rattle.see.specs.Naming.{IsReadable, first_fault};
 ghost use Rattle.see.specs.Printing.{its_words, text};
-ghost use Rattle.see.specs.Reading.{AreCells, IsReadAs};
-ghost use Rattle.see.specs.Seeing.{IsDefined};
+ghost use Rattle.see.specs.Reading.{AreCells};
+ghost use Rattle.see.specs.Seeing.{IsAgain, IsDefined};
 
 /// Nothing is wrong with the words of a definition just where it is readable.
 #[tactic(auto, using(crate::proofs::Answered::readable, crate::proofs::Answered::faultless))]
@@ -18,8 +16,8 @@ pub fn readable_law()
 {}
 
 /// The text of a readable definition, read as a source is, with the names and the runtime cells of the same memory, is a
-/// definition that is laid as the word's thread. The word itself counts as hidden.
+/// definition within a source's bounds that is laid as the word's thread. The word itself counts as hidden.
 #[tactic(auto, using(crate::proofs::Whole::read_again))]
 pub fn reading_law()
-    ensures { (m name : List ℕ) (l : ℕ) (d : Definition) → IsDefined m name l d → IsReadable m l name (its_words d) → AreCells (its_words d) → (e : Definition) × IsReadAs m l name (text m l name d) e × (thread (slice_index (controls_of m)) e (parameter_field m l) ≡ extent m (parameter_field m l)) }
+    ensures { (m name : List ℕ) (l : ℕ) (d : Definition) → IsDefined m name l d → IsReadable m l name (its_words d) → AreCells (its_words d) → (e : Definition) × IsAgain m l name (text m l name d) e }
 {}

@@ -19,6 +19,6 @@ returns-clause-held g c = held_after c.args.mode (screen_words c.args.mode c.arg
 pub returns-then-is_err-clause-taken : goal.returns-then-is_err-clause-taken
 returns-then-is_err-clause-taken g c = λ d e front h.
     let t = subst (λ o. IfSome o (λ x. Reads x c.args.screen (g.D.Device.disk c.read.new.self) c.read.new.page c.read.result)) e c.read.ensures.told in
-    let n = subst (λ o. IfSome o (λ x. c.count.result ≡ length x.blocks)) e c.count.ensures.told in
+    let n = subst (λ o. IfSome o (λ x. c.count-count.result ≡ length x.blocks)) e c.count-count.ensures.told in
     let less : c.args.screen < length d.blocks = omega (arith, n, c.if-from-count.false, c.from.ensures) in
     (refl, h, inl (read_failed d c.args.screen c.read.result c.read.new.page (g.D.Device.disk c.read.new.self) (g.D.Device.calls c.args.device.now) (g.D.Device.calls c.read.new.self) (sym c.is_err.ensures.value ∙ c.if-is_err.true) less t c.read.ensures.logged))
