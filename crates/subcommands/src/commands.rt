@@ -1,6 +1,6 @@
 //! The subcommands, over values.
 
-ghost use Rattle.std.specs.Prelude.{◌≡◌, ◌≢◌, ◌<◌, ◌⊎◌, ℕ, List, codes, decimal, false, true, Some, IsNone, IsSome, IfOk, IfSome, MatchOption, string_bytes, ◌++◌};
+ghost use Rattle.std.specs.Prelude.{◌≡◌, ◌≢◌, ◌<◌, ◌⊎◌, codes, decimal, false, true, Some, IsNone, IsSome, IfOk, IfSome, MatchOption, string_bytes, ◌++◌};
 ghost use Rattle.std.specs.Io.KnownBytes.{Appends};
 ghost use Rattle.block_buffers.specs.Calls.{failures};
 ghost use Rattle.block_buffers.specs.Disks.{Disk};
@@ -11,7 +11,7 @@ ghost use Rattle.subcommands.specs.Lines.{EndsRefused, EndsViewed, IsTold, Print
 ghost use Rattle.subcommands.specs.Statuses.{status_of, EndsWith};
 ghost use Rattle.image_loader.specs.Files.{Contents, IsFile};
 ghost use Rattle.image_loader.specs.declared.fault.ImageFault.{ImageFault};
-ghost use Rattle.inner_interpreter.specs.Worlds.{loaded};
+ghost use Rattle.inner_interpreter.specs.Worlds.{OfFile};
 
 use crate::causes::Reason;
 use crate::kernel::kernel_file;
@@ -266,13 +266,16 @@ pub fn do_run<R: Input, W: Output, D: Device>(
 ) -> Ended
     // Where the bytes are an image's file, memory is found and no end fails, the status, the output, the unread bytes and
     // the blocks are those of the written rounds.
-    ensures ran { result.status ≢ 1 → R.failed reader.new ≡ false → W.failed writer.new ≡ false → (file : Contents) → IsFile image.now file → (typed : List ℕ) → R.unread reader.old ≡ Some typed → (disk : Disk) → D.disk device.old ≡ Some disk → (sent : List ℕ) → W.sent writer.old ≡ Some sent → EndsWith result.status (loaded file typed disk sent limit) (R.unread reader.new) (D.disk device.new) (W.sent writer.new) }
+    ensures ran { result.status ≢ 1 → R.failed reader.new ≡ false → W.failed writer.new ≡ false → OfFile image.now (R.unread reader.old) (D.disk device.old) (W.sent writer.old) limit (λ w. EndsWith result.status w (R.unread reader.new) (D.disk device.new) (W.sent writer.new)) }
     // Where they are none, that is printed, and no other end is touched.
     ensures refused { W.failed writer.new ≡ false → (fault : ImageFault) → IsNoFile image.now fault → PrintsRefusal (codes "image") (image_cause fault) result.status (W.sent writer.old) (W.sent writer.new) }
     ensures unrun { (fault : ImageFault) → IsNoFile image.now fault → (reader.new ≡ reader.old) × (device.new ≡ device.old) }
     // Status 1 over an image's file is want of memory, which is printed; with status 1 nothing was run.
     ensures wanting { W.failed writer.new ≡ false → (file : Contents) → IsFile image.now file → result.status ≡ 1 → PrintsOutOfMemory result.status (W.sent writer.old) (W.sent writer.new) }
     ensures untouched { result.status ≡ 1 → (reader.new ≡ reader.old) × (device.new ≡ device.old) }
+    // An end that fails gives status 5.
+    ensures cut { W.failed writer.old ≡ false → W.failed writer.new ≡ true → result.status ≡ 5 }
+    ensures input { R.failed reader.old ≡ false → R.failed reader.new ≡ true → result.status ≡ 5 }
     ensures file { IsNone result.file }
 {
     match run_file(alloc, image, reader, writer, device, limit) {

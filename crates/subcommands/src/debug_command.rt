@@ -1,7 +1,6 @@
 //! The subcommand that runs an image and traces one word.
 
-ghost use Rattle.std.specs.Prelude.{◌≡◌, ◌≢◌, ◌⊎◌, ℕ, List, codes, false, true, Some, Err, IsNone, IsOk, IfOk, IfErr, OnErr};
-ghost use Rattle.block_buffers.specs.Disks.{Disk};
+ghost use Rattle.std.specs.Prelude.{◌≡◌, ◌≢◌, ◌⊎◌, codes, false, true, Err, IsNone, IsOk, IfOk, IfErr, OnErr};
 ghost use Rattle.debug_tracer.specs.Debugged.{EndsDebugged, debugged};
 ghost use Rattle.debug_tracer.specs.declared.fault.DebugFault.{DebugFault};
 ghost use Rattle.subcommands.specs.Causes.{IsNoFile, debug_cause, image_cause};
@@ -10,7 +9,7 @@ ghost use Rattle.subcommands.specs.Ends.{AreKept};
 ghost use Rattle.subcommands.specs.Statuses.{EndsTracedWith};
 ghost use Rattle.image_loader.specs.Files.{Contents, IsFile};
 ghost use Rattle.image_loader.specs.declared.fault.ImageFault.{ImageFault};
-ghost use Rattle.inner_interpreter.specs.Worlds.{loaded};
+ghost use Rattle.inner_interpreter.specs.Worlds.{OfFile, OfImage};
 
 use crate::commands::{Ended, end_with, print_out_of_memory, refuse, refuse_image, status_of};
 use block_buffers::Device;
@@ -43,9 +42,12 @@ fn load_and_debug<R: Input, W: Output, D: Device, T: Output>(
     trace: &mut T,
     limit: u64,
 ) -> Result<Stop, DebugFault>
-    ensures ran { IfOk result (λ stop. R.failed reader.new ≡ false → W.failed writer.new ≡ false → T.failed trace.new ≡ false → (typed : List ℕ) → R.unread reader.old ≡ Some typed → (disk : Disk) → D.disk device.old ≡ Some disk → (sent : List ℕ) → W.sent writer.old ≡ Some sent → EndsDebugged (loaded image.now typed disk sent limit) name.now (R.unread reader.new) (D.disk device.new) (W.sent writer.new) (T.sent trace.old) (T.sent trace.new) stop) }
+    ensures ran { IfOk result (λ stop. R.failed reader.new ≡ false → W.failed writer.new ≡ false → T.failed trace.new ≡ false → OfImage image.now (R.unread reader.old) (D.disk device.old) (W.sent writer.old) limit (λ w. EndsDebugged w name.now (R.unread reader.new) (D.disk device.new) (W.sent writer.new) (T.sent trace.old) (T.sent trace.new) stop)) }
     ensures found { IfOk result (λ _. IsOk (debugged (memory_of image.now) name.now)) }
     ensures refused { IfErr result (λ fault. (debugged (memory_of image.now) name.now ≡ Err fault) ⊎ (fault ≡ DebugFault.OutOfMemory)) }
+    ensures output { IfOk result (λ stop. W.failed writer.old ≡ false → W.failed writer.new ≡ true → stop ≡ Stop.OutputFault) }
+    ensures input { IfOk result (λ stop. R.failed reader.old ≡ false → R.failed reader.new ≡ true → stop ≡ Stop.InputFault) }
+    ensures traces { IfOk result (λ stop. T.failed trace.old ≡ false → T.failed trace.new ≡ true → stop ≡ Stop.TraceFault) }
     ensures reader { OnErr result (reader.new ≡ reader.old) }
     ensures writer { OnErr result (writer.new ≡ writer.old) }
     ensures device { OnErr result (device.new ≡ device.old) }
@@ -81,7 +83,7 @@ pub fn do_debug<R: Input, W: Output, D: Device, T: Output>(
 ) -> Ended
     // Where the bytes are an image's file, the word can be traced, memory is found and no end fails, the status, the output,
     // the unread bytes and the blocks are those of the written rounds, and the trace is that of these rounds.
-    ensures ran { result.status ≢ 1 → R.failed reader.new ≡ false → W.failed writer.new ≡ false → T.failed trace.new ≡ false → (file : Contents) → IsFile image.now file → (typed : List ℕ) → R.unread reader.old ≡ Some typed → (disk : Disk) → D.disk device.old ≡ Some disk → (sent : List ℕ) → W.sent writer.old ≡ Some sent → EndsTracedWith result.status (loaded file typed disk sent limit) name.now (R.unread reader.new) (D.disk device.new) (W.sent writer.new) (T.sent trace.old) (T.sent trace.new) }
+    ensures ran { result.status ≢ 1 → R.failed reader.new ≡ false → W.failed writer.new ≡ false → T.failed trace.new ≡ false → OfFile image.now (R.unread reader.old) (D.disk device.old) (W.sent writer.old) limit (λ w. EndsTracedWith result.status w name.now (R.unread reader.new) (D.disk device.new) (W.sent writer.new) (T.sent trace.old) (T.sent trace.new)) }
     // Where the word can't be traced, it is printed why.
     ensures untraced { W.failed writer.new ≡ false → (file : Contents) → IsFile image.now file → (why : DebugFault) → debugged (memory_of file) name.now ≡ Err why → PrintsRefusal name.now (debug_cause why) result.status (W.sent writer.old) (W.sent writer.new) }
     ensures unmarked { (file : Contents) → IsFile image.now file → (why : DebugFault) → debugged (memory_of file) name.now ≡ Err why → AreKept reader.old reader.new device.old device.new trace.old trace.new }
@@ -91,6 +93,10 @@ pub fn do_debug<R: Input, W: Output, D: Device, T: Output>(
     // Status 1 where a word could be traced is want of memory, which is printed; with status 1 nothing was run.
     ensures wanting { W.failed writer.new ≡ false → (file : Contents) → IsFile image.now file → IsOk (debugged (memory_of file) name.now) → result.status ≡ 1 → PrintsOutOfMemory result.status (W.sent writer.old) (W.sent writer.new) }
     ensures untouched { result.status ≡ 1 → AreKept reader.old reader.new device.old device.new trace.old trace.new }
+    // An end that fails gives status 5.
+    ensures cut { W.failed writer.old ≡ false → W.failed writer.new ≡ true → result.status ≡ 5 }
+    ensures input { R.failed reader.old ≡ false → R.failed reader.new ≡ true → result.status ≡ 5 }
+    ensures lines { T.failed trace.old ≡ false → T.failed trace.new ≡ true → result.status ≡ 5 }
     ensures file { IsNone result.file }
 {
     let image = match image_loader::read(alloc, image) {
