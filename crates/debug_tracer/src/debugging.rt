@@ -56,7 +56,7 @@ pub fn debug<R: Input, W: Output, D: Device, T: Output>(
     // Where the reader fails, it stops for the reader: some first rounds were made and traced, and then the machine was told
     // so. Of a machine that hadn't halted so before, it stops for the reader only there.
     ensures input { IfOk result (λ stop. R.failed reader.old ≡ false → R.failed reader.new ≡ true → stop ≡ Stop.InputFault) }
-    ensures faulted { IfOk result (λ stop. R.failed reader.old ≡ false → R.failed reader.new ≡ true → (w : World) → IsAt w machine.old (R.unread reader.old) (D.disk device.old) (W.sent writer.old) limit → (e : Extent) → debugged machine.old.parts.memory name.now ≡ Ok e → EndsFaultedTraced e (line_from machine.old.parts.memory) w machine.new (D.disk device.new) (W.sent writer.new) (T.sent trace.old) (T.sent trace.new)) }
+    ensures faulted { IfOk result (λ stop. R.failed reader.old ≡ false → R.failed reader.new ≡ true → (w : World) → IsAt w machine.old (R.unread reader.old) (D.disk device.old) (W.sent writer.old) limit → (e : Extent) → debugged machine.old.parts.memory name.now ≡ Ok e → EndsFaultedTraced e (line_from machine.old.parts.memory) w machine.new (R.unread reader.new) (D.disk device.new) (W.sent writer.new) (T.sent trace.old) (T.sent trace.new)) }
     ensures one { IfOk result (λ stop. R.failed reader.old ≡ false → R.failed reader.new ≡ true → W.failed writer.new ≡ W.failed writer.old) }
     ensures told { IfOk result (λ stop. HasNotFailed machine.old → R.failed reader.new ≡ false → stop ≢ Stop.InputFault) }
 

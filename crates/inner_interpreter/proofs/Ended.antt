@@ -1,5 +1,6 @@
 -- The ends of a run.
-use Rattle.std.proofs.Common.{◌≡◌, ℕ, ◌+◌, ◌<◌, Bool, true, false, List, [], ◌++◌, Option, None, Some, is_none, ◌&&◌, if◌then◌else◌, refl, sym, ap, subst, ◌∙◌, inl, inr, arith, append-nil}
+use Rattle.std.proofs.Common.{◌≡◌, ℕ, ◌+◌, ◌<◌, Bool, true, false, List, [], ◌++◌, Option, None, Some, is_none, ◌&&◌, if◌then◌else◌, refl, sym, ap, subst, ◌∙◌, inl, inr, arith, append-nil, append_assoc}
+use Rattle.std.specs.Prelude.{IsSome}
 use Rattle.std.specs.Io.KnownBytes.{Appends, Keeps}
 use Rattle.block_buffers.specs.Disks.{Disk}
 use Rattle.plain_rows.specs.Whole.{Whole}
@@ -14,10 +15,10 @@ use Rattle.inner_interpreter.specs.Answer.{InputFault, asked_by, fits}
 use Rattle.inner_interpreter.specs.Runs.{World, rounds, stops, stop_by, stop_of}
 use Rattle.inner_interpreter.specs.Sent.{AppendsPart}
 use Rattle.inner_interpreter.specs.Served.{is_input_fault}
-use Rattle.inner_interpreter.specs.Tracing.{is_met, AddsLine, Made, MadeCut, MadeTraced, EndsTraced, EndsCutTraced, EndsFaultedTraced, EndsUntraced, Finishes, line_next, line_of, trace}
+use Rattle.inner_interpreter.specs.Tracing.{is_met, AddsLine, IsDue, Made, MadeCut, MadeTraced, EndsTraced, EndsCutTraced, EndsFaultedTraced, EndsUntraced, Finishes, line_next, line_of, trace}
 use Rattle.inner_interpreter.specs.Worlds.{IsAt, IsFaulted}
 use Rattle.inner_interpreter.proofs.Running.{kept_at, kept_cut}
-use Rattle.inner_interpreter.proofs.Sending.{appends_both, part_second}
+use Rattle.inner_interpreter.proofs.Sending.{appends_both}
 use Rattle.inner_interpreter.proofs.Stretches.{rounds_add, runs_on, trace_add}
 
 appends_none : (a : Option (List ℕ)) → Appends a a []
@@ -29,11 +30,6 @@ appends_kept None b c xs h k = tt
 appends_kept (Some os) None c xs h k = absurd h
 appends_kept (Some os) (Some bs) None xs h k = absurd k
 appends_kept (Some os) (Some bs) (Some cs) xs h k = k ∙ h
-
-part_all : (a b : Option (List ℕ)) (xs ys : List ℕ) → Appends a b xs → AppendsPart a b (xs ++ ys)
-part_all None b xs ys h = tt
-part_all (Some os) None xs ys h = absurd h
-part_all (Some os) (Some bs) xs ys h = (xs, ys, refl, h)
 
 -- where the run goes on, the line is that of the state
 line_goes : (e : Extent) (line : Whole → List ℕ) (w : World) (s : State) → s ≡ w.state → stops w ≡ None → line_of e line w ≡ line_next e line s
@@ -114,29 +110,52 @@ made_cut e line w s unread disk sent sent' left t0 t1 t2 k l made = record {
 }
 
 -- the trace's writer failed at last
-pub made_untraced : (e : Extent) (line : Whole → List ℕ) (w : World) (s : State) (unread : Option (List ℕ)) (disk : Option Disk) (sent sent' : Option (List ℕ)) (left : ℕ) (t0 t1 t2 : Option (List ℕ))
-    → Keeps sent sent' → Keeps t1 t2 → MadeTraced e line w s unread disk sent left t0 t1 → EndsUntraced e line w s unread disk sent' t0 t2
-unfolding trace
-made_untraced e line w s unread disk sent sent' left t0 t1 t2 k l made =
-    let at = kept_at (rounds made.0 w) s unread disk sent sent' left k made.1 in
-    record {
-      count = made.0;
-      at = record { state_is = at.state_is; unread_is = at.unread_is; disk_is = at.disk_is; sent_is = at.sent_is; left_is = refl };
-      trace_is = part_all t0 t2 (trace e line made.0 w) (line_of e line (rounds made.0 w)) (appends_kept t0 t1 t2 (trace e line made.0 w) made.2 l);
-    }
+pub made_untraced : (e : Extent) (line : Whole → List ℕ) (w : World) (s : State) (unread : Option (List ℕ)) (disk : Option Disk) (sent : Option (List ℕ)) (t0 t2 : Option (List ℕ)) (r : Stop)
+    → EndsTraced e line w s unread disk sent t0 t2 r → EndsUntraced e line w s unread disk sent t0 t2
+made_untraced e line w s unread disk sent t0 t2 r ended = record {
+  count = ended.ends.count;
+  at = ended.ends.at;
+  front = [];
+  back = line_of e line (rounds ended.ends.count w);
+  line_is = refl;
+  trace_is = subst (Appends t0 t2) (sym (append-nil (trace e line ended.ends.count w))) ended.trace_is;
+  due = inl (subst IsSome (sym ended.ends.stops_so) refl);
+}
+
+-- a front of bytes, behind others
+record Behind (a c : Option (List ℕ)) (xs bs : List ℕ) : Type 0 where
+  front : List ℕ
+  back : List ℕ
+  is : bs ≡ front ++ back
+  all : Appends a c (xs ++ front)
+
+part_behind : (a b c : Option (List ℕ)) (xs bs : List ℕ) → Appends a b xs → AppendsPart b c bs → Behind a c xs bs
+part_behind None b c xs bs h k = record { front = []; back = bs; is = refl; all = tt }
+part_behind (Some os) None c xs bs h k = absurd h
+part_behind (Some os) (Some ys) None xs bs h k = absurd k
+part_behind (Some os) (Some ys) (Some zs) xs bs h k = record {
+  front = k.0;
+  back = k.1;
+  is = k.2;
+  all = k.3 ∙ ap (λ v. v ++ k.0) h ∙ append_assoc os xs k.0;
+}
 
 -- the trace's writer failed in a line
 pub line_untraced : (e : Extent) (line : Whole → List ℕ) (w : World) (s : State) (unread : Option (List ℕ)) (disk : Option Disk) (sent : Option (List ℕ)) (left : ℕ) (t0 t1 t2 : Option (List ℕ))
-    → s.halt ≡ None → 0 < left → AppendsPart t1 t2 (line_next e line s) → MadeTraced e line w s unread disk sent left t0 t1 → EndsUntraced e line w s unread disk sent t0 t2
-unfolding trace
-line_untraced e line w s unread disk sent left t0 t1 t2 halt some told made =
+    → s.halt ≡ None → 0 < left → AppendsPart t1 t2 (line_next e line s) → IsDue e s → MadeTraced e line w s unread disk sent left t0 t1 → EndsUntraced e line w s unread disk sent t0 t2
+line_untraced e line w s unread disk sent left t0 t1 t2 halt some told due made =
     let v = rounds made.0 w in
     let at = made.1 in
     let same : line_of e line v ≡ line_next e line s = line_goes e line v s at.state_is (runs_at v s unread disk sent left halt some at) in
+    let part = part_behind t0 t1 t2 (trace e line made.0 w) (line_of e line v) made.2 (subst (AppendsPart t1 t2) (sym same) told) in
     record {
       count = made.0;
       at = record { state_is = at.state_is; unread_is = at.unread_is; disk_is = at.disk_is; sent_is = at.sent_is; left_is = refl };
-      trace_is = part_second t0 t1 t2 (trace e line made.0 w) (line_of e line v) made.2 (subst (AppendsPart t1 t2) (sym same) told);
+      front = part.front;
+      back = part.back;
+      line_is = part.is;
+      trace_is = part.all;
+      due = inr due;
     }
 
 pub rounds_cut : (e : Extent) (line : Whole → List ℕ) (w : World) (s s' : State) (unread unread' : Option (List ℕ)) (disk disk' : Option Disk) (sent sent' : Option (List ℕ)) (left : ℕ) (t0 t1 t2 : Option (List ℕ))
@@ -152,10 +171,10 @@ rounds_cut e line w s s' unread unread' disk disk' sent sent' left t0 t1 t2 halt
       trace_is = more_trace e line w made.0 more.0 (line_next e line s) t0 t1 t2 more.1 (line_goes e line v s made.1.state_is goes) made.2 told;
     }
 
-pub rounds_faulted : (e : Extent) (line : Whole → List ℕ) (w : World) (s s' : State) (unread : Option (List ℕ)) (disk disk' : Option Disk) (sent sent' : Option (List ℕ)) (left : ℕ) (t0 t1 t2 : Option (List ℕ))
-    → Appends t1 t2 (line_next e line s) → ((v : World) → IsAt v s unread disk sent left → IsFaulted v s' disk' sent')
-    → MadeTraced e line w s unread disk sent left t0 t1 → EndsFaultedTraced e line w s' disk' sent' t0 t2
-rounds_faulted e line w s s' unread disk disk' sent sent' left t0 t1 t2 told step made =
+pub rounds_faulted : (e : Extent) (line : Whole → List ℕ) (w : World) (s s' : State) (unread unread' : Option (List ℕ)) (disk disk' : Option Disk) (sent sent' : Option (List ℕ)) (left : ℕ) (t0 t1 t2 : Option (List ℕ))
+    → Appends t1 t2 (line_next e line s) → ((v : World) → IsAt v s unread disk sent left → IsFaulted v s' unread' disk' sent')
+    → MadeTraced e line w s unread disk sent left t0 t1 → EndsFaultedTraced e line w s' unread' disk' sent' t0 t2
+rounds_faulted e line w s s' unread unread' disk disk' sent sent' left t0 t1 t2 told step made =
     let f = step (rounds made.0 w) made.1 in
     let none : line_next e line s ≡ [] = asked_line e line s (ap (λ (v : State). fits (asked_by v.wait) InputFault) made.1.state_is ∙ f.asked) in
     let all : trace e line made.0 w ++ [] ≡ trace e line made.0 w = append-nil (trace e line made.0 w) in

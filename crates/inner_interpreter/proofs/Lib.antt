@@ -2,6 +2,7 @@ pub mod Ran
 pub mod Passing
 pub mod Sending
 pub mod Lining
+pub mod Loading
 pub mod Answering
 pub mod Quiet
 pub mod Stretches

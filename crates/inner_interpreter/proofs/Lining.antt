@@ -1,10 +1,12 @@
 -- A line, byte by byte.
-use Rattle.std.proofs.Common.{◌≡◌, ℕ, zero, suc, List, [], ◌∷◌, ◌++◌, ◌+◌, ◌-◌, ◌<◌, ◌≤◌, ◌&&◌, Bool, true, false, length, Option, None, Some, Ok, refl, sym, ap, ◌∙◌, append_assoc, append-nil, arith}
+use Rattle.std.proofs.Common.{◌≡◌, ℕ, zero, suc, List, [], ◌∷◌, ◌++◌, ◌+◌, ◌-◌, ◌<◌, ◌≤◌, ◌&&◌, Bool, true, false, length, Option, None, Some, Result, Ok, Err, refl, sym, ap, ◌∙◌, append_assoc, append-nil, arith}
 use Rattle.std.proofs.lemmas.Grind.{common_steps}
+use Rattle.std.specs.Prelude.{IfErr}
 use Rattle.std.specs.List.{list_all}
 use Rattle.inner_interpreter.specs.Answer.{is_return, is_typed, is_line}
 use Rattle.inner_interpreter.specs.Ends.{TakesByte}
-use Rattle.inner_interpreter.specs.Lines.{Taken, line_of, IsLine, with_front}
+use Rattle.inner_interpreter.specs.Lines.{Taken, line_of, IsBegun, IsLine, with_front}
+use Rattle.std.specs.Io.KnownBytes.{Keeps}
 
 pub at_end : (old new : Option (List ℕ)) (o : Option ℕ) (rest : List ℕ) → o ≡ None → old ≡ Some rest → TakesByte old new (Ok o) → (rest ≡ []) × (new ≡ Some [])
 at_end None new o rest n e h = absurd (cc)
@@ -48,6 +50,24 @@ pub more_here : (n i : ℕ) (front rest ys : List ℕ) (b : ℕ) (line : Taken) 
     → with_front front (line_of (n - i) rest) ≡ line → with_front (front ++ b ∷ []) (line_of (n - (i + 1)) ys) ≡ line
 more_here n i front rest ys b line lt p e h =
     sym (line_more (n - (i + 1)) b ys front p) ∙ ap (with_front front) (sym (one_more n i b rest ys lt e)) ∙ h
+
+-- one byte more was read
+pub read_more : (front rest ys : List ℕ) (b : ℕ) → rest ≡ b ∷ ys → front ++ rest ≡ (front ++ b ∷ []) ++ ys
+read_more front rest ys b e = ap (λ v. front ++ v) e ∙ sym (append_assoc front (b ∷ []) ys)
+
+-- a call that failed took no byte
+pub kept_unread : (old new : Option (List ℕ)) (rest : List ℕ) → old ≡ Some rest → Keeps old new → new ≡ Some rest
+kept_unread None new rest e h = absurd (cc)
+kept_unread (Some xs) None rest e h = absurd h
+kept_unread (Some xs) (Some ys) rest e h = ap (λ v. Some v) h ∙ e
+
+-- what holds of a failed call
+pub if_err : {T E : Type 0} (r : Result T E) (P : Type 0) → P → IfErr r (λ _. P)
+if_err (Ok x) P p = tt
+if_err (Err e) P p = p
+
+pub begun : (n : ℕ) (typed gone rest : List ℕ) (unread : Option (List ℕ)) → typed ≡ gone ++ rest → list_all is_typed gone ≡ true → length gone < n → unread ≡ Some rest → IsBegun n typed unread
+begun n typed gone rest unread e t f u = record { gone = gone; rest = rest; typed_is = e; in_line = t; few = f; unread_is = u }
 
 both : (x y z : Bool) → (x && y) ≡ true → (y ≡ true → z ≡ true) → (x && z) ≡ true
 both false y z h f = h

@@ -1,5 +1,5 @@
 -- Rounds of a run, by what its ends tell.
-use Rattle.std.proofs.Common.{◌≡◌, ℕ, ◌-◌, ◌<◌, ◌≤◌, List, [], ◌++◌, Option, None, Some, refl, sym, ap, ◌∙◌, append-nil, arith, Result, Ok, Err, OnOk, is_none, if◌then◌else◌}
+use Rattle.std.proofs.Common.{◌≡◌, ℕ, ◌-◌, ◌<◌, ◌≤◌, List, [], ◌++◌, Option, None, Some, refl, sym, ap, ◌∙◌, subst, append-nil, arith, Result, Ok, Err, OnOk, is_none, if◌then◌else◌}
 use Rattle.std.specs.Io.KnownBytes.{Appends, Keeps}
 use Rattle.block_buffers.specs.Disks.{Disk}
 use Rattle.plain_rows.specs.declared.parts.Request.{Request}
@@ -10,6 +10,7 @@ use Rattle.inner_interpreter.specs.declared.tracing.Extent.{Extent}
 use Rattle.inner_interpreter.specs.Tick.{running, ticked}
 use Rattle.inner_interpreter.specs.Tracing.{AreUnmet, Made, MadeCut, line_next, line_of, trace}
 use Rattle.inner_interpreter.specs.Answer.{answer_of, asked_by, fits, InputFault}
+use Rattle.inner_interpreter.specs.Lines.{IsLeft}
 use Rattle.inner_interpreter.specs.Moves.{shown_bytes}
 use Rattle.inner_interpreter.specs.Served.{Answered, served_move, Faults}
 use Rattle.inner_interpreter.specs.Sent.{AppendsPart, IsFront}
@@ -162,9 +163,13 @@ kept_at w s unread disk sent sent' left k at = record {
   left_is = at.left_is;
 }
 
-pub faulted_at : (w : World) (s s' : State) (unread : Option (List ℕ)) (disk disk' : Option Disk) (sent sent' : Option (List ℕ)) (left : ℕ)
-    → s.halt ≡ None → 0 < left → Faults s s' → disk' ≡ disk → sent' ≡ sent → IsAt w s unread disk sent left → IsFaulted w s' disk' sent'
-faulted_at w s s' unread disk disk' sent sent' left halt some f d t at = record {
+pub faulted_at : (w : World) (s s' : State) (r : Request) (unread unread' : Option (List ℕ)) (disk disk' : Option Disk) (sent sent' : Option (List ℕ)) (left : ℕ)
+    → s.halt ≡ None → 0 < left → asked_by s.wait ≡ Some r → ((typed : List ℕ) → unread ≡ Some typed → IsLeft (Some r) typed unread')
+    → Faults s s' → disk' ≡ disk → sent' ≡ sent → IsAt w s unread disk sent left → IsFaulted w s' unread' disk' sent'
+faulted_at w s s' r unread unread' disk disk' sent sent' left halt some asks lost f d t at = record {
+  unread_is =
+      let q : asked_by w.state.wait ≡ Some r = ap (λ (v : State). asked_by v.wait) (sym at.state_is) ∙ asks in
+      subst (λ o. IsLeft o w.typed unread') (sym q) (lost w.typed at.unread_is);
   goes = runs_on w (ap (λ (v : State). v.halt) (sym at.state_is) ∙ halt) (omega (arith, at.left_is));
   asked = ap (λ (v : State). fits (asked_by v.wait) InputFault) (sym at.state_is) ∙ f.asked;
   state_is = f.state_is ∙ ap (λ v. (answer_of v InputFault).0) at.state_is;

@@ -1,5 +1,5 @@
 -- An answer to the request that stands.
-use Rattle.std.specs.Prelude.{◌≡◌, ℕ, ◌<◌, All, List, ◌∷◌, Option, Some, None, Bool, true, false, not, ◌&&◌, ◌||◌, ◌==◌, length, nat_lt, nat_le, slice_index, drop, if◌then◌else◌}
+use Rattle.std.specs.Prelude.{◌≡◌, IsSome, IsOkAnd, IsErrOf, Result, ℕ, ◌<◌, All, List, ◌∷◌, Option, Some, None, Bool, true, false, not, ◌&&◌, ◌||◌, ◌==◌, length, nat_lt, nat_le, slice_index, drop, if◌then◌else◌}
 use Rattle.std.specs.List.{list_all}
 use Rattle.block_buffers.specs.Entries.{victim, assigned, unmarked, slot_of}
 use Rattle.memory.specs.Bytes.{put_cell, put_bytes, page, with_page}
@@ -14,6 +14,8 @@ use Rattle.inner_interpreter.specs.declared.act.Answer.TheVariants as answer
 use Rattle.inner_interpreter.specs.declared.act.Cause.{Cause}
 use Rattle.inner_interpreter.specs.declared.act.Cause.TheVariants as cause
 use Rattle.inner_interpreter.specs.declared.act.Event.TheVariants.{Went, Halt}
+use Rattle.inner_interpreter.specs.declared.act.Refused.{Refused}
+use Rattle.inner_interpreter.specs.declared.act.Refused.TheVariants.{Halted as HaltedRefusal, NotAsked}
 use Rattle.inner_interpreter.specs.declared.act.Shown.{Shown}
 use Rattle.inner_interpreter.specs.declared.act.Shown.TheVariants.{Nothing, Span as SpanShown, Line as LineShown}
 use Rattle.inner_interpreter.specs.State.{State}
@@ -136,6 +138,18 @@ answered s p WriteFault = fault s Nothing WRITE_FAILED
 -- what an answer comes to that fits the request of this state
 unfoldable pub answer_of : State → Reply → State × Act
 answer_of s reply = elim s.wait [ Some p ↦ answered s.parts p reply | None ↦ (s, quiet) ]
+
+-- an answer that fits is taken while the machine isn't halted
+abbrev pub TakesFit : State → State → Reply → Result Act Refused → Type 0
+TakesFit old new reply result =
+    old.halt ≡ None → fits (asked_by old.wait) reply ≡ true → IsOkAnd result (λ act. (new, act) ≡ answer_of old reply)
+
+-- a halted machine refuses each answer, and another one each that doesn't fit
+abbrev pub RefusesHalted : State → Result Act Refused → Type 0
+RefusesHalted old result = IsSome old.halt → IsErrOf result HaltedRefusal
+
+abbrev pub RefusesUnfit : State → Reply → Result Act Refused → Type 0
+RefusesUnfit old reply result = old.halt ≡ None → fits (asked_by old.wait) reply ≡ false → IsErrOf result NotAsked
 
 -- the bytes of the block that a Write asks to keep
 abbrev pub page_asked : Whole → Request → Option (List ℕ)

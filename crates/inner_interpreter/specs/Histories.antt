@@ -1,13 +1,12 @@
 -- A list of moves; and what a machine's host sees that makes them by calls.
-use Rattle.std.specs.Prelude.{◌≡◌, ℕ, List, [], ◌∷◌, ◌++◌, Bool, None, is_none, ◌&&◌, IsSome, IsOkAnd, IsErrOf, OnErr, Result, Ok, Err, true, false, replicate, if◌then◌else◌}
+use Rattle.std.specs.Prelude.{◌≡◌, ℕ, List, [], ◌∷◌, ◌++◌, Bool, None, is_none, ◌&&◌, OnErr, Result, Ok, Err, true, false, replicate, if◌then◌else◌}
 use Rattle.inner_interpreter.specs.declared.act.Act.{Act}
 use Rattle.inner_interpreter.specs.declared.act.Event.{Event}
 use Rattle.inner_interpreter.specs.declared.act.Event.TheVariants.{Went}
 use Rattle.inner_interpreter.specs.declared.act.Refused.{Refused}
-use Rattle.inner_interpreter.specs.declared.act.Refused.TheVariants.{Halted, NotAsked}
 use Rattle.inner_interpreter.specs.State.{State}
 use Rattle.inner_interpreter.specs.Tick.{is_running, ticked, IsTicked, AreTicked, IsRefused}
-use Rattle.inner_interpreter.specs.Answer.{Reply, answer_of, asked_by, fits}
+use Rattle.inner_interpreter.specs.Answer.{Reply, answer_of, asked_by, fits, TakesFit, RefusesHalted, RefusesUnfit}
 use Rattle.inner_interpreter.specs.Moves.{Turn, Tick, Answer, shown_bytes}
 
 -- whether a machine takes a move: a tick while it neither is halted nor waits, an answer that fits what it asks
@@ -51,12 +50,12 @@ pub data Call : Type 0 where
 
 -- what `answer` ensures
 pub record Answers (old new : State) (reply : Reply) (result : Result Act Refused) : Type 0 where
-  pub done : old.halt ≡ None → fits (asked_by old.wait) reply ≡ true → IsOkAnd result (λ act. (new, act) ≡ answer_of old reply)
-  pub halted : IsSome old.halt → IsErrOf result Halted
-  pub not_asked : old.halt ≡ None → fits (asked_by old.wait) reply ≡ false → IsErrOf result NotAsked
+  pub done : TakesFit old new reply result
+  pub halted : RefusesHalted old result
+  pub not_asked : RefusesUnfit old reply result
   pub stays : OnErr result (new ≡ old)
 
--- what `tick`, `answer` and `ticks` ensure
+-- what `tick`, `answer` and `ticks` ensure, by the definitions that their clauses cite
 abbrev pub Ensures : State → Call → State → Type 0
 Ensures old (Ticked (Ok act)) new = IsTicked old new act
 Ensures old (Ticked (Err refused)) new = IsRefused old new refused

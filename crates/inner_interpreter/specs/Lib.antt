@@ -3,6 +3,7 @@ pub mod Tick
 pub mod InPlace
 pub mod Answer
 pub mod Ends
+pub mod Files
 pub mod Moves
 pub mod Histories
 pub mod Requests

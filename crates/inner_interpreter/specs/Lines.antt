@@ -1,6 +1,9 @@
 -- A line of typed bytes.
-use Rattle.std.specs.Prelude.{◌≡◌, ℕ, zero, suc, Bool, true, false, List, [], ◌∷◌, ◌++◌, Option, Some, if◌then◌else◌}
-use Rattle.inner_interpreter.specs.Answer.{Reply, Line, InputEnd, is_return}
+use Rattle.std.specs.Prelude.{◌≡◌, ◌<◌, ℕ, zero, suc, length, Bool, true, false, List, [], ◌∷◌, ◌++◌, Option, Some, if◌then◌else◌}
+use Rattle.std.specs.List.{list_all}
+use Rattle.plain_rows.specs.declared.parts.Request.{Request}
+use Rattle.plain_rows.specs.declared.parts.Request.TheVariants as request
+use Rattle.inner_interpreter.specs.Answer.{Reply, Line, InputEnd, is_return, is_typed}
 
 -- a line's bytes, whether a return ended it, and the bytes behind it
 pub record Taken : Type 0 where
@@ -26,6 +29,20 @@ line_reply (c ∷ bytes) returned = Line (c ∷ bytes) returned
 abbrev pub IsLine : ℕ → List ℕ → List ℕ → Bool → Option (List ℕ) → Type 0
 IsLine n typed bytes returned unread =
     (bytes ≡ (line_of n typed).bytes) × (returned ≡ (line_of n typed).returned) × (unread ≡ Some (line_of n typed).rest)
+
+-- a line of at most n bytes was begun: bytes of it are taken from the typed bytes, and no others
+pub record IsBegun (n : ℕ) (typed : List ℕ) (unread : Option (List ℕ)) : Type 0 where
+  pub gone : List ℕ
+  pub rest : List ℕ
+  pub typed_is : typed ≡ gone ++ rest
+  pub in_line : list_all is_typed gone ≡ true
+  pub few : length gone < n
+  pub unread_is : unread ≡ Some rest
+
+-- where reading failed for a request, bytes of the line that it asks for may be gone, and of a key none
+abbrev pub IsLeft : Option Request → List ℕ → Option (List ℕ) → Type 0
+IsLeft (Some (request.Line n)) typed unread = IsBegun n typed unread
+IsLeft _ typed unread = unread ≡ Some typed
 
 -- a line that begins with these bytes
 abbrev pub with_front : List ℕ → Taken → Taken

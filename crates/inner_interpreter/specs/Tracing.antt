@@ -1,5 +1,5 @@
 -- Tracing a run: a line for each tick whose token is taken through ip in an extent.
-use Rattle.std.specs.Prelude.{◌≡◌, ◌⊎◌, true, ℕ, zero, suc, List, [], ◌++◌, Option, Bool, false, is_none, nat_le, nat_lt, ◌&&◌, if◌then◌else◌}
+use Rattle.std.specs.Prelude.{◌≡◌, ◌⊎◌, true, ℕ, zero, suc, List, [], ◌++◌, Option, None, Bool, false, is_none, IsSome, nat_le, nat_lt, ◌&&◌, if◌then◌else◌}
 use Rattle.std.specs.Io.KnownBytes.{Appends}
 use Rattle.block_buffers.specs.Disks.{Disk}
 use Rattle.plain_rows.specs.Whole.{Whole}
@@ -10,7 +10,6 @@ use Rattle.inner_interpreter.specs.State.{State}
 use Rattle.inner_interpreter.specs.Tick.{ticked}
 use Rattle.inner_interpreter.specs.Answer.{asked_by}
 use Rattle.inner_interpreter.specs.Runs.{World, rounds, stops}
-use Rattle.inner_interpreter.specs.Sent.{AppendsPart}
 use Rattle.inner_interpreter.specs.Worlds.{IsAt, IsCut, Ends, EndsCut, EndsFaulted}
 
 -- the next token is taken through ip, and ip lies in the extent
@@ -58,16 +57,24 @@ pub record EndsCutTraced (extent : Extent) (line : Whole → List ℕ) (w : Worl
   pub trace_is : Appends old new (trace extent line cut.count w)
 
 -- a reader failed in this run, after some first rounds, whose trace was sent
-pub record EndsFaultedTraced (extent : Extent) (line : Whole → List ℕ) (w : World) (state : State) (disk : Option Disk) (sent : Option (List ℕ)) (old new : Option (List ℕ)) : Type 0 where
-  pub faulted : EndsFaulted w state disk sent
+pub record EndsFaultedTraced (extent : Extent) (line : Whole → List ℕ) (w : World) (state : State) (unread : Option (List ℕ)) (disk : Option Disk) (sent : Option (List ℕ)) (old new : Option (List ℕ)) : Type 0 where
+  pub faulted : EndsFaulted w state unread disk sent
   pub trace_is : Appends old new (trace extent line faulted.count w)
 
--- the trace's writer failed in this run: some first rounds were made, and no tick of the line that was cut. Their trace was
--- sent, and a front of that line
+-- no request stands, and a token of the extent comes next
+abbrev pub IsDue : Extent → State → Type 0
+IsDue extent s = (asked_by s.wait ≡ None) × (is_met extent s.parts ≡ true)
+
+-- the trace's writer failed in this run: some first rounds were made, whose trace was sent whole, and a front of the line of
+-- the tick that comes next; or the run had stopped, and what was sent wasn't passed on
 pub record EndsUntraced (extent : Extent) (line : Whole → List ℕ) (w : World) (state : State) (unread : Option (List ℕ)) (disk : Option Disk) (sent : Option (List ℕ)) (old new : Option (List ℕ)) : Type 0 where
   pub count : ℕ
   pub at : IsAt (rounds count w) state unread disk sent (rounds count w).left
-  pub trace_is : AppendsPart old new (trace extent line (suc count) w)
+  pub front : List ℕ
+  pub back : List ℕ
+  pub line_is : line_of extent line (rounds count w) ≡ front ++ back
+  pub trace_is : Appends old new (trace extent line count w ++ front)
+  pub due : IsSome (stops (rounds count w)) ⊎ IsDue extent state
 
 -- some rounds lead here, and their trace was sent
 abbrev pub MadeTraced : Extent → (Whole → List ℕ) → World → State → Option (List ℕ) → Option Disk → Option (List ℕ) → ℕ → Option (List ℕ) → Option (List ℕ) → Type 0

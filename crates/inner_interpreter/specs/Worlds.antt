@@ -4,10 +4,11 @@ use Rattle.block_buffers.specs.Disks.{Disk}
 use Rattle.plain_rows.specs.declared.parts.Request.{Request}
 use Rattle.inner_interpreter.specs.declared.act.Act.{Act}
 use Rattle.inner_interpreter.specs.declared.stop.Stop.{Stop}
-use Rattle.image_loader.specs.Files.{Contents}
+use Rattle.image_loader.specs.Files.{Contents, IsFile}
 use Rattle.inner_interpreter.specs.State.{State, start}
 use Rattle.inner_interpreter.specs.Tick.{ran}
 use Rattle.inner_interpreter.specs.Answer.{InputFault, answer_of, asked_by, fits}
+use Rattle.inner_interpreter.specs.Lines.{IsLeft}
 use Rattle.inner_interpreter.specs.Runs.{World, rounds, stops}
 
 -- what the machine, the reader, the device and the writer tell is this world's
@@ -28,10 +29,12 @@ pub record IsCut (w : World) (state : State) (unread : Option (List ℕ)) (disk 
   pub shown_is : w.shown ≡ front ++ back
   pub sent_is : sent ≡ Some front
 
--- the same, but that the run went on there, the reader failed where a key or a line was asked, and the machine was told so
-pub record IsFaulted (w : World) (state : State) (disk : Option Disk) (sent : Option (List ℕ)) : Type 0 where
+-- the same, but that the run went on there, the reader failed where a key or a line was asked, and the machine was told so;
+-- bytes of that line may be gone
+pub record IsFaulted (w : World) (state : State) (unread : Option (List ℕ)) (disk : Option Disk) (sent : Option (List ℕ)) : Type 0 where
   pub goes : stops w ≡ None
   pub asked : fits (asked_by w.state.wait) InputFault ≡ true
+  pub unread_is : IsLeft (asked_by w.state.wait) w.typed unread
   pub state_is : state ≡ (answer_of w.state InputFault).0
   pub disk_is : disk ≡ Some w.disk
   pub sent_is : sent ≡ Some w.shown
@@ -64,12 +67,29 @@ pub record Ends (w : World) (state : State) (unread : Option (List ℕ)) (disk :
 abbrev pub EndsFrom : World → Option (List ℕ) → Option Disk → Option (List ℕ) → Stop → Type 0
 EndsFrom w unread disk sent stop = (state : State) × Ends w state unread disk sent stop
 
+-- each world of an image that is loaded, whose ends tell what they hold
+abbrev pub OfImage : Contents → Option (List ℕ) → Option Disk → Option (List ℕ) → ℕ → (World → Type 0) → Type 0
+OfImage image unread disk sent limit P =
+    (typed : List ℕ) → unread ≡ Some typed → (d : Disk) → disk ≡ Some d → (shown : List ℕ) → sent ≡ Some shown
+    → P (loaded image typed d shown limit)
+
+-- the same of an image's file
+abbrev pub OfFile : List ℕ → Option (List ℕ) → Option Disk → Option (List ℕ) → ℕ → (World → Type 0) → Type 0
+OfFile bytes unread disk sent limit P = (image : Contents) → IsFile bytes image → OfImage image unread disk sent limit P
+
 -- a writer failed in this run: a front of what some first rounds show was sent
 pub record EndsCut (w : World) (state : State) (unread : Option (List ℕ)) (disk : Option Disk) (sent : Option (List ℕ)) : Type 0 where
   pub count : ℕ
   pub cut : IsCut (rounds count w) state unread disk sent
 
 -- a reader failed in this run, after some first rounds
-pub record EndsFaulted (w : World) (state : State) (disk : Option Disk) (sent : Option (List ℕ)) : Type 0 where
+pub record EndsFaulted (w : World) (state : State) (unread : Option (List ℕ)) (disk : Option Disk) (sent : Option (List ℕ)) : Type 0 where
   pub count : ℕ
-  pub faulted : IsFaulted (rounds count w) state disk sent
+  pub faulted : IsFaulted (rounds count w) state unread disk sent
+
+-- these, whatever the state is then
+abbrev pub EndsCutFrom : World → Option (List ℕ) → Option Disk → Option (List ℕ) → Type 0
+EndsCutFrom w unread disk sent = (state : State) × EndsCut w state unread disk sent
+
+abbrev pub EndsFaultedFrom : World → Option (List ℕ) → Option Disk → Option (List ℕ) → Type 0
+EndsFaultedFrom w unread disk sent = (state : State) × EndsFaulted w state unread disk sent

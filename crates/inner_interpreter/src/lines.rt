@@ -1,10 +1,10 @@
 //! Taking a line of typed bytes.
 
-ghost use Rattle.std.specs.Prelude.{ℕ, List, ◌≡◌, ◌≤◌, ◌<◌, true, vec_len, vec_capacity, IfOk, Some};
+ghost use Rattle.std.specs.Prelude.{ℕ, List, ◌≡◌, ◌≤◌, ◌<◌, true, vec_len, vec_capacity, IfOk, IfErr, Some};
 ghost use Rattle.std.specs.List.{list_all};
 ghost use Rattle.inner_interpreter.specs.Answer.{is_typed, is_return};
 ghost use Rattle.inner_interpreter.specs.Ends.{Marks};
-ghost use Rattle.inner_interpreter.specs.Lines.{IsLine};
+ghost use Rattle.inner_interpreter.specs.Lines.{IsBegun, IsLine};
 
 use crate::ends::{EndFault, Input};
 
@@ -19,6 +19,7 @@ fn is_return(byte: u8) -> bool
 pub fn take_line<R: Input>(line: &mut Vec<u8>, reader: &mut R, n: u16) -> Result<bool, EndFault>
     requires { 65535 ≤ vec_capacity line.old }
     ensures told { (typed : List ℕ) → R.unread reader.old ≡ Some typed → IfOk result (λ returned. IsLine n typed line.new.items returned (R.unread reader.new)) }
+    ensures begun { (typed : List ℕ) → R.unread reader.old ≡ Some typed → IfErr result (λ _. IsBegun n typed (R.unread reader.new)) }
     ensures typed { list_all is_typed line.new.items ≡ true }
     ensures fewer { IfOk result (λ returned. returned ≡ true → vec_len line.new < n) }
     ensures bound { vec_len line.new ≤ n }

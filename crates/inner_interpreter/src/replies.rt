@@ -4,6 +4,7 @@ ghost use Rattle.std.specs.Prelude.{◌≡◌, ◌≤◌, ℕ, List, Some, None,
 ghost use Rattle.block_buffers.specs.Disks.{Disk};
 ghost use Rattle.inner_interpreter.specs.Answer.{asked_by};
 ghost use Rattle.inner_interpreter.specs.Ends.{Marks};
+ghost use Rattle.inner_interpreter.specs.Lines.{IsBegun, IsLeft};
 ghost use Rattle.inner_interpreter.specs.Served.{Serves, Faults, HasAnswered, HasNotFailed};
 
 use crate::act::{Act, Answer};
@@ -18,6 +19,7 @@ pub fn answer_key<R: Input>(machine: &mut Machine, reader: &mut R) -> Result<Act
     requires waits { asked_by machine.old.wait ≡ Some Request.Key }
     requires goes { machine.old.halt ≡ None }
     ensures told { (typed : List ℕ) → R.unread reader.old ≡ Some typed → (disk : Disk) → IfOk result (λ act. Serves machine.old Request.Key typed disk machine.new (R.unread reader.new) (Some disk) act) }
+    ensures left { (typed : List ℕ) → R.unread reader.old ≡ Some typed → IfErr result (λ _. R.unread reader.new ≡ Some typed) }
     ensures answered { (calls : List Bool) → HasAnswered machine.old machine.new calls calls }
     ensures settled { machine.new.wait ≡ None }
     ensures read { OnOk result (HasNotFailed machine.new) }
@@ -46,6 +48,7 @@ pub fn answer_line<R: Input>(
     requires goes { machine.old.halt ≡ None }
     requires room { 65535 ≤ vec_capacity line.old }
     ensures told { (typed : List ℕ) → R.unread reader.old ≡ Some typed → (disk : Disk) → IfOk result (λ act. Serves machine.old (Request.Line n) typed disk machine.new (R.unread reader.new) (Some disk) act) }
+    ensures begun { (typed : List ℕ) → R.unread reader.old ≡ Some typed → IfErr result (λ _. IsBegun n typed (R.unread reader.new)) }
     ensures answered { (calls : List Bool) → HasAnswered machine.old machine.new calls calls }
     ensures settled { machine.new.wait ≡ None }
     ensures room { 65535 ≤ vec_capacity line.new }
@@ -119,6 +122,7 @@ pub fn settle<R: Input, D: Device>(
     ensures room { 65535 ≤ vec_capacity line.new }
     ensures read { OnOk result (HasNotFailed machine.new) }
     ensures fault { IfErr result (λ _. Faults machine.old machine.new) }
+    ensures left { (typed : List ℕ) → R.unread reader.old ≡ Some typed → IfErr result (λ _. IsLeft (Some request) typed (R.unread reader.new)) }
     ensures device { IfErr result (λ _. D.disk device.new ≡ D.disk device.old) }
     ensures mark { Marks (R.failed reader.old) (R.failed reader.new) result }
 {

@@ -5,6 +5,7 @@ ghost use Rattle.std.specs.Io.KnownBytes.{Appends, Keeps};
 ghost use Rattle.block_buffers.specs.Disks.{Disk};
 ghost use Rattle.inner_interpreter.specs.Answer.{asked_by};
 ghost use Rattle.inner_interpreter.specs.Ends.{Marks};
+ghost use Rattle.inner_interpreter.specs.Lines.{IsLeft};
 ghost use Rattle.inner_interpreter.specs.Moves.{HasMoved, shown_bytes};
 ghost use Rattle.inner_interpreter.specs.Runs.{World};
 ghost use Rattle.inner_interpreter.specs.Sent.{AppendsPart};
@@ -69,6 +70,7 @@ fn make_answer<R: Input, W: Output, D: Device>(
     ensures answered { HasAnswered machine.old machine.new (D.calls device.old) (D.calls device.new) }
     ensures ok { OnOk result ((typed : List ℕ) → R.unread reader.old ≡ Some typed → (disk : Disk) → D.disk device.old ≡ Some disk → Answered machine.old request typed disk machine.new (R.unread reader.new) (D.disk device.new) × Appends (W.sent writer.old) (W.sent writer.new) (served_move machine.old request typed disk).bytes) }
     ensures cut { IsErrOf result Failed.Writer → (typed : List ℕ) → R.unread reader.old ≡ Some typed → (disk : Disk) → D.disk device.old ≡ Some disk → Answered machine.old request typed disk machine.new (R.unread reader.new) (D.disk device.new) × AppendsPart (W.sent writer.old) (W.sent writer.new) (served_move machine.old request typed disk).bytes }
+    ensures left { IsErrOf result Failed.Reader → (typed : List ℕ) → R.unread reader.old ≡ Some typed → IsLeft (Some request) typed (R.unread reader.new) }
     ensures faulted { IsErrOf result Failed.Reader → Faults machine.old machine.new × (D.disk device.new ≡ D.disk device.old) × (W.sent writer.new ≡ W.sent writer.old) }
     ensures reader { IsErrOf result Failed.Reader → (R.failed reader.new ≡ true) × (W.failed writer.new ≡ W.failed writer.old) }
     ensures writer { IsErrOf result Failed.Writer → (W.failed writer.new ≡ true) × (R.failed reader.new ≡ R.failed reader.old) }
@@ -117,7 +119,7 @@ pub fn make_rounds<R: Input, W: Output, D: Device>(
     ensures read { OnOk result (HasNotFailed machine.new) }
     ensures ok { OnOk result ((w : World) → IsAt w machine.old (R.unread reader.old) (D.disk device.old) (W.sent writer.old) left.old → Made extent w machine.new (R.unread reader.new) (D.disk device.new) (W.sent writer.new) left.new) }
     ensures cut { IsErrOf result Failed.Writer → (w : World) → IsAt w machine.old (R.unread reader.old) (D.disk device.old) (W.sent writer.old) left.old → MadeCut extent w machine.new (R.unread reader.new) (D.disk device.new) (W.sent writer.new) }
-    ensures faulted { IsErrOf result Failed.Reader → (w : World) → IsAt w machine.old (R.unread reader.old) (D.disk device.old) (W.sent writer.old) left.old → IsFaulted w machine.new (D.disk device.new) (W.sent writer.new) }
+    ensures faulted { IsErrOf result Failed.Reader → (w : World) → IsAt w machine.old (R.unread reader.old) (D.disk device.old) (W.sent writer.old) left.old → IsFaulted w machine.new (R.unread reader.new) (D.disk device.new) (W.sent writer.new) }
     ensures reader { IsErrOf result Failed.Reader → (R.failed reader.new ≡ true) × (W.failed writer.new ≡ W.failed writer.old) }
     ensures writer { IsErrOf result Failed.Writer → (W.failed writer.new ≡ true) × (R.failed reader.new ≡ R.failed reader.old) }
     ensures good { OnOk result ((R.failed reader.new ≡ R.failed reader.old) × (W.failed writer.new ≡ W.failed writer.old)) }

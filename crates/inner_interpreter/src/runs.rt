@@ -7,7 +7,7 @@ ghost use Rattle.inner_interpreter.specs.Moves.{HasRun};
 ghost use Rattle.inner_interpreter.specs.Runs.{World, stop_by, stop_of};
 ghost use Rattle.inner_interpreter.specs.Sent.{AppendsPart};
 ghost use Rattle.inner_interpreter.specs.Served.{HasNotFailed};
-ghost use Rattle.inner_interpreter.specs.Tracing.{line_next, Finishes, EndsTraced, EndsCutTraced, EndsFaultedTraced, EndsUntraced};
+ghost use Rattle.inner_interpreter.specs.Tracing.{line_next, IsDue, Finishes, EndsTraced, EndsCutTraced, EndsFaultedTraced, EndsUntraced};
 ghost use Rattle.inner_interpreter.specs.Worlds.{IsAt, Ends, EndsCut, EndsFaulted};
 
 use crate::act::Cause;
@@ -57,6 +57,7 @@ fn send_line<N: Tracer, T: Output>(
 ) -> Result<(), EndFault>
     ensures ok { OnOk result (Appends (T.sent trace.old) (T.sent trace.new) (line_next (N.extent tracer.now) (N.line tracer.now) machine.now)) }
     ensures err { OnErr result (AppendsPart (T.sent trace.old) (T.sent trace.new) (line_next (N.extent tracer.now) (N.line tracer.now) machine.now)) }
+    ensures due { OnErr result (IsDue (N.extent tracer.now) machine.now) }
     ensures mark { Marks (T.failed trace.old) (T.failed trace.new) result }
 {
     if machine.asked().is_none() && machine.is_met(tracer.extent()) {
@@ -82,7 +83,7 @@ fn run_with<R: Input, W: Output, D: Device, N: Tracer, T: Output>(
     ensures output { W.failed writer.old ≡ false → (result ≡ Stop.OutputFault) ↔ (W.failed writer.new ≡ true) }
     ensures cut { W.failed writer.old ≡ false → W.failed writer.new ≡ true → (w : World) → IsAt w machine.old (R.unread reader.old) (D.disk device.old) (W.sent writer.old) limit → EndsCutTraced (N.extent tracer.now) (N.line tracer.now) w machine.new (R.unread reader.new) (D.disk device.new) (W.sent writer.new) (T.sent trace.old) (T.sent trace.new) }
     ensures input { R.failed reader.old ≡ false → R.failed reader.new ≡ true → result ≡ Stop.InputFault }
-    ensures faulted { R.failed reader.old ≡ false → R.failed reader.new ≡ true → (w : World) → IsAt w machine.old (R.unread reader.old) (D.disk device.old) (W.sent writer.old) limit → EndsFaultedTraced (N.extent tracer.now) (N.line tracer.now) w machine.new (D.disk device.new) (W.sent writer.new) (T.sent trace.old) (T.sent trace.new) }
+    ensures faulted { R.failed reader.old ≡ false → R.failed reader.new ≡ true → (w : World) → IsAt w machine.old (R.unread reader.old) (D.disk device.old) (W.sent writer.old) limit → EndsFaultedTraced (N.extent tracer.now) (N.line tracer.now) w machine.new (R.unread reader.new) (D.disk device.new) (W.sent writer.new) (T.sent trace.old) (T.sent trace.new) }
     ensures one { R.failed reader.old ≡ false → R.failed reader.new ≡ true → W.failed writer.new ≡ W.failed writer.old }
     ensures told { HasNotFailed machine.old → R.failed reader.new ≡ false → result ≢ Stop.InputFault }
     ensures trace { T.failed trace.old ≡ false → (result ≡ Stop.TraceFault) ↔ (T.failed trace.new ≡ true) }
@@ -136,7 +137,7 @@ pub fn run_traced<R: Input, W: Output, D: Device, N: Tracer, T: Output>(
     // Where the reader fails, it stops for the reader: some first rounds were made and traced, and then the machine was told
     // so. Of a machine that hadn't halted so before, it stops for the reader only there.
     ensures input { IfOk result (λ stop. R.failed reader.old ≡ false → R.failed reader.new ≡ true → stop ≡ Stop.InputFault) }
-    ensures faulted { IfOk result (λ stop. R.failed reader.old ≡ false → R.failed reader.new ≡ true → (w : World) → IsAt w machine.old (R.unread reader.old) (D.disk device.old) (W.sent writer.old) limit → EndsFaultedTraced (N.extent tracer.now) (N.line tracer.now) w machine.new (D.disk device.new) (W.sent writer.new) (T.sent trace.old) (T.sent trace.new)) }
+    ensures faulted { IfOk result (λ stop. R.failed reader.old ≡ false → R.failed reader.new ≡ true → (w : World) → IsAt w machine.old (R.unread reader.old) (D.disk device.old) (W.sent writer.old) limit → EndsFaultedTraced (N.extent tracer.now) (N.line tracer.now) w machine.new (R.unread reader.new) (D.disk device.new) (W.sent writer.new) (T.sent trace.old) (T.sent trace.new)) }
     ensures one { IfOk result (λ stop. R.failed reader.old ≡ false → R.failed reader.new ≡ true → W.failed writer.new ≡ W.failed writer.old) }
     ensures told { IfOk result (λ stop. HasNotFailed machine.old → R.failed reader.new ≡ false → stop ≢ Stop.InputFault) }
 
@@ -192,7 +193,7 @@ pub fn run<R: Input, W: Output, D: Device>(
     // Where the reader fails, it stops for the reader: some first rounds were made, and then the machine was told so.
     // Both can't fail in one run. Of a machine that hadn't halted so before, it stops for the reader only there.
     ensures input { IfOk result (λ stop. R.failed reader.old ≡ false → R.failed reader.new ≡ true → stop ≡ Stop.InputFault) }
-    ensures faulted { IfOk result (λ stop. R.failed reader.old ≡ false → R.failed reader.new ≡ true → (w : World) → IsAt w machine.old (R.unread reader.old) (D.disk device.old) (W.sent writer.old) limit → EndsFaulted w machine.new (D.disk device.new) (W.sent writer.new)) }
+    ensures faulted { IfOk result (λ stop. R.failed reader.old ≡ false → R.failed reader.new ≡ true → (w : World) → IsAt w machine.old (R.unread reader.old) (D.disk device.old) (W.sent writer.old) limit → EndsFaulted w machine.new (R.unread reader.new) (D.disk device.new) (W.sent writer.new)) }
     ensures one { IfOk result (λ stop. R.failed reader.old ≡ false → R.failed reader.new ≡ true → W.failed writer.new ≡ W.failed writer.old) }
     ensures told { IfOk result (λ stop. HasNotFailed machine.old → R.failed reader.new ≡ false → stop ≢ Stop.InputFault) }
 

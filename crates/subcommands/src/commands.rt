@@ -1,6 +1,6 @@
 //! The subcommands, over values.
 
-ghost use Rattle.std.specs.Prelude.{◌≡◌, ◌≢◌, ◌<◌, ◌⊎◌, ℕ, List, codes, decimal, false, true, Some, IsNone, IfOk, IfSome, MatchOption, string_bytes, ◌++◌};
+ghost use Rattle.std.specs.Prelude.{◌≡◌, ◌≢◌, ◌<◌, ◌⊎◌, codes, decimal, false, true, Some, IsNone, IsSome, IfOk, IfSome, MatchOption, string_bytes, ◌++◌};
 ghost use Rattle.std.specs.Io.KnownBytes.{Appends};
 ghost use Rattle.block_buffers.specs.Calls.{failures};
 ghost use Rattle.block_buffers.specs.Disks.{Disk};
@@ -11,7 +11,7 @@ ghost use Rattle.subcommands.specs.Lines.{EndsRefused, EndsViewed, IsTold, Print
 ghost use Rattle.subcommands.specs.Statuses.{status_of, EndsWith};
 ghost use Rattle.image_loader.specs.Files.{Contents, IsFile};
 ghost use Rattle.image_loader.specs.declared.fault.ImageFault.{ImageFault};
-ghost use Rattle.inner_interpreter.specs.Worlds.{loaded};
+ghost use Rattle.inner_interpreter.specs.Worlds.{OfFile};
 
 use crate::causes::Reason;
 use crate::kernel::kernel_file;
@@ -77,7 +77,8 @@ pub fn print<W: Output>(writer: &mut W, line: &[u8], status: u8) -> Ended
 
 /// Prints a line, and answers whether all of it was written.
 fn is_printed<W: Output>(writer: &mut W, line: &[u8]) -> bool
-    ensures { W.failed writer.new ≡ false → (result ≡ true) × Appends (W.sent writer.old) (W.sent writer.new) line.now }
+    ensures printed { W.failed writer.new ≡ false → (result ≡ true) × Appends (W.sent writer.old) (W.sent writer.new) line.now }
+    ensures cut { W.failed writer.old ≡ false → W.failed writer.new ≡ true → result ≡ false }
 {
     print(writer, line, 0).status == 0
 }
@@ -137,7 +138,11 @@ pub fn refuse_image<W: Output>(alloc: Global, fault: ImageFault, writer: &mut W)
 /// Makes the block file with the kernel's sources, of 64 blocks. Status 0; without a file 1, where memory ran out, or 5,
 /// where that can't be printed.
 pub fn do_kernel<W: Output>(alloc: Global, writer: &mut W) -> Ended
-    ensures { MatchOption result.file (0 < result.status) (λ file. (result.status ≡ 0) × (file.items ≡ filled 65536 (blocks_of TEXT.now))) }
+    ensures file { MatchOption result.file (0 < result.status) (λ file. (result.status ≡ 0) × (file.items ≡ filled 65536 (blocks_of TEXT.now))) }
+    // Beside the file nothing is printed; where there is none, that memory ran out.
+    ensures silent { IsSome result.file → writer.new ≡ writer.old }
+    ensures wanting { W.failed writer.new ≡ false → IsNone result.file → PrintsOutOfMemory result.status (W.sent writer.old) (W.sent writer.new) }
+    ensures cut { W.failed writer.old ≡ false → W.failed writer.new ≡ true → (result.status ≡ 5) × IsNone result.file }
 {
     match kernel_file(alloc) {
         Ok(file) => end_with_file(file),
@@ -155,6 +160,7 @@ fn fault_line(alloc: Global, screen: u16, offset: u16, cause: &str) -> Result<St
 /// Prints where and why a source is refused.
 fn refuse_source<W: Output>(alloc: Global, fault: BuildFault, writer: &mut W) -> Ended
     ensures printed { W.failed writer.new ≡ false → PrintsFault fault.screen fault.offset fault.cause result.status (W.sent writer.old) (W.sent writer.new) }
+    ensures cut { W.failed writer.old ≡ false → W.failed writer.new ≡ true → result.status ≡ 5 }
     ensures status { 0 < result.status }
     ensures file { IsNone result.file }
 {
@@ -194,6 +200,8 @@ pub fn do_build<W: Output, D: Device>(
     // Where there is a file, its line is printed; where there is none, it is printed why.
     ensures told { W.failed writer.new ≡ false → IfSome result.file (λ file. IsTold file.items (W.sent writer.old) (W.sent writer.new)) }
     ensures refused { W.failed writer.new ≡ false → IsNone result.file → (d : Disk) → D.disk device.old ≡ Some d → EndsRefused d from to (record { disk = D.disk device.new; before = failures (D.calls device.old); after = failures (D.calls device.new) }) result.status (W.sent writer.old) (W.sent writer.new) ⊎ PrintsOutOfMemory result.status (W.sent writer.old) (W.sent writer.new) }
+    // Where a line can't be printed, there is no file.
+    ensures cut { W.failed writer.old ≡ false → W.failed writer.new ≡ true → (result.status ≡ 5) × IsNone result.file }
 {
     let image = match build(alloc, device, from, to) {
         Ok(image) => image,
@@ -258,9 +266,16 @@ pub fn do_run<R: Input, W: Output, D: Device>(
 ) -> Ended
     // Where the bytes are an image's file, memory is found and no end fails, the status, the output, the unread bytes and
     // the blocks are those of the written rounds.
-    ensures ran { result.status ≢ 1 → R.failed reader.new ≡ false → W.failed writer.new ≡ false → (file : Contents) → IsFile image.now file → (typed : List ℕ) → R.unread reader.old ≡ Some typed → (disk : Disk) → D.disk device.old ≡ Some disk → (sent : List ℕ) → W.sent writer.old ≡ Some sent → EndsWith result.status (loaded file typed disk sent limit) (R.unread reader.new) (D.disk device.new) (W.sent writer.new) }
-    // Where they are none, that is printed.
+    ensures ran { result.status ≢ 1 → R.failed reader.new ≡ false → W.failed writer.new ≡ false → OfFile image.now (R.unread reader.old) (D.disk device.old) (W.sent writer.old) limit (λ w. EndsWith result.status w (R.unread reader.new) (D.disk device.new) (W.sent writer.new)) }
+    // Where they are none, that is printed, and no other end is touched.
     ensures refused { W.failed writer.new ≡ false → (fault : ImageFault) → IsNoFile image.now fault → PrintsRefusal (codes "image") (image_cause fault) result.status (W.sent writer.old) (W.sent writer.new) }
+    ensures unrun { (fault : ImageFault) → IsNoFile image.now fault → (reader.new ≡ reader.old) × (device.new ≡ device.old) }
+    // Status 1 over an image's file is want of memory, which is printed; with status 1 nothing was run.
+    ensures wanting { W.failed writer.new ≡ false → (file : Contents) → IsFile image.now file → result.status ≡ 1 → PrintsOutOfMemory result.status (W.sent writer.old) (W.sent writer.new) }
+    ensures untouched { result.status ≡ 1 → (reader.new ≡ reader.old) × (device.new ≡ device.old) }
+    // An end that fails gives status 5.
+    ensures cut { W.failed writer.old ≡ false → W.failed writer.new ≡ true → result.status ≡ 5 }
+    ensures input { R.failed reader.old ≡ false → R.failed reader.new ≡ true → result.status ≡ 5 }
     ensures file { IsNone result.file }
 {
     match run_file(alloc, image, reader, writer, device, limit) {

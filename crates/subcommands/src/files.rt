@@ -3,7 +3,7 @@
 ghost use Rattle.std.specs.Prelude.{IfOk};
 ghost use Rattle.subcommands.specs.Streams.{IsApart};
 
-use std::alloc::AllocError;
+use std::alloc::{AllocError, Global};
 use std::fs::{File, OpenOptions};
 use std::io;
 use std::io::{ErrorKind, Read, Write};
@@ -31,12 +31,12 @@ pub fn open_apart(rt: &HostRuntime, options: &OpenOptions, name: &str) -> io::Re
     Err(ErrorKind::Other.into())
 }
 
-/// Reads at most 65,536 bytes of a file. `None`: it can't be opened or read.
-pub fn read_image(rt: &HostRuntime, name: &str) -> Result<Option<Vec<u8>>, AllocError> {
-    let Ok(mut file) = open_apart(rt, OpenOptions::new().read(true), name) else {
-        return Ok(None);
-    };
-    let mut bytes = vec![in rt.alloc(); 0; MOST_BYTES]?;
+/// Reads at most 65,536 bytes of a file that stands in for no standard stream. `None`: it can't be read.
+fn read_bytes(alloc: Global, file: File) -> Result<Option<Vec<u8>>, AllocError>
+    requires apart { IsApart file }
+{
+    let mut file = file;
+    let mut bytes = vec![in alloc; 0; MOST_BYTES]?;
     let mut length = 0;
     for _ in 0..u64::MAX {
         if length >= bytes.len() {
@@ -56,8 +56,18 @@ pub fn read_image(rt: &HostRuntime, name: &str) -> Result<Option<Vec<u8>>, Alloc
     Ok(Some(bytes))
 }
 
-/// Makes a file anew. An error: it can't be opened.
-pub fn create_file(rt: &HostRuntime, name: &str) -> io::Result<File> {
+/// Reads at most 65,536 bytes of a file. `None`: it can't be opened or read.
+pub fn read_image(rt: &HostRuntime, name: &str) -> Result<Option<Vec<u8>>, AllocError> {
+    let Ok(file) = open_apart(rt, OpenOptions::new().read(true), name) else {
+        return Ok(None);
+    };
+    read_bytes(rt.alloc(), file)
+}
+
+/// Makes a file anew, which stands in for no standard stream. An error: it can't be opened.
+pub fn create_file(rt: &HostRuntime, name: &str) -> io::Result<File>
+    ensures { IfOk result IsApart }
+{
     open_apart(
         rt,
         OpenOptions::new().write(true).create(true).truncate(true),
@@ -65,8 +75,16 @@ pub fn create_file(rt: &HostRuntime, name: &str) -> io::Result<File> {
     )
 }
 
+/// Writes bytes into a file that stands in for no standard stream.
+fn write_bytes(file: File, bytes: &[u8]) -> io::Result<()>
+    requires apart { IsApart file }
+{
+    let mut file = file;
+    file.write_all(bytes)
+}
+
 /// Makes a file anew, with these bytes. An error: it can't be opened, or can't be written whole.
 pub fn write_file(rt: &HostRuntime, name: &str, bytes: &[u8]) -> io::Result<()> {
-    let mut file = create_file(rt, name)?;
-    file.write_all(bytes)
+    let file = create_file(rt, name)?;
+    write_bytes(file, bytes)
 }

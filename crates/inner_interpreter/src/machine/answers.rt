@@ -1,8 +1,8 @@
 //! Answers to what a machine asks.
 
-ghost use Rattle.std.specs.Prelude.{◌≡◌, ℕ, None, Some, true, false, IsTrue, IsSome, IsOkAnd, IsErrOf, OnOk, OnErr, ◌≤◌, ◌<◌, All, length};
+ghost use Rattle.std.specs.Prelude.{◌≡◌, ℕ, None, Some, true, false, IsTrue, IsOkAnd, IsErrOf, OnOk, OnErr, ◌≤◌, ◌<◌, All, length};
 ghost use Rattle.std.specs.List.{list_all};
-ghost use Rattle.inner_interpreter.specs.Answer.{asked_by, fits, fits_request, seen, IsSpelled, answered, answer_of, is_line, line_shown, key_answered, line_answered, read_answered, write_answered, input_stopped, is_typed};
+ghost use Rattle.inner_interpreter.specs.Answer.{fits_request, seen, IsSpelled, answered, is_line, TakesFit, RefusesHalted, RefusesUnfit, line_shown, key_answered, line_answered, read_answered, write_answered, input_stopped, is_typed};
 
 use super::{Machine, quiet};
 use crate::act::{Act, Answer, Cause, Event, Refused, Shown};
@@ -48,11 +48,11 @@ impl Machine {
     /// stands, or the answer doesn't fit it. The machine is then unchanged.
     #[tactic(auto, unfolding(crate::specs::Answer::answer_of))]
     pub fn answer(&mut self, answer: Answer<'_>) -> Result<Act, Refused>
-        ensures done { self.old.halt ≡ None → fits (asked_by self.old.wait) (seen answer.entry) ≡ true → IsOkAnd result (λ act. (self.new, act) ≡ answer_of self.old (seen answer.entry)) }
+        ensures done { TakesFit self.old self.new (seen answer.entry) result }
         ensures spelled { OnOk result (IsSpelled (seen answer.entry)) }
         ensures settled { OnOk result (self.new.wait ≡ None) }
-        ensures halted { IsSome self.old.halt → IsErrOf result Refused.Halted }
-        ensures not_asked { self.old.halt ≡ None → fits (asked_by self.old.wait) (seen answer.entry) ≡ false → IsErrOf result Refused.NotAsked }
+        ensures halted { RefusesHalted self.old result }
+        ensures not_asked { RefusesUnfit self.old (seen answer.entry) result }
         ensures stays { OnErr result (self.new ≡ self.old) }
     {
         if self.halt.is_some() {

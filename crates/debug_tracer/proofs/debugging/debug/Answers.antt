@@ -19,7 +19,7 @@ returns-in-Ok-run_traced-clause-cut g c = λ fine failed w at e is.
 
 pub returns-in-Ok-run_traced-clause-faulted : goal.returns-in-Ok-run_traced-clause-faulted
 returns-in-Ok-run_traced-clause-faulted g c = λ fine failed w at e is.
-    of_word (λ f lines. EndsFaultedTraced f lines w c.run_traced.new.machine (g.D.Device.disk c.run_traced.new.device) (g.W.Output.sent c.run_traced.new.writer) (g.T.Output.sent c.args.trace.now) (g.T.Output.sent c.run_traced.new.trace))
+    of_word (λ f lines. EndsFaultedTraced f lines w c.run_traced.new.machine (g.R.Input.unread c.run_traced.new.reader) (g.D.Device.disk c.run_traced.new.device) (g.W.Output.sent c.run_traced.new.writer) (g.T.Output.sent c.args.trace.now) (g.T.Output.sent c.run_traced.new.trace))
     _ _ _ _ _ e (sym (ap (λ m. debugged m c.args.name.now) c.memory.ensures) ∙ c.in-Ok.ensures.thread) is (c.in-Ok.ensures.memory ∙ c.memory.ensures) (c.in-Ok.ensures.headers ∙ ap headers c.memory.ensures)
     (c.in-Ok-run_traced.ensures.faulted fine failed w at)
 

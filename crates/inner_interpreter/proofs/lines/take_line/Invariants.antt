@@ -1,4 +1,4 @@
-use Rattle.std.proofs.Common.{◌≡◌, ◌≤◌, ◌-◌, ℕ, List, Some, true, vec_len, vec_capacity}
+use Rattle.std.proofs.Common.{◌≡◌, ◌≤◌, ◌-◌, ◌++◌, ℕ, List, Some, true, vec_len, vec_capacity}
 use Rattle.std.specs.List.{list_all}
 use Rattle.inner_interpreter.specs.Answer.{is_typed}
 use Rattle.inner_interpreter.specs.Lines.{line_of, with_front}
@@ -8,6 +8,7 @@ use Rattle.inner_interpreter.proofs.lines.take_line.Given as goal
 abbrev pub invariant-loop : goal.invariant-loop
 invariant-loop g l = record {
   told : (typed : List ℕ) → g.R.Input.unread l.fn.reader ≡ Some typed → (rest : List ℕ) × (g.R.Input.unread l.reader ≡ Some rest) × (with_front l.line.items (line_of (l.n - l.counter) rest) ≡ line_of l.n typed);
+  read : (typed : List ℕ) → g.R.Input.unread l.fn.reader ≡ Some typed → (rest : List ℕ) × (g.R.Input.unread l.reader ≡ Some rest) × (typed ≡ l.line.items ++ rest);
   typed : list_all is_typed l.line.items ≡ true;
   count : vec_len l.line ≤ l.counter;
   room : 65535 ≤ vec_capacity l.line;

@@ -1,7 +1,7 @@
 use Rattle.std.proofs.Common.{rules, arith, ◌≡◌, None, Some}
 use Rattle.inner_interpreter.specs.Answer.{asked_by}
 use Rattle.inner_interpreter.proofs.Moving.{moved_none, moved_still, moved_answer, moved_stretch}
-use Rattle.inner_interpreter.proofs.Running.{asked_none, runs_running, stretch_at, stretch_cut, answer_at, answer_cut, flush_cut, kept_at, on_ok_then}
+use Rattle.inner_interpreter.proofs.Running.{asked_none, runs_running, stretch_at, stretch_cut, answer_at, answer_cut, flush_cut, kept_at, faulted_at, on_ok_then}
 use Rattle.inner_interpreter.proofs.rounds.make_rounds.Goals as goal
 
 pub returns-in-Ok-clause-moved : goal.returns-in-Ok-clause-moved
@@ -36,6 +36,12 @@ pub returns-in-Ok-flush_before-clause-cut : goal.returns-in-Ok-flush_before-clau
 returns-in-Ok-flush_before-clause-cut g c = λ failed w at.
     let waits : asked_by c.args.machine.now.wait ≡ Some c.in-Some.request = search rules in
     answer_cut _ w _ _ _ _ _ _ _ _ _ _ c.requires.goes c.requires.some waits (c.make_answer.ensures.cut failed) (kept_at w _ _ _ _ _ _ c.in-Ok-flush_before.ensures.bytes at)
+
+pub returns-in-Ok-flush_before-clause-faulted : goal.returns-in-Ok-flush_before-clause-faulted
+returns-in-Ok-flush_before-clause-faulted g c = λ failed w at.
+    let waits : asked_by c.args.machine.now.wait ≡ Some c.in-Some.request = search rules in
+    let f = c.make_answer.ensures.faulted failed in
+    faulted_at w _ _ _ _ _ _ _ _ _ _ c.requires.goes c.requires.some waits (c.make_answer.ensures.left failed) f.0 f.1 f.2 (kept_at w _ _ _ _ _ _ c.in-Ok-flush_before.ensures.bytes at)
 
 pub returns-in-Err-flush_before-clause-moved : goal.returns-in-Err-flush_before-clause-moved
 returns-in-Err-flush_before-clause-moved g c = moved_still _ _ _ _ _ (moved_none _ _)

@@ -29,7 +29,9 @@ pub returns-in-Some-clause-cut : goal.returns-in-Some-clause-cut
 returns-in-Some-clause-cut g c = λ fine failed w at. made_cut _ _ w _ _ _ _ _ _ _ _ _ c.finish.ensures.bytes c.finish.ensures.lines (c.loop-cause.invariant.made w at)
 
 pub returns-in-Some-clause-untraced : goal.returns-in-Some-clause-untraced
-returns-in-Some-clause-untraced g c = λ fine failed w at. made_untraced _ _ w _ _ _ _ _ _ _ _ _ c.finish.ensures.bytes c.finish.ensures.lines (c.loop-cause.invariant.made w at)
+returns-in-Some-clause-untraced g c = λ fine failed w at.
+    let halts : c.loop-cause.machine.halt ≡ Some c.in-Some.cause = search rules in
+    made_untraced _ _ w _ _ _ _ _ _ _ (made_cause _ _ w _ _ _ _ _ _ _ _ _ c.in-Some.cause halts c.finish.ensures.bytes c.finish.ensures.lines (c.loop-cause.invariant.made w at))
 
 pub returns-then-left-eq0-clause-whole : goal.returns-then-left-eq0-clause-whole
 returns-then-left-eq0-clause-whole g c = λ fine good kept w at.
@@ -43,7 +45,9 @@ pub returns-then-left-eq0-clause-cut : goal.returns-then-left-eq0-clause-cut
 returns-then-left-eq0-clause-cut g c = λ fine failed w at. made_cut _ _ w _ _ _ _ _ _ _ _ _ c.finish-then-left-eq0.ensures.bytes c.finish-then-left-eq0.ensures.lines (c.loop-cause.invariant.made w at)
 
 pub returns-then-left-eq0-clause-untraced : goal.returns-then-left-eq0-clause-untraced
-returns-then-left-eq0-clause-untraced g c = λ fine failed w at. made_untraced _ _ w _ _ _ _ _ _ _ _ _ c.finish-then-left-eq0.ensures.bytes c.finish-then-left-eq0.ensures.lines (c.loop-cause.invariant.made w at)
+returns-then-left-eq0-clause-untraced g c = λ fine failed w at.
+    let goes : c.loop-cause.machine.halt ≡ None = search rules in
+    made_untraced _ _ w _ _ _ _ _ _ _ (made_limit _ _ w _ _ _ _ _ _ _ _ _ goes c.if-left-eq0.true c.finish-then-left-eq0.ensures.bytes c.finish-then-left-eq0.ensures.lines (c.loop-cause.invariant.made w at))
 
 pub loop-cause-preserved : goal.loop-cause-preserved
 loop-cause-preserved g c = record {
@@ -59,11 +63,11 @@ loop-cause-preserved g c = record {
 
 pub returns-in-Err-clause-untraced : goal.returns-in-Err-clause-untraced
 returns-in-Err-clause-untraced g c = λ fine failed w at.
-    line_untraced _ _ w _ _ _ _ _ _ _ _ (search rules) (omega arith) (search rules) (c.loop-cause.invariant.made w at)
+    line_untraced _ _ w _ _ _ _ _ _ _ _ (search rules) (omega arith) (search rules) (search rules) (c.loop-cause.invariant.made w at)
 
 pub returns-in-Err-Reader-clause-faulted : goal.returns-in-Err-Reader-clause-faulted
 returns-in-Err-Reader-clause-faulted g c = λ fine fails w at.
-    rounds_faulted _ _ w c.loop-cause.machine _ _ _ _ _ _ _ _ _ _ (search rules) (c.make_rounds.ensures.faulted (c.in-Err-Reader.is ∙ ap Err c.in-Err-Reader.field-0-is)) (c.loop-cause.invariant.made w at)
+    rounds_faulted _ _ w c.loop-cause.machine _ _ _ _ _ _ _ _ _ _ _ (search rules) (c.make_rounds.ensures.faulted (c.in-Err-Reader.is ∙ ap Err c.in-Err-Reader.field-0-is)) (c.loop-cause.invariant.made w at)
 
 pub returns-in-Err-Writer-clause-cut : goal.returns-in-Err-Writer-clause-cut
 returns-in-Err-Writer-clause-cut g c = λ fine fails w at.

@@ -1,0 +1,24 @@
+-- A machine that was loaded.
+use Rattle.std.proofs.Common.{◌≡◌, ◌∙◌, refl, sym, ap, subst, length, ℕ, List, Option, Some, Result, Ok, Err}
+use Rattle.std.specs.Prelude.{IfSome, IfOk}
+use Rattle.block_buffers.specs.Disks.{Disk}
+use Rattle.image_loader.specs.Files.{Contents}
+use Rattle.inner_interpreter.specs.Served.{is_input_fault, HasNotFailed}
+use Rattle.inner_interpreter.specs.State.{State, start}
+use Rattle.inner_interpreter.specs.Worlds.{IsAt, loaded}
+
+-- it stands where the world of its image begins
+pub loaded_at : (image : Contents) (s : State) (count limit : ℕ) (unread : Option (List ℕ)) (disk : Option Disk) (sent : Option (List ℕ)) (typed : List ℕ) (d : Disk) (shown : List ℕ)
+    → s ≡ start image count → IfSome disk (λ x. count ≡ length x.blocks) → unread ≡ Some typed → disk ≡ Some d → sent ≡ Some shown
+    → IsAt (loaded image typed d shown limit) s unread disk sent limit
+loaded_at image s count limit unread disk sent typed d shown is told u k t =
+    let n : count ≡ length d.blocks = subst (λ o. IfSome o (λ x. count ≡ length x.blocks)) k told in
+    record { state_is = is ∙ ap (start image) n; unread_is = u; disk_is = k; sent_is = t; left_is = refl }
+
+pub start_not_failed : (image : Contents) (s : State) (count : ℕ) → s ≡ start image count → HasNotFailed s
+unfolding is_input_fault
+start_not_failed image s count is = ap (λ (x : State). is_input_fault x.halt) is
+
+pub ok_both : {T E : Type 0} (r : Result T E) (P Q : T → Type 0) → IfOk r P → IfOk r Q → IfOk r (λ x. P x × Q x)
+ok_both (Ok x) P Q p q = (p, q)
+ok_both (Err e) P Q p q = tt
