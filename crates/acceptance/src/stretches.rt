@@ -10,11 +10,11 @@ use std::process::Abort;
 use std::test::Fail;
 
 /// The codes of the rows that are done in place, EXECUTE's, which is done with the row of its word, and those of two that aren't
-/// (ROLL and 2ROT).
-const CODES: [u8; 70] = [
+/// (ROLL and 2OVER).
+const CODES: [u8; 63] = [
     1, 2, 3, 5, 6, 7, 8, 9, 10, 11, 12, 13, 14, 15, 20, 21, 22, 32, 33, 34, 35, 36, 37, 38, 39, 40,
-    41, 42, 43, 44, 45, 48, 49, 50, 51, 52, 53, 56, 57, 58, 59, 60, 61, 62, 63, 64, 65, 66, 67, 68,
-    69, 70, 71, 72, 73, 74, 75, 76, 77, 78, 79, 80, 96, 97, 98, 99, 100, 101, 102, 106,
+    41, 42, 43, 48, 49, 50, 56, 57, 58, 59, 60, 61, 62, 63, 64, 65, 66, 67, 68, 69, 70, 71, 72, 73,
+    74, 75, 76, 77, 78, 96, 97, 98, 99, 100, 101, 102, 106,
 ];
 
 /// Depths at both ends of a stack.

@@ -12,7 +12,7 @@ mod memory_rows;
 pub mod parts;
 mod stack;
 
-pub use cell::{flag, floored, greater_of, halved, lesser, magnitude};
+pub use cell::{flag, greater_of, halved, lesser, magnitude};
 pub use double::double_of;
 pub use ending::leave;
 pub use groups::{cell_row, control_row, double_row, memory_row, stack_row};
