@@ -69,9 +69,35 @@ struct Case<'t> {
     want: State<'t>,
 }
 
+/// What came of a text's cases: what is told of them, how many there are, and how many differ.
+#[derive(Drop)]
+pub struct Told {
+    pub report: String,
+    pub count: u64,
+    pub differing: u64,
+}
+
+/// Does all cases of a text of this name, which stands before all that is told of a case: how it differs from what is wanted, or,
+/// where each is wrong on purpose, that it doesn't.
+pub fn tell_text<'t>(alloc: Global, name: String, is_wrong: bool, text: &'t str) -> Result<Told> {
+    let mut reader: Reader<'t> = Reader::new(alloc, name, is_wrong);
+    reader.read(text)?;
+    let Reader {
+        report,
+        count,
+        differing,
+        ..
+    } = reader;
+    Ok(Told {
+        report,
+        count,
+        differing,
+    })
+}
+
 /// What was read of a text.
 #[derive(Drop)]
-pub struct Reader<'t> {
+struct Reader<'t> {
     alloc: Global,
     name: String,
     report: String,
@@ -85,14 +111,12 @@ pub struct Reader<'t> {
     case: Option<Case<'t>>,
     /// Whether each case is wrong on purpose, so that one which doesn't differ is told.
     is_wrong: bool,
-    pub count: u64,
-    pub differing: u64,
+    count: u64,
+    differing: u64,
 }
 
 impl<'t> Reader<'t> {
-    /// A reader of the text of this name, which stands before all that is told of a case: how it differs from what is wanted,
-    /// or, where each is wrong on purpose, that it doesn't.
-    pub fn new(alloc: Global, name: String, is_wrong: bool) -> Reader<'t> {
+    fn new(alloc: Global, name: String, is_wrong: bool) -> Reader<'t> {
         Reader {
             alloc,
             name,
@@ -108,12 +132,8 @@ impl<'t> Reader<'t> {
         }
     }
 
-    pub fn report(&self) -> &str {
-        self.report.as_str()
-    }
-
     /// Does all cases of the text.
-    pub fn read(&mut self, text: &'t str) -> Result<()> {
+    fn read(&mut self, text: &'t str) -> Result<()> {
         for (place, line) in text.lines().enumerate() {
             let place = place.saturating_add(1);
             self.take(place, line)
@@ -325,6 +345,9 @@ fn differences(alloc: Global, name: &str, case: &Case<'_>) -> Result<String> {
 
 /// The first address where two memories differ.
 fn first_difference(got: &Memory, want: &Memory) -> Option<u16> {
+    if got.as_slice() == want.as_slice() {
+        return None;
+    }
     (0..=65535).find(|&at| got.byte(at) != want.byte(at))
 }
 

@@ -10,19 +10,18 @@ mod state;
 mod told;
 
 use anyhow::Result;
-use cases::Reader;
+use cases::tell_text;
 use std::{env, fs};
 
 /// Does the cases of a text: what is told of each, and a line that counts them.
 fn read_file(rt: &HostRuntime, name: String, is_wrong: bool) -> Result<()> {
     let text = fs::read_to_string(rt, name.as_str())?;
     let shown = name.clone()?;
-    let mut reader = Reader::new(rt.alloc(), name, is_wrong);
-    reader.read(text.as_str())?;
-    print!(rt; "{}", reader.report())?;
+    let told = tell_text(rt.alloc(), name, is_wrong, text.as_str())?;
+    print!(rt; "{}", told.report)?;
     println!(rt;
         "{}: {} cases, {} differ",
-        shown, reader.count, reader.differing
+        shown, told.count, told.differing
     )?;
     Ok(())
 }
