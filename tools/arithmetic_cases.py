@@ -1,5 +1,5 @@
 #!/usr/bin/env python3
-"""Writes crates/acceptance/src/arithmetic_cases.rt: results of the arithmetic rows at the edges of cells and doubles.
+"""Writes crates/conformance/data/arithmetic.txt: cases of the arithmetic rows at the edges of cells and doubles.
 
 Nothing here knows the program. The results come from Python's whole numbers, of which `//` and `%` are the floored
 division and its remainder, and of the loop from its rule alone, walked one step at a time: a loop ends where the
@@ -13,11 +13,11 @@ from pathlib import Path
 
 CELLS = [-32768, -1, 0, 1, 32767]
 DOUBLES = [-2147483648, -65536, -1, 0, 1, 65535, 65536, 2147483647]
-TARGET = Path(__file__).resolve().parent.parent / "crates/acceptance/src/arithmetic_cases.rt"
+TARGET = Path(__file__).resolve().parent.parent / "crates/conformance/data/arithmetic.txt"
 
 HEAD = """\
-//! Results of the arithmetic rows at the edges of cells and doubles, computed by whole numbers apart from the program.
-//! Written by tools/arithmetic_cases.py: change that, and not this file.
+\\ The arithmetic rows at the edges of cells and doubles, computed by whole numbers apart from the program.
+\\ Written by tools/arithmetic_cases.py: change that, and not this file.
 """
 
 
@@ -58,112 +58,146 @@ def loop_goes_on(index, limit, step):
     return index
 
 
-def rust(value):
-    """A value as Rattle writes it."""
-    if isinstance(value, bool):
-        return "true" if value else "false"
-    if isinstance(value, tuple):
-        return "(" + ", ".join(rust(part) for part in value) + ")"
-    return str(value)
+def cells(*numbers):
+    return " ".join(map(str, numbers))
 
 
-def option(value):
-    """An Option of a tuple or of a number."""
-    return "None" if value is None else f"Some({rust(value)})"
+def halves(d):
+    """The low and the high cell of a double."""
+    return unsigned(d), unsigned(d // 65536)
+
+
+def leaves(number, name, given, left):
+    """The line of a row that takes `given` and leaves `left`, or is fault 5 where that is None."""
+    if left is None:
+        return f"{number} {name} ( {given} -- same ) fault 5"
+    return f"{number} {name} ( {given} -- {left} )"
+
+
+def flag(is_true):
+    return -1 if is_true else 0
 
 
 def divisions():
     for n, m in product(CELLS, CELLS):
-        yield rust(n), rust(m), option(floored(n, m))
+        given, result = cells(n, m), floored(n, m)
+        yield leaves(51, "/", given, result and result[1])
+        yield leaves(52, "MOD", given, result and result[0])
+        yield leaves(53, "/MOD", given, result and cells(*result))
 
 
 def scaled_divisions():
     for n1, n2, m in product(CELLS, CELLS, CELLS):
-        yield rust(n1), rust(n2), rust(m), option(floored(n1 * n2, m))
+        given, result = cells(n1, n2, m), floored(n1 * n2, m)
+        yield leaves(54, "*/", given, result and result[1])
+        yield leaves(55, "*/MOD", given, result and cells(*result))
 
 
 def unsigned_divisions():
     for low, high, m in product(CELLS, CELLS, CELLS):
-        n = unsigned(low) + 65536 * unsigned(high)
-        parts = rust(unsigned(low)), rust(unsigned(high)), rust(unsigned(m))
-        yield *parts, option(unsigned_division(n, unsigned(m)))
+        result = unsigned_division(unsigned(low) + 65536 * unsigned(high), unsigned(m))
+        yield leaves(79, "UM/MOD", cells(low, high, m), result and cells(*result))
 
 
 def loops():
-    for index, limit, step in product(CELLS, CELLS, CELLS):
-        yield rust(index), rust(limit), rust(step), option(loop_goes_on(index, limit, step))
+    """Of a row at 298, and the loop that LEAVE would end at 900."""
+    yield "ip 300\nset 300 700"
+    for index, limit in product(CELLS, CELLS):
+        yield f"returns 7 900 {cells(limit, index)}"
+        for step in CELLS:
+            following = loop_goes_on(index, limit, step)
+            if following is None:
+                change = "  returns 7\n  ip 302"
+            else:
+                change = f"  returns 7 900 {cells(limit, following)}\n  ip 700"
+            yield f"11 (+LOOP) ( {step} -- )\n{change}"
+            if step == 1:
+                yield f"10 (LOOP) ( -- )\n{change}"
 
 
 def comparisons():
     for n1, n2 in product(CELLS, CELLS):
-        tests = n1 == n2, n1 != n2, n1 < n2, n1 > n2, unsigned(n1) < unsigned(n2)
-        yield rust(n1), rust(n2), rust(tests)
+        given = cells(n1, n2)
+        yield leaves(70, "=", given, flag(n1 == n2))
+        yield leaves(71, "<>", given, flag(n1 != n2))
+        yield leaves(72, "<", given, flag(n1 < n2))
+        yield leaves(73, ">", given, flag(n1 > n2))
+        yield leaves(74, "U<", given, flag(unsigned(n1) < unsigned(n2)))
 
 
-def extremes(numbers):
-    for n1, n2 in product(numbers, numbers):
-        yield rust(n1), rust(n2), rust(min(n1, n2)), rust(max(n1, n2))
+def extremes():
+    for n1, n2 in product(CELLS, CELLS):
+        yield leaves(64, "MIN", cells(n1, n2), min(n1, n2))
+        yield leaves(65, "MAX", cells(n1, n2), max(n1, n2))
 
 
 def sums():
     for n1, n2 in product(CELLS, CELLS):
-        results = wrap(n1 + n2, 16), wrap(n1 - n2, 16), wrap(n1 * n2, 16)
-        yield rust(n1), rust(n2), *map(rust, results), rust(unsigned(n1) * unsigned(n2))
+        given = cells(n1, n2)
+        yield leaves(48, "+", given, wrap(n1 + n2, 16))
+        yield leaves(49, "-", given, wrap(n1 - n2, 16))
+        yield leaves(50, "*", given, wrap(n1 * n2, 16))
+        yield leaves(78, "UM*", given, cells(*halves(unsigned(n1) * unsigned(n2))))
 
 
 def single_cells():
     for n in CELLS:
-        yield rust(n), rust(wrap(-n, 16)), rust(wrap(abs(n), 16)), rust(n // 2), rust(wrap(2 * n, 16))
+        yield leaves(62, "NEGATE", n, wrap(-n, 16))
+        yield leaves(63, "ABS", n, wrap(abs(n), 16))
+        yield leaves(61, "2/", n, n // 2)
+        yield leaves(60, "2*", n, wrap(2 * n, 16))
 
 
 def double_sums():
     for d1, d2 in product(DOUBLES, DOUBLES):
-        yield rust(d1), rust(d2), rust(wrap(d1 + d2, 32)), rust(wrap(d1 - d2, 32))
+        given = cells(*halves(d1), *halves(d2))
+        yield leaves(80, "D+", given, cells(*halves(d1 + d2)))
+        yield leaves(81, "D-", given, cells(*halves(d1 - d2)))
+
+
+def double_extremes():
+    for d1, d2 in product(DOUBLES, DOUBLES):
+        given = cells(*halves(d1), *halves(d2))
+        yield leaves(85, "DMIN", given, cells(*halves(min(d1, d2))))
+        yield leaves(86, "DMAX", given, cells(*halves(max(d1, d2))))
 
 
 def double_comparisons():
     for d1, d2 in product(DOUBLES, DOUBLES):
-        yield rust(d1), rust(d2), rust((d1 == d2, d1 < d2, unsigned(d1, 32) < unsigned(d2, 32)))
+        given = cells(*halves(d1), *halves(d2))
+        yield leaves(87, "D=", given, flag(d1 == d2))
+        yield leaves(89, "D<", given, flag(d1 < d2))
+        yield leaves(90, "DU<", given, flag(unsigned(d1, 32) < unsigned(d2, 32)))
 
 
 def single_doubles():
     for low, high in product(CELLS, CELLS):
-        d = wrap(unsigned(low) + 65536 * high, 32)
-        yield rust(d), rust(wrap(-d, 32)), rust(wrap(abs(d), 32)), rust(d // 2), rust(d == 0)
+        d, given = wrap(unsigned(low) + 65536 * high, 32), cells(low, high)
+        yield leaves(82, "DNEGATE", given, cells(*halves(-d)))
+        yield leaves(83, "DABS", given, cells(*halves(abs(d))))
+        yield leaves(84, "D2/", given, cells(*halves(d // 2)))
+        yield leaves(88, "D0=", given, flag(d == 0))
 
 
-TABLES = [
-    ("DIVISIONS", "n1, n2; remainder and quotient of n1 by n2.",
-     "i16, i16, Option<(i16, i16)>", divisions),
-    ("SCALED_DIVISIONS", "n1, n2, n3; remainder and quotient of n1 * n2 by n3.",
-     "i16, i16, i16, Option<(i16, i16)>", scaled_divisions),
-    ("UNSIGNED_DIVISIONS", "The low and the high cell, the divisor; remainder and quotient.",
-     "u16, u16, u16, Option<(u16, u16)>", unsigned_divisions),
-    ("LOOPS", "The index, the limit, the step; the new index, or `None` where the loop ends.",
-     "i16, i16, i16, Option<i16>", loops),
-    ("COMPARISONS", "n1, n2; whether n1 is equal, unequal, less, greater, and less without signs.",
-     "i16, i16, (bool, bool, bool, bool, bool)", comparisons),
-    ("EXTREMES", "n1, n2; the lesser, the greater.", "i16, i16, i16, i16", lambda: extremes(CELLS)),
-    ("SUMS", "n1, n2; their sum, difference and product; the product of them taken without signs.",
-     "i16, i16, i16, i16, i16, u32", sums),
-    ("SINGLE_CELLS", "n; it negated, its amount, its half and its double.",
-     "i16, i16, i16, i16, i16", single_cells),
-    ("DOUBLE_SUMS", "d1, d2; their sum, their difference.", "i32, i32, i32, i32", double_sums),
-    ("DOUBLE_EXTREMES", "d1, d2; the lesser, the greater.", "i32, i32, i32, i32", lambda: extremes(DOUBLES)),
-    ("DOUBLE_COMPARISONS", "d1, d2; whether d1 is equal, less, and less without signs.",
-     "i32, i32, (bool, bool, bool)", double_comparisons),
-    ("SINGLE_DOUBLES", "d; it negated, its amount, its half; whether it is 0.",
-     "i32, i32, i32, i32, bool", single_doubles),
+GROUPS = [
+    ("Floored quotients and remainders.", divisions),
+    ("The same of a product.", scaled_divisions),
+    ("Quotients and remainders without signs.", unsigned_divisions),
+    ("Loops: where they go on, at 700, and where they end, at 302.", loops),
+    ("Comparisons.", comparisons),
+    ("The lesser and the greater.", extremes),
+    ("Sums, differences and products.", sums),
+    ("Of one cell: it negated, its amount, its half and its double.", single_cells),
+    ("Sums and differences of doubles.", double_sums),
+    ("The lesser and the greater of doubles.", double_extremes),
+    ("Comparisons of doubles.", double_comparisons),
+    ("Of one double: it negated, its amount, its half; whether it is 0.", single_doubles),
 ]
 
 
-def table(name, text, types, rows):
-    lines = ["    (" + ", ".join(row) + "),\n" for row in rows()]
-    return f"\n/// {text}\npub const {name}: [({types}); {len(lines)}] = [\n{''.join(lines)}];\n"
-
-
 def main():
-    TARGET.write_text(HEAD + "".join(table(*entry) for entry in TABLES))
+    groups = (f"\n\\ {text}\n" + "".join(f"{case}\n" for case in cases()) for text, cases in GROUPS)
+    TARGET.write_text(HEAD + "".join(groups))
 
 
 if __name__ == "__main__":

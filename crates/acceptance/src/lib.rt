@@ -2,10 +2,6 @@
 #![tactic(auto)]
 
 #[cfg(test)]
-mod arithmetic;
-#[cfg(test)]
-mod arithmetic_cases;
-#[cfg(test)]
 mod assertions;
 #[cfg(test)]
 mod blocks;
