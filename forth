@@ -154,7 +154,7 @@ case ${1:-} in
 esac
 [ $# -le 1 ] || usage 2
 case "${1:-} $sources" in -* | *' -'*) usage 2 ;; esac
-blocks=${1:-forth.blk}
+blocks=${1-forth.blk}
 [ -n "$blocks" ] || usage 2
 "$forth83" --version > /dev/null || exit 1
 room=$(mktemp -d) || exit 1
