@@ -131,7 +131,7 @@ leave() {
 run_at_terminal() {
   saved=$(stty -g)
   say "$blocks, $(($(stat -L -c %s -- "$blocks") / 1024)) screens. Words are in capitals: WORDS lists them, HELP says more."
-  say "BYE or ^D saves changed screens and leaves; ^C breaks off: what was typed, and screens not yet SAVEd, are lost then."
+  say "BYE or ^D saves changed screens and leaves; ^C breaks off: what isn't SAVEd is lost then."
   trap stop TSTP
   trap by_key CONT
   trap : INT QUIT
