@@ -7,6 +7,7 @@ forth83=$here/forth83
 kept=$here/workbench/out
 saved=
 child=
+killed=
 
 say() {
   echo "forth: $1" >&2
@@ -123,27 +124,35 @@ stop() {
 }
 
 leave() {
-  [ -z "$saved" ] || stty "$saved"
+  [ -z "$saved" ] || stty "$saved" 2> /dev/null
   rm -rf "$room"
 }
 
-# Runs the tools' image at the terminal. The program is a child that is waited for, so that signals are seen meanwhile.
+# Runs the tools' image at the terminal. The program is a child that is waited for, so that signals are seen meanwhile; where the
+# system's `env` can't give it back its ^C, it is simply called.
 run_at_terminal() {
+  local run=("$forth83" run -- "$images/tools.img" "$blocks")
   saved=$(stty -g)
+  trap : INT QUIT
+  by_key
   say "$blocks, $(($(stat -L -c %s -- "$blocks") / 1024)) screens. Words are in capitals: WORDS lists them, HELP says more."
   say "BYE or ^D saves changed screens and leaves; ^C breaks off: what isn't SAVEd is lost then."
-  trap stop TSTP
-  trap by_key CONT
-  trap : INT QUIT
-  trap '[ -z "$child" ] || kill "$child"' TERM HUP
-  by_key
-  env --default-signal=INT,QUIT,TSTP "$forth83" run -- "$images/tools.img" "$blocks" <&0 &
-  child=$!
-  wait "$child" || status=$?
-  while kill -0 "$child" 2> /dev/null; do
-    status=0
+  if env --default-signal=INT,QUIT,TSTP true 2> /dev/null; then
+    trap stop TSTP
+    trap by_key CONT
+    trap 'killed=1; [ -z "$child" ] || kill "$child"' TERM HUP
+    env --default-signal=INT,QUIT,TSTP "${run[@]}" <&0 &
+    child=$!
+    [ -z "$killed" ] || kill "$child"
     wait "$child" || status=$?
-  done
+    while kill -0 "$child" 2> /dev/null; do
+      status=0
+      wait "$child" || status=$?
+    done
+  else
+    stty susp undef
+    "${run[@]}" || status=$?
+  fi
   echo
 }
 
