@@ -128,6 +128,17 @@ leave() {
   rm -rf "$room"
 }
 
+# Waits until the child has ended. A signal to the launcher ends one wait with a status of its own, which doesn't count where the
+# child lives on; a launcher that was killed has killed its child.
+ended() {
+  wait "$child" || status=$?
+  while kill -0 "$child" 2> /dev/null; do
+    status=0
+    wait "$child" || status=$?
+  done
+  [ -z "$killed" ] || status=143
+}
+
 # Runs the tools' image at the terminal. The program is a child that is waited for, so that signals are seen meanwhile; where the
 # system's `env` can't give it back its ^C, it is simply called.
 run_at_terminal() {
@@ -144,11 +155,7 @@ run_at_terminal() {
     env --default-signal=INT,QUIT,TSTP "${run[@]}" <&0 &
     child=$!
     [ -z "$killed" ] || kill "$child"
-    wait "$child" || status=$?
-    while kill -0 "$child" 2> /dev/null; do
-      status=0
-      wait "$child" || status=$?
-    done
+    ended
   else
     stty susp undef
     "${run[@]}" || status=$?
