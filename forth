@@ -1,0 +1,198 @@
+#!/usr/bin/env bash
+# The Forth over a file of blocks; `./forth --help` tells how. At a terminal it has the workbench's tools, and takes lines by KEY;
+# into pipes and files it is the kernel alone, so that its output is what the machine shows.
+set -uo pipefail
+here=$(cd "$(dirname "$(readlink -f "${BASH_SOURCE[0]}")")" && pwd)
+forth83=$here/forth83
+kept=$here/workbench/out
+saved=
+child=
+killed=
+
+say() {
+  echo "forth: $1" >&2
+}
+
+usage() {
+  cat >&2 << 'END'
+usage: ./forth [BLOCKS]                      works on the file BLOCKS, forth.blk where none is named, and makes it where it isn't there
+       ./forth --kernel-of SOURCES [BLOCKS]  does so with a kernel built of screens 1 to 20 of SOURCES
+A name that begins with - is written as ./-NAME.
+END
+  exit "$1"
+}
+
+# Ends with status 1 and the reason.
+refuse() {
+  say "$1"
+  exit 1
+}
+
+# is_made IMAGE: the image is there, and nothing that it is made of is newer.
+is_made() {
+  local from
+  [ -f "$1" ] || return 1
+  for from in "$here/forth83" "$here/crates/forth83/out/forth83" "$here"/workbench/make "$here"/workbench/*.txt; do
+    if [ "$from" -nt "$1" ]; then
+      return 1
+    fi
+  done
+}
+
+# tell_place SOURCES SAID: where and why a build was refused, with its line, and how the kernel's screens come back.
+tell_place() {
+  local screen offset cause
+  read -r _ screen _ offset cause <<< "$2"
+  offset=${offset%:}
+  say "$1: screen $screen, line $((offset / 64)), column $((offset % 64)): $cause"
+  if [ "$offset" -lt 1024 ]; then
+    dd if="$1" bs=64 skip=$((screen * 16 + offset / 64)) count=1 status=none | tr '\000-\037' ' ' >&2
+    printf '\n%*s^\n' $((offset % 64)) '' >&2
+  fi
+  say "nothing is changed, and ./forth BLOCKS starts with the program's own kernel as before"
+  say "the kernel's screens come back by: $here/forth83 kernel new.blk"
+  say "then: dd if=new.blk of=$1 bs=1024 skip=1 seek=1 count=20 conv=notrunc"
+}
+
+# make_images SOURCES FOLDER: the image of the screens 1 to 20 alone, and that with the tools.
+make_images() {
+  local said
+  said=$("$forth83" build -- "$1" 1 20 "$2/plain.new" 9>&-) || {
+    case $said in
+      screen*) tell_place "$1" "$said" ;;
+      *) say "the image can't be made: $said" ;;
+    esac
+    return 1
+  }
+  said=$("$here/workbench/make" "$forth83" "$1" "$2/tools.new" 9>&- 2>&1) || {
+    say "the workbench's tools can't be built over the screens 1 to 20 of $1:"
+    echo "$said" >&2
+    return 1
+  }
+  mv -f -- "$2/plain.new" "$2/plain.img" && mv -f -- "$2/tools.new" "$2/tools.img"
+}
+
+# The images of the program's own kernel, kept beside the tools' texts, or in ROOM where nothing can be kept there.
+find_images() {
+  images=$kept
+  if is_made "$kept/plain.img" && is_made "$kept/tools.img"; then
+    return
+  fi
+  "$forth83" kernel "$room/kernel.blk" > "$room/said" || refuse "the program can't make its kernel: $(cat "$room/said")"
+  make_images "$room/kernel.blk" "$room" || exit 1
+  if mkdir -p "$kept" 2> /dev/null && [ -w "$kept" ]; then
+    cp -- "$room/plain.img" "$kept/plain.$$" && mv -f -- "$kept/plain.$$" "$kept/plain.img" &&
+      cp -- "$room/tools.img" "$kept/tools.$$" && mv -f -- "$kept/tools.$$" "$kept/tools.img" && return
+  fi
+  images=$room
+}
+
+# Makes the block file where it isn't there; refuses one that can't be used, with the reason and what to do.
+open_blocks() {
+  local folder
+  folder=$(dirname -- "$blocks")
+  if [ ! -e "$blocks" ]; then
+    [ -d "$folder" ] || refuse "$blocks can't be made: there is no folder $folder"
+    [ -w "$folder" ] || refuse "$blocks can't be made: the folder $folder can't be written; name a file elsewhere, as ./forth ~/my.blk"
+    "$forth83" kernel "$room/new.blk" > "$room/said" || refuse "$blocks can't be made: $(cat "$room/said")"
+    { cp -- "$room/new.blk" "$blocks.$$" && mv -n -- "$blocks.$$" "$blocks"; } 2> "$room/said" || {
+      rm -f -- "$blocks.$$"
+      refuse "$blocks can't be made: $(cat "$room/said")"
+    }
+    rm -f -- "$blocks.$$"
+  fi
+  [ ! -d "$blocks" ] || refuse "$blocks is a folder; name a file of blocks"
+  [ -f "$blocks" ] || refuse "$blocks is no file of blocks"
+  [ -r "$blocks" ] || refuse "$blocks can't be read: its permissions don't allow it; chmod u+r $blocks"
+  [ -w "$blocks" ] || refuse "$blocks can't be written: it is read-only; chmod u+w $blocks, or work on a copy: cp $blocks my.blk && chmod u+w my.blk"
+  exec 9<> "$blocks"
+  if command -v flock > /dev/null && ! flock -n 9; then
+    refuse "$blocks is in use by another run; leave that by BYE, or work on a copy"
+  fi
+}
+
+# The terminal as the tools need it: it neither echoes nor edits.
+by_key() {
+  stty -icanon -echo min 1 time 0
+}
+
+# ^Z: the terminal is as before while the run is stopped.
+stop() {
+  stty "$saved"
+  kill -STOP $$
+  by_key
+}
+
+leave() {
+  [ -z "$saved" ] || stty "$saved" 2> /dev/null
+  rm -rf "$room"
+}
+
+# Waits until the child has ended. A signal to the launcher ends one wait with a status of its own, which doesn't count where the
+# child lives on; a launcher that was killed has killed its child.
+ended() {
+  wait "$child" || status=$?
+  while kill -0 "$child" 2> /dev/null; do
+    status=0
+    wait "$child" || status=$?
+  done
+  [ -z "$killed" ] || status=143
+}
+
+# Runs the tools' image at the terminal. The program is a child that is waited for, so that signals are seen meanwhile; where the
+# system's `env` can't give it back its ^C, it is simply called.
+run_at_terminal() {
+  local run=("$forth83" run -- "$images/tools.img" "$blocks")
+  saved=$(stty -g)
+  trap : INT QUIT
+  by_key
+  say "$blocks, $(($(stat -L -c %s -- "$blocks") / 1024)) screens. Words are in capitals: WORDS lists them, HELP says more."
+  say "BYE or ^D saves changed screens and leaves; ^C breaks off: what isn't SAVEd is lost then."
+  if env --default-signal=INT,QUIT,TSTP true 2> /dev/null; then
+    trap stop TSTP
+    trap by_key CONT
+    trap 'killed=1; [ -z "$child" ] || kill "$child"' TERM HUP
+    env --default-signal=INT,QUIT,TSTP "${run[@]}" <&0 &
+    child=$!
+    [ -z "$killed" ] || kill "$child"
+    ended
+  else
+    stty susp undef
+    "${run[@]}" || status=$?
+  fi
+  echo
+}
+
+case ${1:-} in
+  -h | --help) usage 0 ;;
+  --kernel-of) [ $# -ge 2 ] && [ $# -le 3 ] || usage 2; sources=$2; shift 2; set -- "${1:-$sources}" ;;
+  *) sources= ;;
+esac
+[ $# -le 1 ] || usage 2
+case "${1:-} $sources" in -* | *' -'*) usage 2 ;; esac
+blocks=${1-forth.blk}
+[ -n "$blocks" ] || usage 2
+"$forth83" --version > /dev/null || exit 1
+room=$(mktemp -d) || exit 1
+trap leave EXIT
+if [ -n "$sources" ]; then
+  [ -f "$sources" ] && [ -r "$sources" ] || refuse "$sources isn't there, or can't be read"
+  images=$room
+  make_images "$sources" "$room" || exit 1
+else
+  find_images
+fi
+open_blocks
+status=0
+if [ -t 0 ] && [ -t 1 ]; then
+  run_at_terminal
+else
+  "$forth83" run -- "$images/plain.img" "$blocks" || status=$?
+fi
+case $status in
+  3) say "a fault ended it, that no fault thread handles" ;;
+  4) say "the limit of ticks ended it" ;;
+  5) say "standard input or output failed" ;;
+  130) say "broken off" ;;
+esac
+exit "$status"
