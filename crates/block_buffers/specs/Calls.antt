@@ -1,7 +1,7 @@
 -- What a call does to a device.
 use Rattle.std.specs.Prelude.{◌≡◌, ℕ, Bool, true, false, List, [], ◌∷◌, ◌++◌, Option, Some, Result, Ok, Err, IfSome, IsSomeAnd, count_by}
 use Rattle.block_buffers.specs.declared.devices.DeviceFault.{DeviceFault}
-use Rattle.block_buffers.specs.Disks.{Disk, succeeds, block_at, called, written}
+use Rattle.block_buffers.specs.Disks.{Disk, succeeds, block_at, called, with_block}
 
 -- a call joins the list of calls, as one that failed exactly where it did
 abbrev pub Logs : List Bool → List Bool → Result Unit DeviceFault → Type 0
@@ -19,7 +19,7 @@ Reads disk block new page (Err _) = (succeeds disk block ≡ false) × (new ≡ 
 
 -- a write that succeeds changes its block alone, to the bytes handed in; one that fails changes none
 abbrev pub Writes : Disk → ℕ → List ℕ → Option Disk → Result Unit DeviceFault → Type 0
-Writes disk block page new (Ok _) = (succeeds disk block ≡ true) × (new ≡ Some (written disk block page))
+Writes disk block page new (Ok _) = (succeeds disk block ≡ true) × (new ≡ Some (with_block disk block page))
 Writes disk block page new (Err _) = (succeeds disk block ≡ false) × (new ≡ Some (called disk))
 
 -- where the blocks are told, they are the same after

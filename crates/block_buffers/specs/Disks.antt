@@ -23,5 +23,5 @@ abbrev pub called : Disk → Disk
 called disk = record { blocks = disk.blocks; coming = drop 1 disk.coming }
 
 -- the disk after a write: that block alone is the bytes handed in
-abbrev pub written : Disk → ℕ → List ℕ → Disk
-written disk block page = record { blocks = slice_set disk.blocks block page; coming = drop 1 disk.coming }
+abbrev pub with_block : Disk → ℕ → List ℕ → Disk
+with_block disk block page = record { blocks = slice_set disk.blocks block page; coming = drop 1 disk.coming }

@@ -1,5 +1,5 @@
 //! Devices of blocks.
-ghost use Rattle.std.specs.Prelude.{◌≡◌, ◌≤◌, Bool, List, Option, length, IfSome, OnErr};
+ghost use Rattle.std.specs.Prelude.{◌≡◌, ◌≤◌, ℕ, Bool, List, Option, length, IfSome, OnErr};
 
 /// How many bytes a block has.
 pub const BLOCK_SIZE: usize = 1024;
@@ -20,8 +20,12 @@ pub trait Device {
     // for each call so far, in order, whether it failed
     ghost calls: { Self → List Bool };
 
+    // how many blocks it has
+    ghost block_count: { Self → ℕ };
+
     /// How many blocks there are, at most 65,536.
     fn count(&self) -> u32
+        ensures value { result ≡ block_count self.now }
         ensures bound { result ≤ 65536 }
         ensures told { IfSome (disk self.now) (λ d. result ≡ length d.blocks) };
 

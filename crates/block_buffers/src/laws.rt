@@ -2,7 +2,7 @@
 ghost use Rattle.std.specs.Prelude.{◌≡◌, ◌≢◌, ℕ, ◌+◌, ◌<◌, ◌≤◌, ◌∷◌, List, Some, IsTrue, IsFalse, remove, IsPermutation, count_by, length};
 ghost use Rattle.block_buffers.specs.declared.entry.Entry.{Entry};
 ghost use Rattle.block_buffers.specs.Entries.{start, is_in, entry_at, victim, holds, slot_of, moved_front, after_references, assigned, front_marked, cleaned, unmarked, unassigned, has_updated, first_updated, AreBuffers, HasNoBlockTwice, IsLowestUpdated};
-ghost use Rattle.block_buffers.specs.Disks.{Disk, block_at, written};
+ghost use Rattle.block_buffers.specs.Disks.{Disk, block_at, with_block};
 ghost use Rattle.block_buffers.specs.Screens.{IsScreen, IsLine, blank_line, blank_screen, line_at, with_line, line_inserted, line_deleted};
 
 use crate::buffers::Buffers;
@@ -69,9 +69,9 @@ pub fn four_buffers_law()
 
 /// A write changes its block alone, to the bytes handed in.
 pub fn written_law()
-    ensures block { (d : Disk) (n : ℕ) (page : List ℕ) → n < length d.blocks → block_at (written d n page).blocks n ≡ page }
-    ensures others { (d : Disk) (n m : ℕ) (page : List ℕ) → m ≢ n → block_at (written d n page).blocks m ≡ block_at d.blocks m }
-    ensures count { (d : Disk) (n : ℕ) (page : List ℕ) → length (written d n page).blocks ≡ length d.blocks }
+    ensures block { (d : Disk) (n : ℕ) (page : List ℕ) → n < length d.blocks → block_at (with_block d n page).blocks n ≡ page }
+    ensures others { (d : Disk) (n m : ℕ) (page : List ℕ) → m ≢ n → block_at (with_block d n page).blocks m ≡ block_at d.blocks m }
+    ensures count { (d : Disk) (n : ℕ) (page : List ℕ) → length (with_block d n page).blocks ≡ length d.blocks }
 {}
 
 /// A screen is its sixteen lines: two screens with the same lines are the same.

@@ -68,6 +68,8 @@ impl Device for MemoryDevice {
 
     ghost calls = { λ d. d.log.calls };
 
+    ghost block_count = { λ d. vec_len d.blocks };
+
     fn count(&self) -> u32 {
         self.blocks.len() as u32
     }

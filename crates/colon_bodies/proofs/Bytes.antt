@@ -7,7 +7,7 @@ use Rattle.colon_bodies.specs.Tree.{Body, Empty, Call, Tick, Pair, Literal, Doub
 use Rattle.colon_bodies.specs.Code.{size, code, all_code, thread}
 use Rattle.memory.specs.Bytes.{cell_bytes}
 use Rattle.colon_bodies.specs.Tokens.{text_control, loop_control}
-use Rattle.colon_bodies.specs.Plain.{AreApart, IsPlainCell, IsPlainBody, IsPlain}
+use Rattle.colon_bodies.specs.Plain.{AreApart, IsPlainCell, IsPlainBody, IsPlainDefinition}
 use Rattle.colon_bodies.specs.Instructions.{Instr, ICall, INum, ICompile, IText, IQuery, IBranch, IDo, ILoop, IDoes, flat, flat_all}
 use Rattle.colon_bodies.specs.Found.{Off, First, Peel, peel, with_cell, is_cell, pick, controls, of_control, chosen, off, first, with_first, and_more, instrs, before_exit, before_last, built_of, found}
 use Rattle.colon_bodies.proofs.Cells.{length-cell}
@@ -94,7 +94,7 @@ plain_flat rt (While t a b) at h =
 plain_flat rt (Loop t a k) at h =
     let p = at + size t in plain-append rt (flat t at) _ (plain_flat rt t at h.0) (h.1, plain-append rt (flat a (p + 4)) _ (plain_flat rt a (p + 4) h.2) (h.3, tt))
 
-pub plain_all : (rt : ℕ → ℕ) (d : Definition) (at : ℕ) → IsPlain rt d → ArePlain rt (flat_all d at)
+pub plain_all : (rt : ℕ → ℕ) (d : Definition) (at : ℕ) → IsPlainDefinition rt d → ArePlain rt (flat_all d at)
 plain_all rt (Simple t) at h = plain_flat rt t at h
 plain_all rt (Doing t a) at h = plain-append rt (flat t at) _ (plain_flat rt t at h.0) (h.1, plain_flat rt a (at + (size t + 2)) h.2)
 
@@ -214,11 +214,11 @@ module _ (rt : ℕ → ℕ) (d : AreApart rt) where
       cc
 
   -- No bytes are the code of two plain definitions.
-  pub one_code : (t u : Definition) (at : ℕ) → IsPlain rt t → IsPlain rt u → all_code rt t at ≡ all_code rt u at → t ≡ u
+  pub one_code : (t u : Definition) (at : ℕ) → IsPlainDefinition rt t → IsPlainDefinition rt u → all_code rt t at ≡ all_code rt u at → t ≡ u
   one_code t u at h k e =
       one_tree rt t u at h k (one_flat (flat_all t at) (flat_all u at) (plain_all rt t at h) (plain_all rt u at k) (all_code_is rt t at ∙ e ∙ sym (all_code_is rt u at)))
 
-  pub one_thread : (t u : Definition) (at : ℕ) → IsPlain rt t → IsPlain rt u → thread rt t at ≡ thread rt u at → t ≡ u
+  pub one_thread : (t u : Definition) (at : ℕ) → IsPlainDefinition rt t → IsPlainDefinition rt u → thread rt t at ≡ thread rt u at → t ≡ u
   one_thread t u at h k e = one_code t u at h k (append_cancel_right _ _ _ e)
 
   -- the bytes of plain instructions are taken apart again
@@ -256,7 +256,7 @@ module _ (rt : ℕ → ℕ) (d : AreApart rt) where
   exit_plain = λ k a b h n e. let q = d.apart k 5 (omega (arith, a)) (omega (arith, b)) (omega arith) (omega arith) n (sym e) in omega (arith, a, q)
 
   -- A plain definition is found again in its thread.
-  pub found_again : (t : Definition) (at : ℕ) → IsPlain rt t → found rt (thread rt t at) at ≡ Some t
+  pub found_again : (t : Definition) (at : ℕ) → IsPlainDefinition rt t → found rt (thread rt t at) at ≡ Some t
   found_again t at h =
       let is = flat_all t at in
       let e = rt 5 in

@@ -4,7 +4,7 @@ use Rattle.std.proofs.Math.Dec.{ltb}
 use Rattle.std.proofs.lemmas.Bool.{le-ltb, lt-ltb}
 use Rattle.colon_bodies.specs.Tree.{Body, Empty, Call, Tick, Pair, Literal, Double, Text, IfThen, IfElse, Until, Again, While, Loop, Definition, Simple, Doing}
 use Rattle.colon_bodies.specs.Code.{size}
-use Rattle.colon_bodies.specs.Plain.{IsPlainBody, IsPlain}
+use Rattle.colon_bodies.specs.Plain.{IsPlainBody, IsPlainDefinition}
 use Rattle.colon_bodies.specs.Instructions.{Instr, ICall, INum, ICompile, IText, IQuery, IBranch, IDo, ILoop, IDoes, len, flat, flat_all}
 use Rattle.colon_bodies.specs.Structures.{join, Cut, Nowhere, Between, onto, cut_last, split, Frames, FTop, FPast, FIf, FElse, FDo, In, shut, until_at, again_at, while_at, else_at, repeat_at, step, went, onward, done, run}
 
@@ -265,7 +265,7 @@ run_flat rt (Loop t a y) f c here rest pl k =
     ∙ takes (ILoop y (p + 4)) rest g f a (Loop x a y) q n n (omega arith) tt refl (omega arith)
 
 -- the whole definition comes out again
-pub run_all : (rt : ℕ → ℕ) (d : Definition) (at : ℕ) → IsPlain rt d → run (flat_all d at) FTop Empty at ≡ Some d
+pub run_all : (rt : ℕ → ℕ) (d : Definition) (at : ℕ) → IsPlainDefinition rt d → run (flat_all d at) FTop Empty at ≡ Some d
 run_all rt (Simple t) at h =
     ap (λ l. run l FTop Empty at) (sym (append-nil (flat t at))) ∙ run_flat rt t FTop Empty at [] h tt ∙ ap (λ u. Some (Simple u)) (join-empty t)
 run_all rt (Doing t a) at h =
@@ -278,5 +278,5 @@ run_all rt (Doing t a) at h =
     ∙ ap (λ u. Some (Doing t u)) (join-empty a)
 
 -- No two definitions have the same instructions.
-pub one_tree : (rt : ℕ → ℕ) (t u : Definition) (at : ℕ) → IsPlain rt t → IsPlain rt u → flat_all t at ≡ flat_all u at → t ≡ u
+pub one_tree : (rt : ℕ → ℕ) (t u : Definition) (at : ℕ) → IsPlainDefinition rt t → IsPlainDefinition rt u → flat_all t at ≡ flat_all u at → t ≡ u
 one_tree rt t u at k l e = let h : Some t ≡ Some u = sym (run_all rt t at k) ∙ ap (λ l. run l FTop Empty at) e ∙ run_all rt u at l in cc

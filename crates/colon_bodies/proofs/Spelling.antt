@@ -4,7 +4,7 @@ use Rattle.colon_bodies.specs.Tokens.{Token, NAME}
 use Rattle.colon_bodies.specs.Tree.{named, words, all_words, Body, Empty, Call, Tick, Pair, Literal, Double, Text, IfThen, IfElse, Until, Again, While, Loop, Definition, Simple, Doing}
 use Rattle.colon_bodies.specs.Code.{size, code, thread}
 use Rattle.memory.specs.Bytes.{cell_bytes}
-use Rattle.colon_bodies.specs.Plain.{IsPlainBody, IsPlain, spelled, all_spelled, respelled}
+use Rattle.colon_bodies.specs.Plain.{IsPlainBody, IsPlainDefinition, spelled, all_spelled, respelled}
 
 pub spelled_size : (f : ℕ → Bool) (t : Body) → size (spelled f t) ≡ size t
 spelled_size f Empty = refl
@@ -62,6 +62,6 @@ spelled_words rt f (Again t a) h = simp (respelled-append, spelled_words rt f t 
 spelled_words rt f (While t a b) h = simp (respelled-append, spelled_words rt f t h.0, spelled_words rt f a h.1, spelled_words rt f b h.3)
 spelled_words rt f (Loop t a k) h = simp (respelled-append, spelled_words rt f t h.0, spelled_words rt f a h.2)
 
-pub all_spelled_words : (rt : ℕ → ℕ) (f : ℕ → Bool) (d : Definition) → IsPlain rt d → all_words (all_spelled f d) ≡ respelled f (all_words d)
+pub all_spelled_words : (rt : ℕ → ℕ) (f : ℕ → Bool) (d : Definition) → IsPlainDefinition rt d → all_words (all_spelled f d) ≡ respelled f (all_words d)
 all_spelled_words rt f (Simple t) h = spelled_words rt f t h
 all_spelled_words rt f (Doing t a) h = simp (respelled-append, spelled_words rt f t h.0, spelled_words rt f a h.2)

@@ -14,7 +14,7 @@ use Rattle.memory.specs.Bytes.{cell_bytes}
 use Rattle.colon_bodies.specs.Rules.{IsKnown, AreKnown, half_after, half_of, suits, has_does}
 use Rattle.colon_bodies.specs.Faults.{Begins, BeginsShallow, Applies, rank, FirstCause}
 use Rattle.colon_bodies.specs.Open.{Outer, Top, Past, InIf, InElse, InBegin, InWhile, InDo, State, At, outer_words, half_words, open_words, complete, fit, read, whole, past, past_after, frames, open_depth, outer_size, half_size, open_size}
-use Rattle.colon_bodies.specs.Draft.{marks_of, Drafted, Drafts, After, Goes, Ends, opener}
+use Rattle.colon_bodies.specs.Draft.{marks_of, Drafted, Drafts, After, Goes, Finishes, opener}
 use Rattle.colon_bodies.proofs.Cells.{length-cell}
 use Rattle.colon_bodies.proofs.Reading.{read_words, begins, begins_any, unfit, too_deep, state_at, completed_open, whole_words, whole_depth}
 use Rattle.colon_bodies.proofs.Laying.{drafted_length}
@@ -497,7 +497,7 @@ end_full rt at limit o t h image new marks control s f k known d i over =
     let l : laid (open_words o t h ++ SEMI ∷ []) ≡ open_size o t h + 2 = laid-append (open_words o t h) (SEMI ∷ []) ∙ omega (arith, laid-open o t h) in
     full rt at limit (open_words o t h) SEMI (end_placed o t h x.0 s (ap (whole o t) e ∙ x.1) k) known tt (omega arith)
 
-pub end_ok : (rt : ℕ → ℕ) (at limit : ℕ) (o : Outer) (t : Body) (h : Half) (image new : List ℕ) (marks : List Mark) (control : ℕ) → suits h SEMI ≡ true → frames o ≡ 0 → IsKnown rt SEMI → rt 5 ≡ control → Drafted rt at o t h image marks → new ≡ image ++ cell_bytes control → at + length new ≤ limit → Ends rt at limit o t h new
+pub end_ok : (rt : ℕ → ℕ) (at limit : ℕ) (o : Outer) (t : Body) (h : Half) (image new : List ℕ) (marks : List Mark) (control : ℕ) → suits h SEMI ≡ true → frames o ≡ 0 → IsKnown rt SEMI → rt 5 ≡ control → Drafted rt at o t h image marks → new ≡ image ++ cell_bytes control → at + length new ≤ limit → Finishes rt at limit o t h new
 end_ok rt at limit o t h image new marks control s f known r d i room' =
     let e = semi_free h s in
     let x = closed_is o t f in

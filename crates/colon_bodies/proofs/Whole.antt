@@ -11,7 +11,7 @@ use Rattle.colon_bodies.specs.Code.{all_code}
 use Rattle.colon_bodies.specs.Rules.{AreKnown}
 use Rattle.colon_bodies.specs.Faults.{BeginsShallow, IsFront, FirstCause, IsFault}
 use Rattle.colon_bodies.specs.Open.{Top, open_words}
-use Rattle.colon_bodies.specs.Draft.{Goes, Ends, Progress, Compiled}
+use Rattle.colon_bodies.specs.Draft.{Goes, Finishes, Progress, Compiled}
 use Rattle.colon_bodies.proofs.Reading.{read_words, begins, accept_open, accept_all, accept, whole_words, whole_depth}
 use Rattle.colon_bodies.proofs.Laying.{drafted_length, length-all}
 use Rattle.colon_bodies.proofs.Cells.{length-cell}
@@ -93,7 +93,7 @@ pub word_faults : (rt : ℕ → ℕ) (at limit : ℕ) (source done after : List 
 word_faults rt at limit source done after w place e d p s n c =
     faults rt at limit source done after w place e s n (fronts rt at limit done d p) (subst (λ l. (e ≡ r.Memory) ⊎ FirstCause rt at limit e l w) (sym p.front) c)
 
-pub ends : (rt : ℕ → ℕ) (at limit : ℕ) (source done after : List Token) (w : Token) (place : ℕ) (d : Draft) (new : List ℕ) (p : Progress rt at limit done d) → source ≡ done ++ w ∷ after → place ≡ length done → w ≡ SEMI → Ends rt at limit p.outer p.body p.half new → Compiled rt at limit source new (place + 1)
+pub ends : (rt : ℕ → ℕ) (at limit : ℕ) (source done after : List Token) (w : Token) (place : ℕ) (d : Draft) (new : List ℕ) (p : Progress rt at limit done d) → source ≡ done ++ w ∷ after → place ≡ length done → w ≡ SEMI → Finishes rt at limit p.outer p.body p.half new → Compiled rt at limit source new (place + 1)
 ends rt at limit source done after w place d new p s n z h =
     let b = h.body in
     let q : done ≡ all_words b = p.front ∙ whole_words p.outer p.body p.half b h.is in

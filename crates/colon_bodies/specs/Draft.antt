@@ -123,7 +123,7 @@ opener DO = true
 opener _ = false
 
 -- what ; makes of a draft
-pub record Ends (rt : ℕ → ℕ) (at limit : ℕ) (o : Outer) (t : Body) (h : Half) (image : List ℕ) : Type 0 where
+pub record Finishes (rt : ℕ → ℕ) (at limit : ℕ) (o : Outer) (t : Body) (h : Half) (image : List ℕ) : Type 0 where
   pub body : Definition
   pub is : whole o t h ≡ Some body
   pub bytes : image ≡ thread rt body at
@@ -131,7 +131,7 @@ pub record Ends (rt : ℕ → ℕ) (at limit : ℕ) (o : Outer) (t : Body) (h : 
   pub room : at + length image ≤ limit
 
 abbrev pub Ended : (ℕ → ℕ) → ℕ → ℕ → Outer → Body → Half → Result (Unit {0}) BodyCause → List ℕ → Type 0
-Ended rt at limit o t h (Ok u) image = Ends rt at limit o t h image
+Ended rt at limit o t h (Ok u) image = Finishes rt at limit o t h image
 Ended rt at limit o t h (Err e) image = (e ≡ r.Memory) ⊎ FirstCause rt at limit e (open_words o t h) SEMI
 
 -- how far a source was read

@@ -27,9 +27,9 @@ IsPlainBody rt (While t a b) = IsPlainBody rt t × IsPlainBody rt a × (rt 8 ≢
 IsPlainBody rt (Loop t a k) = IsPlainBody rt t × (rt 9 ≢ 0) × IsPlainBody rt a × (rt (loop_control k) ≢ 0)
 IsPlainBody rt (Text t k bs) = IsPlainBody rt t × (rt (text_control k) ≢ 0)
 
-abbrev pub IsPlain : (ℕ → ℕ) → Definition → Type 0
-IsPlain rt (Simple t) = IsPlainBody rt t
-IsPlain rt (Doing t a) = IsPlainBody rt t × (rt 18 ≢ 0) × IsPlainBody rt a
+abbrev pub IsPlainDefinition : (ℕ → ℕ) → Definition → Type 0
+IsPlainDefinition rt (Simple t) = IsPlainBody rt t
+IsPlainDefinition rt (Doing t a) = IsPlainBody rt t × (rt 18 ≢ 0) × IsPlainBody rt a
 
 -- the same body, with the names forced that a test picks
 abbrev pub spelled : (ℕ → Bool) → Body → Body

@@ -5,7 +5,7 @@ ghost use Rattle.colon_bodies.specs.Tokens.{Token};
 ghost use Rattle.colon_bodies.specs.Tree.{Definition, all_words};
 ghost use Rattle.colon_bodies.specs.Code.{thread};
 ghost use Rattle.colon_bodies.specs.Found.{found};
-ghost use Rattle.colon_bodies.specs.Plain.{AreApart, IsPlain, all_spelled, respelled};
+ghost use Rattle.colon_bodies.specs.Plain.{AreApart, IsPlainDefinition, all_spelled, respelled};
 ghost use Rattle.colon_bodies.specs.Faults.{IsGood, IsFault};
 ghost use Rattle.colon_bodies.specs.declared.fault.BodyCause.{BodyCause};
 ghost use Rattle.colon_bodies.specs.declared.fault.BodyCause.TheVariants.{Memory};
@@ -22,7 +22,7 @@ pub fn good_has_no_fault()
 
 /// No bytes are the threads of two plain definitions.
 pub fn one_thread()
-    ensures { (rt : ℕ → ℕ) (t u : Definition) (at : ℕ) → AreApart rt → IsPlain rt t → IsPlain rt u → thread rt t at ≡ thread rt u at → t ≡ u }
+    ensures { (rt : ℕ → ℕ) (t u : Definition) (at : ℕ) → AreApart rt → IsPlainDefinition rt t → IsPlainDefinition rt u → thread rt t at ≡ thread rt u at → t ≡ u }
 {}
 
 /// A source has one first fault at most; want of memory aside.
@@ -37,10 +37,10 @@ pub fn spelled_thread()
 
 /// The words of the same definition with forced names.
 pub fn spelled_words()
-    ensures { (rt : ℕ → ℕ) (f : ℕ → Bool) (d : Definition) → IsPlain rt d → all_words (all_spelled f d) ≡ respelled f (all_words d) }
+    ensures { (rt : ℕ → ℕ) (f : ℕ → Bool) (d : Definition) → IsPlainDefinition rt d → all_words (all_spelled f d) ≡ respelled f (all_words d) }
 {}
 
 /// A plain definition is found again in its thread.
 pub fn found_again()
-    ensures { (rt : ℕ → ℕ) → AreApart rt → (t : Definition) (at : ℕ) → IsPlain rt t → found rt (thread rt t at) at ≡ Some t }
+    ensures { (rt : ℕ → ℕ) → AreApart rt → (t : Definition) (at : ℕ) → IsPlainDefinition rt t → found rt (thread rt t at) at ≡ Some t }
 {}

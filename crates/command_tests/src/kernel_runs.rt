@@ -29,6 +29,8 @@ impl Device for Watched {
 
     ghost calls = { λ d. ⟦<MemoryDevice as Device>⟧.calls d.inner };
 
+    ghost block_count = { λ d. ⟦<MemoryDevice as Device>⟧.block_count d.inner };
+
     fn count(&self) -> u32 {
         self.inner.count()
     }

@@ -11,11 +11,11 @@ use Rattle.inner_interpreter.specs.declared.stop.Stop.{Stop}
 use Rattle.inner_interpreter.specs.declared.stop.Stop.TheVariants as stop
 use Rattle.inner_interpreter.specs.declared.tracing.Extent.{Extent}
 use Rattle.inner_interpreter.specs.State.{State}
-use Rattle.inner_interpreter.specs.Answer.{InputFault, asked_by, fits}
+use Rattle.inner_interpreter.specs.Answer.{InputFault, asked_by, is_answer}
 use Rattle.inner_interpreter.specs.Runs.{World, rounds, stops, stop_by, stop_of}
 use Rattle.inner_interpreter.specs.Sent.{AppendsPart}
 use Rattle.inner_interpreter.specs.Served.{is_input_fault}
-use Rattle.inner_interpreter.specs.Tracing.{is_met, AddsLine, IsDue, Made, MadeCut, MadeTraced, EndsTraced, EndsCutTraced, EndsFaultedTraced, EndsUntraced, Finishes, line_next, line_of, trace}
+use Rattle.inner_interpreter.specs.Tracing.{is_met, AddsLine, IsDue, Reached, ReachedCut, MadeTraced, EndsTraced, EndsCutTraced, EndsFaultedTraced, EndsUntraced, Finishes, line_next, traced_line, trace}
 use Rattle.inner_interpreter.specs.Worlds.{IsAt, IsFaulted}
 use Rattle.inner_interpreter.proofs.Running.{kept_at, kept_cut}
 use Rattle.inner_interpreter.proofs.Sending.{appends_both}
@@ -32,17 +32,17 @@ appends_kept (Some os) (Some bs) None xs h k = absurd k
 appends_kept (Some os) (Some bs) (Some cs) xs h k = k ∙ h
 
 -- where the run goes on, the line is that of the state
-line_goes : (e : Extent) (line : Whole → List ℕ) (w : World) (s : State) → s ≡ w.state → stops w ≡ None → line_of e line w ≡ line_next e line s
-unfolding line_of
+line_goes : (e : Extent) (line : Whole → List ℕ) (w : World) (s : State) → s ≡ w.state → stops w ≡ None → traced_line e line w ≡ line_next e line s
+unfolding traced_line
 line_goes e line w s same goes = ap (λ o. if is_none o then line_next e line w.state else []) goes ∙ ap (line_next e line) (sym same)
 
 runs_at : (w : World) (s : State) (unread : Option (List ℕ)) (disk : Option Disk) (sent : Option (List ℕ)) (left : ℕ) → s.halt ≡ None → 0 < left → IsAt w s unread disk sent left → stops w ≡ None
 runs_at w s unread disk sent left halt some at = runs_on w (ap (λ (v : State). v.halt) (sym at.state_is) ∙ halt) (omega (arith, at.left_is, some))
 
 -- where a request stands, no line is due
-asked_line : (e : Extent) (line : Whole → List ℕ) (s : State) → fits (asked_by s.wait) InputFault ≡ true → line_next e line s ≡ []
+asked_line : (e : Extent) (line : Whole → List ℕ) (s : State) → is_answer (asked_by s.wait) InputFault ≡ true → line_next e line s ≡ []
 asked_line e line s h = by_wait (asked_by s.wait) h where
-  by_wait : (o : Option Request) → fits o InputFault ≡ true → (if is_none o && is_met e s.parts then line s.parts else []) ≡ []
+  by_wait : (o : Option Request) → is_answer o InputFault ≡ true → (if is_none o && is_met e s.parts then line s.parts else []) ≡ []
   by_wait None q = cc
   by_wait (Some r) q = refl
 
@@ -53,14 +53,14 @@ none_made e line w s unread disk sent left t at = (0, at, appends_none t)
 
 -- the trace of some rounds, and then of these
 more_trace : (e : Extent) (line : Whole → List ℕ) (w : World) (n m : ℕ) (ls : List ℕ) (t0 t1 t2 : Option (List ℕ))
-    → AddsLine e m (rounds n w) → line_of e line (rounds n w) ≡ ls → Appends t0 t1 (trace e line n w) → Appends t1 t2 ls → Appends t0 t2 (trace e line (m + n) w)
+    → AddsLine e m (rounds n w) → traced_line e line (rounds n w) ≡ ls → Appends t0 t1 (trace e line n w) → Appends t1 t2 ls → Appends t0 t2 (trace e line (m + n) w)
 more_trace e line w n m ls t0 t1 t2 adds same h k =
     let all : trace e line (m + n) w ≡ trace e line n w ++ ls = trace_add e line m n w ∙ ap (λ xs. trace e line n w ++ xs) (adds line ∙ same) in
     subst (Appends t0 t2) (sym all) (appends_both t0 t1 t2 (trace e line n w) ls h k)
 
 pub more_made : (e : Extent) (line : Whole → List ℕ) (w : World) (s s' : State) (unread unread' : Option (List ℕ)) (disk disk' : Option Disk) (sent sent' : Option (List ℕ)) (left left' : ℕ) (t0 t1 t2 : Option (List ℕ))
     → s.halt ≡ None → 0 < left → Appends t1 t2 (line_next e line s)
-    → ((v : World) → IsAt v s unread disk sent left → Made e v s' unread' disk' sent' left')
+    → ((v : World) → IsAt v s unread disk sent left → Reached e v s' unread' disk' sent' left')
     → MadeTraced e line w s unread disk sent left t0 t1 → MadeTraced e line w s' unread' disk' sent' left' t0 t2
 more_made e line w s s' unread unread' disk disk' sent sent' left left' t0 t1 t2 halt some told step made =
     let v = rounds made.0 w in
@@ -116,7 +116,7 @@ made_untraced e line w s unread disk sent t0 t2 r ended = record {
   count = ended.ends.count;
   at = ended.ends.at;
   front = [];
-  back = line_of e line (rounds ended.ends.count w);
+  back = traced_line e line (rounds ended.ends.count w);
   line_is = refl;
   trace_is = subst (Appends t0 t2) (sym (append-nil (trace e line ended.ends.count w))) ended.trace_is;
   due = inl (subst IsSome (sym ended.ends.stops_so) refl);
@@ -146,8 +146,8 @@ pub line_untraced : (e : Extent) (line : Whole → List ℕ) (w : World) (s : St
 line_untraced e line w s unread disk sent left t0 t1 t2 halt some told due made =
     let v = rounds made.0 w in
     let at = made.1 in
-    let same : line_of e line v ≡ line_next e line s = line_goes e line v s at.state_is (runs_at v s unread disk sent left halt some at) in
-    let part = part_behind t0 t1 t2 (trace e line made.0 w) (line_of e line v) made.2 (subst (AppendsPart t1 t2) (sym same) told) in
+    let same : traced_line e line v ≡ line_next e line s = line_goes e line v s at.state_is (runs_at v s unread disk sent left halt some at) in
+    let part = part_behind t0 t1 t2 (trace e line made.0 w) (traced_line e line v) made.2 (subst (AppendsPart t1 t2) (sym same) told) in
     record {
       count = made.0;
       at = record { state_is = at.state_is; unread_is = at.unread_is; disk_is = at.disk_is; sent_is = at.sent_is; left_is = refl };
@@ -160,7 +160,7 @@ line_untraced e line w s unread disk sent left t0 t1 t2 halt some told due made 
 
 pub rounds_cut : (e : Extent) (line : Whole → List ℕ) (w : World) (s s' : State) (unread unread' : Option (List ℕ)) (disk disk' : Option Disk) (sent sent' : Option (List ℕ)) (left : ℕ) (t0 t1 t2 : Option (List ℕ))
     → s.halt ≡ None → 0 < left → Appends t1 t2 (line_next e line s)
-    → ((v : World) → IsAt v s unread disk sent left → MadeCut e v s' unread' disk' sent')
+    → ((v : World) → IsAt v s unread disk sent left → ReachedCut e v s' unread' disk' sent')
     → MadeTraced e line w s unread disk sent left t0 t1 → EndsCutTraced e line w s' unread' disk' sent' t0 t2
 rounds_cut e line w s s' unread unread' disk disk' sent sent' left t0 t1 t2 halt some told step made =
     let v = rounds made.0 w in
@@ -176,7 +176,7 @@ pub rounds_faulted : (e : Extent) (line : Whole → List ℕ) (w : World) (s s' 
     → MadeTraced e line w s unread disk sent left t0 t1 → EndsFaultedTraced e line w s' unread' disk' sent' t0 t2
 rounds_faulted e line w s s' unread unread' disk disk' sent sent' left t0 t1 t2 told step made =
     let f = step (rounds made.0 w) made.1 in
-    let none : line_next e line s ≡ [] = asked_line e line s (ap (λ (v : State). fits (asked_by v.wait) InputFault) made.1.state_is ∙ f.asked) in
+    let none : line_next e line s ≡ [] = asked_line e line s (ap (λ (v : State). is_answer (asked_by v.wait) InputFault) made.1.state_is ∙ f.asked) in
     let all : trace e line made.0 w ++ [] ≡ trace e line made.0 w = append-nil (trace e line made.0 w) in
     record {
       faulted = record { count = made.0; faulted = f };

@@ -9,7 +9,7 @@ use Rattle.inner_interpreter.specs.declared.act.Cause.{Cause}
 use Rattle.inner_interpreter.specs.declared.act.Shown.{Shown}
 use Rattle.inner_interpreter.specs.declared.stop.Stop.{Stop}
 use Rattle.inner_interpreter.specs.State.{State}
-use Rattle.inner_interpreter.specs.Tick.{fault}
+use Rattle.inner_interpreter.specs.Tick.{by_fault}
 use Rattle.inner_interpreter.specs.Answer as answering
 use Rattle.inner_interpreter.specs.Answer.{Reply, asked_by, answered, answer_of, key_answered, line_answered, read_answered, write_answered}
 use Rattle.inner_interpreter.specs.Runs.{World, tick_round, answer_round, round_by, round, rounds, stops, stop_by, next_by, served}
@@ -22,8 +22,8 @@ use Rattle.inner_interpreter.proofs.Uniqueness.{stays}
 abbrev IsFree : State → Type 0
 IsFree s = s.wait ≡ None
 
-fault_none : (s : Whole) (shown : Shown) (f : ℕ) → (fault s shown f).0.wait ≡ None
-unfolding fault
+fault_none : (s : Whole) (shown : Shown) (f : ℕ) → (by_fault s shown f).0.wait ≡ None
+unfolding by_fault
 fault_none s shown f = either IsFree (cell s.memory FAULT == 0) _ _ refl refl
 
 answered_none : (s : Whole) (p : Request × ℕ) (reply : Reply) → (answered s p reply).0.wait ≡ None

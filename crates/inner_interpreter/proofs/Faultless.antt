@@ -17,9 +17,9 @@ use Rattle.inner_interpreter.specs.declared.act.Shown.{Shown}
 use Rattle.inner_interpreter.specs.declared.stop.Stop.{Stop}
 use Rattle.inner_interpreter.specs.declared.stop.Stop.TheVariants as stop
 use Rattle.inner_interpreter.specs.State.{State}
-use Rattle.inner_interpreter.specs.Tick.{taken, executed, fault, concluded, ticked, ran, is_quiet}
+use Rattle.inner_interpreter.specs.Tick.{taken, executed, by_fault, concluded, ticked, ran, is_quiet}
 use Rattle.inner_interpreter.specs.Answer as answering
-use Rattle.inner_interpreter.specs.Answer.{Reply, asked_by, fits, answered, answer_of, key_answered, line_answered, read_answered, write_answered}
+use Rattle.inner_interpreter.specs.Answer.{Reply, asked_by, is_answer, answered, answer_of, key_answered, line_answered, read_answered, write_answered}
 use Rattle.inner_interpreter.specs.Lines.{line_of, line_reply}
 use Rattle.inner_interpreter.specs.Served.{is_input_fault, HasNotFailed}
 use Rattle.inner_interpreter.specs.Runs.{World, Served, served, round_by, round, rounds, stops, stop_by, next_by}
@@ -38,8 +38,8 @@ as_test (Some cause.InputEnded) h = refl
 as_test (Some (cause.Fault f)) h = refl
 as_test None h = refl
 
-fault_read : (s : Whole) (shown : Shown) (f : ℕ) → HasRead (fault s shown f).0
-unfolding fault
+fault_read : (s : Whole) (shown : Shown) (f : ℕ) → HasRead (by_fault s shown f).0
+unfolding by_fault
 fault_read s shown f = either HasRead (cell s.memory FAULT == 0) _ _ (λ q. cc) (λ q. cc)
 
 concluded_read : (w : ℕ) (x : After) → HasRead (concluded w x).0
@@ -86,10 +86,10 @@ told_read old new act reply h q k =
 
 -- an answer that was taken, and tells of no failed reader
 pub told_ok : (old new : State) (reply : Reply) (r : Result Act Refused) (x : Act) → old.halt ≡ None
-    → (old.halt ≡ None → fits (asked_by old.wait) reply ≡ true → IsOkAnd r (λ act. (new, act) ≡ answer_of old reply))
-    → (old.halt ≡ None → fits (asked_by old.wait) reply ≡ false → IsErrOf r NotAsked)
+    → (old.halt ≡ None → is_answer (asked_by old.wait) reply ≡ true → IsOkAnd r (λ act. (new, act) ≡ answer_of old reply))
+    → (old.halt ≡ None → is_answer (asked_by old.wait) reply ≡ false → IsErrOf r NotAsked)
     → r ≡ Ok x → tells_fault reply ≡ false → HasNotFailed new
-told_ok old new reply r x h done refused e k = by_fits (fits (asked_by old.wait) reply) refl where
+told_ok old new reply r x h done refused e k = by_fits (is_answer (asked_by old.wait) reply) refl where
   taken_so : (r : Result Act Refused) → IsOkAnd r (λ act. (new, act) ≡ answer_of old reply) → HasNotFailed new
   taken_so (Ok act) q = told_read old new act reply h q k
   taken_so (Err refusal) q = absurd q
@@ -98,7 +98,7 @@ told_ok old new reply r x h done refused e k = by_fits (fits (asked_by old.wait)
   not_err (Ok act) q n = cc
   not_err (Err refusal) q n = cc
 
-  by_fits : (b : Bool) → fits (asked_by old.wait) reply ≡ b → HasNotFailed new
+  by_fits : (b : Bool) → is_answer (asked_by old.wait) reply ≡ b → HasNotFailed new
   by_fits true q = taken_so r (done h q)
   by_fits false q = not_err r e (refused h q)
 

@@ -12,7 +12,7 @@ use Rattle.inner_interpreter.specs.declared.act.Refused.{Refused}
 use Rattle.inner_interpreter.specs.declared.act.Refused.TheVariants.{Waiting, Halted, NotAsked}
 use Rattle.inner_interpreter.specs.State.{State}
 use Rattle.inner_interpreter.specs.Tick.{Runs, running, is_quiet, ran, ticked, IsRefused}
-use Rattle.inner_interpreter.specs.Answer.{asked_by, fits}
+use Rattle.inner_interpreter.specs.Answer.{asked_by, is_answer}
 use Rattle.inner_interpreter.specs.Moves.{Turn, Tick, Answer, shown_bytes}
 use Rattle.inner_interpreter.specs.Histories.{Made, Call, Ticked, Answered, ManyTicked, Ensures, IsHistory, acted, behind, made, moves_of, moves_made, seen_bytes, seen_events, takes, told_event}
 use Rattle.inner_interpreter.proofs.Quiet.{ticked_runs, quiet_shows}
@@ -98,18 +98,18 @@ one_call s t (Ticked (Ok act)) ts h =
     let P : State × Act → Type 0 = λ x. made s (Tick ∷ ts) ≡ behind (shown_bytes x.0.parts.memory x.1.shown) (told_event x.1.event) (made x.0 ts) in
     subst P (sym h.1) (taken_move s Tick ts (tick_taken s h.0))
 one_call s t (Ticked (Err refused)) ts h = left_move s Tick ts (tick_left s t refused h) ∙ ap (λ u. made u ts) (sym (stays_refused s t refused h))
-one_call s t (Answered reply (Ok act)) ts h = by_halt s.halt refl (fits (asked_by s.wait) reply) refl where
-  by_halt : (o : Option Cause) → s.halt ≡ o → (b : Bool) → fits (asked_by s.wait) reply ≡ b → made s (Answer reply ∷ ts) ≡ behind (shown_bytes t.parts.memory act.shown) (told_event act.event) (made t ts)
+one_call s t (Answered reply (Ok act)) ts h = by_halt s.halt refl (is_answer (asked_by s.wait) reply) refl where
+  by_halt : (o : Option Cause) → s.halt ≡ o → (b : Bool) → is_answer (asked_by s.wait) reply ≡ b → made s (Answer reply ∷ ts) ≡ behind (shown_bytes t.parts.memory act.shown) (told_event act.event) (made t ts)
   by_halt (Some c) q b f = let no : Ok act ≡ Err Halted = h.halted (rw q refl) in cc
   by_halt None q false f = let no : Ok act ≡ Err NotAsked = h.not_asked q f in cc
   by_halt None q true f =
       let P : State × Act → Type 0 = λ x. made s (Answer reply ∷ ts) ≡ behind (shown_bytes x.0.parts.memory x.1.shown) (told_event x.1.event) (made x.0 ts) in
       subst P (sym (h.done q f)) (taken_move s (Answer reply) ts (rw (q, f) refl))
-one_call s t (Answered reply (Err refused)) ts h = by_halt s.halt refl (fits (asked_by s.wait) reply) refl where
+one_call s t (Answered reply (Err refused)) ts h = by_halt s.halt refl (is_answer (asked_by s.wait) reply) refl where
   same : made s ts ≡ made t ts
   same = ap (λ u. made u ts) (sym h.stays)
 
-  by_halt : (o : Option Cause) → s.halt ≡ o → (b : Bool) → fits (asked_by s.wait) reply ≡ b → made s (Answer reply ∷ ts) ≡ behind [] [] (made t ts)
+  by_halt : (o : Option Cause) → s.halt ≡ o → (b : Bool) → is_answer (asked_by s.wait) reply ≡ b → made s (Answer reply ∷ ts) ≡ behind [] [] (made t ts)
   by_halt (Some c) q b f = left_move s (Answer reply) ts (rw q refl) ∙ same
   by_halt None q false f = left_move s (Answer reply) ts (rw (q, f) refl) ∙ same
   by_halt None q true f = absurd (h.done q f)

@@ -7,7 +7,7 @@ use Rattle.inner_interpreter.specs.declared.stop.Stop.{Stop}
 use Rattle.inner_interpreter.specs.declared.stop.Stop.TheVariants.{Limit}
 use Rattle.inner_interpreter.specs.State.{State}
 use Rattle.inner_interpreter.specs.Tick.{ran, ticked, is_quiet, running}
-use Rattle.inner_interpreter.specs.Answer.{Reply, fits, asked_by}
+use Rattle.inner_interpreter.specs.Answer.{Reply, is_answer, asked_by}
 use Rattle.inner_interpreter.specs.Moves.{Turn, Tick, Answer, after, turned, AreAccepted, device_call, device_calls, is_tick, ticks_in, answers_in, HasMoved, HasRun}
 use Rattle.inner_interpreter.specs.Served.{HasAnswered}
 use Rattle.inner_interpreter.specs.Worlds.{waiting}
@@ -16,9 +16,9 @@ use Rattle.inner_interpreter.proofs.Quiet.{ticked_runs}
 use Rattle.inner_interpreter.proofs.Ran.{ran_quiet, ran_loud}
 
 -- an answer fits only where a request stands
-asked_waits : (s : State) (reply : Reply) → fits (asked_by s.wait) reply ≡ true → waiting s.wait ≡ 1
+asked_waits : (s : State) (reply : Reply) → is_answer (asked_by s.wait) reply ≡ true → waiting s.wait ≡ 1
 asked_waits s reply h = by_wait s.wait h where
-  by_wait : (o : Option (Request × ℕ)) → fits (asked_by o) reply ≡ true → waiting o ≡ 1
+  by_wait : (o : Option (Request × ℕ)) → is_answer (asked_by o) reply ≡ true → waiting o ≡ 1
   by_wait None q = cc
   by_wait (Some p) q = refl
 

@@ -22,9 +22,9 @@ use Rattle.inner_interpreter.specs.declared.act.Cause.TheVariants.{Bye, Fault as
 use Rattle.inner_interpreter.specs.declared.act.Shown.TheVariants.{Nothing}
 use Rattle.inner_interpreter.specs.declared.act.Shown.{Shown}
 use Rattle.inner_interpreter.specs.State.{State, start}
-use Rattle.inner_interpreter.specs.Tick.{taken, thread, executed, faulted, fault, concluded, ticked, shown_span}
+use Rattle.inner_interpreter.specs.Tick.{taken, thread, executed, faulted, by_fault, concluded, ticked, shown_span}
 use Rattle.inner_interpreter.specs.Answer as answering
-use Rattle.inner_interpreter.specs.Answer.{Reply, block_of, answered, answer_of, asked_by, fits, fits_request, key_answered, line_answered, read_answered, write_answered}
+use Rattle.inner_interpreter.specs.Answer.{Reply, block_of, answered, answer_of, asked_by, is_answer, fits_request, key_answered, line_answered, read_answered, write_answered}
 use Rattle.inner_interpreter.specs.Moves.{Turn, Tick, Answer, Accepts, turned}
 use Rattle.inner_interpreter.specs.Requests.{IsOrderly}
 use Rattle.inner_interpreter.proofs.Shapes.{either, by_answer, is_taken}
@@ -33,8 +33,8 @@ use Rattle.inner_interpreter.proofs.Shapes.{either, by_answer, is_taken}
 unasked : (s : Whole) (c : Option Cause) → AreOrderly s.buffers → IsOrderly (record { parts = s; wait = None; halt = c })
 unasked s c h = record { buffers = h.buffers; once = h.once; absent = λ u w q. cc; held = λ u w q. cc; room = λ w q. cc; two = λ n w q. cc }
 
-faulted_orderly : (s : Whole) (shown : Shown) (f : ℕ) → AreOrderly s.buffers → IsOrderly (fault s shown f).0
-unfolding fault
+faulted_orderly : (s : Whole) (shown : Shown) (f : ℕ) → AreOrderly s.buffers → IsOrderly (by_fault s shown f).0
+unfolding by_fault
 faulted_orderly s shown f h = either IsOrderly (cell s.memory FAULT == 0) _ _ (unasked (faulted s f) (Some (FaultCause f)) h) (unasked (faulted s f) None h)
 
 -- no block is asked to be read that a buffer has
@@ -136,10 +136,10 @@ answered_orderly s p answering.WriteOk h a f =
     in unasked _ None (record { buffers = are_unmarked u s.buffers h.buffers; once = blocks_unmarked u s.buffers h.once })
 answered_orderly s p answering.WriteFault h a f = faulted_orderly s Nothing 10 h
 
-answer_orderly : (s : State) (reply : Reply) → fits (asked_by s.wait) reply ≡ true → IsOrderly s → IsOrderly (answer_of s reply).0
+answer_orderly : (s : State) (reply : Reply) → is_answer (asked_by s.wait) reply ≡ true → IsOrderly s → IsOrderly (answer_of s reply).0
 answer_orderly s reply f h =
     by_answer IsOrderly s reply
-    (λ p q. answered_orderly s.parts p reply (record { buffers = h.buffers; once = h.once }) (λ u w k. h.absent u w (q ∙ k)) (ap (λ (o : Option (Request × ℕ)). fits (asked_by o) reply) (sym q) ∙ f))
+    (λ p q. answered_orderly s.parts p reply (record { buffers = h.buffers; once = h.once }) (λ u w k. h.absent u w (q ∙ k)) (ap (λ (o : Option (Request × ℕ)). is_answer (asked_by o) reply) (sym q) ∙ f))
     (λ q. h)
 
 pub moved_orderly : (s : State) (t : Turn) → Accepts s t → IsOrderly s → IsOrderly (turned s t)

@@ -7,12 +7,12 @@ use Rattle.memory.specs.Bytes.{cell}
 use Rattle.inner_interpreter.specs.declared.act.Act.{Act}
 use Rattle.inner_interpreter.specs.declared.act.Shown.{Shown}
 use Rattle.inner_interpreter.specs.declared.act.Shown.TheVariants.{Nothing, Byte, Span, Line}
-use Rattle.inner_interpreter.specs.Tick.{ticked, taken, executed, concluded, fault, running, is_quiet}
+use Rattle.inner_interpreter.specs.Tick.{ticked, taken, executed, concluded, by_fault, running, is_quiet}
 use Rattle.inner_interpreter.specs.Moves.{shown_bytes}
 
 -- a fault is no quiet act
-at_fault : (s : Whole) (shown : Shown) (f : ℕ) (b : Bool) → (cell s.memory 40 == 0) ≡ b → is_quiet (fault s shown f).1 ≡ false
-unfolding fault
+at_fault : (s : Whole) (shown : Shown) (f : ℕ) (b : Bool) → (cell s.memory 40 == 0) ≡ b → is_quiet (by_fault s shown f).1 ≡ false
+unfolding by_fault
 at_fault s Nothing f true e = rw e refl
 at_fault s Nothing f false e = rw e refl
 at_fault s (Byte c) f true e = rw e refl
@@ -22,7 +22,7 @@ at_fault s (Span c) f false e = rw e refl
 at_fault s (Line c) f true e = rw e refl
 at_fault s (Line c) f false e = rw e refl
 
-fault_loud : (s : Whole) (shown : Shown) (f : ℕ) → is_quiet (fault s shown f).1 ≡ false
+fault_loud : (s : Whole) (shown : Shown) (f : ℕ) → is_quiet (by_fault s shown f).1 ≡ false
 fault_loud s shown f = at_fault s shown f (cell s.memory 40 == 0) refl
 
 -- behind a quiet act the machine runs

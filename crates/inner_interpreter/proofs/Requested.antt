@@ -22,8 +22,8 @@ use Rattle.primitives.proofs.Rows.{behaves_row}
 use Rattle.primitives.proofs.Requests.{answered as buffers_answered, left, left_most, left_same, fewer_requests}
 use Rattle.inner_interpreter.specs.declared.act.Shown.{Shown}
 use Rattle.inner_interpreter.specs.State.{State}
-use Rattle.inner_interpreter.specs.Tick.{taken, thread, executed, running, fault, concluded, ticked, Runs}
-use Rattle.inner_interpreter.specs.Answer.{fits, IsSpelled, answered, answer_of, asked_by, read_answered, write_answered}
+use Rattle.inner_interpreter.specs.Tick.{taken, thread, executed, running, by_fault, concluded, ticked, Runs}
+use Rattle.inner_interpreter.specs.Answer.{is_answer, IsSpelled, answered, answer_of, asked_by, read_answered, write_answered}
 use Rattle.inner_interpreter.specs.Moves.{Tick, Answer, turned}
 use Rattle.inner_interpreter.specs.Requests.{IsOrderly, asks_device, ok_to, AreAsked, IsPage, token_of, IsBelowBuffers}
 use Rattle.inner_interpreter.proofs.Orderly.{moved_orderly}
@@ -38,8 +38,8 @@ memory_behind _ s page = s.memory
 abbrev behind : ℕ → After → List ℕ → Whole
 behind w x page = record x.0 { memory = memory_behind x.1 x.0 page; buffers = buffers_answered x.1 x.0.buffers; pending = Some w }
 
-fault_asks_none : (s : Whole) (shown : Shown) (f : ℕ) → asks_device (asked_by (fault s shown f).0.wait) ≡ false
-unfolding fault
+fault_asks_none : (s : Whole) (shown : Shown) (f : ℕ) → asks_device (asked_by (by_fault s shown f).0.wait) ≡ false
+unfolding by_fault
 fault_asks_none s shown f = either (λ t. asks_device (asked_by t.wait) ≡ false) (cell s.memory FAULT == 0) _ _ refl refl
 
 concluded_asks : (w : ℕ) (x : After) → asks_device (asked_by (concluded w x).0.wait) ≡ true → device_asked x.1 ≡ true
@@ -144,7 +144,7 @@ nearer_token n w s page h l code below k asks =
     in let P : After → Type 0 = λ x. IsNearer n w s (behind w x page)
     in subst P (sym same) (nearer n w s page h l code below k (subst (λ (x : After). device_asked x.1 ≡ true) same asks))
 
-ok_fits : (r : Option Request) (page : List ℕ) → asks_device r ≡ true → fits r (ok_to r page) ≡ true
+ok_fits : (r : Option Request) (page : List ℕ) → asks_device r ≡ true → is_answer r (ok_to r page) ≡ true
 ok_fits None page q = cc
 ok_fits (Some request.Key) page q = cc
 ok_fits (Some (request.Line n)) page q = cc

@@ -8,8 +8,8 @@ use Rattle.plain_rows.specs.Whole.{Whole}
 use Rattle.inner_interpreter.specs.declared.stop.Stop.{Stop}
 use Rattle.inner_interpreter.specs.declared.tracing.Extent.{Extent}
 use Rattle.inner_interpreter.specs.Tick.{running, ticked}
-use Rattle.inner_interpreter.specs.Tracing.{AreUnmet, Made, MadeCut, line_next, line_of, trace}
-use Rattle.inner_interpreter.specs.Answer.{answer_of, asked_by, fits, InputFault}
+use Rattle.inner_interpreter.specs.Tracing.{AreUnmet, Reached, ReachedCut, line_next, traced_line, trace}
+use Rattle.inner_interpreter.specs.Answer.{answer_of, asked_by, is_answer, InputFault}
 use Rattle.inner_interpreter.specs.Lines.{IsLeft}
 use Rattle.inner_interpreter.specs.Moves.{shown_bytes}
 use Rattle.inner_interpreter.specs.Served.{Answered, served_move, Faults}
@@ -44,7 +44,7 @@ sent_kept (Some os) (Some ns) xs e h = ap (λ v. Some v) h ∙ e
 pub stretch_at : (e : Extent) (w : World) (s s' : State) (unread : Option (List ℕ)) (disk : Option Disk) (sent sent' : Option (List ℕ)) (left left' m : ℕ)
     → s.halt ≡ None → s.wait ≡ None → s' ≡ (stretch m s).1 → (stretch m s).0 ≡ m → 0 < m → m ≤ left → left' ≡ left - m → AreUnmet e (m - 1) (ticked s.parts).0.parts
     → Appends sent sent' (shown_bytes (stretch m s).1.parts.memory (stretch m s).2.shown)
-    → IsAt w s unread disk sent left → Made e w s' unread disk sent' left'
+    → IsAt w s unread disk sent left → Reached e w s' unread disk sent' left'
 stretch_at e w s s' unread disk sent sent' left left' m halt wait state all some most fewer unmet more at =
     let same : w.state ≡ running s.parts = sym at.state_is ∙ runs_running s halt wait in
     let fits : m ≤ w.left = omega (arith, at.left_is, most) in
@@ -63,7 +63,7 @@ stretch_at e w s s' unread disk sent sent' left left' m halt wait state all some
 pub stretch_cut : (e : Extent) (w : World) (s s' : State) (unread : Option (List ℕ)) (disk : Option Disk) (sent sent' : Option (List ℕ)) (left m : ℕ)
     → s.halt ≡ None → s.wait ≡ None → s' ≡ (stretch m s).1 → (stretch m s).0 ≡ m → 0 < m → m ≤ left → AreUnmet e (m - 1) (ticked s.parts).0.parts
     → AppendsPart sent sent' (shown_bytes (stretch m s).1.parts.memory (stretch m s).2.shown)
-    → IsAt w s unread disk sent left → MadeCut e w s' unread disk sent'
+    → IsAt w s unread disk sent left → ReachedCut e w s' unread disk sent'
 stretch_cut e w s s' unread disk sent sent' left m halt wait state all some most unmet more at =
     let same : w.state ≡ running s.parts = sym at.state_is ∙ runs_running s halt wait in
     let fits : m ≤ w.left = omega (arith, at.left_is, most) in
@@ -93,7 +93,7 @@ goes_at w s unread disk sent left halt some at =
     one_round w (ap (λ (v : State). v.halt) (sym at.state_is) ∙ halt) (omega (arith, at.left_is))
 
 pub answer_at : (e : Extent) (w : World) (s s' : State) (r : Request) (unread unread' : Option (List ℕ)) (disk disk' : Option Disk) (sent sent' : Option (List ℕ)) (left : ℕ)
-    → s.halt ≡ None → 0 < left → asked_by s.wait ≡ Some r → Tells s r unread disk s' unread' disk' (Appends sent sent') → IsAt w s unread disk sent left → Made e w s' unread' disk' sent' left
+    → s.halt ≡ None → 0 < left → asked_by s.wait ≡ Some r → Tells s r unread disk s' unread' disk' (Appends sent sent') → IsAt w s unread disk sent left → Reached e w s' unread' disk' sent' left
 answer_at e w s s' r unread unread' disk disk' sent sent' left halt some asks told at =
     let same : s ≡ w.state = at.state_is in
     let q : asked_by w.state.wait ≡ Some r = ap (λ (v : State). asked_by v.wait) (sym same) ∙ asks in
@@ -108,7 +108,7 @@ answer_at e w s s' r unread unread' disk disk' sent sent' left halt some asks to
     (1, adds_one e w, rw (goes_at w s unread disk sent left halt some at ∙ round_answer w r q) made)
 
 pub answer_cut : (e : Extent) (w : World) (s s' : State) (r : Request) (unread unread' : Option (List ℕ)) (disk disk' : Option Disk) (sent sent' : Option (List ℕ)) (left : ℕ)
-    → s.halt ≡ None → 0 < left → asked_by s.wait ≡ Some r → Tells s r unread disk s' unread' disk' (AppendsPart sent sent') → IsAt w s unread disk sent left → MadeCut e w s' unread' disk' sent'
+    → s.halt ≡ None → 0 < left → asked_by s.wait ≡ Some r → Tells s r unread disk s' unread' disk' (AppendsPart sent sent') → IsAt w s unread disk sent left → ReachedCut e w s' unread' disk' sent'
 answer_cut e w s s' r unread unread' disk disk' sent sent' left halt some asks told at =
     let same : s ≡ w.state = at.state_is in
     let q : asked_by w.state.wait ≡ Some r = ap (λ (v : State). asked_by v.wait) (sym same) ∙ asks in
@@ -138,8 +138,8 @@ kept_cut w s unread disk sent sent' left k at = record {
 }
 
 -- nothing is traced where a request stands
-line_asked : (e : Extent) (line : Whole → List ℕ) (w : World) (r : Request) → asked_by w.state.wait ≡ Some r → line_of e line w ≡ []
-unfolding line_of
+line_asked : (e : Extent) (line : Whole → List ℕ) (w : World) (r : Request) → asked_by w.state.wait ≡ Some r → traced_line e line w ≡ []
+unfolding traced_line
 line_asked e line w r q = by_stop (stops w) where
   by_stop : (o : Option Stop) → (if is_none o then line_next e line w.state else []) ≡ []
   by_stop None = rw q refl
@@ -147,7 +147,7 @@ line_asked e line w r q = by_stop (stops w) where
 
 -- no round was made, and the writer failed in passing on
 pub flush_cut : (e : Extent) (w : World) (s : State) (unread : Option (List ℕ)) (disk : Option Disk) (sent sent' : Option (List ℕ)) (left : ℕ)
-    → (r : Request) → asked_by s.wait ≡ Some r → Keeps sent sent' → IsAt w s unread disk sent left → MadeCut e w s unread disk sent'
+    → (r : Request) → asked_by s.wait ≡ Some r → Keeps sent sent' → IsAt w s unread disk sent left → ReachedCut e w s unread disk sent'
 unfolding rounds trace
 flush_cut e w s unread disk sent sent' left r asks k at =
     let q : asked_by w.state.wait ≡ Some r = ap (λ (v : State). asked_by v.wait) (sym at.state_is) ∙ asks in
@@ -171,7 +171,7 @@ faulted_at w s s' r unread unread' disk disk' sent sent' left halt some asks los
       let q : asked_by w.state.wait ≡ Some r = ap (λ (v : State). asked_by v.wait) (sym at.state_is) ∙ asks in
       subst (λ o. IsLeft o w.typed unread') (sym q) (lost w.typed at.unread_is);
   goes = runs_on w (ap (λ (v : State). v.halt) (sym at.state_is) ∙ halt) (omega (arith, at.left_is));
-  asked = ap (λ (v : State). fits (asked_by v.wait) InputFault) (sym at.state_is) ∙ f.asked;
+  asked = ap (λ (v : State). is_answer (asked_by v.wait) InputFault) (sym at.state_is) ∙ f.asked;
   state_is = f.state_is ∙ ap (λ v. (answer_of v InputFault).0) at.state_is;
   disk_is = d ∙ at.disk_is;
   sent_is = t ∙ at.sent_is;

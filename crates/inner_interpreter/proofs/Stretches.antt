@@ -9,7 +9,7 @@ use Rattle.inner_interpreter.specs.Moves.{shown_bytes}
 use Rattle.inner_interpreter.specs.declared.stop.Stop.{Stop}
 use Rattle.inner_interpreter.specs.declared.tracing.Extent.{Extent}
 use Rattle.inner_interpreter.specs.Runs.{World, round, round_by, rounds, stops, stop_by, next_by, tick_round}
-use Rattle.inner_interpreter.specs.Tracing.{is_met, AreUnmet, AddsLine, line_next, line_of, trace}
+use Rattle.inner_interpreter.specs.Tracing.{is_met, AreUnmet, AddsLine, line_next, traced_line, trace}
 use Rattle.inner_interpreter.proofs.Quiet.{ticked_runs, quiet_shows}
 use Rattle.inner_interpreter.proofs.Ran.{ran_quiet, ran_loud}
 
@@ -100,11 +100,11 @@ trace_add e line zero m w = let none : 0 + m ≡ m = omega arith in ap (λ k. tr
 trace_add e line (suc n) m w =
     let more : suc n + m ≡ suc (n + m) = omega arith in
     ap (λ k. trace e line k w) more
-    ∙ ap (λ ls. ls ++ line_of e line (rounds (n + m) w)) (trace_add e line n m w)
-    ∙ ap (λ v. (trace e line m w ++ trace e line n (rounds m w)) ++ line_of e line v) (rounds_add n m w)
-    ∙ append_assoc (trace e line m w) (trace e line n (rounds m w)) (line_of e line (rounds n (rounds m w)))
+    ∙ ap (λ ls. ls ++ traced_line e line (rounds (n + m) w)) (trace_add e line n m w)
+    ∙ ap (λ v. (trace e line m w ++ trace e line n (rounds m w)) ++ traced_line e line v) (rounds_add n m w)
+    ∙ append_assoc (trace e line m w) (trace e line n (rounds m w)) (traced_line e line (rounds n (rounds m w)))
 
-trace_one : (e : Extent) (line : Whole → List ℕ) (w : World) → trace e line 1 w ≡ line_of e line w
+trace_one : (e : Extent) (line : Whole → List ℕ) (w : World) → trace e line 1 w ≡ traced_line e line w
 unfolding trace rounds
 trace_one e line w = refl
 
@@ -112,8 +112,8 @@ pub adds_one : (e : Extent) (w : World) → AddsLine e 1 w
 adds_one e w = λ line. trace_one e line w
 
 -- nothing is traced where no token of the extent comes next
-line_unmet : (e : Extent) (line : Whole → List ℕ) (w : World) (s : Whole) → w.state ≡ running s → is_met e s ≡ false → line_of e line w ≡ []
-unfolding line_of
+line_unmet : (e : Extent) (line : Whole → List ℕ) (w : World) (s : Whole) → w.state ≡ running s → is_met e s ≡ false → traced_line e line w ≡ []
+unfolding traced_line
 line_unmet e line w s same unmet =
     ap (λ (t : State). if is_none (stops w) then line_next e line t else []) same ∙ by_stop (stops w) where
       by_stop : (o : Option Stop) → (if is_none o then line_next e line (running s) else []) ≡ []

@@ -19,7 +19,7 @@ use Rattle.inner_interpreter.specs.declared.act.Refused.TheVariants.{Halted as H
 use Rattle.inner_interpreter.specs.declared.act.Shown.{Shown}
 use Rattle.inner_interpreter.specs.declared.act.Shown.TheVariants.{Nothing, Span as SpanShown, Line as LineShown}
 use Rattle.inner_interpreter.specs.State.{State}
-use Rattle.inner_interpreter.specs.Tick.{running, halted, fault, quiet}
+use Rattle.inner_interpreter.specs.Tick.{running, halted, by_fault, quiet}
 
 -- an answer, with the bytes that it lends
 pub data Reply : Type 0 where
@@ -81,14 +81,14 @@ abbrev pub asked_by : Option (Request × ℕ) → Option Request
 asked_by None = None
 asked_by (Some p) = Some p.0
 
-abbrev pub fits : Option Request → Reply → Bool
-fits None reply = false
-fits (Some r) reply = fits_request r reply
+abbrev pub is_answer : Option Request → Reply → Bool
+is_answer None reply = false
+is_answer (Some r) reply = fits_request r reply
 
 -- a key: its byte is pushed
 unfoldable pub key_answered : Whole → ℕ → State × Act
 key_answered s c =
-    if nat_lt 256 (length (c ∷ s.values)) then fault s Nothing DATA_OVERFLOW
+    if nat_lt 256 (length (c ∷ s.values)) then by_fault s Nothing DATA_OVERFLOW
     else (running (record s { values = c ∷ s.values }), quiet)
 
 -- what a line shows of the n bytes at a: they, and a blank where a return ended it
@@ -98,7 +98,7 @@ line_shown a n returned = if returned then LineShown (record { at = a; len = n }
 -- a line for EXPECT ( a u -- ): its count goes to SPAN, then its bytes to a
 unfoldable pub line_answered : Whole → List ℕ → Bool → State × Act
 line_answered s bytes returned =
-    if nat_lt (length s.values) 2 then fault s Nothing DATA_UNDERFLOW
+    if nat_lt (length s.values) 2 then by_fault s Nothing DATA_UNDERFLOW
     else (let a = slice_index s.values 1 in (
       running (record s { values = drop 2 s.values; memory = put_bytes (put_cell s.memory SPAN (length bytes)) a bytes }),
       record { shown = line_shown a (length bytes) returned; event = Went },
@@ -131,9 +131,9 @@ answered s p (Line bytes returned) = line_answered s bytes returned
 answered s p InputEnd = input_stopped s cause.InputEnded
 answered s p InputFault = input_stopped s cause.InputFault
 answered s p (ReadOk page) = read_answered s (block_of p.0) p.1 page
-answered s p ReadFault = fault s Nothing READ_FAILED
+answered s p ReadFault = by_fault s Nothing READ_FAILED
 answered s p WriteOk = write_answered s (block_of p.0) p.1
-answered s p WriteFault = fault s Nothing WRITE_FAILED
+answered s p WriteFault = by_fault s Nothing WRITE_FAILED
 
 -- what an answer comes to that fits the request of this state
 unfoldable pub answer_of : State → Reply → State × Act
@@ -142,14 +142,14 @@ answer_of s reply = elim s.wait [ Some p ↦ answered s.parts p reply | None ↦
 -- an answer that fits is taken while the machine isn't halted
 abbrev pub TakesFit : State → State → Reply → Result Act Refused → Type 0
 TakesFit old new reply result =
-    old.halt ≡ None → fits (asked_by old.wait) reply ≡ true → IsOkAnd result (λ act. (new, act) ≡ answer_of old reply)
+    old.halt ≡ None → is_answer (asked_by old.wait) reply ≡ true → IsOkAnd result (λ act. (new, act) ≡ answer_of old reply)
 
 -- a halted machine refuses each answer, and another one each that doesn't fit
 abbrev pub RefusesHalted : State → Result Act Refused → Type 0
 RefusesHalted old result = IsSome old.halt → IsErrOf result HaltedRefusal
 
 abbrev pub RefusesUnfit : State → Reply → Result Act Refused → Type 0
-RefusesUnfit old reply result = old.halt ≡ None → fits (asked_by old.wait) reply ≡ false → IsErrOf result NotAsked
+RefusesUnfit old reply result = old.halt ≡ None → is_answer (asked_by old.wait) reply ≡ false → IsErrOf result NotAsked
 
 -- the bytes of the block that a Write asks to keep
 abbrev pub page_asked : Whole → Request → Option (List ℕ)

@@ -6,10 +6,9 @@ use Rattle.inner_interpreter.specs.State.{State, start}
 use Rattle.inner_interpreter.specs.Moves.{HasRun}
 use Rattle.inner_interpreter.specs.Runs.{stop_by}
 
--- an image that was loaded, for a device of some number of blocks, was run to some state. Where no end failed, the run
--- stopped for what the machine halted, and else for want of ticks
-pub record HasRunFrom (image : Contents) (calls calls' : List Bool) (limit : ℕ) (reader writer : Bool) (stop : Stop) : Type 0 where
-  pub block_count : ℕ
+-- an image that was loaded, for a device of so many blocks, was run to some state. Where no end failed, the run stopped
+-- for what the machine halted, and else for want of ticks
+pub record HasRunFrom (image : Contents) (block_count : ℕ) (calls calls' : List Bool) (limit : ℕ) (reader writer : Bool) (stop : Stop) : Type 0 where
   pub state : State
   pub run : HasRun (start image block_count) state calls calls' limit stop
   pub ended : reader ≡ false → writer ≡ false → stop_by state.halt 0 ≡ Some stop

@@ -6,13 +6,13 @@ use Rattle.inner_interpreter.specs.declared.act.Event.TheVariants.{Went}
 use Rattle.inner_interpreter.specs.declared.act.Refused.{Refused}
 use Rattle.inner_interpreter.specs.State.{State}
 use Rattle.inner_interpreter.specs.Tick.{is_running, ticked, IsTicked, AreTicked, IsRefused}
-use Rattle.inner_interpreter.specs.Answer.{Reply, answer_of, asked_by, fits, TakesFit, RefusesHalted, RefusesUnfit}
+use Rattle.inner_interpreter.specs.Answer.{Reply, answer_of, asked_by, is_answer, TakesFit, RefusesHalted, RefusesUnfit}
 use Rattle.inner_interpreter.specs.Moves.{Turn, Tick, Answer, shown_bytes}
 
 -- whether a machine takes a move: a tick while it neither is halted nor waits, an answer that fits what it asks
 abbrev pub takes : State → Turn → Bool
 takes s Tick = is_running s
-takes s (Answer reply) = is_none s.halt && fits (asked_by s.wait) reply
+takes s (Answer reply) = is_none s.halt && is_answer (asked_by s.wait) reply
 
 -- what a move that is taken leaves, and its act
 abbrev pub acted : State → Turn → State × Act

@@ -6,7 +6,7 @@ use Rattle.inner_interpreter.specs.declared.act.Act.{Act}
 use Rattle.inner_interpreter.specs.declared.act.Cause.{Cause}
 use Rattle.inner_interpreter.specs.declared.act.Cause.TheVariants.{InputFault as InputFaulted}
 use Rattle.inner_interpreter.specs.State.{State}
-use Rattle.inner_interpreter.specs.Answer.{Reply, InputFault, answer_of, asked_by, fits}
+use Rattle.inner_interpreter.specs.Answer.{Reply, InputFault, answer_of, asked_by, is_answer}
 use Rattle.inner_interpreter.specs.Moves.{Move, answer_move, Answer, Accepts, device_call}
 use Rattle.inner_interpreter.specs.Runs.{served}
 
@@ -28,7 +28,7 @@ pub record Answered (s : State) (r : Request) (typed : List ℕ) (disk : Disk) (
 
 -- the reader failed, and the machine was told so
 pub record Faults (s after : State) : Type 0 where
-  pub asked : fits (asked_by s.wait) InputFault ≡ true
+  pub asked : is_answer (asked_by s.wait) InputFault ≡ true
   pub state_is : after ≡ (answer_of s InputFault).0
 
 -- whether a machine halted for a failed reader

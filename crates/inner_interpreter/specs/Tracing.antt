@@ -26,25 +26,25 @@ abbrev pub line_next : Extent → (Whole → List ℕ) → State → List ℕ
 line_next extent line s = if is_none (asked_by s.wait) && is_met extent s.parts then line s.parts else []
 
 -- the same, where the run goes on from there: the state is followed by a tick
-unfoldable pub line_of : Extent → (Whole → List ℕ) → World → List ℕ
-line_of extent line w = if is_none (stops w) then line_next extent line w.state else []
+unfoldable pub traced_line : Extent → (Whole → List ℕ) → World → List ℕ
+traced_line extent line w = if is_none (stops w) then line_next extent line w.state else []
 
 -- the trace of a run: the lines of its first n states, in their order
 unfoldable pub trace : Extent → (Whole → List ℕ) → ℕ → World → List ℕ
 trace extent line zero w = []
-trace extent line (suc n) w = trace extent line n w ++ line_of extent line (rounds n w)
+trace extent line (suc n) w = trace extent line n w ++ traced_line extent line (rounds n w)
 
 -- so many rounds add to the trace just the line of the tick that comes first
 abbrev pub AddsLine : Extent → ℕ → World → Type 0
-AddsLine extent n w = (line : Whole → List ℕ) → trace extent line n w ≡ line_of extent line w
+AddsLine extent n w = (line : Whole → List ℕ) → trace extent line n w ≡ traced_line extent line w
 
 -- some rounds lead here, and only the first may begin where a token of the extent comes next
-abbrev pub Made : Extent → World → State → Option (List ℕ) → Option Disk → Option (List ℕ) → ℕ → Type 0
-Made extent w s unread disk sent left = (n : ℕ) × AddsLine extent n w × IsAt (rounds n w) s unread disk sent left
+abbrev pub Reached : Extent → World → State → Option (List ℕ) → Option Disk → Option (List ℕ) → ℕ → Type 0
+Reached extent w s unread disk sent left = (n : ℕ) × AddsLine extent n w × IsAt (rounds n w) s unread disk sent left
 
 -- the same, and of what they show a front was sent
-abbrev pub MadeCut : Extent → World → State → Option (List ℕ) → Option Disk → Option (List ℕ) → Type 0
-MadeCut extent w s unread disk sent = (n : ℕ) × AddsLine extent n w × IsCut (rounds n w) s unread disk sent
+abbrev pub ReachedCut : Extent → World → State → Option (List ℕ) → Option Disk → Option (List ℕ) → Type 0
+ReachedCut extent w s unread disk sent = (n : ℕ) × AddsLine extent n w × IsCut (rounds n w) s unread disk sent
 
 -- the run stops here after some rounds, and its trace was sent
 pub record EndsTraced (extent : Extent) (line : Whole → List ℕ) (w : World) (state : State) (unread : Option (List ℕ)) (disk : Option Disk) (sent : Option (List ℕ)) (old new : Option (List ℕ)) (stop : Stop) : Type 0 where
@@ -72,7 +72,7 @@ pub record EndsUntraced (extent : Extent) (line : Whole → List ℕ) (w : World
   pub at : IsAt (rounds count w) state unread disk sent (rounds count w).left
   pub front : List ℕ
   pub back : List ℕ
-  pub line_is : line_of extent line (rounds count w) ≡ front ++ back
+  pub line_is : traced_line extent line (rounds count w) ≡ front ++ back
   pub trace_is : Appends old new (trace extent line count w ++ front)
   pub due : IsSome (stops (rounds count w)) ⊎ IsDue extent state
 

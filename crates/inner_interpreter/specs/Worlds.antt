@@ -7,7 +7,7 @@ use Rattle.inner_interpreter.specs.declared.stop.Stop.{Stop}
 use Rattle.image_loader.specs.Files.{Contents, IsFile}
 use Rattle.inner_interpreter.specs.State.{State, start}
 use Rattle.inner_interpreter.specs.Tick.{ran}
-use Rattle.inner_interpreter.specs.Answer.{InputFault, answer_of, asked_by, fits}
+use Rattle.inner_interpreter.specs.Answer.{InputFault, answer_of, asked_by, is_answer}
 use Rattle.inner_interpreter.specs.Lines.{IsLeft}
 use Rattle.inner_interpreter.specs.Runs.{World, rounds, stops}
 
@@ -33,7 +33,7 @@ pub record IsCut (w : World) (state : State) (unread : Option (List ℕ)) (disk 
 -- bytes of that line may be gone
 pub record IsFaulted (w : World) (state : State) (unread : Option (List ℕ)) (disk : Option Disk) (sent : Option (List ℕ)) : Type 0 where
   pub goes : stops w ≡ None
-  pub asked : fits (asked_by w.state.wait) InputFault ≡ true
+  pub asked : is_answer (asked_by w.state.wait) InputFault ≡ true
   pub unread_is : IsLeft (asked_by w.state.wait) w.typed unread
   pub state_is : state ≡ (answer_of w.state InputFault).0
   pub disk_is : disk ≡ Some w.disk

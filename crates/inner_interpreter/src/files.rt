@@ -30,7 +30,7 @@ fn load_and_run<R: Input, W: Output, D: Device>(
     ensures faulted { IfOk result (λ _. R.failed reader.old ≡ false → R.failed reader.new ≡ true → OfImage image.now (R.unread reader.old) (D.disk device.old) (W.sent writer.old) limit (λ w. EndsFaultedFrom w (R.unread reader.new) (D.disk device.new) (W.sent writer.new))) }
     ensures one { IfOk result (λ _. R.failed reader.old ≡ false → R.failed reader.new ≡ true → W.failed writer.new ≡ W.failed writer.old) }
     ensures told { IfOk result (λ stop. R.failed reader.new ≡ false → stop ≢ Stop.InputFault) }
-    ensures moved { IfOk result (λ stop. HasRunFrom image.now (D.calls device.old) (D.calls device.new) limit (R.failed reader.new) (W.failed writer.new) stop) }
+    ensures moved { IfOk result (λ stop. HasRunFrom image.now (D.block_count device.old) (D.calls device.old) (D.calls device.new) limit (R.failed reader.new) (W.failed writer.new) stop) }
     ensures untraced { IfOk result (λ stop. stop ≢ Stop.TraceFault) }
     ensures reader { OnErr result (reader.new ≡ reader.old) }
     ensures writer { OnErr result (writer.new ≡ writer.old) }
@@ -68,7 +68,7 @@ pub fn run_file<R: Input, W: Output, D: Device>(
 
     // Whatever the ends are: the machine that was loaded moved by ticks and answers alone, at most `limit` and one more; and
     // it was told of a device fault just where the very call of its device failed.
-    ensures moved { IfOk result (λ stop. (image : Contents) → IsFile bytes.now image → HasRunFrom image (D.calls device.old) (D.calls device.new) limit (R.failed reader.new) (W.failed writer.new) stop) }
+    ensures moved { IfOk result (λ stop. (image : Contents) → IsFile bytes.now image → HasRunFrom image (D.block_count device.old) (D.calls device.old) (D.calls device.new) limit (R.failed reader.new) (W.failed writer.new) stop) }
 
     // It is no traced run.
     ensures untraced { IfOk result (λ stop. stop ≢ Stop.TraceFault) }

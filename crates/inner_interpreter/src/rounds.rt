@@ -11,7 +11,7 @@ ghost use Rattle.inner_interpreter.specs.Runs.{World};
 ghost use Rattle.inner_interpreter.specs.Sent.{AppendsPart};
 ghost use Rattle.inner_interpreter.specs.Served.{Answered, served_move, Faults, HasAnswered, HasNotFailed};
 ghost use Rattle.inner_interpreter.specs.Tick.{Runs, ticked};
-ghost use Rattle.inner_interpreter.specs.Tracing.{AreUnmet, Made, MadeCut};
+ghost use Rattle.inner_interpreter.specs.Tracing.{AreUnmet, Reached, ReachedCut};
 ghost use Rattle.inner_interpreter.specs.Worlds.{IsAt, IsCut, IsFaulted, rounds_left, stretch};
 
 use crate::ends::{EndFault, Input, Output};
@@ -117,8 +117,8 @@ pub fn make_rounds<R: Input, W: Output, D: Device>(
     ensures moved { HasMoved machine.old machine.new (D.calls device.old) (D.calls device.new) (left.old - left.new) }
     ensures left { left.new ≤ left.old }
     ensures read { OnOk result (HasNotFailed machine.new) }
-    ensures ok { OnOk result ((w : World) → IsAt w machine.old (R.unread reader.old) (D.disk device.old) (W.sent writer.old) left.old → Made extent w machine.new (R.unread reader.new) (D.disk device.new) (W.sent writer.new) left.new) }
-    ensures cut { IsErrOf result Failed.Writer → (w : World) → IsAt w machine.old (R.unread reader.old) (D.disk device.old) (W.sent writer.old) left.old → MadeCut extent w machine.new (R.unread reader.new) (D.disk device.new) (W.sent writer.new) }
+    ensures ok { OnOk result ((w : World) → IsAt w machine.old (R.unread reader.old) (D.disk device.old) (W.sent writer.old) left.old → Reached extent w machine.new (R.unread reader.new) (D.disk device.new) (W.sent writer.new) left.new) }
+    ensures cut { IsErrOf result Failed.Writer → (w : World) → IsAt w machine.old (R.unread reader.old) (D.disk device.old) (W.sent writer.old) left.old → ReachedCut extent w machine.new (R.unread reader.new) (D.disk device.new) (W.sent writer.new) }
     ensures faulted { IsErrOf result Failed.Reader → (w : World) → IsAt w machine.old (R.unread reader.old) (D.disk device.old) (W.sent writer.old) left.old → IsFaulted w machine.new (R.unread reader.new) (D.disk device.new) (W.sent writer.new) }
     ensures reader { IsErrOf result Failed.Reader → (R.failed reader.new ≡ true) × (W.failed writer.new ≡ W.failed writer.old) }
     ensures writer { IsErrOf result Failed.Writer → (W.failed writer.new ≡ true) × (R.failed reader.new ≡ R.failed reader.old) }

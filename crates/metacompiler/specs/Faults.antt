@@ -55,17 +55,17 @@ AtNumber limit t n s.Allot c.Full = (n < 32768) × (limit < end_of t + n)
 AtNumber limit t n _ _ = ⊥
 
 -- of a word that is due as a name
-abbrev pub IsPlain : Sense → Type 0
-IsPlain Plain = Unit {0}
-IsPlain _ = ⊥
+abbrev pub IsPlainSense : Sense → Type 0
+IsPlainSense Plain = Unit {0}
+IsPlainSense _ = ⊥
 
 abbrev pub AtName : (limit : ℕ) → Items → (w : Place) → Lead → Cause → Type 0
 AtName limit t w (Makes k) c.BadName = 31 < length w.name
 AtName limit t w (Makes k) c.Full = limit < end_of t + (head_size w + kind_size k)
 AtName limit t w Defines c.BadName = 31 < length w.name
 AtName limit t w Defines c.Full = limit < end_of t + head_size w
-AtName limit t w Starts c.Misplaced = (look t w ≡ None) × (IsPlain w.inner → ⊥)
-AtName limit t w Starts c.Unknown = (look t w ≡ None) × IsPlain w.inner
+AtName limit t w Starts c.Misplaced = (look t w ≡ None) × (IsPlainSense w.inner → ⊥)
+AtName limit t w Starts c.Unknown = (look t w ≡ None) × IsPlainSense w.inner
 AtName limit t w _ _ = ⊥
 
 -- of a word behind a vocabulary's name

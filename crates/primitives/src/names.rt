@@ -3,7 +3,6 @@
 ghost use Rattle.std.specs.Prelude.{◌≡◌, ◌<◌, ◌≤◌, ◌+◌, ◌++◌, length, MatchOption, IsTrue};
 ghost use Rattle.dictionary.specs.Forgetting.{IsTarget};
 ghost use Rattle.input_source.specs.Words.{bytes_in};
-ghost use Rattle.number_text.specs.Digits.{is_base};
 ghost use Rattle.number_text.specs.Numbers.{IsNumber, IsNoNumber};
 ghost use Rattle.dictionary.specs.Search.{sought};
 ghost use Rattle.primitives.specs.Names.{IsSoughtAs, counted_string};
@@ -58,7 +57,6 @@ pub fn sought_at(memory: &Memory, a: u16) -> Result<Option<u16>, ChainTooLong>
 /// The number that a word of the stream spells.
 #[tactic(auto, using(crate::proofs::Pieces::all_in_front), unfolding(input_source::specs::Words::bytes_in))]
 pub fn number_in(memory: &Memory, stream: Stream, word: Word, base: u16) -> Option<Number>
-    requires { IsTrue (is_base base) }
     ensures { MatchOption result (IsNoNumber base (bytes_in memory.now stream word)) (IsNumber base (bytes_in memory.now stream word)) }
 {
     let (head, tail) = memory.span(stream.at.wrapping_add(word.at), word.len);
@@ -69,8 +67,7 @@ pub fn number_in(memory: &Memory, stream: Stream, word: Word, base: u16) -> Opti
 }
 
 fn number_in_pieces(head: &[u8], tail: &[u8], base: u16) -> Option<Number>
-    requires base { IsTrue (is_base base) }
-    requires fits { length head.now + length tail.now ≤ 65535 }
+    requires { length head.now + length tail.now ≤ 65535 }
     ensures { MatchOption result (IsNoNumber base (head.now ++ tail.now)) (IsNumber base (head.now ++ tail.now)) }
 {
     let text = Text::joined(head, tail);

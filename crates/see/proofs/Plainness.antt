@@ -6,7 +6,7 @@ use Rattle.colon_bodies.specs.Tokens.{Token, DOES, SEMI}
 use Rattle.colon_bodies.specs.Tree.{Body, Empty, Call, Tick, Pair, Literal, Double, Text, IfThen, IfElse, Until, Again, While, Loop, Definition, Simple, Doing, words, all_words}
 use Rattle.colon_bodies.specs.Rules.{half_after, half_of, AreKnown}
 use Rattle.colon_bodies.specs.Open.{Top}
-use Rattle.colon_bodies.specs.Plain.{IsPlainCell, IsPlainBody, IsPlain}
+use Rattle.colon_bodies.specs.Plain.{IsPlainCell, IsPlainBody, IsPlainDefinition}
 use Rattle.see.specs.PlainWords.{IsPlainWord, ArePlainWords}
 use Rattle.colon_bodies.specs.Found.{is_cell, pick, controls}
 use Rattle.std.specs.Prelude.{IsTrue}
@@ -80,7 +80,7 @@ plain_is rt (Loop t a x) p k =
     let l = known_back rt (words t) _ k in
     (plain_is rt t u.0 (known_front rt (words t) _ k), l.0, plain_is rt a v.0 (known_front rt (words a) _ l.1), (known_back rt (words a) _ l.1).0)
 
-pub all_plain_is : (rt : ℕ → ℕ) (d : Definition) (ys : List Token) → ArePlainWords rt Free (all_words d ++ ys) → AreKnown rt (all_words d ++ ys) → IsPlain rt d
+pub all_plain_is : (rt : ℕ → ℕ) (d : Definition) (ys : List Token) → ArePlainWords rt Free (all_words d ++ ys) → AreKnown rt (all_words d ++ ys) → IsPlainDefinition rt d
 all_plain_is rt (Simple t) ys p k = plain_is rt t (split_words rt Free (words t) ys p).0 (known_front rt (words t) ys k)
 all_plain_is rt (Doing t a) ys p k =
     let q = split_words rt Free (words t ++ (DOES ∷ words a)) ys p in
@@ -106,7 +106,7 @@ is_plain rt (Again t a) h = along rt t _ (is_plain rt t h.0) (tt, along rt a _ (
 is_plain rt (While t a b) h = along rt t _ (is_plain rt t h.0) (tt, along rt a _ (is_plain rt a h.1) (tt, along rt b _ (is_plain rt b h.3) (tt, tt)))
 is_plain rt (Loop t a k) h = along rt t _ (is_plain rt t h.0) (tt, along rt a _ (is_plain rt a h.2) (tt, tt))
 
-pub are_all_plain : (rt : ℕ → ℕ) (d : Definition) → IsPlain rt d → ArePlainWords rt Free (all_words d ++ SEMI ∷ [])
+pub are_all_plain : (rt : ℕ → ℕ) (d : Definition) → IsPlainDefinition rt d → ArePlainWords rt Free (all_words d ++ SEMI ∷ [])
 are_all_plain rt (Simple t) h = along rt t _ (is_plain rt t h) (tt, tt)
 are_all_plain rt (Doing t a) h =
     subst (λ l. ArePlainWords rt Free l) (sym (append_assoc (words t) (DOES ∷ words a) (SEMI ∷ []))) (along rt t _ (is_plain rt t h.0) (tt, along rt a _ (is_plain rt a h.2) (tt, tt)))

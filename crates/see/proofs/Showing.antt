@@ -9,7 +9,7 @@ use Rattle.memory.specs.Bytes.{cell_bytes}
 use Rattle.colon_bodies.specs.Code.{all_code, thread}
 use Rattle.colon_bodies.specs.Rules.{AreKnown}
 use Rattle.colon_bodies.specs.Faults.{IsFault}
-use Rattle.colon_bodies.specs.Plain.{AreApart, IsPlainBody, IsPlain}
+use Rattle.colon_bodies.specs.Plain.{AreApart, IsPlainBody, IsPlainDefinition}
 use Rattle.see.specs.PlainWords.{ArePlainWords}
 use Rattle.colon_bodies.specs.Open.{Top}
 use Rattle.colon_bodies.specs.Draft.{Compiled}
@@ -78,7 +78,7 @@ plain_known rt (Again t a) h = known-append rt (words t) _ (plain_known rt t h.0
 plain_known rt (While t a b) h = known-append rt (words t) _ (plain_known rt t h.0) (tt, known-append rt (words a) _ (plain_known rt a h.1) (h.2, known-append rt (words b) _ (plain_known rt b h.3) (h.4, tt)))
 plain_known rt (Loop t a k) h = known-append rt (words t) _ (plain_known rt t h.0) (h.1, known-append rt (words a) _ (plain_known rt a h.2) (h.3, tt))
 
-pub all_known : (rt : ℕ → ℕ) (d : Definition) → IsPlain rt d → AreKnown rt (all_words d)
+pub all_known : (rt : ℕ → ℕ) (d : Definition) → IsPlainDefinition rt d → AreKnown rt (all_words d)
 all_known rt (Simple t) h = plain_known rt t h
 all_known rt (Doing t a) h = known-append rt (words t) _ (plain_known rt t h.0) (h.1, plain_known rt a h.2)
 
@@ -109,7 +109,7 @@ shown rt at bytes ws p m =
       };
     }
 
-pub plainly : (rt : ℕ → ℕ) (d : Definition) (ws : List Token) → IsPlain rt d → ws ≡ all_words d ++ SEMI ∷ [] → ArePlainWords rt Free ws
+pub plainly : (rt : ℕ → ℕ) (d : Definition) (ws : List Token) → IsPlainDefinition rt d → ws ≡ all_words d ++ SEMI ∷ [] → ArePlainWords rt Free ws
 plainly rt d ws h e = subst (λ l. ArePlainWords rt Free l) (sym e) (are_all_plain rt d h)
 
 pub thread_laid : (rt : ℕ → ℕ) (at : ℕ) (bytes : List ℕ) (d : Definition) (ws : List Token) → ws ≡ all_words d ++ SEMI ∷ [] → thread rt d at ≡ bytes → laid ws ≤ length bytes

@@ -11,7 +11,7 @@ use Rattle.source_words.specs.Spaced.{Spelling, spelling, bare, spaced, IsStep, 
 use Rattle.source_words.proofs.Colons.{colon_reread, plain_word_step, led_step, text_step}
 use Rattle.colon_bodies.specs.Tokens.{Token, NAME, NUMBER, DOUBLE, TICK, FORCE, COMPILE, IF, ELSE, THEN, BEGIN, UNTIL, AGAIN, WHILE, REPEAT, DO, LOOP, TEXT, DOES, SEMI}
 use Rattle.colon_bodies.specs.Tree.{Body, Empty, Call, Literal, Double, Tick, Pair, IfThen, IfElse, Until, Again, While, Loop, Text, Definition, Simple, Doing, words, all_words, named}
-use Rattle.colon_bodies.specs.Plain.{respelled, IsPlainBody, IsPlain, all_spelled}
+use Rattle.colon_bodies.specs.Plain.{respelled, IsPlainBody, IsPlainDefinition, all_spelled}
 use Rattle.colon_bodies.proofs.Spelling.{spelled_thread, all_spelled_words}
 use Rattle.colon_bodies.specs.declared.words.Half.TheVariants.{Free}
 use Rattle.see.specs.Extent.{controls_of, parameter_field, extent}
@@ -140,7 +140,7 @@ noend_words rt (While t a b) h =
     (noend_append (words a) (WHILE ∷ (words b ++ REPEAT ∷ [])) (noend_words rt a h.1) (noend_append (words b) (REPEAT ∷ []) (noend_words rt b h.3) tt))
 noend_words rt (Loop t a k) h = noend_append (words t) (DO ∷ (words a ++ LOOP k ∷ [])) (noend_words rt t h.0) (noend_append (words a) (LOOP k ∷ []) (noend_words rt a h.2) tt)
 
-noend_all : (rt : ℕ → ℕ) (d : Definition) → IsPlain rt d → NoEnd (all_words d)
+noend_all : (rt : ℕ → ℕ) (d : Definition) → IsPlainDefinition rt d → NoEnd (all_words d)
 noend_all rt (Simple t) h = noend_words rt t h
 noend_all rt (Doing t a) h = noend_append (words t) (DOES ∷ words a) (noend_words rt t h.0) (noend_words rt a h.2)
 
@@ -167,14 +167,14 @@ colon_is : (m : List ℕ) (l : ℕ) (name : List ℕ) (ws : List Token) → bare
 unfolding colon_words
 colon_is m l name ws = ap (λ k. bare (codes ":") ∷ bare name ∷ k) (printed_end m l ws ∙ ap (λ k. k ++ bare (codes ";") ∷ []) (sym (joined_steps m l ws)))
 
-words_read : (m : List ℕ) (l : ℕ) (name : List ℕ) (d : Definition) (screen : ℕ) → IsPlain (slice_index (controls_of m)) d → IsReadable m l name (its_words d) → AreCells (its_words d) → map spelling (screen_words Outside screen (text m l name d)) ≡ bare (codes ":") ∷ bare name ∷ all_printed m l (its_words d)
+words_read : (m : List ℕ) (l : ℕ) (name : List ℕ) (d : Definition) (screen : ℕ) → IsPlainDefinition (slice_index (controls_of m)) d → IsReadable m l name (its_words d) → AreCells (its_words d) → map spelling (screen_words Outside screen (text m l name d)) ≡ bare (codes ":") ∷ bare name ∷ all_printed m l (its_words d)
 unfolding text
 words_read m l name d screen p r c =
     let e = colon_is m l name (all_words d) in
     let s = are_steps m l (all_words d) (noend_all (slice_index (controls_of m)) d p) (readable_front m l (all_words d) (SEMI ∷ []) r.words) (cells_front (all_words d) (SEMI ∷ []) c) in
     ap (λ k. map spelling (screen_words Outside screen (spaced k))) e ∙ colon_reread screen name (steps m l (all_words d)) (whole_word name r.named) s ∙ sym e
 
-tokens_read : (m : List ℕ) (l : ℕ) (d : Definition) → IsPlain (slice_index (controls_of m)) d → AreReadableWords m l (its_words d) → AreCells (its_words d) → tokens_of m l Free (all_printed m l (its_words d)) ≡ map (λ w. Some w) (its_words (all_spelled (is_forced m l) d))
+tokens_read : (m : List ℕ) (l : ℕ) (d : Definition) → IsPlainDefinition (slice_index (controls_of m)) d → AreReadableWords m l (its_words d) → AreCells (its_words d) → tokens_of m l Free (all_printed m l (its_words d)) ≡ map (λ w. Some w) (its_words (all_spelled (is_forced m l) d))
 tokens_read m l d p r c =
     let rt = slice_index (controls_of m) in
     all_told m l Free (its_words d) tt (are_all_plain rt d p) r c

@@ -4,11 +4,11 @@ use Rattle.colon_bodies.specs.Tokens.{Token, SEMI, laid, AreShort}
 use Rattle.colon_bodies.specs.Tree.{Definition, all_words, all_depth}
 use Rattle.colon_bodies.specs.Code.{thread}
 use Rattle.colon_bodies.specs.Rules.{AreKnown}
-use Rattle.colon_bodies.specs.Plain.{IsPlain}
+use Rattle.colon_bodies.specs.Plain.{IsPlainDefinition}
 
 -- these bytes are the thread of a plain definition, whose structures lie at most 64 deep and whose texts have at most 255 bytes
 pub record IsThread (rt : ℕ → ℕ) (at : ℕ) (bytes : List ℕ) (d : Definition) : Type 0 where
-  pub plain : IsPlain rt d
+  pub plain : IsPlainDefinition rt d
   pub exit : rt 5 ≢ 0
   pub shallow : all_depth d ≤ 64
   pub short : AreShort (all_words d)

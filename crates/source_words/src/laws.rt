@@ -5,7 +5,7 @@ ghost use Rattle.source_words.specs.declared.modes.Mode.{Mode};
 ghost use Rattle.source_words.specs.Modes.{after, begins_comment, ends_body, names_in_body, takes_text};
 ghost use Rattle.source_words.specs.Words.{is_comment, enclosing, name_of, size_of, word_of, words_at, screen_words};
 ghost use Rattle.std.specs.List.{list_all};
-ghost use Rattle.source_words.specs.Spaced.{Spelling, spelling, spaced, AreReadable, AreSteps, IsStep, IsWhole, IsPlain, bare, colon_words, is_plain_word, structure_keywords};
+ghost use Rattle.source_words.specs.Spaced.{Spelling, spelling, spaced, AreReadable, AreSteps, IsStep, IsWhole, StandsAlone, bare, colon_words, is_plain_word, structure_keywords};
 ghost use Rattle.source_words.specs.declared.modes.Mode.TheVariants.{Outside};
 ghost use Rattle.source_words.specs.Words.{SourceWord, after_words, words_of_screens};
 ghost use Rattle.source_words.specs.Standing.{Stands, IsBefore};
@@ -37,7 +37,7 @@ pub fn rereading_law()
 /// that takes any name and that name, or a word with its text.
 pub fn colon_law()
     ensures colon { (screen : ℕ) (name : List ℕ) (steps : List (List Spelling)) → IsWhole name → AreSteps steps → map spelling (screen_words Outside screen (spaced (colon_words name steps))) ≡ colon_words name steps }
-    ensures plain { (name : List ℕ) → IsWhole name → IsPlain name → IsStep (bare name ∷ []) }
+    ensures plain { (name : List ℕ) → IsWhole name → StandsAlone name → IsStep (bare name ∷ []) }
     ensures test { (name : List ℕ) → is_plain_word name ≡ true → IsStep (bare name ∷ []) }
     ensures keywords { list_all is_plain_word structure_keywords ≡ true }
     ensures led { (lead name : List ℕ) → IsWhole lead → names_in_body lead ≡ true → begins_comment lead ≡ false → ends_body lead ≡ false → takes_text lead ≡ false → IsWhole name → IsStep (bare lead ∷ bare name ∷ []) }

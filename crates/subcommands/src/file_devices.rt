@@ -58,6 +58,8 @@ impl Device for FileDevice {
 
     ghost calls = { λ d. d.log.calls };
 
+    ghost block_count = { λ d. d.count };
+
     fn count(&self) -> u32 {
         self.count
     }

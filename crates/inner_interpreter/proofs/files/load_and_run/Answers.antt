@@ -27,8 +27,8 @@ returns-clause-told g c = IfOk-weaker c.run.result _ _ (λ stop h. λ fine.
 
 pub returns-clause-moved : goal.returns-clause-moved
 returns-clause-moved g c = IfOk-weaker c.run.result _ _ (λ stop h. record {
-  block_count = c.count.result;
   state = c.run.new.machine;
-  run = subst (λ (m : State). HasRun m c.run.new.machine (g.D.Device.calls c.args.device.now) (g.D.Device.calls c.run.new.device) c.args.limit stop) c.in_ok-machine.ensures h.0;
+  run = subst (λ (m : State). HasRun m c.run.new.machine (g.D.Device.calls c.args.device.now) (g.D.Device.calls c.run.new.device) c.args.limit stop)
+      (c.in_ok-machine.ensures ∙ ap (start c.args.image.now) c.count.ensures.value) h.0;
   ended = h.1;
 }) (ok_both c.run.result _ _ c.run.ensures.moved c.run.ensures.ended)

@@ -27,6 +27,6 @@ returns-in-Ok-load_and_run-clause-faulted g c = λ fine failed image f.
 
 pub returns-in-Ok-load_and_run-clause-moved : goal.returns-in-Ok-load_and_run-clause-moved
 returns-in-Ok-load_and_run-clause-moved g c = λ image f.
-    subst (λ (i : Contents). HasRunFrom i (g.D.Device.calls c.args.device.now) (g.D.Device.calls c.load_and_run.new.device) c.args.limit (g.R.Input.failed c.load_and_run.new.reader) (g.W.Output.failed c.load_and_run.new.writer) c.in-Ok-load_and_run.stop)
+    subst (λ (i : Contents). HasRunFrom i (g.D.Device.block_count c.args.device.now) (g.D.Device.calls c.args.device.now) (g.D.Device.calls c.load_and_run.new.device) c.args.limit (g.R.Input.failed c.load_and_run.new.reader) (g.W.Output.failed c.load_and_run.new.writer) c.in-Ok-load_and_run.stop)
     (c.in-Ok.ensures.accepted image f)
     c.in-Ok-load_and_run.ensures.moved
