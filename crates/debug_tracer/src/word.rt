@@ -101,7 +101,7 @@ fn colon_word(alloc: Global, memory: &Memory, l: u16) -> Result<Word, DebugFault
 }
 
 /// The word that a name means, where it can be traced.
-#[tactic(auto, using(dictionary::proofs::Soughts::sought_found, dictionary::proofs::Soughts::sought_nowhere, dictionary::proofs::Soughts::sought_long), unfolding(crate::specs::Debugged::debugged))]
+#[tactic(auto, unfolding(crate::specs::Debugged::debugged))]
 pub fn word_of(alloc: Global, memory: &Memory, name: &[u8]) -> Result<Word, DebugFault>
     ensures thread { IfOk result (λ word. debugged memory.now name.now ≡ Ok word.thread) }
     ensures memory { IfOk result (λ word. word.memory ≡ memory.now) }

@@ -1,56 +1,42 @@
-use Rattle.std.proofs.Common.{◌≡◌, ◌≢◌, ℕ, zero, suc, ◌-◌, ◌<◌, ◌≤◌, List, Bool, refl, arith, false, true}
+-- A search, member by member.
+use Rattle.std.proofs.Common.{◌≡◌, ◌≢◌, ℕ, zero, suc, ◌-◌, ◌<◌, ◌≤◌, ◌==◌, List, Bool, refl, arith, false, true, ap, ◌∙◌}
 use Rattle.memory.specs.Bytes.{cell}
-use Rattle.dictionary.specs.Chain.{chain, first_where, is_longer, is_missed}
+use Rattle.dictionary.specs.Chain.{chain, is_longer}
+use Rattle.dictionary.specs.Search.{Sought, Found, Nowhere, TooLong, walked}
 
-pub first_at_end : (p : ℕ → Bool) (m : List ℕ) (n l : ℕ) → l ≡ 0 → first_where p m n l ≡ 0
-unfolding first_where chain
-first_at_end p m zero l h = refl
-first_at_end p m (suc n) l h = rw h refl
-
-pub first_here : (p : ℕ → Bool) (m : List ℕ) (n l : ℕ) → 0 < n → l ≢ 0 → p l ≡ true → first_where p m n l ≡ l
-unfolding first_where chain
-first_here p m zero l h k q = absurd (omega arith)
-first_here p m (suc n) l h k q = grind arith
-
-pub first_later : (p : ℕ → Bool) (m : List ℕ) (n l : ℕ) → 0 < n → l ≢ 0 → p l ≡ false → first_where p m n l ≡ first_where p m (n - 1) (cell m l)
-unfolding first_where chain
-first_later p m zero l h k q = absurd (omega arith)
-first_later p m (suc n) l h k q = let e : suc n - 1 ≡ n = omega arith in rw e (grind arith)
-
-pub first_none : (p : ℕ → Bool) (m : List ℕ) (n l : ℕ) → n ≤ 0 → first_where p m n l ≡ 0
-unfolding first_where chain
-first_none p m zero l h = refl
-first_none p m (suc n) l h = absurd (omega arith)
-
-pub longer_at_end : (m : List ℕ) (n l : ℕ) → l ≡ 0 → is_longer m n l ≡ false
+longer_later : (m : List ℕ) (n l : ℕ) → (l == 0) ≡ false → is_longer m (suc n) l ≡ is_longer m n (cell m l)
 unfolding is_longer chain
-longer_at_end m zero l h = rw h refl
-longer_at_end m (suc n) l h = rw h (grind arith)
+longer_later m n l z = grind (arith, z)
 
-pub longer_later : (m : List ℕ) (n l : ℕ) → 0 < n → l ≢ 0 → is_longer m n l ≡ is_longer m (n - 1) (cell m l)
+nonzero : (l : ℕ) → l ≢ 0 → (l == 0) ≡ false
+nonzero l h = grind arith
+
+longer_at_end : (m : List ℕ) (n : ℕ) → is_longer m n 0 ≡ false
 unfolding is_longer chain
-longer_later m zero l h k = absurd (omega arith)
-longer_later m (suc n) l h k = let e : suc n - 1 ≡ n = omega arith in rw e (grind arith)
+longer_at_end m zero = refl
+longer_at_end m (suc n) = grind arith
 
-pub longer_none : (m : List ℕ) (n l : ℕ) → n ≤ 0 → l ≢ 0 → is_longer m n l ≡ true
-unfolding is_longer chain
-longer_none m zero l h k = grind arith
-longer_none m (suc n) l h k = absurd (omega arith)
+pub walked_at_end : (p : ℕ → Bool) (m : List ℕ) (n l : ℕ) → l ≡ 0 → walked p m n l ≡ Nowhere
+unfolding walked chain
+walked_at_end p m zero l h = rw (h, longer_at_end m 0) refl
+walked_at_end p m (suc n) l h = rw (h, longer_at_end m (suc n)) refl
 
-pub missed_at_end : (p : ℕ → Bool) (m : List ℕ) (n l : ℕ) → l ≡ 0 → is_missed p m n l ≡ false
-unfolding is_missed
-missed_at_end p m n l h = grind (arith, longer_at_end m n l h)
+pub walked_here : (p : ℕ → Bool) (m : List ℕ) (n l : ℕ) → 0 < n → l ≢ 0 → p l ≡ true → walked p m n l ≡ Found l
+unfolding walked chain
+walked_here p m zero l h k q = absurd (omega arith)
+walked_here p m (suc n) l h k q = rw (nonzero l k, q) refl
 
-pub missed_here : (p : ℕ → Bool) (m : List ℕ) (n l : ℕ) → 0 < n → l ≢ 0 → p l ≡ true → is_missed p m n l ≡ false
-unfolding is_missed
-missed_here p m n l h k q = grind (arith, first_here p m n l h k q)
+walked_past : (p : ℕ → Bool) (m : List ℕ) (n l : ℕ) → l ≢ 0 → p l ≡ false → walked p m (suc n) l ≡ walked p m n (cell m l)
+unfolding walked chain
+walked_past p m n l k q = rw (longer_later m n l (nonzero l k), nonzero l k, q) refl
 
-pub missed_later : (p : ℕ → Bool) (m : List ℕ) (n l : ℕ) → 0 < n → l ≢ 0 → p l ≡ false → is_missed p m n l ≡ is_missed p m (n - 1) (cell m l)
-unfolding is_missed
-missed_later p m n l h k q = grind (arith, first_later p m n l h k q, longer_later m n l h k)
+pub walked_later : (p : ℕ → Bool) (m : List ℕ) (n l : ℕ) → 0 < n → l ≢ 0 → p l ≡ false → walked p m n l ≡ walked p m (n - 1) (cell m l)
+walked_later p m zero l h k q = absurd (omega arith)
+walked_later p m (suc n) l h k q = let e : suc n - 1 ≡ n = omega arith in rw e (walked_past p m n l k q)
 
-pub missed_none : (p : ℕ → Bool) (m : List ℕ) (n l : ℕ) → n ≤ 0 → l ≢ 0 → is_missed p m n l ≡ true
-unfolding is_missed
-missed_none p m n l h k = grind (arith, first_none p m n l h, longer_none m n l h k)
+pub walked_cut : (p : ℕ → Bool) (m : List ℕ) (n l : ℕ) → n ≤ 0 → l ≢ 0 → walked p m n l ≡ TooLong
+unfolding walked is_longer chain
+walked_cut p m zero l h k = rw (nonzero l k) refl
+walked_cut p m (suc n) l h k = absurd (omega arith)
 
-pub ruleset walks = (first_at_end, first_here, first_later, first_none, missed_at_end, missed_here, missed_later, missed_none)
+pub ruleset walking = (walked_at_end, walked_here, walked_later, walked_cut)

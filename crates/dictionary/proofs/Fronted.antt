@@ -1,13 +1,13 @@
 -- Searches where a new header stands in front of a chain.
 use Rattle.std.proofs.Common.{◌≡◌, ◌≢◌, ℕ, suc, ◌+◌, ◌<◌, ◌≤◌, ◌∷◌, List, [], length, refl, arith, Bool, true, false, sym, ap, subst, ◌∙◌, inl, inr, ◌⊎◌}
-use Rattle.std.specs.Prelude.{◌==◌, ◌&&◌}
+use Rattle.std.specs.Prelude.{◌==◌, find}
 use Rattle.memory.specs.Bytes.{byte, cell}
 use Rattle.memory.proofs.Same.{cell_by}
 use Rattle.dictionary.specs.Header.{is_named, name_length}
-use Rattle.dictionary.specs.Chain.{chain, first_where, is_missed, is_longer}
-use Rattle.dictionary.specs.Search.{head_of, first_in, is_missed_in, first_from, is_missed_from, found_from, is_too_long_from}
+use Rattle.dictionary.specs.Chain.{chain, is_longer}
+use Rattle.dictionary.specs.Search.{Sought, head_of, walked, first_in, first_from, sought_from}
 use Rattle.dictionary.proofs.Firsts.{chain_cut}
-use Rattle.dictionary.proofs.Searches.{HeaderSame, AreSame, chain_by, first_by, missed_by, less_same}
+use Rattle.dictionary.proofs.Searches.{HeaderSame, AreSame, chain_by, walked_by}
 
 -- a header stands from 34 to here, and doesn't meet the head
 abbrev pub HeaderApart : ℕ → ℕ → List ℕ → ℕ → Type 0
@@ -73,60 +73,50 @@ longer_not : (m : List ℕ) (k l : ℕ) → length (chain m (suc k) l) ≤ k →
 unfolding is_longer
 longer_not m k l h = grind arith
 
-missed_not : (p : ℕ → Bool) (m : List ℕ) (k l : ℕ) → length (chain m (suc k) l) ≤ k → is_missed p m k l ≡ false
-unfolding is_missed
-missed_not p m k l h = rw (longer_not m k l h) (and_false (first_where p m k l == 0))
-  where
-    and_false : (b : Bool) → (b && false) ≡ false
-    and_false true = refl
-    and_false false = refl
-
 -- behind a new header that fails the test, the search goes on as before
-front_first : (p : ℕ → Bool) (m : List ℕ) (new link : ℕ) → (new == 0) ≡ false → cell m new ≡ link → p new ≡ false → length (chain m 32769 link) ≤ 32767 → first_where p m 32768 new ≡ first_where p m 32768 link
-unfolding first_where
-front_first p m new link z e q h = let c = cuts m link h in rw (chain_more m 32767 new z, e, q, c.1) refl
+front_found : (p : ℕ → Bool) (m : List ℕ) (new link : ℕ) → (new == 0) ≡ false → cell m new ≡ link → p new ≡ false
+    → length (chain m 32769 link) ≤ 32767 → find p (chain m 32768 new) ≡ find p (chain m 32768 link)
+front_found p m new link z e q h = let c = cuts m link h in rw (chain_more m 32767 new z, e, q, c.1) refl
 
-front_length : (m : List ℕ) (new link : ℕ) → (new == 0) ≡ false → cell m new ≡ link → length (chain m 32769 link) ≤ 32767 → length (chain m 32769 new) ≤ 32768
+front_length : (m : List ℕ) (new link : ℕ) → (new == 0) ≡ false → cell m new ≡ link → length (chain m 32769 link) ≤ 32767
+    → length (chain m 32769 new) ≤ 32768
 front_length m new link z e h =
     let c = cuts m link h in
     let n : length (chain m 32768 link) ≤ 32767 = subst (λ (xs : List ℕ). length xs ≤ 32767) c.0 h in
     rw (chain_more m 32768 new z, e) (omega arith)
 
+front_walked : (p : ℕ → Bool) (m : List ℕ) (new link : ℕ) → (new == 0) ≡ false → cell m new ≡ link → p new ≡ false
+    → length (chain m 32769 link) ≤ 32767 → walked p m 32768 new ≡ walked p m 32768 link
+unfolding walked
+front_walked p m new link z e q h =
+    let a : is_longer m 32768 new ≡ false = longer_not m 32768 new (front_length m new link z e h) in
+    let b : is_longer m 32768 link ≡ false = longer_not m 32768 link (omega arith) in
+    rw (front_found p m new link z e q h, a, b) refl
+
 -- one chain
-pub chain_fronted : (m n : List ℕ) (here head new h : ℕ) (x : List ℕ) → Fronted m n here head new → is_named n x new ≡ false → ChainApart here head m h → (first_where (is_named n x) n 32768 (cell n h) ≡ first_where (is_named m x) m 32768 (cell m h)) × (is_missed (is_named n x) n 32768 (cell n h) ≡ is_missed (is_named m x) m 32768 (cell m h))
+chain_fronted : (m n : List ℕ) (here head new h : ℕ) (x : List ℕ) → Fronted m n here head new → is_named n x new ≡ false
+    → ChainApart here head m h → walked (is_named n x) n 32768 (cell n h) ≡ walked (is_named m x) m 32768 (cell m h)
 chain_fronted m n here head new h x f q c = by_place c.beside
   where
     same : AreSame m n (chain m 32769 (cell m h))
     same = headers_same m n here head new (chain m 32769 (cell m h)) f c.members
 
-    firsts : first_where (is_named n x) n 32768 (cell m h) ≡ first_where (is_named m x) m 32768 (cell m h)
-    firsts = sym (first_by m n x 32768 (cell m h) f.all f.all_new (less_same m n 32768 (cell m h) same))
+    as_before : walked (is_named n x) n 32768 (cell m h) ≡ walked (is_named m x) m 32768 (cell m h)
+    as_before = sym (walked_by m n x 32768 (cell m h) f.all f.all_new same)
 
     short : length (chain n 32769 (cell m h)) ≤ 32767
     short = subst (λ (xs : List ℕ). length xs ≤ 32767) (chain_by m n 32769 (cell m h) same) c.short
 
-    by_place : (h ≡ head) ⊎ ((head + 1 < h) ⊎ (h + 1 < head)) → (first_where (is_named n x) n 32768 (cell n h) ≡ first_where (is_named m x) m 32768 (cell m h)) × (is_missed (is_named n x) n 32768 (cell n h) ≡ is_missed (is_named m x) m 32768 (cell m h))
-    by_place (inr b) =
-        let e : cell n h ≡ cell m h = head_same m n here head new h f c.low c.high b in
-        (rw e firsts, rw e (sym (missed_by m n x 32768 (cell m h) f.all f.all_new same)))
+    by_place : (h ≡ head) ⊎ ((head + 1 < h) ⊎ (h + 1 < head)) → walked (is_named n x) n 32768 (cell n h) ≡ walked (is_named m x) m 32768 (cell m h)
+    by_place (inr b) = let e : cell n h ≡ cell m h = head_same m n here head new h f c.low c.high b in rw e as_before
     by_place (inl b) =
         let e : cell n h ≡ new = ap (λ (i : ℕ). cell n i) b ∙ f.head_is in
         let l : cell n new ≡ cell m h = f.link_is ∙ ap (λ (i : ℕ). cell m i) (sym b) in
-        let s = c.short in
-        let long = front_length n new (cell m h) f.some l short in
-        (rw e (front_first (is_named n x) n new (cell m h) f.some l q short ∙ firsts), rw e (missed_not (is_named n x) n 32768 new long ∙ sym (missed_not (is_named m x) m 32768 (cell m h) (omega arith))))
+        rw e (front_walked (is_named n x) n new (cell m h) f.some l q short ∙ as_before)
 
 -- a search
-pub found_fronted : (m n : List ℕ) (here head new voc : ℕ) (x : List ℕ) → Fronted m n here head new → is_named n x new ≡ false → ChainApart here head m (head_of voc x) → ChainApart here head m (head_of 42 x) → found_from n voc x ≡ found_from m voc x
-unfolding found_from first_from first_in is_missed_in
-found_fronted m n here head new voc x f q c d =
-    let a = chain_fronted m n here head new (head_of voc x) x f q c in
-    let b = chain_fronted m n here head new (head_of 42 x) x f q d in
-    rw (a.0, a.1, b.0) refl
-
-pub long_fronted : (m n : List ℕ) (here head new voc : ℕ) (x : List ℕ) → Fronted m n here head new → is_named n x new ≡ false → ChainApart here head m (head_of voc x) → ChainApart here head m (head_of 42 x) → is_too_long_from n voc x ≡ is_too_long_from m voc x
-unfolding is_too_long_from is_missed_from first_in is_missed_in
-long_fronted m n here head new voc x f q c d =
-    let a = chain_fronted m n here head new (head_of voc x) x f q c in
-    let b = chain_fronted m n here head new (head_of 42 x) x f q d in
-    rw (a.0, a.1, b.1) refl
+pub sought_fronted : (m n : List ℕ) (here head new voc : ℕ) (x : List ℕ) → Fronted m n here head new → is_named n x new ≡ false
+    → ChainApart here head m (head_of voc x) → ChainApart here head m (head_of 42 x) → sought_from n voc x ≡ sought_from m voc x
+unfolding sought_from first_from first_in
+sought_fronted m n here head new voc x f q c d =
+    rw (chain_fronted m n here head new (head_of voc x) x f q c, chain_fronted m n here head new (head_of 42 x) x f q d) refl

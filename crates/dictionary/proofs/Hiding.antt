@@ -1,37 +1,35 @@
-use Rattle.std.proofs.Common.{◌≡◌, ◌≢◌, ℕ, zero, suc, List, refl, arith, sym}
+-- No member of a chain is at 0, so nothing is hidden there.
+use Rattle.std.proofs.Common.{◌≡◌, ◌≢◌, ℕ, zero, suc, List, [], ◌∷◌, Bool, true, false, ◌==◌, if◌then◌else◌, refl, arith, sym}
+use Rattle.std.specs.Prelude.{find}
 use Rattle.memory.specs.Bytes.{cell}
 use Rattle.dictionary.specs.Header.{is_named, is_named_but}
-use Rattle.dictionary.specs.Chain.{chain, first_where, is_missed}
-use Rattle.dictionary.specs.Search.{first_in, is_missed_in, first_from, is_missed_from, found_in, is_too_long_in, found_from, is_too_long_from}
+use Rattle.dictionary.specs.Chain.{chain}
+use Rattle.dictionary.specs.Search.{walked, first_in, first_from, sought_in, sought_from}
 
--- no member of a chain is at 0, so nothing is hidden there
-but_none : (m name : List ℕ) (l : ℕ) → l ≢ 0 → is_named_but m name 0 l ≡ is_named m name l
+but_none : (m name : List ℕ) (l : ℕ) → (l == 0) ≡ false → is_named_but m name 0 l ≡ is_named m name l
 unfolding is_named_but
-but_none m name l h = grind arith
+but_none m name l h = grind (arith, h)
 
-pub first_but_none : (m name : List ℕ) (n l : ℕ) → first_where (is_named_but m name 0) m n l ≡ first_where (is_named m name) m n l
-unfolding first_where chain
-first_but_none m name zero l = refl
-first_but_none m name (suc n) l = let r = first_but_none m name n (cell m l) in let b = but_none m name l in grind (arith, r, b)
+find_step : (m name : List ℕ) (l : ℕ) (xs : List ℕ) (b : Bool) → (l == 0) ≡ b → find (is_named_but m name 0) xs ≡ find (is_named m name) xs
+    → find (is_named_but m name 0) (if b then [] else l ∷ xs) ≡ find (is_named m name) (if b then [] else l ∷ xs)
+find_step m name l xs true e r = refl
+find_step m name l xs false e r = rw (but_none m name l e, r) refl
 
-missed_but_none : (m name : List ℕ) (n l : ℕ) → is_missed (is_named_but m name 0) m n l ≡ is_missed (is_named m name) m n l
-unfolding is_missed
-missed_but_none m name n l = rw (first_but_none m name n l) refl
+find_but_none : (m name : List ℕ) (n l : ℕ) → find (is_named_but m name 0) (chain m n l) ≡ find (is_named m name) (chain m n l)
+unfolding chain
+find_but_none m name zero l = refl
+find_but_none m name (suc n) l = find_step m name l (chain m n (cell m l)) (l == 0) refl (find_but_none m name n (cell m l))
 
-pub found_in_hiding_none : (m name : List ℕ) (voc : ℕ) → found_in m voc name ≡ first_in (is_named_but m name 0) m voc name
-unfolding found_in first_in
-found_in_hiding_none m name voc = sym (first_but_none m name 32768 _)
+walked_but_none : (m name : List ℕ) (n l : ℕ) → walked (is_named_but m name 0) m n l ≡ walked (is_named m name) m n l
+unfolding walked
+walked_but_none m name n l = rw (find_but_none m name n l) refl
 
-pub too_long_in_hiding_none : (m name : List ℕ) (voc : ℕ) → is_too_long_in m voc name ≡ is_missed_in (is_named_but m name 0) m voc name
-unfolding is_too_long_in is_missed_in
-too_long_in_hiding_none m name voc = sym (missed_but_none m name 32768 _)
+pub in_hiding_none : (m name : List ℕ) (voc : ℕ) → sought_in m voc name ≡ first_in (is_named_but m name 0) m voc name
+unfolding sought_in first_in
+in_hiding_none m name voc = sym (walked_but_none m name 32768 _)
 
-pub found_from_hiding_none : (m name : List ℕ) (voc : ℕ) → found_from m voc name ≡ first_from (is_named_but m name 0) m voc name
-unfolding found_from first_from first_in is_missed_in
-found_from_hiding_none m name voc = sym (simp (first_but_none, missed_but_none))
+pub from_hiding_none : (m name : List ℕ) (voc : ℕ) → sought_from m voc name ≡ first_from (is_named_but m name 0) m voc name
+unfolding sought_from first_from first_in
+from_hiding_none m name voc = sym (simp walked_but_none)
 
-pub too_long_from_hiding_none : (m name : List ℕ) (voc : ℕ) → is_too_long_from m voc name ≡ is_missed_from (is_named_but m name 0) m voc name
-unfolding is_too_long_from is_missed_from first_in is_missed_in
-too_long_from_hiding_none m name voc = sym (simp (first_but_none, missed_but_none))
-
-pub ruleset hiding_none = (found_in_hiding_none, too_long_in_hiding_none, found_from_hiding_none, too_long_from_hiding_none)
+pub ruleset hiding_none = (in_hiding_none, from_hiding_none)

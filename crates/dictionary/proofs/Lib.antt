@@ -13,4 +13,3 @@ pub mod Kept
 pub mod Searches
 pub mod Fronted
 pub mod Laid
-pub mod Soughts

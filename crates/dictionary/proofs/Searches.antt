@@ -5,8 +5,8 @@ use Rattle.memory.specs.Bytes.{byte, cell}
 use Rattle.memory.proofs.Kept.{wrap_small}
 use Rattle.memory.proofs.Same.{Same, cell_by, bytes_by, cell_same}
 use Rattle.dictionary.specs.Header.{is_named, is_hidden, count_byte, name_length, name_of, is_immediate, compilation_address}
-use Rattle.dictionary.specs.Chain.{chain, first_where, is_longer, is_missed}
-use Rattle.dictionary.specs.Search.{head_of, first_in, is_missed_in, first_from, is_missed_from, found_from, is_too_long_from}
+use Rattle.dictionary.specs.Chain.{chain, is_longer}
+use Rattle.dictionary.specs.Search.{head_of, walked, first_in, first_from, sought_from}
 
 -- a header, from its link field to behind its code field, is within memory, and the same in m and n
 pub record HeaderSame (m n : List ℕ) (l : ℕ) : Type 0 where
@@ -101,23 +101,18 @@ find_by : (m n nm ls : List ℕ) → length m ≡ 65536 → length n ≡ 65536 �
 find_by m n nm [] lm ln h = refl
 find_by m n nm (l ∷ ls) lm ln h = rw (named_by m n nm l lm ln h.0, find_by m n nm ls lm ln h.1) refl
 
-pub first_by : (m n nm : List ℕ) (k l : ℕ) → length m ≡ 65536 → length n ≡ 65536 → AreSame m n (chain m k l) → first_where (is_named m nm) m k l ≡ first_where (is_named n nm) n k l
-unfolding first_where
-first_by m n nm k l lm ln h = rw (sym (chain_by m n k l h), find_by m n nm (chain m k l) lm ln h) refl
-
-pub missed_by : (m n nm : List ℕ) (k l : ℕ) → length m ≡ 65536 → length n ≡ 65536 → AreSame m n (chain m (suc k) l) → is_missed (is_named m nm) m k l ≡ is_missed (is_named n nm) n k l
-unfolding is_missed is_longer
-missed_by m n nm k l lm ln h = rw (sym (chain_by m n (suc k) l h), first_by m n nm k l lm ln (less_same m n k l h)) refl
+pub walked_by : (m n nm : List ℕ) (k l : ℕ) → length m ≡ 65536 → length n ≡ 65536 → AreSame m n (chain m (suc k) l)
+    → walked (is_named m nm) m k l ≡ walked (is_named n nm) n k l
+unfolding walked is_longer
+walked_by m n nm k l lm ln h =
+    let less = less_same m n k l h in
+    rw (sym (chain_by m n (suc k) l h), sym (chain_by m n k l less), find_by m n nm (chain m k l) lm ln less) refl
 
 -- a search
-pub found_by : (m n nm : List ℕ) (voc : ℕ) → length m ≡ 65536 → length n ≡ 65536 → ChainsSame m n voc nm → found_from m voc nm ≡ found_from n voc nm
-unfolding found_from first_from first_in is_missed_in
-found_by m n nm voc lm ln h =
-    rw (sym h.head, sym h.forth_head)
-    (rw (missed_by m n nm 32768 (cell m (head_of voc nm)) lm ln h.members, first_by m n nm 32768 (cell m (head_of voc nm)) lm ln (less_same m n 32768 (cell m (head_of voc nm)) h.members), first_by m n nm 32768 (cell m (head_of 42 nm)) lm ln (less_same m n 32768 (cell m (head_of 42 nm)) h.forth_members)) refl)
-
-pub long_by : (m n nm : List ℕ) (voc : ℕ) → length m ≡ 65536 → length n ≡ 65536 → ChainsSame m n voc nm → is_too_long_from m voc nm ≡ is_too_long_from n voc nm
-unfolding is_too_long_from is_missed_from first_in is_missed_in
-long_by m n nm voc lm ln h =
-    rw (sym h.head, sym h.forth_head)
-    (rw (missed_by m n nm 32768 (cell m (head_of voc nm)) lm ln h.members, first_by m n nm 32768 (cell m (head_of voc nm)) lm ln (less_same m n 32768 (cell m (head_of voc nm)) h.members), missed_by m n nm 32768 (cell m (head_of 42 nm)) lm ln h.forth_members) refl)
+pub sought_by : (m n nm : List ℕ) (voc : ℕ) → length m ≡ 65536 → length n ≡ 65536 → ChainsSame m n voc nm → sought_from m voc nm ≡ sought_from n voc nm
+unfolding sought_from first_from first_in
+sought_by m n nm voc lm ln h =
+    rw (
+      sym h.head, sym h.forth_head, walked_by m n nm 32768 (cell m (head_of voc nm)) lm ln h.members,
+      walked_by m n nm 32768 (cell m (head_of 42 nm)) lm ln h.forth_members,
+    ) refl

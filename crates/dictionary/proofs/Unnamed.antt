@@ -1,13 +1,13 @@
-use Rattle.std.proofs.Common.{◌≡◌, ℕ, ◌<◌, ◌≤◌, List, [], ◌∷◌, length, false, refl, arith, bytes_eq, ap, sym, ◌∙◌, slice_index}
-use Rattle.std.specs.Prelude.{IsFalse}
+use Rattle.std.proofs.Common.{◌≡◌, ◌≢◌, ℕ, zero, suc, ◌<◌, ◌≤◌, ◌⊎◌, inl, inr, List, [], ◌∷◌, length, Bool, true, false, ◌&&◌, nat_le, Option, None, refl, arith, bytes_eq, ap, sym, ◌∙◌, slice_index}
+use Rattle.std.specs.Prelude.{IsFalse, find}
 use Rattle.std.proofs.lemmas.Nat.{and_le_r}
 use Rattle.std.proofs.lemmas.Grind.{common_steps}
 use Rattle.memory.specs.Bytes.{cell, bytes}
 use Rattle.dictionary.specs.Header.{count_byte, name_length, name_of, is_named}
-use Rattle.dictionary.specs.Chain.{chain, first_where, is_longer, is_missed}
-use Rattle.dictionary.specs.Search.{head_of, first_in, is_missed_in, first_from, is_missed_from, found_in, is_too_long_in, found_from, is_too_long_from}
+use Rattle.dictionary.specs.Chain.{chain, is_longer}
+use Rattle.dictionary.specs.Search.{Sought, Found, Nowhere, TooLong, comes_to, head_of, walked, first_in, or_else, first_from, sought_in, sought_from}
 use Rattle.dictionary.specs.Adding.{is_name}
-use Rattle.dictionary.proofs.Firsts.{none_first}
+use Rattle.dictionary.proofs.Firsts.{none_first, from_in}
 
 name_at_most : (m : List ℕ) (l : ℕ) → length (name_of m l) ≤ 31
 unfolding name_of name_length bytes
@@ -23,64 +23,68 @@ unnamed : (m name : List ℕ) (l : ℕ) → 31 < length name → is_named m name
 unfolding is_named
 unnamed m name l h = let n = name_at_most m l in let u = unequal (name_of m l) name (omega arith) in grind (arith, u)
 
-first_none_named : (m name : List ℕ) (n l : ℕ) → 31 < length name → first_where (is_named m name) m n l ≡ 0
-unfolding first_where
-first_none_named m name n l h = rw (none_first (is_named m name) (chain m n l) (λ k d lt. unnamed m name _ h)) refl
+find_none : (m name : List ℕ) (ls : List ℕ) → 31 < length name → find (is_named m name) ls ≡ None
+find_none m name ls h = none_first (is_named m name) ls (λ k d lt. unnamed m name _ h)
 
-in_none : (m name : List ℕ) (voc : ℕ) → 31 < length name → first_in (is_named m name) m voc name ≡ 0
-unfolding first_in
-in_none m name voc h = first_none_named m name 32768 (cell m (head_of voc name)) h
-
-missed_long : (m name : List ℕ) (n l : ℕ) → 31 < length name → is_missed (is_named m name) m n l ≡ is_longer m n l
-unfolding is_missed
-missed_long m name n l h = rw (first_none_named m name n l h) refl
+walked_long : (m name : List ℕ) (n l : ℕ) → 31 < length name → walked (is_named m name) m n l ≡ comes_to None (is_longer m n l)
+unfolding walked
+walked_long m name n l h = rw (find_none m name (chain m n l) h) refl
 
 same_head : (voc : ℕ) (name other : List ℕ) → slice_index name 0 ≡ slice_index other 0 → head_of voc name ≡ head_of voc other
 unfolding head_of
 same_head voc name other e = rw e refl
 
-missed_in_long : (m name : List ℕ) (voc : ℕ) → 31 < length name → is_missed_in (is_named m name) m voc name ≡ is_longer m 32768 (cell m (head_of voc name))
-unfolding is_missed_in
-missed_in_long m name voc h = missed_long m name 32768 (cell m (head_of voc name)) h
+in_long : (m name : List ℕ) (voc : ℕ) → 31 < length name → sought_in m voc name ≡ comes_to None (is_longer m 32768 (cell m (head_of voc name)))
+unfolding sought_in first_in
+in_long m name voc h = walked_long m name 32768 (cell m (head_of voc name)) h
 
-missed_in_same : (m name other : List ℕ) (voc : ℕ) → 31 < length name → 31 < length other → slice_index name 0 ≡ slice_index other 0
-    → is_missed_in (is_named m name) m voc name ≡ is_missed_in (is_named m other) m voc other
-missed_in_same m name other voc h k e =
-    missed_in_long m name voc h
-    ∙ ap (λ (a : ℕ). is_longer m 32768 (cell m a)) (same_head voc name other e)
-    ∙ sym (missed_in_long m other voc k)
+not_found : (b : Bool) (l : ℕ) → comes_to None b ≢ Found l
+not_found true l e = cc
+not_found false l e = cc
 
-pub long_never : (m name : List ℕ) (voc : ℕ) → 31 < length name → found_in m voc name ≡ 0
-unfolding found_in
-long_never m name voc h = in_none m name voc h
+pub long_never : (m name : List ℕ) (voc l : ℕ) → 31 < length name → sought_in m voc name ≢ Found l
+long_never m name voc l h e = not_found _ l (sym (in_long m name voc h) ∙ e)
 
 pub long_alone : (m name other : List ℕ) (voc : ℕ) → 31 < length name → 31 < length other → slice_index name 0 ≡ slice_index other 0
-    → is_too_long_in m voc name ≡ is_too_long_in m voc other
-unfolding is_too_long_in
-long_alone m name other voc h k e = missed_in_same m name other voc h k e
+    → sought_in m voc name ≡ sought_in m voc other
+long_alone m name other voc h k e =
+    in_long m name voc h
+    ∙ ap (λ (a : ℕ). comes_to None (is_longer m 32768 (cell m a))) (same_head voc name other e)
+    ∙ sym (in_long m other voc k)
 
 pub long_from : (m name other : List ℕ) (voc : ℕ) → 31 < length name → 31 < length other → slice_index name 0 ≡ slice_index other 0
-    → is_too_long_from m voc name ≡ is_too_long_from m voc other
-unfolding is_too_long_from is_missed_from
+    → sought_from m voc name ≡ sought_from m voc other
 long_from m name other voc h k e =
-    let a = missed_in_same m name other voc h k e in
-    let b = missed_in_same m name other 42 h k e in
-    let c = in_none m name voc h in
-    let d = in_none m other voc k in
-    grind (arith, a, b, c, d)
+    from_in m name voc (omega arith)
+    ∙ rw (long_alone m name other voc h k e, long_alone m name other 42 h k e) refl
+    ∙ sym (from_in m other voc (omega arith))
 
-from_none : (m name : List ℕ) (voc : ℕ) → 31 < length name → first_from (is_named m name) m voc name ≡ 0
-unfolding first_from
-from_none m name voc h = let a = in_none m name voc h in let b = in_none m name 42 h in grind (arith, a, b)
+neither : (a b : Sought) (l : ℕ) → a ≢ Found l → b ≢ Found l → or_else a b ≢ Found l
+neither Nowhere b l h k e = k e
+neither (Found i) b l h k e = h e
+neither TooLong b l h k e = h e
 
-from_empty : (m name : List ℕ) (voc : ℕ) → length name ≡ 0 → first_from (is_named m name) m voc name ≡ 0
-unfolding first_from
-from_empty m name voc h = grind arith
+pub empty_never : (m name : List ℕ) (voc : ℕ) → length name ≡ 0 → sought_from m voc name ≡ Nowhere
+unfolding sought_from first_from
+empty_never m name voc h = rw h refl
 
-pub name_never : (m name : List ℕ) (voc : ℕ) → IsFalse (is_name name) → found_from m voc name ≡ 0
-unfolding found_from is_name
-name_never m name voc h = grind (arith, from_none, from_empty)
+nowhere_found : (l : ℕ) → Nowhere ≢ Found l
+nowhere_found l e = cc
 
-pub empty_never : (m name : List ℕ) (voc : ℕ) → length name ≡ 0 → IsFalse (is_too_long_from m voc name)
-unfolding is_too_long_from is_missed_from
-empty_never m name voc h = grind arith
+by_length : (m name : List ℕ) (voc l n : ℕ) → length name ≡ n → (n ≡ 0) ⊎ (31 < n) → sought_from m voc name ≢ Found l
+by_length m name voc l n e (inl z) q = nowhere_found l (sym (empty_never m name voc (e ∙ z)) ∙ q)
+by_length m name voc l n e (inr k) q =
+    let long : 31 < length name = omega arith in
+    neither (sought_in m voc name) (sought_in m 42 name) l (long_never m name voc l long) (long_never m name 42 l long)
+    (sym (from_in m name voc (omega arith)) ∙ q)
+
+no_name : (name : List ℕ) → IsFalse (is_name name) → (length name ≡ 0) ⊎ (31 < length name)
+unfolding is_name
+no_name name h = by (length name) h
+  where
+    by : (n : ℕ) → IsFalse (nat_le 1 n && nat_le n 31) → (n ≡ 0) ⊎ (31 < n)
+    by zero g = inl refl
+    by (suc n) g = inr (grind arith)
+
+pub name_never : (m name : List ℕ) (voc l : ℕ) → IsFalse (is_name name) → sought_from m voc name ≢ Found l
+name_never m name voc l h = by_length m name voc l (length name) refl (no_name name h)

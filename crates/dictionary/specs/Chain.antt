@@ -1,4 +1,4 @@
-use Rattle.std.specs.Prelude.{ℕ, zero, suc, List, [], ◌∷◌, ◌==◌, if◌then◌else◌, Bool, ◌&&◌, nat_lt, length, find, unwrap_or, ◌++◌, ◌≡◌, All, IsTrue, IsFalse}
+use Rattle.std.specs.Prelude.{ℕ, zero, suc, List, [], ◌∷◌, ◌==◌, if◌then◌else◌, Bool, nat_lt, length, ◌++◌, ◌≡◌, All, IsTrue, IsFalse}
 use Rattle.memory.specs.Bytes.{cell}
 
 -- the first n link fields reached from l on: each holds the address of the next, and 0 ends the chain
@@ -6,17 +6,9 @@ unfoldable pub chain : List ℕ → ℕ → ℕ → List ℕ
 chain m zero l = []
 chain m (suc n) l = if l == 0 then [] else l ∷ chain m n (cell m l)
 
--- the first of the first n members that passes the test; 0, which is no member, where there is none
-unfoldable pub first_where : (ℕ → Bool) → List ℕ → ℕ → ℕ → ℕ
-first_where test m n l = unwrap_or (find test (chain m n l)) 0
-
 -- the chain has more than n members
 unfoldable pub is_longer : List ℕ → ℕ → ℕ → Bool
 is_longer m n l = nat_lt n (length (chain m (suc n) l))
-
--- none of the first n members passes the test, and the chain is longer
-unfoldable pub is_missed : (ℕ → Bool) → List ℕ → ℕ → ℕ → Bool
-is_missed test m n l = (first_where test m n l == 0) && is_longer m n l
 
 -- in a chain's list of members l is the newest that passes the test: it does, and none before it does
 pub record IsNewest (test : ℕ → Bool) (ls : List ℕ) (l : ℕ) : Type 0 where

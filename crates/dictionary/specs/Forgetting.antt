@@ -1,30 +1,26 @@
-use Rattle.std.specs.Prelude.{ℕ, ◌+◌, ◌<◌, List, [], ◌∷◌, ◌++◌, ◌≡◌, ◌==◌, Bool, not, ◌&&◌, ◌||◌, nat_lt, nat_le, if◌then◌else◌, length, flat_map, find, unwrap_or, Result, Ok, Err, IsTrue, IsFalse}
+use Rattle.std.specs.Prelude.{ℕ, ◌+◌, List, [], ◌∷◌, ◌++◌, ◌≡◌, ◌==◌, nat_lt, nat_le, if◌then◌else◌, length, flat_map, find, unwrap_or, Result, Ok, Err, IsOk}
 use Rattle.cells.specs.Cell.{wrap, difference}
 use Rattle.memory.specs.Bytes.{cell, Write, PutCell, written}
 use Rattle.memory.specs.declared.system.TheConstants.{DP, LAST, CONTEXT, CURRENT, FORTH_VOC, VOC_LINK, FENCE}
 use Rattle.dictionary.specs.declared.fault.ForgetFault.{ForgetFault}
 use Rattle.dictionary.specs.declared.fault.ForgetFault.TheVariants.{NameLength, NotFound, ChainTooLong}
-use Rattle.dictionary.specs.Search.{found_in, is_too_long_in}
+use Rattle.dictionary.specs.Search.{Sought, Found, Nowhere, TooLong, sought_in}
 use Rattle.dictionary.specs.Order.{records, members, is_beyond_limit}
 
--- where the header begins that a name means in CURRENT's vocabulary: at its view cell
-unfoldable pub target : List ℕ → List ℕ → ℕ
-target m name = difference (found_in m (cell m CURRENT) name) 2
+-- where the header begins that a search found, at its view cell, if it can be forgotten, or why not: it must begin at
+-- FENCE or above, and all headers and records must be within reach
+abbrev pub target_at : List ℕ → Sought → Result ℕ ForgetFault
+target_at m Nowhere = Err NotFound
+target_at m TooLong = Err ChainTooLong
+target_at m (Found l) =
+    let begins = difference l 2 in
+    if nat_lt begins (cell m FENCE) then Err NotFound
+    else if is_beyond_limit m then Err ChainTooLong
+    else Ok begins
 
--- the name means no header there, or one that begins below FENCE
-unfoldable pub is_missing_or_fenced : List ℕ → List ℕ → Bool
-is_missing_or_fenced m name = (found_in m (cell m CURRENT) name == 0) || nat_lt (target m name) (cell m FENCE)
-
--- where the header begins that can be forgotten, or why there is none
-abbrev pub IsTarget : List ℕ → List ℕ → Result ℕ ForgetFault → Type 0
-IsTarget m name (Err NameLength) = length name ≡ 0
-IsTarget m name (Err NotFound) =
-    (0 < length name) × IsFalse (is_too_long_in m (cell m CURRENT) name) × IsTrue (is_missing_or_fenced m name)
-IsTarget m name (Err ChainTooLong) =
-    (0 < length name) × IsTrue (is_too_long_in m (cell m CURRENT) name || (not (is_missing_or_fenced m name) && is_beyond_limit m))
-IsTarget m name (Ok t) =
-    (0 < length name) × IsFalse (is_too_long_in m (cell m CURRENT) name) × IsFalse (is_missing_or_fenced m name)
-    × IsFalse (is_beyond_limit m) × (t ≡ target m name)
+-- the same of a name, which CURRENT's vocabulary is searched for
+unfoldable pub target : List ℕ → List ℕ → Result ℕ ForgetFault
+target m name = if length name == 0 then Err NameLength else target_at m (sought_in m (cell m CURRENT) name)
 
 -- the first of a list that is below t, 0 where there is none
 unfoldable pub first_below : ℕ → List ℕ → ℕ
@@ -56,9 +52,10 @@ cuts m t =
 unfoldable pub forgotten : List ℕ → ℕ → List ℕ
 forgotten m t = written m (cuts m t)
 
-abbrev pub IsForgotten : List ℕ → List ℕ → List ℕ → Result Unit ForgetFault → Type 0
-IsForgotten old new name (Ok _) = IsTarget old name (Ok (target old name)) × (new ≡ forgotten old (target old name))
-IsForgotten old new name (Err fault) = IsTarget old name (Err fault) × (new ≡ old)
+-- FORGET by such a target: it is forgotten, or nothing is written
+abbrev pub IsForgotten : Result ℕ ForgetFault → List ℕ → List ℕ → Result Unit ForgetFault → Type 0
+IsForgotten (Ok t) old new result = IsOk result × (new ≡ forgotten old t)
+IsForgotten (Err fault) old new result = (result ≡ Err fault) × (new ≡ old)
 
 -- the writes to the heads of the first n records from r on, made in m out of the memory before
 unfoldable pub cut_all : List ℕ → ℕ → ℕ → ℕ → List ℕ → List ℕ

@@ -3,7 +3,7 @@
 ghost use Rattle.std.specs.Prelude.{◌≡◌};
 ghost use Rattle.memory.specs.Bytes.{put_cell, written};
 ghost use Rattle.dictionary.specs.Order.{members};
-ghost use Rattle.dictionary.specs.Forgetting.{target, IsTarget, first_below, kept_record, cut_vocabulary, cuts, forgotten, IsForgotten, cut_all};
+ghost use Rattle.dictionary.specs.Forgetting.{target, first_below, kept_record, cut_vocabulary, cuts, forgotten, IsForgotten, cut_all};
 
 use crate::counting::{CUT, is_beyond_limit};
 use crate::fault::ForgetFault;
@@ -16,9 +16,9 @@ use memory::{Memory, Snapshot};
 /// In this order: `NameLength` for the empty name; `ChainTooLong` where the search passes its limit; `NotFound` where
 /// there is no such header, or it begins below FENCE; `ChainTooLong` where more than 32,768 headers and records are
 /// reached in all vocabularies.
-#[tactic(auto, unfolding(crate::specs::Forgetting::target, crate::specs::Forgetting::is_missing_or_fenced))]
+#[tactic(auto, unfolding(crate::specs::Forgetting::target))]
 pub fn forget_target(memory: &Memory, name: &[u8]) -> Result<u16, ForgetFault>
-    ensures { IsTarget memory.now name.now result }
+    ensures { result ≡ target memory.now name.now }
 {
     if name.is_empty() {
         return Err(ForgetFault::NameLength);
@@ -136,7 +136,7 @@ fn cut_from(memory: &mut Memory, t: u16)
 ///
 /// `NameLength`, `NotFound` and `ChainTooLong` as of `forget_target`: nothing is written.
 pub fn forget(memory: &mut Memory, name: &[u8]) -> Result<(), ForgetFault>
-    ensures { IsForgotten memory.old memory.new name.now result }
+    ensures { IsForgotten (target memory.old name.now) memory.old memory.new result }
 {
     let t = forget_target(memory, name)?;
     cut_from(memory, t);

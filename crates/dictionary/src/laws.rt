@@ -1,12 +1,12 @@
 //! Laws of the dictionary.
 
-ghost use Rattle.std.specs.Prelude.{◌≡◌, ◌<◌, ◌≤◌, ◌↔◌, ℕ, Bool, List, length, slice_index, All, Contains, IsTrue, IsFalse, true, false, nat_lt};
+ghost use Rattle.std.specs.Prelude.{◌≡◌, ◌≢◌, ◌<◌, ◌≤◌, ◌↔◌, ℕ, Bool, List, length, slice_index, All, Contains, IsTrue, IsFalse, true, false, nat_lt};
 ghost use Rattle.std.specs.List.Sorted.{IsStrictlyIncreasing};
 ghost use Rattle.memory.specs.Bytes.{cell};
 ghost use Rattle.memory.specs.declared.system.TheConstants.{FORTH_VOC, VOC_LINK};
 ghost use Rattle.dictionary.specs.Header.{count_byte, name_length, is_hidden, is_immediate, is_named};
 ghost use Rattle.dictionary.specs.Chain.{IsNewest};
-ghost use Rattle.dictionary.specs.Search.{chain_in, searched_in, goes_on_in, found_in, is_too_long_in, found_from, is_too_long_from, found, is_too_long, sought_in, sought, sought_as};
+ghost use Rattle.dictionary.specs.Search.{Found, Nowhere, chain_in, searched_in, goes_on_in, sought_in, sought_from};
 ghost use Rattle.dictionary.specs.Adding.{is_name, new_count};
 ghost use Rattle.dictionary.specs.Newest.{revealed};
 ghost use Rattle.dictionary.specs.Order.{members, all_members, headers};
@@ -17,45 +17,38 @@ ghost use Rattle.dictionary.specs.Forgetting.{first_below};
 pub fn search_law()
     ensures newest { (m name : List ℕ) (voc l : ℕ) → 0 < length name → length (chain_in m voc name) ≤ 32768
         → Contains (chain_in m voc name) l → IsTrue (is_named m name l)
-        → IsNewest (is_named m name) (chain_in m voc name) (found_from m voc name) }
+        → (k : ℕ) × (sought_from m voc name ≡ Found k) × IsNewest (is_named m name) (chain_in m voc name) k }
     ensures forth { (m name : List ℕ) (voc : ℕ) → 0 < length name → length (chain_in m voc name) ≤ 32768
         → All (λ l. IsFalse (is_named m name l)) (chain_in m voc name)
-        → found_from m voc name ≡ found_in m FORTH_VOC name }
+        → sought_from m voc name ≡ sought_in m FORTH_VOC name }
 {}
 
-/// What a search comes to is what it gives, a header's link field or none, and whether a chain was too long: in one
-/// vocabulary alone, and the machine's own.
-pub fn sought_law()
-    ensures alone { (m name : List ℕ) (voc : ℕ) → sought_in m voc name ≡ sought_as (found_in m voc name) (is_too_long_in m voc name) }
-    ensures machine { (m name : List ℕ) → sought m name ≡ sought_as (found m name) (is_too_long m name) }
-{}
-
-/// A search looks at 32,768 members of a chain: where these are the same in two memories and have the same names, and
-/// both chains end there or both go on, it gives the same. What stands behind them doesn't matter.
+/// A search looks at 32,768 members of a chain: where these are the same in two memories and have the same names, it
+/// finds the same, and where both chains end there or both go on, it comes to the same. What stands behind them doesn't
+/// matter.
 pub fn walk_law()
-    ensures found { (m n name : List ℕ) (voc : ℕ) → searched_in m voc name ≡ searched_in n voc name
-        → All (λ l. is_named m name l ≡ is_named n name l) (searched_in m voc name)
-        → found_in m voc name ≡ found_in n voc name }
-    ensures too_long { (m n name : List ℕ) (voc : ℕ) → searched_in m voc name ≡ searched_in n voc name
-        → All (λ l. is_named m name l ≡ is_named n name l) (searched_in m voc name)
-        → goes_on_in m voc name ≡ goes_on_in n voc name
-        → is_too_long_in m voc name ≡ is_too_long_in n voc name }
+    ensures found { (m n name : List ℕ) (voc l : ℕ) → searched_in m voc name ≡ searched_in n voc name
+        → All (λ k. is_named m name k ≡ is_named n name k) (searched_in m voc name)
+        → sought_in m voc name ≡ Found l → sought_in n voc name ≡ Found l }
+    ensures same { (m n name : List ℕ) (voc : ℕ) → searched_in m voc name ≡ searched_in n voc name
+        → All (λ k. is_named m name k ≡ is_named n name k) (searched_in m voc name)
+        → goes_on_in m voc name ≡ goes_on_in n voc name → sought_in m voc name ≡ sought_in n voc name }
 {}
 
 /// A name of no or of more than 31 bytes is never found, and for the empty name no chain is walked.
 pub fn name_law()
-    ensures found { (m name : List ℕ) (voc : ℕ) → IsFalse (is_name name) → found_from m voc name ≡ 0 }
-    ensures empty { (m name : List ℕ) (voc : ℕ) → length name ≡ 0 → IsFalse (is_too_long_from m voc name) }
+    ensures found { (m name : List ℕ) (voc l : ℕ) → IsFalse (is_name name) → sought_from m voc name ≢ Found l }
+    ensures empty { (m name : List ℕ) (voc : ℕ) → length name ≡ 0 → sought_from m voc name ≡ Nowhere }
 {}
 
 /// Names of more than 31 bytes with the same first byte are searched alike, so a longer one may be cut to 32 bytes. They
 /// aren't found, and walk the same chains.
 pub fn long_name_law()
-    ensures never { (m name : List ℕ) (voc : ℕ) → 31 < length name → found_in m voc name ≡ 0 }
+    ensures never { (m name : List ℕ) (voc l : ℕ) → 31 < length name → sought_in m voc name ≢ Found l }
     ensures alone { (m name other : List ℕ) (voc : ℕ) → 31 < length name → 31 < length other
-        → slice_index name 0 ≡ slice_index other 0 → is_too_long_in m voc name ≡ is_too_long_in m voc other }
+        → slice_index name 0 ≡ slice_index other 0 → sought_in m voc name ≡ sought_in m voc other }
     ensures from { (m name other : List ℕ) (voc : ℕ) → 31 < length name → 31 < length other
-        → slice_index name 0 ≡ slice_index other 0 → is_too_long_from m voc name ≡ is_too_long_from m voc other }
+        → slice_index name 0 ≡ slice_index other 0 → sought_from m voc name ≡ sought_from m voc other }
 {}
 
 /// The headers are in the order of their addresses, none stands twice, and they are the members of all chains.

@@ -1,10 +1,8 @@
 //! The search of a name.
 
 ghost use Rattle.std.specs.Prelude.{◌≡◌, ◌<◌, length};
-ghost use Rattle.memory.specs.Bytes.{cell};
 ghost use Rattle.dictionary.specs.Header.{is_named_but};
-ghost use Rattle.dictionary.specs.Chain.{first_where, is_missed};
-ghost use Rattle.dictionary.specs.Search.{head_of, first_in, is_missed_in, first_from, is_missed_from, found_in, is_too_long_in, found_from, is_too_long_from, found, is_too_long, found_hiding, is_too_long_hiding, IsSought, IsFound};
+ghost use Rattle.dictionary.specs.Search.{head_of, walked, first_in, first_from, sought_in, sought_from, sought, sought_hiding, by_address, IsSought};
 
 use crate::fault::ChainTooLong;
 use crate::reading::{compilation_address, is_named_but};
@@ -27,10 +25,9 @@ pub fn head_of(voc: u16, name: &[u8]) -> u16
 }
 
 /// The first unhidden header of that name in the chain from `start` on, where the one at `hidden` counts as hidden.
-#[tactic(auto, using(crate::proofs::Chains::walks))]
+#[tactic(auto, using(crate::proofs::Chains::walking))]
 fn walk(memory: &Memory, start: u16, name: &[u8], hidden: u16) -> Result<Option<u16>, ChainTooLong>
-    ensures { IsSought (first_where (is_named_but memory.now name.now hidden) memory.now 32768 start)
-        (is_missed (is_named_but memory.now name.now hidden) memory.now 32768 start) result }
+    ensures { IsSought (walked (is_named_but memory.now name.now hidden) memory.now 32768 start) result }
 {
     let mut l = start;
     let mut left = LIMIT;
@@ -48,7 +45,7 @@ fn walk(memory: &Memory, start: u16, name: &[u8], hidden: u16) -> Result<Option<
 }
 
 /// The same in the chain of the name's class in a vocabulary.
-#[tactic(auto, unfolding(crate::specs::Search::first_in, crate::specs::Search::is_missed_in))]
+#[tactic(auto, unfolding(crate::specs::Search::first_in))]
 fn first_in(
     memory: &Memory,
     voc: u16,
@@ -56,22 +53,20 @@ fn first_in(
     hidden: u16,
 ) -> Result<Option<u16>, ChainTooLong>
     requires { 0 < length name.now }
-    ensures { IsSought (first_in (is_named_but memory.now name.now hidden) memory.now voc name.now)
-        (is_missed_in (is_named_but memory.now name.now hidden) memory.now voc name.now) result }
+    ensures { IsSought (first_in (is_named_but memory.now name.now hidden) memory.now voc name.now) result }
 {
     walk(memory, memory.cell(head_of(voc, name)), name, hidden)
 }
 
 /// The same in a vocabulary, and then in FORTH.
-#[tactic(auto, unfolding(crate::specs::Search::first_from, crate::specs::Search::is_missed_from))]
+#[tactic(auto, unfolding(crate::specs::Search::first_from))]
 fn first_from(
     memory: &Memory,
     voc: u16,
     name: &[u8],
     hidden: u16,
 ) -> Result<Option<u16>, ChainTooLong>
-    ensures { IsSought (first_from (is_named_but memory.now name.now hidden) memory.now voc name.now)
-        (is_missed_from (is_named_but memory.now name.now hidden) memory.now voc name.now) result }
+    ensures { IsSought (first_from (is_named_but memory.now name.now hidden) memory.now voc name.now) result }
 {
     if name.is_empty() {
         return Ok(None);
@@ -87,7 +82,7 @@ fn first_from(
 #[tactic(auto, using(crate::proofs::Hiding::hiding_none))]
 pub fn search_in(memory: &Memory, voc: u16, name: &[u8]) -> Result<Option<u16>, ChainTooLong>
     requires { 0 < length name.now }
-    ensures { IsSought (found_in memory.now voc name.now) (is_too_long_in memory.now voc name.now) result }
+    ensures { IsSought (sought_in memory.now voc name.now) result }
 {
     first_in(memory, voc, name, NONE)
 }
@@ -96,30 +91,30 @@ pub fn search_in(memory: &Memory, voc: u16, name: &[u8]) -> Result<Option<u16>, 
 /// chain than 32,768 headers without a find is `ChainTooLong`, in `voc` also where FORTH has the name.
 #[tactic(auto, using(crate::proofs::Hiding::hiding_none))]
 pub fn search_from(memory: &Memory, voc: u16, name: &[u8]) -> Result<Option<u16>, ChainTooLong>
-    ensures { IsSought (found_from memory.now voc name.now) (is_too_long_from memory.now voc name.now) result }
+    ensures { IsSought (sought_from memory.now voc name.now) result }
 {
     first_from(memory, voc, name, NONE)
 }
 
 /// The link field of the header that a name means: the vocabulary in CONTEXT is searched, and then FORTH.
-#[tactic(auto, unfolding(crate::specs::Search::found, crate::specs::Search::is_too_long))]
+#[tactic(auto, unfolding(crate::specs::Search::sought))]
 pub fn search(memory: &Memory, name: &[u8]) -> Result<Option<u16>, ChainTooLong>
-    ensures { IsSought (found memory.now name.now) (is_too_long memory.now name.now) result }
+    ensures { IsSought (sought memory.now name.now) result }
 {
     search_from(memory, memory.cell(CONTEXT), name)
 }
 
 /// The same, where the header at `hidden` counts as hidden.
-#[tactic(auto, unfolding(crate::specs::Search::found_hiding, crate::specs::Search::is_too_long_hiding))]
+#[tactic(auto, unfolding(crate::specs::Search::sought_hiding))]
 pub fn search_hiding(memory: &Memory, name: &[u8], hidden: u16) -> Result<Option<u16>, ChainTooLong>
-    ensures { IsSought (found_hiding memory.now name.now hidden) (is_too_long_hiding memory.now name.now hidden) result }
+    ensures { IsSought (sought_hiding memory.now name.now hidden) result }
 {
     first_from(memory, memory.cell(CONTEXT), name, hidden)
 }
 
 /// The compilation address that a name means (Forth-83 FIND).
 pub fn find(memory: &Memory, name: &[u8]) -> Result<Option<u16>, ChainTooLong>
-    ensures { IsFound memory.now name.now result }
+    ensures { IsSought (by_address memory.now (sought memory.now name.now)) result }
 {
     match search(memory, name)? {
         Some(l) => Ok(Some(compilation_address(memory, l))),

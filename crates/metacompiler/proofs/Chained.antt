@@ -12,7 +12,7 @@ use Rattle.memory.specs.Bytes as memory
 use Rattle.memory.proofs.Same.{Stands}
 use Rattle.dictionary.specs.Header.{view_of, is_named}
 use Rattle.dictionary.specs.Chain.{chain, is_longer}
-use Rattle.dictionary.specs.Search.{head_of, Sought, Found, Nowhere, TooLong, sought_in, sought, or_in_forth}
+use Rattle.dictionary.specs.Search.{head_of, Found, Nowhere, comes_to, walked, or_else as or_forth, first_in, first_from, sought_in, sought_from, sought}
 use Rattle.metacompiler.specs.Places.{Place}
 use Rattle.metacompiler.specs.Names.{Name, class_of, newest_of, newest_link, link_or_none, within, found, or_else}
 use Rattle.metacompiler.specs.declared.entry.Sign.TheVariants as s
@@ -245,20 +245,16 @@ pub vocabulary_below : (t : Items) (voc : ℕ) → AreSound 61440 t → IsVocabu
 vocabulary_below t voc h (inl e) = omega arith
 vocabulary_below t voc h (inr r) = let b = record_below t voc r in omega (arith, sound_end 61440 t (lit≤ tt) h)
 
-walked : Option ℕ → Bool → Sought
-walked o longer = elim o [ Some l ↦ Found l | None ↦ if longer then TooLong else Nowhere ]
-
-walked_name : (o : Option Name) → walked (option_map (λ n. n.link) o) false ≡ sought_name o
-unfolding walked
-walked_name None = refl
-walked_name (Some n) = refl
+comes_to_name : (o : Option Name) → comes_to (option_map (λ n. n.link) o) false ≡ sought_name o
+comes_to_name None = refl
+comes_to_name (Some n) = refl
 
 not_longer : (m : List ℕ) (n l : ℕ) → length (chain m (suc n) l) ≤ n → is_longer m n l ≡ false
 unfolding is_longer
 not_longer m n l h = grind arith
 
 pub image_sought_in : (t : Items) (voc : ℕ) (bs : List ℕ) → AreSound 61440 t → IsVocabulary t voc → sought_in (memory_of t) voc bs ≡ sought_name (within voc bs (names t))
-unfolding sought_in head_of walked
+unfolding sought_in first_in head_of walked
 image_sought_in t voc bs h v =
     let m = memory_of t in
     let ns = names t in
@@ -271,28 +267,30 @@ image_sought_in t voc bs h v =
     ap (λ ls. find (is_named m bs) ls) (chain_is m voc c t 32768 f few) ∙ find_links (is_named m bs) voc c bs ns refl (all_named m bs t f) in
     let long : is_longer m 32768 (newest_link ns voc c) ≡ false =
     not_longer m 32768 (newest_link ns voc c) (let e = ap length (chain_is m voc c t 32769 f (omega arith)) in omega (arith, e, length-links voc c ns)) in
-    ap (λ x. walked (find (is_named m bs) (chain m 32768 x)) (is_longer m 32768 x)) l
-    ∙ ap (λ o. walked o (is_longer m 32768 (newest_link ns voc c))) a
-    ∙ ap (λ b. walked (option_map (λ n. n.link) (within voc bs ns)) b) long
-    ∙ walked_name (within voc bs ns)
+    ap (λ x. comes_to (find (is_named m bs) (chain m 32768 x)) (is_longer m 32768 x)) l
+    ∙ ap (λ o. comes_to o (is_longer m 32768 (newest_link ns voc c))) a
+    ∙ ap (λ b. comes_to (option_map (λ n. n.link) (within voc bs ns)) b) long
+    ∙ comes_to_name (within voc bs ns)
 
 -- the machine's own search
 context_is : (t : Items) → cell (memory_of t) 32 ≡ current t
 context_is t = system_cell t 16 (omega arith)
 
-in_forth : (m bs : List ℕ) (a b : Option Name) → sought_in m 42 bs ≡ sought_name b → or_in_forth m bs (sought_name a) ≡ sought_name (or_else a b)
-in_forth m bs None b e = e
-in_forth m bs (Some n) b e = refl
+in_forth : (a b : Option Name) → or_forth (sought_name a) (sought_name b) ≡ sought_name (or_else a b)
+in_forth None b = refl
+in_forth (Some n) b = refl
+
+sought_both : (m bs : List ℕ) → 0 < length bs → sought m bs ≡ or_forth (sought_in m (cell m 32) bs) (sought_in m 42 bs)
+unfolding sought sought_from sought_in first_from
+sought_both m bs l = let z : (length bs == 0) ≡ false = grind arith in rw z refl
 
 pub image_sought : (t : Items) (bs : List ℕ) → AreSound 61440 t → 0 < length bs → sought (memory_of t) bs ≡ sought_name (found (current t) bs (names t))
-unfolding sought
 image_sought t bs h l =
     let m = memory_of t in
-    let z : (length bs == 0) ≡ false = grind arith in
     let c : IsVocabulary t (current t) = (sound_names 61440 t h).0 in
     let a : sought_in m (cell m 32) bs ≡ sought_name (within (current t) bs (names t)) = ap (λ v. sought_in m v bs) (context_is t) ∙ image_sought_in t (current t) bs h c in
     let f : sought_in m 42 bs ≡ sought_name (within 42 bs (names t)) = image_sought_in t 42 bs h (inl refl) in
-    rw z (ap (λ x. or_in_forth m bs x) a ∙ in_forth m bs (within (current t) bs (names t)) (within 42 bs (names t)) f)
+    sought_both m bs l ∙ rw (a, f) (in_forth (within (current t) bs (names t)) (within 42 bs (names t)))
 
 -- a header that no later one hides
 equal_bytes : (xs : List ℕ) → bytes_eq xs xs ≡ true

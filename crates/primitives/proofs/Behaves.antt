@@ -18,7 +18,10 @@ use Rattle.plain_rows.specs.declared.parts.Span.{Span}
 use Rattle.plain_rows.proofs.Shapes.{by_if, by_room, by_takes1, by_takes2, by_takes3}
 use Rattle.primitives.specs.Blocks.{has_block, without_block, write_of, with_block, fetches}
 use Rattle.primitives.specs.Devices.{saves_victim, saves}
-use Rattle.primitives.specs.Names.{searches}
+use Rattle.primitives.specs.Names.{searches, forgets}
+use Rattle.std.specs.Prelude.{Result, Ok, Err}
+use Rattle.dictionary.specs.declared.fault.ForgetFault.{ForgetFault}
+use Rattle.dictionary.specs.declared.fault.ForgetFault.TheVariants.{NameLength, NotFound, ChainTooLong}
 use Rattle.dictionary.specs.Search.{Sought, Found, Nowhere, TooLong}
 use Rattle.primitives.specs.Needs.{stream_needs}
 use Rattle.primitives.specs.Stops.{Keeps, StopsKeeping}
@@ -120,6 +123,13 @@ behaves_searches m s (Found l) nowhere found h k = k l
 behaves_searches m s Nowhere nowhere found h k = h
 behaves_searches m s TooLong nowhere found h k = behaves_fault m s 11
 
+pub behaves_forgets : (m : Option After) (s : Whole) (x : Result ℕ ForgetFault) (after : ℕ → After) → ((t : ℕ) → Behaves m s (after t)) → Behaves m s (forgets s x after)
+unfolding forgets
+behaves_forgets m s (Ok t) after h = h t
+behaves_forgets m s (Err NameLength) after h = behaves_fault m s 15
+behaves_forgets m s (Err NotFound) after h = behaves_fault m s 13
+behaves_forgets m s (Err ChainTooLong) after h = behaves_fault m s 11
+
 -- behind a reference, which keeps all but the order of the buffers
 keeps_behind : (s t : Whole) (slot : ℕ) → Keeps (record s { buffers = moved_front slot s.buffers }) t → Keeps s t
 unfolding after_references
@@ -211,4 +221,4 @@ behaves_plain m s (t, outcome.Fault f) h = subst (λ (w : Whole). Behaves m s (w
 behaves_plain m s (t, outcome.Abort span) h = subst (λ (w : Whole). Behaves m s (w, outcome.Abort span)) (sym h) (behaves_same m s (outcome.Abort span) refl tt)
 behaves_plain m s (t, outcome.Halt) h = record { stops = tt; asks = λ q. cc; keeps = subst AreOrderly (sym h); fitly = tt }
 
-pub ruleset behaves = (behaves_fault, behaves_done, behaves_show, behaves_byte, behaves_if, behaves_room, behaves_takes1, behaves_takes2, behaves_takes3, behaves_searches, behaves_fetches, behaves_reads, orderly_marked, orderly_unassigned)
+pub ruleset behaves = (behaves_fault, behaves_done, behaves_show, behaves_byte, behaves_if, behaves_room, behaves_takes1, behaves_takes2, behaves_takes3, behaves_searches, behaves_forgets, behaves_fetches, behaves_reads, orderly_marked, orderly_unassigned)

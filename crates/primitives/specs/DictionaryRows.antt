@@ -1,11 +1,10 @@
 use Rattle.std.specs.Prelude.{ℕ, ◌+◌, List, [], ◌∷◌, ◌++◌, length, Bool, false, not, ◌==◌, nat_le, if◌then◌else◌}
 use Rattle.cells.specs.Cell.{wrap, difference}
 use Rattle.dictionary.specs.Adding.{site_of, header_writes, new_count, record_bytes}
-use Rattle.dictionary.specs.Forgetting.{cuts}
+use Rattle.dictionary.specs.Forgetting.{target, cuts}
 use Rattle.dictionary.specs.Header.{compilation_address, is_immediate}
 use Rattle.dictionary.specs.Newest.{with_immediate}
-use Rattle.dictionary.specs.Order.{is_beyond_limit}
-use Rattle.dictionary.specs.Search.{sought_in, sought}
+use Rattle.dictionary.specs.Search.{sought}
 use Rattle.input_source.specs.declared.words.Word.{Word}
 use Rattle.memory.specs.Bytes.{cell, put_cell, Write, PutCell, written}
 use Rattle.memory.specs.declared.system.TheConstants.{TO_IN, DP, CONTEXT, CURRENT, VOC_LINK, FENCE}
@@ -13,7 +12,7 @@ use Rattle.number_text.specs.Picture.{pad}
 use Rattle.plain_rows.specs.Whole.{Whole}
 use Rattle.plain_rows.specs.Row.{After, done, fault, takes1, needs, leaves, room}
 use Rattle.plain_rows.specs.declared.faults.TheConstants.{CHAIN_TOO_LONG, NOT_FOUND, BAD_LENGTH}
-use Rattle.primitives.specs.Names.{counted_string, reads_name, searches, finds_word, admits_header}
+use Rattle.primitives.specs.Names.{counted_string, reads_name, searches, finds_word, forgets, admits_header}
 use Rattle.stacks.specs.Cells.{◌▸◌}
 
 -- 147 FIND ( a -- a 0, w -1, w 1 ): the counted string at a; 1 where it is immediate
@@ -49,15 +48,8 @@ immediate s = done (record s { memory = with_immediate s.memory })
 
 -- 152 FORGET ( -- ): all is read from the memory before, >IN is written first
 abbrev pub forget : Whole → After
-forget s = reads_name s (λ t w name.
-    let m = t.memory in
-    needs t BAD_LENGTH (not (w.len == 0))
-    (searches t (sought_in m (cell m CURRENT) name)
-    (fault t NOT_FOUND)
-    (λ l. let begins = difference l 2 in
-    needs t NOT_FOUND (nat_le (cell m FENCE) begins)
-    (needs t CHAIN_TOO_LONG (not (is_beyond_limit m))
-    (done (record t { memory = written m (PutCell TO_IN w.next ∷ cuts m begins) }))))))
+forget s = reads_name s (λ t w name. forgets t (target t.memory name) (λ begins.
+    done (record t { memory = written t.memory (PutCell TO_IN w.next ∷ cuts t.memory begins) })))
 
 -- 153 >BODY ( w -- w+2 )
 abbrev pub to_body : Whole → After

@@ -1,7 +1,8 @@
 -- Names and texts that rows take out of the stream, and what a search of a name comes to.
-use Rattle.std.specs.Prelude.{◌≡◌, ℕ, ◌+◌, List, not, ◌==◌, ◌&&◌, nat_le, Option, Some, None, Result, Ok, Err}
+use Rattle.std.specs.Prelude.{ℕ, ◌+◌, List, not, ◌==◌, ◌&&◌, nat_le, Result, Ok, Err}
 use Rattle.cells.specs.Cell.{wrap}
-use Rattle.dictionary.specs.declared.fault.ChainTooLong.{ChainTooLong}
+use Rattle.dictionary.specs.declared.fault.ForgetFault.{ForgetFault}
+use Rattle.dictionary.specs.declared.fault.ForgetFault.TheVariants.{NameLength, NotFound, ChainTooLong}
 use Rattle.dictionary.specs.Header.{compilation_address}
 use Rattle.dictionary.specs.Laying.{fits}
 use Rattle.dictionary.specs.Search.{Sought, Found, Nowhere, TooLong, sought}
@@ -45,14 +46,16 @@ finds_word t w name after =
     needs t BAD_LENGTH (not (w.len == 0))
     (searches t (sought t.memory name) (fault t NOT_FOUND) (λ l. after (compilation_address t.memory l)))
 
+-- goes on with where the header begins that can be forgotten; else its name is empty (15), it isn't there or is fenced (13), or a
+-- chain is too long (11)
+unfoldable pub forgets : Whole → Result ℕ ForgetFault → (ℕ → After) → After
+forgets s (Ok begins) after = after begins
+forgets s (Err NameLength) after = fault s BAD_LENGTH
+forgets s (Err NotFound) after = fault s NOT_FOUND
+forgets s (Err ChainTooLong) after = fault s CHAIN_TOO_LONG
+
 -- goes on where a new header's name has 1 to 31 bytes (15), and the header fits with n bytes behind it (8)
 abbrev pub admits_header : Whole → Word → ℕ → After → After
 admits_header t w n after =
     needs t BAD_LENGTH (nat_le 1 w.len && nat_le w.len 31)
     (needs t DICTIONARY_FULL (fits t.memory (7 + w.len + n)) after)
-
--- what the code's search answers
-abbrev pub IsSoughtAs : Sought → Result (Option ℕ) ChainTooLong → Type 0
-IsSoughtAs s (Ok (Some l)) = s ≡ Found l
-IsSoughtAs s (Ok None) = s ≡ Nowhere
-IsSoughtAs s (Err _) = s ≡ TooLong

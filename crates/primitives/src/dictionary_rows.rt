@@ -123,7 +123,7 @@ pub fn immediate(parts: &mut Parts) -> Outcome
 }
 
 /// 152 `FORGET` ( -- )
-#[tactic(auto, using(crate::proofs::Searching::searches_in), unfolding(dictionary::specs::Forgetting::target, dictionary::specs::Forgetting::is_missing_or_fenced, memory::specs::Bytes::written))]
+#[tactic(auto, unfolding(memory::specs::Bytes::written))]
 pub fn forget(parts: &mut Parts) -> Outcome
     ensures { (parts.new, result) ≡ forget parts.old }
 {
@@ -132,9 +132,6 @@ pub fn forget(parts: &mut Parts) -> Outcome
         Err(outcome) => return outcome,
     };
     let word = next_word(&parts.memory, stream, b' ');
-    if word.len == 0 {
-        return Outcome::Fault(BAD_LENGTH);
-    }
     match target_in(&parts.memory, stream, word) {
         Ok(target) => {
             let before = parts.memory.snapshot();

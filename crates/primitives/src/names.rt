@@ -1,11 +1,11 @@
 //! Names that rows take, looked up where they stand in memory: a copy is made only of one that goes on at address 0.
 
 ghost use Rattle.std.specs.Prelude.{◌≡◌, ◌<◌, ◌≤◌, ◌+◌, ◌++◌, length, MatchOption, IsTrue};
-ghost use Rattle.dictionary.specs.Forgetting.{IsTarget};
+ghost use Rattle.dictionary.specs.Forgetting.{target};
 ghost use Rattle.input_source.specs.Words.{bytes_in};
 ghost use Rattle.number_text.specs.Numbers.{IsNumber, IsNoNumber};
-ghost use Rattle.dictionary.specs.Search.{sought};
-ghost use Rattle.primitives.specs.Names.{IsSoughtAs, counted_string};
+ghost use Rattle.dictionary.specs.Search.{sought, IsSought};
+ghost use Rattle.primitives.specs.Names.{counted_string};
 
 use crate::text::Text;
 use dictionary::{ChainTooLong, ForgetFault, forget_target, search};
@@ -13,31 +13,23 @@ use input_source::{Stream, Word};
 use memory::Memory;
 use number_text::{Number, number};
 
-/// The link field of the header that a name means.
-#[tactic(auto, using(crate::proofs::Searching::sought_by))]
-fn sought_name(memory: &Memory, name: &[u8]) -> Result<Option<u16>, ChainTooLong>
-    ensures { IsSoughtAs (sought memory.now name.now) result }
-{
-    search(memory, name)
-}
-
-/// The same of a name in two pieces.
+/// The link field of the header that a name in two pieces means.
 fn sought_in_pieces(memory: &Memory, head: &[u8], tail: &[u8]) -> Result<Option<u16>, ChainTooLong>
     requires { length head.now + length tail.now ≤ 65535 }
-    ensures { IsSoughtAs (sought memory.now (head.now ++ tail.now)) result }
+    ensures { IsSought (sought memory.now (head.now ++ tail.now)) result }
 {
     let name = Text::joined(head, tail);
-    sought_name(memory, name.as_slice())
+    search(memory, name.as_slice())
 }
 
 /// The link field of the header that a word of the stream means.
 #[tactic(auto, using(crate::proofs::Pieces::all_in_front), unfolding(input_source::specs::Words::bytes_in))]
 pub fn sought(memory: &Memory, stream: Stream, word: Word) -> Result<Option<u16>, ChainTooLong>
-    ensures { IsSoughtAs (sought memory.now (bytes_in memory.now stream word)) result }
+    ensures { IsSought (sought memory.now (bytes_in memory.now stream word)) result }
 {
     let (head, tail) = memory.span(stream.at.wrapping_add(word.at), word.len);
     if tail.is_empty() {
-        return sought_name(memory, head);
+        return search(memory, head);
     }
     sought_in_pieces(memory, head, tail)
 }
@@ -45,11 +37,11 @@ pub fn sought(memory: &Memory, stream: Stream, word: Word) -> Result<Option<u16>
 /// The link field of the header that the counted string at `a` means.
 #[tactic(auto, using(crate::proofs::Pieces::all_in_front), unfolding(crate::specs::Names::counted_string))]
 pub fn sought_at(memory: &Memory, a: u16) -> Result<Option<u16>, ChainTooLong>
-    ensures { IsSoughtAs (sought memory.now (counted_string memory.now a)) result }
+    ensures { IsSought (sought memory.now (counted_string memory.now a)) result }
 {
     let (head, tail) = memory.span(a.wrapping_add(1), u16::from(memory.byte(a)));
     if tail.is_empty() {
-        return sought_name(memory, head);
+        return search(memory, head);
     }
     sought_in_pieces(memory, head, tail)
 }
@@ -77,23 +69,19 @@ fn number_in_pieces(head: &[u8], tail: &[u8], base: u16) -> Option<Number>
 /// Where the header begins that a word of the stream means for FORGET.
 #[tactic(auto, using(crate::proofs::Pieces::all_in_front), unfolding(input_source::specs::Words::bytes_in))]
 pub fn target_in(memory: &Memory, stream: Stream, word: Word) -> Result<u16, ForgetFault>
-    ensures target { IsTarget memory.now (bytes_in memory.now stream word) result }
-    ensures len { length (bytes_in memory.now stream word) ≡ word.len }
+    ensures { result ≡ target memory.now (bytes_in memory.now stream word) }
 {
     let (head, tail) = memory.span(stream.at.wrapping_add(word.at), word.len);
     if tail.is_empty() {
-        let target = forget_target(memory, head)?;
-        return Ok(target);
+        return forget_target(memory, head);
     }
-    let target = target_in_pieces(memory, head, tail)?;
-    Ok(target)
+    target_in_pieces(memory, head, tail)
 }
 
 fn target_in_pieces(memory: &Memory, head: &[u8], tail: &[u8]) -> Result<u16, ForgetFault>
     requires { length head.now + length tail.now ≤ 65535 }
-    ensures { IsTarget memory.now (head.now ++ tail.now) result }
+    ensures { result ≡ target memory.now (head.now ++ tail.now) }
 {
     let name = Text::joined(head, tail);
-    let target = forget_target(memory, name.as_slice())?;
-    Ok(target)
+    forget_target(memory, name.as_slice())
 }

@@ -1,6 +1,8 @@
 -- The rows of the other numbers: none answers unknown code.
 use Rattle.std.proofs.Common.{◌≡◌, ◌≢◌, ℕ, ◌+◌, ◌==◌, ◌<◌, ◌≤◌, List, Bool, true, false, nat_lt, inl, inr, arith, refl, sym, ap, ◌∙◌, subst, rules, if◌then◌else◌}
 use Rattle.std.proofs.lemmas.Bool.{eqb-true, cases_lt}
+use Rattle.dictionary.specs.declared.fault.ForgetFault.{ForgetFault}
+use Rattle.dictionary.specs.declared.fault.ForgetFault.TheVariants.{NameLength, NotFound, ChainTooLong}
 use Rattle.dictionary.specs.Search.{Sought, Found, Nowhere, TooLong}
 use Rattle.input_source.specs.declared.words.Word.{Word}
 use Rattle.memory.specs.Bytes.{Write}
@@ -111,6 +113,13 @@ known_searches s (Found l) nowhere found h k = k l
 known_searches s Nowhere nowhere found h k = h
 known_searches s TooLong nowhere found h k = known_fault s 11 refl
 
+known_forgets : (s : Whole) (x : Result ℕ ForgetFault) (after : ℕ → After) → ((t : ℕ) → Known (after t)) → Known (forgets s x after)
+unfolding forgets
+known_forgets s (Ok t) after h = h t
+known_forgets s (Err NameLength) after h = known_fault s 15 refl
+known_forgets s (Err NotFound) after h = known_fault s 13 refl
+known_forgets s (Err ChainTooLong) after h = known_fault s 11 refl
+
 asked : (t : Whole) (a b : Bool) (q r : Request) → Known (t, (if a then (if b then outcome.Ask q else outcome.Ask r) else outcome.Fault 7))
 asked t true true q r = known_ask t q
 asked t true false q r = known_ask t r
@@ -128,7 +137,7 @@ known_saves : (s : Whole) (x : After) → Known x → Known (saves s x)
 unfolding saves
 known_saves s x h = known_if _ _ _ (known_ask s _) h
 
-ruleset known = (known_fault, known_done, known_show, known_byte, known_ask, known_abort, known_halt, known_if, known_room, known_room_r, known_takes1, known_takes2, known_takes3, known_takes4, known_takes6, known_takes_r1, known_takes_r3, known_takes_r4, known_searches, known_without, known_saves_victim, known_saves)
+ruleset known = (known_fault, known_done, known_show, known_byte, known_ask, known_abort, known_halt, known_if, known_room, known_room_r, known_takes1, known_takes2, known_takes3, known_takes4, known_takes6, known_takes_r1, known_takes_r3, known_takes_r4, known_searches, known_forgets, known_without, known_saves_victim, known_saves)
 
 known_leaves_past : (s : Whole) (w : Word) (d : List ℕ) → Known (leaves_past s w d)
 unfolding leaves_past

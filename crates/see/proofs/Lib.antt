@@ -1,4 +1,3 @@
-pub mod Viewed
 pub mod Printed
 pub mod Answered
 pub mod Figures

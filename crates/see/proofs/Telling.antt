@@ -3,7 +3,7 @@ use Rattle.std.proofs.Common.{◌≡◌, ◌≢◌, ℕ, ◌<◌, ◌≤◌, ◌
 use Rattle.std.specs.Prelude.{slice_index}
 use Rattle.std.specs.List.{list_all}
 use Rattle.dictionary.specs.Header.{is_immediate, compilation_address}
-use Rattle.dictionary.specs.Search.{Found, Nowhere, found_hiding, is_too_long_hiding}
+use Rattle.dictionary.specs.Search.{Sought, Found, Nowhere, TooLong, sought_hiding}
 use Rattle.source_words.specs.Modes.{begins_comment}
 use Rattle.source_words.specs.Spaced.{Spelling, bare}
 use Rattle.number_text.specs.Digits.{is_digit, digit, are_digits}
@@ -15,10 +15,10 @@ use Rattle.colon_bodies.specs.declared.words.Half.{Half}
 use Rattle.colon_bodies.specs.declared.words.Half.TheVariants.{Free, Ticked, Forced, Compiling, Both}
 use Rattle.metacompiler.specs.Places.{Plain, Keyword, Figure, Wide}
 use Rattle.metacompiler.specs.Spelled.{keyword, naming, choosing, repeating, counting, saying, ending, sense_of_word, figure_of, text_of}
-use Rattle.see.specs.Naming.{number_text, is_word, is_meant, is_free, name_at}
-use Rattle.see.specs.Printing.{is_forced, is_keyword}
+use Rattle.see.specs.Naming.{number_text, is_word, gives, gives_none, is_meant, is_free, name_at}
+use Rattle.see.specs.Printing.{gives_immediate, is_forced, is_keyword}
 use Rattle.see.specs.Extent.{controls_of}
-use Rattle.see.specs.Reading.{is_inner, named_token, token_as, sought_hiding, token_of}
+use Rattle.see.specs.Reading.{is_inner, named_token, token_as, token_of}
 use Rattle.see.proofs.Figures.{figured}
 use Rattle.see.proofs.Stepping.{IsBare, bare_is, neither}
 
@@ -31,10 +31,6 @@ Loose _ = ⊥
 both : (a b : Bool) → (a && b) ≡ true → (a ≡ true) × (b ≡ true)
 both true b h = (refl, h)
 both false b h = cc
-
-isnt : (a : Bool) → not a ≡ true → a ≡ false
-isnt true h = cc
-isnt false h = refl
 
 pub told_keyword : (m : List ℕ) (l : ℕ) (h : Half) (w : Spelling) (t : Token) → Loose h → sense_of_word w.name (text_of w.text) ≡ Keyword t → token_of m l h w ≡ Some t
 told_keyword m l Free w t p e = rw e refl
@@ -65,19 +61,30 @@ bare_named m h k name p = figure_name m h k (is_number 10 name) (is_double name)
 
 -- what a search came to
 pub record Meant (m : List ℕ) (l : ℕ) (name : List ℕ) (w : ℕ) : Type 0 where
-  pub is : sought_hiding m l name ≡ Found (found_hiding m name l)
-  pub at : compilation_address m (found_hiding m name l) ≡ w
+  pub k : ℕ
+  pub is : sought_hiding m name l ≡ Found k
+  pub at : compilation_address m k ≡ w
+
+same_address : (a w : ℕ) → (a == w) ≡ true → a ≡ w
+same_address a w h = grind arith
 
 pub meant_is : (m : List ℕ) (l : ℕ) (name : List ℕ) (w : ℕ) → is_meant m l name w ≡ true → Meant m l name w
 unfolding is_meant
-meant_is m l name w h =
-    let a = both (not (is_too_long_hiding m name l)) _ h in
-    let b = both (not (found_hiding m name l == 0)) (compilation_address m (found_hiding m name l) == w) a.1 in
-    record { is = rw (isnt _ a.0, isnt _ b.0) refl; at = let q : (compilation_address m (found_hiding m name l) == w) ≡ true = b.1 in grind arith }
+meant_is m l name w h = by (sought_hiding m name l) refl h
+  where
+    by : (s : Sought) → sought_hiding m name l ≡ s → gives m s w ≡ true → Meant m l name w
+    by (Found k) e g = record { k = k; is = e; at = same_address (compilation_address m k) w g }
+    by Nowhere e g = cc
+    by TooLong e g = cc
 
-free_is : (m : List ℕ) (l : ℕ) (name : List ℕ) → is_free m l name ≡ true → sought_hiding m l name ≡ Nowhere
+free_is : (m : List ℕ) (l : ℕ) (name : List ℕ) → is_free m l name ≡ true → sought_hiding m name l ≡ Nowhere
 unfolding is_free
-free_is m l name h = let a = both (not (is_too_long_hiding m name l)) (found_hiding m name l == 0) h in rw (isnt _ a.0, a.1) refl
+free_is m l name h = by (sought_hiding m name l) refl h
+  where
+    by : (s : Sought) → sought_hiding m name l ≡ s → gives_none s ≡ true → sought_hiding m name l ≡ Nowhere
+    by Nowhere e g = e
+    by (Found k) e g = cc
+    by TooLong e g = cc
 
 -- a name that is no inner control's
 inner_one : (x w : ℕ) → (x ≢ 0 → w ≢ x) → (not (x == 0) && (w == x)) ≡ false
@@ -192,13 +199,13 @@ unfolding is_forced
 told_name m l Free w p c t f =
     let name = name_at m w in
     let q = meant_is m l name w t in
-    let g = neither (is_immediate m (found_hiding m name l)) (is_keyword name) f in
-    rw (q.is, bare_sense name (bare_is name g.1)) (bare_named m Free (found_hiding m name l) name tt ∙ rw (g.0, q.at, not_inner (controls_of m) w (c refl)) refl)
+    let g = neither (gives_immediate m (sought_hiding m name l)) (is_keyword name) f in
+    rw (q.is, bare_sense name (bare_is name g.1)) (bare_named m Free q.k name tt ∙ rw (sym (ap (gives_immediate m) q.is) ∙ g.0, q.at, not_inner (controls_of m) w (c refl)) refl)
 told_name m l Compiling w p c t f =
     let name = name_at m w in
     let q = meant_is m l name w t in
-    let g = neither (is_immediate m (found_hiding m name l)) (is_keyword name) f in
-    rw (q.is, bare_sense name (bare_is name g.1)) (bare_named m Compiling (found_hiding m name l) name tt ∙ rw (g.0, q.at) refl)
+    let g = neither (gives_immediate m (sought_hiding m name l)) (is_keyword name) f in
+    rw (q.is, bare_sense name (bare_is name g.1)) (bare_named m Compiling q.k name tt ∙ rw (sym (ap (gives_immediate m) q.is) ∙ g.0, q.at) refl)
 told_name m l Ticked w p c t f = absurd p
 told_name m l Forced w p c t f = absurd p
 told_name m l Both w p c t f = absurd p

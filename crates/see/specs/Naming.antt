@@ -1,12 +1,12 @@
 -- What the cells of a thread are called, and what can't be printed so that it is read again.
-use Rattle.std.specs.Prelude.{ℕ, Bool, true, not, ◌==◌, ◌&&◌, List, [], ◌∷◌, Option, Some, None, if◌then◌else◌, length, ◌≡◌}
+use Rattle.std.specs.Prelude.{ℕ, Bool, true, false, not, ◌==◌, ◌&&◌, List, [], ◌∷◌, Option, Some, None, if◌then◌else◌, length, ◌≡◌}
 use Rattle.std.specs.List.{list_all}
 use Rattle.std.specs.Fmt.{signed_decimal}
 use Rattle.cells.specs.Cell.{signed}
 use Rattle.dictionary.specs.Header.{name_of, compilation_address}
 use Rattle.dictionary.specs.Order.{headers}
 use Rattle.dictionary.specs.Extents.{header_at}
-use Rattle.dictionary.specs.Search.{found_hiding, is_too_long_hiding}
+use Rattle.dictionary.specs.Search.{Sought, Found, Nowhere, TooLong, sought_hiding}
 use Rattle.colon_bodies.specs.Tokens.{Token, NAME, NUMBER, TEXT}
 use Rattle.see.specs.declared.refusal.SeeRefused.{SeeRefused}
 use Rattle.see.specs.declared.refusal.SeeRefused.TheVariants as r
@@ -31,15 +31,25 @@ is_word name = not (length name == 0) && list_all (λ b. not (b == 32)) name
 unfoldable pub is_quotable : List ℕ → Bool
 is_quotable text = list_all (λ b. not (b == 34)) text
 
+-- a search came to a header with this compilation address
+abbrev pub gives : List ℕ → Sought → ℕ → Bool
+gives m (Found k) w = compilation_address m k == w
+gives m Nowhere w = false
+gives m TooLong w = false
+
+-- it came to none
+abbrev pub gives_none : Sought → Bool
+gives_none Nowhere = true
+gives_none (Found k) = false
+gives_none TooLong = false
+
 -- the search of a name gives this address, where the header at `hidden` counts as hidden
 unfoldable pub is_meant : List ℕ → (hidden : ℕ) → List ℕ → ℕ → Bool
-is_meant m hidden name w =
-    not (is_too_long_hiding m name hidden)
-    && (not (found_hiding m name hidden == 0) && (compilation_address m (found_hiding m name hidden) == w))
+is_meant m hidden name w = gives m (sought_hiding m name hidden) w
 
 -- it ends with none
 unfoldable pub is_free : List ℕ → (hidden : ℕ) → List ℕ → Bool
-is_free m hidden name = not (is_too_long_hiding m name hidden) && (found_hiding m name hidden == 0)
+is_free m hidden name = gives_none (sought_hiding m name hidden)
 
 -- a word that can be printed and read again: a name that is one word and means its address, the word itself being hidden; a
 -- number whose text is no name; a text without a quote

@@ -5,7 +5,7 @@ use Rattle.colon_bodies.specs.Tokens.{Token, NAME, NUMBER, TICK, FORCE, COMPILE,
 use Rattle.colon_bodies.specs.Tree.{Definition, all_words}
 use Rattle.colon_bodies.specs.Plain.{respelled}
 use Rattle.dictionary.specs.Header.{is_immediate}
-use Rattle.dictionary.specs.Search.{found_hiding}
+use Rattle.dictionary.specs.Search.{Sought, Found, Nowhere, TooLong, sought_hiding}
 use Rattle.source_words.specs.Modes.{begins_comment}
 use Rattle.metacompiler.specs.Spelled.{keyword}
 use Rattle.see.specs.Naming.{name_at, number_text}
@@ -14,9 +14,15 @@ use Rattle.see.specs.Naming.{name_at, number_text}
 unfoldable pub is_keyword : List ℕ → Bool
 is_keyword w = begins_comment w || is_some (keyword w [])
 
+-- a search came to an immediate header
+abbrev pub gives_immediate : List ℕ → Sought → Bool
+gives_immediate m (Found k) = is_immediate m k
+gives_immediate m Nowhere = false
+gives_immediate m TooLong = false
+
 -- a word that stands behind [COMPILE]: the header that its name means is immediate, or the name is spelled as a keyword
 unfoldable pub is_forced : List ℕ → (hidden : ℕ) → ℕ → Bool
-is_forced m hidden w = is_immediate m (found_hiding m (name_at m w) hidden) || is_keyword (name_at m w)
+is_forced m hidden w = gives_immediate m (sought_hiding m (name_at m w) hidden) || is_keyword (name_at m w)
 
 -- how keywords are spelled; no plain definition has a double
 abbrev pub keyword_text : Token → List ℕ

@@ -2,7 +2,7 @@
 use Rattle.std.specs.Prelude.{◌≡◌, ◌<◌, ℕ, Bool, not, ◌==◌, ◌&&◌, ◌||◌, List, [], ◌∷◌, Option, Some, None, if◌then◌else◌, map, codes, slice_index}
 use Rattle.std.specs.List.{list_any}
 use Rattle.dictionary.specs.Header.{is_immediate, compilation_address}
-use Rattle.dictionary.specs.Search.{Sought, Found, Nowhere, TooLong, sought_as, found_hiding, is_too_long_hiding}
+use Rattle.dictionary.specs.Search.{Sought, Found, Nowhere, TooLong, sought_hiding}
 use Rattle.source_words.specs.declared.modes.Mode.TheVariants.{Outside}
 use Rattle.source_words.specs.Words.{screen_words}
 use Rattle.source_words.specs.Spaced.{Spelling, spelling, bare}
@@ -49,13 +49,9 @@ token_as m Free l (Keyword w) = Some w
 token_as m Compiling l (Keyword w) = Some w
 token_as m h l s = name_first m h l s
 
--- what the search of a name comes to, where the header at `hidden` counts as hidden
-abbrev pub sought_hiding : List ℕ → (hidden : ℕ) → List ℕ → Sought
-sought_hiding m hidden name = sought_as (found_hiding m name hidden) (is_too_long_hiding m name hidden)
-
--- what a word of a body is, behind what is half read
+-- what a word of a body is, behind what is half read; the header at `hidden` counts as hidden
 abbrev pub token_of : List ℕ → (hidden : ℕ) → Half → Spelling → Option Token
-token_of m hidden h w = token_as m h (sought_hiding m hidden w.name) (sense_of_word w.name (text_of w.text))
+token_of m hidden h w = token_as m h (sought_hiding m w.name hidden) (sense_of_word w.name (text_of w.text))
 
 abbrev pub half_past : Half → Option Token → Half
 half_past h None = h

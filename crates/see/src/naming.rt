@@ -3,7 +3,7 @@
 ghost use Rattle.std.specs.Prelude.{◌≡◌, ◌==◌, true, false, not, IfOk, MatchOption};
 ghost use Rattle.std.specs.List.{list_all};
 ghost use Rattle.dictionary.specs.Header.{name_of};
-ghost use Rattle.dictionary.specs.Search.{found_hiding};
+ghost use Rattle.dictionary.specs.Search.{Found, sought_hiding};
 ghost use Rattle.see.specs.Naming.{name_if, number_text, is_word, is_quotable, is_meant, is_free};
 
 use crate::extent::copied;
@@ -64,7 +64,7 @@ pub fn is_quotable(text: &[u8]) -> bool
 /// address.
 #[tactic(auto, unfolding(crate::specs::Naming::is_meant))]
 pub fn meant(memory: &Memory, hidden: u16, name: &[u8], w: u16) -> Option<u16>
-    ensures { MatchOption result (is_meant memory.now hidden name.now w ≡ false) (λ k. (is_meant memory.now hidden name.now w ≡ true) × (k ≡ found_hiding memory.now name.now hidden)) }
+    ensures { MatchOption result (is_meant memory.now hidden name.now w ≡ false) (λ k. (is_meant memory.now hidden name.now w ≡ true) × (sought_hiding memory.now name.now hidden ≡ Found k)) }
 {
     match search_hiding(memory, name, hidden) {
         Ok(Some(k)) => {

@@ -11,7 +11,6 @@ use memory::Memory;
 /// The view cell of the word that a name means: the number of the block in which the word was made. In an image that the
 /// metacompiler built this is the screen of its name. `NotFound`: no word has the name; `ChainTooLong`: a chain that is
 /// searched has more than 32,768 headers, and the first of these haven't the name.
-#[tactic(auto, using(crate::proofs::Viewed::viewed_by))]
 pub fn view(memory: &Memory, name: &[u8]) -> Result<u16, ViewRefused>
     ensures { result ≡ viewed memory.now (sought memory.now name.now) }
 {

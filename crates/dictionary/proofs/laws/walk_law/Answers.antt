@@ -1,8 +1,8 @@
-use Rattle.dictionary.proofs.Firsts.{walk_same, walk_same_length}
+use Rattle.dictionary.proofs.Firsts.{walk_found, walk_same}
 use Rattle.dictionary.proofs.laws.walk_law.Goals as goal
 
 pub returns-clause-found : goal.returns-clause-found
-returns-clause-found c = walk_same
+returns-clause-found c = walk_found
 
-pub returns-clause-too_long : goal.returns-clause-too_long
-returns-clause-too_long c = walk_same_length
+pub returns-clause-same : goal.returns-clause-same
+returns-clause-same c = walk_same
