@@ -123,7 +123,7 @@ pub fn immediate(parts: &mut Parts) -> Outcome
 }
 
 /// 152 `FORGET` ( -- )
-#[tactic(auto, unfolding(memory::specs::Bytes::written))]
+#[tactic(auto, using(crate::proofs::Searching::searching), unfolding(memory::specs::Bytes::written))]
 pub fn forget(parts: &mut Parts) -> Outcome
     ensures { (parts.new, result) ≡ forget parts.old }
 {
