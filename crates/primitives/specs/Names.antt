@@ -3,14 +3,13 @@ use Rattle.std.specs.Prelude.{◌≡◌, ℕ, ◌+◌, List, not, ◌==◌, ◌&
 use Rattle.cells.specs.Cell.{wrap}
 use Rattle.dictionary.specs.declared.fault.ChainTooLong.{ChainTooLong}
 use Rattle.dictionary.specs.Header.{compilation_address}
-use Rattle.dictionary.specs.Laying.{fits}
 use Rattle.dictionary.specs.Search.{Sought, Found, Nowhere, TooLong, sought}
 use Rattle.input_source.specs.declared.words.Stream.{Stream}
 use Rattle.input_source.specs.declared.words.Word.{Word}
 use Rattle.input_source.specs.Words.{word_in, parsed_in, bytes_in}
 use Rattle.memory.specs.Bytes.{byte, bytes}
 use Rattle.plain_rows.specs.Whole.{Whole}
-use Rattle.plain_rows.specs.Row.{After, fault, needs}
+use Rattle.plain_rows.specs.Row.{After, fault, needs, has_room}
 use Rattle.plain_rows.specs.declared.faults.TheConstants.{DICTIONARY_FULL, CHAIN_TOO_LONG, NOT_FOUND, BAD_LENGTH}
 use Rattle.primitives.specs.Streams.{reads}
 
@@ -49,7 +48,7 @@ finds_word t w name after =
 abbrev pub admits_header : Whole → Word → ℕ → After → After
 admits_header t w n after =
     needs t BAD_LENGTH (nat_le 1 w.len && nat_le w.len 31)
-    (needs t DICTIONARY_FULL (fits t.memory (7 + w.len + n)) after)
+    (needs t DICTIONARY_FULL (has_room t (7 + w.len + n)) after)
 
 -- what the code's search answers
 abbrev pub IsSoughtAs : Sought → Result (Option ℕ) ChainTooLong → Type 0
