@@ -1,6 +1,7 @@
 -- The list of block buffers, the most recently referenced first.
-use Rattle.std.specs.Prelude.{◌≡◌, ◌≢◌, ℕ, ◌<◌, ◌≤◌, List, [], ◌∷◌, ◌++◌, Some, None, ◌==◌, Bool, true, false, not, if◌then◌else◌, slice_index_or, is_some, unwrap_or, find, filter, map, take, fold, length, nat_lt, All, AllPairs, Contains, IsSome}
+use Rattle.std.specs.Prelude.{◌≡◌, ◌≢◌, ℕ, ◌+◌, ◌*◌, ◌<◌, ◌≤◌, List, [], ◌∷◌, ◌++◌, Some, None, ◌==◌, Bool, true, false, not, if◌then◌else◌, slice_index_or, is_some, unwrap_or, find, filter, map, take, fold, length, nat_lt, All, AllPairs, Contains, IsSome}
 use Rattle.std.specs.List.{list_any}
+use Rattle.memory.specs.Bytes.{limit_of}
 use Rattle.block_buffers.specs.declared.entry.Entry.{Entry}
 
 -- slot 3 first, down to slot 0; none has a block
@@ -9,6 +10,14 @@ unassigned_slot slot = record { slot = slot; block = None; updated = false }
 
 unfoldable pub start : List Entry
 start = unassigned_slot 3 ∷ unassigned_slot 2 ∷ unassigned_slot 1 ∷ unassigned_slot 0 ∷ []
+
+-- where the buffers begin in memory: the dictionary ends there at the latest
+abbrev pub limit : List Entry → ℕ
+limit b = limit_of (length b)
+
+-- where the bytes of a slot's block begin
+abbrev pub address_of : List Entry → ℕ → ℕ
+address_of b slot = limit b + 1024 * slot
 
 -- the entry has block u
 abbrev pub is_of : ℕ → Entry → Bool

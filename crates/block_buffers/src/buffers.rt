@@ -1,15 +1,18 @@
 //! The buffers: four slots in fixed places. What the callers see is their entries, the most recently referenced first.
 
-ghost use Rattle.std.specs.Prelude.{◌≡◌, ◌<◌, ◌≤◌, MatchOption, IfSome, IsTrue, IsFalse, IsSome};
-ghost use Rattle.block_buffers.specs.Entries.{start, AreBuffers, entry_at, victim, holds, slot_of, IsSlotOf, moved_front, assigned, front_marked, cleaned, unmarked, unassigned, has_updated, IsFirstUpdated};
+ghost use Rattle.std.specs.Prelude.{◌≡◌, ◌+◌, ◌*◌, ◌<◌, ◌≤◌, length, MatchOption, IfSome, IsTrue, IsFalse, IsSome};
+ghost use Rattle.memory.specs.Bytes.{IsCount};
+ghost use Rattle.memory.specs.declared.limit.TheConstants.{GREATEST_LIMIT};
+ghost use Rattle.block_buffers.specs.Entries.{start, limit, address_of, AreBuffers, entry_at, victim, holds, slot_of, IsSlotOf, moved_front, assigned, front_marked, cleaned, unmarked, unassigned, has_updated, IsFirstUpdated};
 
 use crate::entry::Entry;
 use crate::stamped::Slot;
 use crate::{entries, stamped};
+use memory::limit_of;
 use std::marker::Model;
 
 /// The four block buffers, seen as the list of their entries, the most recently referenced first.
-/// The bytes of the blocks stand in memory, a page for each slot; here is only what is known of them.
+/// The bytes of the blocks stand at the end of memory, a page for each slot; here is only what is known of them.
 #[derive(Drop)]
 pub struct Buffers {
     slots: [Slot; 4],
@@ -58,8 +61,35 @@ impl Buffers {
     fn recent(&self) -> [Entry; 4]
         ensures value { result ≡ self.now }
         ensures buffers { AreBuffers result }
+        ensures count { length self.now ≡ 4 }
     {
         stamped::recent(&self.slots)
+    }
+
+    /// How many buffers there are.
+    pub fn count(&self) -> u16
+        ensures value { result ≡ length self.now }
+        ensures few { IsCount result }
+    {
+        self.recent().len() as u16
+    }
+
+    /// Where the buffers begin in memory: the dictionary ends there at the latest.
+    pub fn limit(&self) -> u16
+        ensures value { result ≡ limit self.now }
+        ensures whole { result + 1024 * length self.now ≡ 65536 }
+        ensures most { result ≤ GREATEST_LIMIT }
+    {
+        limit_of(self.count())
+    }
+
+    /// Where the bytes of a slot's block begin.
+    pub fn address_of(&self, slot: usize) -> u16
+        requires { slot < length self.now }
+        ensures value { result ≡ address_of self.now slot }
+        ensures most { result ≤ 64512 }
+    {
+        self.limit() + 1024 * slot as u16
     }
 
     /// The entry at a place below 4. Place 0 has the most recently referenced.
@@ -67,7 +97,8 @@ impl Buffers {
     pub fn entry(&self, place: usize) -> Entry
         requires { place < 4 }
         ensures value { result ≡ entry_at self.now place }
-        ensures slot { result.slot < 4 }
+        ensures slot { result.slot < length self.now }
+        ensures count { length self.now ≡ 4 }
     {
         self.recent()[place]
     }
@@ -75,7 +106,7 @@ impl Buffers {
     /// The slot of the buffer that has block `u`; `None` where no buffer has it.
     pub fn find(&self, u: u16) -> Option<usize>
         ensures value { MatchOption result (IsFalse (holds self.now u)) (IsSlotOf self.now u) }
-        ensures slot { IfSome result (λ slot. slot < 4) }
+        ensures slot { IfSome result (λ slot. slot < length self.now) }
     {
         entries::find(&self.recent(), u)
     }
@@ -83,7 +114,7 @@ impl Buffers {
     /// The slot of the buffer that has block `u`; the victim's where none has it.
     pub fn slot_of(&self, u: u16) -> usize
         ensures value { result ≡ slot_of self.now u }
-        ensures slot { result < 4 }
+        ensures slot { result < length self.now }
     {
         entries::slot_of(&self.recent(), u)
     }
@@ -91,7 +122,7 @@ impl Buffers {
     /// The entry that is taken where a buffer is needed: the one that was not referenced for longest.
     pub fn victim(&self) -> Entry
         ensures value { result ≡ victim self.now }
-        ensures slot { result.slot < 4 }
+        ensures slot { result.slot < length self.now }
     {
         self.entry(3)
     }
@@ -101,9 +132,10 @@ impl Buffers {
     #[tactic(auto, using(crate::proofs::Kept::buffers, crate::proofs::Stamps::maps))]
     pub fn touch(&mut self, u: u16)
         requires { IsTrue (holds self.old u) }
-        ensures { self.new ≡ moved_front (slot_of self.old u) self.old }
+        ensures entries { self.new ≡ moved_front (slot_of self.old u) self.old }
+        ensures count { length self.new ≡ length self.old }
     {
-        let slot = self.slot_of(u);
+        let slot = entries::slot_of(&self.recent(), u);
         self.next = stamped::refer(&mut self.slots, self.next, slot);
     }
 
@@ -111,9 +143,10 @@ impl Buffers {
     /// for a block that no buffer has: one that has it already keeps it. (Forth-83 Standard, BUFFER.)
     #[tactic(auto, using(crate::proofs::Stamps::assigns))]
     pub fn assign(&mut self, u: u16)
-        ensures { self.new ≡ assigned u self.old }
+        ensures entries { self.new ≡ assigned u self.old }
+        ensures count { length self.new ≡ length self.old }
     {
-        let slot = self.victim().slot;
+        let slot = self.entry(3).slot;
         self.next = stamped::refer(&mut self.slots, self.next, slot);
         let entry = Entry {
             slot,
@@ -126,7 +159,8 @@ impl Buffers {
     /// Marks the entry in front as updated, where it has a block. (Forth-83 Standard, UPDATE.)
     #[tactic(auto, using(crate::proofs::Stamps::marks))]
     pub fn mark_front(&mut self)
-        ensures { self.new ≡ front_marked self.old }
+        ensures entries { self.new ≡ front_marked self.old }
+        ensures count { length self.new ≡ length self.old }
     {
         let front = self.entry(0);
         if front.block.is_some() {
@@ -138,11 +172,12 @@ impl Buffers {
         }
     }
 
-    /// Takes the mark from the entry of a slot below 4, whose block was written.
+    /// Takes the mark from the entry of a slot, whose block was written.
     #[tactic(auto, using(crate::proofs::Kept::buffers, crate::proofs::Stamps::maps))]
     pub fn clean(&mut self, slot: usize)
-        requires { slot < 4 }
-        ensures { self.new ≡ cleaned slot self.old }
+        requires { slot < length self.old }
+        ensures entries { self.new ≡ cleaned slot self.old }
+        ensures count { length self.new ≡ length self.old }
     {
         stamped::clean(&mut self.slots, slot);
     }
@@ -151,7 +186,8 @@ impl Buffers {
     /// nothing changes.
     #[tactic(auto, using(crate::proofs::Kept::buffers, crate::proofs::Stamps::maps))]
     pub fn unmark(&mut self, u: u16)
-        ensures { self.new ≡ unmarked u self.old }
+        ensures entries { self.new ≡ unmarked u self.old }
+        ensures count { length self.new ≡ length self.old }
     {
         stamped::unmark(&mut self.slots, u);
     }
@@ -160,7 +196,8 @@ impl Buffers {
     /// EMPTY-BUFFERS.)
     #[tactic(auto, using(crate::proofs::Kept::buffers, crate::proofs::Stamps::maps))]
     pub fn unassign_all(&mut self)
-        ensures { self.new ≡ unassigned self.old }
+        ensures entries { self.new ≡ unassigned self.old }
+        ensures count { length self.new ≡ length self.old }
     {
         stamped::unassign_all(&mut self.slots);
     }
@@ -170,7 +207,7 @@ impl Buffers {
     #[tactic(auto, using(crate::proofs::Updated::firsts))]
     pub fn first_dirty(&self) -> Option<Entry>
         ensures value { MatchOption result (IsFalse (has_updated self.now)) (IsFirstUpdated self.now) }
-        ensures slot { IfSome result (λ e. e.slot < 4) }
+        ensures slot { IfSome result (λ e. e.slot < length self.now) }
         ensures block { IfSome result (λ e. IsSome e.block) }
     {
         let first = entries::first_updated(&self.recent());

@@ -22,11 +22,12 @@ begun_writes site current name =
 unfoldable pub begun : List ℕ → List ℕ → List ℕ
 begun m name = written m (begun_writes (site_of m name) (cell m CURRENT) name)
 
-abbrev pub IsBegun : List ℕ → List ℕ → List ℕ → Result Unit AddFault → Type 0
-IsBegun old new name (Ok _) = IsTrue (is_name name) × IsTrue (fits old (7 + length name)) × (new ≡ begun old name)
-IsBegun old new name (Err NameLength) = IsFalse (is_name name) × (new ≡ old)
-IsBegun old new name (Err Full) =
-    IsTrue (is_name name) × IsFalse (fits old (7 + length name)) × (new ≡ old)
+abbrev pub IsBegun : ℕ → List ℕ → List ℕ → List ℕ → Result Unit AddFault → Type 0
+IsBegun limit old new name (Ok _) =
+    IsTrue (is_name name) × IsTrue (fits limit old (7 + length name)) × (new ≡ begun old name)
+IsBegun limit old new name (Err NameLength) = IsFalse (is_name name) × (new ≡ old)
+IsBegun limit old new name (Err Full) =
+    IsTrue (is_name name) × IsFalse (fits limit old (7 + length name)) × (new ≡ old)
 
 -- memory with the definition ended: EXIT is laid, the newest header is found from now on, and words are executed. The
 -- header is the one that LAST named before, and its count byte the one of before
@@ -34,6 +35,6 @@ abbrev pub ended : List ℕ → List ℕ
 ended m =
     put_cell (put_byte (laid m (cell_bytes (runtime m 5))) (newest_count m) (revealed (byte m (newest_count m)))) STATE 0
 
-abbrev pub IsEnded : List ℕ → List ℕ → Result Unit Refused → Type 0
-IsEnded old new (Ok _) = IsTrue (fits old 2) × (new ≡ ended old)
-IsEnded old new (Err _) = IsFalse (fits old 2) × (new ≡ old)
+abbrev pub IsEnded : ℕ → List ℕ → List ℕ → Result Unit Refused → Type 0
+IsEnded limit old new (Ok _) = IsTrue (fits limit old 2) × (new ≡ ended old)
+IsEnded limit old new (Err _) = IsFalse (fits limit old 2) × (new ≡ old)

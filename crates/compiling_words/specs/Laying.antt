@@ -11,22 +11,22 @@ abbrev pub laid : List ℕ → List ℕ → List ℕ
 laid m bs = laid_at (cell m DP) m bs
 
 -- the bytes are laid where they fit, else nothing is written
-abbrev pub IsLaid : {A : Type 0} → List ℕ → List ℕ → List ℕ → Result A Full → Type 0
-IsLaid old new bs (Ok _) = IsTrue (fits old (length bs)) × (new ≡ laid old bs)
-IsLaid old new bs (Err _) = IsFalse (fits old (length bs)) × (new ≡ old)
+abbrev pub IsLaid : {A : Type 0} → ℕ → List ℕ → List ℕ → List ℕ → Result A Full → Type 0
+IsLaid limit old new bs (Ok _) = IsTrue (fits limit old (length bs)) × (new ≡ laid old bs)
+IsLaid limit old new bs (Err _) = IsFalse (fits limit old (length bs)) × (new ≡ old)
 
--- HERE moved by n, signed and not wrapped, is from 0 to 61,440
-unfoldable pub can_allot : List ℕ → ℕ → Bool
-can_allot m n =
-    not (int_lt (pos (cell m DP) +ℤ signed n) (pos 0)) && not (int_lt (pos 61440) (pos (cell m DP) +ℤ signed n))
+-- HERE moved by n, signed and not wrapped, is from 0 to the limit
+unfoldable pub can_allot : ℕ → List ℕ → ℕ → Bool
+can_allot limit m n =
+    not (int_lt (pos (cell m DP) +ℤ signed n) (pos 0)) && not (int_lt (pos limit) (pos (cell m DP) +ℤ signed n))
 
 -- memory with HERE moved by n
 abbrev pub allotted : List ℕ → ℕ → List ℕ
 allotted m n = put_cell m DP (wrap (cell m DP + n))
 
-abbrev pub IsAllotted : List ℕ → List ℕ → ℕ → Result Unit Full → Type 0
-IsAllotted old new n (Ok _) = IsTrue (can_allot old n) × (new ≡ allotted old n)
-IsAllotted old new n (Err _) = IsFalse (can_allot old n) × (new ≡ old)
+abbrev pub IsAllotted : ℕ → List ℕ → List ℕ → ℕ → Result Unit Full → Type 0
+IsAllotted limit old new n (Ok _) = IsTrue (can_allot limit old n) × (new ≡ allotted old n)
+IsAllotted limit old new n (Err _) = IsFalse (can_allot limit old n) × (new ≡ old)
 
 -- memory in which the cell at a, which was left open, is HERE
 abbrev pub resolved : List ℕ → ℕ → List ℕ

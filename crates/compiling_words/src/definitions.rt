@@ -14,14 +14,14 @@ const COLON: u16 = 1;
 
 /// Begins a definition (Forth-83 `:`): its hidden header, then STATE is -1 and CONTEXT is CURRENT, as both were before.
 ///
-/// `NameLength` for a name of 0 or over 31 bytes, then `Full` where the header would end behind 61,440: nothing is
+/// `NameLength` for a name of 0 or over 31 bytes, then `Full` where the header would end behind the limit: nothing is
 /// written.
 #[tactic(auto, unfolding(crate::specs::Definitions::begun, dictionary::specs::Adding::with_header, dictionary::specs::Adding::with_header_at, memory::specs::Bytes::written))]
-pub fn begin_definition(memory: &mut Memory, name: &[u8]) -> Result<(), AddFault>
-    ensures { IsBegun memory.old memory.new name.now result }
+pub fn begin_definition(memory: &mut Memory, name: &[u8], limit: u16) -> Result<(), AddFault>
+    ensures { IsBegun limit memory.old memory.new name.now result }
 {
     let current = memory.cell(CURRENT);
-    add_header(memory, name, COLON, &[], true)?;
+    add_header(memory, name, COLON, &[], true, limit)?;
     memory.set_cell(STATE, 65535);
     memory.set_cell(CONTEXT, current);
     Ok(())
@@ -30,13 +30,13 @@ pub fn begin_definition(memory: &mut Memory, name: &[u8]) -> Result<(), AddFault
 /// Ends a definition (Forth-83 `;`): EXIT is laid, then the newest header is no longer hidden, then STATE is 0.
 ///
 /// LAST and the header's count byte are read before anything is written.
-pub fn end_definition(memory: &mut Memory) -> Result<(), Full>
-    ensures { IsEnded memory.old memory.new result }
+pub fn end_definition(memory: &mut Memory, limit: u16) -> Result<(), Full>
+    ensures { IsEnded limit memory.old memory.new result }
 {
     let at = newest_count(memory);
     let count = memory.byte(at);
     let exit = cell_bytes(runtime(memory, Control::Exit));
-    lay(memory, &exit)?;
+    lay(memory, &exit, limit)?;
     memory.set_byte(at, revealed(count));
     memory.set_cell(STATE, 0);
     Ok(())

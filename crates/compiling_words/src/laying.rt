@@ -11,17 +11,17 @@ use memory::system::DP;
 use memory::{Memory, cell_bytes};
 use thiserror::Error;
 
-/// The dictionary has no room for the bytes: they would end behind 61,440.
+/// The dictionary has no room for the bytes: they would end behind the limit, where the block buffers begin.
 #[derive(Clone, Copy, Debug, PartialEq, Eq, Error)]
 #[error("Full")]
 pub struct Full;
 
 /// Lays bytes, and answers where they begin: HERE as it was.
-pub fn lay(memory: &mut Memory, bytes: &[u8]) -> Result<u16, Full>
-    ensures laid { IsLaid memory.old memory.new bytes.now result }
+pub fn lay(memory: &mut Memory, bytes: &[u8], limit: u16) -> Result<u16, Full>
+    ensures laid { IsLaid limit memory.old memory.new bytes.now result }
     ensures place { IfOk result (λ a. a ≡ cell memory.old DP) }
 {
-    if !fits(memory, bytes.len()) {
+    if !fits(memory, bytes.len(), limit) {
         return Err(Full);
     }
     let here = memory.cell(DP);
@@ -30,47 +30,47 @@ pub fn lay(memory: &mut Memory, bytes: &[u8]) -> Result<u16, Full>
 }
 
 /// Lays a cell (Forth-83 `,`).
-pub fn comma(memory: &mut Memory, x: u16) -> Result<(), Full>
-    ensures { IsLaid memory.old memory.new (cell_bytes x) result }
+pub fn comma(memory: &mut Memory, x: u16, limit: u16) -> Result<(), Full>
+    ensures { IsLaid limit memory.old memory.new (cell_bytes x) result }
 {
-    lay(memory, &cell_bytes(x))?;
+    lay(memory, &cell_bytes(x), limit)?;
     Ok(())
 }
 
 /// Lays a byte (Forth-83 `C,`).
-pub fn comma_byte(memory: &mut Memory, byte: u8) -> Result<(), Full>
-    ensures { IsLaid memory.old memory.new (byte ∷ []) result }
+pub fn comma_byte(memory: &mut Memory, byte: u8, limit: u16) -> Result<(), Full>
+    ensures { IsLaid limit memory.old memory.new (byte ∷ []) result }
 {
-    lay(memory, &[byte])?;
+    lay(memory, &[byte], limit)?;
     Ok(())
 }
 
 /// Lays a literal (Forth-83 LITERAL): `(LIT)` and the cell.
-pub fn literal(memory: &mut Memory, x: u16) -> Result<(), Full>
-    ensures { IsLaid memory.old memory.new (literal_code memory.old x) result }
+pub fn literal(memory: &mut Memory, x: u16, limit: u16) -> Result<(), Full>
+    ensures { IsLaid limit memory.old memory.new (literal_code memory.old x) result }
 {
     let code = literal_code(memory, x);
-    lay(memory, &code)?;
+    lay(memory, &code, limit)?;
     Ok(())
 }
 
-/// Whether HERE moved by `n`, a signed cell, is from 0 to 61,440.
+/// Whether HERE moved by `n`, a signed cell, is from 0 to the limit.
 #[tactic(auto, unfolding(crate::specs::Laying::can_allot))]
-pub fn can_allot(memory: &Memory, n: u16) -> bool
-    ensures { result ≡ can_allot memory.now n }
+pub fn can_allot(memory: &Memory, n: u16, limit: u16) -> bool
+    ensures { result ≡ can_allot limit memory.now n }
 {
     let end = i32::from(memory.cell(DP)) + i32::from(n.cast_signed());
     if end < 0 {
         return false;
     }
-    end <= 61440
+    end <= i32::from(limit)
 }
 
-/// Moves HERE by `n`, a signed cell (Forth-83 ALLOT). `Full` where it would be below 0 or above 61,440.
-pub fn allot(memory: &mut Memory, n: u16) -> Result<(), Full>
-    ensures { IsAllotted memory.old memory.new n result }
+/// Moves HERE by `n`, a signed cell (Forth-83 ALLOT). `Full` where it would be below 0 or above the limit.
+pub fn allot(memory: &mut Memory, n: u16, limit: u16) -> Result<(), Full>
+    ensures { IsAllotted limit memory.old memory.new n result }
 {
-    if !can_allot(memory, n) {
+    if !can_allot(memory, n, limit) {
         return Err(Full);
     }
     let here = memory.cell(DP);

@@ -2,7 +2,8 @@
 //! begins and ends (Forth-83 Standard, "compiling words").
 //!
 //! Each call writes its bytes at HERE, then DP behind them, and nothing else but what it names. `Full` comes where HERE
-//! and the bytes pass 61,440; nothing is written then. Nothing is assumed of memory, and no structure is checked.
+//! and the bytes pass the limit, where the block buffers begin; nothing is written then. Nothing is assumed of memory, and
+//! no structure is checked.
 #![tactic(auto)]
 
 mod control;

@@ -9,11 +9,11 @@ use memory::system::DP;
 use memory::{Memory, cell_bytes};
 
 /// Leaves a cell open, which is 0 until it is resolved, and answers where it is (Forth-83 `>MARK`).
-pub fn mark_forward(memory: &mut Memory) -> Result<u16, Full>
-    ensures laid { IsLaid memory.old memory.new (cell_bytes 0) result }
+pub fn mark_forward(memory: &mut Memory, limit: u16) -> Result<u16, Full>
+    ensures laid { IsLaid limit memory.old memory.new (cell_bytes 0) result }
     ensures place { IfOk result (λ a. a ≡ cell memory.old DP) }
 {
-    lay(memory, &cell_bytes(0))
+    lay(memory, &cell_bytes(0), limit)
 }
 
 /// Makes HERE the target of the cell at `a` that was left open (Forth-83 `>RESOLVE`).
@@ -32,8 +32,8 @@ pub fn mark_back(memory: &Memory) -> u16
 }
 
 /// Lays the target `a` of a branch back (Forth-83 `<RESOLVE`).
-pub fn resolve_back(memory: &mut Memory, a: u16) -> Result<(), Full>
-    ensures { IsLaid memory.old memory.new (cell_bytes a) result }
+pub fn resolve_back(memory: &mut Memory, a: u16, limit: u16) -> Result<(), Full>
+    ensures { IsLaid limit memory.old memory.new (cell_bytes a) result }
 {
-    comma(memory, a)
+    comma(memory, a, limit)
 }

@@ -2,6 +2,7 @@
 use Rattle.std.proofs.Common.{◌≡◌, ◌≢◌, ℕ, suc, ◌+◌, ◌<◌, ◌≤◌, ◌∷◌, List, [], length, refl, arith, Bool, true, false, sym, ap, subst, ◌∙◌, inl, inr, ◌⊎◌}
 use Rattle.std.specs.Prelude.{◌==◌, find}
 use Rattle.memory.specs.Bytes.{byte, cell}
+use Rattle.memory.specs.declared.limit.TheConstants.{GREATEST_LIMIT}
 use Rattle.memory.proofs.Same.{cell_by}
 use Rattle.dictionary.specs.Header.{is_named, name_length}
 use Rattle.dictionary.specs.Chain.{chain, is_longer}
@@ -31,7 +32,7 @@ pub record Fronted (m n : List ℕ) (here head new : ℕ) : Type 0 where
   pub link_is : cell n new ≡ cell m head
   pub some : (new == 0) ≡ false
   pub low : 256 ≤ here
-  pub high : here ≤ 61440
+  pub high : here ≤ GREATEST_LIMIT
   pub same : (i : ℕ) → 34 ≤ i → i < here → i ≢ head → i ≢ head + 1 → byte n i ≡ byte m i
   pub all : length m ≡ 65536
   pub all_new : length n ≡ 65536

@@ -56,15 +56,15 @@ abbrev pub header_size : List ℕ → List ℕ → ℕ
 header_size name extra = 7 + length name + length extra
 
 -- a header can be added, or why not
-abbrev pub IsAddable : List ℕ → List ℕ → List ℕ → Result Unit AddFault → Type 0
-IsAddable m name extra (Ok _) = IsTrue (is_name name) × IsTrue (fits m (header_size name extra))
-IsAddable m name extra (Err NameLength) = IsFalse (is_name name)
-IsAddable m name extra (Err Full) = IsTrue (is_name name) × IsFalse (fits m (header_size name extra))
+abbrev pub IsAddable : ℕ → List ℕ → List ℕ → List ℕ → Result Unit AddFault → Type 0
+IsAddable limit m name extra (Ok _) = IsTrue (is_name name) × IsTrue (fits limit m (header_size name extra))
+IsAddable limit m name extra (Err NameLength) = IsFalse (is_name name)
+IsAddable limit m name extra (Err Full) = IsTrue (is_name name) × IsFalse (fits limit m (header_size name extra))
 
-abbrev pub IsAdded : List ℕ → List ℕ → List ℕ → ℕ → List ℕ → Bool → Result Unit AddFault → Type 0
-IsAdded old new name code extra hidden (Ok added) =
-    IsAddable old name extra (Ok added) × (new ≡ with_header old name code extra hidden)
-IsAdded old new name code extra hidden (Err fault) = IsAddable old name extra (Err fault) × (new ≡ old)
+abbrev pub IsAdded : ℕ → List ℕ → List ℕ → List ℕ → ℕ → List ℕ → Bool → Result Unit AddFault → Type 0
+IsAdded limit old new name code extra hidden (Ok added) =
+    IsAddable limit old name extra (Ok added) × (new ≡ with_header old name code extra hidden)
+IsAdded limit old new name code extra hidden (Err fault) = IsAddable limit old name extra (Err fault) × (new ≡ old)
 
 -- the record of a new vocabulary: four empty chains, and the newest record before it
 unfoldable pub record_bytes : ℕ → List ℕ
@@ -84,8 +84,8 @@ with_vocabulary_at site newest m name = written m (vocabulary_writes site newest
 unfoldable pub with_vocabulary : List ℕ → List ℕ → List ℕ
 with_vocabulary m name = with_vocabulary_at (site_of m name) (cell m VOC_LINK) m name
 
-abbrev pub IsVocabularyAdded : List ℕ → List ℕ → List ℕ → Result Unit AddFault → Type 0
-IsVocabularyAdded old new name (Ok added) =
-    IsAddable old name (record_bytes (cell old VOC_LINK)) (Ok added) × (new ≡ with_vocabulary old name)
-IsVocabularyAdded old new name (Err fault) =
-    IsAddable old name (record_bytes (cell old VOC_LINK)) (Err fault) × (new ≡ old)
+abbrev pub IsVocabularyAdded : ℕ → List ℕ → List ℕ → List ℕ → Result Unit AddFault → Type 0
+IsVocabularyAdded limit old new name (Ok added) =
+    IsAddable limit old name (record_bytes (cell old VOC_LINK)) (Ok added) × (new ≡ with_vocabulary old name)
+IsVocabularyAdded limit old new name (Err fault) =
+    IsAddable limit old name (record_bytes (cell old VOC_LINK)) (Err fault) × (new ≡ old)

@@ -3,7 +3,7 @@
 ghost use Rattle.std.specs.Prelude.{◌≡◌, ◌+◌, ◌<◌, ◌≤◌, length, OnOk};
 ghost use Rattle.memory.specs.Bytes.{cell, put_bytes};
 ghost use Rattle.dictionary.specs.Laying.{fits};
-ghost use Rattle.dictionary.specs.Adding.{is_name, new_count, header_bytes, site_of, with_header_at, with_header, IsAddable, IsAdded, record_bytes, with_vocabulary_at, with_vocabulary, IsVocabularyAdded};
+ghost use Rattle.dictionary.specs.Adding.{is_name, new_count, header_bytes, site_of, with_header_at, with_header, header_size, IsAddable, IsAdded, record_bytes, with_vocabulary_at, with_vocabulary, IsVocabularyAdded};
 
 use crate::fault::AddFault;
 use crate::laying::fits;
@@ -65,7 +65,7 @@ impl Site {
     #[tactic(auto, using(crate::proofs::Pieces::length_header), unfolding(crate::specs::Adding::with_header_at, memory::specs::Bytes::written))]
     pub fn write(self, memory: &mut Memory, name: &[u8], code: u16, extra: &[u8], hidden: bool)
         requires name { length name.now ≤ 31 }
-        requires extra { length extra.now ≤ 61440 }
+        requires size { header_size name.now extra.now ≤ 65535 }
         ensures { memory.new ≡ with_header_at self memory.old name.now code extra.now hidden }
     {
         put_header(memory, self, name, code, extra, hidden);
@@ -110,11 +110,11 @@ pub fn record_bytes(newest: u16) -> [u8; 10]
 }
 
 /// Whether a header of that name can be added, with `extra` laid with it: `NameLength` for a name of 0 or over 31
-/// bytes, then `Full` where the bytes would end behind 61,440.
+/// bytes, then `Full` where the bytes would end behind `limit`.
 #[tactic(auto, unfolding(crate::specs::Adding::is_name))]
-pub fn can_add(memory: &Memory, name: &[u8], extra: &[u8]) -> Result<(), AddFault>
-    ensures cases { IsAddable memory.now name.now extra.now result }
-    ensures bound { OnOk result (length extra.now ≤ 61440) }
+pub fn can_add(memory: &Memory, name: &[u8], extra: &[u8], limit: u16) -> Result<(), AddFault>
+    ensures cases { IsAddable limit memory.now name.now extra.now result }
+    ensures bound { OnOk result (header_size name.now extra.now ≤ limit) }
 {
     if name.is_empty() {
         return Err(AddFault::NameLength);
@@ -122,7 +122,7 @@ pub fn can_add(memory: &Memory, name: &[u8], extra: &[u8]) -> Result<(), AddFaul
     if name.len() > 31 {
         return Err(AddFault::NameLength);
     }
-    if !fits(memory, 7 + name.len() + extra.len()) {
+    if !fits(memory, 7 + name.len() + extra.len(), limit) {
         return Err(AddFault::Full);
     }
     Ok(())
@@ -140,10 +140,11 @@ pub fn add_header(
     code: u16,
     extra: &[u8],
     hidden: bool,
+    limit: u16,
 ) -> Result<(), AddFault>
-    ensures { IsAdded memory.old memory.new name.now code extra.now hidden result }
+    ensures { IsAdded limit memory.old memory.new name.now code extra.now hidden result }
 {
-    can_add(memory, name, extra)?;
+    can_add(memory, name, extra, limit)?;
     let site = Site::of(memory, name);
     site.write(memory, name, code, extra, hidden);
     Ok(())
@@ -154,11 +155,11 @@ pub fn add_header(
 ///
 /// Refused as `can_add` says: then nothing is written.
 #[tactic(auto, unfolding(crate::specs::Adding::is_name, crate::specs::Adding::with_vocabulary))]
-pub fn add_vocabulary(memory: &mut Memory, name: &[u8]) -> Result<(), AddFault>
-    ensures { IsVocabularyAdded memory.old memory.new name.now result }
+pub fn add_vocabulary(memory: &mut Memory, name: &[u8], limit: u16) -> Result<(), AddFault>
+    ensures { IsVocabularyAdded limit memory.old memory.new name.now result }
 {
     let newest = memory.cell(VOC_LINK);
-    can_add(memory, name, &record_bytes(newest))?;
+    can_add(memory, name, &record_bytes(newest), limit)?;
     let site = Site::of(memory, name);
     site.write_vocabulary(memory, name, newest);
     Ok(())

@@ -3,26 +3,26 @@
 ghost use Rattle.std.specs.Prelude.{◌≡◌, ◌≤◌, length, IsTrue};
 ghost use Rattle.dictionary.specs.Laying.{fits, laid_at};
 
+use memory::Memory;
 use memory::system::DP;
-use memory::{FIRST_BUFFER, Memory};
 
-/// Whether `n` bytes fit at HERE: they end at 61,440 at the latest, where the block buffers begin.
+/// Whether `n` bytes fit at HERE: they end at `limit` at the latest, where the block buffers begin.
 #[tactic(auto, unfolding(crate::specs::Laying::fits))]
-pub fn fits(memory: &Memory, n: usize) -> bool
-    ensures value { result ≡ fits memory.now n }
-    ensures bound { IsTrue result → n ≤ 61440 }
+pub fn fits(memory: &Memory, n: usize, limit: u16) -> bool
+    ensures value { result ≡ fits limit memory.now n }
+    ensures bound { IsTrue result → n ≤ limit }
 {
-    let here = usize::from(memory.cell(DP));
-    if here > FIRST_BUFFER {
+    let here = memory.cell(DP);
+    if here > limit {
         return false;
     }
-    n <= FIRST_BUFFER - here
+    n <= usize::from(limit - here)
 }
 
 /// Lays bytes at an address, and sets DP behind them.
 #[tactic(auto, unfolding(crate::specs::Laying::laid_at))]
 pub fn lay_at(memory: &mut Memory, here: u16, bytes: &[u8])
-    requires { length bytes.now ≤ 61440 }
+    requires { length bytes.now ≤ 65535 }
     ensures { memory.new ≡ laid_at here memory.old bytes.now }
 {
     memory.set_bytes(here, bytes);

@@ -1,9 +1,9 @@
 -- The input stream.
-use Rattle.std.specs.Prelude.{◌≡◌, ℕ, ◌+◌, ◌*◌, List, ◌==◌, not, ◌&&◌, Bool, if◌then◌else◌, min, Result, Ok, Err, IsTrue, IsFalse}
+use Rattle.std.specs.Prelude.{◌≡◌, ℕ, List, ◌==◌, not, ◌&&◌, Bool, if◌then◌else◌, min, Result, Ok, Err, IsTrue, IsFalse}
 use Rattle.memory.specs.Bytes.{cell}
 use Rattle.memory.specs.declared.system.TheConstants.{TO_IN, BLK, NUMBER_TIB, TIB}
 use Rattle.block_buffers.specs.declared.entry.Entry.{Entry}
-use Rattle.block_buffers.specs.Entries.{holds, slot_of}
+use Rattle.block_buffers.specs.Entries.{holds, address_of, slot_of}
 use Rattle.input_source.specs.declared.words.Stream.{Stream}
 use Rattle.input_source.specs.declared.streams.NeedsBlock.{NeedsBlock}
 
@@ -13,7 +13,7 @@ needs_block m b = not (cell m BLK == 0) && not (holds b (cell m BLK))
 
 -- BLK 0 is the terminal's buffer
 unfoldable pub stream_at : List ℕ → List Entry → ℕ
-stream_at m b = if cell m BLK == 0 then TIB else 61440 + 1024 * slot_of b (cell m BLK)
+stream_at m b = if cell m BLK == 0 then TIB else address_of b (slot_of b (cell m BLK))
 
 unfoldable pub stream_size : List ℕ → ℕ
 stream_size m = if cell m BLK == 0 then cell m NUMBER_TIB else 1024

@@ -5,8 +5,8 @@ ghost use Rattle.input_source.specs.Streams.{IsStream};
 
 use crate::words::Stream;
 use block_buffers::{BLOCK_SIZE, Buffers};
+use memory::Memory;
 use memory::system::{BLK, NUMBER_TIB, TIB, TO_IN};
-use memory::{FIRST_BUFFER, Memory};
 use thiserror::Error;
 
 /// No buffer has the block that BLK names.
@@ -36,7 +36,7 @@ pub fn stream(memory: &Memory, buffers: &Buffers) -> Result<Stream, NeedsBlock>
         return Err(NeedsBlock);
     };
     Ok(Stream {
-        at: (FIRST_BUFFER + BLOCK_SIZE * slot) as u16,
+        at: buffers.address_of(slot),
         size: BLOCK_SIZE as u16,
         place: place.min(BLOCK_SIZE as u16),
     })

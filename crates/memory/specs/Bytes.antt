@@ -1,4 +1,4 @@
-use Rattle.std.specs.Prelude.{ℕ, zero, suc, ◌+◌, ◌*◌, ◌%◌, ◌/◌, ◌++◌, List, [], ◌∷◌, slice_index, slice_set, take, drop, replicate, length}
+use Rattle.std.specs.Prelude.{ℕ, zero, suc, ◌+◌, ◌-◌, ◌*◌, ◌%◌, ◌/◌, ◌≤◌, ◌++◌, List, [], ◌∷◌, slice_index, slice_set, take, drop, replicate, length}
 use Rattle.cells.specs.Cell.{wrap}
 
 -- the byte at address a
@@ -45,13 +45,21 @@ zeros = replicate 65536 0
 unfoldable pub front_put : List ℕ → List ℕ → List ℕ
 front_put bs m = bs ++ drop (length bs) m
 
--- the bytes of the buffer of a slot
-unfoldable pub page : List ℕ → ℕ → List ℕ
-page m slot = take 1024 (drop (61440 + 1024 * slot) m)
+-- how many block buffers there may be
+abbrev pub IsCount : ℕ → Type 0
+IsCount count = (2 ≤ count) × (count ≤ 16)
 
--- memory with these bytes in the buffer of a slot
+-- where they begin: they stand at the end of memory, and the dictionary ends there at the latest
+unfoldable pub limit_of : ℕ → ℕ
+limit_of count = 65536 - 1024 * count
+
+-- the 1,024 bytes from an address on
+unfoldable pub page : List ℕ → ℕ → List ℕ
+page m at = take 1024 (drop at m)
+
+-- memory with these bytes from an address on
 unfoldable pub with_page : List ℕ → ℕ → List ℕ → List ℕ
-with_page m slot bs = take (61440 + 1024 * slot) m ++ (bs ++ drop (61440 + 1024 * slot + 1024) m)
+with_page m at bs = take at m ++ (bs ++ drop (at + 1024) m)
 
 -- the bytes bs from a on, in turn
 unfoldable pub put_bytes : List ℕ → ℕ → List ℕ → List ℕ

@@ -1,6 +1,8 @@
 //! Laws of memory.
 
-ghost use Rattle.std.specs.Prelude.{◌≡◌};
+ghost use Rattle.std.specs.Prelude.{◌≡◌, ℕ, ◌+◌, ◌*◌, ◌≤◌};
+ghost use Rattle.memory.specs.Bytes.{IsCount, limit_of};
+ghost use Rattle.memory.specs.declared.limit.TheConstants.{GREATEST_LIMIT};
 ghost use Rattle.memory.specs.declared.mirrored.TheConstants.{MIRRORED};
 ghost use Rattle.memory.specs.declared.system.TheConstants.{STATE, BASE, TO_IN, BLK, NUMBER_TIB, SPAN, DP, LAST, CONTEXT, CURRENT, HLD, SCR, FAULT, FORTH_VOC, VOC_LINK, FENCE, RUNTIME_CELLS, TIB};
 
@@ -29,4 +31,14 @@ pub fn system_law()
 /// How many bytes are mirrored.
 pub fn mirrored_law()
     ensures { MIRRORED ≡ 16 }
+{}
+
+/// Where the block buffers begin: two at 63,488, which is the greatest limit, four at 61,440, sixteen at 49,152. They and
+/// what is below them are all of memory.
+pub fn limit_law()
+    ensures greatest { GREATEST_LIMIT ≡ 63488 }
+    ensures two { limit_of 2 ≡ 63488 }
+    ensures four { limit_of 4 ≡ 61440 }
+    ensures sixteen { limit_of 16 ≡ 49152 }
+    ensures whole { (count : ℕ) → IsCount count → limit_of count + 1024 * count ≡ 65536 }
 {}

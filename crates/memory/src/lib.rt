@@ -3,6 +3,7 @@
 
 mod access;
 pub mod laws;
+mod limit;
 pub mod mirrored;
 mod snapshot;
 pub mod system;
@@ -11,15 +12,13 @@ ghost use Rattle.std.specs.Prelude.{◌≡◌, ℕ, ◌+◌, ◌*◌, ◌<◌, �
 ghost use Rattle.memory.specs.Bytes.{byte, cell, put_byte, put_cell, bytes, zeros, front_put, page, with_page, filled, moved_up, moved_down, put_bytes};
 
 pub use access::{byte_at, cell_at, cell_bytes, set_byte_at, set_cell_at};
+pub use limit::{GREATEST_LIMIT, limit_of};
 pub use snapshot::Snapshot;
 use std::alloc::Global;
 use std::marker::Model;
 
 /// How many bytes memory has.
 pub const SIZE: usize = 65536;
-
-/// Where the block buffers begin.
-pub const FIRST_BUFFER: usize = 61440;
 
 /// Memory was not found.
 #[derive(Clone, Copy, Debug, PartialEq, Eq)]
@@ -194,26 +193,26 @@ impl Memory {
         self.as_slice()[at.wrapping_add(i) as usize]
     }
 
-    /// The 1,024 bytes of the buffer of a slot.
+    /// The 1,024 bytes from `at` on, an address up to 64,512.
     #[tactic(auto, unfolding(crate::specs::Bytes::page))]
-    pub fn page(&self, slot: usize) -> &[u8; 1024]
-        requires { slot < 4 }
-        ensures { result.now ≡ page self.now slot }
+    pub fn page(&self, at: u16) -> &[u8; 1024]
+        requires { at ≤ 64512 }
+        ensures { result.now ≡ page self.now at }
     {
-        let start = FIRST_BUFFER + 1024 * slot;
+        let start = usize::from(at);
         let Some((page, _)) = self.as_slice()[start..].split_first_chunk::<1024>() else {
             unreachable!()
         };
         page
     }
 
-    /// Writes the buffer of a slot.
+    /// Writes the 1,024 bytes from `at` on, an address up to 64,512.
     #[tactic(auto, using(crate::proofs::Behind::front_page))]
-    pub fn set_page(&mut self, slot: usize, page: &[u8; 1024])
-        requires { slot < 4 }
-        ensures { self.new ≡ with_page self.old slot page.now }
+    pub fn set_page(&mut self, at: u16, page: &[u8; 1024])
+        requires { at ≤ 64512 }
+        ensures { self.new ≡ with_page self.old at page.now }
     {
-        let start = FIRST_BUFFER + 1024 * slot;
+        let start = usize::from(at);
         put_part(&mut self.bytes[..], start, page);
     }
 

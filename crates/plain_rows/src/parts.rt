@@ -1,6 +1,10 @@
 //! What the rows read and write, and what they answer.
 
+ghost use Rattle.std.specs.Prelude.{◌≡◌, ◌≤◌, IsTrue};
+ghost use Rattle.plain_rows.specs.Row.{has_room};
+
 use block_buffers::buffers::Buffers;
+use dictionary::fits;
 use memory::Memory;
 use stacks::Stack;
 use std::marker::Model;
@@ -45,7 +49,8 @@ pub enum Outcome {
 }
 
 /// What the rows read and write: memory, the data stack and the return stack, the place in the thread (`ip`),
-/// the token that comes next in its place (`pending`), the block buffers, and how many blocks the device has.
+/// the token that comes next in its place (`pending`), the block buffers, how many blocks the device has, and where the
+/// buffers begin in memory, as they tell it.
 #[derive(Drop)]
 pub struct Parts {
     pub memory: Memory,
@@ -55,12 +60,27 @@ pub struct Parts {
     pub pending: Option<u16>,
     pub buffers: Buffers,
     pub block_count: u32,
+    pub limit: u16,
 }
 
 impl Model for Parts {
+    ghost use Rattle.std.specs.Prelude.{◌≡◌};
+    ghost use Rattle.block_buffers.specs.Entries.{limit as limit_by};
     ghost use Rattle.plain_rows.specs.Whole.{Whole};
 
     ghost Value = { Whole };
 
     ghost view = { λ p. record { memory = p.memory; values = p.values; returns = p.returns; ip = p.ip; pending = p.pending; buffers = p.buffers; block_count = p.block_count } };
+
+    ghost invariant = { λ p. p.limit ≡ limit_by p.buffers };
+}
+
+impl Parts {
+    /// Whether `n` bytes fit at HERE: the dictionary ends where the block buffers begin.
+    pub fn has_room(&self, n: usize) -> bool
+        ensures value { result ≡ has_room self.now n }
+        ensures bound { IsTrue result → n ≤ 65535 }
+    {
+        fits(&self.memory, n, self.limit)
+    }
 }

@@ -1,7 +1,7 @@
 -- The whole table, row by row: what each asks of its device, leaves of the buffers, and keeps where it stops.
 use Rattle.std.proofs.Common.{◌≡◌, ℕ, ◌==◌, ◌||◌, List, [], ◌∷◌, ◌++◌, Option, None, nat_lt, length, slice_index, take, Bool, true, false, inl, inr, arith, refl, sym, subst, rules, if◌then◌else◌}
 use Rattle.std.proofs.lemmas.Bool.{eqb-true, cases_lt}
-use Rattle.block_buffers.specs.Entries.{holds, slot_of, victim, assigned, unassigned}
+use Rattle.block_buffers.specs.Entries.{address_of, holds, slot_of, victim, assigned, unassigned}
 use Rattle.input_source.specs.declared.words.Word.{Word}
 use Rattle.memory.specs.Bytes.{cell, Write}
 use Rattle.memory.specs.declared.system.TheConstants.{SCR}
@@ -11,7 +11,7 @@ use Rattle.plain_rows.proofs.Shapes.{by_if, by_room_or, by_takes1}
 use Rattle.plain_rows.proofs.Takes.{takes2_none, takes2_deep}
 use Rattle.stacks.specs.Cells.{◌▸◌}
 use Rattle.plain_rows.proofs.Plain.{plain_control, plain_stack, plain_cells, plain_doubles, plain_memory}
-use Rattle.primitives.specs.Blocks.{address_of, with_block, fetches}
+use Rattle.primitives.specs.Blocks.{with_block, fetches}
 use Rattle.primitives.specs.Needs.{reads_stream, is_about_screen, stream_needs, needed}
 use Rattle.primitives.specs.Devices.{saves_victim}
 use Rattle.primitives.specs.DictionaryRows.{leaves_past, creates}
@@ -62,22 +62,22 @@ ruleset more = (behaves_leaves_past, behaves_creates, behaves_compiles_past, beh
 behaves_112 : (s : Whole) → Behaves (missing (take 1 s.values) s) s (row_112 s)
 unfolding takes1
 behaves_112 s = by_values s.values where
-  by_values : (v : List ℕ) → Behaves (missing (take 1 v) s) s (elim v [ (u ∷ d) ↦ fetches s u (λ t slot. done (record t { values = address_of slot ∷ d })) | _ ↦ fault s 1 ])
+  by_values : (v : List ℕ) → Behaves (missing (take 1 v) s) s (elim v [ (u ∷ d) ↦ fetches s u (λ t slot. done (record t { values = address_of t.buffers slot ∷ d })) | _ ↦ fault s 1 ])
   by_values [] = behaves_fault (missing [] s) s 1
   by_values (u ∷ d) =
-      behaves_fetches [] s u (λ t slot. done (record t { values = address_of slot ∷ d }))
-      (λ slot. behaves_done (missing [] (with_block s u)) (with_block s u) (record (with_block s u) { values = address_of slot ∷ d }) (λ k. k))
+      behaves_fetches [] s u (λ t slot. done (record t { values = address_of t.buffers slot ∷ d }))
+      (λ slot. behaves_done (missing [] (with_block s u)) (with_block s u) (record (with_block s u) { values = address_of (with_block s u).buffers slot ∷ d }) (λ k. k))
 
 behaves_113 : (s : Whole) → Behaves (given s) s (row_113 s)
 behaves_113 s =
     by_takes1 (Behaves (given s) s) s _ (behaves_fault (given s) s 1)
     (λ u d. behaves_if (given s) s (nat_lt u s.block_count) _ _ (by_held u d (holds s.buffers u) refl) (behaves_fault (given s) s 7)) where
-      by_held : (u : ℕ) (d : List ℕ) (b : Bool) → holds s.buffers u ≡ b → Behaves (given s) s (if b then done (record (with_block s u) { values = address_of (slot_of s.buffers u) ∷ d }) else saves_victim s (done (record s { values = address_of (victim s.buffers).slot ∷ d; buffers = assigned u s.buffers })))
+      by_held : (u : ℕ) (d : List ℕ) (b : Bool) → holds s.buffers u ≡ b → Behaves (given s) s (if b then done (record (with_block s u) { values = address_of s.buffers (slot_of s.buffers u) ∷ d }) else saves_victim s (done (record s { values = address_of s.buffers (victim s.buffers).slot ∷ d; buffers = assigned u s.buffers })))
       by_held u d true q =
-          behaves_done (given s) s (record (with_block s u) { values = address_of (slot_of s.buffers u) ∷ d }) (orderly_moved (slot_of s.buffers u) s.buffers)
+          behaves_done (given s) s (record (with_block s u) { values = address_of s.buffers (slot_of s.buffers u) ∷ d }) (orderly_moved (slot_of s.buffers u) s.buffers)
       by_held u d false q =
-          behaves_saves_victim s (done (record s { values = address_of (victim s.buffers).slot ∷ d; buffers = assigned u s.buffers }))
-          (behaves_done None s (record s { values = address_of (victim s.buffers).slot ∷ d; buffers = assigned u s.buffers }) (orderly_assigned u s.buffers q))
+          behaves_saves_victim s (done (record s { values = address_of s.buffers (victim s.buffers).slot ∷ d; buffers = assigned u s.buffers }))
+          (behaves_done None s (record s { values = address_of s.buffers (victim s.buffers).slot ∷ d; buffers = assigned u s.buffers }) (orderly_assigned u s.buffers q))
 
 behaves_115 : (s : Whole) → Behaves (saved s) s (row_115 s)
 behaves_115 s = behaves_saves s (done s) (behaves_done None s s (λ k. k))

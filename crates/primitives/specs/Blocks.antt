@@ -1,5 +1,5 @@
 -- A block that a row needs.
-use Rattle.std.specs.Prelude.{◌≡◌, ℕ, ◌+◌, ◌*◌, ◌<◌, nat_lt, ◌&&◌, Bool, if◌then◌else◌, unwrap_or, IsTrue, IsFalse, Result, Ok, Err}
+use Rattle.std.specs.Prelude.{◌≡◌, ℕ, ◌<◌, length, nat_lt, ◌&&◌, Bool, if◌then◌else◌, unwrap_or, IsTrue, IsFalse, Result, Ok, Err}
 use Rattle.plain_rows.specs.Whole.{Whole}
 use Rattle.plain_rows.specs.declared.parts.Outcome.{Outcome}
 use Rattle.plain_rows.specs.declared.parts.Outcome.TheVariants.{Fault, Ask}
@@ -8,10 +8,6 @@ use Rattle.plain_rows.specs.declared.faults.TheConstants.{NO_BLOCK}
 use Rattle.plain_rows.specs.Row.{After}
 use Rattle.block_buffers.specs.declared.entry.Entry.{Entry}
 use Rattle.block_buffers.specs.Entries.{holds, slot_of, victim, moved_front}
-
--- where the bytes of a slot begin
-abbrev pub address_of : ℕ → ℕ
-address_of slot = 61440 + 1024 * slot
 
 -- asks that the block of an entry be written
 abbrev pub write_of : Entry → Outcome
@@ -37,5 +33,5 @@ fetches s u after = if has_block s u then after (with_block s u) (slot_of s.buff
 
 -- what the code's fetch answers
 abbrev pub IsFetched : Whole → Whole → ℕ → Result ℕ Outcome → Type 0
-IsFetched old new u (Ok slot) = IsTrue (has_block old u) × (new ≡ with_block old u) × (slot ≡ slot_of old.buffers u) × (slot < 4)
+IsFetched old new u (Ok slot) = IsTrue (has_block old u) × (new ≡ with_block old u) × (slot ≡ slot_of old.buffers u) × (slot < length new.buffers)
 IsFetched old new u (Err o) = IsFalse (has_block old u) × (new ≡ old) × (o ≡ without_block old u)

@@ -1,25 +1,25 @@
 use Rattle.std.specs.Prelude.{ℕ, ◌+◌, ◌%◌, List, [], ◌∷◌, length}
+use Rattle.block_buffers.specs.Entries.{limit}
 use Rattle.cells.specs.Cell.{wrap}
 use Rattle.compiling_words.specs.Code.{runtime, control_code, literal_code}
 use Rattle.compiling_words.specs.Definitions.{ended}
 use Rattle.compiling_words.specs.Laying.{laid, can_allot, allotted, resolved}
-use Rattle.dictionary.specs.Laying.{fits}
 use Rattle.memory.specs.Bytes.{cell, put_cell, cell_bytes}
 use Rattle.memory.specs.declared.system.TheConstants.{STATE, DP}
 use Rattle.plain_rows.specs.declared.faults.TheConstants.{DICTIONARY_FULL}
 use Rattle.stacks.specs.Cells.{◌▸◌}
 use Rattle.plain_rows.specs.Whole.{Whole}
-use Rattle.plain_rows.specs.Row.{After, done, takes1, takes2, needs, leaves, room}
+use Rattle.plain_rows.specs.Row.{After, done, takes1, takes2, needs, leaves, room, has_room}
 
 -- lays the bytes, and leaves d on the data stack
 unfoldable pub compiles : Whole → List ℕ → List ℕ → After
 compiles s bs d =
-    needs s DICTIONARY_FULL (fits s.memory (length bs)) (room s d (done (record s { values = d; memory = laid s.memory bs })))
+    needs s DICTIONARY_FULL (has_room s (length bs)) (room s d (done (record s { values = d; memory = laid s.memory bs })))
 
 -- the same, and then the cell at a is the new HERE
 unfoldable pub resolves : Whole → List ℕ → ℕ → List ℕ → After
 resolves s bs a d =
-    needs s DICTIONARY_FULL (fits s.memory (length bs)) (room s d (done (record s {
+    needs s DICTIONARY_FULL (has_room s (length bs)) (room s d (done (record s {
       values = d;
       memory = put_cell (laid s.memory bs) a (wrap (cell s.memory DP + length bs));
     })))
@@ -30,7 +30,7 @@ ahead s n = wrap (cell s.memory DP + n)
 
 -- 169 ; ( -- ): the runtime cell of EXIT; then the newest header isn't hidden, and STATE := 0
 abbrev pub semicolon : Whole → After
-semicolon s = needs s DICTIONARY_FULL (fits s.memory 2) (done (record s { memory = ended s.memory }))
+semicolon s = needs s DICTIONARY_FULL (has_room s 2) (done (record s { memory = ended s.memory }))
 
 -- 170 [ ( -- )
 abbrev pub left_bracket : Whole → After
@@ -50,7 +50,7 @@ c_comma s = takes1 s (λ c rest. compiles s (c % 256 ∷ []) rest)
 
 -- 174 ALLOT ( n -- )
 abbrev pub allot : Whole → After
-allot s = takes1 s (λ n rest. needs s DICTIONARY_FULL (can_allot s.memory n) (done (record s { values = rest; memory = allotted s.memory n })))
+allot s = takes1 s (λ n rest. needs s DICTIONARY_FULL (can_allot (limit s.buffers) s.memory n) (done (record s { values = rest; memory = allotted s.memory n })))
 
 -- 175 LITERAL ( x -- )
 abbrev pub literal : Whole → After

@@ -2,12 +2,12 @@ use Rattle.std.specs.Prelude.{ℕ, ◌+◌, List, [], ◌∷◌, length, nat_le,
 use Rattle.compiling_words.specs.Code.{runtime, literal_code, text_code, text_number}
 use Rattle.compiling_words.specs.declared.text.TextWord.{TextWord}
 use Rattle.compiling_words.specs.declared.text.TextWord.TheVariants.{Show, Abort}
-use Rattle.dictionary.specs.Laying.{fits, laid_at}
+use Rattle.dictionary.specs.Laying.{laid_at}
 use Rattle.input_source.specs.declared.words.Word.{Word}
 use Rattle.memory.specs.Bytes.{cell, put_cell, cell_bytes, PutCell}
 use Rattle.memory.specs.declared.system.TheConstants.{STATE, TO_IN, DP, CONTEXT, CURRENT}
 use Rattle.plain_rows.specs.Whole.{Whole}
-use Rattle.plain_rows.specs.Row.{After, done, takes1, needs}
+use Rattle.plain_rows.specs.Row.{After, done, takes1, needs, has_room}
 use Rattle.plain_rows.specs.declared.faults.TheConstants.{DICTIONARY_FULL, BAD_LENGTH}
 use Rattle.primitives.specs.DictionaryRows.{creates}
 use Rattle.primitives.specs.Names.{reads_name, parses, finds_word}
@@ -19,7 +19,7 @@ colon s = reads_name s (λ t w name. creates t w name true 1 []
 
 -- the bytes are laid, and >IN is behind the word
 unfoldable pub lays_past : Whole → Word → List ℕ → After
-lays_past t w bs = needs t DICTIONARY_FULL (fits t.memory (length bs))
+lays_past t w bs = needs t DICTIONARY_FULL (has_room t (length bs))
     (done (record t { memory = laid_at (cell t.memory DP) (put_cell t.memory TO_IN w.next) bs }))
 
 -- 176 ['] ( -- ): lays the next word's compilation address as a literal
@@ -35,7 +35,7 @@ bracket_compile s = reads_name s (λ t name_word name. finds_word t name_word na
 abbrev pub quotes : TextWord → Whole → After
 quotes word s = parses s 34 (λ t w text.
     needs t BAD_LENGTH (nat_le w.len 255)
-    (needs t DICTIONARY_FULL (fits t.memory (3 + w.len))
+    (needs t DICTIONARY_FULL (has_room t (3 + w.len))
     (done (record t {
       memory = laid_at (cell t.memory DP) (put_cell t.memory TO_IN w.next) (text_code (runtime t.memory (text_number word)) text);
     }))))

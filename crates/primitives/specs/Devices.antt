@@ -4,15 +4,15 @@ use Rattle.plain_rows.specs.declared.parts.Outcome.TheVariants.{Byte, Show, Ask}
 use Rattle.plain_rows.specs.declared.parts.Request.TheVariants.{Key, Line}
 use Rattle.plain_rows.specs.Row.{After, done, takes1, takes2, room, needs}
 use Rattle.plain_rows.specs.declared.faults.TheConstants.{NO_BLOCK}
-use Rattle.block_buffers.specs.Entries.{holds, slot_of, victim, assigned, front_marked, has_updated, first_updated, unassigned}
+use Rattle.block_buffers.specs.Entries.{address_of, holds, slot_of, victim, assigned, front_marked, has_updated, first_updated, unassigned}
 use Rattle.memory.specs.Bytes.{put_cell}
 use Rattle.memory.specs.declared.system.TheConstants.{SPAN}
 use Rattle.stacks.specs.Cells.{◌▸◌}
-use Rattle.primitives.specs.Blocks.{address_of, write_of, fetches, with_block}
+use Rattle.primitives.specs.Blocks.{write_of, fetches, with_block}
 
 -- 112 BLOCK ( u -- a ): a is where block u is, which is fetched and referenced
 abbrev pub block : Whole → After
-block s = takes1 s (λ u rest. fetches s u (λ t slot. done (record t { values = rest ▸ address_of slot })))
+block s = takes1 s (λ u rest. fetches s u (λ t slot. done (record t { values = rest ▸ address_of t.buffers slot })))
 
 -- goes on where the victim isn't updated; else its write is asked
 unfoldable pub saves_victim : Whole → After → After
@@ -21,8 +21,8 @@ saves_victim s after = if (victim s.buffers).updated then (s, write_of (victim s
 -- 113 BUFFER ( u -- a ): as BLOCK, but that no bytes are read
 abbrev pub buffer : Whole → After
 buffer s = takes1 s (λ u rest. needs s NO_BLOCK (nat_lt u s.block_count) (
-    if holds s.buffers u then done (record (with_block s u) { values = rest ▸ address_of (slot_of s.buffers u) })
-    else saves_victim s (done (record s { values = rest ▸ address_of (victim s.buffers).slot; buffers = assigned u s.buffers }))))
+    if holds s.buffers u then done (record (with_block s u) { values = rest ▸ address_of s.buffers (slot_of s.buffers u) })
+    else saves_victim s (done (record s { values = rest ▸ address_of s.buffers (victim s.buffers).slot; buffers = assigned u s.buffers }))))
 
 -- 114 UPDATE ( -- )
 abbrev pub update : Whole → After

@@ -1,14 +1,14 @@
 -- The line editor. The screen is block SCR.
 use Rattle.std.specs.Prelude.{ℕ, ◌+◌, ◌-◌, List, min}
 use Rattle.cells.specs.Cell.{wrap}
-use Rattle.block_buffers.specs.Entries.{front_marked}
+use Rattle.block_buffers.specs.Entries.{address_of, front_marked}
 use Rattle.block_buffers.specs.Screens.{blank_line, blank_screen, line_start, with_line, line_inserted, line_deleted}
 use Rattle.input_source.specs.declared.words.Stream.{Stream}
 use Rattle.memory.specs.Bytes.{bytes, cell, front_put, page, put_cell, with_page}
 use Rattle.memory.specs.declared.system.TheConstants.{TO_IN, SCR}
 use Rattle.plain_rows.specs.Whole.{Whole}
 use Rattle.plain_rows.specs.Row.{After, done, takes1, leaves}
-use Rattle.primitives.specs.Blocks.{address_of, fetches}
+use Rattle.primitives.specs.Blocks.{fetches}
 use Rattle.primitives.specs.Streams.{reads}
 use Rattle.stacks.specs.Cells.{◌▸◌}
 
@@ -16,17 +16,25 @@ use Rattle.stacks.specs.Cells.{◌▸◌}
 unfoldable pub line_text : List ℕ → Stream → List ℕ
 line_text m stream = front_put (bytes m (wrap (stream.at + stream.place)) (min (stream.size - stream.place) 64)) blank_line
 
+-- the bytes of the screen in a slot
+abbrev pub screen_in : Whole → ℕ → List ℕ
+screen_in t slot = page t.memory (address_of t.buffers slot)
+
+-- memory with these bytes as the screen in a slot
+abbrev pub with_screen : List ℕ → Whole → ℕ → List ℕ → List ℕ
+with_screen m t slot screen = with_page m (address_of t.buffers slot) screen
+
 -- 200 LINE ( n -- a 64 )
 abbrev pub line : Whole → After
 line s = takes1 s (λ n rest. fetches s (cell s.memory SCR) (λ t slot.
-    leaves t (rest ▸ address_of slot + line_start n ▸ 64)))
+    leaves t (rest ▸ address_of t.buffers slot + line_start n ▸ 64)))
 
 -- a line's text is taken from the stream, whose end >IN becomes, and makes another page of the screen
 abbrev pub edits : Whole → (List ℕ → ℕ → List ℕ → List ℕ) → After
 edits s edited = takes1 s (λ n rest. reads s (λ r stream. fetches r (cell r.memory SCR) (λ t slot. done (record t {
   values = rest;
   buffers = front_marked t.buffers;
-  memory = with_page (put_cell t.memory TO_IN stream.size) slot (edited (page t.memory slot) n (line_text t.memory stream));
+  memory = with_screen (put_cell t.memory TO_IN stream.size) t slot (edited (screen_in t slot) n (line_text t.memory stream));
 }))))
 
 -- 201 PUT ( n -- ): line n := the text
@@ -42,12 +50,12 @@ abbrev pub delete : Whole → After
 delete s = takes1 s (λ n rest. fetches s (cell s.memory SCR) (λ t slot. done (record t {
   values = rest;
   buffers = front_marked t.buffers;
-  memory = with_page t.memory slot (line_deleted (page t.memory slot) n);
+  memory = with_screen t.memory t slot (line_deleted (screen_in t slot) n);
 })))
 
 -- 204 WIPE ( -- ): blanks
 abbrev pub wipe : Whole → After
 wipe s = fetches s (cell s.memory SCR) (λ t slot. done (record t {
   buffers = front_marked t.buffers;
-  memory = with_page t.memory slot blank_screen;
+  memory = with_screen t.memory t slot blank_screen;
 }))

@@ -1,7 +1,7 @@
 use Rattle.std.specs.Prelude.{ℕ, ◌%◌, ◌/◌, List, ◌++◌, length, Bool, ◌||◌, ◌==◌, if◌then◌else◌}
 use Rattle.compiling_words.specs.Code.{literal_code}
 use Rattle.dictionary.specs.Header.{compilation_address, is_immediate}
-use Rattle.dictionary.specs.Laying.{fits, laid_at}
+use Rattle.dictionary.specs.Laying.{laid_at}
 use Rattle.dictionary.specs.Search.{sought}
 use Rattle.input_source.specs.declared.words.Word.{Word}
 use Rattle.memory.specs.Bytes.{cell, put_cell, cell_bytes}
@@ -9,7 +9,7 @@ use Rattle.memory.specs.declared.system.TheConstants.{STATE, BASE, TO_IN, DP}
 use Rattle.number_text.specs.Base.{has_base}
 use Rattle.number_text.specs.Numbers.{is_number, is_double, number_value}
 use Rattle.plain_rows.specs.Whole.{Whole}
-use Rattle.plain_rows.specs.Row.{After, done, needs, room, ◌▸▸◌}
+use Rattle.plain_rows.specs.Row.{After, done, needs, room, ◌▸▸◌, has_room}
 use Rattle.plain_rows.specs.declared.faults.TheConstants.{DICTIONARY_FULL, BAD_BASE, NOT_FOUND}
 use Rattle.primitives.specs.DictionaryRows.{leaves_past}
 use Rattle.primitives.specs.Names.{reads_name, searches}
@@ -18,7 +18,7 @@ use Rattle.stacks.specs.Cells.{◌▸◌}
 -- the bytes are laid, -1 is pushed, and >IN is behind the word
 unfoldable pub compiles_past : Whole → Word → List ℕ → After
 compiles_past t w bs = let d = t.values ▸ 65535 in
-    needs t DICTIONARY_FULL (fits t.memory (length bs)) (room t d (done (record t {
+    needs t DICTIONARY_FULL (has_room t (length bs)) (room t d (done (record t {
       values = d;
       memory = laid_at (cell t.memory DP) (put_cell t.memory TO_IN w.next) bs;
     })))

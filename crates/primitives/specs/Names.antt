@@ -4,14 +4,13 @@ use Rattle.cells.specs.Cell.{wrap}
 use Rattle.dictionary.specs.declared.fault.ForgetFault.{ForgetFault}
 use Rattle.dictionary.specs.declared.fault.ForgetFault.TheVariants.{NameLength, NotFound, ChainTooLong}
 use Rattle.dictionary.specs.Header.{compilation_address}
-use Rattle.dictionary.specs.Laying.{fits}
 use Rattle.dictionary.specs.Search.{Sought, Found, Nowhere, TooLong, sought}
 use Rattle.input_source.specs.declared.words.Stream.{Stream}
 use Rattle.input_source.specs.declared.words.Word.{Word}
 use Rattle.input_source.specs.Words.{word_in, parsed_in, bytes_in}
 use Rattle.memory.specs.Bytes.{byte, bytes}
 use Rattle.plain_rows.specs.Whole.{Whole}
-use Rattle.plain_rows.specs.Row.{After, fault, needs}
+use Rattle.plain_rows.specs.Row.{After, fault, needs, has_room}
 use Rattle.plain_rows.specs.declared.faults.TheConstants.{DICTIONARY_FULL, CHAIN_TOO_LONG, NOT_FOUND, BAD_LENGTH}
 use Rattle.primitives.specs.Streams.{reads}
 
@@ -58,4 +57,4 @@ forgets s (Err ChainTooLong) after = fault s CHAIN_TOO_LONG
 abbrev pub admits_header : Whole → Word → ℕ → After → After
 admits_header t w n after =
     needs t BAD_LENGTH (nat_le 1 w.len && nat_le w.len 31)
-    (needs t DICTIONARY_FULL (fits t.memory (7 + w.len + n)) after)
+    (needs t DICTIONARY_FULL (has_room t (7 + w.len + n)) after)

@@ -1,7 +1,7 @@
 //! A block that a row needs.
 
-ghost use Rattle.std.specs.Prelude.{◌≡◌, ◌<◌};
-ghost use Rattle.primitives.specs.Blocks.{IsFetched, address_of, write_of, without_block};
+ghost use Rattle.std.specs.Prelude.{◌≡◌};
+ghost use Rattle.primitives.specs.Blocks.{IsFetched, write_of, without_block};
 
 use block_buffers::entry::Entry;
 use plain_rows::faults::NO_BLOCK;
@@ -45,12 +45,4 @@ pub fn write_of(entry: &Entry) -> Outcome
     Outcome::Ask(Request::Write {
         block: entry.block.unwrap_or(0),
     })
-}
-
-/// Where the bytes of a slot begin.
-pub fn address_of(slot: usize) -> u16
-    requires { slot < 4 }
-    ensures { result ≡ address_of slot }
-{
-    (61440 + 1024 * slot) as u16
 }

@@ -6,7 +6,7 @@ ghost use Rattle.std.specs.Prelude.{◌≡◌, ◌≤◌, ◌++◌, length, drop
 ghost use Rattle.primitives.specs.Compiling.{compiles, resolves, ahead, semicolon, left_bracket, right_bracket, comma, c_comma, allot, literal, compile_does, if_row, else_row, then_row, begin, until, while_row, repeat, again, do_row, loop_row, plus_loop, mark_back, resolve_back, mark_forward, resolve_forward};
 
 use compiling_words::{Control, control_code, end_definition, literal_code, runtime};
-use dictionary::{fits, lay_at};
+use dictionary::lay_at;
 use memory::cell_bytes;
 use memory::system::{DP, STATE};
 use plain_rows::faults::{DATA_OVERFLOW, DATA_UNDERFLOW, DICTIONARY_FULL};
@@ -19,7 +19,7 @@ pub fn compile(parts: &mut Parts, bytes: &[u8], taken: usize, given: &[u16]) -> 
     requires { taken ≤ length parts.old.values }
     ensures { (parts.new, result) ≡ compiles parts.old bytes.now (given.now ++ drop taken parts.old.values) }
 {
-    if !fits(&parts.memory, bytes.len()) {
+    if !parts.has_room(bytes.len()) {
         return Outcome::Fault(DICTIONARY_FULL);
     }
     if parts.values.replace(taken, given).is_err() {
@@ -36,7 +36,7 @@ fn resolve(parts: &mut Parts, bytes: &[u8], a: u16, taken: usize, given: &[u16])
     requires { taken ≤ length parts.old.values }
     ensures { (parts.new, result) ≡ resolves parts.old bytes.now a (given.now ++ drop taken parts.old.values) }
 {
-    if !fits(&parts.memory, bytes.len()) {
+    if !parts.has_room(bytes.len()) {
         return Outcome::Fault(DICTIONARY_FULL);
     }
     if parts.values.replace(taken, given).is_err() {
@@ -61,7 +61,7 @@ fn ahead(parts: &Parts, n: u16) -> u16
 pub fn semicolon(parts: &mut Parts) -> Outcome
     ensures { (parts.new, result) ≡ semicolon parts.old }
 {
-    match end_definition(&mut parts.memory) {
+    match end_definition(&mut parts.memory, parts.limit) {
         Ok(()) => Outcome::Done,
         Err(_) => Outcome::Fault(DICTIONARY_FULL),
     }
@@ -110,7 +110,7 @@ pub fn allot(parts: &mut Parts) -> Outcome
     let Some(n) = parts.values.pick(0) else {
         return Outcome::Fault(DATA_UNDERFLOW);
     };
-    if compiling_words::allot(&mut parts.memory, n).is_err() {
+    if compiling_words::allot(&mut parts.memory, n, parts.limit).is_err() {
         return Outcome::Fault(DICTIONARY_FULL);
     }
     parts.values.lower(1);

@@ -9,7 +9,7 @@ use crate::dictionary_rows::create_with;
 use crate::names::sought;
 use crate::streams::{open, pass};
 use compiling_words::{TextWord, lay_text, literal_code, runtime_of};
-use dictionary::{Site, compilation_address, fits, lay_at};
+use dictionary::{Site, compilation_address, lay_at};
 use input_source::{Word, next_word, parse_to, word_bytes};
 use memory::cell_bytes;
 use memory::system::{CONTEXT, CURRENT, DP, STATE};
@@ -29,7 +29,7 @@ pub fn colon(parts: &mut Parts) -> Outcome
     if word.len == 0 || word.len > 31 {
         return Outcome::Fault(BAD_LENGTH);
     }
-    if !fits(&parts.memory, 7 + word.len as usize) {
+    if !parts.has_room(7 + word.len as usize) {
         return Outcome::Fault(DICTIONARY_FULL);
     }
     let bytes = word_bytes(&parts.memory, stream, word);
@@ -48,7 +48,7 @@ pub fn colon(parts: &mut Parts) -> Outcome
 fn lay_past(parts: &mut Parts, word: Word, bytes: &[u8]) -> Outcome
     ensures { (parts.new, result) ≡ lays_past parts.old word bytes.now }
 {
-    if !fits(&parts.memory, bytes.len()) {
+    if !parts.has_room(bytes.len()) {
         return Outcome::Fault(DICTIONARY_FULL);
     }
     let here = parts.memory.cell(DP);
@@ -114,7 +114,7 @@ fn quote(parts: &mut Parts, shows: TextWord) -> Outcome
     if word.len > 255 {
         return Outcome::Fault(BAD_LENGTH);
     }
-    if !fits(&parts.memory, 3 + word.len as usize) {
+    if !parts.has_room(3 + word.len as usize) {
         return Outcome::Fault(DICTIONARY_FULL);
     }
     let bytes = word_bytes(&parts.memory, stream, word);

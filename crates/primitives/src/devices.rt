@@ -5,7 +5,7 @@
 ghost use Rattle.std.specs.Prelude.{◌≡◌};
 ghost use Rattle.primitives.specs.Devices.{block, buffer, update, save_buffers, flush, empty_buffers, key, expect, emit, type_out};
 
-use crate::blocks::{address_of, fetch, write_of};
+use crate::blocks::{fetch, write_of};
 use memory::system::SPAN;
 use plain_rows::faults::{DATA_OVERFLOW, DATA_UNDERFLOW, NO_BLOCK};
 use plain_rows::parts::{Outcome, Parts, Request, Span};
@@ -19,8 +19,9 @@ pub fn block(parts: &mut Parts) -> Outcome
     };
     match fetch(parts, u) {
         Ok(slot) => {
+            let address = parts.buffers.address_of(slot);
             parts.values.lower(1);
-            parts.values.put(address_of(slot));
+            parts.values.put(address);
             Outcome::Done
         }
         Err(outcome) => outcome,
@@ -39,18 +40,20 @@ pub fn buffer(parts: &mut Parts) -> Outcome
         return Outcome::Fault(NO_BLOCK);
     }
     if let Some(slot) = parts.buffers.find(u) {
+        let address = parts.buffers.address_of(slot);
         parts.buffers.touch(u);
         parts.values.lower(1);
-        parts.values.put(address_of(slot));
+        parts.values.put(address);
         return Outcome::Done;
     }
     let victim = parts.buffers.victim();
     if victim.updated {
         return write_of(&victim);
     }
+    let address = parts.buffers.address_of(victim.slot);
     parts.buffers.assign(u);
     parts.values.lower(1);
-    parts.values.put(address_of(victim.slot));
+    parts.values.put(address);
     Outcome::Done
 }
 

@@ -8,9 +8,7 @@ ghost use Rattle.primitives.specs.Names.{name_word, name_in, counted_string};
 
 use crate::names::{sought, sought_at, target_in};
 use crate::streams::{open, pass};
-use dictionary::{
-    ForgetFault, Site, compilation_address, cut_by, fits, is_immediate, set_immediate,
-};
+use dictionary::{ForgetFault, Site, compilation_address, cut_by, is_immediate, set_immediate};
 use input_source::{Stream, Word, next_word, word_bytes};
 use memory::system::{CONTEXT, CURRENT, DP, VOC_LINK};
 use plain_rows::faults::{
@@ -92,7 +90,7 @@ pub fn create_with(
     if word.len == 0 || word.len > 31 {
         return Outcome::Fault(BAD_LENGTH);
     }
-    if !fits(&parts.memory, 7 + word.len as usize + extra.len()) {
+    if !parts.has_room(7 + word.len as usize + extra.len()) {
         return Outcome::Fault(DICTIONARY_FULL);
     }
     let bytes = word_bytes(&parts.memory, stream, word);
@@ -184,7 +182,7 @@ pub fn vocabulary(parts: &mut Parts) -> Outcome
     if word.len == 0 || word.len > 31 {
         return Outcome::Fault(BAD_LENGTH);
     }
-    if !fits(&parts.memory, 7 + word.len as usize + 10) {
+    if !parts.has_room(7 + word.len as usize + 10) {
         return Outcome::Fault(DICTIONARY_FULL);
     }
     let bytes = word_bytes(&parts.memory, stream, word);

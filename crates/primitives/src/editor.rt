@@ -2,13 +2,13 @@
 
 #![tactic(auto, using(plain_rows::proofs::Takes::takes))]
 
-ghost use Rattle.std.specs.Prelude.{◌≡◌, ◌≤◌, ◌<◌, ◌+◌, length};
+ghost use Rattle.std.specs.Prelude.{◌≡◌, ◌≤◌, ◌+◌, length};
 ghost use Rattle.block_buffers.specs.Screens.{blank_screen, line_start, with_line, line_inserted, line_deleted};
 ghost use Rattle.memory.specs.Bytes.{cell, front_put, page, put_cell, with_page};
-ghost use Rattle.primitives.specs.Blocks.{IsFetched, address_of};
+ghost use Rattle.primitives.specs.Blocks.{IsFetched};
 ghost use Rattle.primitives.specs.Editor.{line_text, line, put, insert, delete, wipe};
 
-use crate::blocks::{address_of, fetch};
+use crate::blocks::fetch;
 use crate::streams::open;
 use block_buffers::{delete_line, insert_line, put_line};
 use input_source::{Stream, Word, word_bytes};
@@ -52,52 +52,52 @@ fn line_text(memory: &Memory, stream: Stream) -> [u8; 64]
     line
 }
 
-/// Deletes a line of the screen in a slot.
-fn delete_in(memory: &mut Memory, slot: usize, n: u16)
-    requires { slot < 4 }
-    ensures { memory.new ≡ with_page memory.old slot (line_deleted (page memory.old slot) n) }
+/// Deletes a line of the screen that begins at `at`.
+fn delete_in(memory: &mut Memory, at: u16, n: u16)
+    requires { at ≤ 64512 }
+    ensures { memory.new ≡ with_page memory.old at (line_deleted (page memory.old at) n) }
 {
-    let mut screen = *memory.page(slot);
+    let mut screen = *memory.page(at);
     delete_line(&mut screen, n);
-    memory.set_page(slot, &screen);
+    memory.set_page(at, &screen);
 }
 
-/// Wipes the screen in a slot.
-fn wipe_in(memory: &mut Memory, slot: usize)
-    requires { slot < 4 }
-    ensures { memory.new ≡ with_page memory.old slot blank_screen }
+/// Wipes the screen that begins at `at`.
+fn wipe_in(memory: &mut Memory, at: u16)
+    requires { at ≤ 64512 }
+    ensures { memory.new ≡ with_page memory.old at blank_screen }
 {
-    let mut screen = *memory.page(slot);
+    let mut screen = *memory.page(at);
     block_buffers::wipe(&mut screen);
-    memory.set_page(slot, &screen);
+    memory.set_page(at, &screen);
 }
 
-/// `>IN` goes to the stream's end, and its text becomes line `n` of the screen in a slot.
-fn put_in(memory: &mut Memory, slot: usize, n: u16, stream: Stream)
-    requires slot { slot < 4 }
+/// `>IN` goes to the stream's end, and its text becomes line `n` of the screen that begins at `at`.
+fn put_in(memory: &mut Memory, at: u16, n: u16, stream: Stream)
+    requires screen { at ≤ 64512 }
     requires place { stream.place ≤ stream.size }
-    ensures { memory.new ≡ with_page (put_cell memory.old TO_IN stream.size) slot
-        (with_line (page memory.old slot) n (line_text memory.old stream)) }
+    ensures { memory.new ≡ with_page (put_cell memory.old TO_IN stream.size) at
+        (with_line (page memory.old at) n (line_text memory.old stream)) }
 {
     let text = line_text(memory, stream);
-    let mut screen = *memory.page(slot);
+    let mut screen = *memory.page(at);
     put_line(&mut screen, n, &text);
     memory.set_cell(TO_IN, stream.size);
-    memory.set_page(slot, &screen);
+    memory.set_page(at, &screen);
 }
 
-/// `>IN` goes to the stream's end, and its text comes before line `n` of the screen in a slot.
-fn insert_in(memory: &mut Memory, slot: usize, n: u16, stream: Stream)
-    requires slot { slot < 4 }
+/// `>IN` goes to the stream's end, and its text comes before line `n` of the screen that begins at `at`.
+fn insert_in(memory: &mut Memory, at: u16, n: u16, stream: Stream)
+    requires screen { at ≤ 64512 }
     requires place { stream.place ≤ stream.size }
-    ensures { memory.new ≡ with_page (put_cell memory.old TO_IN stream.size) slot
-        (line_inserted (page memory.old slot) n (line_text memory.old stream)) }
+    ensures { memory.new ≡ with_page (put_cell memory.old TO_IN stream.size) at
+        (line_inserted (page memory.old at) n (line_text memory.old stream)) }
 {
     let text = line_text(memory, stream);
-    let mut screen = *memory.page(slot);
+    let mut screen = *memory.page(at);
     insert_line(&mut screen, n, &text);
     memory.set_cell(TO_IN, stream.size);
-    memory.set_page(slot, &screen);
+    memory.set_page(at, &screen);
 }
 
 /// 200 `LINE` ( n -- a 64 )
@@ -108,17 +108,20 @@ pub fn line(parts: &mut Parts) -> Outcome
         return Outcome::Fault(DATA_UNDERFLOW);
     };
     match open_screen(parts) {
-        Ok(slot) => leave(parts, 1, &[64, line_address(slot, n)]),
+        Ok(slot) => {
+            let a = line_address(parts.buffers.address_of(slot), n);
+            leave(parts, 1, &[64, a])
+        }
         Err(outcome) => outcome,
     }
 }
 
-/// Where line `n` of the screen in a slot begins.
-fn line_address(slot: usize, n: u16) -> u16
-    requires { slot < 4 }
-    ensures { result ≡ address_of slot + line_start n }
+/// Where line `n` of the screen that begins at `at` begins.
+fn line_address(at: u16, n: u16) -> u16
+    requires { at ≤ 64512 }
+    ensures { result ≡ at + line_start n }
 {
-    address_of(slot) + 64 * (n % 16)
+    at + 64 * (n % 16)
 }
 
 /// 201 `PUT` ( n -- )
@@ -136,7 +139,8 @@ pub fn put(parts: &mut Parts) -> Outcome
         Ok(slot) => slot,
         Err(outcome) => return outcome,
     };
-    put_in(&mut parts.memory, slot, n, stream);
+    let at = parts.buffers.address_of(slot);
+    put_in(&mut parts.memory, at, n, stream);
     parts.values.lower(1);
     parts.buffers.mark_front();
     Outcome::Done
@@ -157,7 +161,8 @@ pub fn insert(parts: &mut Parts) -> Outcome
         Ok(slot) => slot,
         Err(outcome) => return outcome,
     };
-    insert_in(&mut parts.memory, slot, n, stream);
+    let at = parts.buffers.address_of(slot);
+    insert_in(&mut parts.memory, at, n, stream);
     parts.values.lower(1);
     parts.buffers.mark_front();
     Outcome::Done
@@ -174,7 +179,8 @@ pub fn delete(parts: &mut Parts) -> Outcome
         Ok(slot) => slot,
         Err(outcome) => return outcome,
     };
-    delete_in(&mut parts.memory, slot, n);
+    let at = parts.buffers.address_of(slot);
+    delete_in(&mut parts.memory, at, n);
     parts.values.lower(1);
     parts.buffers.mark_front();
     Outcome::Done
@@ -188,7 +194,8 @@ pub fn wipe(parts: &mut Parts) -> Outcome
         Ok(slot) => slot,
         Err(outcome) => return outcome,
     };
-    wipe_in(&mut parts.memory, slot);
+    let at = parts.buffers.address_of(slot);
+    wipe_in(&mut parts.memory, at);
     parts.buffers.mark_front();
     Outcome::Done
 }

@@ -11,7 +11,7 @@ use crate::dictionary_rows::leave_past;
 use crate::names::{number_in, sought};
 use crate::streams::open;
 use compiling_words::literal_code;
-use dictionary::{compilation_address, fits, is_immediate, lay_at};
+use dictionary::{compilation_address, is_immediate, lay_at};
 use input_source::{Stream, Word, next_word};
 use memory::system::{BASE, DP, STATE, TO_IN};
 use memory::{Memory, cell_bytes};
@@ -24,7 +24,7 @@ use plain_rows::parts::{Outcome, Parts};
 fn compile_past(parts: &mut Parts, word: Word, bytes: &[u8]) -> Outcome
     ensures { (parts.new, result) ≡ compiles_past parts.old word bytes.now }
 {
-    if !fits(&parts.memory, bytes.len()) {
+    if !parts.has_room(bytes.len()) {
         return Outcome::Fault(DICTIONARY_FULL);
     }
     if parts.values.push(65535).is_err() {
