@@ -14,7 +14,8 @@ failures calls = count_by (λ failed. failed) calls
 
 -- a read that succeeds gives the block's bytes; no read changes a block
 abbrev pub Reads : Disk → ℕ → Option Disk → List ℕ → Result Unit DeviceFault → Type 0
-Reads disk block new page (Ok _) = (succeeds disk block ≡ true) × (new ≡ Some (called disk)) × (page ≡ block_at disk.blocks block)
+Reads disk block new page (Ok _) =
+    (succeeds disk block ≡ true) × (new ≡ Some (called disk)) × (page ≡ block_at disk.blocks block)
 Reads disk block new page (Err _) = (succeeds disk block ≡ false) × (new ≡ Some (called disk))
 
 -- a write that succeeds changes its block alone, to the bytes handed in; one that fails changes none

@@ -33,7 +33,8 @@ IsBegun limit old new name (Err Full) =
 -- header is the one that LAST named before, and its count byte the one of before
 abbrev pub ended : List ℕ → List ℕ
 ended m =
-    put_cell (put_byte (laid m (cell_bytes (runtime m 5))) (newest_count m) (revealed (byte m (newest_count m)))) STATE 0
+    let revealed_count = revealed (byte m (newest_count m)) in
+    put_cell (put_byte (laid m (cell_bytes (runtime m 5))) (newest_count m) revealed_count) STATE 0
 
 abbrev pub IsEnded : ℕ → List ℕ → List ℕ → Result Unit Refused → Type 0
 IsEnded limit old new (Ok _) = IsTrue (fits limit old 2) × (new ≡ ended old)

@@ -113,6 +113,8 @@ pub sought_by : (m n nm : List ℕ) (voc : ℕ) → length m ≡ 65536 → lengt
 unfolding sought_from first_from first_in
 sought_by m n nm voc lm ln h =
     rw (
-      sym h.head, sym h.forth_head, walked_by m n nm 32768 (cell m (head_of voc nm)) lm ln h.members,
+      sym h.head,
+      sym h.forth_head,
+      walked_by m n nm 32768 (cell m (head_of voc nm)) lm ln h.members,
       walked_by m n nm 32768 (cell m (head_of 42 nm)) lm ln h.forth_members,
     ) refl

@@ -31,8 +31,8 @@ site_of m name = record {
   head = head_of (cell m CURRENT) name;
 }
 
--- the writes of a new header at its site: its bytes and DP behind them; then its link field, in the head of its chain and
--- in LAST
+-- the writes of a new header at its site: its bytes and DP behind them; then its link field, in the head of its chain
+-- and in LAST
 abbrev pub header_writes : Site → List ℕ → ℕ → ℕ → List ℕ → List Write
 header_writes site name count code extra =
     let header = header_bytes site.view site.link count name code extra in

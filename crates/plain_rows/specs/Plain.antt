@@ -4,7 +4,8 @@ use Rattle.plain_rows.specs.Whole.{Whole}
 use Rattle.plain_rows.specs.Row.{After}
 use Rattle.plain_rows.specs.declared.parts.Outcome.TheVariants.{Fault, Abort, Ask}
 
--- a plain row asks nothing and leaves the buffers as they are; where it ends with a fault or with an abort, all is as it was
+-- a plain row asks nothing and leaves the buffers as they are; where it ends with a fault or with an abort, all is as it
+-- was
 abbrev pub IsPlain : Whole → After → Type 0
 IsPlain s (t, Ask request) = ⊥
 IsPlain s (t, Fault f) = t ≡ s

@@ -14,7 +14,8 @@ use Rattle.plain_rows.specs.Row.{After, done, takes1, takes2, needs, leaves, roo
 -- lays the bytes, and leaves d on the data stack
 unfoldable pub compiles : Whole → List ℕ → List ℕ → After
 compiles s bs d =
-    needs s DICTIONARY_FULL (has_room s (length bs)) (room s d (done (record s { values = d; memory = laid s.memory bs })))
+    needs s DICTIONARY_FULL (has_room s (length bs))
+    (room s d (done (record s { values = d; memory = laid s.memory bs })))
 
 -- the same, and then the cell at a is the new HERE
 unfoldable pub resolves : Whole → List ℕ → ℕ → List ℕ → After
@@ -50,7 +51,8 @@ c_comma s = takes1 s (λ c rest. compiles s (c % 256 ∷ []) rest)
 
 -- 174 ALLOT ( n -- )
 abbrev pub allot : Whole → After
-allot s = takes1 s (λ n rest. needs s DICTIONARY_FULL (can_allot (limit s.buffers) s.memory n) (done (record s { values = rest; memory = allotted s.memory n })))
+allot s = takes1 s (λ n rest. needs s DICTIONARY_FULL (can_allot (limit s.buffers) s.memory n)
+    (done (record s { values = rest; memory = allotted s.memory n })))
 
 -- 175 LITERAL ( x -- )
 abbrev pub literal : Whole → After

@@ -29,7 +29,8 @@ bracket_tick s = reads_name s (λ t name_word name.
 
 -- 177 [COMPILE] ( -- ): lays the next word's compilation address
 abbrev pub bracket_compile : Whole → After
-bracket_compile s = reads_name s (λ t name_word name. finds_word t name_word name (λ w. lays_past t name_word (cell_bytes w)))
+bracket_compile s = reads_name s (λ t name_word name.
+    finds_word t name_word name (λ w. lays_past t name_word (cell_bytes w)))
 
 -- lays what shows a text, and the text up to the next quote
 abbrev pub quotes : TextWord → Whole → After
@@ -37,7 +38,8 @@ quotes word s = parses s 34 (λ t w text.
     needs t BAD_LENGTH (nat_le w.len 255)
     (needs t DICTIONARY_FULL (has_room t (3 + w.len))
     (done (record t {
-      memory = laid_at (cell t.memory DP) (put_cell t.memory TO_IN w.next) (text_code (runtime t.memory (text_number word)) text);
+      memory = laid_at (cell t.memory DP) (put_cell t.memory TO_IN w.next)
+          (text_code (runtime t.memory (text_number word)) text);
     }))))
 
 -- 190 ." ( -- )

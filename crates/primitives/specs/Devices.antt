@@ -21,8 +21,13 @@ saves_victim s after = if (victim s.buffers).updated then (s, write_of (victim s
 -- 113 BUFFER ( u -- a ): as BLOCK, but that no bytes are read
 abbrev pub buffer : Whole → After
 buffer s = takes1 s (λ u rest. needs s NO_BLOCK (nat_lt u s.block_count) (
-    if holds s.buffers u then done (record (with_block s u) { values = rest ▸ address_of s.buffers (slot_of s.buffers u) })
-    else saves_victim s (done (record s { values = rest ▸ address_of s.buffers (victim s.buffers).slot; buffers = assigned u s.buffers }))))
+    if holds s.buffers u then done (record (with_block s u) {
+      values = rest ▸ address_of s.buffers (slot_of s.buffers u);
+    })
+    else saves_victim s (done (record s {
+      values = rest ▸ address_of s.buffers (victim s.buffers).slot;
+      buffers = assigned u s.buffers;
+    }))))
 
 -- 114 UPDATE ( -- )
 abbrev pub update : Whole → After

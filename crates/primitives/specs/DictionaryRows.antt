@@ -29,8 +29,8 @@ leaves_past t w d = room t d (done (record t { values = d; memory = put_cell t.m
 abbrev pub tick : Whole → After
 tick s = reads_name s (λ t name_word name. finds_word t name_word name (λ w. leaves_past t name_word (t.values ▸ w)))
 
--- as CREATE: a header of the name with this code field, hidden or not, and the bytes that are laid with it; more is written behind
--- it, and d is the data stack then
+-- as CREATE: a header of the name with this code field, hidden or not, and the bytes that are laid with it; more is
+-- written behind it, and d is the data stack then
 unfoldable pub creates : Whole → Word → List ℕ → Bool → ℕ → List ℕ → List Write → List ℕ → After
 creates t w name hidden code extra more d = admits_header t w (length extra) (done (record t {
   values = d;
@@ -67,7 +67,8 @@ pad_row s = leaves s (s.values ▸ pad s.memory)
 abbrev pub new_body : List ℕ → List ℕ → ℕ
 new_body m name = wrap ((site_of m name).here + (7 + length name))
 
--- 156 VOCABULARY ( -- ): as CREATE with code field 4 and a record laid with it: four empty chains and VOC-LINK; last VOC-LINK := it
+-- 156 VOCABULARY ( -- ): as CREATE with code field 4 and a record laid with it: four empty chains and VOC-LINK; last
+-- VOC-LINK := it
 abbrev pub vocabulary : Whole → After
 vocabulary s = reads_name s (λ t w name. creates t w name false 4 (record_bytes (cell t.memory VOC_LINK))
     (PutCell VOC_LINK (new_body t.memory name) ∷ []) t.values)

@@ -14,7 +14,8 @@ use Rattle.stacks.specs.Cells.{◌▸◌}
 
 -- the bytes of the stream from its place on, cut at 64, and filled with blanks to a line
 unfoldable pub line_text : List ℕ → Stream → List ℕ
-line_text m stream = front_put (bytes m (wrap (stream.at + stream.place)) (min (stream.size - stream.place) 64)) blank_line
+line_text m stream =
+    front_put (bytes m (wrap (stream.at + stream.place)) (min (stream.size - stream.place) 64)) blank_line
 
 -- the bytes of the screen in a slot
 abbrev pub screen_in : Whole → ℕ → List ℕ
@@ -34,7 +35,8 @@ abbrev pub edits : Whole → (List ℕ → ℕ → List ℕ → List ℕ) → Af
 edits s edited = takes1 s (λ n rest. reads s (λ r stream. fetches r (cell r.memory SCR) (λ t slot. done (record t {
   values = rest;
   buffers = front_marked t.buffers;
-  memory = with_screen (put_cell t.memory TO_IN stream.size) t slot (edited (screen_in t slot) n (line_text t.memory stream));
+  memory = with_screen (put_cell t.memory TO_IN stream.size) t slot
+      (edited (screen_in t slot) n (line_text t.memory stream));
 }))))
 
 -- 201 PUT ( n -- ): line n := the text

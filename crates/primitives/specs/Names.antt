@@ -39,14 +39,15 @@ searches s (Found l) nowhere found = found l
 searches s Nowhere nowhere found = nowhere
 searches s TooLong nowhere found = fault s CHAIN_TOO_LONG
 
--- goes on with the compilation address of the word that a name means; the name has one byte at least (15), and is found (11, 13)
+-- goes on with the compilation address of the word that a name means; the name has one byte at least (15), and is found
+-- (11, 13)
 abbrev pub finds_word : Whole → Word → List ℕ → (ℕ → After) → After
 finds_word t w name after =
     needs t BAD_LENGTH (not (w.len == 0))
     (searches t (sought t.memory name) (fault t NOT_FOUND) (λ l. after (compilation_address t.memory l)))
 
--- goes on with where the header begins that can be forgotten; else its name is empty (15), it isn't there or is fenced (13), or a
--- chain is too long (11)
+-- goes on with where the header begins that can be forgotten; else its name is empty (15), it isn't there or is fenced
+-- (13), or a chain is too long (11)
 unfoldable pub forgets : Whole → Result ℕ ForgetFault → (ℕ → After) → After
 forgets s (Ok begins) after = after begins
 forgets s (Err NameLength) after = fault s BAD_LENGTH

@@ -6,7 +6,8 @@ use Rattle.memory.specs.Bytes.{cell}
 use Rattle.memory.specs.declared.system.TheConstants.{BLK, SCR}
 use Rattle.plain_rows.specs.Whole.{Whole}
 
--- WORD ( .( ' (INTERPRET) CREATE FORGET VOCABULARY : ['] [COMPILE] ." ABORT" CONSTANT VARIABLE PUT INSERT read the input stream
+-- WORD ( .( ' (INTERPRET) CREATE FORGET VOCABULARY : ['] [COMPILE] ." ABORT" CONSTANT VARIABLE PUT INSERT read the input
+-- stream
 unfoldable pub reads_stream : ℕ → Bool
 reads_stream n = list_any (λ k. k == n)
     (144 ∷ 145 ∷ 146 ∷ 148 ∷ 149 ∷ 150 ∷ 152 ∷ 156 ∷ 168 ∷ 176 ∷ 177 ∷ 190 ∷ 191 ∷ 192 ∷ 193 ∷ 201 ∷ 202 ∷ [])

@@ -33,12 +33,14 @@ with_stream s = record s { buffers = stream_buffers s }
 -- a row that needs the stream: goes on with its block referenced; else the row stops as for that block
 abbrev pub reads : Whole → (Whole → Stream → After) → After
 reads s after =
-    if has_stream s then after (with_stream s) (stream_of s.memory s.buffers) else (s, without_block s (cell s.memory BLK))
+    if has_stream s then after (with_stream s) (stream_of s.memory s.buffers)
+    else (s, without_block s (cell s.memory BLK))
 
 -- what the code's open answers
 abbrev pub IsOpened : Whole → Whole → Result Stream Outcome → Type 0
 IsOpened old new (Ok stream) =
-    IsTrue (has_stream old) × (new ≡ with_stream old) × (stream ≡ stream_of old.memory old.buffers) × (stream.place ≤ stream.size)
+    IsTrue (has_stream old) × (new ≡ with_stream old)
+    × (stream ≡ stream_of old.memory old.buffers) × (stream.place ≤ stream.size)
 IsOpened old new (Err o) = IsFalse (has_stream old) × (new ≡ old) × (o ≡ without_block old (cell old.memory BLK))
 
 -- >IN is the place behind a word
