@@ -1,14 +1,15 @@
 -- What a written block, and a buffer that is given to a block, change for the references that follow.
-use Rattle.std.proofs.Common.{◌≡◌, ◌≢◌, ℕ, zero, suc, ◌+◌, ◌<◌, ◌≤◌, ◌==◌, List, [], ◌∷◌, length, get_or, take, map, Option, Some, None, unwrap_or, refl, arith, ap, ◌∙◌, sym, subst, true, false, Bool, if◌then◌else◌}
+use Rattle.std.proofs.Common.{◌≡◌, ◌≢◌, ℕ, zero, suc, ◌+◌, ◌-◌, ◌<◌, ◌≤◌, ◌==◌, List, [], ◌∷◌, length, get_or, take, map, Option, Some, None, unwrap_or, refl, arith, ap, ◌∙◌, sym, subst, true, false, Bool, if◌then◌else◌}
 use Rattle.std.specs.Prelude.{Contains, IsSome, count_by}
 use Rattle.std.specs.List.{list_any, position_or_len}
-use Rattle.std.proofs.lemmas.List.{get_or-map, get_or_default}
+use Rattle.std.proofs.lemmas.List.{get_or-map, get_or_default, length-map}
 use Rattle.std.proofs.lemmas.List.Sorted.{list_any-IsPermutation}
 use Rattle.std.proofs.lemmas.List.Sums.{sum_by-cons}
 use Rattle.block_buffers.specs.declared.entry.Entry.{Entry}
 use Rattle.block_buffers.specs.Entries.{unassigned_slot, is_of, is_updated, holds, slot_of, moved_front, assigned, unmarked_entry, unmarked, victim, entry_at, has_updated, first_updated, AreBuffers, HasNoBlockTwice, IsLowestUpdated}
 use Rattle.block_buffers.proofs.Blocks.{unmark_block, moved_permutes, of_from_block, block_of}
 use Rattle.block_buffers.proofs.Fronts.{moved_at}
+use Rattle.block_buffers.proofs.Kept.{last_place}
 use Rattle.block_buffers.proofs.Places.{position_here, slot_here}
 use Rattle.block_buffers.proofs.Updated.{first_is_lowest}
 
@@ -44,9 +45,12 @@ pub victim_saved : (b : List Entry) → AreBuffers b → (victim b).updated ≡ 
 unfolding unmarked entry_at
 victim_saved b h q =
     let d : Entry = unassigned_slot 0
-    in let u : ℕ = unwrap_or (get_or b 3 d).block 0
-    in ap (λ (e : Entry). e.updated) (get_or-map (unmarked_entry u) b 3 d d (omega (arith, h.four)))
-    ∙ unmark_here u (get_or b 3 d) (of_updated b 3 d h (omega (arith, h.four)) q)
+    in let k : ℕ = length b - 1
+    in let l : k < length b = last_place b h
+    in let u : ℕ = unwrap_or (get_or b k d).block 0
+    in ap (λ (n : ℕ). (get_or (map (unmarked_entry u) b) (n - 1) d).updated) (length-map b (unmarked_entry u))
+    ∙ ap (λ (e : Entry). e.updated) (get_or-map (unmarked_entry u) b k d d l)
+    ∙ unmark_here u (get_or b k d) (of_updated b k d h l q)
 
 not_of : (u : ℕ) (e : Entry) (m : Bool) → is_of u e ≡ m → e.block ≢ Some u → is_of u e ≡ false
 not_of u e true q h = absurd (h (of_from_block u e.block q))
@@ -61,7 +65,7 @@ slot_of_held b e u (k, l, q) h once =
     in let yes : is_of u (get_or b k d) ≡ true = block_of u (get_or b k d) has
     in let before : (j : ℕ) (f : Entry) → j < k → is_of u (get_or b j f) ≡ false = λ j f m. not_of u (get_or b j f) (is_of u (get_or b j f)) refl
     (λ r. once j k f m l u r (ap (λ (x : Entry). x.block) (get_or_default b k f d l) ∙ has))
-    in let place : position_or_len (is_of u) b ≡ k = position_here u k b d yes l before
+    in let place : position_or_len (is_of u) b ≡ k = position_here (is_of u) k b d yes l before
     in slot_here u b (rw place l) ∙ ap (λ (i : ℕ). (get_or b i d).slot) place ∙ ap (λ (x : Entry). x.slot) here
 
 -- 1 for an entry that is marked
@@ -99,26 +103,28 @@ fewer_updated u (e ∷ es) (suc k) d l h has =
 -- a reference to the block in front changes nothing
 pub front_stays : (b : List Entry) (u : ℕ) → AreBuffers b → (entry_at b 0).block ≡ Some u → moved_front (slot_of b u) b ≡ b
 unfolding entry_at
-front_stays [] u h q = absurd (omega (arith, h.four))
+front_stays [] u h q = absurd (omega (arith, h.count.0))
 front_stays (e ∷ es) u h q =
     let yes : is_of u e ≡ true = block_of u e q
-    in let place : position_or_len (is_of u) (e ∷ es) ≡ 0 = position_here u 0 (e ∷ es) e yes (omega arith) (λ k f l. absurd (omega arith))
+    in let place : position_or_len (is_of u) (e ∷ es) ≡ 0 = position_here (is_of u) 0 (e ∷ es) e yes (omega arith) (λ k f l. absurd (omega arith))
     in let slot : slot_of (e ∷ es) u ≡ e.slot = slot_here u (e ∷ es) (rw place (omega arith)) ∙ ap (λ (i : ℕ). (get_or (e ∷ es) i (unassigned_slot 0)).slot) place
     in ap (λ (n : ℕ). moved_front n (e ∷ es)) slot ∙ moved_at 0 (e ∷ es) e (omega arith) h.once
 
 -- the block in front is still there once a buffer is given to another
 pub front_held : (b : List Entry) (u v : ℕ) → AreBuffers b → (entry_at b 0).block ≡ Some u → holds (assigned v b) u ≡ true
 unfolding holds assigned entry_at
-front_held [] u v h q = absurd (omega (arith, h.four))
-front_held (e ∷ es) u v h q = by_test (v == u) refl (block_of u e q) where
-  by_test : (m : Bool) → (v == u) ≡ m → is_of u e ≡ true → list_any (is_of u) (record { slot = (victim (e ∷ es)).slot; block = Some v; updated = false } ∷ e ∷ take 2 es) ≡ true
+front_held [] u v h q = absurd (omega (arith, h.count.0))
+front_held (e ∷ []) u v h q = absurd (omega (arith, h.count.0))
+front_held (e ∷ f ∷ es) u v h q = let n : suc (suc (length es)) - 1 ≡ suc (length es) = omega arith in rw n (by_test (v == u) refl (block_of u e q)) where
+  by_test : (m : Bool) → (v == u) ≡ m → is_of u e ≡ true
+      → list_any (is_of u) (record { slot = (victim (e ∷ f ∷ es)).slot; block = Some v; updated = false } ∷ e ∷ take (length es) (f ∷ es)) ≡ true
   by_test true r has = rw r refl
   by_test false r has = rw (r, has) refl
 
 -- the block in front is the same once a block is written
 pub front_unmarked : (b : List Entry) (u : ℕ) → AreBuffers b → (entry_at (unmarked u b) 0).block ≡ (entry_at b 0).block
 unfolding unmarked entry_at
-front_unmarked [] u h = absurd (omega (arith, h.four))
+front_unmarked [] u h = absurd (omega (arith, h.count.0))
 front_unmarked (e ∷ es) u h = unmark_block u e (is_of u e) refl
 
 -- the updated entry that is saved first is no longer marked
@@ -146,8 +152,9 @@ pub victim_held : (b : List Entry) → AreBuffers b → (victim b).updated ≡ t
 unfolding entry_at
 victim_held b h q =
     let d : Entry = unassigned_slot 0
-    in let four : 3 < length b = omega (arith, h.four)
-    in held_at (unwrap_or (get_or b 3 d).block 0) b 3 d four (of_updated b 3 d h four q)
+    in let k : ℕ = length b - 1
+    in let l : k < length b = last_place b h
+    in held_at (unwrap_or (get_or b k d).block 0) b k d l (of_updated b k d h l q)
 
 -- and so is the block of the updated entry that is saved first
 pub first_held : (b : List Entry) → AreBuffers b → has_updated b ≡ true → holds b (unwrap_or (first_updated b).block 0) ≡ true

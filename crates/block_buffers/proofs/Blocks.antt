@@ -1,5 +1,5 @@
 -- No block is in two buffers, and where a block's entry stands.
-use Rattle.std.proofs.Common.{◌≡◌, ◌≢◌, ℕ, zero, suc, ◌<◌, ◌==◌, List, [], ◌∷◌, length, get_or, take, map, Option, Some, None, refl, arith, ap, ◌∙◌, sym, subst, true, false, Bool, is_some}
+use Rattle.std.proofs.Common.{◌≡◌, ◌≢◌, ℕ, zero, suc, ◌-◌, ◌<◌, ◌==◌, List, [], ◌∷◌, length, get_or, take, map, Option, Some, None, refl, arith, ap, ◌∙◌, sym, subst, true, false, Bool, is_some}
 use Rattle.std.specs.Prelude.{All, remove}
 use Rattle.std.specs.List.{position_or_len}
 use Rattle.std.specs.List.Sorted.{IsPermutation}
@@ -39,9 +39,10 @@ pub blocks_unassigned : (b : List Entry) → HasNoBlockTwice (unassigned b)
 unfolding unassigned
 blocks_unassigned b = no_blocks b
 
-pub blocks_started : HasNoBlockTwice start
+pub blocks_started : (n : ℕ) → HasNoBlockTwice (start n)
 unfolding start
-blocks_started = no_blocks start
+blocks_started zero = λ i j d l m. absurd (omega arith)
+blocks_started (suc n) = AllPairs-cons BlocksDiffer (unassigned_slot n) (start n) (λ k d l u q. cc) (blocks_started n)
 
 blocks_replaced : (d e : Entry) (es : List Entry) → e.block ≡ d.block → HasNoBlockTwice (d ∷ es) → HasNoBlockTwice (e ∷ es)
 blocks_replaced d e es q h =
@@ -88,8 +89,8 @@ pairs_take (suc n) (e ∷ es) h =
 pub blocks_assigned : (u : ℕ) (b : List Entry) → holds b u ≡ false → HasNoBlockTwice b → HasNoBlockTwice (assigned u b)
 unfolding assigned
 blocks_assigned u b none h =
-    AllPairs-cons BlocksDiffer (record { slot = (victim b).slot; block = Some u; updated = false }) (take 3 b)
-    (λ k d l v q r. All-take (λ e. e.block ≢ Some u) 3 b (lacks_block u b none) k d l (r ∙ sym q)) (pairs_take 3 b h)
+    AllPairs-cons BlocksDiffer (record { slot = (victim b).slot; block = Some u; updated = false }) (take (length b - 1) b)
+    (λ k d l v q r. All-take (λ e. e.block ≢ Some u) (length b - 1) b (lacks_block u b none) k d l (r ∙ sym q)) (pairs_take (length b - 1) b h)
 
 -- the entry of a block that a buffer has comes to the front
 pub touched_block : (u : ℕ) (b : List Entry) → AreBuffers b → holds b u ≡ true → (entry_at (moved_front (slot_of b u) b) 0).block ≡ Some u

@@ -1,5 +1,5 @@
 -- Entries that come to the front.
-use Rattle.std.proofs.Common.{◌≡◌, ◌≢◌, ℕ, zero, suc, ◌<◌, ◌==◌, List, [], ◌∷◌, length, get_or, set, take, Some, refl, arith, ap, true, false, is_some, sym}
+use Rattle.std.proofs.Common.{◌≡◌, ◌≢◌, ℕ, zero, suc, ◌-◌, ◌<◌, ◌==◌, List, [], ◌∷◌, length, get_or, set, take, Some, refl, arith, ap, true, false, is_some, sym}
 use Rattle.std.specs.Prelude.{remove, filter, AllPairs}
 use Rattle.std.proofs.lemmas.Bool.{eq-eqb, ne_eqb}
 use Rattle.std.proofs.lemmas.List.{get_or_default}
@@ -57,11 +57,12 @@ last_removed zero (e ∷ []) h = refl
 last_removed zero (e ∷ f ∷ es) h = absurd (omega arith)
 last_removed (suc i) (e ∷ es) h = ap (λ (xs : List Entry). e ∷ xs) (last_removed i es (omega arith))
 
-pub assigned_at : (u : ℕ) (es : List Entry) (d : Entry) → length es ≡ 4 → assigned u es ≡ record { slot = (get_or es 3 d).slot; block = Some u; updated = false } ∷ remove es 3
+pub assigned_at : (u : ℕ) (es : List Entry) (d : Entry) → length es - 1 < length es
+    → assigned u es ≡ record { slot = (get_or es (length es - 1) d).slot; block = Some u; updated = false } ∷ remove es (length es - 1)
 unfolding assigned entry_at
 assigned_at u es d h =
-    let same : get_or es 3 (unassigned_slot 0) ≡ get_or es 3 d = get_or_default es 3 (unassigned_slot 0) d (omega arith)
-    in let last : remove es 3 ≡ take 3 es = last_removed 3 es (omega arith)
+    let same : get_or es (length es - 1) (unassigned_slot 0) ≡ get_or es (length es - 1) d = get_or_default es (length es - 1) (unassigned_slot 0) d h
+    in let last : remove es (length es - 1) ≡ take (length es - 1) es = last_removed (length es - 1) es (omega arith)
     in rw (same, last) refl
 
 pub front_some : (es : List Entry) (d : Entry) → 0 < length es → is_some (get_or es 0 d).block ≡ true → front_marked es ≡ set es 0 (record (get_or es 0 d) { updated = true })

@@ -1,17 +1,18 @@
 -- What every list of buffers keeps.
-use Rattle.std.proofs.Common.{◌≡◌, ◌≢◌, ℕ, zero, suc, ◌<◌, ◌≤◌, List, [], ◌∷◌, length, length-append, get_or, map, Option, Some, None, refl, arith, ◌∙◌, sym, subst, true, false, Bool, is_some}
+use Rattle.std.proofs.Common.{◌≡◌, ◌≢◌, ℕ, zero, suc, ◌-◌, ◌<◌, ◌≤◌, List, [], ◌∷◌, length, length-append, get_or, map, Option, Some, None, refl, arith, ◌∙◌, sym, ap, subst, true, false, Bool, is_some}
 use Rattle.std.proofs.lemmas.List.{length-map}
 use Rattle.std.specs.Prelude.{remove, filter, All, AllPairs, IsSome}
 use Rattle.std.proofs.lemmas.List.Elements.{All-nil, All-cons, All-head, All-tail, All-append, All-map, All-filter, All-weaker}
 use Rattle.std.proofs.lemmas.List.Filters.{length-filter_both}
 use Rattle.std.proofs.lemmas.List.Kept.{AllPairs-cons}
+use Rattle.memory.specs.Bytes.{IsCount}
 use Rattle.block_buffers.specs.declared.entry.Entry.{Entry}
 use Rattle.block_buffers.specs.Entries.{unassigned_slot, start, is_in, is_elsewhere, moved_front, assigned, front_marked, is_of, cleaned_entry, cleaned, unmarked_entry, unmarked, unassigned_entry, unassigned, AreBuffers, HasNoBlockTwice}
 use Rattle.block_buffers.proofs.Fronts.{moved_at, assigned_at, front_some, front_none}
 use Rattle.block_buffers.proofs.Pairs.{pairs_head, pairs_tail, pairs_map, pairs_parted}
 
-abbrev pub SmallSlot : Entry → Type 0
-SmallSlot e = e.slot < 4
+abbrev pub SmallSlot : ℕ → Entry → Type 0
+SmallSlot n e = e.slot < n
 
 abbrev pub HasWhereUpdated : Entry → Type 0
 HasWhereUpdated e = e.updated ≡ true → IsSome e.block
@@ -27,7 +28,7 @@ unfolding moved_front
 all_parted P slot b h =
     All-append P (filter (is_in slot) b) (filter (is_elsewhere slot) b) (All-filter (is_in slot) P b h) (All-filter (is_elsewhere slot) P b h)
 
-length-moved_front : (slot : ℕ) (b : List Entry) → length (moved_front slot b) ≡ length b
+pub length-moved_front : (slot : ℕ) (b : List Entry) → length (moved_front slot b) ≡ length b
 unfolding moved_front
 length-moved_front slot b =
     length-append (filter (is_in slot) b) (filter (is_elsewhere slot) b) ∙ length-filter_both (is_in slot) (is_elsewhere slot) (λ e. refl) b
@@ -41,9 +42,9 @@ unfolding moved_front
 blocks_moved slot b h = pairs_parted BlocksDiffer (λ d e r u p q. r u q p) (is_in slot) b h
 
 pub are_moved : (slot : ℕ) (b : List Entry) → AreBuffers b → AreBuffers (moved_front slot b)
-are_moved slot b h = record {
-  four = length-moved_front slot b ∙ h.four;
-  slots = all_parted SmallSlot slot b h.slots;
+are_moved slot b h = let n = length-moved_front slot b in record {
+  count = subst (λ k. IsCount k) (sym n) h.count;
+  slots = subst (λ k. All (SmallSlot k) (moved_front slot b)) (sym n) (all_parted (SmallSlot (length b)) slot b h.slots);
   once = slots_parted slot b h.once;
   updated_have = all_parted HasWhereUpdated slot b h.updated_have;
 }
@@ -51,22 +52,29 @@ are_moved slot b h = record {
 -- another entry of the same slot in front
 are_replaced : (d e : Entry) (es : List Entry) → e.slot ≡ d.slot → HasWhereUpdated e → AreBuffers (d ∷ es) → AreBuffers (e ∷ es)
 are_replaced d e es q up h = record {
-  four = h.four;
-  slots = All-cons SmallSlot e es (rw q (All-head SmallSlot d es h.slots)) (All-tail SmallSlot d es h.slots);
+  count = h.count;
+  slots = All-cons (SmallSlot (suc (length es))) e es (rw q (All-head (SmallSlot (suc (length es))) d es h.slots)) (All-tail (SmallSlot (suc (length es))) d es h.slots);
   once = AllPairs-cons SlotsDiffer e es (rw q (pairs_head SlotsDiffer d es h.once)) (pairs_tail SlotsDiffer d es h.once);
   updated_have = All-cons HasWhereUpdated e es up (All-tail HasWhereUpdated d es h.updated_have);
 }
 
-pub victim_first : (b : List Entry) → AreBuffers b → AreBuffers (get_or b 3 (unassigned_slot 0) ∷ remove b 3)
+-- the last entry, and a place before the end
+abbrev pub last_entry : List Entry → Entry
+last_entry b = get_or b (length b - 1) (unassigned_slot 0)
+
+pub last_place : (b : List Entry) → AreBuffers b → length b - 1 < length b
+last_place b h = omega (arith, h.count.0)
+
+pub victim_first : (b : List Entry) → AreBuffers b → AreBuffers (last_entry b ∷ remove b (length b - 1))
 victim_first b h =
     let P : List Entry → Type 0 = λ es. AreBuffers es in
-    subst P (moved_at 3 b (unassigned_slot 0) (omega (arith, h.four)) h.once) (are_moved (get_or b 3 (unassigned_slot 0)).slot b h)
+    subst P (moved_at (length b - 1) b (unassigned_slot 0) (last_place b h) h.once) (are_moved (last_entry b).slot b h)
 
 pub are_assigned : (u : ℕ) (b : List Entry) → AreBuffers b → AreBuffers (assigned u b)
 are_assigned u b h =
     let P : List Entry → Type 0 = λ es. AreBuffers es in
-    subst P (sym (assigned_at u b (unassigned_slot 0) h.four))
-    (are_replaced (get_or b 3 (unassigned_slot 0)) (record { slot = (get_or b 3 (unassigned_slot 0)).slot; block = Some u; updated = false }) (remove b 3) refl (λ q. cc) (victim_first b h))
+    subst P (sym (assigned_at u b (unassigned_slot 0) (last_place b h)))
+    (are_replaced (last_entry b) (record { slot = (last_entry b).slot; block = Some u; updated = false }) (remove b (length b - 1)) refl (λ q. cc) (victim_first b h))
 
 marked_with : (e : Entry) (es : List Entry) (o : Option ℕ) → e.block ≡ o → AreBuffers (e ∷ es) → AreBuffers (front_marked (e ∷ es))
 unfolding front_marked
@@ -85,9 +93,10 @@ are_marked (e ∷ es) h = marked_with e es e.block refl h
 
 -- a change of each entry that leaves its slot
 are_mapped : (f : Entry → Entry) → ((e : Entry) → (f e).slot ≡ e.slot) → ((e : Entry) → HasWhereUpdated e → HasWhereUpdated (f e)) → (b : List Entry) → AreBuffers b → AreBuffers (map f b)
-are_mapped f same up b h = record {
-  four = length-map b f ∙ h.four;
-  slots = All-map SmallSlot f b (All-weaker SmallSlot (λ e. SmallSlot (f e)) (λ e l. rw (same e) l) b h.slots);
+are_mapped f same up b h = let n = length-map b f in record {
+  count = subst (λ k. IsCount k) (sym n) h.count;
+  slots = subst (λ k. All (SmallSlot k) (map f b)) (sym n)
+      (All-map (SmallSlot (length b)) f b (All-weaker (SmallSlot (length b)) (λ e. SmallSlot (length b) (f e)) (λ e l. rw (same e) l) b h.slots));
   once = pairs_map SlotsDiffer f (λ d e r q. r (sym (same d) ∙ q ∙ same e)) b h.once;
   updated_have = All-map HasWhereUpdated f b (All-weaker HasWhereUpdated (λ e. HasWhereUpdated (f e)) up b h.updated_have);
 }
@@ -120,35 +129,35 @@ pub are_unassigned : (b : List Entry) → AreBuffers b → AreBuffers (unassigne
 unfolding unassigned
 are_unassigned b h = are_mapped unassigned_entry (λ e. refl) (λ e h q. cc) b h
 
--- the slots below n, the highest first
-down : ℕ → List Entry
-down zero = []
-down (suc n) = unassigned_slot n ∷ down n
+-- buffers without blocks
+start_below : (n m : ℕ) → n ≤ m → All (λ e. e.slot < m) (start n)
+unfolding start
+start_below zero m h = All-nil (λ e. e.slot < m)
+start_below (suc n) m h = All-cons (λ e. e.slot < m) (unassigned_slot n) (start n) (omega arith) (start_below n m (omega arith))
 
-down_below : (n m : ℕ) → n ≤ m → All (λ e. e.slot < m) (down n)
-unfolding down
-down_below zero m h = All-nil (λ e. e.slot < m)
-down_below (suc n) m h = All-cons (λ e. e.slot < m) (unassigned_slot n) (down n) (omega arith) (down_below n m (omega arith))
+start_differ : (n : ℕ) → AllPairs SlotsDiffer (start n)
+unfolding start
+start_differ zero = λ i j d l m. absurd (omega arith)
+start_differ (suc n) =
+    AllPairs-cons SlotsDiffer (unassigned_slot n) (start n)
+    (All-weaker (λ e. e.slot < n) (SlotsDiffer (unassigned_slot n)) (λ e l q. absurd (omega arith)) (start n) (start_below n n (omega arith))) (start_differ n)
 
-down_differ : (n : ℕ) → AllPairs SlotsDiffer (down n)
-unfolding down
-down_differ zero = λ i j d l m. absurd (omega arith)
-down_differ (suc n) =
-    AllPairs-cons SlotsDiffer (unassigned_slot n) (down n)
-    (All-weaker (λ e. e.slot < n) (SlotsDiffer (unassigned_slot n)) (λ e l q. absurd (omega arith)) (down n) (down_below n n (omega arith))) (down_differ n)
+start_unmarked : (n : ℕ) → All HasWhereUpdated (start n)
+unfolding start
+start_unmarked zero = All-nil HasWhereUpdated
+start_unmarked (suc n) = All-cons HasWhereUpdated (unassigned_slot n) (start n) (λ q. cc) (start_unmarked n)
 
-down_unmarked : (n : ℕ) → All HasWhereUpdated (down n)
-unfolding down
-down_unmarked zero = All-nil HasWhereUpdated
-down_unmarked (suc n) = All-cons HasWhereUpdated (unassigned_slot n) (down n) (λ q. cc) (down_unmarked n)
+pub length-start : (n : ℕ) → length (start n) ≡ n
+unfolding start
+length-start zero = refl
+length-start (suc n) = ap suc (length-start n)
 
-pub are_started : AreBuffers start
-unfolding start down
-are_started = record {
-  four = refl;
-  slots = down_below 4 4 (omega arith);
-  once = down_differ 4;
-  updated_have = down_unmarked 4;
+pub are_started : (n : ℕ) → IsCount n → AreBuffers (start n)
+are_started n h = let e = length-start n in record {
+  count = subst (λ k. IsCount k) (sym e) h;
+  slots = subst (λ k. All (SmallSlot k) (start n)) (sym e) (start_below n n (omega arith));
+  once = start_differ n;
+  updated_have = start_unmarked n;
 }
 
 pub ruleset buffers = (are_moved, are_assigned, are_marked, are_cleaned, are_unmarked, are_unassigned)

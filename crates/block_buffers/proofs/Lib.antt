@@ -11,3 +11,6 @@ pub mod Slots
 pub mod Asking
 pub mod Failures
 pub mod Stamps
+pub mod Written
+pub mod Fresh
+pub mod Found

@@ -1,5 +1,5 @@
 -- Where the buffer of a block stands in the list.
-use Rattle.std.proofs.Common.{◌≡◌, ℕ, ◌<◌, ◌≤◌, List, length, get_or, arith, true, false, ap, ◌∙◌, Option, unwrap_or, inl, inr}
+use Rattle.std.proofs.Common.{◌≡◌, ℕ, ◌<◌, ◌≤◌, List, length, get_or, arith, true, false, Bool, ap, ◌∙◌, Option, unwrap_or, inl, inr}
 use Rattle.std.specs.List.{position_or_len}
 use Rattle.std.proofs.lemmas.Bool.{cases_lt}
 use Rattle.std.proofs.lemmas.List.{get_or_default, get_or_past}
@@ -7,16 +7,27 @@ use Rattle.std.proofs.lemmas.List.Elements.{All-from_get_or}
 use Rattle.std.proofs.lemmas.List.Folds.{list_any_at, list_any_none, find_at}
 use Rattle.std.proofs.lemmas.List.Sums.{position_or_len_is, passes_at_first, fails_before_first}
 use Rattle.std.proofs.lemmas.Option.{unwrap_or-slice_get}
+use Rattle.std.proofs.lemmas.Grind.{common_steps}
 use Rattle.block_buffers.specs.declared.entry.Entry.{Entry}
-use Rattle.block_buffers.specs.Entries.{unassigned_slot, is_of, holds, slot_of, victim, entry_at}
+use Rattle.block_buffers.specs.declared.stamped.Slot.{Slot}
+use Rattle.block_buffers.specs.Entries.{unassigned_slot, is_of, holds, slot_of, victim}
+use Rattle.block_buffers.specs.Stamps.{is_below, fresh}
 
 -- a loop that has passed the entries below i
-pub position_here : (u i : ℕ) (es : List Entry) (d : Entry) → is_of u (get_or es i d) ≡ true → i < length es → ((k : ℕ) (e : Entry) → k < i → is_of u (get_or es k e) ≡ false) → position_or_len (is_of u) es ≡ i
-position_here u i es d here h before = position_or_len_is (is_of u) es i d (omega arith) (λ k. before k d) (λ _. here)
+pub position_here : {X : Type 0} (p : X → Bool) (i : ℕ) (xs : List X) (d : X) → p (get_or xs i d) ≡ true → i < length xs
+    → ((k : ℕ) (x : X) → k < i → p (get_or xs k x) ≡ false) → position_or_len p xs ≡ i
+position_here p i xs d here h before = position_or_len_is p xs i d (omega arith) (λ k. before k d) (λ _. here)
 
-pub position_end : (u : ℕ) (es : List Entry) → ((k : ℕ) (e : Entry) → k < length es → is_of u (get_or es k e) ≡ false) → position_or_len (is_of u) es ≡ length es
-position_end u es before =
-    position_or_len_is (is_of u) es (length es) (unassigned_slot 0) (omega arith) (λ k. before k (unassigned_slot 0)) (λ h. absurd (omega arith))
+pub stamp_here : (n i : ℕ) (xs : List Slot) (d : Slot) → (get_or xs i d).stamp < n → i < length xs
+    → ((k : ℕ) (x : Slot) → k < i → is_below n (get_or xs k x) ≡ false) → position_or_len (is_below n) xs ≡ i
+stamp_here n i xs d here h before = position_here (is_below n) i xs d (grind (arith, common_steps, here)) h before
+
+pub stamp_end : (n : ℕ) (xs : List Slot) → ((k : ℕ) (x : Slot) → k < length xs → is_below n (get_or xs k x) ≡ false)
+    → position_or_len (is_below n) xs ≡ length xs
+stamp_end n xs before =
+    position_or_len_is (is_below n) xs (length xs) (fresh 0 0) (omega arith) (λ k. before k (fresh 0 0)) (λ h. absurd (omega arith))
+
+pub ruleset positions = (stamp_here, stamp_end)
 
 pub holds_here : (u : ℕ) (es : List Entry) → position_or_len (is_of u) es < length es → holds es u ≡ true
 unfolding holds
@@ -42,8 +53,7 @@ pub slot_here : (u : ℕ) (es : List Entry) → position_or_len (is_of u) es < l
 slot_here u es h =
     found u es ∙ ap (λ (e : Entry). e.slot) (get_or_default es (position_or_len (is_of u) es) (victim es) (unassigned_slot 0) h)
 
-pub slot_end : (u : ℕ) (es : List Entry) → length es ≤ position_or_len (is_of u) es → slot_of es u ≡ (get_or es 3 (unassigned_slot 0)).slot
-unfolding entry_at
+pub slot_end : (u : ℕ) (es : List Entry) → length es ≤ position_or_len (is_of u) es → slot_of es u ≡ (victim es).slot
 slot_end u es h =
     found u es ∙ ap (λ (e : Entry). e.slot) (get_or_past es (position_or_len (is_of u) es) (victim es) h)
 

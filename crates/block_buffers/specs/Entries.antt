@@ -1,15 +1,17 @@
 -- The list of block buffers, the most recently referenced first.
-use Rattle.std.specs.Prelude.{◌≡◌, ◌≢◌, ℕ, ◌+◌, ◌*◌, ◌<◌, ◌≤◌, List, [], ◌∷◌, ◌++◌, Some, None, ◌==◌, Bool, true, false, not, if◌then◌else◌, slice_index_or, is_some, unwrap_or, find, filter, map, take, fold, length, nat_lt, All, AllPairs, Contains, IsSome}
+use Rattle.std.specs.Prelude.{◌≡◌, ◌≢◌, ℕ, zero, suc, ◌+◌, ◌-◌, ◌*◌, ◌<◌, ◌≤◌, List, [], ◌∷◌, ◌++◌, Some, None, ◌==◌, Bool, true, false, not, if◌then◌else◌, slice_index_or, is_some, unwrap_or, find, filter, map, take, fold, length, nat_lt, All, AllPairs, Contains, IsSome}
 use Rattle.std.specs.List.{list_any}
-use Rattle.memory.specs.Bytes.{limit_of}
+use Rattle.memory.specs.Bytes.{IsCount, limit_of}
 use Rattle.block_buffers.specs.declared.entry.Entry.{Entry}
 
--- slot 3 first, down to slot 0; none has a block
+-- a slot that has no block
 abbrev pub unassigned_slot : ℕ → Entry
 unassigned_slot slot = record { slot = slot; block = None; updated = false }
 
-unfoldable pub start : List Entry
-start = unassigned_slot 3 ∷ unassigned_slot 2 ∷ unassigned_slot 1 ∷ unassigned_slot 0 ∷ []
+-- so many slots, the highest first; none has a block
+unfoldable pub start : ℕ → List Entry
+start zero = []
+start (suc n) = unassigned_slot n ∷ start n
 
 -- where the buffers begin in memory: the dictionary ends there at the latest
 abbrev pub limit : List Entry → ℕ
@@ -33,7 +35,7 @@ entry_at b place = slice_index_or b place (unassigned_slot 0)
 
 -- the entry that is taken where a buffer is needed: the one that was not referenced for longest
 abbrev pub victim : List Entry → Entry
-victim b = entry_at b 3
+victim b = entry_at b (length b - 1)
 
 -- the slot of the buffer that has block u; the victim's where none has it
 unfoldable pub slot_of : List Entry → ℕ → ℕ
@@ -66,7 +68,7 @@ IsReordered old new = (slots : List ℕ) × (new ≡ after_references slots old)
 
 -- the victim's buffer is given to block u, and is referenced; it is not updated
 unfoldable pub assigned : ℕ → List Entry → List Entry
-assigned u b = record { slot = (victim b).slot; block = Some u; updated = false } ∷ take 3 b
+assigned u b = record { slot = (victim b).slot; block = Some u; updated = false } ∷ take (length b - 1) b
 
 -- the entry in front is marked as updated, where it has a block
 unfoldable pub front_marked : List Entry → List Entry
@@ -106,18 +108,19 @@ has_updated b = list_any is_updated b
 abbrev pub lower_of : Entry → Entry → Entry
 lower_of d e = if nat_lt e.slot d.slot then e else d
 
--- the updated entry with the lowest slot; slot 4, above all, stands for none
+-- the updated entry with the lowest slot; slot 16, above all, stands for none
 unfoldable pub first_updated : List Entry → Entry
-first_updated b = fold lower_of (unassigned_slot 4) (filter is_updated b)
+first_updated b = fold lower_of (unassigned_slot 16) (filter is_updated b)
 
 -- an entry is updated, and this is the one with the lowest slot
 abbrev pub IsFirstUpdated : List Entry → Entry → Type 0
 IsFirstUpdated b e = (has_updated b ≡ true) × (e ≡ first_updated b)
 
--- what every list of buffers keeps: four entries, each slot once, and only a buffer with a block is updated
+-- what every list of buffers keeps: 2 to 16 entries, each slot below their number once, and only a buffer with a block is
+-- updated
 pub record AreBuffers (b : List Entry) : Type 0 where
-  pub four : length b ≡ 4
-  pub slots : All (λ e. e.slot < 4) b
+  pub count : IsCount (length b)
+  pub slots : All (λ e. e.slot < length b) b
   pub once : AllPairs (λ d e. d.slot ≢ e.slot) b
   pub updated_have : All (λ e. e.updated ≡ true → IsSome e.block) b
 

@@ -1,5 +1,6 @@
 //! What the definitions come to, in the words of their subjects: entries, blocks of a device, lines of a screen.
 ghost use Rattle.std.specs.Prelude.{◌≡◌, ◌≢◌, ℕ, ◌+◌, ◌<◌, ◌≤◌, ◌∷◌, List, Some, IsTrue, IsFalse, remove, IsPermutation, count_by, length};
+ghost use Rattle.memory.specs.Bytes.{IsCount};
 ghost use Rattle.block_buffers.specs.declared.entry.Entry.{Entry};
 ghost use Rattle.block_buffers.specs.Entries.{start, is_in, entry_at, victim, holds, slot_of, moved_front, after_references, assigned, front_marked, cleaned, unmarked, unassigned, has_updated, first_updated, AreBuffers, HasNoBlockTwice, IsLowestUpdated};
 ghost use Rattle.block_buffers.specs.Disks.{Disk, block_at, with_block};
@@ -8,17 +9,18 @@ ghost use Rattle.block_buffers.specs.Screens.{IsScreen, IsLine, blank_line, blan
 use crate::buffers::Buffers;
 
 /// Buffers as new ones, but that the next reference is stamped `stamp`. Any number from 16 on will do: no caller sees stamps.
-pub fn buffers_from(stamp: u64) -> Buffers
-    requires { 16 ≤ stamp }
-    ensures { result ≡ start }
+pub fn buffers_from(count: u16, stamp: u64) -> Buffers
+    requires count { IsCount count }
+    requires stamp { 16 ≤ stamp }
+    ensures { result ≡ start count }
 {
-    Buffers::with_next(stamp)
+    Buffers::with_next(count, stamp)
 }
 
 /// The entry of any place comes to the front, and the others stay in their order. No entry is lost or changed.
 pub fn moved_front_law()
-    ensures order { (b : List Entry) (place : ℕ) → AreBuffers b → place < 4 → moved_front (entry_at b place).slot b ≡ entry_at b place ∷ remove b place }
-    ensures front { (b : List Entry) (slot : ℕ) → AreBuffers b → slot < 4 → (entry_at (moved_front slot b) 0).slot ≡ slot }
+    ensures order { (b : List Entry) (place : ℕ) → AreBuffers b → place < length b → moved_front (entry_at b place).slot b ≡ entry_at b place ∷ remove b place }
+    ensures front { (b : List Entry) (slot : ℕ) → AreBuffers b → slot < length b → (entry_at (moved_front slot b) 0).slot ≡ slot }
     ensures same { (b : List Entry) (slot : ℕ) → IsPermutation b (moved_front slot b) }
 {}
 
@@ -46,7 +48,7 @@ pub fn first_updated_law()
 
 /// No block is ever in two buffers.
 pub fn no_block_twice_law()
-    ensures started { HasNoBlockTwice start }
+    ensures started { (n : ℕ) → HasNoBlockTwice (start n) }
     ensures moved { (b : List Entry) (slot : ℕ) → HasNoBlockTwice b → HasNoBlockTwice (moved_front slot b) }
     ensures assigned { (b : List Entry) (u : ℕ) → IsFalse (holds b u) → HasNoBlockTwice b → HasNoBlockTwice (assigned u b) }
     ensures marked { (b : List Entry) → HasNoBlockTwice b → HasNoBlockTwice (front_marked b) }
@@ -55,10 +57,11 @@ pub fn no_block_twice_law()
     ensures unassigned { (b : List Entry) → HasNoBlockTwice (unassigned b) }
 {}
 
-/// There are always four buffers, each slot stands once, and only a buffer with a block is updated.
-pub fn four_buffers_law()
-    ensures slots { (b : List Entry) (slot : ℕ) → AreBuffers b → slot < 4 → count_by (is_in slot) b ≡ 1 }
-    ensures started { AreBuffers start }
+/// There are always as many buffers, 2 to 16, each slot stands once, and only a buffer with a block is updated.
+pub fn buffers_law()
+    ensures slots { (b : List Entry) (slot : ℕ) → AreBuffers b → slot < length b → count_by (is_in slot) b ≡ 1 }
+    ensures started { (n : ℕ) → IsCount n → AreBuffers (start n) }
+    ensures count { (n : ℕ) → length (start n) ≡ n }
     ensures moved { (b : List Entry) (slot : ℕ) → AreBuffers b → AreBuffers (moved_front slot b) }
     ensures assigned { (b : List Entry) (u : ℕ) → AreBuffers b → AreBuffers (assigned u b) }
     ensures marked { (b : List Entry) → AreBuffers b → AreBuffers (front_marked b) }

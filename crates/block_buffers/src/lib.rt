@@ -1,4 +1,4 @@
-//! Four block buffers with the stamps of their references, devices of blocks, and blocks as screens of lines.
+//! 2 to 16 block buffers with the stamps of their references, devices of blocks, and blocks as screens of lines.
 #![tactic(auto)]
 
 pub mod buffers;

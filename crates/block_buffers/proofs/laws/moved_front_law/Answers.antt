@@ -1,4 +1,3 @@
-use Rattle.std.proofs.Common.{arith}
 use Rattle.block_buffers.specs.Entries.{unassigned_slot, entry_at}
 use Rattle.block_buffers.proofs.Fronts.{moved_at}
 use Rattle.block_buffers.proofs.Blocks.{moved_permutes}
@@ -7,7 +6,7 @@ use Rattle.block_buffers.proofs.laws.moved_front_law.Goals as goal
 
 pub returns-clause-order : goal.returns-clause-order
 unfolding entry_at
-returns-clause-order c = λ b place h l. moved_at place b (unassigned_slot 0) (omega (arith, h.four)) h.once
+returns-clause-order c = λ b place h l. moved_at place b (unassigned_slot 0) l h.once
 
 pub returns-clause-same : goal.returns-clause-same
 returns-clause-same c = λ b slot. moved_permutes slot b

@@ -1,12 +1,15 @@
-use Rattle.block_buffers.proofs.Kept.{are_started, are_moved, are_assigned, are_marked, are_cleaned, are_unmarked, are_unassigned}
+use Rattle.block_buffers.proofs.Kept.{are_started, length-start, are_moved, are_assigned, are_marked, are_cleaned, are_unmarked, are_unassigned}
 use Rattle.block_buffers.proofs.Slots.{slot_once}
-use Rattle.block_buffers.proofs.laws.four_buffers_law.Goals as goal
+use Rattle.block_buffers.proofs.laws.buffers_law.Goals as goal
 
 pub returns-clause-slots : goal.returns-clause-slots
 returns-clause-slots c = slot_once
 
 pub returns-clause-started : goal.returns-clause-started
 returns-clause-started c = are_started
+
+pub returns-clause-count : goal.returns-clause-count
+returns-clause-count c = length-start
 
 pub returns-clause-moved : goal.returns-clause-moved
 returns-clause-moved c = λ b slot. are_moved slot b

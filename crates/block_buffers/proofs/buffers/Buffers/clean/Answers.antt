@@ -1,0 +1,6 @@
+use Rattle.std.proofs.Common.{◌∙◌, ap, map}
+use Rattle.block_buffers.proofs.Written.{cleaned_slots}
+use Rattle.block_buffers.proofs.buffers.Buffers.clean.Goals as goal
+
+pub invariant_of-self : goal.invariant_of-self
+invariant_of-self c = cleaned_slots _ _ _ _ (c.clean.ensures ∙ ap (map _) c.as_mut_slice.ensures.value) c.self.invariant
