@@ -88,7 +88,8 @@ fn serve(parts: &mut Parts, request: Request) {
     match request {
         Request::Read { block } => {
             let slot = parts.buffers.victim().slot;
-            parts.memory.set_page(slot, &[0; 1024]);
+            let at = parts.buffers.address_of(slot);
+            parts.memory.set_page(at, &[0; 1024]);
             parts.buffers.assign(block);
         }
         Request::Write { block } => parts.buffers.unmark(block),
@@ -102,7 +103,8 @@ fn serve(parts: &mut Parts, request: Request) {
 fn stamps_that_run_out(rt: HostRuntime) -> Result<(), Fail> {
     let mut parts = parts(rt.alloc())?;
     parts.memory.set_bytes(256, &FIVE[..60]);
-    parts.buffers = buffers_from(u64::MAX - 1);
+    parts.buffers = buffers_from(4, u64::MAX - 1);
+    parts.limit = parts.buffers.limit();
     parts.block_count = 6;
     parts.pending = Some(266);
     let mut requests = Vec::new(rt.alloc());
@@ -234,7 +236,7 @@ fn the_last_of_all_blocks(rt: HostRuntime) -> Result<(), Fail> {
     let (stop, _) = output_over(&rt, &mut machine, b"", &mut device, 1000)?;
     assert_equal(&rt, stop, Stop::Bye);
     assert_cells(&rt, machine.values(), &[61440]);
-    assert!(rt; machine.memory().page(0) == &[0xA5; 1024]);
+    assert!(rt; machine.memory().page(61440) == &[0xA5; 1024]);
     assert_equal(&rt, machine.memory().byte(61439), 0);
     assert_equal(&rt, machine.memory().byte(62464), 0);
     Ok(())

@@ -51,14 +51,17 @@ pub fn machine(
 
 /// Parts with zero memory, empty stacks and no block in a buffer.
 pub fn parts(alloc: Global) -> Result<Parts, Fail> {
+    let buffers = Buffers::new(4);
+    let limit = buffers.limit();
     Ok(Parts {
         memory: Memory::new(alloc)?,
         values: Stack::new(),
         returns: Stack::new(),
         ip: 0,
         pending: None,
-        buffers: Buffers::new(),
+        buffers,
         block_count: 0,
+        limit,
     })
 }
 

@@ -11,7 +11,7 @@ use Rattle.std.proofs.lemmas.List.Sums.{passes_at_first}
 use Rattle.block_buffers.specs.declared.entry.Entry.{Entry}
 use Rattle.block_buffers.specs.Entries.{unassigned_slot, start, is_in, is_elsewhere, is_of, holds, slot_of, moved_front, after_references, assigned, front_marked, cleaned_entry, cleaned, unmarked_entry, unmarked, unassigned_entry, unassigned, victim, entry_at, AreBuffers, HasNoBlockTwice}
 use Rattle.block_buffers.proofs.Fronts.{moved_at, front_some, front_none}
-use Rattle.block_buffers.proofs.Kept.{BlocksDiffer}
+use Rattle.block_buffers.proofs.Kept.{length-moved_front, BlocksDiffer}
 use Rattle.block_buffers.proofs.Pairs.{pairs_head, pairs_tail, pairs_map}
 use Rattle.block_buffers.proofs.Places.{place_held, slot_here}
 
@@ -114,6 +114,11 @@ slot_assigned u b = let yes : (u == u) ≡ true = eq-eqb u u refl in rw (slot_of
 pub moved_permutes : (slot : ℕ) (b : List Entry) → IsPermutation b (moved_front slot b)
 unfolding moved_front
 moved_permutes slot b = IsPermutation-filter_both (is_in slot) (is_elsewhere slot) (λ e. refl) b
+
+pub length-references : (slots : List ℕ) (b : List Entry) → length (after_references slots b) ≡ length b
+unfolding after_references
+length-references [] b = refl
+length-references (slot ∷ slots) b = length-references slots (moved_front slot b) ∙ length-moved_front slot b
 
 -- so do references one after the other
 pub references_permute : (b : List Entry) (slots : List ℕ) → IsPermutation b (after_references slots b)

@@ -3,6 +3,7 @@ use Rattle.std.proofs.Common.{◌≡◌, ◌≢◌, ℕ, zero, suc, ◌-◌, ◌
 use Rattle.std.proofs.lemmas.List.{length-map}
 use Rattle.std.specs.Prelude.{remove, filter, All, AllPairs, IsSome}
 use Rattle.std.proofs.lemmas.List.Elements.{All-nil, All-cons, All-head, All-tail, All-append, All-map, All-filter, All-weaker}
+use Rattle.std.proofs.lemmas.List.Edits.{length-remove}
 use Rattle.std.proofs.lemmas.List.Filters.{length-filter_both}
 use Rattle.std.proofs.lemmas.List.Kept.{AllPairs-cons}
 use Rattle.memory.specs.Bytes.{IsCount}
@@ -159,5 +160,15 @@ are_started n h = let e = length-start n in record {
   once = start_differ n;
   updated_have = start_unmarked n;
 }
+
+-- no move changes how many there are
+pub length-assigned : (u : ℕ) (b : List Entry) → AreBuffers b → length (assigned u b) ≡ length b
+length-assigned u b h =
+    ap (λ es. length es) (assigned_at u b (unassigned_slot 0) (last_place b h))
+    ∙ (let n = length-remove b (length b - 1) (last_place b h) in omega (arith, n))
+
+pub length-unmarked : (u : ℕ) (b : List Entry) → length (unmarked u b) ≡ length b
+unfolding unmarked
+length-unmarked u b = length-map b (unmarked_entry u)
 
 pub ruleset buffers = (are_moved, are_assigned, are_marked, are_cleaned, are_unmarked, are_unassigned)

@@ -147,4 +147,4 @@ moved_orderly s Tick a h = ticked_orderly s.parts (record { buffers = h.buffers;
 moved_orderly s (Answer reply) a h = answer_orderly s reply a.2 h
 
 pub start_orderly : (image : Contents) (block_count : ℕ) → IsOrderly (start image block_count)
-start_orderly image block_count = unasked _ None (record { buffers = are_started; once = blocks_started })
+start_orderly image block_count = unasked _ None (record { buffers = are_started 4 (omega arith, omega arith); once = blocks_started 4 })

@@ -1,11 +1,15 @@
 -- How many requests of the device a token makes, each answered Ok.
-use Rattle.std.proofs.Common.{◌≡◌, ℕ, ◌+◌, ◌<◌, ◌≤◌, ◌==◌, List, [], ◌∷◌, length, nat_lt, Option, Some, None, Bool, true, false, refl, arith, ap, sym, subst, ◌∙◌, if◌then◌else◌}
+use Rattle.std.proofs.Common.{◌≡◌, ℕ, ◌+◌, ◌*◌, ◌<◌, ◌≤◌, ◌==◌, List, [], ◌∷◌, length, nat_lt, Option, Some, None, Bool, true, false, refl, arith, ap, sym, subst, ◌∙◌, if◌then◌else◌}
 use Rattle.std.specs.Prelude.{All}
 use Rattle.std.proofs.lemmas.List.Elements.{All-head, All-tail}
 use Rattle.block_buffers.specs.declared.entry.Entry.{Entry}
-use Rattle.block_buffers.specs.Entries.{unassigned_slot, entry_at, victim, AreBuffers, HasNoBlockTwice}
-use Rattle.memory.specs.Bytes.{cell, with_page}
+use Rattle.block_buffers.specs.Entries.{limit, address_of, victim, IsReordered, AreBuffers, HasNoBlockTwice}
+use Rattle.block_buffers.proofs.Blocks.{length-references}
+use Rattle.block_buffers.proofs.Found.{victim_small}
+use Rattle.block_buffers.proofs.Kept.{length-assigned, length-unmarked}
+use Rattle.memory.specs.Bytes.{cell, with_page, limit_of}
 use Rattle.memory.specs.declared.system.TheConstants.{BLK, SCR, FAULT}
+use Rattle.memory.proofs.Limits.{limit_is}
 use Rattle.memory.proofs.Pages.{cell_below, length-with_page}
 use Rattle.plain_rows.specs.Whole.{Whole}
 use Rattle.plain_rows.specs.Row.{After}
@@ -31,7 +35,7 @@ use Rattle.inner_interpreter.proofs.Shapes.{IsTaken, is_taken, either}
 
 -- memory behind an Ok
 abbrev memory_behind : Outcome → Whole → List ℕ → List ℕ
-memory_behind (AskOut (request.Read u)) s page = with_page s.memory (victim s.buffers).slot page
+memory_behind (AskOut (request.Read u)) s page = with_page s.memory (address_of s.buffers (victim s.buffers).slot) page
 memory_behind _ s page = s.memory
 
 -- the parts behind an Ok to what a token asked
@@ -95,24 +99,42 @@ kept s (t, FaultOut f) q h = cc
 kept s (t, Abort span) q h = cc
 kept s (t, HaltOut) q h = cc
 
-victim_small : (b : List Entry) → AreBuffers b → (victim b).slot < 4
-unfolding entry_at
-victim_small b h = h.slots 3 (unassigned_slot 0) (omega (arith, h.four))
+victim_within : (b : List Entry) → AreBuffers b → address_of b (victim b).slot ≤ 64512
+victim_within b h = omega (arith, limit_is (length b) h.count, victim_small b h)
+
+victim_above : (b : List Entry) (a : ℕ) → a + 2 ≤ limit b → a + 2 ≤ address_of b (victim b).slot
+victim_above b a l = omega (arith, l)
+
+-- references and answers leave where the buffers begin
+limit_referenced : (old new : List Entry) → IsReordered old new → limit new ≡ limit old
+limit_referenced old new (slots, e) = ap (λ es. limit es) e ∙ ap limit_of (length-references slots old)
+
+limit_answered : (o : Outcome) (b : List Entry) → AreBuffers b → limit (buffers_answered o b) ≡ limit b
+limit_answered Done b h = refl
+limit_answered (Show span) b h = refl
+limit_answered (ByteOut c) b h = refl
+limit_answered (AskOut request.Key) b h = refl
+limit_answered (AskOut (request.Line n)) b h = refl
+limit_answered (AskOut (request.Read u)) b h = ap limit_of (length-assigned u b h)
+limit_answered (AskOut (request.Write u)) b h = ap limit_of (length-unmarked u b)
+limit_answered (FaultOut f) b h = refl
+limit_answered (Abort span) b h = refl
+limit_answered HaltOut b h = refl
 
 -- memory keeps its size, and below the buffers its cells
-record IsKept (old new : List ℕ) : Type 0 where
+record IsKept (end : ℕ) (old new : List ℕ) : Type 0 where
   size : length new ≡ 65536
-  cells : (a : ℕ) → a + 2 ≤ 61440 → cell new a ≡ cell old a
+  cells : (a : ℕ) → a + 2 ≤ end → cell new a ≡ cell old a
 
-memory_kept : (o : Outcome) (t : Whole) (page : List ℕ) → length t.memory ≡ 65536 → AreBuffers t.buffers → length page ≡ 1024 → IsKept t.memory (memory_behind o t page)
+memory_kept : (o : Outcome) (t : Whole) (page : List ℕ) → length t.memory ≡ 65536 → AreBuffers t.buffers → length page ≡ 1024 → IsKept (limit t.buffers) t.memory (memory_behind o t page)
 memory_kept Done t page l h k = record { size = l; cells = λ a b. refl }
 memory_kept (Show span) t page l h k = record { size = l; cells = λ a b. refl }
 memory_kept (ByteOut c) t page l h k = record { size = l; cells = λ a b. refl }
 memory_kept (AskOut request.Key) t page l h k = record { size = l; cells = λ a b. refl }
 memory_kept (AskOut (request.Line n)) t page l h k = record { size = l; cells = λ a b. refl }
 memory_kept (AskOut (request.Read u)) t page l h k = record {
-  size = length-with_page t.memory page (victim t.buffers).slot l (victim_small t.buffers h) k;
-  cells = λ a b. cell_below t.memory page (victim t.buffers).slot a l (victim_small t.buffers h) b;
+  size = length-with_page t.memory page (address_of t.buffers (victim t.buffers).slot) l (victim_within t.buffers h) k;
+  cells = λ a b. cell_below t.memory page (address_of t.buffers (victim t.buffers).slot) a l (victim_within t.buffers h) (victim_above t.buffers a b);
 }
 memory_kept (AskOut (request.Write u)) t page l h k = record { size = l; cells = λ a b. refl }
 memory_kept (FaultOut f) t page l h k = record { size = l; cells = λ a b. refl }
@@ -124,21 +146,25 @@ record IsNearer (n w : ℕ) (s t : Whole) : Type 0 where
   fewer : left n t < left n s
   size : length t.memory ≡ 65536
   code : cell t.memory w ≡ n
+  end : limit t.buffers ≡ limit s.buffers
 
-nearer : (n w : ℕ) (s : Whole) (page : List ℕ) → AreOrderly s.buffers → length s.memory ≡ 65536 → cell s.memory w ≡ n → w + 2 ≤ 61440 → length page ≡ 1024 → device_asked (row n w s).1 ≡ true → IsNearer n w s (behind w (row n w s) page)
+nearer : (n w : ℕ) (s : Whole) (page : List ℕ) → AreOrderly s.buffers → length s.memory ≡ 65536 → cell s.memory w ≡ n → w + 2 ≤ limit s.buffers → length page ≡ 1024 → device_asked (row n w s).1 ≡ true → IsNearer n w s (behind w (row n w s) page)
 nearer n w s page h l code below k asks =
     let x : After = row n w s
     in let keeps : Keeps s x.0 = kept s x asks (behaves_row n w s).stops
     in let orderly : AreOrderly x.0.buffers = (behaves_row n w s).keeps h
-    in let same : IsKept x.0.memory (memory_behind x.1 x.0 page) = memory_kept x.1 x.0 page (ap length keeps.memory ∙ l) orderly.buffers k
-    in let at : (a : ℕ) → a + 2 ≤ 61440 → cell (memory_behind x.1 x.0 page) a ≡ cell s.memory a = λ a b. same.cells a b ∙ ap (λ (m : List ℕ). cell m a) keeps.memory
+    in let end : limit x.0.buffers ≡ limit s.buffers = limit_referenced s.buffers x.0.buffers keeps.buffers
+    in let least : 49152 ≤ limit s.buffers = omega (arith, limit_is (length s.buffers) h.buffers.count, h.buffers.count.1)
+    in let same : IsKept (limit x.0.buffers) x.0.memory (memory_behind x.1 x.0 page) = memory_kept x.1 x.0 page (ap length keeps.memory ∙ l) orderly.buffers k
+    in let at : (a : ℕ) → a + 2 ≤ limit s.buffers → cell (memory_behind x.1 x.0 page) a ≡ cell s.memory a = λ a b. same.cells a (omega (arith, end, b)) ∙ ap (λ (m : List ℕ). cell m a) keeps.memory
     in record {
-      fewer = fewer_requests n w s (behind w x page) h asks refl keeps.values (at BLK (omega arith)) (at SCR (omega arith));
+      fewer = fewer_requests n w s (behind w x page) h asks refl keeps.values (at BLK (omega (arith, least))) (at SCR (omega (arith, least)));
       size = same.size;
       code = at w below ∙ code;
+      end = limit_answered x.1 x.0.buffers orderly.buffers ∙ end;
     }
 
-nearer_token : (n w : ℕ) (s : Whole) (page : List ℕ) → AreOrderly s.buffers → length s.memory ≡ 65536 → cell s.memory w ≡ n → w + 2 ≤ 61440 → length page ≡ 1024 → device_asked (executed w s).1 ≡ true → IsNearer n w s (behind w (executed w s) page)
+nearer_token : (n w : ℕ) (s : Whole) (page : List ℕ) → AreOrderly s.buffers → length s.memory ≡ 65536 → cell s.memory w ≡ n → w + 2 ≤ limit s.buffers → length page ≡ 1024 → device_asked (executed w s).1 ≡ true → IsNearer n w s (behind w (executed w s) page)
 nearer_token n w s page h l code below k asks =
     let same : executed w s ≡ row n w s = executed_row w s asks ∙ ap (λ (c : ℕ). row c w s) code
     in let P : After → Type 0 = λ x. IsNearer n w s (behind w x page)
@@ -168,7 +194,7 @@ concluded_goes w (s, FaultOut f) q = cc
 concluded_goes w (s, Abort span) q = cc
 concluded_goes w (s, HaltOut) q = cc
 
-most : (pages : List (List ℕ)) (s : State) (n w : ℕ) → IsOrderly s → Runs s → length s.parts.memory ≡ 65536 → token_of s ≡ w → cell s.parts.memory w ≡ n → w + 2 ≤ 61440 → All IsPage pages → AreAsked s pages → length pages ≤ left n s.parts
+most : (pages : List (List ℕ)) (s : State) (n w : ℕ) → IsOrderly s → Runs s → length s.parts.memory ≡ 65536 → token_of s ≡ w → cell s.parts.memory w ≡ n → w + 2 ≤ limit s.parts.buffers → All IsPage pages → AreAsked s pages → length pages ≤ left n s.parts
 unfolding AreAsked ticked taken
 most [] s n w h runs l tok code below all asked = omega arith
 most (page ∷ pages) s n w h runs l tok code below all asked =
@@ -181,11 +207,12 @@ most (page ∷ pages) s n w h runs l tok code below all asked =
     in let is_next : ok_state t page ≡ next = concluded_behind v (executed v q) page device
     in let orderly : IsOrderly next = subst IsOrderly is_next (moved_orderly t (Answer (ok_to (asked_by t.wait) page)) (concluded_goes v (executed v q) device, ok_spelled (asked_by t.wait) page (All-head IsPage page pages all), ok_fits (asked_by t.wait) page asked.0) (moved_orderly s Tick runs h))
     in let code_q : cell q.memory v ≡ n = ap (λ (m : List ℕ). cell m v) same.memory ∙ ap (λ (a : ℕ). cell s.parts.memory a) tok ∙ code
-    in let near : IsNearer n v q (behind v (executed v q) page) = nearer_token n v q page (record { buffers = subst AreBuffers (sym same.buffers) h.buffers; once = subst HasNoBlockTwice (sym same.buffers) h.once }) (ap length same.memory ∙ l) code_q (subst IsBelowBuffers (sym tok) below) (All-head IsPage page pages all).0 device
-    in let rest : length pages ≤ left n next.parts = most pages next n v orderly (refl, refl) near.size refl near.code (subst IsBelowBuffers (sym tok) below) (All-tail IsPage page pages all) (subst (λ (x : State). AreAsked x pages) is_next asked.1)
+    in let at_q : v + 2 ≤ limit q.buffers = subst (λ (b : List Entry). v + 2 ≤ limit b) (sym same.buffers) (subst (λ (a : ℕ). a + 2 ≤ limit s.parts.buffers) (sym tok) below)
+    in let near : IsNearer n v q (behind v (executed v q) page) = nearer_token n v q page (record { buffers = subst AreBuffers (sym same.buffers) h.buffers; once = subst HasNoBlockTwice (sym same.buffers) h.once }) (ap length same.memory ∙ l) code_q at_q (All-head IsPage page pages all).0 device
+    in let rest : length pages ≤ left n next.parts = most pages next n v orderly (refl, refl) near.size refl near.code (subst (λ (k : ℕ). v + 2 ≤ k) (sym near.end) at_q) (All-tail IsPage page pages all) (subst (λ (x : State). AreAsked x pages) is_next asked.1)
     in omega (arith, rest, near.fewer, left_same n s.parts q same.memory same.values same.buffers)
 
-pub most_asked : (s : State) (pages : List (List ℕ)) → Runs s → IsOrderly s → length s.parts.memory ≡ 65536 → IsBelowBuffers (token_of s) → All IsPage pages → AreAsked s pages → length pages ≤ most_requests (cell s.parts.memory (token_of s)) s.parts
+pub most_asked : (s : State) (pages : List (List ℕ)) → Runs s → IsOrderly s → length s.parts.memory ≡ 65536 → IsBelowBuffers s (token_of s) → All IsPage pages → AreAsked s pages → length pages ≤ most_requests (cell s.parts.memory (token_of s)) s.parts
 most_asked s pages runs h l below all asked =
     let n : ℕ = cell s.parts.memory (token_of s)
     in omega (arith, most pages s n (token_of s) h runs l refl refl below all asked, left_most n s.parts)

@@ -1,7 +1,7 @@
 -- An answer to the request that stands.
 use Rattle.std.specs.Prelude.{◌≡◌, IsSome, IsOkAnd, IsErrOf, Result, ℕ, ◌<◌, All, List, ◌∷◌, Option, Some, None, Bool, true, false, not, ◌&&◌, ◌||◌, ◌==◌, length, nat_lt, nat_le, slice_index, drop, if◌then◌else◌}
 use Rattle.std.specs.List.{list_all}
-use Rattle.block_buffers.specs.Entries.{victim, assigned, unmarked, slot_of}
+use Rattle.block_buffers.specs.Entries.{address_of, victim, assigned, unmarked, slot_of}
 use Rattle.memory.specs.Bytes.{put_cell, put_bytes, page, with_page}
 use Rattle.memory.specs.declared.system.TheConstants.{SPAN}
 use Rattle.plain_rows.specs.Whole.{Whole}
@@ -110,8 +110,14 @@ input_stopped s cause = (halted s cause, record { shown = Nothing; event = Halt 
 
 -- a block's bytes: they go to the victim's buffer, which is assigned to the block and referenced; the token comes again
 unfoldable pub read_answered : Whole → ℕ → ℕ → List ℕ → State × Act
-read_answered s u w page =
-    (running (record s { memory = with_page s.memory (victim s.buffers).slot page; buffers = assigned u s.buffers; pending = Some w }), quiet)
+read_answered s u w page = (
+  running (record s {
+    memory = with_page s.memory (address_of s.buffers (victim s.buffers).slot) page;
+    buffers = assigned u s.buffers;
+    pending = Some w;
+  }),
+  quiet,
+)
 
 -- a block was written: it is no longer marked as updated; the token comes again
 unfoldable pub write_answered : Whole → ℕ → ℕ → State × Act
@@ -151,9 +157,13 @@ RefusesHalted old result = IsSome old.halt → IsErrOf result HaltedRefusal
 abbrev pub RefusesUnfit : State → Reply → Result Act Refused → Type 0
 RefusesUnfit old reply result = old.halt ≡ None → is_answer (asked_by old.wait) reply ≡ false → IsErrOf result NotAsked
 
+-- the bytes of block u's buffer
+abbrev pub buffered : Whole → ℕ → List ℕ
+buffered s u = page s.memory (address_of s.buffers (slot_of s.buffers u))
+
 -- the bytes of the block that a Write asks to keep
 abbrev pub page_asked : Whole → Request → Option (List ℕ)
-page_asked s (request.Write u) = Some (page s.memory (slot_of s.buffers u))
+page_asked s (request.Write u) = Some (buffered s u)
 page_asked s _ = None
 
 abbrev pub asked_page : State → Option (List ℕ)

@@ -1,6 +1,6 @@
 -- Requests of the device that are answered Ok, one after another.
 use Rattle.std.specs.Prelude.{ℕ, ◌+◌, ◌≡◌, ◌<◌, ◌≤◌, All, List, [], ◌∷◌, Option, Some, Bool, true, false, IsTrue, IsFalse, length}
-use Rattle.block_buffers.specs.Entries.{holds, AreBuffers, HasNoBlockTwice}
+use Rattle.block_buffers.specs.Entries.{limit, holds, AreBuffers, HasNoBlockTwice}
 use Rattle.plain_rows.specs.declared.parts.Request.{Request}
 use Rattle.plain_rows.specs.declared.parts.Request.TheVariants as request
 use Rattle.inner_interpreter.specs.State.{State}
@@ -44,6 +44,6 @@ IsPage page = (length page ≡ 1024) × All (λ b. b < 256) page
 abbrev pub token_of : State → ℕ
 token_of s = (taken s.parts).0
 
--- the cell at w is below the buffers
-abbrev pub IsBelowBuffers : ℕ → Type 0
-IsBelowBuffers w = w + 2 ≤ 61440
+-- the cell at w is below the machine's buffers
+abbrev pub IsBelowBuffers : State → ℕ → Type 0
+IsBelowBuffers s w = w + 2 ≤ limit s.parts.buffers

@@ -40,7 +40,7 @@ pub fn orderly_law()
 /// A token whose code field is below the buffers asks its device, where each request is answered Ok, at most twice for
 /// each block that its row needs; BUFFER once; SAVE-BUFFERS and FLUSH once for each updated buffer.
 pub fn requests_law()
-    ensures { (s : State) (pages : List (List ℕ)) → Runs s → IsOrderly s → length s.parts.memory ≡ 65536 → IsBelowBuffers (token_of s) → All IsPage pages → AreAsked s pages → length pages ≤ most_requests (cell s.parts.memory (token_of s)) s.parts }
+    ensures { (s : State) (pages : List (List ℕ)) → Runs s → IsOrderly s → length s.parts.memory ≡ 65536 → IsBelowBuffers s (token_of s) → All IsPage pages → AreAsked s pages → length pages ≤ most_requests (cell s.parts.memory (token_of s)) s.parts }
 {}
 
 /// What a host sees of a machine is what the written moves leave: whatever calls it makes of `tick`, `answer` and

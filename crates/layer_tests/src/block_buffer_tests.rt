@@ -23,9 +23,15 @@ fn assert_entries(rt: &impl Abort, buffers: &Buffers, wanted: [Entry; 4]) {
     }
 }
 
+fn clean(buffers: &mut Buffers, slot: usize) {
+    if slot < usize::from(buffers.count()) {
+        buffers.clean(slot);
+    }
+}
+
 /// Blocks 1 to 4, each read and updated, fill the slots 0 to 3.
 fn four_updated() -> Buffers {
-    let mut buffers = Buffers::new();
+    let mut buffers = Buffers::new(4);
     for block in 1..5 {
         buffers.assign(block);
         buffers.mark_front();
@@ -37,7 +43,7 @@ fn four_updated() -> Buffers {
 fn updated_victim_is_written_and_given_away(rt: HostRuntime) {
     let mut buffers = four_updated();
     assert_equal(&rt, buffers.victim(), entry(0, Some(1), true));
-    buffers.clean(0);
+    clean(&mut buffers, 0);
     assert_equal(&rt, buffers.victim(), entry(0, Some(1), false));
     buffers.assign(5);
     let wanted = [
@@ -57,7 +63,7 @@ fn updated_victim_is_written_and_given_away(rt: HostRuntime) {
 /// Six references from two below the greatest stamp on: the stamps are numbered anew on the way, and no one sees it.
 #[test]
 fn stamps_that_run_out(rt: HostRuntime) {
-    let mut buffers = buffers_from(u64::MAX - 2);
+    let mut buffers = buffers_from(4, u64::MAX - 2);
     for block in 1..5 {
         buffers.assign(block);
     }
@@ -93,7 +99,7 @@ fn lowest_slot_is_written_first(rt: HostRuntime) {
     assert!(rt; buffers.find(1).is_some());
     buffers.touch(1);
     assert_equal(&rt, buffers.first_dirty(), Some(entry(0, Some(1), true)));
-    buffers.clean(0);
+    clean(&mut buffers, 0);
     assert_equal(&rt, buffers.first_dirty(), Some(entry(1, Some(2), true)));
     buffers.unmark(9);
     assert_equal(&rt, buffers.first_dirty(), Some(entry(1, Some(2), true)));

@@ -11,6 +11,9 @@ use memory::Memory;
 use std::alloc::Global;
 use std::process::Abort;
 
+/// Where four block buffers begin.
+const LIMIT: u16 = 61440;
+
 /// Memory of zeros with HERE at `here`, and in each runtime cell k the address 1,000 + k.
 fn memory_at(alloc: Global, rt: &impl Abort, here: u16) -> Memory {
     let mut memory = Memory::new(alloc).expect(rt, "memory");
@@ -37,11 +40,11 @@ fn if_else_then(rt: HostRuntime) {
     memory.set_cell(78, 700);
     memory.set_cell(80, 800);
     let zero_branch = runtime(&memory, Control::ZeroBranch);
-    assert_equal(&rt, comma(&mut memory, zero_branch), Ok(()));
-    assert_equal(&rt, mark_forward(&mut memory), Ok(292));
+    assert_equal(&rt, comma(&mut memory, zero_branch, LIMIT), Ok(()));
+    assert_equal(&rt, mark_forward(&mut memory, LIMIT), Ok(292));
     let branch = runtime(&memory, Control::Branch);
-    assert_equal(&rt, comma(&mut memory, branch), Ok(()));
-    assert_equal(&rt, mark_forward(&mut memory), Ok(296));
+    assert_equal(&rt, comma(&mut memory, branch, LIMIT), Ok(()));
+    assert_equal(&rt, mark_forward(&mut memory, LIMIT), Ok(296));
     resolve_forward(&mut memory, 292);
     resolve_forward(&mut memory, 296);
     // 800, 298, 700, 298
@@ -59,11 +62,11 @@ fn branches_back(rt: HostRuntime) {
     let mut memory = memory_at(rt.alloc(), &rt, 300);
     let a = mark_back(&memory);
     assert_equal(&rt, a, 300);
-    assert_equal(&rt, lay(&mut memory, b"AB"), Ok(300));
+    assert_equal(&rt, lay(&mut memory, b"AB", LIMIT), Ok(300));
     let code = control_code(&memory, Control::Branch, a);
     // 1007, 300
-    assert_equal(&rt, lay(&mut memory, &code), Ok(302));
-    assert_equal(&rt, resolve_back(&mut memory, a), Ok(()));
+    assert_equal(&rt, lay(&mut memory, &code, LIMIT), Ok(302));
+    assert_equal(&rt, resolve_back(&mut memory, a, LIMIT), Ok(()));
     assert_laid(&rt, &memory, 300, &[65, 66, 0xEF, 3, 0x2C, 1, 0x2C, 1], 308);
 }
 
@@ -92,18 +95,18 @@ fn runtime_cells(rt: HostRuntime) {
 fn bytes_at_the_end(rt: HostRuntime) {
     let mut memory = memory_at(rt.alloc(), &rt, 61439);
     memory.set_bytes(61438, b"XYZ");
-    assert_equal(&rt, comma(&mut memory, 0x4142), Err(Full));
-    assert_equal(&rt, mark_forward(&mut memory), Err(Full));
-    assert_equal(&rt, resolve_back(&mut memory, 0x4142), Err(Full));
+    assert_equal(&rt, comma(&mut memory, 0x4142, LIMIT), Err(Full));
+    assert_equal(&rt, mark_forward(&mut memory, LIMIT), Err(Full));
+    assert_equal(&rt, resolve_back(&mut memory, 0x4142, LIMIT), Err(Full));
     assert_laid(&rt, &memory, 61438, b"XYZ", 61439);
-    assert_equal(&rt, comma_byte(&mut memory, 0x41), Ok(()));
+    assert_equal(&rt, comma_byte(&mut memory, 0x41, LIMIT), Ok(()));
     assert_laid(&rt, &memory, 61438, b"XAZ", 61440);
-    assert_equal(&rt, comma_byte(&mut memory, 0x42), Err(Full));
-    assert_equal(&rt, lay(&mut memory, b""), Ok(61440));
+    assert_equal(&rt, comma_byte(&mut memory, 0x42, LIMIT), Err(Full));
+    assert_equal(&rt, lay(&mut memory, b"", LIMIT), Ok(61440));
     assert_laid(&rt, &memory, 61438, b"XAZ", 61440);
     memory.set_cell(28, 65535);
-    assert_equal(&rt, comma_byte(&mut memory, 0x42), Err(Full));
-    assert_equal(&rt, lay(&mut memory, b""), Err(Full));
+    assert_equal(&rt, comma_byte(&mut memory, 0x42, LIMIT), Err(Full));
+    assert_equal(&rt, lay(&mut memory, b"", LIMIT), Err(Full));
     assert_laid(&rt, &memory, 65535, &[0, 0], 65535);
 }
 
@@ -111,11 +114,15 @@ fn bytes_at_the_end(rt: HostRuntime) {
 fn dp_is_written_behind_the_bytes(rt: HostRuntime) {
     // The cell 0x0102 at 27 and 28, and then DP, which is at 28 and 29.
     let mut memory = memory_at(rt.alloc(), &rt, 27);
-    assert_equal(&rt, comma(&mut memory, 0x0102), Ok(()));
+    assert_equal(&rt, comma(&mut memory, 0x0102, LIMIT), Ok(()));
     assert_laid(&rt, &memory, 27, &[2, 29, 0], 29);
     // 1016, the count 2 and `ab` from 25 on: `b` is at 29, and DP goes over both.
     let mut memory = memory_at(rt.alloc(), &rt, 25);
-    assert_equal(&rt, inline_text(&mut memory, TextWord::Show, b"ab"), Ok(()));
+    assert_equal(
+        &rt,
+        inline_text(&mut memory, TextWord::Show, b"ab", LIMIT),
+        Ok(()),
+    );
     assert_laid(&rt, &memory, 25, &[0xF8, 3, 2, 30, 0], 30);
 }
 
@@ -143,12 +150,12 @@ fn here_moves(rt: HostRuntime) {
         let n = n.cast_unsigned();
         assert_equal(
             &rt,
-            (here, n, can_allot(&memory, n)),
+            (here, n, can_allot(&memory, n, LIMIT)),
             (here, n, want.is_ok()),
         );
         assert_equal(
             &rt,
-            (here, n, allot(&mut memory, n).is_ok()),
+            (here, n, allot(&mut memory, n, LIMIT).is_ok()),
             (here, n, want.is_ok()),
         );
         assert_equal(
@@ -166,7 +173,7 @@ fn literals(rt: HostRuntime) {
         let mut memory = memory_at(rt.alloc(), &rt, here);
         assert_equal(
             &rt,
-            (here, literal(&mut memory, 0x1234).is_ok()),
+            (here, literal(&mut memory, 0x1234, LIMIT).is_ok()),
             (here, fits),
         );
         if fits {
@@ -191,15 +198,23 @@ fn texts(rt: HostRuntime) {
     ];
     for (word, want) in table {
         let mut memory = memory_at(rt.alloc(), &rt, 61434);
-        assert_equal(&rt, inline_text(&mut memory, word, b"bad"), Ok(()));
+        assert_equal(&rt, inline_text(&mut memory, word, b"bad", LIMIT), Ok(()));
         assert_laid(&rt, &memory, 61434, &want, 61440);
         let mut memory = memory_at(rt.alloc(), &rt, 61435);
-        assert_equal(&rt, inline_text(&mut memory, word, b"bad"), Err(Full));
+        assert_equal(
+            &rt,
+            inline_text(&mut memory, word, b"bad", LIMIT),
+            Err(Full),
+        );
         assert_laid(&rt, &memory, 61435, &[0, 0, 0, 0, 0, 0], 61435);
-        assert_equal(&rt, inline_text(&mut memory, word, b""), Ok(()));
+        assert_equal(&rt, inline_text(&mut memory, word, b"", LIMIT), Ok(()));
         assert_equal(&rt, memory.cell(28), 61438);
         let mut memory = memory_at(rt.alloc(), &rt, 300);
-        assert_equal(&rt, inline_text(&mut memory, word, &[7; 255]), Ok(()));
+        assert_equal(
+            &rt,
+            inline_text(&mut memory, word, &[7; 255], LIMIT),
+            Ok(()),
+        );
         assert_laid(&rt, &memory, 302, &[255, 7], 558);
         assert_laid(&rt, &memory, 557, &[7, 0], 558);
     }
@@ -213,7 +228,7 @@ fn definition_begins_and_ends(rt: HostRuntime) {
     memory.set_cell(34, 42);
     // G is 71, so its class is 3.
     memory.set_cell(48, 279);
-    assert_equal(&rt, begin_definition(&mut memory, b"GO"), Ok(()));
+    assert_equal(&rt, begin_definition(&mut memory, b"GO", LIMIT), Ok(()));
     assert_laid(&rt, &memory, 290, &[7, 0, 0x17, 1, 0xA2, 71, 79, 1, 0], 299);
     assert_equal(&rt, (memory.cell(48), memory.cell(30)), (292, 292));
     assert_equal(
@@ -221,7 +236,7 @@ fn definition_begins_and_ends(rt: HostRuntime) {
         (memory.cell(16), memory.cell(32), memory.cell(34)),
         (65535, 42, 42),
     );
-    assert_equal(&rt, end_definition(&mut memory), Ok(()));
+    assert_equal(&rt, end_definition(&mut memory, LIMIT), Ok(()));
     assert_laid(
         &rt,
         &memory,
@@ -238,26 +253,26 @@ fn definitions_that_are_refused(rt: HostRuntime) {
     memory.set_cell(34, 42);
     assert_equal(
         &rt,
-        begin_definition(&mut memory, b""),
+        begin_definition(&mut memory, b"", LIMIT),
         Err(AddFault::NameLength),
     );
     assert_equal(
         &rt,
-        begin_definition(&mut memory, &[65; 32]),
+        begin_definition(&mut memory, &[65; 32], LIMIT),
         Err(AddFault::NameLength),
     );
-    assert_equal(&rt, begin_definition(&mut memory, &[65; 31]), Ok(()));
+    assert_equal(&rt, begin_definition(&mut memory, &[65; 31], LIMIT), Ok(()));
     assert_equal(&rt, memory.cell(28), 61440);
     let mut memory = memory_at(rt.alloc(), &rt, 61403);
     memory.set_cell(34, 42);
     assert_equal(
         &rt,
-        begin_definition(&mut memory, &[65; 32]),
+        begin_definition(&mut memory, &[65; 32], LIMIT),
         Err(AddFault::NameLength),
     );
     assert_equal(
         &rt,
-        begin_definition(&mut memory, &[65; 31]),
+        begin_definition(&mut memory, &[65; 31], LIMIT),
         Err(AddFault::Full),
     );
     assert_equal(
@@ -267,10 +282,10 @@ fn definitions_that_are_refused(rt: HostRuntime) {
     );
     memory.set_cell(28, 61439);
     memory.set_cell(16, 9);
-    assert_equal(&rt, end_definition(&mut memory), Err(Full));
+    assert_equal(&rt, end_definition(&mut memory, LIMIT), Err(Full));
     assert_equal(&rt, (memory.cell(28), memory.cell(16)), (61439, 9));
     memory.set_cell(28, 61438);
-    assert_equal(&rt, end_definition(&mut memory), Ok(()));
+    assert_equal(&rt, end_definition(&mut memory, LIMIT), Ok(()));
     assert_equal(&rt, (memory.cell(28), memory.cell(16)), (61440, 0));
 }
 
@@ -280,13 +295,13 @@ fn count_byte_is_read_before_exit_is_laid(rt: HostRuntime) {
     let mut memory = memory_at(rt.alloc(), &rt, 300);
     memory.set_cell(30, 298);
     memory.set_byte(300, 0xA5);
-    assert_equal(&rt, end_definition(&mut memory), Ok(()));
+    assert_equal(&rt, end_definition(&mut memory, LIMIT), Ok(()));
     assert_laid(&rt, &memory, 300, &[0x85, 3], 302);
     // LAST is read before too: 298 is at 30, where EXIT's address goes.
     let mut memory = memory_at(rt.alloc(), &rt, 30);
     memory.set_cell(30, 298);
     memory.set_byte(300, 0xA5);
-    assert_equal(&rt, end_definition(&mut memory), Ok(()));
+    assert_equal(&rt, end_definition(&mut memory, LIMIT), Ok(()));
     assert_laid(&rt, &memory, 30, &[0xED, 3], 32);
     assert_equal(&rt, memory.byte(300), 0x85);
 }

@@ -11,6 +11,9 @@ use std::alloc::Global;
 use std::process::Abort;
 use std::test::Fail;
 
+/// Where four block buffers begin.
+const LIMIT: u16 = 61440;
+
 // The helpers have no contracts, so that a test's proof has little to read.
 
 fn set_cells(memory: &mut Memory, cells: &[(u16, u16)]) {
@@ -72,7 +75,7 @@ fn add(rt: &impl Abort, memory: &mut Memory, name: &str, code: u16, extra: &[u8]
         rt,
         (
             name,
-            add_header(memory, name.as_bytes(), code, extra, false),
+            add_header(memory, name.as_bytes(), code, extra, false, LIMIT),
         ),
         (name, Ok(())),
     );
@@ -86,7 +89,7 @@ fn add_to(rt: &impl Abort, memory: &mut Memory, voc: u16, name: &str) {
 fn add_voc(rt: &impl Abort, memory: &mut Memory, name: &str) {
     assert_equal(
         rt,
-        (name, add_vocabulary(memory, name.as_bytes())),
+        (name, add_vocabulary(memory, name.as_bytes(), LIMIT)),
         (name, Ok(())),
     );
 }
@@ -101,14 +104,18 @@ fn assert_add(
     let size = name.len();
     assert_equal(
         rt,
-        (size, add_header(memory, name, 2, extra, false)),
+        (size, add_header(memory, name, 2, extra, false, LIMIT)),
         (size, wanted),
     );
 }
 
 fn assert_add_voc(rt: &impl Abort, memory: &mut Memory, name: &[u8], wanted: Result<(), AddFault>) {
     let size = name.len();
-    assert_equal(rt, (size, add_vocabulary(memory, name)), (size, wanted));
+    assert_equal(
+        rt,
+        (size, add_vocabulary(memory, name, LIMIT)),
+        (size, wanted),
+    );
 }
 
 fn assert_find(
@@ -232,7 +239,11 @@ fn added_headers_are_the_bytes_written_by_hand(rt: HostRuntime) -> Result<(), Fa
 #[test]
 fn hidden_header_is_passed_over(rt: HostRuntime) -> Result<(), Fail> {
     let mut memory = three_words(rt.alloc())?;
-    assert_equal(&rt, add_header(&mut memory, b"GO", 1, &[], true), Ok(()));
+    assert_equal(
+        &rt,
+        add_header(&mut memory, b"GO", 1, &[], true, LIMIT),
+        Ok(()),
+    );
     assert_bytes(&rt, &memory, 294, &[162]);
     assert_equal(&rt, newest_count(&memory), 294);
     assert_found(&rt, &memory, &[("GO", Some(284))]);
@@ -356,11 +367,14 @@ fn empty_name_walks_no_chain(rt: HostRuntime) -> Result<(), Fail> {
 }
 
 #[test]
-fn dictionary_ends_at_61440(rt: HostRuntime) -> Result<(), Fail> {
+fn dictionary_ends_where_the_buffers_begin(rt: HostRuntime) -> Result<(), Fail> {
     let mut memory = no_words(rt.alloc())?;
     memory.set_cell(DP, 61431);
-    assert!(rt; fits(&memory, 9));
-    assert!(rt; !fits(&memory, 10));
+    assert!(rt; fits(&memory, 9, LIMIT));
+    assert!(rt; !fits(&memory, 10, LIMIT));
+    assert!(rt; fits(&memory, 2057, 63488));
+    assert!(rt; !fits(&memory, 2058, 63488));
+    assert!(rt; !fits(&memory, 0, 49152));
     assert_add(&rt, &mut memory, b"AB", &[0], Err(AddFault::Full));
     assert_add_voc(&rt, &mut memory, b"AB", Err(AddFault::Full));
     assert_add_voc(&rt, &mut memory, &[], Err(AddFault::NameLength));
@@ -377,7 +391,7 @@ fn dictionary_ends_at_61440(rt: HostRuntime) -> Result<(), Fail> {
 fn bytes_are_laid_over_the_end_of_memory(rt: HostRuntime) -> Result<(), Fail> {
     let mut memory = no_words(rt.alloc())?;
     memory.set_cell(DP, 65535);
-    assert!(rt; !fits(&memory, 0));
+    assert!(rt; !fits(&memory, 0, LIMIT));
     lay_at(&mut memory, 65535, &[1, 2]);
     assert_cells(&rt, &memory, &[(65535, 513), (DP, 1)]);
     Ok(())

@@ -50,7 +50,7 @@ fn words_of_the_terminal(rt: HostRuntime) {
     ];
     for (in_place, (at, len, next)) in table {
         let memory = typed(rt.alloc(), &rt, b"  AB C", in_place);
-        let stream = stream(&memory, &Buffers::new()).expect(&rt, "the terminal");
+        let stream = stream(&memory, &Buffers::new(4)).expect(&rt, "the terminal");
         assert_equal(&rt, (stream.at, stream.size), (128, 6));
         assert_equal(
             &rt,
@@ -72,7 +72,7 @@ fn parsing_does_not_skip(rt: HostRuntime) {
         (9, (8, 0, 8)),
     ];
     let memory = typed(rt.alloc(), &rt, b"( ab) )x", 0);
-    let source = stream(&memory, &Buffers::new()).expect(&rt, "the terminal");
+    let source = stream(&memory, &Buffers::new(4)).expect(&rt, "the terminal");
     for (place, (at, len, next)) in table {
         let later = Stream { place, ..source };
         assert_equal(
@@ -94,7 +94,7 @@ fn stream_goes_on_at_address_0(rt: HostRuntime) {
     memory.set_cell(24, 65535);
     memory.set_cell(28, 300);
     memory.set_bytes(65534, b"ABCD");
-    let source = stream(&memory, &Buffers::new()).expect(&rt, "the terminal");
+    let source = stream(&memory, &Buffers::new(4)).expect(&rt, "the terminal");
     assert_equal(&rt, source, source_at(128, 65535, 0));
     // No `)`: all bytes but the one at 127.
     assert_equal(&rt, parse_to(&memory, source, 41), word(0, 65535, 65535));
@@ -109,7 +109,7 @@ fn stream_goes_on_at_address_0(rt: HostRuntime) {
 #[test]
 fn blocks_are_found(rt: HostRuntime) {
     let mut memory = typed(rt.alloc(), &rt, b"typed", 1000);
-    let mut buffers = Buffers::new();
+    let mut buffers = Buffers::new(4);
     memory.set_cell(22, 9);
     assert_equal(&rt, stream(&memory, &buffers), Err(NeedsBlock));
     buffers.assign(1);
@@ -140,7 +140,7 @@ fn blocks_are_found(rt: HostRuntime) {
 #[test]
 fn word_at_the_end_of_a_block(rt: HostRuntime) {
     let mut memory = typed(rt.alloc(), &rt, b"", 1000);
-    let mut buffers = Buffers::new();
+    let mut buffers = Buffers::new(4);
     buffers.assign(1);
     memory.set_cell(22, 1);
     memory.fill(61440, 1024, 32);
@@ -161,7 +161,7 @@ fn long_words_are_refused(rt: HostRuntime) {
     ];
     for (len, next, want) in table {
         let mut memory = typed(rt.alloc(), &rt, b"", 0);
-        let mut buffers = Buffers::new();
+        let mut buffers = Buffers::new(4);
         buffers.assign(1);
         memory.set_cell(22, 1);
         memory.fill(61440, 1024, 32);
@@ -192,7 +192,7 @@ fn words_are_read_before_memory_is_written(rt: HostRuntime) {
     // The word stands where its count and its own bytes go.
     let mut memory = typed(rt.alloc(), &rt, b"  AB", 0);
     memory.set_cell(28, 130);
-    let source = stream(&memory, &Buffers::new()).expect(&rt, "the terminal");
+    let source = stream(&memory, &Buffers::new(4)).expect(&rt, "the terminal");
     let found = next_word(&memory, source, 32);
     assert_equal(&rt, place_word(&mut memory, source, found), Ok(130));
     assert_bytes(&rt, &memory, 130, b"\x02AB ");
@@ -207,7 +207,7 @@ fn words_are_read_before_memory_is_written(rt: HostRuntime) {
 #[test]
 fn words_are_placed_over_cells(rt: HostRuntime) {
     let mut memory = typed(rt.alloc(), &rt, b"CD", 0);
-    let source = stream(&memory, &Buffers::new()).expect(&rt, "the terminal");
+    let source = stream(&memory, &Buffers::new(4)).expect(&rt, "the terminal");
     // >IN is written first, and then the word over it.
     memory.set_cell(28, 19);
     assert_equal(&rt, place_word(&mut memory, source, word(0, 2, 2)), Ok(19));

@@ -34,7 +34,7 @@ use Rattle.metacompiler.specs.Stages.{Inside, body_at}
 use Rattle.metacompiler.specs.Faults.{InBody, FirstCause, rank, refusal}
 use Rattle.metacompiler.specs.Built.{Built}
 use Rattle.metacompiler.specs.Names.{newest_first}
-use Rattle.metacompiler.specs.State.{IsState, Goes, IsSame, Finishes}
+use Rattle.metacompiler.specs.State.{IsState, Goes, IsSame, Ends}
 use Rattle.metacompiler.proofs.Taking.{whole as whole_item}
 
 -- one more word's meaning
@@ -110,9 +110,11 @@ body_fault limit t p w before after x e d m q f =
       }))
     ]
 
-pub same_built : (b new : Build) (t : Items) → Built b t → IsSame b new → Built new t
+pub same_built : {limit : ℕ} (b new : Build) (t : Items) → Built limit b t → IsSame b new → Built limit new t
 same_built b new t h k =
     record {
+      limit_is = k.limit ∙ h.limit_is;
+      limited = h.limited;
       laid = ap (λ v. v.items) k.image ∙ h.laid;
       named = ap (λ v. newest_first v.items) k.names ∙ h.named;
       runtime = ap (λ v. slice_index v.items) k.runtime ∙ h.runtime;
@@ -122,10 +124,10 @@ same_built b new t h k =
       boot_is = k.boot ∙ h.boot_is;
     }
 
-pub inside_goes : (b new : Build) (t : Items) (ws : List Place) (s : Title) (p w : Place) (before : List Token) (x : Token) (h : IsState b t ws (Inside p before)) → IsTitle s.screen s.name.items p → IsSame b new → meaning (rules.half_of Free before) t w ≡ Ok x → BodyGoes (controls t) (body_at t p) 61440 h.drafts.outer h.drafts.body h.drafts.half x new.draft → Goes new (g.Inside s) t ws w
-inside_goes b new t ws s p w before x h titled k m f =
+pub inside_goes : {limit : ℕ} (b new : Build) (t : Items) (ws : List Place) (s : Title) (p w : Place) (before : List Token) (x : Token) (h : IsState limit b t ws (Inside p before)) → IsTitle s.screen s.name.items p → IsSame b new → meaning (rules.half_of Free before) t w ≡ Ok x → BodyGoes (controls t) (body_at t p) limit h.drafts.outer h.drafts.body h.drafts.half x new.draft → Goes limit new (g.Inside s) t ws w
+inside_goes {limit} b new t ws s p w before x h titled k m f =
     let i = h.begun in
-    let d = goes_on (controls t) (body_at t p) 61440 before x b.draft new.draft h.drafts f in
+    let d = goes_on (controls t) (body_at t p) limit before x b.draft new.draft h.drafts f in
     record {
       items = t;
       words = ws ++ w ∷ [];
@@ -142,13 +144,13 @@ inside_goes b new t ws s p w before x h titled k m f =
           leads = i.leads;
           short = i.short;
           means = meanings_ok t i.inner before w x i.means m;
-          fits = fronts (controls t) (body_at t p) 61440 (before ++ x ∷ []) new.draft d;
+          fits = fronts (controls t) (body_at t p) limit (before ++ x ∷ []) new.draft d;
         };
       };
       front = refl;
     }
 
-pub ends_goes : (b new : Build) (t : Items) (ws : List Place) (p w : Place) (before : List Token) (h : IsState b t ws (Inside p before)) → meaning (rules.half_of Free before) t w ≡ Ok SEMI → Finishes t p before new → Goes new g.Whole t ws w
+pub ends_goes : {limit : ℕ} (b new : Build) (t : Items) (ws : List Place) (p w : Place) (before : List Token) (h : IsState limit b t ws (Inside p before)) → meaning (rules.half_of Free before) t w ≡ Ok SEMI → Ends limit t p before new → Goes limit new g.Whole t ws w
 ends_goes b new t ws p w before h m f =
     let i = h.begun in
     whole_item new t ws w (Colon p f.body) (f.built (ws ++ w ∷ [])) h.sound
@@ -166,59 +168,62 @@ ends_goes b new t ws p w before h m f =
     f.drafts
 
 -- the half that the draft keeps is that of the words
-pub half_is : (b : Build) (t : Items) (ws : List Place) (p : Place) (before : List Token) (h : IsState b t ws (Inside p before)) → b.draft.half ≡ rules.half_of Free before
+pub half_is : {limit : ℕ} (b : Build) (t : Items) (ws : List Place) (p : Place) (before : List Token) (h : IsState limit b t ws (Inside p before)) → b.draft.half ≡ rules.half_of Free before
 half_is b t ws p before h =
     let d = h.drafts in
     d.is.half_is ∙ sym (ap (rules.half_of Free) d.front ∙ half-open d.outer d.body d.half)
 
 -- the draft's address and runtime cells, as the code has them
-pub draft_in : (b : Build) (t : Items) (ws : List Place) (p : Place) (before : List Token) (at : ℕ) (h : IsState b t ws (Inside p before)) → at ≡ body_at t p → Drafts (slice_index b.runtime.items) at h.drafts.outer h.drafts.body h.drafts.half b.draft
+pub draft_in : {limit : ℕ} (b : Build) (t : Items) (ws : List Place) (p : Place) (before : List Token) (at : ℕ) (h : IsState limit b t ws (Inside p before)) → at ≡ body_at t p → Drafts (slice_index b.runtime.items) at h.drafts.outer h.drafts.body h.drafts.half b.draft
 draft_in b t ws p before at h e =
     let d = h.drafts in
     let i = h.built in
     subst (λ r. Drafts r at d.outer d.body d.half b.draft) (sym i.runtime)
     (subst (λ a. Drafts (controls t) a d.outer d.body d.half b.draft) (sym e) d.is)
 
-pub goes_out : (b new : Build) (t : Items) (p : Place) (at : ℕ) (o : Outer) (u : Body) (h : Half) (x : Token) → Built b t → at ≡ body_at t p → BodyGoes (slice_index b.runtime.items) at 61440 o u h x new.draft → BodyGoes (controls t) (body_at t p) 61440 o u h x new.draft
-goes_out b new t p at o u h x i e g =
-    subst (λ r. BodyGoes r (body_at t p) 61440 o u h x new.draft) i.runtime
-    (subst (λ a. BodyGoes (slice_index b.runtime.items) a 61440 o u h x new.draft) e g)
+pub goes_out : {limit : ℕ} (b new : Build) (t : Items) (p : Place) (at : ℕ) (o : Outer) (u : Body) (h : Half) (x : Token) → Built limit b t → at ≡ body_at t p → BodyGoes (slice_index b.runtime.items) at b.limit o u h x new.draft → BodyGoes (controls t) (body_at t p) limit o u h x new.draft
+goes_out {limit} b new t p at o u h x i e g =
+    subst (λ l. BodyGoes (controls t) (body_at t p) l o u h x new.draft) i.limit_is
+    (subst (λ r. BodyGoes r (body_at t p) b.limit o u h x new.draft) i.runtime
+    (subst (λ a. BodyGoes (slice_index b.runtime.items) a b.limit o u h x new.draft) e g))
 
-pub cause_out : (b : Build) (t : Items) (ws : List Place) (p : Place) (before : List Token) (at : ℕ) (d : BodyCause) (x : Token) (h : IsState b t ws (Inside p before)) → at ≡ body_at t p → body.FirstCause (slice_index b.runtime.items) at 61440 d (open_words h.drafts.outer h.drafts.body h.drafts.half) x → body.FirstCause (controls t) (body_at t p) 61440 d before x
-cause_out b t ws p before at d x h e f =
+pub cause_out : {limit : ℕ} (b : Build) (t : Items) (ws : List Place) (p : Place) (before : List Token) (at : ℕ) (d : BodyCause) (x : Token) (h : IsState limit b t ws (Inside p before)) → at ≡ body_at t p → body.FirstCause (slice_index b.runtime.items) at b.limit d (open_words h.drafts.outer h.drafts.body h.drafts.half) x → body.FirstCause (controls t) (body_at t p) limit d before x
+cause_out {limit} b t ws p before at d x h e f =
     let g = h.drafts in
     let i = h.built in
-    subst (λ l. body.FirstCause (controls t) (body_at t p) 61440 d l x) (sym g.front)
-    (subst (λ r. body.FirstCause r (body_at t p) 61440 d (open_words g.outer g.body g.half) x) i.runtime
-    (subst (λ a. body.FirstCause (slice_index b.runtime.items) a 61440 d (open_words g.outer g.body g.half) x) e f))
+    subst (λ l. body.FirstCause (controls t) (body_at t p) limit d l x) (sym g.front)
+    (subst (λ n. body.FirstCause (controls t) (body_at t p) n d (open_words g.outer g.body g.half) x) i.limit_is
+    (subst (λ r. body.FirstCause r (body_at t p) b.limit d (open_words g.outer g.body g.half) x) i.runtime
+    (subst (λ a. body.FirstCause (slice_index b.runtime.items) a b.limit d (open_words g.outer g.body g.half) x) e f)))
 
-pub word_fault : (b : Build) (t : Items) (ws : List Place) (p w : Place) (before : List Token) (after : List Place) (at : ℕ) (x : Token) (e : Cause) (h : IsState b t ws (Inside p before)) → at ≡ body_at t p → meaning (rules.half_of Free before) t w ≡ Ok x → (e ≡ c.OutOfMemory) ⊎ ((d : BodyCause) × (e ≡ cause_of d) × body.FirstCause (slice_index b.runtime.items) at 61440 d (open_words h.drafts.outer h.drafts.body h.drafts.half) x) → (e ≡ c.OutOfMemory) ⊎ FirstCause 61440 t (Inside p before) w after e
+pub word_fault : {limit : ℕ} (b : Build) (t : Items) (ws : List Place) (p w : Place) (before : List Token) (after : List Place) (at : ℕ) (x : Token) (e : Cause) (h : IsState limit b t ws (Inside p before)) → at ≡ body_at t p → meaning (rules.half_of Free before) t w ≡ Ok x → (e ≡ c.OutOfMemory) ⊎ ((d : BodyCause) × (e ≡ cause_of d) × body.FirstCause (slice_index b.runtime.items) at b.limit d (open_words h.drafts.outer h.drafts.body h.drafts.half) x) → (e ≡ c.OutOfMemory) ⊎ FirstCause limit t (Inside p before) w after e
 word_fault b t ws p w before after at x e h q m (inl z) = inl z
-word_fault b t ws p w before after at x e h q m (inr z) = body_fault 61440 t p w before after x e z.0 m z.1 (cause_out b t ws p before at z.0 x h q z.2)
+word_fault {limit} b t ws p w before after at x e h q m (inr z) = body_fault limit t p w before after x e z.0 m z.1 (cause_out b t ws p before at z.0 x h q z.2)
 
 -- where the body of a titled definition begins
-pub at_title : (b : Build) (t : Items) (p : Place) (name : List ℕ) (here n : ℕ) → Built b t → here ≡ length b.image.items + 256 → n ≡ length name → p.name ≡ name → here + 7 + n ≡ body_at t p
+pub at_title : {limit : ℕ} (b : Build) (t : Items) (p : Place) (name : List ℕ) (here n : ℕ) → Built limit b t → here ≡ length b.image.items + 256 → n ≡ length name → p.name ≡ name → here + 7 + n ≡ body_at t p
 at_title b t p name here n h e l q = let z = built_end b t h in let k = ap length q in omega arith
 
-pub at_is : (b : Build) (t : Items) (p : Place) (here : ℕ) → Built b t → here ≡ length b.image.items + 256 → here + 7 + length p.name ≡ body_at t p
+pub at_is : {limit : ℕ} (b : Build) (t : Items) (p : Place) (here : ℕ) → Built limit b t → here ≡ length b.image.items + 256 → here + 7 + length p.name ≡ body_at t p
 at_is b t p here h e = let z = built_end b t h in omega arith
 
-pub end_fault : (t : Items) (p w : Place) (before : List Token) (after : List Place) (e : Cause) → meaning (rules.half_of Free before) t w ≡ Ok SEMI → (e ≡ c.OutOfMemory) ⊎ ((d : BodyCause) × (e ≡ cause_of d) × body.FirstCause (controls t) (body_at t p) 61440 d before SEMI) → (e ≡ c.OutOfMemory) ⊎ FirstCause 61440 t (Inside p before) w after e
-end_fault t p w before after e m (inl z) = inl z
-end_fault t p w before after e m (inr z) = body_fault 61440 t p w before after SEMI e z.0 m z.1 z.2
+pub end_fault : (limit : ℕ) (t : Items) (p w : Place) (before : List Token) (after : List Place) (e : Cause) → meaning (rules.half_of Free before) t w ≡ Ok SEMI → (e ≡ c.OutOfMemory) ⊎ ((d : BodyCause) × (e ≡ cause_of d) × body.FirstCause (controls t) (body_at t p) limit d before SEMI) → (e ≡ c.OutOfMemory) ⊎ FirstCause limit t (Inside p before) w after e
+end_fault limit t p w before after e m (inl z) = inl z
+end_fault limit t p w before after e m (inr z) = body_fault limit t p w before after SEMI e z.0 m z.1 z.2
 
-pub ended_cause : (b : Build) (t : Items) (ws : List Place) (p : Place) (before : List Token) (at : ℕ) (e : Cause) (d : BodyCause) (h : IsState b t ws (Inside p before)) → at ≡ body_at t p → e ≡ cause_of d → (d ≡ r.Memory) ⊎ body.FirstCause (slice_index b.runtime.items) at 61440 d (open_words h.drafts.outer h.drafts.body h.drafts.half) SEMI → (e ≡ c.OutOfMemory) ⊎ ((x : BodyCause) × (e ≡ cause_of x) × body.FirstCause (controls t) (body_at t p) 61440 x before SEMI)
+pub ended_cause : {limit : ℕ} (b : Build) (t : Items) (ws : List Place) (p : Place) (before : List Token) (at : ℕ) (e : Cause) (d : BodyCause) (h : IsState limit b t ws (Inside p before)) → at ≡ body_at t p → e ≡ cause_of d → (d ≡ r.Memory) ⊎ body.FirstCause (slice_index b.runtime.items) at b.limit d (open_words h.drafts.outer h.drafts.body h.drafts.half) SEMI → (e ≡ c.OutOfMemory) ⊎ ((x : BodyCause) × (e ≡ cause_of x) × body.FirstCause (controls t) (body_at t p) limit x before SEMI)
 ended_cause b t ws p before at e d h q i (inl z) = inl (i ∙ ap cause_of z)
 ended_cause b t ws p before at e d h q i (inr z) = inr (d, i, cause_out b t ws p before at d SEMI h q z)
 
-pub ended_in : (b : Build) (t : Items) (ws : List Place) (p : Place) (before : List Token) (at : ℕ) (image : List ℕ) (h : IsState b t ws (Inside p before)) → at ≡ body_at t p → BodyEnds (slice_index b.runtime.items) at 61440 h.drafts.outer h.drafts.body h.drafts.half image → BodyEnds (controls t) (body_at t p) 61440 h.drafts.outer h.drafts.body h.drafts.half image
-ended_in b t ws p before at image h e z =
+pub ended_in : {limit : ℕ} (b : Build) (t : Items) (ws : List Place) (p : Place) (before : List Token) (at : ℕ) (image : List ℕ) (h : IsState limit b t ws (Inside p before)) → at ≡ body_at t p → BodyEnds (slice_index b.runtime.items) at b.limit h.drafts.outer h.drafts.body h.drafts.half image → BodyEnds (controls t) (body_at t p) limit h.drafts.outer h.drafts.body h.drafts.half image
+ended_in {limit} b t ws p before at image h e z =
     let i = h.built in
     let g = h.drafts in
-    subst (λ r. BodyEnds r (body_at t p) 61440 g.outer g.body g.half image) i.runtime
-    (subst (λ a. BodyEnds (slice_index b.runtime.items) a 61440 g.outer g.body g.half image) e z)
+    subst (λ n. BodyEnds (controls t) (body_at t p) n g.outer g.body g.half image) i.limit_is
+    (subst (λ r. BodyEnds r (body_at t p) b.limit g.outer g.body g.half image) i.runtime
+    (subst (λ a. BodyEnds (slice_index b.runtime.items) a b.limit g.outer g.body g.half image) e z))
 
-pub ended_ends : (b new : Build) (t : Items) (ws : List Place) (p : Place) (before : List Token) (image : List ℕ) (h : IsState b t ws (Inside p before)) → (z : BodyEnds (controls t) (body_at t p) 61440 h.drafts.outer h.drafts.body h.drafts.half image) → ((vs : List Place) → Built new (Then t vs (Colon p z.body))) → (new.draft.image.items ≡ []) × (new.draft.marks.items ≡ b.draft.marks.items) × (new.draft.half ≡ Free) × (new.draft.is_past ≡ false) → Finishes t p before new
+pub ended_ends : {limit : ℕ} (b new : Build) (t : Items) (ws : List Place) (p : Place) (before : List Token) (image : List ℕ) (h : IsState limit b t ws (Inside p before)) → (z : BodyEnds (controls t) (body_at t p) limit h.drafts.outer h.drafts.body h.drafts.half image) → ((vs : List Place) → Built limit new (Then t vs (Colon p z.body))) → (new.draft.image.items ≡ []) × (new.draft.marks.items ≡ b.draft.marks.items) × (new.draft.half ≡ Free) × (new.draft.is_past ≡ false) → Ends limit t p before new
 ended_ends b new t ws p before image h z f k =
     let d = h.drafts in
     let y = z.body in
@@ -236,5 +241,5 @@ ended_ends b new t ws p before image h z f k =
       drafts = (k.0, k.1 ∙ d.is.is.marked ∙ whole_marks (body_at t p) d.outer d.body d.half y z.is, k.2, k.3);
     }
 
-pub means : {X : Result Token Cause} (b : Build) (t : Items) (ws : List Place) (p w : Place) (before : List Token) (h : IsState b t ws (Inside p before)) → meaning b.draft.half t w ≡ X → meaning (rules.half_of Free before) t w ≡ X
+pub means : {limit : ℕ} {X : Result Token Cause} (b : Build) (t : Items) (ws : List Place) (p w : Place) (before : List Token) (h : IsState limit b t ws (Inside p before)) → meaning b.draft.half t w ≡ X → meaning (rules.half_of Free before) t w ≡ X
 means b t ws p w before h e = ap (λ g. meaning g t w) (sym (half_is b t ws p before h)) ∙ e

@@ -13,15 +13,16 @@ use Rattle.memory.proofs.Same.{Stands}
 use Rattle.dictionary.specs.Header.{view_of, is_named}
 use Rattle.dictionary.specs.Chain.{chain, is_longer}
 use Rattle.dictionary.specs.Search.{head_of, Found, Nowhere, comes_to, walked, or_else as or_forth, first_in, first_from, sought_in, sought_from, sought}
+use Rattle.memory.specs.declared.limit.TheConstants.{GREATEST_LIMIT}
 use Rattle.metacompiler.specs.Places.{Place}
 use Rattle.metacompiler.specs.Names.{Name, class_of, newest_of, newest_link, link_or_none, within, found, or_else}
 use Rattle.metacompiler.specs.declared.entry.Sign.TheVariants as s
 use Rattle.metacompiler.specs.Items.{Header, Colon, Cell, Byte, Allot, Immediate, Definitions, Boot, Items, Nothing, Then, end_of, current, names, mark, new_name, sign_of, head_size, link_of, heads_of, system, image}
-use Rattle.metacompiler.specs.Grammar.{AreSound}
+use Rattle.metacompiler.specs.Grammar.{AreSound, IsLimit}
 use Rattle.metacompiler.specs.Headers.{Says, memory_of, IsTitled, IsVocabulary, chain_of, links_of, sought_name, titled_in, title_or, titled}
 use Rattle.metacompiler.proofs.Finding.{Every, heads_marked}
 use Rattle.metacompiler.proofs.Imaging.{bytes_seam, record_below}
-use Rattle.metacompiler.proofs.Sound.{IsName, sound_names, sound_end}
+use Rattle.metacompiler.proofs.Sound.{IsName, sound_names, sound_end, sound_below}
 use Rattle.metacompiler.proofs.Standing.{stands_cell}
 use Rattle.metacompiler.proofs.Headers.{has_header, header_says, items_stand, length-image, system_cell}
 
@@ -60,19 +61,19 @@ length-zeros : length memory.zeros ≡ 65536
 unfolding memory.zeros
 length-zeros = length-replicate {A = ℕ} 65536 0
 
-pub length-memory : (t : Items) → AreSound 61440 t → length (memory_of t) ≡ 65536
+pub length-memory : (limit : ℕ) → IsLimit limit → (t : Items) → AreSound limit t → length (memory_of t) ≡ 65536
 unfolding front_put
-length-memory t h =
-    let e = sound_end 61440 t (lit≤ tt) h in
+length-memory limit few t h =
+    let e = sound_below limit few t h in
     omega (arith, length-append (image t) (drop (length (image t)) memory.zeros), length-drop (length (image t)) memory.zeros, length-zeros, length-image t)
 
 -- what each header says
-pub title_says : (t u : Items) (p : Place) → AreSound 61440 t → IsTitled t u p → Says (memory_of t) (end_of u + 2) p.screen (link_of u p) p.name
-title_says t u p h e =
+pub title_says : (limit : ℕ) → IsLimit limit → (t u : Items) (p : Place) → AreSound limit t → IsTitled t u p → Says (memory_of t) (end_of u + 2) p.screen (link_of u p) p.name
+title_says limit few t u p h e =
     let g = has_header (heads_of t) t u false p e in
-    let r = titled_room 61440 t u p h e in
-    let room = sound_end 61440 t (lit≤ tt) h in
-    header_says (memory_of t) (end_of u) (link_of u p) g.code p g.immediate (length-memory t h) (omega (arith, r.1)) r.0
+    let r = titled_room limit t u p h e in
+    let room = sound_below limit few t h in
+    header_says (memory_of t) (end_of u) (link_of u p) g.code p g.immediate (length-memory limit few t h) (omega (arith, r.1)) r.0
     (items_stand t g.before _ g.after (end_of u) g.is g.place)
 
 -- all headers of items say so in a memory
@@ -150,8 +151,8 @@ few_names (Then t ws (Allot n)) = omega (arith, few_names t)
 few_names (Then t ws (Definitions n)) = omega (arith, few_names t)
 few_names (Then t ws (Boot n)) = omega (arith, few_names t)
 
-pub names_few : (t : Items) → AreSound 61440 t → length (names t) ≤ 32768
-names_few t h = omega (arith, few_names t, sound_end 61440 t (lit≤ tt) h)
+pub names_few : (limit : ℕ) → IsLimit limit → (t : Items) → AreSound limit t → length (names t) ≤ 32768
+names_few limit few t h = omega (arith, few_names t, sound_below limit few t h)
 
 -- heads
 forth_head : (t : Items) (class : ℕ) → class < 4 → system t (2 * (21 + class)) ≡ newest_link (names t) 42 class
@@ -161,24 +162,24 @@ forth_head t (suc (suc zero)) h = refl
 forth_head t (suc (suc (suc zero))) h = refl
 forth_head t (suc (suc (suc (suc n)))) h = absurd (omega arith)
 
-pub head_is : (t : Items) (voc class : ℕ) → AreSound 61440 t → IsVocabulary t voc → class < 4 → cell (memory_of t) (voc + 2 * class) ≡ newest_link (names t) voc class
+pub head_is : (limit : ℕ) → IsLimit limit → (t : Items) (voc class : ℕ) → AreSound limit t → IsVocabulary t voc → class < 4 → cell (memory_of t) (voc + 2 * class) ≡ newest_link (names t) voc class
 unfolding cell_bytes
-head_is t voc class h (inl e) lt =
+head_is limit few t voc class h (inl e) lt =
     let a : voc + 2 * class ≡ 2 * (21 + class) = omega arith in
     ap (λ x. cell (memory_of t) x) a ∙ system_cell t (21 + class) (omega arith) ∙ forth_head t class lt ∙ ap (λ v. newest_link (names t) v class) (sym e)
-head_is t voc class h (inr r) lt =
+head_is limit few t voc class h (inr r) lt =
     let b = record_below t voc r in
     let k = bytes_seam (heads_of t) (heads_of t) t false voc class r lt (λ u d e. refl) (voc + 2 * class - 256) (omega arith) in
     let x = newest_link (names t) voc class in
     let n = k.length_is in
-    let room = sound_end 61440 t (lit≤ tt) h in
+    let room = sound_below limit few t h in
     let st : Stands (memory_of t) (voc + 2 * class) (cell_bytes x ++ []) = items_stand t k.front (cell_bytes x) k.back (voc + 2 * class) k.new_is (omega arith) in
     stands_cell (memory_of t) (voc + 2 * class) x [] (omega arith) st
 
-pub image_chain : (t : Items) (voc class : ℕ) → AreSound 61440 t → IsVocabulary t voc → class < 4 → chain_of (memory_of t) voc class ≡ links_of voc class (names t)
-image_chain t voc class h v lt =
-    ap (λ l. chain (memory_of t) 32769 l) (head_is t voc class h v lt)
-    ∙ chain_is (memory_of t) voc class t 32769 (λ u p e. title_says t u p h e) (omega (arith, names_few t h))
+pub image_chain : (limit : ℕ) → IsLimit limit → (t : Items) (voc class : ℕ) → AreSound limit t → IsVocabulary t voc → class < 4 → chain_of (memory_of t) voc class ≡ links_of voc class (names t)
+image_chain limit few t voc class h v lt =
+    ap (λ l. chain (memory_of t) 32769 l) (head_is limit few t voc class h v lt)
+    ∙ chain_is (memory_of t) voc class t 32769 (λ u p e. title_says limit few t u p h e) (omega (arith, names_few limit few t h))
 
 -- what searches come to
 length-links : (voc class : ℕ) (ns : List Name) → length (links_of voc class ns) ≤ length ns
@@ -241,9 +242,9 @@ pub class_below : (bs : List ℕ) → class_of bs < 4
 class_below [] = omega arith
 class_below (b ∷ bs) = omega arith
 
-pub vocabulary_below : (t : Items) (voc : ℕ) → AreSound 61440 t → IsVocabulary t voc → voc + 10 ≤ 61440
-vocabulary_below t voc h (inl e) = omega arith
-vocabulary_below t voc h (inr r) = let b = record_below t voc r in omega (arith, sound_end 61440 t (lit≤ tt) h)
+pub vocabulary_below : (limit : ℕ) → IsLimit limit → (t : Items) (voc : ℕ) → AreSound limit t → IsVocabulary t voc → voc + 10 ≤ GREATEST_LIMIT
+vocabulary_below limit few t voc h (inl e) = omega arith
+vocabulary_below limit few t voc h (inr r) = let b = record_below t voc r in omega (arith, sound_below limit few t h)
 
 comes_to_name : (o : Option Name) → comes_to (option_map (λ n. n.link) o) false ≡ sought_name o
 comes_to_name None = refl
@@ -253,16 +254,16 @@ not_longer : (m : List ℕ) (n l : ℕ) → length (chain m (suc n) l) ≤ n →
 unfolding is_longer
 not_longer m n l h = grind arith
 
-pub image_sought_in : (t : Items) (voc : ℕ) (bs : List ℕ) → AreSound 61440 t → IsVocabulary t voc → sought_in (memory_of t) voc bs ≡ sought_name (within voc bs (names t))
+pub image_sought_in : (limit : ℕ) → IsLimit limit → (t : Items) (voc : ℕ) (bs : List ℕ) → AreSound limit t → IsVocabulary t voc → sought_in (memory_of t) voc bs ≡ sought_name (within voc bs (names t))
 unfolding sought_in first_in head_of walked
-image_sought_in t voc bs h v =
+image_sought_in limit few t voc bs h v =
     let m = memory_of t in
     let ns = names t in
     let c = class_of bs in
-    let f : AllSay m t = λ u p e. title_says t u p h e in
-    let w : wrap (voc + 2 * (slice_index bs 0 % 4)) ≡ voc + 2 * c = let k = class_below bs in let i = class_is bs in let b = vocabulary_below t voc h v in omega arith in
-    let l : cell m (wrap (voc + 2 * (slice_index bs 0 % 4))) ≡ newest_link ns voc c = ap (cell m) w ∙ head_is t voc c h v (class_below bs) in
-    let few = names_few t h in
+    let f : AllSay m t = λ u p e. title_says limit few t u p h e in
+    let w : wrap (voc + 2 * (slice_index bs 0 % 4)) ≡ voc + 2 * c = let k = class_below bs in let i = class_is bs in let b = vocabulary_below limit few t voc h v in omega arith in
+    let l : cell m (wrap (voc + 2 * (slice_index bs 0 % 4))) ≡ newest_link ns voc c = ap (cell m) w ∙ head_is limit few t voc c h v (class_below bs) in
+    let few = names_few limit few t h in
     let a : find (is_named m bs) (chain m 32768 (newest_link ns voc c)) ≡ option_map (λ n. n.link) (within voc bs ns) =
     ap (λ ls. find (is_named m bs) ls) (chain_is m voc c t 32768 f few) ∙ find_links (is_named m bs) voc c bs ns refl (all_named m bs t f) in
     let long : is_longer m 32768 (newest_link ns voc c) ≡ false =
@@ -284,12 +285,12 @@ sought_both : (m bs : List ℕ) → 0 < length bs → sought m bs ≡ or_forth (
 unfolding sought sought_from sought_in first_from
 sought_both m bs l = let z : (length bs == 0) ≡ false = grind arith in rw z refl
 
-pub image_sought : (t : Items) (bs : List ℕ) → AreSound 61440 t → 0 < length bs → sought (memory_of t) bs ≡ sought_name (found (current t) bs (names t))
-image_sought t bs h l =
+pub image_sought : (limit : ℕ) → IsLimit limit → (t : Items) (bs : List ℕ) → AreSound limit t → 0 < length bs → sought (memory_of t) bs ≡ sought_name (found (current t) bs (names t))
+image_sought limit few t bs h l =
     let m = memory_of t in
-    let c : IsVocabulary t (current t) = (sound_names 61440 t h).0 in
-    let a : sought_in m (cell m 32) bs ≡ sought_name (within (current t) bs (names t)) = ap (λ v. sought_in m v bs) (context_is t) ∙ image_sought_in t (current t) bs h c in
-    let f : sought_in m 42 bs ≡ sought_name (within 42 bs (names t)) = image_sought_in t 42 bs h (inl refl) in
+    let c : IsVocabulary t (current t) = (sound_names limit t h).0 in
+    let a : sought_in m (cell m 32) bs ≡ sought_name (within (current t) bs (names t)) = ap (λ v. sought_in m v bs) (context_is t) ∙ image_sought_in limit few t (current t) bs h c in
+    let f : sought_in m 42 bs ≡ sought_name (within 42 bs (names t)) = image_sought_in limit few t 42 bs h (inl refl) in
     sought_both m bs l ∙ rw (a, f) (in_forth (within (current t) bs (names t)) (within 42 bs (names t)))
 
 -- a header that no later one hides
@@ -308,10 +309,10 @@ passed voc bs (k ∷ newer) n older e v w = by ((k.vocabulary == voc) && bytes_e
     by true q f = cc
     by false q f = f q
 
-pub image_finds : (t : Items) (newer older : List Name) (n : Name) → AreSound 61440 t → names t ≡ newer ++ n ∷ older → within n.vocabulary n.name newer ≡ None → sought_in (memory_of t) n.vocabulary n.name ≡ Found n.link
-image_finds t newer older n h e f =
-    let i : IsName t n = every_in (IsName t) newer n older (subst (λ l. Every (IsName t) l) e (sound_names 61440 t h).1) in
-    image_sought_in t n.vocabulary n.name h i.vocabulary_is
+pub image_finds : (limit : ℕ) → IsLimit limit → (t : Items) (newer older : List Name) (n : Name) → AreSound limit t → names t ≡ newer ++ n ∷ older → within n.vocabulary n.name newer ≡ None → sought_in (memory_of t) n.vocabulary n.name ≡ Found n.link
+image_finds limit few t newer older n h e f =
+    let i : IsName t n = every_in (IsName t) newer n older (subst (λ l. Every (IsName t) l) e (sound_names limit t h).1) in
+    image_sought_in limit few t n.vocabulary n.name h i.vocabulary_is
     ∙ ap (λ l. sought_name (within n.vocabulary n.name l)) e
     ∙ ap sought_name (passed n.vocabulary n.name newer n older f refl refl)
   where
@@ -369,21 +370,21 @@ views_or m None q (Some n) b g h = absurd g
 views_or m (Some p) q None b g h = absurd g
 views_or m (Some p) q (Some n) b g h = g
 
-image_views : (t : Items) (bs : List ℕ) → AreSound 61440 t → Views (memory_of t) (titled bs t) (found (current t) bs (names t))
-image_views t bs h =
+image_views : (limit : ℕ) → IsLimit limit → (t : Items) (bs : List ℕ) → AreSound limit t → Views (memory_of t) (titled bs t) (found (current t) bs (names t))
+image_views limit few t bs h =
     let m = memory_of t in
-    let f : AllSay m t = λ u p e. title_says t u p h e in
+    let f : AllSay m t = λ u p e. title_says limit few t u p h e in
     views_or m (titled_in (current t) bs t) (titled_in 42 bs t) (within (current t) bs (names t)) (within 42 bs (names t)) (views_in m (current t) bs t f) (views_in m 42 bs t f)
 
-pub image_view : (t : Items) (bs : List ℕ) (p : Place) → AreSound 61440 t → 0 < length bs → titled bs t ≡ Some p → (l : ℕ) × (sought (memory_of t) bs ≡ Found l) × (view_of (memory_of t) l ≡ p.screen)
-image_view t bs p h l e = by (found (current t) bs (names t)) (subst (λ o. Views (memory_of t) o (found (current t) bs (names t))) e (image_views t bs h)) (image_sought t bs h l)
+pub image_view : (limit : ℕ) → IsLimit limit → (t : Items) (bs : List ℕ) (p : Place) → AreSound limit t → 0 < length bs → titled bs t ≡ Some p → (l : ℕ) × (sought (memory_of t) bs ≡ Found l) × (view_of (memory_of t) l ≡ p.screen)
+image_view limit few t bs p h l e = by (found (current t) bs (names t)) (subst (λ o. Views (memory_of t) o (found (current t) bs (names t))) e (image_views limit few t bs h)) (image_sought limit few t bs h l)
   where
     by : (o : Option Name) → Views (memory_of t) (Some p) o → sought (memory_of t) bs ≡ sought_name o → (k : ℕ) × (sought (memory_of t) bs ≡ Found k) × (view_of (memory_of t) k ≡ p.screen)
     by None g q = absurd g
     by (Some n) g q = (n.link, q, g)
 
-pub image_no_view : (t : Items) (bs : List ℕ) → AreSound 61440 t → 0 < length bs → titled bs t ≡ None → sought (memory_of t) bs ≡ Nowhere
-image_no_view t bs h l e = by (found (current t) bs (names t)) (subst (λ o. Views (memory_of t) o (found (current t) bs (names t))) e (image_views t bs h)) (image_sought t bs h l)
+pub image_no_view : (limit : ℕ) → IsLimit limit → (t : Items) (bs : List ℕ) → AreSound limit t → 0 < length bs → titled bs t ≡ None → sought (memory_of t) bs ≡ Nowhere
+image_no_view limit few t bs h l e = by (found (current t) bs (names t)) (subst (λ o. Views (memory_of t) o (found (current t) bs (names t))) e (image_views limit few t bs h)) (image_sought limit few t bs h l)
   where
     by : (o : Option Name) → Views (memory_of t) None o → sought (memory_of t) bs ≡ sought_name o → sought (memory_of t) bs ≡ Nowhere
     by None g q = q

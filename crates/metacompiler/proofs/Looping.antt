@@ -23,11 +23,11 @@ use Rattle.metacompiler.specs.Names.{Name, address, newest_first, newest_link}
 use Rattle.metacompiler.specs.Meanings.{look, unnamed, name_first, sense_of, is_barred, meaning}
 use Rattle.metacompiler.specs.Stages.{body_at, Stage, Whole, Counted, Due, Chosen, Inside, IsFront}
 use Rattle.metacompiler.specs.Faults.{AtItem, AtNumber, AtName, AtVocabulary, InBody, FirstCause, Applies, IsFault}
-use Rattle.metacompiler.specs.Grammar.{AreSound}
+use Rattle.metacompiler.specs.Grammar.{AreSound, IsLimit}
 use Rattle.colon_bodies.proofs.Cells.{length-cell}
 use Rattle.metacompiler.proofs.Sound.{sound_end, end_above}
 use Rattle.metacompiler.proofs.Imaging.{length-bytes}
-use Rattle.metacompiler.specs.State.{IsBlank, IsBegun, IsRead, Goes, TakenAt, all_cells}
+use Rattle.metacompiler.specs.State.{IsState, IsBlank, IsBegun, IsRead, Goes, TakenAt, all_cells}
 
 pub cells_more : (xs : List ℕ) (i d : ℕ) → i < length xs → all_cells (take (suc i) xs) ≡ all_cells (take i xs) ++ cell_bytes (get_or xs i d)
 cells_more [] i d h = absurd (omega arith)
@@ -69,18 +69,21 @@ pub length-zeros : (n : ℕ) → length (zeros n) ≡ n
 length-zeros zero = refl
 length-zeros (suc n) = ap suc (length-zeros n)
 
-pub nothing_built : (b : Build) → b.image.items ≡ [] → b.names.items ≡ [] → b.runtime.items ≡ zeros 256 → b.current ≡ 42 → b.newest_record ≡ 42 → b.boot ≡ None → Built b Nothing
-nothing_built b i n r v w o =
-    record { laid = i; named = ap newest_first n; runtime = no_runtime b.runtime.items r; all = ap length r ∙ length-zeros 256; current_is = v; record_is = w; boot_is = o }
+pub nothing_built : {limit : ℕ} (b : Build) → b.image.items ≡ [] → b.names.items ≡ [] → b.runtime.items ≡ zeros 256 → b.current ≡ 42 → b.newest_record ≡ 42 → b.boot ≡ None → b.limit ≡ limit → IsLimit limit → Built limit b Nothing
+nothing_built b i n r v w o l few =
+    record { limit_is = l; limited = few; laid = i; named = ap newest_first n; runtime = no_runtime b.runtime.items r; all = ap length r ∙ length-zeros 256; current_is = v; record_is = w; boot_is = o }
 
 -- the loop
-pub read_begun : (b : Build) (x : Begun) (done : List Place) → IsRead b x done → IsBegun b x
-read_begun b x done r = record { items = r.items; words = r.words; stage = r.stage; shows = r.shows; is = r.is }
+pub read_begun : {limit : ℕ} (b : Build) (x : Begun) (done : List Place) → IsRead limit b x done → IsBegun b x
+read_begun b x done r =
+    let i = r.is in
+    let h = i.built in
+    record { items = r.items; words = r.words; stage = r.stage; shows = r.shows; is = subst (λ n. IsState n b r.items r.words r.stage) (sym h.limit_is) r.is }
 
-pub starts : (b : Build) → Built b Nothing → IsBlank b.draft → IsRead b g.Whole []
+pub starts : {limit : ℕ} (b : Build) → Built limit b Nothing → IsBlank b.draft → IsRead limit b g.Whole []
 starts b h d = record { items = Nothing; words = []; stage = Whole; shows = tt; is = record { built = h; sound = tt; begun = refl; drafts = d }; front = refl }
 
-pub read_on : (b new : Build) (x y : Begun) (done : List Place) (w : Place) (r : IsRead b x done) → Goes new y r.items r.words w → IsRead new y (done ++ w ∷ [])
+pub read_on : {limit : ℕ} (b new : Build) (x y : Begun) (done : List Place) (w : Place) (r : IsRead limit b x done) → Goes limit new y r.items r.words w → IsRead limit new y (done ++ w ∷ [])
 read_on b new x y done w r o =
     record {
       items = o.items;
@@ -91,7 +94,7 @@ read_on b new x y done w r o =
       front = ap (λ l. l ++ w ∷ []) r.front ∙ append_assoc (item_words r.items) r.words (w ∷ []) ∙ sym o.front;
     }
 
-pub is_front : (b : Build) (x : Begun) (done : List Place) (r : IsRead b x done) → IsFront 61440 done r.items r.words r.stage
+pub is_front : {limit : ℕ} (b : Build) (x : Begun) (done : List Place) (r : IsRead limit b x done) → IsFront limit done r.items r.words r.stage
 is_front b x done r = let i = r.is in record { is = r.front; sound = i.sound; begun = i.begun }
 
 -- no word has a cause of a source's end
@@ -100,14 +103,14 @@ item_never t w after s.Double = (λ h. h, λ h. h)
 item_never t w after (s.Number n) = (λ h. h, λ h. h)
 item_never t w after _ = (λ h. h, λ h. h)
 
-number_never : (t : Items) (n : ℕ) (sort : Sort) → (AtNumber 61440 t n sort c.EndsInside → ⊥) × (AtNumber 61440 t n sort c.NoBoot → ⊥)
-number_never t n s.Double = (λ h. h, λ h. h)
-number_never t n _ = (λ h. h, λ h. h)
+number_never : (limit : ℕ) (t : Items) (n : ℕ) (sort : Sort) → (AtNumber limit t n sort c.EndsInside → ⊥) × (AtNumber limit t n sort c.NoBoot → ⊥)
+number_never limit t n s.Double = (λ h. h, λ h. h)
+number_never limit t n _ = (λ h. h, λ h. h)
 
-name_never : (t : Items) (w : Place) (l : Lead) → (AtName 61440 t w l c.EndsInside → ⊥) × (AtName 61440 t w l c.NoBoot → ⊥)
-name_never t w (Makes k) = (λ h. h, λ h. h)
-name_never t w Defines = (λ h. h, λ h. h)
-name_never t w Starts = (λ h. h, λ h. h)
+name_never : (limit : ℕ) (t : Items) (w : Place) (l : Lead) → (AtName limit t w l c.EndsInside → ⊥) × (AtName limit t w l c.NoBoot → ⊥)
+name_never limit t w (Makes k) = (λ h. h, λ h. h)
+name_never limit t w Defines = (λ h. h, λ h. h)
+name_never limit t w Starts = (λ h. h, λ h. h)
 
 vocabulary_never : (sort : Sort) → (AtVocabulary sort c.EndsInside → ⊥) × (AtVocabulary sort c.NoBoot → ⊥)
 vocabulary_never s.Double = (λ h. h, λ h. h)
@@ -137,39 +140,39 @@ sense_cause Free o (Keyword w) = tt
 sense_cause Compiling o (Keyword w) = tt
 sense_cause h o x = first_cause h o x
 
-body_never : (rt : ℕ → ℕ) (at : ℕ) (before : List Token) (m : Result Token Cause) → IsOfWord m → (InBody rt at 61440 before m c.EndsInside → ⊥) × (InBody rt at 61440 before m c.NoBoot → ⊥)
-body_never rt at before (Ok w) h = (λ x. x, λ x. x)
-body_never rt at before (Err e) (inl q) = (λ x. let z : c.Misplaced ≡ c.EndsInside = sym q ∙ x in cc, λ x. let z : c.Misplaced ≡ c.NoBoot = sym q ∙ x in cc)
-body_never rt at before (Err e) (inr q) = (λ x. let z : c.Unknown ≡ c.EndsInside = sym q ∙ x in cc, λ x. let z : c.Unknown ≡ c.NoBoot = sym q ∙ x in cc)
+body_never : (limit : ℕ) (rt : ℕ → ℕ) (at : ℕ) (before : List Token) (m : Result Token Cause) → IsOfWord m → (InBody rt at limit before m c.EndsInside → ⊥) × (InBody rt at limit before m c.NoBoot → ⊥)
+body_never limit rt at before (Ok w) h = (λ x. x, λ x. x)
+body_never limit rt at before (Err e) (inl q) = (λ x. let z : c.Misplaced ≡ c.EndsInside = sym q ∙ x in cc, λ x. let z : c.Misplaced ≡ c.NoBoot = sym q ∙ x in cc)
+body_never limit rt at before (Err e) (inr q) = (λ x. let z : c.Unknown ≡ c.EndsInside = sym q ∙ x in cc, λ x. let z : c.Unknown ≡ c.NoBoot = sym q ∙ x in cc)
 
-never : (t : Items) (stage : Stage) (w : Place) (after : List Place) → (Applies 61440 t stage w after c.EndsInside → ⊥) × (Applies 61440 t stage w after c.NoBoot → ⊥)
-never t Whole w after = item_never t w after w.sort
-never t (Counted n) w after = number_never t n w.sort
-never t (Due l) w after = name_never t w l
-never t (Chosen v) w after = vocabulary_never w.sort
-never t (Inside p before) w after = body_never (controls t) (body_at t p) before (meaning (rules.half_of Free before) t w) (sense_cause (rules.half_of Free before) (look t w) w.inner)
+never : (limit : ℕ) (t : Items) (stage : Stage) (w : Place) (after : List Place) → (Applies limit t stage w after c.EndsInside → ⊥) × (Applies limit t stage w after c.NoBoot → ⊥)
+never limit t Whole w after = item_never t w after w.sort
+never limit t (Counted n) w after = number_never limit t n w.sort
+never limit t (Due l) w after = name_never limit t w l
+never limit t (Chosen v) w after = vocabulary_never w.sort
+never limit t (Inside p before) w after = body_never limit (controls t) (body_at t p) before (meaning (rules.half_of Free before) t w) (sense_cause (rules.half_of Free before) (look t w) w.inner)
 
 -- the fault of a source
-fault_is : (source before after : List Place) (w : Place) (t : Items) (ws : List Place) (stage : Stage) (last screen offset : ℕ) (e : Cause) → source ≡ before ++ w ∷ after → screen ≡ w.screen → offset ≡ w.offset → IsFront 61440 before t ws stage → FirstCause 61440 t stage w after e → IsFault 61440 source last screen offset e
-fault_is source before after w t ws stage last screen offset c.OutOfMemory q a b f x = tt
-fault_is source before after w t ws stage last screen offset c.EndsInside q a b f x = absurd ((never t stage w after).0 x.applies)
-fault_is source before after w t ws stage last screen offset c.NoBoot q a b f x = absurd ((never t stage w after).1 x.applies)
-fault_is source before after w t ws stage last screen offset _ q a b f x = (before, w, after, t, ws, stage, q, a, b, f, x)
+fault_is : (limit : ℕ) (source before after : List Place) (w : Place) (t : Items) (ws : List Place) (stage : Stage) (last screen offset : ℕ) (e : Cause) → source ≡ before ++ w ∷ after → screen ≡ w.screen → offset ≡ w.offset → IsFront limit before t ws stage → FirstCause limit t stage w after e → IsFault limit source last screen offset e
+fault_is limit source before after w t ws stage last screen offset c.OutOfMemory q a b f x = tt
+fault_is limit source before after w t ws stage last screen offset c.EndsInside q a b f x = absurd ((never limit t stage w after).0 x.applies)
+fault_is limit source before after w t ws stage last screen offset c.NoBoot q a b f x = absurd ((never limit t stage w after).1 x.applies)
+fault_is limit source before after w t ws stage last screen offset _ q a b f x = (before, w, after, t, ws, stage, q, a, b, f, x)
 
-memory_fault : (source : List Place) (last screen offset : ℕ) (e : Cause) → e ≡ c.OutOfMemory → IsFault 61440 source last screen offset e
-memory_fault source last screen offset e q = subst (λ x. IsFault 61440 source last screen offset x) (sym q) tt
+memory_fault : (limit : ℕ) (source : List Place) (last screen offset : ℕ) (e : Cause) → e ≡ c.OutOfMemory → IsFault limit source last screen offset e
+memory_fault limit source last screen offset e q = subst (λ x. IsFault limit source last screen offset x) (sym q) tt
 
-pub stops : (b new : Build) (x : Begun) (source done after : List Place) (w : Place) (last : ℕ) (f : BuildFault) (r : IsRead b x done) → source ≡ done ++ w ∷ after → TakenAt r.items r.words r.stage w after (Err f) new → IsFault 61440 source last f.screen f.offset f.cause
-stops b new x source done after w last f r q (inl m) = memory_fault source last f.screen f.offset f.cause m
-stops b new x source done after w last f r q (inr (inl h)) =
-    fault_is source done after w r.items r.words r.stage last f.screen f.offset f.cause q h.screen h.offset (is_front b x done r) h.cause
-stops b new x source done after w last f r q (inr (inr h)) =
+pub stops : {limit : ℕ} (b new : Build) (x : Begun) (source done after : List Place) (w : Place) (last : ℕ) (f : BuildFault) (r : IsRead limit b x done) → source ≡ done ++ w ∷ after → TakenAt limit r.items r.words r.stage w after (Err f) new → IsFault limit source last f.screen f.offset f.cause
+stops {limit} b new x source done after w last f r q (inl m) = memory_fault limit source last f.screen f.offset f.cause m
+stops {limit} b new x source done after w last f r q (inr (inl h)) =
+    fault_is limit source done after w r.items r.words r.stage last f.screen f.offset f.cause q h.screen h.offset (is_front b x done r) h.cause
+stops {limit} b new x source done after w last f r q (inr (inr h)) =
     let i = r.is in
-    fault_is source (item_words r.items) (w ∷ after) h.number r.items [] Whole last f.screen f.offset f.cause
+    fault_is limit source (item_words r.items) (w ∷ after) h.number r.items [] Whole last f.screen f.offset f.cause
     (q ∙ ap (λ l. l ++ w ∷ after) (r.front ∙ ap (λ l. item_words r.items ++ l) h.is) ∙ append_assoc (item_words r.items) (h.number ∷ []) (w ∷ after))
     h.screen h.offset (record { is = sym (append-nil (item_words r.items)); sound = i.sound; begun = refl }) h.cause
 
-pub memory_stops : (source : List Place) (last screen offset : ℕ) (e : Cause) → e ≡ c.OutOfMemory → IsFault 61440 source last screen offset e
+pub memory_stops : (limit : ℕ) (source : List Place) (last screen offset : ℕ) (e : Cause) → e ≡ c.OutOfMemory → IsFault limit source last screen offset e
 memory_stops = memory_fault
 
 -- an image ends where its items do
@@ -177,13 +180,13 @@ pub length-low : (f : ℕ → ℕ) (at n : ℕ) → length (low f at n) ≡ 2 * 
 length-low f at zero = refl
 length-low f at (suc n) = omega (arith, length-append (cell_bytes (f at)) (low f (at + 2) n), length-cell (f at), length-low f (at + 2) n)
 
-pub image_size : (t : Items) → AreSound 61440 t → (256 ≤ length (image t)) × (length (image t) ≤ 61440)
-image_size t h =
+pub image_size : (limit : ℕ) (t : Items) → 256 ≤ limit → AreSound limit t → (256 ≤ length (image t)) × (length (image t) ≤ limit)
+image_size limit t few h =
     let a = low (system t) 0 32 in
     let b = low (λ x. controls t (x / 2)) 0 32 in
     let z = zeros 128 in
     let v = bytes (heads_of t) t false in
-    let e = sound_end 61440 t (lit≤ tt) h in
+    let e = sound_end limit t few h in
     let l : length (image t) ≡ end_of t =
     omega (arith, length-append a (b ++ (z ++ v)), length-append b (z ++ v), length-append z v, length-low (system t) 0 32, length-low (λ x. controls t (x / 2)) 0 32, length-zeros 128, length-bytes (heads_of t) t false) in
     (omega (arith, l, end_above t), omega (arith, l, e))

@@ -9,6 +9,7 @@ use Rattle.std.proofs.Math.Seq.{take-suc, take-length, set-append_seam}
 use Rattle.colon_bodies.specs.Tree.{Definition}
 use Rattle.memory.specs.Bytes.{cell_bytes}
 use Rattle.colon_bodies.specs.Code.{thread}
+use Rattle.memory.specs.declared.limit.TheConstants.{GREATEST_LIMIT}
 use Rattle.metacompiler.specs.declared.entry.Sign.TheVariants as s
 use Rattle.colon_bodies.specs.Draft.{Patches}
 use Rattle.metacompiler.specs.declared.state.Build.{Build}
@@ -25,19 +26,19 @@ use Rattle.metacompiler.specs.Meanings.{look}
 use Rattle.metacompiler.specs.Built.{Built, Building, Headed}
 use Rattle.metacompiler.proofs.Finding.{reverse_more, head_new, head_else, no_head, heads_marked, Every, every_found}
 use Rattle.metacompiler.proofs.Imaging.{length-bytes, record_below, bytes_same, bytes_seam, bytes_marked}
-use Rattle.metacompiler.proofs.Sound.{IsName, sound_names, sound_end, none_above}
+use Rattle.metacompiler.proofs.Sound.{IsName, sound_names, sound_end, none_above, sound_below}
 
-pub built_end : (b : Build) (t : Items) → Built b t → length b.image.items + 256 ≡ end_of t
+pub built_end : {limit : ℕ} (b : Build) (t : Items) → Built limit b t → length b.image.items + 256 ≡ end_of t
 built_end b t h = ap (λ l. length l + 256) h.laid ∙ length-bytes (heads_of t) t false
 
-pub building_end : (b : Build) → Building b → length b.image.items + 256 ≤ 61440
-building_end b h = let e = built_end b h.items h.is in let s = sound_end 61440 h.items (lit≤ tt) h.sound in omega arith
+pub building_end : (b : Build) → Building b → length b.image.items + 256 ≤ GREATEST_LIMIT
+building_end b h = let e = built_end b h.items h.is in let s = sound_below b.limit h.is.limited h.items h.sound in omega arith
 
 pub within_image : (b : Build) → Building b → (b.current ≡ 42) ⊎ ((256 ≤ b.current) × (b.current + 10 ≤ length b.image.items + 256))
 within_image b h =
     let e = built_end b h.items h.is in
     let c = h.is.current_is in
-    elim ((sound_names 61440 h.items h.sound).0) [
+    elim ((sound_names b.limit h.items h.sound).0) [
       | inl x ↦ inl (c ∙ x)
       | inr r ↦ let z = record_below h.items (current h.items) r in inr (omega arith, omega arith)
     ]
@@ -47,11 +48,11 @@ class_small [] = omega arith
 class_small (b ∷ bs) = omega arith
 
 -- the bytes once the head of the chain is the new link field
-pub headed_bytes : (t : Items) (p : Place) (sign : Sign) (old mid : List ℕ) (at : ℕ) → AreSound 61440 t → old ≡ bytes (heads_of t) t false → at ≡ current t → (at ≡ 42 → mid ≡ old) → (at ≢ 42 → Patches old mid (at + 2 * class_of p.name - 256) (end_of t + 2)) → mid ≡ bytes (newest_link (new_name t p sign ∷ names t)) t false
-headed_bytes t p sign old mid at s o a f g =
+pub headed_bytes : (limit : ℕ) (t : Items) (p : Place) (sign : Sign) (old mid : List ℕ) (at : ℕ) → AreSound limit t → old ≡ bytes (heads_of t) t false → at ≡ current t → (at ≡ 42 → mid ≡ old) → (at ≢ 42 → Patches old mid (at + 2 * class_of p.name - 256) (end_of t + 2)) → mid ≡ bytes (newest_link (new_name t p sign ∷ names t)) t false
+headed_bytes limit t p sign old mid at s o a f g =
     let n = new_name t p sign in
     let h = newest_link (n ∷ names t) in
-    elim ((sound_names 61440 t s).0) [
+    elim ((sound_names limit t s).0) [
       | inl x ↦ f (a ∙ x) ∙ o ∙ bytes_same (heads_of t) h t false (λ v r c. head_else (names t) n v c (λ e _. let z = record_below t v r in omega (arith, e, x)))
       | inr r ↦
           let z = record_below t (current t) r in
@@ -64,15 +65,15 @@ headed_bytes t p sign old mid at s o a f g =
 pub named_more : (es new : List Named) (e : Named) (n : Name) (ns : List Name) → newest_first es ≡ ns → new ≡ es ++ e ∷ [] → stored e ≡ n → newest_first new ≡ n ∷ ns
 named_more es new e n ns h i j = ap newest_first i ∙ reverse_more stored es e ∙ ap (λ m. m ∷ newest_first es) j ∙ ap (λ l. n ∷ l) h
 
-pub headed_laid : (b : Build) (t : Items) (p : Place) (sign : Sign) (code link older class : ℕ) (es : List Named) (mid new : List ℕ) → Built b t → AreSound 61440 t → link ≡ length b.image.items + 256 → class ≡ class_of p.name → es ≡ b.names.items → older ≡ newest_link (newest_first es) b.current class → (b.current ≡ 42 → mid ≡ b.image.items) → (b.current ≢ 42 → Patches b.image.items mid (b.current + 2 * class - 256) (link + 2)) → new ≡ mid ++ head older p false code → new ≡ bytes (newest_link (new_name t p sign ∷ names t)) t false ++ head (link_of t p) p false code
-headed_laid b t p sign code link older class es mid new h s l q r o f g n =
+pub headed_laid : {limit : ℕ} (b : Build) (t : Items) (p : Place) (sign : Sign) (code link older class : ℕ) (es : List Named) (mid new : List ℕ) → Built limit b t → AreSound limit t → link ≡ length b.image.items + 256 → class ≡ class_of p.name → es ≡ b.names.items → older ≡ newest_link (newest_first es) b.current class → (b.current ≡ 42 → mid ≡ b.image.items) → (b.current ≢ 42 → Patches b.image.items mid (b.current + 2 * class - 256) (link + 2)) → new ≡ mid ++ head older p false code → new ≡ bytes (newest_link (new_name t p sign ∷ names t)) t false ++ head (link_of t p) p false code
+headed_laid {limit} b t p sign code link older class es mid new h s l q r o f g n =
     let at : link ≡ end_of t = l ∙ built_end b t h in
     let k : older ≡ link_of t p = o ∙ ap (λ m. newest_link (newest_first m) b.current class) r ∙ ap (λ m. newest_link m b.current class) h.named ∙ ap (λ v. newest_link (names t) v class) h.current_is ∙ ap (λ d. newest_link (names t) (current t) d) q in
     let P : ℕ → ℕ → Type 0 = λ a d. Patches b.image.items mid (b.current + 2 * d - 256) (a + 2) in
     let g' : b.current ≢ 42 → P (end_of t) (class_of p.name) = λ ne. subst (λ a. P a (class_of p.name)) at (subst (λ d. P link d) q (g ne)) in
-    n ∙ ap (λ x. mid ++ head x p false code) k ∙ ap (λ x. x ++ head (link_of t p) p false code) (headed_bytes t p sign b.image.items mid b.current s h.laid h.current_is f g')
+    n ∙ ap (λ x. mid ++ head x p false code) k ∙ ap (λ x. x ++ head (link_of t p) p false code) (headed_bytes limit t p sign b.image.items mid b.current s h.laid h.current_is f g')
 
-pub headed_named : (b : Build) (t : Items) (p : Place) (sign : Sign) (link : ℕ) (es : List Named) (e : Named) → Built b t → link ≡ length b.image.items + 256 → es ≡ b.names.items ++ e ∷ [] → stored e ≡ record { name = p.name; vocabulary = b.current; link = link + 2; immediate = false; sign = sign } → newest_first es ≡ new_name t p sign ∷ names t
+pub headed_named : {limit : ℕ} (b : Build) (t : Items) (p : Place) (sign : Sign) (link : ℕ) (es : List Named) (e : Named) → Built limit b t → link ≡ length b.image.items + 256 → es ≡ b.names.items ++ e ∷ [] → stored e ≡ record { name = p.name; vocabulary = b.current; link = link + 2; immediate = false; sign = sign } → newest_first es ≡ new_name t p sign ∷ names t
 headed_named b t p sign link es e h l i j =
     let at : link ≡ end_of t = l ∙ built_end b t h in
     let N : ℕ → ℕ → Name = λ v a. record { name = p.name; vocabulary = v; link = a + 2; immediate = false; sign = sign } in
@@ -86,7 +87,7 @@ laid_more t ws i old new more o p h n m =
     ∙ ap (λ g. bytes g (Then t ws i) false) (sym h)
 
 -- a header's item, from the state behind its code field
-pub field_laid : (b : Build) (t : Items) (ws : List Place) (p : Place) (k : Kind) (new more : List ℕ) → Headed b t p (sign_of k) (code_of k) → new ≡ b.image.items ++ more → more ≡ field (heads_of (Then t ws (Header p k))) t (end_of t + head_size p) k → new ≡ bytes (heads_of (Then t ws (Header p k))) (Then t ws (Header p k)) false
+pub field_laid : {limit : ℕ} (b : Build) (t : Items) (ws : List Place) (p : Place) (k : Kind) (new more : List ℕ) → Headed limit b t p (sign_of k) (code_of k) → new ≡ b.image.items ++ more → more ≡ field (heads_of (Then t ws (Header p k))) t (end_of t + head_size p) k → new ≡ bytes (heads_of (Then t ws (Header p k))) (Then t ws (Header p k)) false
 field_laid b t ws p k new more h n m =
     let g = heads_of (Then t ws (Header p k)) in
     n ∙ ap (λ l. l ++ more) h.laid ∙ append_assoc (bytes g t false) (head (link_of t p) p false (code_of k)) more
@@ -149,14 +150,14 @@ marked_names es i y l h =
 pub newest_is : (es : List Named) (i : ℕ) (d : Named) → i + 1 ≡ length es → newest_first es ≡ stored (get_or es i d) ∷ newest_first (take i es)
 newest_is es i d l = ap newest_first (last_of es i d l) ∙ reverse_more stored (take i es) (get_or es i d)
 
-pub colon_laid : (b : Build) (t : Items) (ws : List Place) (p : Place) (body : Definition) (new more : List ℕ) → Headed b t p s.Plain 1 → new ≡ b.image.items ++ more → more ≡ thread (controls t) body (end_of t + head_size p) → new ≡ bytes (heads_of (Then t ws (Colon p body))) (Then t ws (Colon p body)) false
+pub colon_laid : {limit : ℕ} (b : Build) (t : Items) (ws : List Place) (p : Place) (body : Definition) (new more : List ℕ) → Headed limit b t p s.Plain 1 → new ≡ b.image.items ++ more → more ≡ thread (controls t) body (end_of t + head_size p) → new ≡ bytes (heads_of (Then t ws (Colon p body))) (Then t ws (Colon p body)) false
 colon_laid b t ws p body new more h n m =
     let g = heads_of (Then t ws (Colon p body)) in
     n ∙ ap (λ l. l ++ more) h.laid ∙ append_assoc (bytes g t false) (head (link_of t p) p false 1) more
     ∙ ap (λ l. bytes g t false ++ (head (link_of t p) p false 1 ++ l)) m
 
 -- IMMEDIATE's byte
-pub immediate_laid : (b : Build) (t : Items) (ws : List Place) (n : Name) (ns : List Name) (place : ℕ) → Built b t → names t ≡ n ∷ ns → place + 254 ≡ n.link → set b.image.items place (192 + length n.name) ≡ bytes (heads_of (Then t ws Immediate)) (Then t ws Immediate) false
+pub immediate_laid : {limit : ℕ} (b : Build) (t : Items) (ws : List Place) (n : Name) (ns : List Name) (place : ℕ) → Built limit b t → names t ≡ n ∷ ns → place + 254 ≡ n.link → set b.image.items place (192 + length n.name) ≡ bytes (heads_of (Then t ws Immediate)) (Then t ws Immediate) false
 immediate_laid b t ws n ns place h e q =
     let m = bytes_marked (heads_of t) t n ns e place q in
     let x = 192 + length n.name in
@@ -164,7 +165,7 @@ immediate_laid b t ws n ns place h e q =
     ∙ bytes_same (heads_of t) (heads_of (Then t ws Immediate)) t true (λ v r c. sym (heads_marked (names t) v c))
     ∙ sym (append-nil (bytes (heads_of (Then t ws Immediate)) t true))
 
-pub immediate_within : (b : Build) (t : Items) (n : Name) (ns : List Name) (place : ℕ) → Built b t → names t ≡ n ∷ ns → place + 254 ≡ n.link → place < length b.image.items
+pub immediate_within : {limit : ℕ} (b : Build) (t : Items) (n : Name) (ns : List Name) (place : ℕ) → Built limit b t → names t ≡ n ∷ ns → place + 254 ≡ n.link → place < length b.image.items
 immediate_within b t n ns place h e q =
     let m = bytes_marked (heads_of t) t n ns e place q in
     let l = m.length_is in
@@ -176,21 +177,21 @@ newest_name b h xs x ns q e = let i = h.is in sym i.named ∙ ap newest_first (s
 
 pub newest_facts : (b : Build) (h : Building b) (x : Name) (ns : List Name) → names h.items ≡ x ∷ ns → (length x.name < 32) × (258 ≤ x.link) × (x.link - 254 < length b.image.items)
 newest_facts b h x ns e =
-    let g = (subst (λ l. Every (IsName h.items) l) e (sound_names 61440 h.items h.sound).1).0 in
+    let g = (subst (λ l. Every (IsName h.items) l) e (sound_names b.limit h.items h.sound).1).0 in
     let a = g.above in
     (g.short, g.above, immediate_within b h.items x ns (x.link - 254) h.is e (omega arith))
 
 -- a name that was found lies below the end
-pub found_fits : (b : Build) (h : Building b) (xs : List Named) (bs : List ℕ) (n : Name) → xs ≡ b.names.items → Some n ≡ found b.current bs (newest_first xs) → (length n.name < 32) × (n.link + 3 + length n.name + 2 ≤ 61440)
+pub found_fits : (b : Build) (h : Building b) (xs : List Named) (bs : List ℕ) (n : Name) → xs ≡ b.names.items → Some n ≡ found b.current bs (newest_first xs) → (length n.name < 32) × (n.link + 3 + length n.name + 2 ≤ GREATEST_LIMIT)
 found_fits b h xs bs n q e =
     let i = h.is in
     let f : found (current h.items) bs (names h.items) ≡ Some n =
     sym (e ∙ ap (λ l. found b.current bs (newest_first l)) q ∙ ap (λ l. found b.current bs l) i.named ∙ ap (λ v. found v bs (names h.items)) i.current_is) in
-    let g = every_found (IsName h.items) (current h.items) bs (names h.items) n (sound_names 61440 h.items h.sound).1 f in
+    let g = every_found (IsName h.items) (current h.items) bs (names h.items) n (sound_names b.limit h.items h.sound).1 f in
     let a = g.below in
-    let z = sound_end 61440 h.items (lit≤ tt) h.sound in
+    let z = sound_below b.limit h.is.limited h.items h.sound in
     (g.short, omega arith)
 
-pub found_look : (b : Build) (t : Items) (p : Place) (xs : List Named) (n : Name) → Built b t → xs ≡ b.names.items → Some n ≡ found b.current p.name (newest_first xs) → Some n ≡ look t p
+pub found_look : {limit : ℕ} (b : Build) (t : Items) (p : Place) (xs : List Named) (n : Name) → Built limit b t → xs ≡ b.names.items → Some n ≡ found b.current p.name (newest_first xs) → Some n ≡ look t p
 found_look b t p xs n i q e =
     e ∙ ap (λ l. found b.current p.name (newest_first l)) q ∙ ap (λ l. found b.current p.name l) i.named ∙ ap (λ v. found v p.name (names t)) i.current_is

@@ -37,7 +37,7 @@ reads-more : (d : Disk) (from s : ℕ) → from ≤ s → called (after_reads (s
 reads-more d from s h = ap (λ c. record { blocks = d.blocks; coming = c }) (drop-drop 1 (s - from) d.coming ∙ ap (λ n. drop n d.coming) (omega arith))
 
 -- the screens before the first of them are none
-pub none_underway : (d : Disk) (from : ℕ) (kp : Compilation) (done : Done) → Holds kp [] → done.disk ≡ Some d → done.after ≡ done.before → Underway d from from Outside kp done
+pub none_underway : {limit : ℕ} (d : Disk) (from : ℕ) (kp : Compilation) (done : Done) → Holds limit kp [] → done.disk ≡ Some d → done.after ≡ done.before → Underway limit d from from Outside kp done
 unfolding words_of_screens after_words
 none_underway d from kp done h q f =
     let none : from - from ≡ 0 = omega arith in
@@ -51,9 +51,9 @@ none_underway d from kp done h q f =
     }
 
 -- one screen more is taken
-pub screen_more : (d : Disk) (from s : ℕ) (m next : Mode) (old new : Compilation) (done step : Done) → Underway d from s m old done →
-    TakesScreen (after_reads (s - from) d) s m (source_words from (screens d from (s - from))) (Ok next) old new step → step.before ≡ done.after →
-    Underway d from (s + 1) next new (record { disk = step.disk; before = done.before; after = step.after })
+pub screen_more : {limit : ℕ} (d : Disk) (from s : ℕ) (m next : Mode) (old new : Compilation) (done step : Done) → Underway limit d from s m old done →
+    TakesScreen limit (after_reads (s - from) d) s m (source_words from (screens d from (s - from))) (Ok next) old new step → step.before ≡ done.after →
+    Underway limit d from (s + 1) next new (record { disk = step.disk; before = done.before; after = step.after })
 screen_more d from s m next old new done step h t f =
     let words : source_words from (screens d from (s + 1 - from)) ≡ source_words from (screens d from (s - from)) ++ screen_words m s (block_at d.blocks s) =
     words-more d from s m h.above t.0.there h.mode in
@@ -67,12 +67,12 @@ screen_more d from s m next old new done step h t f =
     }
 
 -- where one is not, that is where it stops
-pub screen_stops : (d : Disk) (from s to : ℕ) (m : Mode) (e : Stop) (old new : Compilation) (done step : Done) → Underway d from s m old done → s ≤ to →
-    TakesScreen (after_reads (s - from) d) s m (source_words from (screens d from (s - from))) (Err e) old new step → step.before ≡ done.after →
-    Stopped d from to e (record { disk = step.disk; before = done.before; after = step.after })
-screen_stops d from s to m (stop.Device u) old new done step h k t f =
+pub screen_stops : {limit : ℕ} (d : Disk) (from s to : ℕ) (m : Mode) (e : Stop) (old new : Compilation) (done step : Done) → Underway limit d from s m old done → s ≤ to →
+    TakesScreen limit (after_reads (s - from) d) s m (source_words from (screens d from (s - from))) (Err e) old new step → step.before ≡ done.after →
+    Stopped limit d from to e (record { disk = step.disk; before = done.before; after = step.after })
+screen_stops {limit} d from s to m (stop.Device u) old new done step h k t f =
     let above' : from ≤ s = h.above in
-    elim t.2 as (λ w. Stopped d from to (stop.Device u) (record { disk = step.disk; before = done.before; after = step.after })) [
+    elim t.2 as (λ w. Stopped limit d from to (stop.Device u) (record { disk = step.disk; before = done.before; after = step.after })) [
       | inl failed ↦ record {
         k = s + 1 - from;
         few = omega arith;
@@ -86,12 +86,12 @@ screen_stops d from s to m (stop.Device u) old new done step h k t f =
         because = rw t.0 (h.above, k, faultless old _ t.1, inr (none.past, omega arith, none.failures ∙ f ∙ h.failures));
       }
     ]
-screen_stops d from s to m (stop.Word fault) old new done step h k t f =
+screen_stops {limit} d from s to m (stop.Word fault) old new done step h k t f =
     let above' : from ≤ s = h.above in
     let words : source_words from (screens d from (s + 1 - from)) ≡ source_words from (screens d from (s - from)) ++ screen_words m s (block_at d.blocks s) =
     words-more d from s m h.above t.1.there h.mode in
     let last : s + 1 - from - 1 ≡ s - from = omega arith in
-    let P : List SourceWord → Type 0 = λ r. IsFaultOf r fault in
+    let P : List SourceWord → Type 0 = λ r. IsFaultOf limit r fault in
     record {
       k = s + 1 - from;
       few = omega arith;
@@ -100,9 +100,9 @@ screen_stops d from s to m (stop.Word fault) old new done step h k t f =
     }
 
 -- all were taken
-pub all_screens : (d : Disk) (from s to : ℕ) (m : Mode) (kp : Compilation) (done : Done) → Underway d from s m kp done → s - from ≡ to + 1 - from → (from ≤ to → to < s) → TookAll d from to kp done
-all_screens d from s to m kp done h e q =
-    let P : ℕ → Type 0 = λ n. Holds kp (source_words from (screens d from n)) in
+pub all_screens : {limit : ℕ} (d : Disk) (from s to : ℕ) (m : Mode) (kp : Compilation) (done : Done) → Underway limit d from s m kp done → s - from ≡ to + 1 - from → (from ≤ to → to < s) → TookAll limit d from to kp done
+all_screens {limit} d from s to m kp done h e q =
+    let P : ℕ → Type 0 = λ n. Holds limit kp (source_words from (screens d from n)) in
     record {
       there = λ k. omega (arith, h.there (omega (arith, q k)), q k);
       took = subst P e h.took;

@@ -384,9 +384,9 @@ one_list limit source t u e f g h =
     let k : Some e ≡ Some f = sym g.starts ∙ b ∙ h.starts in
     (s.0, cc)
 
-pub one_image : (d : Disk) (from to : ℕ) (a b : Contents) (x y : Done) → IsBuiltOf d from to a x → IsBuiltOf d from to b y → a ≡ b
-one_image d from to a b x y g h =
-    let s = one_list 61440 (all_placed (source_of d from to)) g.items h.items a.entry b.entry g.good h.good in
+pub one_image : (limit : ℕ) (d : Disk) (from to : ℕ) (a b : Contents) (x y : Done) → IsBuiltOf limit d from to a x → IsBuiltOf limit d from to b y → a ≡ b
+one_image limit d from to a b x y g h =
+    let s = one_list limit (all_placed (source_of d from to)) g.items h.items a.entry b.entry g.good h.good in
     let i : a.bytes ≡ b.bytes = g.is ∙ ap image s.0 ∙ sym h.is in
     same_contents a b s.1 i
   where

@@ -2,6 +2,7 @@
 use Rattle.std.proofs.Common.{◌≡◌, ◌≢◌, ℕ, ◌+◌, ◌<◌, ◌≤◌, ◌⊎◌, inl, inr, List, [], ◌∷◌, length, Some, None, refl, sym, subst, arith}
 use Rattle.std.specs.Prelude.{Bool, true, false, cond, Option, codes}
 use Rattle.std.specs.Str.{bytes_eq}
+use Rattle.memory.specs.declared.limit.TheConstants.{GREATEST_LIMIT}
 use Rattle.metacompiler.specs.Places.{Place}
 use Rattle.metacompiler.specs.Names.{Name}
 use Rattle.metacompiler.specs.declared.entry.Kind.{Kind}
@@ -9,7 +10,7 @@ use Rattle.metacompiler.specs.declared.entry.Kind.TheVariants.{Primitive, Consta
 use Rattle.metacompiler.specs.declared.entry.Sign.{Sign}
 use Rattle.metacompiler.specs.declared.entry.Sign.TheVariants as s
 use Rattle.metacompiler.specs.Items.{Item, Header, Colon, Cell, Byte, Allot, Immediate, Definitions, Boot, Items, Nothing, Then, end_of, current, names, mark, new_name, record_of, sign_of}
-use Rattle.metacompiler.specs.Grammar.{AreSound, IsSound}
+use Rattle.metacompiler.specs.Grammar.{AreSound, IsSound, IsLimit}
 use Rattle.metacompiler.specs.Meanings.{look, record_named, record_if, if_record}
 use Rattle.metacompiler.specs.Built.{IsRecord}
 use Rattle.metacompiler.proofs.Finding.{Every, every_map, every_found}
@@ -85,6 +86,10 @@ sound_names limit (Then t ws i) h = by i h.1 (sound_names limit t h.0)
 pub sound_end : (limit : ℕ) (t : Items) → 256 ≤ limit → AreSound limit t → end_of t ≤ limit
 sound_end limit Nothing e h = e
 sound_end limit (Then t ws i) e h = h.1.room
+
+-- and below the buffers, as few as they may be
+pub sound_below : (limit : ℕ) → IsLimit limit → (t : Items) → AreSound limit t → end_of t ≤ GREATEST_LIMIT
+sound_below limit few t h = omega (arith, sound_end limit t few.0 h, few.1)
 
 -- no name stands in a vocabulary yet to come
 pub none_above : (limit : ℕ) (t : Items) (v : ℕ) → AreSound limit t → end_of t ≤ v → 256 ≤ v → Every (λ n. n.vocabulary ≢ v) (names t)

@@ -28,7 +28,7 @@ use Rattle.metacompiler.specs.State.{IsBlank, IsState, Goes}
 use Rattle.metacompiler.proofs.Making.{built_end}
 
 -- what goes on
-pub due : (b : Build) (t : Items) (ws : List Place) (w : Place) (l : Lead) → Built b t → AreSound 61440 t → Leads l (ws ++ w ∷ []) → IsOpen t l → IsBlank b.draft → Goes b (g.Due l) t ws w
+pub due : {limit : ℕ} (b : Build) (t : Items) (ws : List Place) (w : Place) (l : Lead) → Built limit b t → AreSound limit t → Leads l (ws ++ w ∷ []) → IsOpen t l → IsBlank b.draft → Goes limit b (g.Due l) t ws w
 due b t ws w l h s e o d =
     record {
       items = t;
@@ -39,7 +39,7 @@ due b t ws w l h s e o d =
       front = refl;
     }
 
-pub whole : (b : Build) (t : Items) (ws : List Place) (w : Place) (i : Item) → Built b (Then t (ws ++ w ∷ []) i) → AreSound 61440 t → IsSound 61440 t (ws ++ w ∷ []) i → IsBlank b.draft → Goes b g.Whole t ws w
+pub whole : {limit : ℕ} (b : Build) (t : Items) (ws : List Place) (w : Place) (i : Item) → Built limit b (Then t (ws ++ w ∷ []) i) → AreSound limit t → IsSound limit t (ws ++ w ∷ []) i → IsBlank b.draft → Goes limit b g.Whole t ws w
 whole b t ws w i h s e d =
     record {
       items = Then t (ws ++ w ∷ []) i;
@@ -69,12 +69,12 @@ counted_full limit t n w after sort e o h =
       first = λ d a b j. no_earlier limit t n sort o d b (subst (λ x. AtNumber limit t n x d) e j);
     }
 
-pub counted_due : (b : Build) (t : Items) (n : ℕ) (ws : List Place) (w : Place) (l : Lead) (sort : Sort) → IsState b t ws (Counted n) → w.sort ≡ sort → ((a : Place) → a.sort ≡ s.Number n → Leads l (a ∷ w ∷ [])) → IsOpen t l → Goes b (g.Due l) t ws w
+pub counted_due : {limit : ℕ} (b : Build) (t : Items) (n : ℕ) (ws : List Place) (w : Place) (l : Lead) (sort : Sort) → IsState limit b t ws (Counted n) → w.sort ≡ sort → ((a : Place) → a.sort ≡ s.Number n → Leads l (a ∷ w ∷ [])) → IsOpen t l → Goes limit b (g.Due l) t ws w
 counted_due b t n ws w l sort h e f o =
     let a = h.begun in
     due b t ws w l h.built h.sound (subst (λ x. Leads l (x ++ w ∷ [])) (sym a.1) (f a.0 a.2)) o h.drafts
 
-pub counted_whole : (b new : Build) (t : Items) (n : ℕ) (ws : List Place) (w : Place) (i : Item) → IsState b t ws (Counted n) → ((a : Place) → a.sort ≡ s.Number n → Spells t (a ∷ w ∷ []) i) → Fits t i → end_of t + item_size i ≤ 61440 → Built new (Then t (ws ++ w ∷ []) i) → new.draft ≡ b.draft → Goes new g.Whole t ws w
+pub counted_whole : {limit : ℕ} (b new : Build) (t : Items) (n : ℕ) (ws : List Place) (w : Place) (i : Item) → IsState limit b t ws (Counted n) → ((a : Place) → a.sort ≡ s.Number n → Spells t (a ∷ w ∷ []) i) → Fits t i → end_of t + item_size i ≤ limit → Built limit new (Then t (ws ++ w ∷ []) i) → new.draft ≡ b.draft → Goes limit new g.Whole t ws w
 counted_whole b new t n ws w i h f fits room built kept =
     let a = h.begun in
     let d = h.drafts in
@@ -82,23 +82,24 @@ counted_whole b new t n ws w i h f fits room built kept =
     (record { spells = subst (λ x. Spells t (x ++ w ∷ []) i) (sym a.1) (f a.0 a.2); fits = fits; room = room })
     (subst (λ x. IsBlank x) (sym kept) d)
 
-pub over : (b : Build) (t : Items) (r : Bool) (more : ℕ) → Built b t → IsTrue r ↔ (61440 < length b.image.items + 256 + more) → r ≡ true → 61440 < end_of t + more
-over b t r more h i e = let x = i.0 e in let z = built_end b t h in omega arith
+pub over : {limit : ℕ} (b : Build) (t : Items) (r : Bool) (more : ℕ) → Built limit b t → IsTrue r ↔ (b.limit < length b.image.items + 256 + more) → r ≡ true → limit < end_of t + more
+over b t r more h i e = let x = i.0 e in let z = built_end b t h in let l = h.limit_is in omega arith
 
-pub not_over : (b : Build) (t : Items) (r : Bool) (more : ℕ) → Built b t → IsTrue r ↔ (61440 < length b.image.items + 256 + more) → r ≡ false → end_of t + more ≤ 61440
-not_over b t r more h i e =
+pub not_over : {limit : ℕ} (b : Build) (t : Items) (r : Bool) (more : ℕ) → Built limit b t → IsTrue r ↔ (b.limit < length b.image.items + 256 + more) → r ≡ false → end_of t + more ≤ limit
+not_over {limit} b t r more h i e =
     let z = built_end b t h in
-    let no : 61440 < length b.image.items + 256 + more → ⊥ = λ x. let y = i.1 x in cc in
+    let l = h.limit_is in
+    let no : b.limit < length b.image.items + 256 + more → ⊥ = λ x. let y = i.1 x in cc in
     omega (arith, no)
 
 -- where an item begins
 pub newest_length : (es : List Named) → length (newest_first es) ≡ length es
 newest_length es = length-map (reverse es) stored ∙ length-reverse es
 
-pub item_due : (b : Build) (t : Items) (ws : List Place) (w : Place) (l : Lead) → IsState b t ws Whole → Leads l (w ∷ []) → IsOpen t l → Goes b (g.Due l) t ws w
+pub item_due : {limit : ℕ} (b : Build) (t : Items) (ws : List Place) (w : Place) (l : Lead) → IsState limit b t ws Whole → Leads l (w ∷ []) → IsOpen t l → Goes limit b (g.Due l) t ws w
 item_due b t ws w l h e o = due b t ws w l h.built h.sound (subst (λ x. Leads l (x ++ w ∷ [])) (sym h.begun) e) o h.drafts
 
-pub item_counted : (b : Build) (t : Items) (ws : List Place) (n : ℕ) (a : Site) (w : Place) → IsState b t ws Whole → w.sort ≡ s.Number n → a.screen ≡ w.screen → a.offset ≡ w.offset → Goes b (g.Counted n a) t ws w
+pub item_counted : {limit : ℕ} (b : Build) (t : Items) (ws : List Place) (n : ℕ) (a : Site) (w : Place) → IsState limit b t ws Whole → w.sort ≡ s.Number n → a.screen ≡ w.screen → a.offset ≡ w.offset → Goes limit b (g.Counted n a) t ws w
 item_counted b t ws n a w h e f j =
     let q : ws ++ w ∷ [] ≡ w ∷ [] = ap (λ x. x ++ w ∷ []) h.begun in
     record {
@@ -110,7 +111,7 @@ item_counted b t ws n a w h e f j =
       front = refl;
     }
 
-pub item_chosen : (b : Build) (t : Items) (ws : List Place) (w : Place) (v : ℕ) → IsState b t ws Whole → w.sort ≡ s.Other → Some v ≡ record_named t w → Goes b (g.Chosen v) t ws w
+pub item_chosen : {limit : ℕ} (b : Build) (t : Items) (ws : List Place) (w : Place) (v : ℕ) → IsState limit b t ws Whole → w.sort ≡ s.Other → Some v ≡ record_named t w → Goes limit b (g.Chosen v) t ws w
 item_chosen b t ws w v h e f =
     let q : ws ++ w ∷ [] ≡ w ∷ [] = ap (λ x. x ++ w ∷ []) h.begun in
     record {
@@ -122,45 +123,45 @@ item_chosen b t ws w v h e f =
       front = refl;
     }
 
-pub item_immediate : (b new : Build) (t : Items) (ws : List Place) (w : Place) → IsState b t ws Whole → w.sort ≡ s.Immediate → 0 < length b.names.items → Built new (Then t (ws ++ w ∷ []) Immediate) → new.draft ≡ b.draft → Goes new g.Whole t ws w
-item_immediate b new t ws w h e n built kept =
+pub item_immediate : {limit : ℕ} (b new : Build) (t : Items) (ws : List Place) (w : Place) → IsState limit b t ws Whole → w.sort ≡ s.Immediate → 0 < length b.names.items → Built limit new (Then t (ws ++ w ∷ []) Immediate) → new.draft ≡ b.draft → Goes limit new g.Whole t ws w
+item_immediate {limit} b new t ws w h e n built kept =
     let q : ws ++ w ∷ [] ≡ w ∷ [] = ap (λ x. x ++ w ∷ []) h.begun in
     let i = h.built in
-    let z = sound_end 61440 t (lit≤ tt) h.sound in
+    let z = sound_end limit t h.built.limited.0 h.sound in
     whole new t ws w Immediate built h.sound
     (record { spells = (w, q, e); fits = λ k. let l = ap length (i.named ∙ k) in omega (arith, l, n, newest_length b.names.items); room = omega (arith, z) })
     (subst (λ x. IsBlank x) (sym kept) h.drafts)
 
 -- behind a vocabulary's name
-pub chosen_whole : (b new : Build) (t : Items) (v : ℕ) (ws : List Place) (w : Place) → IsState b t ws (Chosen v) → w.sort ≡ s.Definitions → Built new (Then t (ws ++ w ∷ []) (Definitions v)) → new.draft ≡ b.draft → Goes new g.Whole t ws w
-chosen_whole b new t v ws w h e built kept =
+pub chosen_whole : {limit : ℕ} (b new : Build) (t : Items) (v : ℕ) (ws : List Place) (w : Place) → IsState limit b t ws (Chosen v) → w.sort ≡ s.Definitions → Built limit new (Then t (ws ++ w ∷ []) (Definitions v)) → new.draft ≡ b.draft → Goes limit new g.Whole t ws w
+chosen_whole {limit} b new t v ws w h e built kept =
     let a = h.begun in
-    let z = sound_end 61440 t (lit≤ tt) h.sound in
+    let z = sound_end limit t h.built.limited.0 h.sound in
     whole new t ws w (Definitions v) built h.sound
     (record { spells = (a.0, w, ap (λ x. x ++ w ∷ []) a.1, a.2, a.3, e); fits = tt; room = omega (arith, z) })
     (subst (λ x. IsBlank x) (sym kept) h.drafts)
 
 -- a name that is due
-pub made_whole : (b new : Build) (t : Items) (k : Kind) (ws : List Place) (w : Place) → IsState b t ws (Due (Makes k)) → length w.name < 32 → end_of t + (head_size w + kind_size k) ≤ 61440 → Built new (Then t (ws ++ w ∷ []) (Header w k)) → new.draft ≡ b.draft → Goes new g.Whole t ws w
+pub made_whole : {limit : ℕ} (b new : Build) (t : Items) (k : Kind) (ws : List Place) (w : Place) → IsState limit b t ws (Due (Makes k)) → length w.name < 32 → end_of t + (head_size w + kind_size k) ≤ limit → Built limit new (Then t (ws ++ w ∷ []) (Header w k)) → new.draft ≡ b.draft → Goes limit new g.Whole t ws w
 made_whole b new t k ws w h short room' built kept =
     let a = h.begun in
     whole new t ws w (Header w k) built h.sound
     (record { spells = (ws, refl, a.0); fits = (short, a.1); room = room' })
     (subst (λ x. IsBlank x) (sym kept) h.drafts)
 
-pub boot_whole : (b new : Build) (t : Items) (ws : List Place) (w : Place) (n : Name) (a : ℕ) → IsState b t ws (Due Starts) → Some n ≡ look t w → a ≡ address n → Built new (Then t (ws ++ w ∷ []) (Boot a)) → new.draft ≡ b.draft → Goes new g.Whole t ws w
-boot_whole b new t ws w n a h e q built kept =
+pub boot_whole : {limit : ℕ} (b new : Build) (t : Items) (ws : List Place) (w : Place) (n : Name) (a : ℕ) → IsState limit b t ws (Due Starts) → Some n ≡ look t w → a ≡ address n → Built limit new (Then t (ws ++ w ∷ []) (Boot a)) → new.draft ≡ b.draft → Goes limit new g.Whole t ws w
+boot_whole {limit} b new t ws w n a h e q built kept =
     let x = h.begun in
-    let z = sound_end 61440 t (lit≤ tt) h.sound in
+    let z = sound_end limit t h.built.limited.0 h.sound in
     whole new t ws w (Boot a) built h.sound
     (record { spells = (ws, w, n, refl, x.0, sym e, q); fits = x.1; room = omega (arith, z) })
     (subst (λ x. IsBlank x) (sym kept) h.drafts)
 
-pub colon_goes : (b : Build) (t : Items) (ws : List Place) (a : Title) (w : Place) → IsState b t ws (Due Defines) → length w.name < 32 → end_of t + head_size w ≤ 61440 → IsTitle a.screen a.name.items w → Goes b (g.Inside a) t ws w
-colon_goes b t ws a w h short room' titled =
+pub colon_goes : {limit : ℕ} (b : Build) (t : Items) (ws : List Place) (a : Title) (w : Place) → IsState limit b t ws (Due Defines) → length w.name < 32 → end_of t + head_size w ≤ limit → IsTitle a.screen a.name.items w → Goes limit b (g.Inside a) t ws w
+colon_goes {limit} b t ws a w h short room' titled =
     let x = h.begun in
     let d = h.drafts in
-    let p = starts (controls t) (body_at t w) 61440 b.draft room' d.0 d.1 d.2 d.3 in
+    let p = starts (controls t) (body_at t w) limit b.draft room' d.0 d.1 d.2 d.3 in
     record {
       items = t;
       words = ws ++ w ∷ [];
@@ -170,7 +171,7 @@ colon_goes b t ws a w h short room' titled =
         built = h.built;
         sound = h.sound;
         drafts = p;
-        begun = record { front = ws; inner = []; is = refl; leads = x.0; short = short; means = refl; fits = fronts (controls t) (body_at t w) 61440 [] b.draft p };
+        begun = record { front = ws; inner = []; is = refl; leads = x.0; short = short; means = refl; fits = fronts (controls t) (body_at t w) limit [] b.draft p };
       };
       front = refl;
     }

@@ -6,9 +6,11 @@ use Rattle.metacompiler.specs.declared.entry.Kind.TheVariants.{Vocabulary}
 use Rattle.metacompiler.specs.Places.{Place}
 use Rattle.metacompiler.specs.Names.{newest_first, newest_link}
 use Rattle.metacompiler.specs.Items.{Items, Nothing, Then, Item, Header, head, head_size, link_of, new_name, bytes, heads_of, names, controls, current, newest_record, boot, end_of}
-use Rattle.metacompiler.specs.Grammar.{AreSound}
+use Rattle.metacompiler.specs.Grammar.{IsLimit, AreSound}
 
-pub record Built (b : Build) (t : Items) : Type 0 where
+pub record Built (limit : ℕ) (b : Build) (t : Items) : Type 0 where
+  pub limit_is : b.limit ≡ limit
+  pub limited : IsLimit limit
   pub laid : b.image.items ≡ bytes (heads_of t) t false
   pub named : newest_first b.names.items ≡ names t
   pub runtime : slice_index b.runtime.items ≡ controls t
@@ -17,11 +19,11 @@ pub record Built (b : Build) (t : Items) : Type 0 where
   pub record_is : b.newest_record ≡ newest_record t
   pub boot_is : b.boot ≡ boot t
 
--- some sound items were built
+-- some sound items were built, by its own limit
 pub record Building (b : Build) : Type 0 where
   pub items : Items
-  pub is : Built b items
-  pub sound : AreSound 61440 items
+  pub is : Built b.limit b items
+  pub sound : AreSound b.limit items
 
 -- the record of a vocabulary
 abbrev pub OwnRecord : Items → Item → ℕ → Type 0
@@ -33,7 +35,9 @@ IsRecord Nothing v = ⊥
 IsRecord (Then t ws i) v = OwnRecord t i v ⊎ IsRecord t v
 
 -- the state behind a header's code field
-pub record Headed (b : Build) (t : Items) (p : Place) (sign : Sign) (code : ℕ) : Type 0 where
+pub record Headed (limit : ℕ) (b : Build) (t : Items) (p : Place) (sign : Sign) (code : ℕ) : Type 0 where
+  pub limit_is : b.limit ≡ limit
+  pub limited : IsLimit limit
   pub laid : b.image.items ≡ bytes (newest_link (new_name t p sign ∷ names t)) t false ++ head (link_of t p) p false code
   pub named : newest_first b.names.items ≡ new_name t p sign ∷ names t
   pub runtime : slice_index b.runtime.items ≡ controls t

@@ -4,6 +4,7 @@ use Rattle.std.specs.Prelude.{◌≡◌, ◌≢◌, ℕ, Bool, false, ◌||◌, 
 use Rattle.colon_bodies.specs.Tokens.{SEMI}
 use Rattle.colon_bodies.specs.Tree.{all_words, all_depth}
 use Rattle.colon_bodies.specs.declared.words.Half.TheVariants.{Free}
+use Rattle.memory.specs.declared.limit.TheConstants.{GREATEST_LIMIT}
 use Rattle.metacompiler.specs.Places.{Place}
 use Rattle.metacompiler.specs.Names.{Name, address}
 use Rattle.metacompiler.specs.Items.{Item, Header, Colon, Cell, Byte, Allot, Immediate, Definitions, Boot, Items, Nothing, Then, item_size, end_of, names, controls, boot}
@@ -68,6 +69,10 @@ Fits t (Allot n) = n < 32768
 Fits t Immediate = names t ≢ []
 Fits t (Boot w) = boot t ≡ None
 Fits t _ = Unit {0}
+
+-- a limit that an image may have
+abbrev pub IsLimit : ℕ → Type 0
+IsLimit limit = (256 ≤ limit) × (limit ≤ GREATEST_LIMIT)
 
 -- an item behind others: its words, what it needs, and its room
 pub record IsSound (limit : ℕ) (t : Items) (ws : List Place) (i : Item) : Type 0 where

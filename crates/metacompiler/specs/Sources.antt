@@ -35,17 +35,17 @@ pub record Done : Type 0 where
   pub after : ℕ
 
 -- nothing is wrong with these words, whatever comes behind them
-pub record IsFaultless (source : List SourceWord) : Type 0 where
+pub record IsFaultless (limit : ℕ) (source : List SourceWord) : Type 0 where
   pub items : Items
   pub words : List Place
   pub stage : Stage
-  pub front : IsFront 61440 (all_placed source) items words stage
+  pub front : IsFront limit (all_placed source) items words stage
 
 -- the source is good, its image is this one, and each of its screens was read once
-pub record IsBuiltOf (d : Disk) (from to : ℕ) (built : Contents) (done : Done) : Type 0 where
+pub record IsBuiltOf (limit : ℕ) (d : Disk) (from to : ℕ) (built : Contents) (done : Done) : Type 0 where
   pub there : AreThere d from to
   pub items : Items
-  pub good : IsGood 61440 (all_placed (source_of d from to)) items built.entry
+  pub good : IsGood limit (all_placed (source_of d from to)) items built.entry
   pub is : built.bytes ≡ image items
   pub disk : done.disk ≡ Some (after_reads (to + 1 - from) d)
   pub failures : done.after ≡ done.before
@@ -62,20 +62,20 @@ IsUnread d from k screen done =
 
 -- why it is refused, once k screens were read: want of memory, a screen, the end of all screens, or a word. That is the
 -- first fault of every source that begins with the words of these k, and before the last of these was read none was known
-abbrev pub Because : Disk → (from to k screen offset : ℕ) → Cause → Done → Type 0
-Because d from to k screen offset c.OutOfMemory done = (screen ≡ from) × (offset ≡ 0) × (done.after ≡ done.before)
-Because d from to k screen offset c.Device done =
-    (offset ≡ 0) × (from ≤ screen) × (screen ≤ to) × IsUnread d from k screen done × IsFaultless (source_words from (screens d from (screen - from)))
-Because d from to k screen offset c.EndsInside done =
-    (k ≡ to + 1 - from) × AreThere d from to × (done.after ≡ done.before) × IsFault 61440 (all_placed (source_of d from to)) to screen offset c.EndsInside
-Because d from to k screen offset c.NoBoot done =
-    (k ≡ to + 1 - from) × AreThere d from to × (done.after ≡ done.before) × IsFault 61440 (all_placed (source_of d from to)) to screen offset c.NoBoot
-Because d from to k screen offset cause done =
-    (done.after ≡ done.before) × IsFaultless (source_words from (screens d from (k - 1))) × ((rest : List SourceWord) → IsFault 61440 (all_placed (source_words from (screens d from k) ++ rest)) to screen offset cause)
+abbrev pub Because : ℕ → Disk → (from to k screen offset : ℕ) → Cause → Done → Type 0
+Because limit d from to k screen offset c.OutOfMemory done = (screen ≡ from) × (offset ≡ 0) × (done.after ≡ done.before)
+Because limit d from to k screen offset c.Device done =
+    (offset ≡ 0) × (from ≤ screen) × (screen ≤ to) × IsUnread d from k screen done × IsFaultless limit (source_words from (screens d from (screen - from)))
+Because limit d from to k screen offset c.EndsInside done =
+    (k ≡ to + 1 - from) × AreThere d from to × (done.after ≡ done.before) × IsFault limit (all_placed (source_of d from to)) to screen offset c.EndsInside
+Because limit d from to k screen offset c.NoBoot done =
+    (k ≡ to + 1 - from) × AreThere d from to × (done.after ≡ done.before) × IsFault limit (all_placed (source_of d from to)) to screen offset c.NoBoot
+Because limit d from to k screen offset cause done =
+    (done.after ≡ done.before) × IsFaultless limit (source_words from (screens d from (k - 1))) × ((rest : List SourceWord) → IsFault limit (all_placed (source_words from (screens d from k) ++ rest)) to screen offset cause)
 
 -- it is refused after one read each of the first k of the screens, in order
-pub record IsRefused (d : Disk) (from to : ℕ) (e : BuildFault) (done : Done) : Type 0 where
+pub record IsRefused (limit : ℕ) (d : Disk) (from to : ℕ) (e : BuildFault) (done : Done) : Type 0 where
   pub k : ℕ
   pub few : k ≤ to + 1 - from
   pub disk : done.disk ≡ Some (after_reads k d)
-  pub because : Because d from to k e.screen e.offset e.cause done
+  pub because : Because limit d from to k e.screen e.offset e.cause done

@@ -52,28 +52,28 @@ Shows _ ws _ = ⊥
 abbrev pub IsBlank : Draft → Type 0
 IsBlank d = (d.image.items ≡ []) × (d.marks.items ≡ []) × (d.half ≡ Free) × (d.is_past ≡ false)
 
-abbrev pub Drafts : Build → Items → Stage → Type 0
-Drafts b t (Inside p before) = Progress (controls t) (body_at t p) 61440 before b.draft
-Drafts b t _ = IsBlank b.draft
+abbrev pub Drafts : ℕ → Build → Items → Stage → Type 0
+Drafts limit b t (Inside p before) = Progress (controls t) (body_at t p) limit before b.draft
+Drafts limit b t _ = IsBlank b.draft
 
-pub record IsState (b : Build) (t : Items) (ws : List Place) (stage : Stage) : Type 0 where
-  pub built : Built b t
-  pub sound : AreSound 61440 t
-  pub begun : stages.Begun 61440 t ws stage
-  pub drafts : Drafts b t stage
+pub record IsState (limit : ℕ) (b : Build) (t : Items) (ws : List Place) (stage : Stage) : Type 0 where
+  pub built : Built limit b t
+  pub sound : AreSound limit t
+  pub begun : stages.Begun limit t ws stage
+  pub drafts : Drafts limit b t stage
 
 -- one more word was taken
-pub record Goes (b : Build) (begun : Begun) (t : Items) (ws : List Place) (w : Place) : Type 0 where
+pub record Goes (limit : ℕ) (b : Build) (begun : Begun) (t : Items) (ws : List Place) (w : Place) : Type 0 where
   pub items : Items
   pub words : List Place
   pub stage : Stage
   pub shows : Shows begun words stage
-  pub is : IsState b items words stage
+  pub is : IsState limit b items words stage
   pub front : item_words items ++ words ≡ item_words t ++ (ws ++ w ∷ [])
 
-abbrev pub Taken : Items → List Place → Stage → Place → List Place → Result Begun Cause → Build → Type 0
-Taken t ws stage w after (Ok begun) b = Goes b begun t ws w
-Taken t ws stage w after (Err e) b = (e ≡ c.OutOfMemory) ⊎ FirstCause 61440 t stage w after e
+abbrev pub Taken : ℕ → Items → List Place → Stage → Place → List Place → Result Begun Cause → Build → Type 0
+Taken limit t ws stage w after (Ok begun) b = Goes limit b begun t ws w
+Taken limit t ws stage w after (Err e) b = (e ≡ c.OutOfMemory) ⊎ FirstCause limit t stage w after e
 
 -- what the code's word means
 abbrev pub Means : Result BodyWord Cause → Result Token Cause → Type 0
@@ -95,14 +95,15 @@ pub record Somewhere (b : Build) (title : Title) : Type 0 where
   pub before : List Token
   pub place : Place
   pub titled : IsTitle title.screen title.name.items place
-  pub is : IsState b items words (Inside place before)
+  pub is : IsState b.limit b items words (Inside place before)
 
 -- what came of one more word of a draft
-abbrev pub TakenSo : (ℕ → ℕ) → ℕ → Outer → Body → Half → Token → Result (Unit {0}) Cause → Build → Type 0
-TakenSo rt at o t h w (Ok u) b = BodyGoes rt at 61440 o t h w b.draft
-TakenSo rt at o t h w (Err e) b = (e ≡ c.OutOfMemory) ⊎ ((d : BodyCause) × (e ≡ cause_of d) × FirstBodyCause rt at 61440 d (open_words o t h) w)
+abbrev pub TakenSo : ℕ → (ℕ → ℕ) → ℕ → Outer → Body → Half → Token → Result (Unit {0}) Cause → Build → Type 0
+TakenSo limit rt at o t h w (Ok u) b = BodyGoes rt at limit o t h w b.draft
+TakenSo limit rt at o t h w (Err e) b = (e ≡ c.OutOfMemory) ⊎ ((d : BodyCause) × (e ≡ cause_of d) × FirstBodyCause rt at limit d (open_words o t h) w)
 
 pub record IsSame (old new : Build) : Type 0 where
+  pub limit : new.limit ≡ old.limit
   pub image : new.image ≡ old.image
   pub names : new.names ≡ old.names
   pub runtime : new.runtime ≡ old.runtime
@@ -111,19 +112,19 @@ pub record IsSame (old new : Build) : Type 0 where
   pub boot : new.boot ≡ old.boot
 
 -- what came of a draft's ;
-pub record Ends (t : Items) (p : Place) (before : List Token) (b : Build) : Type 0 where
+pub record Ends (limit : ℕ) (t : Items) (p : Place) (before : List Token) (b : Build) : Type 0 where
   pub body : Definition
   pub is : before ≡ all_words body
   pub shallow : all_depth body ≤ 64
   pub known : AreKnown (controls t) (all_words body ++ SEMI ∷ [])
   pub short : AreShort (all_words body)
-  pub room : end_of t + item_size (Colon p body) ≤ 61440
-  pub built : (ws : List Place) → Built b (Then t ws (Colon p body))
+  pub room : end_of t + item_size (Colon p body) ≤ limit
+  pub built : (ws : List Place) → Built limit b (Then t ws (Colon p body))
   pub drafts : IsBlank b.draft
 
-abbrev pub EndsSo : Items → Place → List Token → Result (Unit {0}) Cause → Build → Type 0
-EndsSo t p before (Ok u) b = Ends t p before b
-EndsSo t p before (Err e) b = (e ≡ c.OutOfMemory) ⊎ ((d : BodyCause) × (e ≡ cause_of d) × FirstBodyCause (controls t) (body_at t p) 61440 d before SEMI)
+abbrev pub EndsSo : ℕ → Items → Place → List Token → Result (Unit {0}) Cause → Build → Type 0
+EndsSo limit t p before (Ok u) b = Ends limit t p before b
+EndsSo limit t p before (Err e) b = (e ≡ c.OutOfMemory) ⊎ ((d : BodyCause) × (e ≡ cause_of d) × FirstBodyCause (controls t) (body_at t p) limit d before SEMI)
 
 -- the number of a primitive to be made is a byte
 abbrev pub IsByte : Kind → Type 0
@@ -136,7 +137,7 @@ pub record IsBegun (b : Build) (g : Begun) : Type 0 where
   pub words : List Place
   pub stage : Stage
   pub shows : Shows g words stage
-  pub is : IsState b items words stage
+  pub is : IsState b.limit b items words stage
 
 -- what a number's own fault is, once the next word is known
 abbrev pub OfNumber : Items → (n : ℕ) → Sort → Option Cause → Type 0
@@ -144,21 +145,21 @@ OfNumber t n sort None = (sort ≡ s.Prim → IsPrimitive t n) × (sort ≡ s.Al
 OfNumber t n sort (Some e) = ((sort ≡ s.Prim) × (IsPrimitive t n → ⊥) × (e ≡ c.BadPrimitive)) ⊎ ((sort ≡ s.Allot) × (32768 ≤ n) × (e ≡ c.BadNumber))
 
 -- a fault at a word, or at the number before it
-pub record Here (t : Items) (stage : Stage) (w : Place) (after : List Place) (f : BuildFault) : Type 0 where
-  pub cause : FirstCause 61440 t stage w after f.cause
+pub record Here (limit : ℕ) (t : Items) (stage : Stage) (w : Place) (after : List Place) (f : BuildFault) : Type 0 where
+  pub cause : FirstCause limit t stage w after f.cause
   pub screen : f.screen ≡ w.screen
   pub offset : f.offset ≡ w.offset
 
-pub record Back (t : Items) (ws : List Place) (w : Place) (after : List Place) (f : BuildFault) : Type 0 where
+pub record Back (limit : ℕ) (t : Items) (ws : List Place) (w : Place) (after : List Place) (f : BuildFault) : Type 0 where
   pub number : Place
   pub is : ws ≡ number ∷ []
-  pub cause : FirstCause 61440 t Whole number (w ∷ after) f.cause
+  pub cause : FirstCause limit t Whole number (w ∷ after) f.cause
   pub screen : f.screen ≡ number.screen
   pub offset : f.offset ≡ number.offset
 
-abbrev pub TakenAt : Items → List Place → Stage → Place → List Place → Result Begun BuildFault → Build → Type 0
-TakenAt t ws stage w after (Ok begun) b = Goes b begun t ws w
-TakenAt t ws stage w after (Err f) b = (f.cause ≡ c.OutOfMemory) ⊎ Here t stage w after f ⊎ Back t ws w after f
+abbrev pub TakenAt : ℕ → Items → List Place → Stage → Place → List Place → Result Begun BuildFault → Build → Type 0
+TakenAt limit t ws stage w after (Ok begun) b = Goes limit b begun t ws w
+TakenAt limit t ws stage w after (Err f) b = (f.cause ≡ c.OutOfMemory) ⊎ Here limit t stage w after f ⊎ Back limit t ws w after f
 
 -- a fault at a place
 abbrev pub located : (screen offset : ℕ) → Result Begun Cause → Result Begun BuildFault
@@ -166,12 +167,12 @@ located screen offset (Ok begun) = Ok begun
 located screen offset (Err e) = Err (record { screen = screen; offset = offset; cause = e })
 
 -- how far a source was read
-pub record IsRead (b : Build) (g : Begun) (done : List Place) : Type 0 where
+pub record IsRead (limit : ℕ) (b : Build) (g : Begun) (done : List Place) : Type 0 where
   pub items : Items
   pub words : List Place
   pub stage : Stage
   pub shows : Shows g words stage
-  pub is : IsState b items words stage
+  pub is : IsState limit b items words stage
   pub front : done ≡ item_words items ++ words
 
 -- the bytes of cells
@@ -180,9 +181,9 @@ all_cells [] = []
 all_cells (x ∷ xs) = cell_bytes x ++ all_cells xs
 
 -- what a source is built to
-pub record IsBuilt (source : List Place) (bytes : List ℕ) (entry : ℕ) : Type 0 where
+pub record IsBuilt (limit : ℕ) (source : List Place) (bytes : List ℕ) (entry : ℕ) : Type 0 where
   pub items : Items
-  pub good : IsGood 61440 source items entry
+  pub good : IsGood limit source items entry
   pub is : bytes ≡ image items
 
 abbrev pub tells_whole : Begun → Bool

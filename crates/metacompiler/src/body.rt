@@ -6,6 +6,7 @@ ghost use Rattle.colon_bodies.specs.Tokens.{Token, SEMI};
 ghost use Rattle.colon_bodies.specs.declared.words.Half.{Half};
 ghost use Rattle.colon_bodies.specs.Open.{Outer, open_depth};
 ghost use Rattle.colon_bodies.specs.Draft.{token, Drafting, Drafts};
+ghost use Rattle.memory.specs.declared.limit.TheConstants.{GREATEST_LIMIT};
 ghost use Rattle.metacompiler.specs.Names.{entry};
 ghost use Rattle.metacompiler.specs.Places.{Place, place, sense, IsTitle};
 ghost use Rattle.metacompiler.specs.Items.{Items};
@@ -46,7 +47,7 @@ fn is_barred_name(half: Half, e: Entry) -> bool
 /// The address of a name's code field.
 fn address_of(b: &Build, w: Spot) -> Result<Option<u16>, Cause>
     requires { Building b.now }
-    ensures { (t : Items) → Built b.now t → Looks b.now.draft.half (look t (place w.entry)) result }
+    ensures { (t : Items) → Built b.now.limit b.now t → Looks b.now.draft.half (look t (place w.entry)) result }
 {
     match find_name(b.names.as_slice(), b.current, w.name) {
         None => Ok(None),
@@ -76,7 +77,7 @@ fn unnamed_word<'a>(inner: Inner<'a>) -> Result<BodyWord<'a>, Cause>
 /// What a word is that is tried as a name first.
 fn name_or_other<'a>(b: &Build, w: Spot<'a>) -> Result<BodyWord<'a>, Cause>
     requires { Building b.now }
-    ensures { (t : Items) → Built b.now t → Means result (name_first b.now.draft.half (look t (place w.entry)) (sense w.entry.inner)) }
+    ensures { (t : Items) → Built b.now.limit b.now t → Means result (name_first b.now.draft.half (look t (place w.entry)) (sense w.entry.inner)) }
 {
     match address_of(b, w)? {
         Some(a) => Ok(BodyWord::Name(a)),
@@ -87,7 +88,7 @@ fn name_or_other<'a>(b: &Build, w: Spot<'a>) -> Result<BodyWord<'a>, Cause>
 /// What a word means in a body.
 fn meaning_of<'a>(b: &Build, w: Spot<'a>) -> Result<BodyWord<'a>, Cause>
     requires { Building b.now }
-    ensures { (t : Items) → Built b.now t → Means result (meaning b.now.draft.half t (place w.entry)) }
+    ensures { (t : Items) → Built b.now.limit b.now t → Means result (meaning b.now.draft.half t (place w.entry)) }
 {
     match (b.draft.half, w.inner) {
         (Half::Free, Inner::Keyword(k)) => Ok(k),
@@ -99,13 +100,14 @@ fn meaning_of<'a>(b: &Build, w: Spot<'a>) -> Result<BodyWord<'a>, Cause>
 /// One more word of the draft.
 fn go_on(b: &mut Build, word: BodyWord, at: u16) -> Result<(), Cause>
     requires drafting { Drafting at b.old.draft.image.items b.old.draft.marks.items }
-    requires room { at + length b.old.draft.image.items ≤ 61440 }
+    requires room { at + length b.old.draft.image.items ≤ b.old.limit }
+    requires limit { b.old.limit ≤ GREATEST_LIMIT }
     requires controls { length b.old.runtime.items ≡ 256 }
     requires inside { token word ≢ SEMI }
-    ensures taken { (o : Outer) (t : Body) (h : Half) → Drafts (slice_index b.old.runtime.items) at o t h b.old.draft → open_depth o t ≤ 64 → TakenSo (slice_index b.old.runtime.items) at o t h (token word.entry) result b.new }
+    ensures taken { (o : Outer) (t : Body) (h : Half) → Drafts (slice_index b.old.runtime.items) at o t h b.old.draft → open_depth o t ≤ 64 → TakenSo b.old.limit (slice_index b.old.runtime.items) at o t h (token word.entry) result b.new }
     ensures kept { IsSame b.old b.new }
 {
-    take_word(&mut b.draft, word, at, 61440, b.runtime.as_slice())?;
+    take_word(&mut b.draft, word, at, b.limit, b.runtime.as_slice())?;
     Ok(())
 }
 
@@ -121,10 +123,10 @@ fn exit_of(runtime: &[u16]) -> u16
 fn end_body(b: &mut Build, p: &Title, at: u16) -> Result<(), Cause>
     requires somewhere { Somewhere b.old p.now }
     requires short { length p.now.name.items < 32 }
-    ensures { (t : Items) (ws : List Place) (before : List Token) (q : Place) → IsTitle p.now.screen p.now.name.items q → IsState b.old t ws (Inside q before) → at ≡ body_at t q → EndsSo t q before result b.new }
+    ensures { (t : Items) (ws : List Place) (before : List Token) (q : Place) → IsTitle p.now.screen p.now.name.items q → IsState b.old.limit b.old t ws (Inside q before) → at ≡ body_at t q → EndsSo b.old.limit t q before result b.new }
 {
     let exit = exit_of(b.runtime.as_slice());
-    finish(&mut b.draft, at, 61440, exit)?;
+    finish(&mut b.draft, at, b.limit, exit)?;
     make_colon(b, p)?;
     Ok(())
 }
@@ -133,7 +135,7 @@ fn end_body(b: &mut Build, p: &Title, at: u16) -> Result<(), Cause>
 pub fn take_body(b: &mut Build, p: Title, w: Spot) -> Result<Begun, Cause>
     requires somewhere { Somewhere b.old p }
     requires short { length p.name.items < 32 }
-    ensures { (t : Items) (ws after : List Place) (before : List Token) (q : Place) → IsTitle p.screen p.name.items q → IsState b.old t ws (Inside q before) → Taken t ws (Inside q before) (place w.entry) after result b.new }
+    ensures { (t : Items) (ws after : List Place) (before : List Token) (q : Place) → IsTitle p.screen p.name.items q → IsState b.old.limit b.old t ws (Inside q before) → Taken b.old.limit t ws (Inside q before) (place w.entry) after result b.new }
 {
     let at = here(b) + 7 + p.name.len() as u16;
     let word = meaning_of(b, w)?;

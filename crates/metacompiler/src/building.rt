@@ -1,10 +1,12 @@
 //! A source built to an image.
 
-ghost use Rattle.std.specs.Prelude.{◌≡◌, ◌≤◌, ◌⊎◌, [], List, Some, IfOk, IfErr, length, vec_len};
+ghost use Rattle.std.specs.Prelude.{◌≡◌, ℕ, ◌≤◌, ◌⊎◌, [], List, Some, IfOk, IfErr, length, vec_len};
 ghost use Rattle.block_buffers.specs.Calls.{failures};
 ghost use Rattle.block_buffers.specs.Disks.{Disk};
+ghost use Rattle.memory.specs.Bytes.{limit_of};
 ghost use Rattle.metacompiler.specs.Places.{Place};
 ghost use Rattle.metacompiler.specs.Faults.{IsFault};
+ghost use Rattle.metacompiler.specs.Grammar.{IsLimit};
 ghost use Rattle.metacompiler.specs.Built.{Building};
 ghost use Rattle.metacompiler.specs.State.{IsRead, IsBuilt, tells_whole};
 ghost use Rattle.metacompiler.specs.Sources.{IsBuiltOf, IsRefused};
@@ -17,6 +19,7 @@ use crate::reading::{Compilation, Stop, take_screens};
 use crate::state::{Begun, Build};
 use block_buffers::{BLOCK_SIZE, Device};
 use image_loader::Image;
+use memory::limit_of;
 use std::alloc::Global;
 
 /// A fault behind the last word.
@@ -40,10 +43,10 @@ fn is_whole(begun: &Begun) -> bool
 /// What comes of a source that was read to its end: the image's bytes and the entry.
 fn end(alloc: Global, b: &Build, begun: &Begun, last: u16) -> Result<(Vec<u8>, u16), BuildFault>
     requires { Building b.now }
-    ensures built { (source : List Place) → IsRead b.now begun.now source → IfOk result (λ r. IsBuilt source r.0.items r.1) }
-    ensures refused { (source : List Place) → IsRead b.now begun.now source → IfErr result (λ f. IsFault 61440 source last f.screen f.offset f.cause) }
+    ensures built { (limit : ℕ) (source : List Place) → IsRead limit b.now begun.now source → IfOk result (λ r. IsBuilt limit source r.0.items r.1) }
+    ensures refused { (limit : ℕ) (source : List Place) → IsRead limit b.now begun.now source → IfErr result (λ f. IsFault limit source last f.screen f.offset f.cause) }
     ensures kind { IfErr result (λ f. (f.cause ≡ c.EndsInside) ⊎ (f.cause ≡ c.NoBoot) ⊎ (f.cause ≡ c.OutOfMemory)) }
-    ensures size { IfOk result (λ r. (256 ≤ vec_len r.0) × (vec_len r.0 ≤ 61440)) }
+    ensures size { IfOk result (λ r. (256 ≤ vec_len r.0) × (vec_len r.0 ≤ b.now.limit)) }
 {
     if !is_whole(begun) {
         return Err(behind(last, Cause::EndsInside));
@@ -57,12 +60,14 @@ fn end(alloc: Global, b: &Build, begun: &Begun, last: u16) -> Result<(Vec<u8>, u
     }
 }
 
-/// A source of which no word was taken yet.
-fn begin(alloc: Global) -> Result<Compilation, Cause>
-    ensures none { IfOk result (λ k. Holds k []) }
+/// A source of which no word was taken yet, whose image ends at the limit at the latest.
+fn begin(alloc: Global, limit: u16) -> Result<Compilation, Cause>
+    requires { IsLimit limit }
+    ensures none { IfOk result (λ k. Holds k.build.limit k []) }
+    ensures limit { IfOk result (λ k. k.build.limit ≡ limit) }
     ensures memory { IfErr result (λ e. e ≡ c.OutOfMemory) }
 {
-    let build = start(alloc)?;
+    let build = start(alloc, limit)?;
     Ok(Compilation {
         build,
         begun: Begun::Whole,
@@ -70,6 +75,7 @@ fn begin(alloc: Global) -> Result<Compilation, Cause>
 }
 
 /// Builds the source in the screens from `from` to `to` of a device to an image, whose entry is the word that BOOT names.
+/// It ends where four block buffers begin at the latest.
 ///
 /// One screen at a time is read and kept. Each is read once at most, in order, and none behind the one that decides. Where
 /// the source isn't good the answer is its first fault: the first word that has a cause, with the first of its causes in the
@@ -82,10 +88,10 @@ pub fn build<D: Device>(
     from: u16,
     to: u16,
 ) -> Result<Image, BuildFault>
-    ensures built { (d : Disk) → D.disk device.old ≡ Some d → IfOk result (λ i. IsBuiltOf d from to i (record { disk = D.disk device.new; before = failures (D.calls device.old); after = failures (D.calls device.new) })) }
-    ensures refused { (d : Disk) → D.disk device.old ≡ Some d → IfErr result (λ e. IsRefused d from to e (record { disk = D.disk device.new; before = failures (D.calls device.old); after = failures (D.calls device.new) })) }
+    ensures built { (d : Disk) → D.disk device.old ≡ Some d → IfOk result (λ i. IsBuiltOf (limit_of 4) d from to i (record { disk = D.disk device.new; before = failures (D.calls device.old); after = failures (D.calls device.new) })) }
+    ensures refused { (d : Disk) → D.disk device.old ≡ Some d → IfErr result (λ e. IsRefused (limit_of 4) d from to e (record { disk = D.disk device.new; before = failures (D.calls device.old); after = failures (D.calls device.new) })) }
 {
-    let mut compilation = match begin(alloc) {
+    let mut compilation = match begin(alloc, limit_of(4)) {
         Ok(compilation) => compilation,
         Err(_) => {
             return Err(BuildFault {

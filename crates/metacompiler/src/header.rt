@@ -2,6 +2,7 @@
 
 ghost use Rattle.std.specs.Prelude.{◌≡◌, ◌≢◌, ℕ, false, ◌+◌, ◌*◌, ◌-◌, ◌<◌, ◌≤◌, ◌^◌, ◌⊎◌, ◌++◌, length, OnOk, IfOk, IfErr};
 ghost use Rattle.colon_bodies.specs.Draft.{Patches};
+ghost use Rattle.memory.specs.declared.limit.TheConstants.{GREATEST_LIMIT};
 ghost use Rattle.metacompiler.specs.Places.{Place, IsTitle};
 ghost use Rattle.metacompiler.specs.Items.{Items, head};
 ghost use Rattle.metacompiler.specs.Grammar.{AreSound};
@@ -66,7 +67,7 @@ pub fn make_header(
 ) -> Result<(), Cause>
     requires building { Building b.old }
     requires short { length name.now < 32 }
-    ensures headed { (t : Items) (p : Place) → IsTitle screen name.now p → Built b.old t → AreSound 61440 t → OnOk result (Headed b.new t p sign code) }
+    ensures headed { (limit : ℕ) (t : Items) (p : Place) → IsTitle screen name.now p → Built limit b.old t → AreSound limit t → OnOk result (Headed limit b.new t p sign code) }
     ensures kept { OnOk result (b.new.draft ≡ b.old.draft) }
     ensures memory { IfErr result (λ e. e ≡ OutOfMemory) }
 {
@@ -90,7 +91,7 @@ pub fn make_header(
 pub fn here(b: &Build) -> u16
     requires { Building b.now }
     ensures address { result ≡ length b.now.image.items + 256 }
-    ensures below { result ≤ 61440 }
+    ensures below { result ≤ GREATEST_LIMIT }
 {
     b.image.len() as u16 + 256
 }

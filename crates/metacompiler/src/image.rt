@@ -5,6 +5,7 @@ ghost use Rattle.metacompiler.specs.Places.{Place, place};
 ghost use Rattle.metacompiler.specs.Names.{newest_first};
 ghost use Rattle.metacompiler.specs.Items.{Items, Nothing, controls, zeros, image, low, system, last_link};
 ghost use Rattle.metacompiler.specs.Faults.{IsFault};
+ghost use Rattle.metacompiler.specs.Grammar.{IsLimit};
 ghost use Rattle.metacompiler.specs.Built.{Built, Building};
 ghost use Rattle.metacompiler.specs.State.{IsBlank, IsRead, IsBuilt, all_cells, tells_whole};
 ghost use Rattle.metacompiler.specs.declared.cause.Cause.TheVariants.{OutOfMemory};
@@ -41,7 +42,7 @@ fn newest_link_of(names: &[Named]) -> u16
 /// Lays the cells of the system.
 fn lay_system(bytes: &mut Vec<u8>, b: &Build) -> Result<(), Cause>
     requires { Building b.now }
-    ensures bytes { (t : Items) → Built b.now t → OnOk result (bytes.new.items ≡ bytes.old.items ++ low (system t) 0 32) }
+    ensures bytes { (limit : ℕ) (t : Items) → Built limit b.now t → OnOk result (bytes.new.items ≡ bytes.old.items ++ low (system t) 0 32) }
     ensures memory { IfErr result (λ e. e ≡ OutOfMemory) }
 {
     let names = b.names.as_slice();
@@ -64,7 +65,7 @@ fn lay_system(bytes: &mut Vec<u8>, b: &Build) -> Result<(), Cause>
 /// Lays the compilation addresses of the controls.
 fn lay_controls(bytes: &mut Vec<u8>, b: &Build) -> Result<(), Cause>
     requires { Building b.now }
-    ensures bytes { (t : Items) → Built b.now t → OnOk result (bytes.new.items ≡ bytes.old.items ++ low (λ a. controls t (a / 2)) 0 32) }
+    ensures bytes { (limit : ℕ) (t : Items) → Built limit b.now t → OnOk result (bytes.new.items ≡ bytes.old.items ++ low (λ a. controls t (a / 2)) 0 32) }
     ensures memory { IfErr result (λ e. e ≡ OutOfMemory) }
 {
     lay_cells(bytes, &b.runtime[..32])?;
@@ -74,7 +75,7 @@ fn lay_controls(bytes: &mut Vec<u8>, b: &Build) -> Result<(), Cause>
 /// The bytes of the image.
 pub fn whole_image(alloc: Global, b: &Build) -> Result<Vec<u8>, Cause>
     requires { Building b.now }
-    ensures bytes { (t : Items) → Built b.now t → IfOk result (λ v. v.items ≡ image t) }
+    ensures bytes { (limit : ℕ) (t : Items) → Built limit b.now t → IfOk result (λ v. v.items ≡ image t) }
     ensures memory { IfErr result (λ e. e ≡ OutOfMemory) }
 {
     let mut bytes = Vec::new(alloc);
@@ -97,14 +98,17 @@ fn no_controls(alloc: Global) -> Result<Vec<u16>, Cause>
     Ok(cells)
 }
 
-/// Nothing was built yet.
-pub fn start(alloc: Global) -> Result<Build, Cause>
-    ensures built { IfOk result (λ b. Built b Nothing × IsBlank b.draft) }
+/// Nothing was built yet, up to a limit.
+pub fn start(alloc: Global, limit: u16) -> Result<Build, Cause>
+    requires { IsLimit limit }
+    ensures built { IfOk result (λ b. Built b.limit b Nothing × IsBlank b.draft) }
+    ensures limit { IfOk result (λ b. b.limit ≡ limit) }
     ensures memory { IfErr result (λ e. e ≡ OutOfMemory) }
 {
     let runtime = no_controls(alloc)?;
     Ok(Build {
         alloc,
+        limit,
         image: Vec::new(alloc),
         names: Vec::new(alloc),
         runtime,

@@ -1,6 +1,6 @@
 //! The screens of a source, read one at a time, and their words taken one by one.
 
-ghost use Rattle.std.specs.Prelude.{◌≡◌, ◌<◌, ◌++◌, [], ◌∷◌, List, Some, length, OnOk};
+ghost use Rattle.std.specs.Prelude.{◌≡◌, ℕ, ◌<◌, ◌++◌, [], ◌∷◌, List, Some, length, OnOk};
 ghost use Rattle.block_buffers.specs.Calls.{failures};
 ghost use Rattle.block_buffers.specs.Disks.{Disk};
 ghost use Rattle.source_words.specs.Words.{SourceWord, screen_words};
@@ -75,8 +75,8 @@ impl Stop {
 impl Compilation {
     /// Takes one more word.
     fn take(&mut self, word: Word<'_>) -> Result<(), BuildFault>
-        requires { IsHeld self.old }
-        ensures { (front : List SourceWord) → Holds self.old front → Takes front (source_word word.entry) result self.new }
+        requires { IsHeld self.old.build.limit self.old }
+        ensures { (limit : ℕ) (front : List SourceWord) → Holds limit self.old front → Takes limit front (source_word word.entry) result self.new }
     {
         let begun = mem::replace(&mut self.begun, Begun::Whole);
         self.begun = take(&mut self.build, begun, spot_of(word))?;
@@ -92,8 +92,8 @@ fn take_words(
     mode: Mode,
 ) -> Result<Mode, Stop>
     requires short { length text.now < 65536 }
-    requires held { IsHeld compilation.old }
-    ensures { (front : List SourceWord) → Holds compilation.old front → TakesAll mode front (screen_words mode screen text.now) result compilation.new }
+    requires held { IsHeld compilation.old.build.limit compilation.old }
+    ensures { (limit : ℕ) (front : List SourceWord) → Holds limit compilation.old front → TakesAll limit mode front (screen_words mode screen text.now) result compilation.new }
 {
     let mut scanner = Scanner::new(text, screen, mode);
     while let Some(word) = scanner.next() {
@@ -110,9 +110,9 @@ fn take_screen<D: Device>(
     screen: u16,
     mode: Mode,
 ) -> Result<Mode, Stop>
-    requires { IsHeld compilation.old }
-    ensures taken { (d : Disk) → D.disk device.old ≡ Some d → (front : List SourceWord) → Holds compilation.old front → TakesScreen d screen mode front result compilation.old compilation.new (record { disk = D.disk device.new; before = failures (D.calls device.old); after = failures (D.calls device.new) }) }
-    ensures held { OnOk result (IsHeld compilation.new) }
+    requires { IsHeld compilation.old.build.limit compilation.old }
+    ensures taken { (d : Disk) → D.disk device.old ≡ Some d → (limit : ℕ) (front : List SourceWord) → Holds limit compilation.old front → TakesScreen limit d screen mode front result compilation.old compilation.new (record { disk = D.disk device.new; before = failures (D.calls device.old); after = failures (D.calls device.new) }) }
+    ensures held { OnOk result (IsHeld compilation.old.build.limit compilation.new) }
 {
     let count = device.count();
     if u32::from(screen) >= count {
@@ -131,9 +131,9 @@ pub fn take_screens<D: Device>(
     from: u16,
     to: u16,
 ) -> Result<(), Stop>
-    requires { Holds compilation.old [] }
-    ensures taken { (d : Disk) → D.disk device.old ≡ Some d → TakesScreens d from to result compilation.new (record { disk = D.disk device.new; before = failures (D.calls device.old); after = failures (D.calls device.new) }) }
-    ensures held { OnOk result (IsHeld compilation.new) }
+    requires { Holds compilation.old.build.limit compilation.old [] }
+    ensures taken { (d : Disk) → D.disk device.old ≡ Some d → TakesScreens compilation.old.build.limit d from to result compilation.new (record { disk = D.disk device.new; before = failures (D.calls device.old); after = failures (D.calls device.new) }) }
+    ensures held { OnOk result (IsHeld compilation.old.build.limit compilation.new) }
 {
     let mut page = [b' '; BLOCK_SIZE];
     let mut mode = Mode::Outside;

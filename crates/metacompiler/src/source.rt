@@ -34,7 +34,7 @@ fn is_in_gap(n: u16) -> bool
 fn is_free_control(b: &Build, n: u16) -> bool
     requires building { Building b.now }
     requires byte { n < 256 }
-    ensures { (t : Items) → Built b.now t → IsTrue result ↔ (controls t n ≡ 0) }
+    ensures { (t : Items) → Built b.now.limit b.now t → IsTrue result ↔ (controls t n ≡ 0) }
 {
     is_zero(cell_at(b.runtime.as_slice(), n))
 }
@@ -57,7 +57,7 @@ fn cell_at(runtime: &[u16], n: u16) -> u16
 /// Whether a primitive of this number may be named.
 fn is_primitive(b: &Build, n: u16) -> bool
     requires building { Building b.now }
-    ensures { (t : Items) → Built b.now t → IsTrue result ↔ IsPrimitive t n }
+    ensures { (t : Items) → Built b.now.limit b.now t → IsTrue result ↔ IsPrimitive t n }
 {
     5 <= n && n < 205 && !is_in_gap(n) && (28 <= n || is_free_control(b, n))
 }
@@ -65,7 +65,7 @@ fn is_primitive(b: &Build, n: u16) -> bool
 /// The fault of a number, once the next word is known.
 fn fault_of_number(b: &Build, n: u16, sort: Sort) -> Option<Cause>
     requires building { Building b.now }
-    ensures { (t : Items) → Built b.now t → OfNumber t n sort result }
+    ensures { (t : Items) → Built b.now.limit b.now t → OfNumber t n sort result }
 {
     match sort {
         Sort::Prim => {
@@ -103,7 +103,7 @@ fn at(w: Spot, taken: Result<Begun, Cause>) -> Result<Begun, BuildFault>
 /// A word behind a number.
 fn take_number(b: &mut Build, n: u16, a: Site, w: Spot) -> Result<Begun, BuildFault>
     requires building { Building b.old }
-    ensures { (t : Items) (ws after : List Place) → IsState b.old t ws (Counted n) → IsAtSite a ws → TakenAt t ws (Counted n) (place w.entry) after result b.new }
+    ensures { (t : Items) (ws after : List Place) → IsState b.old.limit b.old t ws (Counted n) → IsAtSite a ws → TakenAt b.old.limit t ws (Counted n) (place w.entry) after result b.new }
 {
     match fault_of_number(b, n, w.sort) {
         Some(cause) => Err(BuildFault {
@@ -118,7 +118,7 @@ fn take_number(b: &mut Build, n: u16, a: Site, w: Spot) -> Result<Begun, BuildFa
 /// Takes one more word.
 pub fn take(b: &mut Build, begun: Begun, w: Spot) -> Result<Begun, BuildFault>
     requires { IsBegun b.old begun }
-    ensures { (t : Items) (ws after : List Place) (stage : Stage) → Shows begun ws stage → IsState b.old t ws stage → TakenAt t ws stage (place w.entry) after result b.new }
+    ensures { (t : Items) (ws after : List Place) (stage : Stage) → Shows begun ws stage → IsState b.old.limit b.old t ws stage → TakenAt b.old.limit t ws stage (place w.entry) after result b.new }
 {
     match begun {
         Begun::Whole => at(w, take_item(b, w)),

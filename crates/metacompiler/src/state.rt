@@ -9,6 +9,8 @@ use std::alloc::Global;
 pub struct Build {
     /// Where memory is taken.
     pub alloc: Global,
+    /// Where the block buffers begin: the image ends there at the latest.
+    pub limit: u16,
     /// The bytes of memory from 256 on.
     pub image: Vec<u8>,
     /// The names, the newest last.

@@ -24,15 +24,15 @@ use crate::state::{Begun, Build, Site};
 pub fn is_over(b: &Build, more: usize) -> bool
     requires building { Building b.now }
     requires few { more < 65536 }
-    ensures { IsTrue result ↔ (61440 < length b.now.image.items + 256 + more) }
+    ensures { IsTrue result ↔ (b.now.limit < length b.now.image.items + 256 + more) }
 {
-    here(b) as usize + more > 61440
+    here(b) as usize + more > usize::from(b.limit)
 }
 
 /// A word behind a number.
 pub fn take_counted(b: &mut Build, n: u16, w: Spot) -> Result<Begun, Cause>
     requires building { Building b.old }
-    ensures { (t : Items) (ws after : List Place) → IsState b.old t ws (Counted n) → (w.entry.sort ≡ s.Prim → IsPrimitive t n) → (w.entry.sort ≡ s.Allot → n < 32768) → Taken t ws (Counted n) (place w.entry) after result b.new }
+    ensures { (t : Items) (ws after : List Place) → IsState b.old.limit b.old t ws (Counted n) → (w.entry.sort ≡ s.Prim → IsPrimitive t n) → (w.entry.sort ≡ s.Allot → n < 32768) → Taken b.old.limit t ws (Counted n) (place w.entry) after result b.new }
 {
     match w.sort {
         Sort::Prim => Ok(Begun::Due(Lead::Makes(Kind::Primitive(n)))),
@@ -73,7 +73,7 @@ fn is_forth(name: &[u8]) -> bool
 /// The record of the vocabulary that a name stands for.
 fn record_of_name(b: &Build, w: Spot) -> Option<u16>
     requires { Building b.now }
-    ensures { (t : Items) → Built b.now t → result ≡ record_named t (place w.entry) }
+    ensures { (t : Items) → Built b.now.limit b.now t → result ≡ record_named t (place w.entry) }
 {
     if is_forth(w.name) {
         return Some(42);
@@ -89,8 +89,8 @@ fn record_of_name(b: &Build, w: Spot) -> Option<u16>
 
 /// Whether a word is a name.
 fn is_named(b: &Build, w: Spot) -> bool
-    ensures yes { (t : Items) → Built b.now t → IsTrue result → look t (place w.entry) ≢ None }
-    ensures no { (t : Items) → Built b.now t → result ≡ false → look t (place w.entry) ≡ None }
+    ensures yes { (t : Items) → Built b.now.limit b.now t → IsTrue result → look t (place w.entry) ≢ None }
+    ensures no { (t : Items) → Built b.now.limit b.now t → result ≡ false → look t (place w.entry) ≡ None }
 {
     find_name(b.names.as_slice(), b.current, w.name).is_some()
 }
@@ -99,7 +99,7 @@ fn is_named(b: &Build, w: Spot) -> bool
 fn take_vocabulary(b: &Build, w: Spot) -> Result<Begun, Cause>
     requires building { Building b.now }
     requires other { w.sort ≡ s.Other }
-    ensures { (t : Items) (ws after : List Place) → IsState b.now t ws Whole → Taken t ws Whole (place w.entry) after result b.now }
+    ensures { (t : Items) (ws after : List Place) → IsState b.now.limit b.now t ws Whole → Taken b.now.limit t ws Whole (place w.entry) after result b.now }
 {
     match record_of_name(b, w) {
         Some(v) => Ok(Begun::Chosen(v)),
@@ -133,7 +133,7 @@ fn site_of(w: Spot) -> Site
 /// A word where an item begins.
 pub fn take_item(b: &mut Build, w: Spot) -> Result<Begun, Cause>
     requires building { Building b.old }
-    ensures { (t : Items) (ws after : List Place) → IsState b.old t ws Whole → Taken t ws Whole (place w.entry) after result b.new }
+    ensures { (t : Items) (ws after : List Place) → IsState b.old.limit b.old t ws Whole → Taken b.old.limit t ws Whole (place w.entry) after result b.new }
 {
     match w.sort {
         Sort::Number(n) => Ok(Begun::Counted(n, site_of(w))),
@@ -160,7 +160,7 @@ pub fn take_item(b: &mut Build, w: Spot) -> Result<Begun, Cause>
 
 /// A word behind a vocabulary's name.
 pub fn take_definitions(b: &mut Build, v: u16, w: Spot) -> Result<Begun, Cause>
-    ensures { (t : Items) (ws after : List Place) → IsState b.old t ws (Chosen v) → Taken t ws (Chosen v) (place w.entry) after result b.new }
+    ensures { (t : Items) (ws after : List Place) → IsState b.old.limit b.old t ws (Chosen v) → Taken b.old.limit t ws (Chosen v) (place w.entry) after result b.new }
 {
     match w.sort {
         Sort::Definitions => {

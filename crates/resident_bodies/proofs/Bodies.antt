@@ -2,6 +2,7 @@
 use Rattle.std.proofs.Common.{◌≡◌, ℕ, ◌+◌, ◌≤◌, List, [], ◌∷◌, ◌++◌, length, take, drop, Option, Some, None, refl, sym, ap, ◌∙◌, subst, arith, append_assoc}
 use Rattle.std.proofs.lemmas.List.{take-append-drop, length-take-le}
 use Rattle.memory.specs.Bytes.{cell, cell_bytes}
+use Rattle.memory.specs.declared.limit.TheConstants.{GREATEST_LIMIT}
 use Rattle.memory.proofs.Same.{Stands}
 use Rattle.compiling_words.specs.Code.{runtime}
 use Rattle.colon_bodies.specs.declared.words.Half.{Half}
@@ -39,7 +40,7 @@ record Read (before : List ℕ) (at : ℕ) (u : Definition) (m d below : List �
   draft : Draft before at outer body half m d below
   is : whole outer body half ≡ Some u
 
-reads : (ws : List Token) (before : List ℕ) (at : ℕ) (o : Outer) (t : Body) (h : Half) (u : Definition) (m d below : List ℕ) → 256 ≤ at → at + open_size o t h + laid ws ≤ 61440 → accept o t h (ws ++ SEMI ∷ []) ≡ Some u → Draft before at o t h m d below → Read before at u (lays_all ws m d).0 (lays_all ws m d).1 below
+reads : (ws : List Token) (before : List ℕ) (at : ℕ) (o : Outer) (t : Body) (h : Half) (u : Definition) (m d below : List ℕ) → 256 ≤ at → at + open_size o t h + laid ws ≤ GREATEST_LIMIT → accept o t h (ws ++ SEMI ∷ []) ≡ Some u → Draft before at o t h m d below → Read before at u (lays_all ws m d).0 (lays_all ws m d).1 below
 reads [] before at o t h u m d below l r e g =
     let f : finish o t h SEMI [] ≡ Some u = sym (ap (λ x. next x (λ p v k. accept p v k []) (finish o t h SEMI [])) (no_semi o t h)) ∙ e in
     record { outer = o; body = t; half = h; draft = g; is = f }
@@ -57,7 +58,7 @@ reads (w ∷ ws) before at o t h u m d below l r e g = by (read o t h w) refl e
     by (Some (At p v k)) q f go = go p v k q f
 
 -- nothing is read yet
-begins : (m d : List ℕ) (at : ℕ) → length m ≡ 65536 → cell m 28 ≡ at → at ≤ 61440 → Draft m at Top Empty Free m d d
+begins : (m d : List ℕ) (at : ℕ) → length m ≡ 65536 → cell m 28 ≡ at → at ≤ GREATEST_LIMIT → Draft m at Top Empty Free m d d
 begins m d at l e h = record {
   stands = record { before = take at m; after = drop at m; is = sym (take-append-drop at m); place = length-take-le at m (omega arith) };
   here = omega arith;
@@ -79,10 +80,10 @@ whole_code rt at (Past t) a Free u e =
     (append_assoc (code rt t at) (cell_bytes (rt 18)) (code rt a (at + (size t + 2))) ∙ ap (λ x. all_code rt x at) q, s ∙ ap all_size q, refl)
 whole_code rt at _ t h u e = cc
 
-all_read : (m d : List ℕ) (at : ℕ) (body : Definition) → length m ≡ 65536 → cell m 28 ≡ at → 256 ≤ at → at + all_size body ≤ 61440 → Read m at body (lays_all (all_words body) m d).0 (lays_all (all_words body) m d).1 d
+all_read : (m d : List ℕ) (at : ℕ) (body : Definition) → length m ≡ 65536 → cell m 28 ≡ at → 256 ≤ at → at + all_size body ≤ GREATEST_LIMIT → Read m at body (lays_all (all_words body) m d).0 (lays_all (all_words body) m d).1 d
 all_read m d at body l e g h = reads (all_words body) m at Top Empty Free body m d d g (omega (arith, laid-all body)) (accept_all body) (begins m d at l e (omega arith))
 
-pub body_laid : (m d : List ℕ) (at : ℕ) (body : Definition) → length m ≡ 65536 → cell m 28 ≡ at → 256 ≤ at → at + all_size body ≤ 61440 → Bodied m at body (lays_all (all_words body) m d).0
+pub body_laid : (m d : List ℕ) (at : ℕ) (body : Definition) → length m ≡ 65536 → cell m 28 ≡ at → 256 ≤ at → at + all_size body ≤ GREATEST_LIMIT → Bodied m at body (lays_all (all_words body) m d).0
 body_laid m d at body l e g h =
     let r = all_read m d at body l e g h in
     let c = whole_code (runtime m) at r.outer r.body r.half body r.is in
@@ -94,7 +95,7 @@ body_laid m d at body l e g h =
       all = r.draft.all;
     }
 
-pub body_stack : (m d : List ℕ) (at : ℕ) (body : Definition) → length m ≡ 65536 → cell m 28 ≡ at → 256 ≤ at → at + all_size body ≤ 61440 → (lays_all (all_words body) m d).1 ≡ d
+pub body_stack : (m d : List ℕ) (at : ℕ) (body : Definition) → length m ≡ 65536 → cell m 28 ≡ at → 256 ≤ at → at + all_size body ≤ GREATEST_LIMIT → (lays_all (all_words body) m d).1 ≡ d
 body_stack m d at body l e g h =
     let r = all_read m d at body l e g h in
     let c = whole_code (runtime m) at r.outer r.body r.half body r.is in

@@ -5,6 +5,7 @@ use Rattle.std.proofs.lemmas.Bool.{cases_lt, eqb-true, eq-eqb}
 use Rattle.std.proofs.lemmas.List.{get_or-append-add, get_or_append_left}
 use Rattle.cells.specs.Cell.{wrap}
 use Rattle.memory.specs.Bytes.{byte, cell, put_byte, put_cell, put_bytes, cell_bytes, written}
+use Rattle.memory.specs.declared.limit.TheConstants.{GREATEST_LIMIT}
 use Rattle.memory.proofs.Same.{Stands}
 use Rattle.memory.proofs.Both.{cell_both, laid_has, stands_has}
 use Rattle.memory.proofs.Kept.{byte_set, byte_here, byte_cell, byte_below, length_byte, length_cell, length_bytes, cell_here, cell_beside}
@@ -123,7 +124,7 @@ closed m name extra here head = tops (put_bytes m here (header_bytes (cell m 22)
 length-header : (v k c : ℕ) (name extra : List ℕ) → length (header_bytes v k c name 1 extra) ≡ 7 + length name + length extra
 length-header v k c name extra = length_header v k c 1 name extra
 
-begun_opening : (m name : List ℕ) (here head : ℕ) → Site m name here head → here + (7 + length name) ≤ 61440 → begun m name ≡ opening m name here head
+begun_opening : (m name : List ℕ) (here head : ℕ) → Site m name here head → here + (7 + length name) ≤ GREATEST_LIMIT → begun m name ≡ opening m name here head
 begun_opening m name here head s r =
     let f = λ (h g d x : ℕ). put_cell (put_cell (tops (put_bytes m h (header_bytes (cell m 22) (cell m g) (160 + length name) name 1 [])) d g x) 16 65535) 32 (cell m 34) in
     let lo = s.low in
@@ -135,7 +136,7 @@ begun_opening m name here head s r =
     ∙ ap (λ d. f here head d (wrap (here + 2))) n
     ∙ ap (λ y. f here head (here + (7 + length name)) y) x
 
-laid_closed : (m name : List ℕ) (here head : ℕ) (b : Definition) → Site m name here head → here + (7 + length name + length (thread (runtime m) b (here + (7 + length name)))) ≤ 61440 → laid_definition m (cell m 22) name b ≡ closed m name (thread (runtime m) b (here + (7 + length name))) here head
+laid_closed : (m name : List ℕ) (here head : ℕ) (b : Definition) → Site m name here head → here + (7 + length name + length (thread (runtime m) b (here + (7 + length name)))) ≤ GREATEST_LIMIT → laid_definition m (cell m 22) name b ≡ closed m name (thread (runtime m) b (here + (7 + length name))) here head
 laid_closed m name here head b s r =
     let t = λ (h : ℕ). thread (runtime m) b (h + (7 + length name)) in
     let f = λ (h g d x : ℕ). tops (put_bytes m h (header_bytes (cell m 22) (cell m g) (128 + length name) name 1 (t h))) d g x in
@@ -149,14 +150,14 @@ laid_closed m name here head b s r =
     ∙ ap (λ y. f here head (here + (7 + length name + length (t here))) y) x
 
 -- what stands in them
-whole_has : (m name extra : List ℕ) (here head c i : ℕ) → Site m name here head → here + (7 + length name + length extra) ≤ 61440 → i < 7 + length name + length extra
+whole_has : (m name extra : List ℕ) (here head c i : ℕ) → Site m name here head → here + (7 + length name + length extra) ≤ GREATEST_LIMIT → i < 7 + length name + length extra
     → byte (put_bytes m here (header_bytes (cell m 22) (cell m head) c name 1 extra)) (here + i) ≡ slice_index (whole_header (cell m 22) (cell m head) c name ++ extra) i
 whole_has m name extra here head c i s r h =
     let n = length-header (cell m 22) (cell m head) c name extra in
     laid_has m here i (header_bytes (cell m 22) (cell m head) c name 1 extra) s.all (omega arith) (omega arith)
     ∙ ap (λ l. slice_index l i) (header_is (cell m 22) (cell m head) c name extra)
 
-opening_low : (m name : List ℕ) (here head j : ℕ) → Site m name here head → here + (7 + length name) ≤ 61440 → j < here → j / 2 ≢ 8 → j / 2 ≢ 14 → j / 2 ≢ 15 → j / 2 ≢ 16 → j ≢ head → j ≢ head + 1 → byte (opening m name here head) j ≡ byte m j
+opening_low : (m name : List ℕ) (here head j : ℕ) → Site m name here head → here + (7 + length name) ≤ GREATEST_LIMIT → j < here → j / 2 ≢ 8 → j / 2 ≢ 14 → j / 2 ≢ 15 → j / 2 ≢ 16 → j ≢ head → j ≢ head + 1 → byte (opening m name here head) j ≡ byte m j
 opening_low m name here head j s r h a b c e f g =
     let hl = head_low head here s.low s.placed in
     let h1 = header_bytes (cell m 22) (cell m head) (160 + length name) name 1 [] in
@@ -165,7 +166,7 @@ opening_low m name here head j s r h a b c e f g =
     ∙ top_byte (put_bytes m here h1) (here + (7 + length name)) head (here + 2) j (omega (arith, hl.1)) b c f g
     ∙ byte_below m here h1 j (omega (arith, length-header (cell m 22) (cell m head) (160 + length name) name [])) h
 
-opening_header : (m name : List ℕ) (here head i : ℕ) → Site m name here head → here + (7 + length name) ≤ 61440 → i < 7 + length name → byte (opening m name here head) (here + i) ≡ slice_index (whole_header (cell m 22) (cell m head) (160 + length name) name ++ []) i
+opening_header : (m name : List ℕ) (here head i : ℕ) → Site m name here head → here + (7 + length name) ≤ GREATEST_LIMIT → i < 7 + length name → byte (opening m name here head) (here + i) ≡ slice_index (whole_header (cell m 22) (cell m head) (160 + length name) name ++ []) i
 opening_header m name here head i s r h =
     let hl = head_low head here s.low s.placed in
     let lo = s.low in
@@ -176,7 +177,7 @@ opening_header m name here head i s r h =
     ∙ top_byte (put_bytes m here h1) (here + (7 + length name)) head (here + 2) j (omega (arith, hl.1)) (omega arith) (omega arith) (omega (arith, hl.1)) (omega (arith, hl.1))
     ∙ whole_has m name [] here head (160 + length name) i s (omega arith) (omega arith)
 
-closed_has : (m name extra : List ℕ) (here head i : ℕ) → Site m name here head → here + (7 + length name + length extra) ≤ 61440 → i < 7 + length name + length extra → byte (closed m name extra here head) (here + i) ≡ slice_index (whole_header (cell m 22) (cell m head) (128 + length name) name ++ extra) i
+closed_has : (m name extra : List ℕ) (here head i : ℕ) → Site m name here head → here + (7 + length name + length extra) ≤ GREATEST_LIMIT → i < 7 + length name + length extra → byte (closed m name extra here head) (here + i) ≡ slice_index (whole_header (cell m 22) (cell m head) (128 + length name) name ++ extra) i
 closed_has m name extra here head i s r h =
     let hl = head_low head here s.low s.placed in
     let lo = s.low in
@@ -190,7 +191,7 @@ length-opening m name here head s =
     length_cell (put_cell (opened m name here head) 16 65535) 32 (cell m 34) ∙ length_cell (opened m name here head) 16 65535
     ∙ length-tops (put_bytes m here h1) (here + (7 + length name)) head (here + 2) ∙ length_bytes m here h1 ∙ s.all
 
-opening_here : (m name : List ℕ) (here head : ℕ) → Site m name here head → here + (7 + length name) ≤ 61440 → cell (opening m name here head) 28 ≡ here + (7 + length name)
+opening_here : (m name : List ℕ) (here head : ℕ) → Site m name here head → here + (7 + length name) ≤ GREATEST_LIMIT → cell (opening m name here head) 28 ≡ here + (7 + length name)
 opening_here m name here head s r =
     let hl = head_low head here s.low s.placed in
     let h1 = header_bytes (cell m 22) (cell m head) (160 + length name) name 1 [] in
@@ -198,7 +199,7 @@ opening_here m name here head s r =
     ∙ cell_beside (opened m name here head) 16 65535 28 (omega arith) (omega arith) (omega arith) (omega arith) (omega arith)
     ∙ top_here (put_bytes m here h1) (here + (7 + length name)) head (here + 2) (length_bytes m here h1 ∙ s.all) hl.0 (omega (arith, hl.1))
 
-opening_last : (m name : List ℕ) (here head : ℕ) → Site m name here head → here + (7 + length name) ≤ 61440 → cell (opening m name here head) 30 ≡ here + 2
+opening_last : (m name : List ℕ) (here head : ℕ) → Site m name here head → here + (7 + length name) ≤ GREATEST_LIMIT → cell (opening m name here head) 30 ≡ here + 2
 opening_last m name here head s r =
     let h1 = header_bytes (cell m 22) (cell m head) (160 + length name) name 1 [] in
     cell_beside (put_cell (opened m name here head) 16 65535) 32 (cell m 34) 30 (omega arith) (omega arith) (omega arith) (omega arith) (omega arith)
@@ -213,7 +214,7 @@ apart : (k head here : ℕ) → k < 32 → IsPlaced head here → (64 + 2 * k �
 apart k head here h (inl q) = let z = q.1 in (omega arith, omega arith, omega arith, omega arith)
 apart k head here h (inr q) = let z = q.0 in (omega arith, omega arith, omega arith, omega arith)
 
-opening_controls : (m name : List ℕ) (here head k : ℕ) → Site m name here head → here + (7 + length name) ≤ 61440 → k < 32 → runtime (opening m name here head) k ≡ runtime m k
+opening_controls : (m name : List ℕ) (here head k : ℕ) → Site m name here head → here + (7 + length name) ≤ GREATEST_LIMIT → k < 32 → runtime (opening m name here head) k ≡ runtime m k
 opening_controls m name here head k s r h =
     let a = 64 + 2 * k in
     let lo = s.low in
@@ -236,7 +237,7 @@ site_of_opens m name n o = record { here_is = refl; head_is = refl; all = o.all;
 -- a body that is laid behind `:`
 record Read (m name : List ℕ) (here head : ℕ) (b : Definition) (s : List ℕ) : Type 0 where
   site : Site m name here head
-  room : here + (7 + length name + (all_size b + 2)) ≤ 61440
+  room : here + (7 + length name + (all_size b + 2)) ≤ GREATEST_LIMIT
   body : Bodied (opening m name here head) (here + (7 + length name)) b s
 
 length-extra : (rt : ℕ → ℕ) (b : Definition) (at : ℕ) → length (thread rt b at) ≡ all_size b + 2
@@ -417,7 +418,7 @@ agree_code m name s here head i b r h =
     ∙ get_or-append-add f2 extra i 0)
 
 -- HERE
-finished_here : (s : List ℕ) (here n e : ℕ) → length s ≡ 65536 → 256 ≤ here → here + 4 < 65536 → cell s 28 + 2 ≤ 61440 → cell (finished s here n e) 28 ≡ cell s 28 + 2
+finished_here : (s : List ℕ) (here n e : ℕ) → length s ≡ 65536 → 256 ≤ here → here + 4 < 65536 → cell s 28 + 2 ≤ GREATEST_LIMIT → cell (finished s here n e) 28 ≡ cell s 28 + 2
 unfolding laid_at
 finished_here s here n e l a h r =
     let p = put_bytes s (cell s 28) (cell_bytes e) in
@@ -427,7 +428,7 @@ finished_here s here n e l a h r =
     ∙ cell_of (put_byte c (here + 4) (128 + n)) c 28 (omega arith) (byte_set c (here + 4) (128 + n) 28 (omega arith)) (byte_set c (here + 4) (128 + n) 29 (omega arith))
     ∙ cell_here p 28 x (length_bytes s (cell s 28) (cell_bytes e) ∙ l) (omega arith) ∙ omega (arith, length-cell e)
 
-closed_here : (m name extra : List ℕ) (here head : ℕ) → Site m name here head → here + (7 + length name + length extra) ≤ 61440 → cell (closed m name extra here head) 28 ≡ here + (7 + length name + length extra)
+closed_here : (m name extra : List ℕ) (here head : ℕ) → Site m name here head → here + (7 + length name + length extra) ≤ GREATEST_LIMIT → cell (closed m name extra here head) 28 ≡ here + (7 + length name + length extra)
 closed_here m name extra here head s r =
     let hl = head_low head here s.low s.placed in
     let h2 = header_bytes (cell m 22) (cell m head) (128 + length name) name 1 extra in

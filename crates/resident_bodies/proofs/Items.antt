@@ -20,12 +20,12 @@ use Rattle.metacompiler.specs.Places.{Place}
 use Rattle.metacompiler.specs.Names.{Name, class_of, newest_link}
 use Rattle.metacompiler.specs.declared.entry.Sign.TheVariants as s
 use Rattle.metacompiler.specs.Items.{Colon, Items, Then, end_of, current, names, new_name, controls, newest_record, head, head_size, link_of, zeros, bytes as item_bytes, heads_of, last_link, system, low, image}
-use Rattle.metacompiler.specs.Grammar.{AreSound}
+use Rattle.metacompiler.specs.Grammar.{IsLimit, AreSound}
 use Rattle.metacompiler.specs.Built.{IsRecord}
 use Rattle.metacompiler.specs.Headers.{memory_of}
 use Rattle.metacompiler.proofs.Imaging.{length-zeros, record_below, bytes_seam}
 use Rattle.metacompiler.proofs.Looping.{length-low}
-use Rattle.metacompiler.proofs.Sound.{sound_names, sound_end, end_above}
+use Rattle.metacompiler.proofs.Sound.{sound_names, sound_below, end_above}
 use Rattle.metacompiler.proofs.Making.{headed_bytes}
 use Rattle.metacompiler.proofs.Headers.{length-image, system_cell, control_cell}
 use Rattle.metacompiler.proofs.Finding.{head_new, head_else}
@@ -170,21 +170,21 @@ length-own t p b =
     ∙ omega (arith, length-append (all_code (controls t) b at) (cell_bytes (controls t 5)), length-all (controls t) b at, length-cell (controls t 5))
 
 -- where the definition goes
-name_at : (t : Items) (name : List ℕ) → AreSound 61440 t → head_of (cell (memory_of t) 34) name ≡ current t + 2 * class_of name
+name_at : (limit : ℕ) → IsLimit limit → (t : Items) (name : List ℕ) → AreSound limit t → head_of (cell (memory_of t) 34) name ≡ current t + 2 * class_of name
 unfolding head_of
-name_at t name h =
+name_at limit few t name h =
     let v : cell (memory_of t) 34 ≡ current t = system_cell t 17 (omega arith) in
-    let b = vocabulary_below t (current t) h (sound_names 61440 t h).0 in
+    let b = vocabulary_below limit few t (current t) h (sound_names limit t h).0 in
     let c = class_is name in
     let k = class_below name in
     omega (arith, v, b, c, k)
 
 -- the four writes, in front of a chain of FORTH
-forth_writes : (t : Items) (ws : List Place) (p : Place) (b : Definition) (x : List ℕ) → AreSound 61440 t → current t ≡ 42
+forth_writes : (limit : ℕ) → IsLimit limit → (t : Items) (ws : List Place) (p : Place) (b : Definition) (x : List ℕ) → AreSound limit t → current t ≡ 42
     → let c = low (λ a. controls t (a / 2)) 0 32 in let u = Then t ws (Colon p b) in
     put_cell (put_cell (put_cell (put_cell (parts (low (system t) 0 32) c (zeros 128) (item_bytes (heads_of t) t false) x) 28 (end_of u)) (current t + 2 * class_of p.name) (end_of t + 2)) 30 (end_of t + 2)) 54 (end_of u)
     ≡ parts (low (system u) 0 32) c (zeros 128) (item_bytes (heads_of u) t false) x
-forth_writes t ws p b x h v =
+forth_writes limit few t ws p b x h v =
     let c = low (λ a. controls t (a / 2)) 0 32 in
     let u = Then t ws (Colon p b) in
     let n = new_name t p s.Plain in
@@ -197,7 +197,7 @@ forth_writes t ws p b x h v =
     let rest = c ++ (zeros 128 ++ (item_bytes (heads_of t) t false ++ x)) in
     let at : current t + 2 * k ≡ 42 + 2 * k = omega arith in
     let now = λ (i : ℕ). if i == k then e + 2 else g i in
-    let same : item_bytes (heads_of t) t false ≡ item_bytes (heads_of u) t false = headed_bytes t p s.Plain (item_bytes (heads_of t) t false) (item_bytes (heads_of t) t false) (current t) h refl refl (λ _. refl) (λ z. absurd (z v)) in
+    let same : item_bytes (heads_of t) t false ≡ item_bytes (heads_of u) t false = headed_bytes limit t p s.Plain (item_bytes (heads_of t) t false) (item_bytes (heads_of t) t false) (current t) h refl refl (λ _. refl) (λ z. absurd (z v)) in
     ap (λ m. put_cell (put_cell (put_cell m (current t + 2 * k) (e + 2)) 30 (e + 2)) 54 f) (put_end e l (current t) r (g 0) (g 1) (g 2) (g 3) e f rest)
     ∙ ap (λ i. put_cell (put_cell (put_cell (cells f l (current t) r g e ++ rest) i (e + 2)) 30 (e + 2)) 54 f) at
     ∙ ap (λ m. put_cell (put_cell m 30 (e + 2)) 54 f) (put_head f l (current t) r g e k (e + 2) rest (class_below p.name))
@@ -207,11 +207,11 @@ forth_writes t ws p b x h v =
     ∙ ap (λ w. parts (low (system u) 0 32) c (zeros 128) w x) same
 
 -- and in front of a chain of another vocabulary, whose record is among the items
-record_writes : (t : Items) (ws : List Place) (p : Place) (b : Definition) (x : List ℕ) → AreSound 61440 t → IsRecord t (current t)
+record_writes : (limit : ℕ) → IsLimit limit → (t : Items) (ws : List Place) (p : Place) (b : Definition) (x : List ℕ) → AreSound limit t → IsRecord t (current t)
     → let c = low (λ a. controls t (a / 2)) 0 32 in let u = Then t ws (Colon p b) in
     put_cell (put_cell (put_cell (put_cell (parts (low (system t) 0 32) c (zeros 128) (item_bytes (heads_of t) t false) x) 28 (end_of u)) (current t + 2 * class_of p.name) (end_of t + 2)) 30 (end_of t + 2)) 54 (end_of u)
     ≡ parts (low (system u) 0 32) c (zeros 128) (item_bytes (heads_of u) t false) x
-record_writes t ws p b x h o =
+record_writes limit few t ws p b x h o =
     let c = low (λ a. controls t (a / 2)) 0 32 in
     let z = zeros 128 in
     let u = Then t ws (Colon p b) in
@@ -225,7 +225,7 @@ record_writes t ws p b x h o =
     let old = item_bytes (heads_of t) t false in
     let new = item_bytes (heads_of u) t false in
     let w = record_below t (current t) o in
-    let room = sound_end 61440 t (lit≤ tt) h in
+    let room = sound_below limit few t h in
     let q = bytes_seam (heads_of t) (heads_of u) t false (current t) k o (class_below p.name) (λ y d a. head_else (names t) n y d a) (current t + 2 * k - 256) (omega arith) in
     let len = q.length_is in
     let kb = class_below p.name in
@@ -248,12 +248,12 @@ record_writes t ws p b x h o =
     ∙ put_fence f (e + 2) (current t) r (g 0) (g 1) (g 2) (g 3) e f rest
     ∙ ap (λ y. y ++ rest) (cells_same f (e + 2) (current t) r f g (heads_of u 42) heads)
 
-pub item_is : (t : Items) (ws : List Place) (p : Place) (b : Definition) → AreSound 61440 (Then t ws (Colon p b)) → memory_of (Then t ws (Colon p b)) ≡ put_cell (laid_definition (memory_of t) p.screen p.name b) 54 (end_of (Then t ws (Colon p b)))
+pub item_is : (limit : ℕ) → IsLimit limit → (t : Items) (ws : List Place) (p : Place) (b : Definition) → AreSound limit (Then t ws (Colon p b)) → memory_of (Then t ws (Colon p b)) ≡ put_cell (laid_definition (memory_of t) p.screen p.name b) 54 (end_of (Then t ws (Colon p b)))
 unfolding front_put
-item_is t ws p b h =
+item_is limit few t ws p b h =
     let u = Then t ws (Colon p b) in
     let before = h.0 in
-    let room = sound_end 61440 u (lit≤ tt) h in
+    let room = sound_below limit few u h in
     let e = end_of t in
     let c = low (λ a. controls t (a / 2)) 0 32 in
     let z = zeros 128 in
@@ -262,14 +262,14 @@ item_is t ws p b h =
     let hb = header_of p.screen (link_of t p) p.name extra in
     let n = length-own t p b in
     let at = current t + 2 * class_of p.name in
-    let voc = (sound_names 61440 t before).0 in
+    let voc = (sound_names limit t before).0 in
     let after = drop (length (image t)) memory.zeros in
     let rest = drop (length (image u)) memory.zeros in
     let la = length-image t in
     let lb = length-image u in
     let la0 : length after ≡ 65536 - length (image t) = length-drop (length (image t)) memory.zeros ∙ ap (λ x. x - length (image t)) length-blank in
     let one : laid_definition (memory_of t) p.screen p.name b ≡ writes (memory_of t) e at hb =
-    written_at (memory_of t) p.screen p.name b (controls t) e at (link_of t p) (system_cell t 14 (omega arith)) (name_at t p.name before) (head_is t (current t) (class_of p.name) before voc (class_below p.name)) (λ k lt. control_cell t k lt) in
+    written_at (memory_of t) p.screen p.name b (controls t) e at (link_of t p) (system_cell t 14 (omega arith)) (name_at limit few t p.name before) (head_is limit few t (current t) (class_of p.name) before voc (class_below p.name)) (λ k lt. control_cell t k lt) in
     let two : put_bytes (memory_of t) e hb ≡ parts (low (system t) 0 32) c z old (hb ++ rest) =
     put_at (image t) after hb e (sym la) (omega arith) (omega arith)
     ∙ ap (λ x. image t ++ (hb ++ x)) (drop-drop (length hb) (length (image t)) memory.zeros ∙ ap (λ x. drop x memory.zeros) (omega arith))
@@ -281,7 +281,7 @@ item_is t ws p b h =
     ∙ ap (λ x. put_cell (put_cell (put_cell (put_cell (parts (low (system t) 0 32) c z old (hb ++ rest)) 28 x) at (wrap (e + 2))) 30 (wrap (e + 2))) 54 (end_of u)) we
     ∙ ap (λ x. put_cell (put_cell (put_cell (put_cell (parts (low (system t) 0 32) c z old (hb ++ rest)) 28 (end_of u)) at x) 30 x) 54 (end_of u)) wl in
     let four : put_cell (put_cell (put_cell (put_cell (parts (low (system t) 0 32) c z old (hb ++ rest)) 28 (end_of u)) at (e + 2)) 30 (e + 2)) 54 (end_of u) ≡ parts (low (system u) 0 32) c z (item_bytes (heads_of u) t false) (hb ++ rest) =
-    elim voc [ inl v ↦ forth_writes t ws p b (hb ++ rest) before v | inr r ↦ record_writes t ws p b (hb ++ rest) before r ] in
+    elim voc [ inl v ↦ forth_writes limit few t ws p b (hb ++ rest) before v | inr r ↦ record_writes limit few t ws p b (hb ++ rest) before r ] in
     let five : memory_of u ≡ parts (low (system u) 0 32) c z (item_bytes (heads_of u) t false) (hb ++ rest) =
     behind_all (low (system u) 0 32) c z (item_bytes (heads_of u) t false) (head (link_of t p) p false 1 ++ extra) rest
     ∙ ap (λ o. parts (low (system u) 0 32) c z (item_bytes (heads_of u) t false) (o ++ rest)) (sym (own_is t p b)) in
@@ -292,17 +292,17 @@ head_placed : (t : Items) (voc class : ℕ) → class < 4 → (voc ≡ 42) ⊎ I
 head_placed t voc class h (inl e) = inl (omega arith, omega arith)
 head_placed t voc class h (inr r) = let w = record_below t voc r in inr (omega (arith, w.0), omega (arith, w.1))
 
-pub image_opens : (t : Items) (name : List ℕ) (behind : ℕ) → AreSound 61440 t → length name ≤ 31 → end_of t + (7 + length name + behind) ≤ 61440 → Opens (memory_of t) name behind
-image_opens t name behind h l r =
+pub image_opens : (limit : ℕ) → IsLimit limit → (t : Items) (name : List ℕ) (behind : ℕ) → AreSound limit t → length name ≤ 31 → end_of t + (7 + length name + behind) ≤ limit → Opens (memory_of t) name behind
+image_opens limit few t name behind h l r =
     let dp : cell (memory_of t) 28 ≡ end_of t = system_cell t 14 (omega arith) in
     let ab = end_above t in
-    let at : head_of (cell (memory_of t) 34) name ≡ current t + 2 * class_of name = name_at t name h in
+    let at : head_of (cell (memory_of t) 34) name ≡ current t + 2 * class_of name = name_at limit few t name h in
     let P = λ (x e : ℕ). ((42 ≤ x) × (x + 1 < 52)) ⊎ ((256 ≤ x) × (x + 1 < e)) in
     record {
-      all = length-memory t h;
+      all = length-memory limit few t h;
       executing = system_cell t 8 (omega arith);
       short = l;
       low = omega arith;
-      high = omega arith;
-      head = subst (λ e. P (head_of (cell (memory_of t) 34) name) e) (sym dp) (subst (λ x. P x (end_of t)) (sym at) (head_placed t (current t) (class_of name) (class_below name) (sound_names 61440 t h).0));
+      high = omega (arith, few.1, dp, r);
+      head = subst (λ e. P (head_of (cell (memory_of t) 34) name) e) (sym dp) (subst (λ x. P x (end_of t)) (sym at) (head_placed t (current t) (class_of name) (class_below name) (sound_names limit t h).0));
     }

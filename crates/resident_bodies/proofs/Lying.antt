@@ -4,6 +4,7 @@ use Rattle.std.specs.Prelude.{slice_set}
 use Rattle.std.proofs.lemmas.List.{set-append_left, set-append_right}
 use Rattle.cells.specs.Cell.{wrap}
 use Rattle.memory.specs.Bytes.{byte, cell, put_byte, put_cell, put_bytes}
+use Rattle.memory.specs.declared.limit.TheConstants.{GREATEST_LIMIT}
 use Rattle.memory.proofs.Same.{Stands}
 use Rattle.memory.proofs.Stands.{lay, cell_below}
 use Rattle.memory.proofs.Kept.{wrap_small, byte_cell, byte_below, length_cell, length_bytes, cell_here, cell_beside}
@@ -51,7 +52,7 @@ pub length-with : (bs : List ℕ) (place x : ℕ) → length (with_cell bs place
 length-with bs place x = length-set (slice_set bs place (x % 256)) (place + 1) (x / 256) ∙ length-set bs place (x % 256)
 
 -- bytes are laid
-pub lies_laid : (before : List ℕ) (at : ℕ) (bs cs m : List ℕ) → 256 ≤ at → at + length bs + length cs ≤ 61440 → Lies before at bs m → Lies before at (bs ++ cs) (laid m cs)
+pub lies_laid : (before : List ℕ) (at : ℕ) (bs cs m : List ℕ) → 256 ≤ at → at + length bs + length cs ≤ GREATEST_LIMIT → Lies before at bs m → Lies before at (bs ++ cs) (laid m cs)
 unfolding laid_at
 lies_laid before at bs cs m l r g =
     let n = cell m 28 in
@@ -66,7 +67,7 @@ lies_laid before at bs cs m l r g =
     }
 
 -- a cell among them is written over
-pub lies_patched : (before : List ℕ) (at : ℕ) (bs m : List ℕ) (i place x : ℕ) → 256 ≤ at → at + length bs ≤ 61440 → i ≡ at + place → place + 1 < length bs → Lies before at bs m → Lies before at (with_cell bs place x) (put_cell m i x)
+pub lies_patched : (before : List ℕ) (at : ℕ) (bs m : List ℕ) (i place x : ℕ) → 256 ≤ at → at + length bs ≤ GREATEST_LIMIT → i ≡ at + place → place + 1 < length bs → Lies before at bs m → Lies before at (with_cell bs place x) (put_cell m i x)
 lies_patched before at bs m i place x l r e h g = record {
   stands = stands_cell m bs at i place x e h (omega arith) g.stands;
   here = cell_beside m i x 28 (omega arith) (omega arith) (omega arith) (omega arith) (omega arith) ∙ g.here ∙ ap (λ n. at + n) (sym (length-with bs place x));

@@ -4,6 +4,7 @@ use Rattle.std.specs.Prelude.{slice_set}
 use Rattle.std.proofs.lemmas.List.{set-set}
 use Rattle.cells.specs.Cell.{wrap}
 use Rattle.memory.specs.Bytes.{cell, put_byte, put_cell, put_bytes}
+use Rattle.memory.specs.declared.limit.TheConstants.{GREATEST_LIMIT}
 use Rattle.memory.proofs.Puts.{put_bytes-append}
 use Rattle.memory.proofs.Kept.{wrap_small, length_bytes, cell_here}
 use Rattle.dictionary.specs.Laying.{laid_at}
@@ -38,7 +39,7 @@ cell_twice m x y =
     ap (λ l. slice_set l 29 (y / 256)) (set_swap a 29 28 (x / 256) (y % 256) (omega arith) ∙ ap (λ l. slice_set l 29 (x / 256)) (set-set m 28 (x % 256) (y % 256)))
     ∙ set-set (slice_set m 28 (y % 256)) 29 (x / 256) (y / 256)
 
-pub laid_twice : (m xs ys : List ℕ) → length m ≡ 65536 → 30 ≤ cell m 28 → cell m 28 + length xs + length ys ≤ 61440 → laid (laid m xs) ys ≡ laid m (xs ++ ys)
+pub laid_twice : (m xs ys : List ℕ) → length m ≡ 65536 → 30 ≤ cell m 28 → cell m 28 + length xs + length ys ≤ GREATEST_LIMIT → laid (laid m xs) ys ≡ laid m (xs ++ ys)
 unfolding laid_at
 laid_twice m xs ys l a h =
     let n = cell m 28 in

@@ -2,6 +2,7 @@
 use Rattle.std.proofs.Common.{◌≡◌, ℕ, ◌+◌, ◌/◌, ◌%◌, ◌<◌, ◌≤◌, List, [], ◌∷◌, ◌++◌, length, Some, refl, sym, ap, ◌∙◌, subst, arith, append_assoc, length-append}
 use Rattle.std.specs.Prelude.{Bool, true, false}
 use Rattle.memory.specs.Bytes.{cell, put_cell, cell_bytes}
+use Rattle.memory.specs.declared.limit.TheConstants.{GREATEST_LIMIT}
 use Rattle.memory.proofs.Same.{Stands}
 use Rattle.compiling_words.specs.Code.{runtime, control_code, literal_code, text_code}
 use Rattle.compiling_words.specs.Laying.{laid}
@@ -45,23 +46,23 @@ pub length-two : (x y : ℕ) → length (cell_bytes x ++ cell_bytes y) ≡ 4
 length-two x y = length-append (cell_bytes x) (cell_bytes y) ∙ omega (arith, length-cell x, length-cell y)
 
 -- a control primitive and a cell are laid
-lies_control : (before : List ℕ) (at : ℕ) (o : Outer) (t : Body) (h : Half) (m : List ℕ) (k x : ℕ) → 256 ≤ at → at + open_size o t h + 4 ≤ 61440 → Open before at o t h m → Lies before at (open_code (runtime before) o t h at ++ (cell_bytes (runtime m k) ++ cell_bytes x)) (laid m (control_code m k x))
+lies_control : (before : List ℕ) (at : ℕ) (o : Outer) (t : Body) (h : Half) (m : List ℕ) (k x : ℕ) → 256 ≤ at → at + open_size o t h + 4 ≤ GREATEST_LIMIT → Open before at o t h m → Lies before at (open_code (runtime before) o t h at ++ (cell_bytes (runtime m k) ++ cell_bytes x)) (laid m (control_code m k x))
 lies_control before at o t h m k x l r g =
     lies_laid before at (open_code (runtime before) o t h at) (control_code m k x) m l (omega (arith, length-open_code before at o t h, length-two (runtime m k) x)) g
 
 -- a cell is laid
-lies_cell : (before : List ℕ) (at : ℕ) (o : Outer) (t : Body) (h : Half) (m : List ℕ) (x : ℕ) → 256 ≤ at → at + open_size o t h + 2 ≤ 61440 → Open before at o t h m → Lies before at (open_code (runtime before) o t h at ++ cell_bytes x) (laid m (cell_bytes x))
+lies_cell : (before : List ℕ) (at : ℕ) (o : Outer) (t : Body) (h : Half) (m : List ℕ) (x : ℕ) → 256 ≤ at → at + open_size o t h + 2 ≤ GREATEST_LIMIT → Open before at o t h m → Lies before at (open_code (runtime before) o t h at ++ cell_bytes x) (laid m (cell_bytes x))
 lies_cell before at o t h m x l r g =
     lies_laid before at (open_code (runtime before) o t h at) (cell_bytes x) m l (omega (arith, length-open_code before at o t h, length-cell x)) g
 
 -- names, numbers and texts
-pub name_word : (before : List ℕ) (at : ℕ) (o : Outer) (t : Body) (h : Half) (m below : List ℕ) (w : ℕ) → 256 ≤ at → at + open_size o t h + 2 ≤ 61440 → Open before at o t h m → Draft before at o (complete h t w) Free (laid m (cell_bytes w)) (places at o ++ below) below
+pub name_word : (before : List ℕ) (at : ℕ) (o : Outer) (t : Body) (h : Half) (m below : List ℕ) (w : ℕ) → 256 ≤ at → at + open_size o t h + 2 ≤ GREATEST_LIMIT → Open before at o t h m → Draft before at o (complete h t w) Free (laid m (cell_bytes w)) (places at o ++ below) below
 name_word before at o t h m below w l r g =
     let bs = open_code (runtime before) o t h at in
     let e = called (runtime before) at o t h w bs (bs ++ cell_bytes w) (marks_of at o) refl (drafted before at o t h) in
     drafts before at o (complete h t w) Free (bs ++ cell_bytes w) (laid m (cell_bytes w)) (places at o ++ below) below e.bytes refl (lies_cell before at o t h m w l r g)
 
-number_word : (before : List ℕ) (at : ℕ) (o : Outer) (t : Body) (m below : List ℕ) (n : ℕ) → 256 ≤ at → at + open_size o t Free + 4 ≤ 61440 → Open before at o t Free m → Draft before at o (Literal t n) Free (laid m (literal_code m n)) (places at o ++ below) below
+number_word : (before : List ℕ) (at : ℕ) (o : Outer) (t : Body) (m below : List ℕ) (n : ℕ) → 256 ≤ at → at + open_size o t Free + 4 ≤ GREATEST_LIMIT → Open before at o t Free m → Draft before at o (Literal t n) Free (laid m (literal_code m n)) (places at o ++ below) below
 number_word before at o t m below n l r g =
     let rt = runtime before in
     let bs = open_code rt o t Free at in
@@ -71,7 +72,7 @@ number_word before at o t m below n l r g =
     let e : bs ++ (cell_bytes (runtime m 6) ++ cell_bytes n) ≡ open_code rt o (Literal t n) Free at = append_assoc A C (cell_bytes (runtime m 6) ++ cell_bytes n) ∙ ap (λ v. A ++ (C ++ (cell_bytes v ++ cell_bytes n))) c in
     drafts before at o (Literal t n) Free (bs ++ (cell_bytes (runtime m 6) ++ cell_bytes n)) (laid m (literal_code m n)) (places at o ++ below) below e refl (lies_control before at o t Free m 6 n l r g)
 
-double_word : (before : List ℕ) (at : ℕ) (o : Outer) (t : Body) (m below : List ℕ) (n : ℕ) → 256 ≤ at → at + open_size o t Free + 8 ≤ 61440 → Open before at o t Free m → Draft before at o (Double t n) Free (laid m (literal_code m (n % 65536) ++ literal_code m (n / 65536))) (places at o ++ below) below
+double_word : (before : List ℕ) (at : ℕ) (o : Outer) (t : Body) (m below : List ℕ) (n : ℕ) → 256 ≤ at → at + open_size o t Free + 8 ≤ GREATEST_LIMIT → Open before at o t Free m → Draft before at o (Double t n) Free (laid m (literal_code m (n % 65536) ++ literal_code m (n / 65536))) (places at o ++ below) below
 double_word before at o t m below n l r g =
     let rt = runtime before in
     let bs = open_code rt o t Free at in
@@ -92,7 +93,7 @@ text_small : (k : Bool) → text_control k < 32
 text_small true = omega arith
 text_small false = omega arith
 
-text_word : (before : List ℕ) (at : ℕ) (o : Outer) (t : Body) (m below : List ℕ) (k : Bool) (ts : List ℕ) → 256 ≤ at → at + open_size o t Free + (3 + length ts) ≤ 61440 → Open before at o t Free m → Draft before at o (Text t k ts) Free (laid m (text_code (runtime m (text_control k)) ts)) (places at o ++ below) below
+text_word : (before : List ℕ) (at : ℕ) (o : Outer) (t : Body) (m below : List ℕ) (k : Bool) (ts : List ℕ) → 256 ≤ at → at + open_size o t Free + (3 + length ts) ≤ GREATEST_LIMIT → Open before at o t Free m → Draft before at o (Text t k ts) Free (laid m (text_code (runtime m (text_control k)) ts)) (places at o ++ below) below
 unfolding text_code
 text_word before at o t m below k ts l r g =
     let rt = runtime before in
@@ -108,14 +109,14 @@ text_word before at o t m below k ts l r g =
     (lies_laid before at bs cs m l (omega (arith, length-open_code before at o t Free, n)) g)
 
 -- what is half read
-tick_word : (before : List ℕ) (at : ℕ) (o : Outer) (t : Body) (m below : List ℕ) → 256 ≤ at → at + open_size o t Free + 2 ≤ 61440 → Open before at o t Free m → Draft before at o t Ticked (laid m (cell_bytes (runtime m 6))) (places at o ++ below) below
+tick_word : (before : List ℕ) (at : ℕ) (o : Outer) (t : Body) (m below : List ℕ) → 256 ≤ at → at + open_size o t Free + 2 ≤ GREATEST_LIMIT → Open before at o t Free m → Draft before at o t Ticked (laid m (cell_bytes (runtime m 6))) (places at o ++ below) below
 tick_word before at o t m below l r g =
     let rt = runtime before in
     let bs = open_code rt o t Free at in
     let c = control_kept before at bs m 6 l (omega arith) g in
     drafts before at o t Ticked (bs ++ cell_bytes (runtime m 6)) (laid m (cell_bytes (runtime m 6))) (places at o ++ below) below (ap (λ v. bs ++ cell_bytes v) c) refl (lies_cell before at o t Free m (runtime m 6) l r g)
 
-compile_word : (before : List ℕ) (at : ℕ) (o : Outer) (t : Body) (m below : List ℕ) → 256 ≤ at → at + open_size o t Free + 2 ≤ 61440 → Open before at o t Free m → Draft before at o t Compiling (laid m (cell_bytes (runtime m 19))) (places at o ++ below) below
+compile_word : (before : List ℕ) (at : ℕ) (o : Outer) (t : Body) (m below : List ℕ) → 256 ≤ at → at + open_size o t Free + 2 ≤ GREATEST_LIMIT → Open before at o t Free m → Draft before at o t Compiling (laid m (cell_bytes (runtime m 19))) (places at o ++ below) below
 compile_word before at o t m below l r g =
     let rt = runtime before in
     let bs = open_code rt o t Free at in
@@ -123,7 +124,7 @@ compile_word before at o t m below l r g =
     drafts before at o t Compiling (bs ++ cell_bytes (runtime m 19)) (laid m (cell_bytes (runtime m 19))) (places at o ++ below) below (ap (λ v. bs ++ cell_bytes v) c) refl (lies_cell before at o t Free m (runtime m 19) l r g)
 
 -- DOES>
-does_word : (before : List ℕ) (at : ℕ) (t : Body) (m below : List ℕ) → 256 ≤ at → at + open_size Top t Free + 2 ≤ 61440 → Open before at Top t Free m → Draft before at (Past t) Empty Free (laid m (cell_bytes (runtime m 18))) below below
+does_word : (before : List ℕ) (at : ℕ) (t : Body) (m below : List ℕ) → 256 ≤ at → at + open_size Top t Free + 2 ≤ GREATEST_LIMIT → Open before at Top t Free m → Draft before at (Past t) Empty Free (laid m (cell_bytes (runtime m 18))) below below
 does_word before at t m below l r g =
     let rt = runtime before in
     let bs = open_code rt Top t Free at in
@@ -132,7 +133,7 @@ does_word before at t m below l r g =
     drafts before at (Past t) Empty Free (bs ++ cell_bytes (runtime m 18)) (laid m (cell_bytes (runtime m 18))) below below e.bytes refl (lies_cell before at Top t Free m (runtime m 18) l r g)
 
 -- IF, DO and BEGIN
-if_word : (before : List ℕ) (at : ℕ) (o : Outer) (t : Body) (m below : List ℕ) → 256 ≤ at → at + open_size o t Free + 4 ≤ 61440 → Open before at o t Free m → Draft before at (InIf o t) Empty Free (laid m (control_code m 8 0)) (ahead m 2 ∷ (places at o ++ below)) below
+if_word : (before : List ℕ) (at : ℕ) (o : Outer) (t : Body) (m below : List ℕ) → 256 ≤ at → at + open_size o t Free + 4 ≤ GREATEST_LIMIT → Open before at o t Free m → Draft before at (InIf o t) Empty Free (laid m (control_code m 8 0)) (ahead m 2 ∷ (places at o ++ below)) below
 if_word before at o t m below l r g =
     let rt = runtime before in
     let bs = open_code rt o t Free at in
@@ -144,7 +145,7 @@ if_word before at o t m below l r g =
     drafts before at (InIf o t) Empty Free (bs ++ (cell_bytes x ++ cell_bytes 0)) (laid m (control_code m 8 0)) (ahead m 2 ∷ (places at o ++ below)) below
     (sym (append_assoc bs (cell_bytes x) (cell_bytes 0)) ∙ e.bytes) (ap (λ v. v ∷ (places at o ++ below)) a) (lies_control before at o t Free m 8 0 l r g)
 
-do_word : (before : List ℕ) (at : ℕ) (o : Outer) (t : Body) (m below : List ℕ) → 256 ≤ at → at + open_size o t Free + 4 ≤ 61440 → Open before at o t Free m → Draft before at (InDo o t) Empty Free (laid m (control_code m 9 0)) (ahead m 4 ∷ ahead m 2 ∷ (places at o ++ below)) below
+do_word : (before : List ℕ) (at : ℕ) (o : Outer) (t : Body) (m below : List ℕ) → 256 ≤ at → at + open_size o t Free + 4 ≤ GREATEST_LIMIT → Open before at o t Free m → Draft before at (InDo o t) Empty Free (laid m (control_code m 9 0)) (ahead m 4 ∷ ahead m 2 ∷ (places at o ++ below)) below
 do_word before at o t m below l r g =
     let rt = runtime before in
     let bs = open_code rt o t Free at in
@@ -175,7 +176,7 @@ back rt o t a at k =
     let flat : open_code rt (InBegin o t) a Free at ++ (cell_bytes k ++ cell_bytes (at + (outer_size o + size t))) ≡ A ++ (C ++ (code rt a (at + (outer_size o + size t)) ++ (cell_bytes k ++ cell_bytes (at + (outer_size o + size t))))) = simp append_assoc in
     flat ∙ ap (λ (i : ℕ). A ++ (C ++ (code rt a i ++ (cell_bytes k ++ cell_bytes i)))) q
 
-until_word : (before : List ℕ) (at : ℕ) (o : Outer) (t a : Body) (m below : List ℕ) → 256 ≤ at → at + open_size (InBegin o t) a Free + 4 ≤ 61440 → Open before at (InBegin o t) a Free m → Draft before at o (Until t a) Free (laid m (control_code m 8 (at + (outer_size o + size t)))) (places at o ++ below) below
+until_word : (before : List ℕ) (at : ℕ) (o : Outer) (t a : Body) (m below : List ℕ) → 256 ≤ at → at + open_size (InBegin o t) a Free + 4 ≤ GREATEST_LIMIT → Open before at (InBegin o t) a Free m → Draft before at o (Until t a) Free (laid m (control_code m 8 (at + (outer_size o + size t)))) (places at o ++ below) below
 until_word before at o t a m below l r g =
     let rt = runtime before in
     let bs = open_code rt (InBegin o t) a Free at in
@@ -185,7 +186,7 @@ until_word before at o t a m below l r g =
     drafts before at o (Until t a) Free (bs ++ (cell_bytes x ++ cell_bytes y)) (laid m (control_code m 8 y)) (places at o ++ below) below
     (ap (λ v. bs ++ (cell_bytes v ++ cell_bytes y)) c ∙ back rt o t a at (rt 8)) refl (lies_control before at (InBegin o t) a Free m 8 y l r g)
 
-again_word : (before : List ℕ) (at : ℕ) (o : Outer) (t a : Body) (m below : List ℕ) → 256 ≤ at → at + open_size (InBegin o t) a Free + 4 ≤ 61440 → Open before at (InBegin o t) a Free m → Draft before at o (Again t a) Free (laid m (control_code m 7 (at + (outer_size o + size t)))) (places at o ++ below) below
+again_word : (before : List ℕ) (at : ℕ) (o : Outer) (t a : Body) (m below : List ℕ) → 256 ≤ at → at + open_size (InBegin o t) a Free + 4 ≤ GREATEST_LIMIT → Open before at (InBegin o t) a Free m → Draft before at o (Again t a) Free (laid m (control_code m 7 (at + (outer_size o + size t)))) (places at o ++ below) below
 again_word before at o t a m below l r g =
     let rt = runtime before in
     let bs = open_code rt (InBegin o t) a Free at in
@@ -195,7 +196,7 @@ again_word before at o t a m below l r g =
     drafts before at o (Again t a) Free (bs ++ (cell_bytes x ++ cell_bytes y)) (laid m (control_code m 7 y)) (places at o ++ below) below
     (ap (λ v. bs ++ (cell_bytes v ++ cell_bytes y)) c ∙ back rt o t a at (rt 7)) refl (lies_control before at (InBegin o t) a Free m 7 y l r g)
 
-while_word : (before : List ℕ) (at : ℕ) (o : Outer) (t a : Body) (m below : List ℕ) → 256 ≤ at → at + open_size (InBegin o t) a Free + 4 ≤ 61440 → Open before at (InBegin o t) a Free m
+while_word : (before : List ℕ) (at : ℕ) (o : Outer) (t a : Body) (m below : List ℕ) → 256 ≤ at → at + open_size (InBegin o t) a Free + 4 ≤ GREATEST_LIMIT → Open before at (InBegin o t) a Free m
     → Draft before at (InWhile o t a) Empty Free (laid m (control_code m 8 0)) (ahead m 2 ∷ (at + (outer_size o + size t)) ∷ (places at o ++ below)) below
 while_word before at o t a m below l r g =
     let rt = runtime before in
@@ -210,7 +211,7 @@ while_word before at o t a m below l r g =
     (sym (append_assoc bs (cell_bytes x) (cell_bytes 0)) ∙ e.bytes) (ap (λ v. v ∷ y ∷ (places at o ++ below)) z) (lies_control before at (InBegin o t) a Free m 8 0 l r g)
 
 -- places that were left open
-then_word : (before : List ℕ) (at : ℕ) (o : Outer) (t a : Body) (m below : List ℕ) → 256 ≤ at → at + open_size (InIf o t) a Free ≤ 61440 → Open before at (InIf o t) a Free m → Draft before at o (IfThen t a) Free (put_cell m (at + (outer_size o + size t + 2)) (cell m 28)) (places at o ++ below) below
+then_word : (before : List ℕ) (at : ℕ) (o : Outer) (t a : Body) (m below : List ℕ) → 256 ≤ at → at + open_size (InIf o t) a Free ≤ GREATEST_LIMIT → Open before at (InIf o t) a Free m → Draft before at o (IfThen t a) Free (put_cell m (at + (outer_size o + size t + 2)) (cell m 28)) (places at o ++ below) below
 then_word before at o t a m below l r g =
     let rt = runtime before in
     let bs = open_code rt (InIf o t) a Free at in
@@ -221,7 +222,7 @@ then_word before at o t a m below l r g =
     drafts before at o (IfThen t a) Free (with_cell bs p x) (put_cell m (at + p) x) (places at o ++ below) below e.bytes refl
     (lies_patched before at bs m (at + p) p x l (omega (arith, n)) refl (omega (arith, n)) g)
 
-then_else_word : (before : List ℕ) (at : ℕ) (o : Outer) (t a b : Body) (m below : List ℕ) → 256 ≤ at → at + open_size (InElse o t a) b Free ≤ 61440 → Open before at (InElse o t a) b Free m → Draft before at o (IfElse t a b) Free (put_cell m (at + (outer_size o + size t + (4 + size a) + 2)) (cell m 28)) (places at o ++ below) below
+then_else_word : (before : List ℕ) (at : ℕ) (o : Outer) (t a b : Body) (m below : List ℕ) → 256 ≤ at → at + open_size (InElse o t a) b Free ≤ GREATEST_LIMIT → Open before at (InElse o t a) b Free m → Draft before at o (IfElse t a b) Free (put_cell m (at + (outer_size o + size t + (4 + size a) + 2)) (cell m 28)) (places at o ++ below) below
 then_else_word before at o t a b m below l r g =
     let rt = runtime before in
     let bs = open_code rt (InElse o t a) b Free at in
@@ -233,7 +234,7 @@ then_else_word before at o t a b m below l r g =
     (lies_patched before at bs m (at + p) p x l (omega (arith, n)) refl (omega (arith, n)) g)
 
 -- a control primitive and a cell are laid, and then a place that was left open gets HERE
-two_cells : (before : List ℕ) (at : ℕ) (o : Outer) (t : Body) (m : List ℕ) (k x : ℕ) → 256 ≤ at → at + open_size o t Free + 4 ≤ 61440 → Open before at o t Free m → Lies before at ((open_code (runtime before) o t Free at ++ cell_bytes (runtime m k)) ++ cell_bytes x) (laid m (control_code m k x))
+two_cells : (before : List ℕ) (at : ℕ) (o : Outer) (t : Body) (m : List ℕ) (k x : ℕ) → 256 ≤ at → at + open_size o t Free + 4 ≤ GREATEST_LIMIT → Open before at o t Free m → Lies before at ((open_code (runtime before) o t Free at ++ cell_bytes (runtime m k)) ++ cell_bytes x) (laid m (control_code m k x))
 two_cells before at o t m k x l r g =
     let bs = open_code (runtime before) o t Free at in
     subst (λ s. Lies before at s (laid m (control_code m k x))) (sym (append_assoc bs (cell_bytes (runtime m k)) (cell_bytes x))) (lies_control before at o t Free m k x l r g)
@@ -241,12 +242,12 @@ two_cells before at o t m k x l r g =
 length-both : (bs : List ℕ) (x y : ℕ) → length ((bs ++ cell_bytes x) ++ cell_bytes y) ≡ length bs + 4
 length-both bs x y = omega (arith, length-append (bs ++ cell_bytes x) (cell_bytes y), length-append bs (cell_bytes x), length-cell x, length-cell y)
 
-behind : (before : List ℕ) (at : ℕ) (o : Outer) (t : Body) (m : List ℕ) (k x : ℕ) → at + open_size o t Free + 4 ≤ 61440 → Open before at o t Free m → ahead m (length (control_code m k x)) ≡ at + length ((open_code (runtime before) o t Free at ++ cell_bytes (runtime m k)) ++ cell_bytes x)
+behind : (before : List ℕ) (at : ℕ) (o : Outer) (t : Body) (m : List ℕ) (k x : ℕ) → at + open_size o t Free + 4 ≤ GREATEST_LIMIT → Open before at o t Free m → ahead m (length (control_code m k x)) ≡ at + length ((open_code (runtime before) o t Free at ++ cell_bytes (runtime m k)) ++ cell_bytes x)
 behind before at o t m k x r g =
     let h = g.here in
     omega (arith, length-two (runtime m k) x, length-both (open_code (runtime before) o t Free at) (runtime m k) x, length-open_code before at o t Free)
 
-else_word : (before : List ℕ) (at : ℕ) (o : Outer) (t a : Body) (m below : List ℕ) → 256 ≤ at → at + open_size (InIf o t) a Free + 4 ≤ 61440 → Open before at (InIf o t) a Free m
+else_word : (before : List ℕ) (at : ℕ) (o : Outer) (t a : Body) (m below : List ℕ) → 256 ≤ at → at + open_size (InIf o t) a Free + 4 ≤ GREATEST_LIMIT → Open before at (InIf o t) a Free m
     → Draft before at (InElse o t a) Empty Free (laid_and_resolved m (control_code m 7 0) (at + (outer_size o + size t + 2))) (ahead m 2 ∷ (places at o ++ below)) below
 else_word before at o t a m below l r g =
     let rt = runtime before in
@@ -264,7 +265,7 @@ else_word before at o t a m below l r g =
     drafts before at (InElse o t a) Empty Free (with_cell two p x) (laid_and_resolved m (control_code m 7 0) (at + p)) (ahead m 2 ∷ (places at o ++ below)) below e.bytes (ap (λ v. v ∷ (places at o ++ below)) z)
     (lies_patched before at two (laid m (control_code m 7 0)) (at + p) p x l (omega (arith, n, k)) refl (omega (arith, n, k)) (two_cells before at (InIf o t) a m 7 0 l r g))
 
-repeat_word : (before : List ℕ) (at : ℕ) (o : Outer) (t a b : Body) (m below : List ℕ) → 256 ≤ at → at + open_size (InWhile o t a) b Free + 4 ≤ 61440 → Open before at (InWhile o t a) b Free m
+repeat_word : (before : List ℕ) (at : ℕ) (o : Outer) (t a b : Body) (m below : List ℕ) → 256 ≤ at → at + open_size (InWhile o t a) b Free + 4 ≤ GREATEST_LIMIT → Open before at (InWhile o t a) b Free m
     → Draft before at o (While t a b) Free (laid_and_resolved m (control_code m 7 (at + (outer_size o + size t))) (at + (outer_size o + size t + size a + 2))) (places at o ++ below) below
 repeat_word before at o t a b m below l r g =
     let rt = runtime before in
@@ -286,7 +287,7 @@ loop_small : (k : Bool) → loop_control k < 32
 loop_small true = omega arith
 loop_small false = omega arith
 
-loop_word : (before : List ℕ) (at : ℕ) (o : Outer) (t a : Body) (m below : List ℕ) (k : Bool) → 256 ≤ at → at + open_size (InDo o t) a Free + 4 ≤ 61440 → Open before at (InDo o t) a Free m
+loop_word : (before : List ℕ) (at : ℕ) (o : Outer) (t a : Body) (m below : List ℕ) (k : Bool) → 256 ≤ at → at + open_size (InDo o t) a Free + 4 ≤ GREATEST_LIMIT → Open before at (InDo o t) a Free m
     → Draft before at o (Loop t a k) Free (laid_and_resolved m (control_code m (loop_control k) (at + (outer_size o + size t + 4))) (at + (outer_size o + size t + 2))) (places at o ++ below) below
 loop_word before at o t a m below k l r g =
     let rt = runtime before in
@@ -321,7 +322,7 @@ forced before at o t m below g = drafts before at o t Forced (open_code (runtime
 both : (before : List ℕ) (at : ℕ) (o : Outer) (t : Body) (m below : List ℕ) → Open before at o t Compiling m → Draft before at o t Both m (places at o ++ below) below
 both before at o t m below g = drafts before at o t Both (open_code (runtime before) o t Compiling at) m (places at o ++ below) below refl refl g
 
-fit_word : (before : List ℕ) (at : ℕ) (o p : Outer) (t u : Body) (k : Half) (w : Token) (m below : List ℕ) → 256 ≤ at → at + open_size o t Free + laid_by w ≤ 61440 → fit o t w ≡ Some (At p u k) → Open before at o t Free m → Behind before at w m (places at o ++ below) below p u k
+fit_word : (before : List ℕ) (at : ℕ) (o p : Outer) (t u : Body) (k : Half) (w : Token) (m below : List ℕ) → 256 ≤ at → at + open_size o t Free + laid_by w ≤ GREATEST_LIMIT → fit o t w ≡ Some (At p u k) → Open before at o t Free m → Behind before at w m (places at o ++ below) below p u k
 fit_word before at o p t u k FORCE m below l r e g = same_state (Behind before at FORCE m (places at o ++ below) below) o p t u Forced k e (forced before at o t m below g)
 fit_word before at o p t u k TICK m below l r e g = same_state (Behind before at TICK m (places at o ++ below) below) o p t u Ticked k e (tick_word before at o t m below l r g)
 fit_word before at o p t u k COMPILE m below l r e g = same_state (Behind before at COMPILE m (places at o ++ below) below) o p t u Compiling k e (compile_word before at o t m below l r g)
@@ -342,17 +343,17 @@ fit_word before at (InWhile o t a) p b u k REPEAT m below l r e g = same_state (
 fit_word before at (InDo o t) p a u k (LOOP x) m below l r e g = same_state (Behind before at (LOOP x) m (places at (InDo o t) ++ below) below) o p (Loop t a x) u Free k e (loop_word before at o t a m below x l r g)
 fit_word before at _ p t u k _ m below l r e g = cc
 
-read_word : (before : List ℕ) (at : ℕ) (o p : Outer) (t u : Body) (h k : Half) (w : Token) (m below : List ℕ) → 256 ≤ at → at + open_size o t h + laid_by w ≤ 61440 → read o t h w ≡ Some (At p u k) → Open before at o t h m → Behind before at w m (places at o ++ below) below p u k
+read_word : (before : List ℕ) (at : ℕ) (o p : Outer) (t u : Body) (h k : Half) (w : Token) (m below : List ℕ) → 256 ≤ at → at + open_size o t h + laid_by w ≤ GREATEST_LIMIT → read o t h w ≡ Some (At p u k) → Open before at o t h m → Behind before at w m (places at o ++ below) below p u k
 read_word before at o p t u h k (NAME w) m below l r e g = same_state (Behind before at (NAME w) m (places at o ++ below) below) o p (complete h t w) u Free k e (name_word before at o t h m below w l r g)
 read_word before at o p t u Free k w m below l r e g = fit_word before at o p t u k w m below l r e g
 read_word before at o p t u Compiling k FORCE m below l r e g = same_state (Behind before at FORCE m (places at o ++ below) below) o p t u Both k e (both before at o t m below g)
 read_word before at o p t u _ k _ m below l r e g = cc
 
-pub word_is : (before : List ℕ) (at : ℕ) (o p : Outer) (t u : Body) (h k : Half) (w : Token) (m d below : List ℕ) → 256 ≤ at → at + open_size o t h + laid_by w ≤ 61440 → read o t h w ≡ Some (At p u k) → Draft before at o t h m d below → Draft before at p u k (lays w m d).0 (lays w m d).1 below
+pub word_is : (before : List ℕ) (at : ℕ) (o p : Outer) (t u : Body) (h k : Half) (w : Token) (m d below : List ℕ) → 256 ≤ at → at + open_size o t h + laid_by w ≤ GREATEST_LIMIT → read o t h w ≡ Some (At p u k) → Draft before at o t h m d below → Draft before at p u k (lays w m d).0 (lays w m d).1 below
 word_is before at o p t u h k w m d below l r e g =
     subst (λ x. Behind before at w m x below p u k) (sym g.stack) (read_word before at o p t u h k w m below l r e (opens before at o t h m d below g))
 
-pub tick_name : (before : List ℕ) (at : ℕ) (o : Outer) (t : Body) (m d below : List ℕ) (w : ℕ) → 256 ≤ at → at + open_size o t Free + 4 ≤ 61440 → Draft before at o t Free m d below → Draft before at o (Tick t w) Free (laid m (literal_code m w)) d below
+pub tick_name : (before : List ℕ) (at : ℕ) (o : Outer) (t : Body) (m d below : List ℕ) (w : ℕ) → 256 ≤ at → at + open_size o t Free + 4 ≤ GREATEST_LIMIT → Draft before at o t Free m d below → Draft before at o (Tick t w) Free (laid m (literal_code m w)) d below
 tick_name before at o t m d below w l r g =
     let rt = runtime before in
     let h = opens before at o t Free m d below g in

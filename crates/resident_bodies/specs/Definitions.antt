@@ -1,6 +1,7 @@
 -- A colon definition as one header with its code behind it.
 use Rattle.std.specs.Prelude.{◌≡◌, ◌≢◌, ◌≤◌, ◌<◌, ◌⊎◌, ◌/◌, ℕ, false, ◌+◌, List, length}
 use Rattle.memory.specs.Bytes.{byte, cell}
+use Rattle.memory.specs.declared.limit.TheConstants.{GREATEST_LIMIT}
 use Rattle.memory.specs.declared.system.TheConstants.{STATE, DP, CURRENT}
 use Rattle.dictionary.specs.declared.site.Site.{Site}
 use Rattle.dictionary.specs.Search.{head_of}
@@ -30,7 +31,7 @@ pub record Opens (m name : List ℕ) (behind : ℕ) : Type 0 where
   pub executing : cell m STATE ≡ 0
   pub short : length name ≤ 31
   pub low : 256 ≤ cell m DP
-  pub high : cell m DP + (7 + length name + behind) ≤ 61440
+  pub high : cell m DP + (7 + length name + behind) ≤ GREATEST_LIMIT
   pub head : ((42 ≤ head_of (cell m CURRENT) name) × (head_of (cell m CURRENT) name + 1 < 52)) ⊎ ((256 ≤ head_of (cell m CURRENT) name) × (head_of (cell m CURRENT) name + 1 < cell m DP))
 
 -- memories agree up to HERE, but for >IN and BLK (20 to 23) and CONTEXT (32 and 33)

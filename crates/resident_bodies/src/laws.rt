@@ -2,7 +2,9 @@
 
 ghost use Rattle.std.specs.Prelude.{◌≡◌, ◌≢◌, ◌<◌, ◌≤◌, ℕ, Bool, true, false, ◌+◌, ◌/◌, ◌%◌, ◌++◌, List, Some, length};
 ghost use Rattle.memory.specs.Bytes.{cell, cell_bytes, put_cell};
+ghost use Rattle.memory.specs.declared.limit.TheConstants.{GREATEST_LIMIT};
 ghost use Rattle.memory.specs.declared.system.TheConstants.{BLK, DP, TO_IN, FENCE};
+ghost use Rattle.block_buffers.specs.Entries.{limit};
 ghost use Rattle.dictionary.specs.Laying.{laid_at};
 ghost use Rattle.compiling_words.specs.Code.{runtime, literal_code, text_code};
 ghost use Rattle.compiling_words.specs.Definitions.{begun, ended};
@@ -24,7 +26,7 @@ ghost use Rattle.colon_bodies.specs.Code.{all_size};
 ghost use Rattle.colon_bodies.specs.Open.{Outer, At, open_size, read};
 ghost use Rattle.metacompiler.specs.Places.{Place};
 ghost use Rattle.metacompiler.specs.Items.{Items, Then, Colon, end_of};
-ghost use Rattle.metacompiler.specs.Grammar.{AreSound, is_gap};
+ghost use Rattle.metacompiler.specs.Grammar.{IsLimit, AreSound, is_gap};
 ghost use Rattle.metacompiler.specs.Headers.{memory_of};
 ghost use Rattle.resident_bodies.specs.Definitions.{Opens, Agrees, laid_definition};
 ghost use Rattle.resident_bodies.specs.Words.{lays, lays_all, row_of};
@@ -33,40 +35,40 @@ ghost use Rattle.resident_bodies.specs.Drafts.{Draft, Bodied};
 /// What a word of a body lays where the resident compiler reads it is what the word makes of the body that was read in part:
 /// the bytes of the open structures and the bodies, with a 0 in each cell that waits for its address.
 pub fn word_law()
-    ensures { (before : List ℕ) (at : ℕ) (o p : Outer) (t u : Body) (h k : Half) (w : Token) (m d below : List ℕ) → 256 ≤ at → at + open_size o t h + laid_by w ≤ 61440 → read o t h w ≡ Some (At p u k) → Draft before at o t h m d below → Draft before at p u k (lays w m d).0 (lays w m d).1 below }
+    ensures { (before : List ℕ) (at : ℕ) (o p : Outer) (t u : Body) (h k : Half) (w : Token) (m d below : List ℕ) → 256 ≤ at → at + open_size o t h + laid_by w ≤ GREATEST_LIMIT → read o t h w ≡ Some (At p u k) → Draft before at o t h m d below → Draft before at p u k (lays w m d).0 (lays w m d).1 below }
 {}
 
 /// Bytes that two calls lay one behind the other are what one call lays: so a control primitive and then a mark, or a literal
 /// and then another, are laid as by the word that lays them at once.
 pub fn calls_law()
-    ensures { (m xs ys : List ℕ) → length m ≡ 65536 → 30 ≤ cell m DP → cell m DP + length xs + length ys ≤ 61440 → laid (laid m xs) ys ≡ laid m (xs ++ ys) }
+    ensures { (m xs ys : List ℕ) → length m ≡ 65536 → 30 ≤ cell m DP → cell m DP + length xs + length ys ≤ GREATEST_LIMIT → laid (laid m xs) ys ≡ laid m (xs ++ ys) }
 {}
 
-/// The row of a keyword does this where it fits and there is room: it writes memory and leaves the data stack so, and does
+/// The row of a keyword does this where it fits below the buffers and there is room: it writes memory and leaves the data stack so, and does
 /// nothing else. The row of `;` ends the definition.
 pub fn row_law()
-    ensures keyword { (before : List ℕ) (at : ℕ) (o p : Outer) (t u : Body) (k : Half) (word : Token) (number token : ℕ) (s : Whole) (below : List ℕ) → at + open_size o t Free + laid_by word ≤ 61440 → length s.values ≤ 250 → row_of word ≡ Some number → read o t Free word ≡ Some (At p u k) → Draft before at o t Free s.memory s.values below → row number token s ≡ (record s { memory = (lays word s.memory s.values).0; values = (lays word s.memory s.values).1 }, Done) }
-    ensures semicolon { (s : Whole) (token : ℕ) → cell s.memory DP + 2 ≤ 61440 → row 169 token s ≡ (record s { memory = ended s.memory }, Done) }
+    ensures keyword { (before : List ℕ) (at : ℕ) (o p : Outer) (t u : Body) (k : Half) (word : Token) (number token : ℕ) (s : Whole) (below : List ℕ) → at + open_size o t Free + laid_by word ≤ limit s.buffers → length s.values ≤ 250 → row_of word ≡ Some number → read o t Free word ≡ Some (At p u k) → Draft before at o t Free s.memory s.values below → row number token s ≡ (record s { memory = (lays word s.memory s.values).0; values = (lays word s.memory s.values).1 }, Done) }
+    ensures semicolon { (s : Whole) (token : ℕ) → cell s.memory DP + 2 ≤ limit s.buffers → row 169 token s ≡ (record s { memory = ended s.memory }, Done) }
 {}
 
 /// Where the words of a definition's body are read one after another, its size is how far HERE moves, and its code is what is
 /// laid there; the data stack is as it was.
 pub fn body_law()
-    ensures laid { (m d : List ℕ) (at : ℕ) (body : Definition) → length m ≡ 65536 → cell m DP ≡ at → 256 ≤ at → at + all_size body ≤ 61440 → Bodied m at body (lays_all (all_words body) m d).0 }
-    ensures stack { (m d : List ℕ) (at : ℕ) (body : Definition) → length m ≡ 65536 → cell m DP ≡ at → 256 ≤ at → at + all_size body ≤ 61440 → (lays_all (all_words body) m d).1 ≡ d }
+    ensures laid { (m d : List ℕ) (at : ℕ) (body : Definition) → length m ≡ 65536 → cell m DP ≡ at → 256 ≤ at → at + all_size body ≤ GREATEST_LIMIT → Bodied m at body (lays_all (all_words body) m d).0 }
+    ensures stack { (m d : List ℕ) (at : ℕ) (body : Definition) → length m ≡ 65536 → cell m DP ≡ at → 256 ≤ at → at + all_size body ≤ GREATEST_LIMIT → (lays_all (all_words body) m d).1 ≡ d }
 {}
 
 /// A row that takes a name, a number or a text out of the stream moves >IN first, and lays what the word lays there; that >IN
 /// moves leaves a definition laid in part as it is. What `[']` lays at once is what its two words lay.
 pub fn stream_law()
     ensures moved { (before : List ℕ) (at : ℕ) (o : Outer) (t : Body) (h : Half) (m d below : List ℕ) (q : ℕ) → 256 ≤ at → Draft before at o t h m d below → Draft before at o t h (put_cell m TO_IN q) d below }
-    ensures compiles { (s : Whole) (word : Word) (bs : List ℕ) → cell s.memory DP + length bs ≤ 61440 → length s.values ≤ 255 → compiles_past s word bs ≡ (record s { values = s.values ▸ 65535; memory = laid (put_cell s.memory TO_IN word.next) bs }, Done) }
-    ensures lays { (s : Whole) (word : Word) (bs : List ℕ) → cell s.memory DP + length bs ≤ 61440 → lays_past s word bs ≡ (record s { memory = laid (put_cell s.memory TO_IN word.next) bs }, Done) }
+    ensures compiles { (s : Whole) (word : Word) (bs : List ℕ) → cell s.memory DP + length bs ≤ limit s.buffers → length s.values ≤ 255 → compiles_past s word bs ≡ (record s { values = s.values ▸ 65535; memory = laid (put_cell s.memory TO_IN word.next) bs }, Done) }
+    ensures lays { (s : Whole) (word : Word) (bs : List ℕ) → cell s.memory DP + length bs ≤ limit s.buffers → lays_past s word bs ≡ (record s { memory = laid (put_cell s.memory TO_IN word.next) bs }, Done) }
     ensures name { (m d : List ℕ) (q w : ℕ) → (lays (NAME w) (put_cell m TO_IN q) d).0 ≡ laid_at (cell m DP) (put_cell m TO_IN q) (cell_bytes w) }
     ensures number { (m d : List ℕ) (q n : ℕ) → (lays (NUMBER n) (put_cell m TO_IN q) d).0 ≡ laid_at (cell m DP) (put_cell m TO_IN q) (literal_code m n) }
     ensures double { (m d : List ℕ) (q n : ℕ) → (lays (DOUBLE n) (put_cell m TO_IN q) d).0 ≡ laid_at (cell m DP) (put_cell m TO_IN q) (literal_code m (n % 65536) ++ literal_code m (n / 65536)) }
     ensures text { (m d text : List ℕ) (q : ℕ) (aborts : Bool) → (lays (TEXT aborts text) (put_cell m TO_IN q) d).0 ≡ laid_at (cell m DP) (put_cell m TO_IN q) (text_code (runtime m (text_control aborts)) text) }
-    ensures tick { (before : List ℕ) (at : ℕ) (o : Outer) (t : Body) (m d below : List ℕ) (w : ℕ) → 256 ≤ at → at + open_size o t Free + 4 ≤ 61440 → Draft before at o t Free m d below → Draft before at o (Tick t w) Free (laid m (literal_code m w)) d below }
+    ensures tick { (before : List ℕ) (at : ℕ) (o : Outer) (t : Body) (m d below : List ℕ) (w : ℕ) → 256 ≤ at → at + open_size o t Free + 4 ≤ GREATEST_LIMIT → Draft before at o t Free m d below → Draft before at o (Tick t w) Free (laid m (literal_code m w)) d below }
 {}
 
 /// The numbers that no primitive may have, for the metacompiler, are those of no row: there the table answers unknown code, and
@@ -80,12 +82,12 @@ pub fn gap_law()
 /// A colon item of the metacompiler is one header with its code behind it: the image's memory with it is the memory before
 /// it, with that header at HERE, in front of its chain, and FENCE behind it.
 pub fn item_law()
-    ensures { (t : Items) (ws : List Place) (p : Place) (body : Definition) → AreSound 61440 (Then t ws (Colon p body)) → memory_of (Then t ws (Colon p body)) ≡ put_cell (laid_definition (memory_of t) p.screen p.name body) FENCE (end_of (Then t ws (Colon p body))) }
+    ensures { (limit : ℕ) → IsLimit limit → (t : Items) (ws : List Place) (p : Place) (body : Definition) → AreSound limit (Then t ws (Colon p body)) → memory_of (Then t ws (Colon p body)) ≡ put_cell (laid_definition (memory_of t) p.screen p.name body) FENCE (end_of (Then t ws (Colon p body))) }
 {}
 
 /// A definition that the resident compiler begins, whose body's words it reads, and which it ends, is that one header with
 /// its code behind it. So both compilers lay the same. In the memory of each image a definition may begin that has room.
 pub fn definition_law()
-    ensures opens { (t : Items) (name : List ℕ) (behind : ℕ) → AreSound 61440 t → length name ≤ 31 → end_of t + (7 + length name + behind) ≤ 61440 → Opens (memory_of t) name behind }
+    ensures opens { (limit : ℕ) → IsLimit limit → (t : Items) (name : List ℕ) (behind : ℕ) → AreSound limit t → length name ≤ 31 → end_of t + (7 + length name + behind) ≤ limit → Opens (memory_of t) name behind }
     ensures whole { (m d name : List ℕ) (body : Definition) → Opens m name (all_size body + 2) → Agrees (ended (lays_all (all_words body) (begun m name) d).0) (laid_definition m (cell m BLK) name body) }
 {}

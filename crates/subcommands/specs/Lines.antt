@@ -12,7 +12,7 @@ use Rattle.metacompiler.specs.Sources.{Done, IsRefused}
 use Rattle.metacompiler.specs.declared.cause.BuildFault.{BuildFault}
 use Rattle.metacompiler.specs.declared.cause.Cause.{Cause}
 use Rattle.metacompiler.specs.declared.cause.Cause.TheVariants as build
-use Rattle.memory.specs.Bytes.{front_put, zeros}
+use Rattle.memory.specs.Bytes.{front_put, zeros, limit_of}
 use Rattle.see.specs.Seeing.{IsSeen}
 use Rattle.see.specs.View.{viewed}
 use Rattle.see.specs.declared.refusal.SeeRefused.{SeeRefused}
@@ -52,7 +52,7 @@ PrintsFault screen offset cause status old new =
 -- the screens from..to are refused for a fault, and that was printed
 pub record EndsRefused (d : Disk) (from to : ℕ) (done : Done) (status : ℕ) (old new : Option (List ℕ)) : Type 0 where
   pub fault : BuildFault
-  pub is_refused : IsRefused d from to fault done
+  pub is_refused : IsRefused (limit_of 4) d from to fault done
   pub printed : PrintsFault fault.screen fault.offset fault.cause status old new
 
 -- `size S entry E`

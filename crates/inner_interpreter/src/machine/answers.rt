@@ -172,7 +172,8 @@ impl Machine {
         ensures settled { self.new.wait ≡ None }
     {
         let slot = self.parts.buffers.victim().slot;
-        self.parts.memory.set_page(slot, page);
+        let at = self.parts.buffers.address_of(slot);
+        self.parts.memory.set_page(at, page);
         self.parts.buffers.assign(block);
         self.parts.pending = Some(token);
         self.wait = None;

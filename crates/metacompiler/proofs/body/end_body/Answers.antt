@@ -17,5 +17,5 @@ returns c = λ t ws before p titled h e.
     let f = ended_in c.args.b.now t ws p before c.args.at c.finish.new.d.image.items h e (c.in_ok-finish.ensures.taken (slice_index c.args.b.now.runtime.items) d.outer d.body d.half (ap (λ l. slice_index l 5) (sym c.as_slice.ensures.value) ∙ sym c.exit_of-exit.ensures) (draft_in c.args.b.now t ws p before _ h e) d.shallow) in
     let k = c.in_ok-make_colon.ensures.cleared in
     ended_ends c.args.b.now c.make_colon.new.b t ws p before c.finish.new.d.image.items h f
-    (λ vs. c.in_ok-make_colon.ensures.built t vs f.body p titled (same_built c.args.b.now _ t h.built (record { image = refl; names = refl; runtime = refl; current = refl; newest_record = refl; boot = refl })) h.sound f.bytes)
+    (λ vs. c.in_ok-make_colon.ensures.built c.args.b.now.limit t vs f.body p titled (same_built c.args.b.now _ t h.built (record { limit = refl; image = refl; names = refl; runtime = refl; current = refl; newest_record = refl; boot = refl })) h.sound f.bytes)
     (k.0, k.1 ∙ ap (λ v. v.items) c.in_ok-finish.ensures.kept, k.2, k.3)

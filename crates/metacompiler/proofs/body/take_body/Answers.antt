@@ -23,6 +23,9 @@ go_on-requires-clause-room c =
     let room' = d.room in
     omega arith
 
+pub go_on-requires-clause-limit : goal.go_on-requires-clause-limit
+go_on-requires-clause-limit c = let s = c.requires.somewhere in let h = s.is in let b = h.built in b.limited.1
+
 pub returns : goal.returns
 returns c = λ t ws after before p titled h.
     let d = h.drafts in
@@ -48,9 +51,9 @@ returns-in_err-end_body c = λ t ws after before p titled h.
     let e = at_title c.args.b.now t p c.args.p.name.items c.here.result c.len.result h.built c.here.ensures.address (omega (arith, c.args.p.name.ok.0)) titled.1 in
     let x = c.is_semicolon.ensures.0 c.if-is_semicolon.true in
     let q = err_from_is_err_and c.from_residual-in_err-end_body.result c.from_residual-in_err-end_body.ensures.1 in
-    rw (q.1, q.2) (end_fault t p (place c.args.w) before after _ (means c.args.b.now t ws p (place c.args.w) before h (c.in_ok-word.ensures t h.built) ∙ ap Ok x) (c.in_err-end_body.ensures t ws before p titled h e))
+    rw (q.1, q.2) (end_fault c.args.b.now.limit t p (place c.args.w) before after _ (means c.args.b.now t ws p (place c.args.w) before h (c.in_ok-word.ensures t h.built) ∙ ap Ok x) (c.in_err-end_body.ensures t ws before p titled h e))
 
 pub returns-in_err-word : goal.returns-in_err-word
 returns-in_err-word c = λ t ws after before p titled h.
     let q = err_from_is_err_and c.from_residual.result c.from_residual.ensures.1 in
-    rw (q.1, q.2) (inr (means_fault 61440 t p (place c.args.w) before after _ (means c.args.b.now t ws p (place c.args.w) before h (c.in_err-word.ensures t h.built))))
+    rw (q.1, q.2) (inr (means_fault c.args.b.now.limit t p (place c.args.w) before after _ (means c.args.b.now t ws p (place c.args.w) before h (c.in_err-word.ensures t h.built))))

@@ -13,7 +13,7 @@ slice_bounds-lay_cells-end c =
     sym (length-take-le 32 c.deref.result.now (omega (arith, n, a)))
 
 pub returns-clause-bytes : goal.returns-clause-bytes
-returns-clause-bytes c = λ t h.
+returns-clause-bytes c = λ limit t h.
     let a = h.all in
     c.in_ok-lay_cells.ensures.bytes
     ∙ ap (λ l. c.args.bytes.now.items ++ l) (ap (λ l. all_cells (take 32 l)) c.deref.ensures.value ∙ cells_low 32 0 c.args.b.now.runtime.items (controls t) (omega (arith, a)) (λ i. let z : i ≡ 0 + i = omega arith in ap (λ f. f i) h.runtime ∙ ap (controls t) z))

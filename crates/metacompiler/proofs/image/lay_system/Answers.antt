@@ -6,7 +6,7 @@ use Rattle.metacompiler.proofs.Looping.{system_cells}
 use Rattle.metacompiler.proofs.image.lay_system.Goals as goal
 
 pub returns-clause-bytes : goal.returns-clause-bytes
-returns-clause-bytes c = λ t h.
+returns-clause-bytes c = λ limit t h.
     let n : newest_first c.as_slice-names.result.now ≡ names t = ap newest_first c.as_slice-names.ensures.value ∙ h.named in
     c.in_ok-lay_cells.ensures.bytes
     ∙ ap (λ l. c.args.bytes.now.items ++ l) (system_cells t _ _ _ _ _ _ _ _ (c.here-end.ensures.address ∙ built_end c.args.b.now t h) (c.newest_link_of-last.ensures ∙ ap last_link n) h.current_is h.record_is

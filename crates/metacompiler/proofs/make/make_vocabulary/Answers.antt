@@ -7,11 +7,13 @@ use Rattle.metacompiler.proofs.Making.{field_laid, new_record, built_end}
 use Rattle.metacompiler.proofs.make.make_vocabulary.Goals as goal
 
 pub returns-clause-built : goal.returns-clause-built
-returns-clause-built c = λ t ws b s.
-    let h = c.in_ok-make_header.ensures.headed t (place c.args.p) (refl, refl) b s in
+returns-clause-built c = λ limit t ws b s.
+    let h = c.in_ok-make_header.ensures.headed limit t (place c.args.p) (refl, refl) b s in
     let p = place c.args.p in
     record {
-      laid = field_laid c.make_header.new.b t ws p k.Vocabulary _ _ h c.in_ok-lay_record.ensures.bytes (ap (λ x. zeros 8 ++ cell_bytes x) h.record_is ∙ new_record 61440 t ws p (lit≤ tt) s);
+      limit_is = h.limit_is;
+      limited = h.limited;
+      laid = field_laid c.make_header.new.b t ws p k.Vocabulary _ _ h c.in_ok-lay_record.ensures.bytes (ap (λ x. zeros 8 ++ cell_bytes x) h.record_is ∙ new_record limit t ws p h.limited.0 s);
       named = h.named;
       runtime = h.runtime;
       all = h.all;

@@ -20,8 +20,10 @@ pub returns-clause-built : goal.returns-clause-built
 returns-clause-built c =
     let q = newest_name c.args.b.now c.requires.building c.as_slice.result.now c.newest-e.result _ c.as_slice.ensures.value c.newest-e.ensures in
     let f = newest_facts c.args.b.now c.requires.building (entry c.newest-e.result) _ q in
-    λ t ws h.
+    λ limit t ws h.
     record {
+      limit_is = h.limit_is;
+      limited = h.limited;
       laid = immediate_laid c.args.b.now t ws (entry c.newest-e.result) _ (c.newest-e.result.link - 254) h (sym h.named ∙ ap newest_first (sym c.as_slice.ensures.value) ∙ c.newest-e.ensures) (omega (arith, f.1));
       named = c.mark_newest.ensures ∙ ap mark h.named;
       runtime = h.runtime;

@@ -7,7 +7,7 @@ use Rattle.metacompiler.proofs.name.take_colon.Goals as goal
 pub returns-then-is_over : goal.returns-then-is_over
 returns-then-is_over c = λ t ws after h.
     let s = not_long _ _ c.is_long.ensures c.if-is_long.false in
-    inr (name_full 61440 t (place c.args.w) after Defines s (over c.args.b.now t c.is_over.result (7 + length c.args.w.name.now) h.built c.is_over.ensures c.if-is_over.true))
+    inr (name_full c.args.b.now.limit t (place c.args.w) after Defines s (over c.args.b.now t c.is_over.result (7 + length c.args.w.name.now) h.built c.is_over.ensures c.if-is_over.true))
 
 pub returns : goal.returns
 returns c = λ t ws after h.

@@ -8,7 +8,7 @@ pub returns-then-is_over : goal.returns-then-is_over
 returns-then-is_over c = λ t ws after h.
     let s = not_long _ _ c.is_long.ensures c.if-is_long.false in
     let x = over c.args.b.now t c.is_over.result (7 + length c.args.w.name.now + c.bytes_of_kind.result) h.built c.is_over.ensures c.if-is_over.true in
-    inr (name_full 61440 t (place c.args.w) after (Makes c.args.kind) s (omega (arith, x, c.bytes_of_kind.ensures.is)))
+    inr (name_full c.args.b.now.limit t (place c.args.w) after (Makes c.args.kind) s (omega (arith, x, c.bytes_of_kind.ensures.is)))
 
 pub returns : goal.returns
 returns c = λ t ws after h.

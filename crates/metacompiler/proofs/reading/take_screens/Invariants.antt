@@ -6,8 +6,8 @@ use Rattle.metacompiler.proofs.reading.take_screens.Given as goal
 
 abbrev pub invariant-loop-screen : goal.invariant-loop-screen
 invariant-loop-screen g l = record {
-  held : IsHeld l.compilation;
+  held : IsHeld l.fn.compilation.build.limit l.compilation;
   within : l.from < l.screen → l.screen ≤ l.to;
   taken : (d : Disk) → g.D.Device.disk l.initial.device ≡ Some d →
-      Underway d l.from l.screen l.mode l.compilation (record { disk = g.D.Device.disk l.device; before = failures (g.D.Device.calls l.initial.device); after = failures (g.D.Device.calls l.device) });
+      Underway l.fn.compilation.build.limit d l.from l.screen l.mode l.compilation (record { disk = g.D.Device.disk l.device; before = failures (g.D.Device.calls l.initial.device); after = failures (g.D.Device.calls l.device) });
 }

@@ -22,7 +22,7 @@ returns-in-Colon c = λ t ws after h. item_due c.args.b.now t ws (place c.args.w
 
 pub returns-else-not-has_names : goal.returns-else-not-has_names
 returns-else-not-has_names c = λ t ws after h.
-    item_immediate c.args.b.now c.set_immediate.new.b t ws (place c.args.w) h c.in-Immediate.is (c.has_names.ensures.0 c.if-not-has_names.false) (c.set_immediate.ensures.built t (ws ++ place c.args.w ∷ []) h.built) c.set_immediate.ensures.kept
+    item_immediate c.args.b.now c.set_immediate.new.b t ws (place c.args.w) h c.in-Immediate.is (c.has_names.ensures.0 c.if-not-has_names.false) (c.set_immediate.ensures.built c.args.b.now.limit t (ws ++ place c.args.w ∷ []) h.built) c.set_immediate.ensures.kept
 
 pub returns-in-None : goal.returns-in-None
 returns-in-None c = λ t ws after h.
