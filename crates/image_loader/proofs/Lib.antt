@@ -1,3 +1,4 @@
-pub mod Forms
+pub mod Tails
+pub mod Openings
 pub mod Sorts
 pub mod Verdicts

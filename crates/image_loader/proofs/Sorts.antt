@@ -1,12 +1,16 @@
 -- Each list of bytes is a file, or the beginning of one, or one with bytes behind it, or has a bad field.
-use Rattle.std.proofs.Common.{◌≡◌, ◌<◌, ◌+◌, ◌*◌, ◌/◌, ◌%◌, ◌-◌, ◌⊎◌, ℕ, Bool, true, false, List, [], ◌∷◌, ◌++◌, length, take, drop, replicate, get_or, refl, sym, ap, ◌∙◌, arith, inl, inr, subst, zero, suc, Fits, w8}
-use Rattle.std.specs.Bool.{Decides}
+use Rattle.std.proofs.Common.{◌≡◌, ◌<◌, ◌≤◌, ◌+◌, ℕ, suc, List, [], ◌∷◌, ◌++◌, length, take, drop, get_or, Ok, Err, refl, sym, ap, ◌∙◌, arith, subst, inl, inr}
 use Rattle.std.proofs.lemmas.Bool.{cases_lt}
-use Rattle.std.proofs.lemmas.List.{length-append, length-take, length-drop, length-replicate, take-append-drop, take_all, take-append-le, append_assoc, drop_more}
-use Rattle.std.proofs.lemmas.List.Elements.{All-from_get_or}
-use Rattle.std.proofs.lemmas.Slice.Eq.{bytes_eq-Decides}
-use Rattle.image_loader.specs.Files.{Contents, IsSize, IsFile, IsCutShort, IsFollowed, Agree, HasBadMagic, HasBadVersion, HasBadSize, magic, version}
-use Rattle.image_loader.specs.Reading.{agree}
+use Rattle.std.proofs.Math.Seq.{take-append_seam, drop-append_seam}
+use Rattle.std.proofs.lemmas.List.{length-append, append_assoc, take-append-le, take_all}
+use Rattle.byteorder.specs.Endian.{little_number}
+use Rattle.image_loader.specs.Files.{Contents, IsFile, IsCutShort, IsFollowed, Opens, HasBadMagic, HasBadVersion, HasBadBuffers, HasBadSize, Agree, IsSize, field_at, tail}
+use Rattle.image_loader.specs.declared.fault.ImageFault.{ImageFault}
+use Rattle.image_loader.specs.declared.fault.ImageFault.TheVariants as fault
+use Rattle.image_loader.specs.Reading.{opening_of, tail_of, read_of, and_then}
+use Rattle.image_loader.proofs.Tails.{AreBytes, Tail, is_whole, is_cut, is_long, is_bad, tail_sort, whole_reads, followed_tail_reads, cut_tail_reads, bad_tail_reads}
+use Rattle.image_loader.proofs.Openings.{Opening, ends_within, opens, opening_sort, opening_reads, opened_count, cut_opening_reads, front_is}
+use Rattle.image_loader.proofs.Openings as o
 
 pub data Kind (bytes : List ℕ) : Type 0 where
   is_file : (image : Contents) → IsFile bytes image → Kind bytes
@@ -14,156 +18,127 @@ pub data Kind (bytes : List ℕ) : Type 0 where
   is_followed : IsFollowed bytes → Kind bytes
   has_bad_magic : HasBadMagic bytes → Kind bytes
   has_bad_version : HasBadVersion bytes → Kind bytes
+  has_bad_buffers : HasBadBuffers bytes → Kind bytes
   has_bad_size : HasBadSize bytes → Kind bytes
 
--- each element is a byte
-abbrev pub AreBytes : List ℕ → Type 0
-AreBytes xs = (i : ℕ) → get_or xs i 0 < 256
+-- an opening, and what stands behind it
+get_or-behind : (xs ys : List ℕ) (i : ℕ) → get_or (xs ++ ys) (length xs + i) 0 ≡ get_or ys i 0
+get_or-behind [] ys i = let e : 0 + i ≡ i = omega arith in rw e refl
+get_or-behind (x ∷ xs) ys i = let e : suc (length xs) + i ≡ suc (length xs + i) = omega arith in rw e (get_or-behind xs ys i)
 
--- as the type of a slice of bytes says
-pub are_bytes : (xs : List ℕ) → ((i : ℕ) → Fits w8 (get_or xs i 0)) → AreBytes xs
-are_bytes xs typed i = omega (arith, typed i)
+drop-behind : (xs ys : List ℕ) → drop (length xs + 2) (xs ++ ys) ≡ drop 2 ys
+drop-behind [] ys = refl
+drop-behind (x ∷ xs) ys = let e : suc (length xs) + 2 ≡ suc (length xs + 2) = omega arith in rw e (drop-behind xs ys)
 
-abbrev opening : List ℕ
-opening = magic ++ version
+field_behind : (start t : List ℕ) → field_at (length start + 2) (start ++ t) ≡ field_at 2 t
+field_behind start t = ap (λ l. little_number 2 l) (drop-behind start t)
 
-decide : (r : Bool) (P : Type 0) → Decides r P → P ⊎ (¬ P)
-decide true P d = inl (d.0 refl)
-decide false P d = inr (λ p. let e : false ≡ true = d.1 p in absurd (cc))
+begins : (start t : List ℕ) → Agree (start ++ t) start
+begins start t = take-append_seam start t ∙ sym (take_all (length (start ++ t)) start (omega (arith, length-append start t)))
 
-agree_or_not : (xs ys : List ℕ) → Agree xs ys ⊎ (¬ Agree xs ys)
-agree_or_not xs ys = decide (agree xs ys) (Agree xs ys) (bytes_eq-Decides (take (length ys) xs) (take (length xs) ys))
+agrees : (bytes start t r : List ℕ) → length start ≤ length bytes → bytes ++ r ≡ start ++ t → Agree bytes start
+agrees bytes start t r long e =
+    sym (take-append-le (length start) bytes r long) ∙ ap (take (length start)) e ∙ take-append_seam start t ∙ sym (take_all (length bytes) start long)
 
-size_or_not : (n : ℕ) → IsSize n ⊎ (¬ IsSize n)
-size_or_not n =
-    elim (cases_lt n 256) [
-      | inl low ↦ inr (λ s. omega arith)
-      | inr least ↦ elim (cases_lt 61440 n) [ inl high ↦ inr (λ s. omega arith) | inr most ↦ inl (least, most) ]
-    ]
+AreBytes-behind : (xs ys : List ℕ) → AreBytes (xs ++ ys) → AreBytes ys
+AreBytes-behind xs ys h i = let e = get_or-behind xs ys i in subst (λ n. n < 256) e (h (length xs + i))
 
--- bytes that go on to a file are one that is cut short
-cut_by : (bytes pad : List ℕ) (image : Contents) → 0 < length pad → IsFile (bytes ++ pad) image → IsCutShort bytes
-cut_by bytes [] image some f = absurd (omega arith)
-cut_by bytes (x ∷ xs) image some f = record { image = image; next = x; rest = xs; whole = f }
+opened_sort : (start : List ℕ) (count : ℕ) (t : List ℕ) → Opens start count → Tail count t → Kind (start ++ t)
+opened_sort start count t o (is_whole image b h e) = is_file image (record {
+  start = start;
+  opens = subst (λ n. Opens start n) (sym b) o;
+  spelled = ap (λ r. start ++ r) e;
+  is_image = h;
+})
+opened_sort start count t o (is_cut image x xs b h e) = is_cut_short (record {
+  image = image;
+  next = x;
+  rest = xs;
+  whole = record {
+    start = start;
+    opens = subst (λ n. Opens start n) (sym b) o;
+    spelled = append_assoc start t (x ∷ xs) ∙ ap (λ r. start ++ r) e;
+    is_image = h;
+  };
+})
+opened_sort start count t o (is_long image x xs b h e) = is_followed (record {
+  whole = start ++ tail image;
+  image = image;
+  next = x;
+  rest = xs;
+  is_file = record { start = start; opens = subst (λ n. Opens start n) (sym b) o; spelled = refl; is_image = h };
+  spelled = ap (λ r. start ++ r) e ∙ sym (append_assoc start (tail image) (x ∷ xs));
+})
+opened_sort start count t o (is_bad long bad) = has_bad_size (record {
+  start = start;
+  buffers = count;
+  opens = o;
+  opening_fits = begins start t;
+  size_stands = omega (arith, length-append start t, long);
+  size_misfits = subst (λ n. ¬ IsSize count n) (sym (field_behind start t)) bad;
+})
 
-AreBytes-append : (xs ys : List ℕ) → AreBytes xs → AreBytes ys → AreBytes (xs ++ ys)
-AreBytes-append [] ys hx hy i = hy i
-AreBytes-append (x ∷ xs) ys hx hy zero = hx 0
-AreBytes-append (x ∷ xs) ys hx hy (suc i) = AreBytes-append xs ys (λ k. hx (suc k)) hy i
-
-AreBytes-zeros : (n : ℕ) → AreBytes (replicate n 0)
-AreBytes-zeros zero i = omega arith
-AreBytes-zeros (suc n) zero = omega arith
-AreBytes-zeros (suc n) (suc i) = AreBytes-zeros n i
-
-AreBytes-take : (n : ℕ) (xs : List ℕ) → AreBytes xs → AreBytes (take n xs)
-AreBytes-take zero xs h i = omega arith
-AreBytes-take (suc n) [] h i = omega arith
-AreBytes-take (suc n) (x ∷ xs) h zero = h 0
-AreBytes-take (suc n) (x ∷ xs) h (suc i) = AreBytes-take n xs (λ k. h (suc k)) i
-
--- the opening, the bytes a b of an entry and c d of a size, and as many bytes
-whole : (a b c d entry : ℕ) (v : List ℕ) → a < 256 → b < 256 → c < 256 → d < 256 → a + 256 * (b + 0) ≡ entry
-    → length v ≡ c + 256 * (d + 0) → IsSize (length v) → AreBytes v → IsFile (opening ++ a ∷ b ∷ c ∷ d ∷ v) (record { entry = entry; bytes = v })
-whole a b c d entry v fa fb fc fd entry_is long size fit =
-    let pa : a ≡ entry % 256 = omega arith in
-    let pb : b ≡ entry / 256 % 256 = omega arith in
-    let pc : c ≡ length v % 256 = omega arith in
-    let pd : d ≡ length v / 256 % 256 = omega arith in
-    record {
-      spelled = rw (pa, pb, pc, pd) refl;
-      is_image = record {
-        entry = omega arith;
-        size = size;
-        bytes = All-from_get_or (λ b. b < 256) v 0 (λ i h. fit i);
-      };
-    }
-
--- a header that is whole, and any bytes behind it
-header_sort : (a b c d : ℕ) (r : List ℕ) → AreBytes (opening ++ a ∷ b ∷ c ∷ d ∷ r) → Kind (opening ++ a ∷ b ∷ c ∷ d ∷ r)
-header_sort a b c d r fit =
-    let bytes : List ℕ = opening ++ a ∷ b ∷ c ∷ d ∷ r in
-    let entry : ℕ = a + 256 * (b + 0) in
-    let size : ℕ = c + 256 * (d + 0) in
-    let fit_r : AreBytes r = λ i. fit (suc (suc (suc (suc (suc (suc (suc (suc (suc (suc (suc (suc (suc (suc i)))))))))))))) in
-    elim (size_or_not size) [
-      | inr bad ↦ has_bad_size (record { version_fits = refl; size_stands = omega arith; size_misfits = bad })
-      | inl good ↦ elim (cases_lt (length r) size) [
-        | inl short ↦
-            let lacking : List ℕ = replicate (size - length r) 0 in
-            let sum : length (r ++ lacking) ≡ size = simp (length-append, length-replicate) (omega arith) in
-            let some : 0 < length lacking = simp length-replicate (omega arith) in
-            let fit_all : AreBytes (r ++ lacking) = AreBytes-append r lacking fit_r (AreBytes-zeros (size - length r)) in
-            is_cut_short (cut_by bytes lacking (record { entry = entry; bytes = r ++ lacking }) some (whole a b c d entry (r ++ lacking) (fit 10) (fit 11) (fit 12) (fit 13) refl sum (omega (arith, sum)) fit_all))
-        | inr enough ↦ elim (cases_lt size (length r)) [
-          | inr even ↦ is_file (record { entry = entry; bytes = r }) (whole a b c d entry r (fit 10) (fit 11) (fit 12) (fit 13) refl (omega arith) (omega arith) fit_r)
-          | inl long ↦
-              let v : List ℕ = take size r in
-              let sum : length v ≡ size = simp length-take (omega arith) in
-              let f = whole a b c d entry v (fit 10) (fit 11) (fit 12) (fit 13) refl sum (omega (arith, sum)) (AreBytes-take size r fit_r) in
-              let split : r ≡ v ++ get_or r size 0 ∷ drop (size + 1) r = sym (take-append-drop size r) ∙ ap (λ t. v ++ t) (drop_more r size 0 long) in
-              is_followed (record {
-                image = record { entry = entry; bytes = v };
-                next = get_or r size 0;
-                rest = drop (size + 1) r;
-                is_image = f.is_image;
-                spelled = ap (λ t. opening ++ a ∷ b ∷ c ∷ d ∷ t) split ∙ ap (λ t. t ++ get_or r size 0 ∷ drop (size + 1) r) f.spelled;
-              })
-        ]
-      ]
-    ]
-
--- zeros for what a header lacks: then the size is 256 and what its low byte says
-padded : (a b c : ℕ) → a < 256 → b < 256 → c < 256 → IsFile (opening ++ a ∷ b ∷ c ∷ 1 ∷ replicate (c + 256) 0) (record { entry = a + 256 * (b + 0); bytes = replicate (c + 256) 0 })
-padded a b c fa fb fc =
-    let v : List ℕ = replicate (c + 256) 0 in
-    let sum : length v ≡ c + 256 = length-replicate (c + 256) 0 in
-    whole a b c 1 (a + 256 * (b + 0)) v fa fb fc (omega arith) refl (omega (arith, sum)) (omega (arith, sum)) (AreBytes-zeros (c + 256))
-
--- what stands behind magic and version, at least a byte of it
-opened_sort : (t : List ℕ) → 0 < length t → AreBytes (opening ++ t) → Kind (opening ++ t)
-opened_sort [] some fit = absurd (omega arith)
-opened_sort (a ∷ []) some fit =
-    is_cut_short (cut_by (opening ++ a ∷ []) (0 ∷ 0 ∷ 1 ∷ replicate (0 + 256) 0) (record { entry = a + 256 * (0 + 0); bytes = replicate (0 + 256) 0 }) (omega arith) (padded a 0 0 (fit 10) (omega arith) (omega arith)))
-opened_sort (a ∷ b ∷ []) some fit =
-    is_cut_short (cut_by (opening ++ a ∷ b ∷ []) (0 ∷ 1 ∷ replicate (0 + 256) 0) (record { entry = a + 256 * (b + 0); bytes = replicate (0 + 256) 0 }) (omega arith) (padded a b 0 (fit 10) (fit 11) (omega arith)))
-opened_sort (a ∷ b ∷ c ∷ []) some fit =
-    is_cut_short (cut_by (opening ++ a ∷ b ∷ c ∷ []) (1 ∷ replicate (c + 256) 0) (record { entry = a + 256 * (b + 0); bytes = replicate (c + 256) 0 }) (omega arith) (padded a b c (fit 10) (fit 11) (fit 12)))
-opened_sort (a ∷ b ∷ c ∷ d ∷ r) some fit = header_sort a b c d r fit
-
--- bytes that end within magic and version
-start_sort : (bytes : List ℕ) → length bytes < 11 → Agree bytes opening → IsCutShort bytes
-start_sort bytes short begins =
-    let n : ℕ = length bytes in
-    let v : List ℕ = replicate (0 + 256) 0 in
-    let header : List ℕ = opening ++ 0 ∷ 0 ∷ 0 ∷ 1 ∷ [] in
-    let same : bytes ≡ take n header = sym (take_all 10 bytes (omega arith)) ∙ begins ∙ sym (take-append-le n opening (0 ∷ 0 ∷ 0 ∷ 1 ∷ []) (omega arith)) in
-    let joined : bytes ++ drop n header ≡ header = ap (λ t. t ++ drop n header) same ∙ take-append-drop n header in
-    let all : bytes ++ (drop n header ++ v) ≡ header ++ v = sym (append_assoc bytes (drop n header) v) ∙ ap (λ t. t ++ v) joined in
-    let some : 0 < length (drop n header ++ v) = simp (length-append, length-drop) (omega arith) in
-    let image : Contents = record { entry = 0 + 256 * (0 + 0); bytes = v } in
-    let P : List ℕ → Type 0 = λ l. IsFile l image in
-    cut_by bytes (drop n header ++ v) image some (subst P (sym all) (padded 0 0 0 (omega arith) (omega arith) (omega arith)))
-
--- bytes that agree with magic and version
-begun_sort : (bytes : List ℕ) → AreBytes bytes → Agree bytes opening → Kind bytes
-begun_sort bytes fit begins =
-    elim (cases_lt (length bytes) 11) [
-      | inl short ↦ is_cut_short (start_sort bytes short begins)
-      | inr long ↦
-          let front : take 10 bytes ≡ opening = begins ∙ take_all (length bytes) opening (omega arith) in
-          let all : bytes ≡ opening ++ drop 10 bytes = sym (take-append-drop 10 bytes) ∙ ap (λ t. t ++ drop 10 bytes) front in
-          let some : 0 < length (drop 10 bytes) = simp length-drop (omega arith) in
-          let P : List ℕ → Type 0 = λ l. Kind l in
-          subst P (sym all) (opened_sort (drop 10 bytes) some (let B : List ℕ → Type 0 = λ l. AreBytes l in subst B all fit))
-    ]
+by_opening : (bytes : List ℕ) → AreBytes bytes → Opening bytes → Kind bytes
+by_opening bytes fit (ends_within f) = is_cut_short f
+by_opening bytes fit (o.bad_magic bad) = has_bad_magic bad
+by_opening bytes fit (o.bad_version bad) = has_bad_version bad
+by_opening bytes fit (o.bad_buffers bad) = has_bad_buffers bad
+by_opening bytes fit (opens start count t h e) =
+    let fit_t : AreBytes t = AreBytes-behind start t (subst (λ l. AreBytes l) e fit) in
+    subst (λ l. Kind l) (sym e) (opened_sort start count t h (tail_sort count t (opened_count start count h) fit_t))
 
 pub kind_of : (bytes : List ℕ) → AreBytes bytes → Kind bytes
-kind_of bytes fit =
-    elim (agree_or_not bytes magic) [
-      | inr not_so ↦ has_bad_magic not_so
-      | inl fits ↦ elim (agree_or_not bytes opening) [
-        | inr not_so ↦ has_bad_version (record { magic_fits = fits; version_misfits = not_so })
-        | inl begins ↦ begun_sort bytes fit begins
-      ]
+kind_of bytes fit = by_opening bytes fit (opening_sort bytes)
+
+-- what is read
+behind_reads : (start : List ℕ) (count : ℕ) (t : List ℕ) → Opens start count → read_of (start ++ t) ≡ tail_of count t
+behind_reads start count t h =
+    ap (λ r. and_then r (λ found. tail_of found.0 (drop found.1 (start ++ t)))) (opening_reads start count t h)
+    ∙ ap (tail_of count) (drop-append_seam start t)
+
+pub file_reads : (bytes : List ℕ) (image : Contents) → IsFile bytes image → read_of bytes ≡ Ok image
+file_reads bytes image f = ap read_of f.spelled ∙ behind_reads f.start image.buffers (tail image) f.opens ∙ whole_reads image f.is_image
+
+pub followed_reads : (bytes : List ℕ) → IsFollowed bytes → read_of bytes ≡ Err fault.TrailingBytes
+followed_reads bytes f =
+    let g = f.is_file in
+    ap read_of (f.spelled ∙ ap (λ l. l ++ f.next ∷ f.rest) g.spelled ∙ append_assoc g.start (tail f.image) (f.next ∷ f.rest))
+    ∙ behind_reads g.start f.image.buffers (tail f.image ++ f.next ∷ f.rest) g.opens
+    ∙ followed_tail_reads f.image f.next f.rest g.is_image
+
+pub cut_short_reads : (bytes : List ℕ) → IsCutShort bytes → read_of bytes ≡ Err fault.Truncated
+cut_short_reads bytes f =
+    let g = f.whole in
+    let n : ℕ = length bytes in
+    let front : bytes ≡ take n (g.start ++ tail f.image) = sym (take-append_seam bytes (f.next ∷ f.rest)) ∙ ap (take n) g.spelled in
+    elim (cases_lt n (length g.start)) [
+      | inl short ↦
+          let within : bytes ≡ take n g.start = front ∙ take-append-le n g.start (tail f.image) (omega arith) in
+          ap (λ r. and_then r (λ found. tail_of found.0 (drop found.1 bytes))) (ap opening_of within ∙ cut_opening_reads g.start f.image.buffers n g.opens short)
+      | inr long ↦
+          let t : List ℕ = drop (length g.start) bytes in
+          let split : bytes ≡ g.start ++ t = front_is bytes g.start long (agrees bytes g.start (tail f.image) (f.next ∷ f.rest) long g.spelled) in
+          let rest : t ++ f.next ∷ f.rest ≡ tail f.image =
+          sym (drop-append_seam g.start (t ++ f.next ∷ f.rest)) ∙ ap (drop (length g.start)) (sym (append_assoc g.start t (f.next ∷ f.rest)) ∙ ap (λ l. l ++ f.next ∷ f.rest) (sym split) ∙ g.spelled) ∙ drop-append_seam g.start (tail f.image) in
+          ap read_of split ∙ behind_reads g.start f.image.buffers t g.opens ∙ cut_tail_reads t f.image f.next f.rest g.is_image rest
     ]
+
+refused : (bytes : List ℕ) (e : ImageFault) → opening_of bytes ≡ Err e → read_of bytes ≡ Err e
+refused bytes e h = ap (λ r. and_then r (λ found. tail_of found.0 (drop found.1 bytes))) h
+
+pub bad_magic_reads : (bytes : List ℕ) → HasBadMagic bytes → read_of bytes ≡ Err fault.BadMagic
+bad_magic_reads bytes bad = refused bytes fault.BadMagic (o.bad_magic_reads bytes bad)
+
+pub bad_version_reads : (bytes : List ℕ) → HasBadVersion bytes → read_of bytes ≡ Err fault.BadVersion
+bad_version_reads bytes bad = refused bytes fault.BadVersion (o.bad_version_reads bytes bad)
+
+pub bad_buffers_reads : (bytes : List ℕ) → HasBadBuffers bytes → read_of bytes ≡ Err fault.BadBuffers
+bad_buffers_reads bytes bad = refused bytes fault.BadBuffers (o.bad_buffers_reads bytes bad)
+
+pub bad_size_reads : (bytes : List ℕ) → HasBadSize bytes → read_of bytes ≡ Err fault.BadSize
+bad_size_reads bytes bad =
+    let t : List ℕ = drop (length bad.start) bytes in
+    let split : bytes ≡ bad.start ++ t = front_is bytes bad.start (omega (arith, bad.size_stands)) bad.opening_fits in
+    let long : 4 ≤ length t = omega (arith, ap length split, length-append bad.start t, bad.size_stands) in
+    let misfits : ¬ IsSize bad.buffers (field_at 2 t) = subst (λ n. ¬ IsSize bad.buffers n) (ap (field_at (length bad.start + 2)) split ∙ field_behind bad.start t) bad.size_misfits in
+    ap read_of split ∙ behind_reads bad.start bad.buffers t bad.opens ∙ bad_tail_reads bad.buffers t long misfits

@@ -1,20 +1,24 @@
 -- Images, and the bytes of their files.
-use Rattle.std.specs.Prelude.{◌≡◌, ◌≤◌, ◌<◌, ℕ, List, ◌∷◌, ◌++◌, length, take, drop, All, codes}
+use Rattle.std.specs.Prelude.{◌≡◌, ◌⊎◌, ◌+◌, ◌≤◌, ◌<◌, ℕ, List, ◌∷◌, ◌++◌, length, take, drop, All, codes}
 use Rattle.byteorder.specs.Endian.{little_bytes, little_number}
+use Rattle.memory.specs.Bytes.{IsCount, limit_of}
 
--- what an image has: the compilation address of the word that it starts with, and the bytes of memory from address 0 on
+-- what an image has: how many block buffers there are, the compilation address of the word that it starts with, and the
+-- bytes of memory from address 0 on
 pub record Contents : Type 0 where
+  pub buffers : ℕ
   pub entry : ℕ
   pub bytes : List ℕ
 
--- how many bytes an image may have
-abbrev pub IsSize : ℕ → Type 0
-IsSize n = (256 ≤ n) × (n ≤ 61440)
+-- how many bytes an image with so many buffers may have: the buffers stand behind them
+abbrev pub IsSize : ℕ → ℕ → Type 0
+IsSize buffers n = (256 ≤ n) × (n ≤ limit_of buffers)
 
--- the entry is an address, and the bytes are bytes, as many as an image may have
+-- there are 2 to 16 buffers, the entry is an address, and the bytes are bytes, as many as an image may have
 pub record IsImage (image : Contents) : Type 0 where
+  pub buffers : IsCount image.buffers
   pub entry : image.entry < 65536
-  pub size : IsSize (length image.bytes)
+  pub size : IsSize image.buffers (length image.bytes)
   pub bytes : All (λ b. b < 256) image.bytes
 
 -- each file begins with the magic
@@ -29,16 +33,33 @@ field x = little_bytes 2 x
 abbrev pub field_at : ℕ → List ℕ → ℕ
 field_at place bytes = little_number 2 (drop place bytes)
 
--- then comes the version, which is 1
-abbrev pub version : List ℕ
-version = field 1
+-- then comes the version, and in version 2 how many buffers there are
+abbrev pub version : ℕ → List ℕ
+version n = magic ++ field n
 
--- the file of an image: magic, version, entry, size, and then the bytes; nothing follows
-abbrev pub file : Contents → List ℕ
-file image = magic ++ version ++ field image.entry ++ field (length image.bytes) ++ image.bytes
+abbrev pub opening : ℕ → List ℕ
+opening buffers = version 2 ++ field buffers
 
--- these bytes are the file of this image
+-- so begins a file of an image with so many buffers: in version 1 there are four
+abbrev pub Opens : List ℕ → ℕ → Type 0
+Opens start buffers = ((start ≡ opening buffers) × IsCount buffers) ⊎ ((start ≡ version 1) × (buffers ≡ 4))
+
+-- then come the entry, the size, and the bytes; nothing follows
+abbrev pub tail : Contents → List ℕ
+tail image = field image.entry ++ field (length image.bytes) ++ image.bytes
+
+-- these bytes are a file of this image
 pub record IsFile (bytes : List ℕ) (image : Contents) : Type 0 where
+  pub start : List ℕ
+  pub opens : Opens start image.buffers
+  pub spelled : bytes ≡ start ++ tail image
+  pub is_image : IsImage image
+
+-- and this is the one that is written: version 2
+abbrev pub file : Contents → List ℕ
+file image = opening image.buffers ++ tail image
+
+pub record IsWritten (bytes : List ℕ) (image : Contents) : Type 0 where
   pub spelled : bytes ≡ file image
   pub is_image : IsImage image
 
@@ -51,11 +72,12 @@ pub record IsCutShort (bytes : List ℕ) : Type 0 where
 
 -- these bytes are a file and at least a byte behind it
 pub record IsFollowed (bytes : List ℕ) : Type 0 where
+  pub whole : List ℕ
   pub image : Contents
   pub next : ℕ
   pub rest : List ℕ
-  pub is_image : IsImage image
-  pub spelled : bytes ≡ file image ++ next ∷ rest
+  pub is_file : IsFile whole image
+  pub spelled : bytes ≡ whole ++ next ∷ rest
 
 -- the two lists are equal as far as both go
 abbrev pub Agree : List ℕ → List ℕ → Type 0
@@ -65,13 +87,22 @@ Agree xs ys = take (length ys) xs ≡ take (length xs) ys
 abbrev pub HasBadMagic : List ℕ → Type 0
 HasBadMagic bytes = ¬ Agree bytes magic
 
--- the magic fits, and the next bytes, as far as they go, are no beginning of the version
+-- the magic fits, and the next bytes, as far as they go, are no beginning of a version
 pub record HasBadVersion (bytes : List ℕ) : Type 0 where
   pub magic_fits : Agree bytes magic
-  pub version_misfits : ¬ Agree bytes (magic ++ version)
+  pub one_misfits : ¬ Agree bytes (version 1)
+  pub two_misfits : ¬ Agree bytes (version 2)
 
--- magic and version fit, and both bytes of the size are there and stand for no size
+-- version 2 fits, and the next bytes, as far as they go, are no beginning of a number of buffers
+pub record HasBadBuffers (bytes : List ℕ) : Type 0 where
+  pub version_fits : Agree bytes (version 2)
+  pub buffers_misfit : (buffers : ℕ) → IsCount buffers → ¬ Agree bytes (opening buffers)
+
+-- all before the entry fits, and both bytes of the size are there and stand for no size
 pub record HasBadSize (bytes : List ℕ) : Type 0 where
-  pub version_fits : Agree bytes (magic ++ version)
-  pub size_stands : 14 ≤ length bytes
-  pub size_misfits : ¬ IsSize (field_at 12 bytes)
+  pub start : List ℕ
+  pub buffers : ℕ
+  pub opens : Opens start buffers
+  pub opening_fits : Agree bytes start
+  pub size_stands : length start + 4 ≤ length bytes
+  pub size_misfits : ¬ IsSize buffers (field_at (length start + 2) bytes)

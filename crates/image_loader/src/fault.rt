@@ -11,10 +11,13 @@ pub enum ImageFault {
     /// The first bytes are not `FTH83IMG`.
     #[error("BadMagic")]
     BadMagic,
-    /// The version is not 1.
+    /// The version is neither 1 nor 2.
     #[error("BadVersion")]
     BadVersion,
-    /// The size is below 256 or above 61,440.
+    /// The number of buffers is below 2 or above 16.
+    #[error("BadBuffers")]
+    BadBuffers,
+    /// The size is below 256, or above where so many buffers begin.
     #[error("BadSize")]
     BadSize,
     /// There are bytes behind the end of the file.

@@ -1,30 +1,26 @@
-//! What stands before the bytes of memory: magic, version, entry and size.
+//! What stands before the entry: magic, version, and in version 2 how many buffers there are.
 
-ghost use Rattle.std.specs.Prelude.{◌≡◌};
-ghost use Rattle.image_loader.specs.Reading.{agree, header_of};
+ghost use Rattle.std.specs.Prelude.{◌≡◌, ◌≤◌, length, IfOk};
+ghost use Rattle.memory.specs.Bytes.{IsCount};
+ghost use Rattle.image_loader.specs.Reading.{agree, buffers_of, opening_of};
 
 use crate::fault::ImageFault;
 use byteorder::{ByteOrder, LittleEndian};
 
-/// The magic and version 1, with which each file begins.
-pub const OPENING: [u8; 10] = *b"FTH83IMG\x01\x00";
+/// The magic and version 1.
+const FIRST_VERSION: [u8; 10] = *b"FTH83IMG\x01\x00";
 
-/// Where the version stands.
-pub const VERSION: usize = 8;
+/// The magic and version 2, with which each file begins that is written.
+pub const VERSION: [u8; 10] = *b"FTH83IMG\x02\x00";
 
-/// Where the entry stands.
-pub const ENTRY: usize = 10;
+/// How many bytes the magic has.
+const MAGIC_SIZE: usize = 8;
 
-/// Where the size stands.
-pub const SIZE: usize = 12;
+/// Where the number of buffers stands in version 2.
+const BUFFERS: usize = 10;
 
-/// How many bytes the header has.
-pub const HEADER_SIZE: usize = 14;
-
-/// The least size, and the greatest.
-const LEAST_SIZE: u16 = 256;
-
-const GREATEST_SIZE: u16 = 61440;
+/// How many buffers an image of version 1 has.
+const FIRST_BUFFERS: u16 = 4;
 
 /// Whether two lists are equal as far as both go.
 fn agree(xs: &[u8], ys: &[u8]) -> bool
@@ -34,23 +30,46 @@ fn agree(xs: &[u8], ys: &[u8]) -> bool
     xs[..count] == ys[..count]
 }
 
-/// The entry and the size, or the first field whose bytes fit no file.
-pub fn read_header(bytes: &[u8]) -> Result<(u16, u16), ImageFault>
-    ensures { result ≡ header_of bytes.now }
+/// How many buffers version 2 says, and where the entry stands.
+fn read_buffers(bytes: &[u8]) -> Result<(u16, usize), ImageFault>
+    ensures value { result ≡ buffers_of bytes.now }
+    ensures count { IfOk result (λ found. IsCount found.0) }
+    ensures place { IfOk result (λ found. found.1 ≤ length bytes.now) }
 {
-    if !agree(bytes, &OPENING[..VERSION]) {
-        return Err(ImageFault::BadMagic);
-    }
-    if !agree(bytes, &OPENING) {
-        return Err(ImageFault::BadVersion);
-    }
-    if bytes.len() < HEADER_SIZE {
+    if bytes.len() <= BUFFERS {
         return Err(ImageFault::Truncated);
     }
-    let entry = LittleEndian::read_u16(&bytes[ENTRY..]);
-    let size = LittleEndian::read_u16(&bytes[SIZE..]);
-    if size < LEAST_SIZE || size > GREATEST_SIZE {
-        return Err(ImageFault::BadSize);
+    let count = if bytes.len() == BUFFERS + 1 {
+        u16::from(bytes[BUFFERS])
+    } else {
+        LittleEndian::read_u16(&bytes[BUFFERS..])
+    };
+    if count < 2 || count > 16 {
+        return Err(ImageFault::BadBuffers);
     }
-    Ok((entry, size))
+    if bytes.len() < BUFFERS + 2 {
+        return Err(ImageFault::Truncated);
+    }
+    Ok((count, BUFFERS + 2))
+}
+
+/// How many buffers there are, and where the entry stands; or the first field whose bytes fit no file.
+pub fn read_opening(bytes: &[u8]) -> Result<(u16, usize), ImageFault>
+    ensures value { result ≡ opening_of bytes.now }
+    ensures count { IfOk result (λ found. IsCount found.0) }
+    ensures place { IfOk result (λ found. found.1 ≤ length bytes.now) }
+{
+    if !agree(bytes, &VERSION[..MAGIC_SIZE]) {
+        return Err(ImageFault::BadMagic);
+    }
+    if agree(bytes, &FIRST_VERSION) {
+        if bytes.len() < FIRST_VERSION.len() {
+            return Err(ImageFault::Truncated);
+        }
+        return Ok((FIRST_BUFFERS, FIRST_VERSION.len()));
+    }
+    if !agree(bytes, &VERSION) {
+        return Err(ImageFault::BadVersion);
+    }
+    read_buffers(bytes)
 }

@@ -1,14 +1,16 @@
 //! What a machine is loaded from.
 
 ghost use Rattle.std.specs.Prelude.{◌≡◌, ◌≤◌, vec_len};
+ghost use Rattle.memory.specs.Bytes.{IsCount, limit_of};
 ghost use Rattle.image_loader.specs.Files.{IsImage};
 
 use std::marker::Model;
 
-/// The bytes of memory from address 0 on, 256 to 61,440 of them, and the compilation address of
-/// the word that the machine starts with.
+/// How many block buffers the machine has, 2 to 16; the bytes of memory from address 0 on, at least 256 and at most up to
+/// where the buffers begin; and the compilation address of the word that the machine starts with.
 #[derive(Debug, Drop)]
 pub struct Image {
+    buffers: u16,
     entry: u16,
     bytes: Vec<u8>,
 }
@@ -18,20 +20,35 @@ impl Model for Image {
 
     ghost Value = { Contents };
 
-    ghost view = { λ i. record { entry = i.entry; bytes = i.bytes.items } };
+    ghost view = { λ i. record { buffers = i.buffers; entry = i.entry; bytes = i.bytes.items } };
 
-    ghost invariant = { λ i. IsImage (record { entry = i.entry; bytes = i.bytes.items }) };
+    ghost invariant = { λ i. IsImage (record { buffers = i.buffers; entry = i.entry; bytes = i.bytes.items }) };
 }
 
 impl Image {
-    /// The image of these 256 to 61,440 bytes, which starts with the word at `entry`.
-    pub fn new(entry: u16, bytes: Vec<u8>) -> Image
+    /// The image of these bytes, at least 256 and at most up to where so many buffers begin, which starts with the word at
+    /// `entry`.
+    pub fn new(buffers: u16, entry: u16, bytes: Vec<u8>) -> Image
+        requires count { IsCount buffers }
         requires least { 256 ≤ vec_len bytes }
-        requires most { vec_len bytes ≤ 61440 }
+        requires most { vec_len bytes ≤ limit_of buffers }
+        ensures buffers { result.buffers ≡ buffers }
         ensures entry { result.entry ≡ entry }
         ensures bytes { result.bytes ≡ bytes.items }
     {
-        Image { entry, bytes }
+        Image {
+            buffers,
+            entry,
+            bytes,
+        }
+    }
+
+    /// How many block buffers the machine has.
+    pub fn buffers(&self) -> u16
+        ensures value { result ≡ self.now.buffers }
+        ensures count { IsCount result }
+    {
+        self.buffers
     }
 
     /// The compilation address of the word that the machine starts with.

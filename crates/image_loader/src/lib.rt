@@ -1,10 +1,11 @@
-//! Images as files: a header of 14 bytes, and then the bytes of memory.
+//! Images as files: a header of 14 bytes in version 1 and 16 in version 2, and then the bytes of memory.
 #![tactic(auto)]
 
 mod fault;
 mod header;
 mod image;
 mod reader;
+mod upgrading;
 mod writer;
 
 ghost use Rattle.std.specs.Prelude.{◌≡◌, List, ℕ};
@@ -13,6 +14,7 @@ ghost use Rattle.image_loader.specs.Files.{Contents, IsFile};
 pub use fault::ImageFault;
 pub use image::Image;
 pub use reader::read;
+pub use upgrading::{UpgradeFault, upgrade};
 pub use writer::write;
 
 /// The law of files: bytes are the file of one image at most. So what `read` gives of what

@@ -1,19 +1,29 @@
 //! Reading images.
 
 ghost use Rattle.std.specs.Prelude.{◌≡◌, ◌↔◌, IfOk, MatchResult, IsErrOf};
-ghost use Rattle.image_loader.specs.Files.{Contents, IsFile, IsCutShort, IsFollowed, HasBadMagic, HasBadVersion, HasBadSize};
-ghost use Rattle.image_loader.specs.Reading.{Gives, read_of};
+ghost use Rattle.memory.specs.Bytes.{IsCount};
+ghost use Rattle.image_loader.specs.Files.{Contents, IsFile, IsCutShort, IsFollowed, HasBadMagic, HasBadVersion, HasBadBuffers, HasBadSize};
+ghost use Rattle.image_loader.specs.Reading.{Gives, tail_of, read_of};
 
 use crate::fault::ImageFault;
-use crate::header::{HEADER_SIZE, read_header};
+use crate::header::read_opening;
 use crate::image::Image;
+use byteorder::{ByteOrder, LittleEndian};
+use memory::limit_of;
 use std::alloc::Global;
+
+/// How many bytes stand behind the opening before those of memory: entry and size.
+const FIELDS: usize = 4;
+
+/// The least size.
+const LEAST_SIZE: u16 = 256;
 
 /// Reads the image of which these bytes are the file.
 ///
 /// The fields are looked at in the order of their places, and the first whose bytes fit no file
 /// gives the fault. Of a field that is cut off, the bytes that are there decide: any single byte
-/// of a size fits. Where all bytes fit and more are lacking, the fault is `Truncated`.
+/// of a size fits, and a single byte of a number of buffers that is 2 to 16. Where all bytes fit and
+/// more are lacking, the fault is `Truncated`.
 pub fn read(alloc: Global, bytes: &[u8]) -> Result<Image, ImageFault>
     // What is read is the image of which these bytes are the file.
     ensures found { IfOk result (λ image. IsFile bytes.now image) }
@@ -31,17 +41,34 @@ pub fn read(alloc: Global, bytes: &[u8]) -> Result<Image, ImageFault>
     // The first field whose bytes fit no file.
     ensures bad_magic { IsErrOf result ImageFault.BadMagic ↔ HasBadMagic bytes.now }
     ensures bad_version { IsErrOf result ImageFault.BadVersion ↔ HasBadVersion bytes.now }
+    ensures bad_buffers { IsErrOf result ImageFault.BadBuffers ↔ HasBadBuffers bytes.now }
     ensures bad_size { IsErrOf result ImageFault.BadSize ↔ HasBadSize bytes.now }
 {
     read_fields(alloc, bytes)
 }
 
-/// Reads the header, and then as many bytes as it says.
+/// Reads the opening, and then what stands behind it.
 fn read_fields(alloc: Global, bytes: &[u8]) -> Result<Image, ImageFault>
     ensures { Gives result (read_of bytes.now) }
 {
-    let (entry, size) = read_header(bytes)?;
-    let body = &bytes[HEADER_SIZE..];
+    let (buffers, place) = read_opening(bytes)?;
+    read_tail(alloc, buffers, &bytes[place..])
+}
+
+/// Reads entry and size, and then as many bytes as it says.
+fn read_tail(alloc: Global, buffers: u16, bytes: &[u8]) -> Result<Image, ImageFault>
+    requires { IsCount buffers }
+    ensures { Gives result (tail_of buffers bytes.now) }
+{
+    if bytes.len() < FIELDS {
+        return Err(ImageFault::Truncated);
+    }
+    let entry = LittleEndian::read_u16(bytes);
+    let size = LittleEndian::read_u16(&bytes[2..]);
+    if size < LEAST_SIZE || size > limit_of(buffers) {
+        return Err(ImageFault::BadSize);
+    }
+    let body = &bytes[FIELDS..];
     let size = size as usize;
     if body.len() < size {
         return Err(ImageFault::Truncated);
@@ -50,7 +77,7 @@ fn read_fields(alloc: Global, bytes: &[u8]) -> Result<Image, ImageFault>
         return Err(ImageFault::TrailingBytes);
     }
     match body.to_vec(alloc) {
-        Ok(bytes) => Ok(Image::new(entry, bytes)),
+        Ok(bytes) => Ok(Image::new(buffers, entry, bytes)),
         Err(_) => Err(ImageFault::OutOfMemory),
     }
 }

@@ -1,5 +1,5 @@
-use Rattle.image_loader.proofs.Sorts.{are_bytes}
-use Rattle.image_loader.proofs.Verdicts.{found, accepted, out_of_memory, truncated, trailing, bad_magic, bad_version, bad_size}
+use Rattle.image_loader.proofs.Tails.{are_bytes}
+use Rattle.image_loader.proofs.Verdicts.{found, accepted, out_of_memory, truncated, trailing, bad_magic, bad_version, bad_buffers, bad_size}
 use Rattle.image_loader.proofs.reader.read.Goals as goal
 
 pub returns-clause-found : goal.returns-clause-found
@@ -25,3 +25,6 @@ returns-clause-bad_version c = bad_version c.args.bytes.now c.read_fields.result
 
 pub returns-clause-bad_size : goal.returns-clause-bad_size
 returns-clause-bad_size c = bad_size c.args.bytes.now c.read_fields.result (are_bytes c.args.bytes.now c.type_inv.bytes) c.read_fields.ensures
+
+pub returns-clause-bad_buffers : goal.returns-clause-bad_buffers
+returns-clause-bad_buffers c = bad_buffers c.args.bytes.now c.read_fields.result (are_bytes c.args.bytes.now c.type_inv.bytes) c.read_fields.ensures
