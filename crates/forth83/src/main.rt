@@ -3,6 +3,9 @@
 
 mod words;
 
+ghost use Rattle.std.specs.Prelude.{◌≡◌, ◌↔◌, true};
+ghost use Rattle.memory.specs.Bytes.{IsCount};
+
 use block_buffers::{Device, MemoryDevice};
 use inner_interpreter::{Reading, Writing};
 use std::fs::File;
@@ -10,8 +13,8 @@ use std::io::{BufReader, BufWriter, IsTerminal, Stdin, Stdout};
 use std::os::fd::AsFd;
 use std::process::ExitCode;
 use subcommands::{
-    Ended, FileDevice, create_file, do_build, do_debug, do_kernel, do_run, do_see, do_view,
-    open_device, open_to_read, read_image, write_file,
+    Ended, FileDevice, create_file, do_build, do_debug, do_kernel, do_run, do_see, do_upgrade,
+    do_view, open_device, open_to_read, read_image, write_file,
 };
 use words::{Parsed, Words};
 
@@ -102,14 +105,44 @@ fn write_kernel(rt: &HostRuntime, blocks: &str) -> Result<u8, u8> {
     Ok(finish(rt, ended, blocks))
 }
 
+/// A number of block buffers that an image may have. The command line has no other.
+fn is_count(buffers: u16) -> bool
+    ensures { (result ≡ true) ↔ IsCount buffers }
+{
+    (2..=16).contains(&buffers)
+}
+
 /// Builds the screens that `build` names, and writes the image.
-fn build_image(rt: &HostRuntime, blocks: &str, from: u16, to: u16, image: &str) -> Result<u8, u8> {
+fn build_image(
+    rt: &HostRuntime,
+    blocks: &str,
+    from: u16,
+    to: u16,
+    image: &str,
+    buffers: u16,
+) -> Result<u8, u8> {
+    if !is_count(buffers) {
+        return Err(2);
+    }
     let Some(mut device) = open_to_read(rt, blocks) else {
         return Err(cannot_open(rt, blocks));
     };
     let mut writer = standard_output(rt)?;
-    let ended = do_build(rt.alloc(), &mut device, from, to, &mut writer);
+    let ended = do_build(rt.alloc(), &mut device, from, to, buffers, &mut writer);
     Ok(finish(rt, ended, image))
+}
+
+/// Writes the image that `upgrade` names anew, for other block buffers.
+fn upgrade_image(rt: &HostRuntime, image: &str, out: &str, buffers: Option<u16>) -> Result<u8, u8> {
+    if let Some(count) = buffers {
+        if !is_count(count) {
+            return Err(2);
+        }
+    }
+    let bytes = image_bytes(rt, image)?;
+    let mut writer = standard_output(rt)?;
+    let ended = do_upgrade(rt.alloc(), bytes.as_slice(), buffers, &mut writer);
+    Ok(finish(rt, ended, out))
 }
 
 /// Says in which screen the word that `view` names was made.
@@ -234,7 +267,13 @@ fn obey(rt: &HostRuntime, words: Words) -> Result<u8, u8> {
             from,
             to,
             image,
-        } => build_image(rt, blocks.as_str(), from, to, image.as_str()),
+            buffers,
+        } => build_image(rt, blocks.as_str(), from, to, image.as_str(), buffers),
+        Words::Upgrade {
+            image,
+            out,
+            buffers,
+        } => upgrade_image(rt, image.as_str(), out.as_str(), buffers),
         Words::Run {
             image,
             blocks,

@@ -8,6 +8,9 @@ use std::{env, io};
 /// How many ticks a run may take where no limit is given.
 const DEFAULT_LIMIT: u64 = 1_000_000_000_000;
 
+/// How many block buffers an image has that is built where no number is given.
+const DEFAULT_BUFFERS: u16 = 4;
+
 /// The program's version, which `--version` shows.
 const VERSION: &str = "0.1.0";
 
@@ -22,6 +25,14 @@ pub enum Words {
         from: u16,
         to: u16,
         image: String,
+        /// How many block buffers, 2 to 16.
+        buffers: u16,
+    },
+    Upgrade {
+        image: String,
+        out: String,
+        /// How many block buffers, 2 to 16; the image's own number where none is given.
+        buffers: Option<u16>,
     },
     Run {
         image: String,
@@ -86,7 +97,36 @@ fn build_command<'a>(alloc: Global) -> Result<Command<'a>, AllocError> {
             Arg::new(alloc, "IMAGE")
                 .required(true)
                 .help("The new image file"),
+        )?
+        .arg(
+            buffers(alloc)
+                .default_value("4")
+                .help("Block buffers, 2 to 16"),
         )
+}
+
+/// How many block buffers an image has.
+fn buffers<'a>(alloc: Global) -> Arg<'a> {
+    Arg::new(alloc, "buffers")
+        .long("buffers")
+        .value_name("N")
+        .value_parser(value_parser!(u16).range(2..=16))
+}
+
+fn upgrade_command<'a>(alloc: Global) -> Result<Command<'a>, AllocError> {
+    Command::new(alloc, "upgrade")
+        .about("Write an image anew for another number of block buffers")
+        .arg(
+            Arg::new(alloc, "IMAGE")
+                .required(true)
+                .help("The image file"),
+        )?
+        .arg(
+            Arg::new(alloc, "OUT")
+                .required(true)
+                .help("The new image file"),
+        )?
+        .arg(buffers(alloc).help("Block buffers, 2 to 16 (as many as the image has)"))
 }
 
 /// How many ticks are allowed.
@@ -159,6 +199,7 @@ fn command<'a>(alloc: Global) -> Result<Command<'a>, AllocError> {
         .arg_required_else_help(true)
         .subcommand(kernel_command(alloc)?)?
         .subcommand(build_command(alloc)?)?
+        .subcommand(upgrade_command(alloc)?)?
         .subcommand(run_command(alloc)?)?
         .subcommand(see_command(alloc)?)?
         .subcommand(debug_command(alloc)?)?
@@ -189,11 +230,28 @@ fn build_words(alloc: Global, inner: &ArgMatches<'_>) -> Result<Option<Words>, A
     let (Some(from), Some(to)) = (inner.get_one::<u16>("FROM"), inner.get_one::<u16>("TO")) else {
         return Ok(None);
     };
+    let buffers = inner.get_one::<u16>("buffers").unwrap_or(DEFAULT_BUFFERS);
     Ok(Some(Words::Build {
         blocks,
         from,
         to,
         image,
+        buffers,
+    }))
+}
+
+fn upgrade_words(alloc: Global, inner: &ArgMatches<'_>) -> Result<Option<Words>, AllocError> {
+    let Some(image) = copied(alloc, inner, "IMAGE")? else {
+        return Ok(None);
+    };
+    let Some(out) = copied(alloc, inner, "OUT")? else {
+        return Ok(None);
+    };
+    let buffers = inner.get_one::<u16>("buffers");
+    Ok(Some(Words::Upgrade {
+        image,
+        out,
+        buffers,
     }))
 }
 
@@ -261,6 +319,7 @@ fn words_of(alloc: Global, matches: &ArgMatches<'_>) -> Result<Option<Words>, Al
         None => Ok(None),
         Some(("kernel", inner)) => kernel_words(alloc, inner),
         Some(("build", inner)) => build_words(alloc, inner),
+        Some(("upgrade", inner)) => upgrade_words(alloc, inner),
         Some(("debug", inner)) => debug_words(alloc, inner),
         Some(("see", inner)) => see_words(alloc, inner),
         Some(("view", inner)) => view_words(alloc, inner),

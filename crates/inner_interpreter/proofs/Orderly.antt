@@ -3,7 +3,7 @@ use Rattle.std.proofs.Common.{◌≡◌, ℕ, ◌==◌, ◌∷◌, length, nat_l
 use Rattle.block_buffers.specs.Entries.{holds}
 use Rattle.block_buffers.proofs.Kept.{are_started, are_assigned, are_unmarked}
 use Rattle.block_buffers.proofs.Blocks.{blocks_started, blocks_assigned, blocks_unmarked}
-use Rattle.image_loader.specs.Files.{Contents}
+use Rattle.image_loader.specs.Files.{Contents, IsImage}
 use Rattle.memory.specs.Bytes.{cell}
 use Rattle.memory.specs.declared.system.TheConstants.{FAULT}
 use Rattle.plain_rows.specs.Whole.{Whole}
@@ -146,5 +146,5 @@ pub moved_orderly : (s : State) (t : Turn) → Accepts s t → IsOrderly s → I
 moved_orderly s Tick a h = ticked_orderly s.parts (record { buffers = h.buffers; once = h.once })
 moved_orderly s (Answer reply) a h = answer_orderly s reply a.2 h
 
-pub start_orderly : (image : Contents) (block_count : ℕ) → IsOrderly (start image block_count)
-start_orderly image block_count = unasked _ None (record { buffers = are_started 4 (omega arith, omega arith); once = blocks_started 4 })
+pub start_orderly : (image : Contents) (block_count : ℕ) → IsImage image → IsOrderly (start image block_count)
+start_orderly image block_count h = unasked _ None (record { buffers = are_started image.buffers h.buffers; once = blocks_started image.buffers })

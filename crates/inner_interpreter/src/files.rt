@@ -1,7 +1,7 @@
 //! From the bytes of an image's file to the bytes of output.
 
 ghost use Rattle.std.specs.Prelude.{◌≡◌, ◌≢◌, ◌↔◌, false, true, IfOk, IfErr, IsErrOf, MatchResult, OnErr};
-ghost use Rattle.image_loader.specs.Files.{Contents, IsFile, IsCutShort, IsFollowed, HasBadMagic, HasBadVersion, HasBadSize};
+ghost use Rattle.image_loader.specs.Files.{Contents, IsFile, IsCutShort, IsFollowed, HasBadMagic, HasBadVersion, HasBadBuffers, HasBadSize};
 ghost use Rattle.inner_interpreter.specs.Files.{HasRunFrom};
 ghost use Rattle.inner_interpreter.specs.Worlds.{OfImage, OfFile, EndsFrom, EndsCutFrom, EndsFaultedFrom};
 
@@ -82,6 +82,7 @@ pub fn run_file<R: Input, W: Output, D: Device>(
     ensures trailing { IsErrOf result ImageFault.TrailingBytes ↔ IsFollowed bytes.now }
     ensures bad_magic { IsErrOf result ImageFault.BadMagic ↔ HasBadMagic bytes.now }
     ensures bad_version { IsErrOf result ImageFault.BadVersion ↔ HasBadVersion bytes.now }
+    ensures bad_buffers { IsErrOf result ImageFault.BadBuffers ↔ HasBadBuffers bytes.now }
     ensures bad_size { IsErrOf result ImageFault.BadSize ↔ HasBadSize bytes.now }
 
     // Where they are refused nothing was done.

@@ -1,7 +1,7 @@
 //! Laws of machines and of runs.
 
 ghost use Rattle.std.specs.Prelude.{◌≡◌, ◌≢◌, ℕ, ◌≤◌, List, Some, IsSome, All, length};
-ghost use Rattle.image_loader.specs.Files.{Contents};
+ghost use Rattle.image_loader.specs.Files.{Contents, IsImage};
 ghost use Rattle.memory.specs.Bytes.{cell};
 ghost use Rattle.primitives.specs.Needs.{most_requests};
 ghost use Rattle.inner_interpreter.specs.Histories.{Call, Made, IsHistory, made, moves_made};
@@ -33,7 +33,7 @@ pub fn input_fault_law()
 /// No block is ever in two buffers of a machine, none is asked to be read that a buffer has, and each that is asked to be
 /// written is in one. A key is asked at fewer than 256 cells on the data stack, a line at two or more.
 pub fn orderly_law()
-    ensures started { (image : Contents) (block_count : ℕ) → IsOrderly (start image block_count) }
+    ensures started { (image : Contents) (block_count : ℕ) → IsImage image → IsOrderly (start image block_count) }
     ensures moved { (s : State) (t : Turn) → Accepts s t → IsOrderly s → IsOrderly (turned s t) }
 {}
 

@@ -3,7 +3,7 @@ use Rattle.std.proofs.Common.{◌≡◌, ℕ, ◌+◌, ◌-◌, ◌<◌, ◌≤�
 use Rattle.std.proofs.lemmas.List.{take-take, take-append-drop}
 use Rattle.std.specs.Prelude.{Result}
 use Rattle.block_buffers.specs.Disks.{Disk}
-use Rattle.image_loader.specs.Files.{Contents}
+use Rattle.memory.specs.Bytes.{limit_of}
 use Rattle.source_words.specs.declared.modes.Mode.TheVariants.{Outside}
 use Rattle.source_words.specs.Words.{SourceWord, after_words, words_of_screens, source_words}
 use Rattle.source_words.proofs.Joining.{words_append}
@@ -160,12 +160,19 @@ good_refused limit d from to e done items entry there good quiet h =
     no_fault limit (all_placed (source_of d from to)) items entry to e.screen e.offset e.cause good (refused_at limit d from to e done there quiet h)
 
 -- what is built
-pub built_of : {limit : ℕ} (d : Disk) (from to : ℕ) (k : Compilation) (bytes : List ℕ) (entry : ℕ) (done : Done) → TookAll limit d from to k done → IsBuilt limit (all_placed (source_of d from to)) bytes entry → IsBuiltOf limit d from to (record { entry = entry; bytes = bytes }) done
-built_of d from to k bytes entry done h b = record { there = h.there; items = b.items; good = b.good; is = b.is; disk = h.disk; failures = h.failures }
+pub built_of : {limit : ℕ} (count : ℕ) (d : Disk) (from to : ℕ) (k : Compilation) (bytes : List ℕ) (entry : ℕ) (done : Done) → limit ≡ limit_of count
+    → TookAll limit d from to k done → IsBuilt limit (all_placed (source_of d from to)) bytes entry
+    → IsBuiltOf count d from to (record { buffers = count; entry = entry; bytes = bytes }) done
+built_of {limit} count d from to k bytes entry done q h b = record {
+  there = h.there;
+  buffers = refl;
+  items = b.items;
+  good = subst (λ l. IsGood l (all_placed (source_of d from to)) b.items entry) q b.good;
+  is = b.is;
+  disk = h.disk;
+  failures = h.failures;
+}
 
 -- the same limit by another name
 pub refused_by : (l m : ℕ) (d : Disk) (from to : ℕ) (e : BuildFault) (done : Done) → l ≡ m → IsRefused l d from to e done → IsRefused m d from to e done
 refused_by l m d from to e done q h = subst (λ n. IsRefused n d from to e done) q h
-
-pub built_by : (l m : ℕ) (d : Disk) (from to : ℕ) (built : Contents) (done : Done) → l ≡ m → IsBuiltOf l d from to built done → IsBuiltOf m d from to built done
-built_by l m d from to built done q h = subst (λ n. IsBuiltOf n d from to built done) q h

@@ -27,6 +27,7 @@ use Rattle.metacompiler.specs.Stages.{Stage, Whole, Counted, Due, Chosen, Inside
 use Rattle.metacompiler.specs.Faults.{IsGood, AtItem, AtNumber, AtName, AtVocabulary, InBody, Applies, FirstCause, refusal, rank, IsFault, Next}
 use Rattle.block_buffers.specs.Disks.{Disk}
 use Rattle.image_loader.specs.Files.{Contents}
+use Rattle.memory.specs.Bytes.{limit_of}
 use Rattle.metacompiler.specs.Spelled.{all_placed}
 use Rattle.metacompiler.specs.Sources.{Done, IsBuiltOf, source_of}
 use Rattle.metacompiler.proofs.Running.{St, At, chosen, at_item, at_number, started, at_name, at_vocabulary, is_semi, closed, in_body, step, then, run, front_run}
@@ -384,11 +385,11 @@ one_list limit source t u e f g h =
     let k : Some e ≡ Some f = sym g.starts ∙ b ∙ h.starts in
     (s.0, cc)
 
-pub one_image : (limit : ℕ) (d : Disk) (from to : ℕ) (a b : Contents) (x y : Done) → IsBuiltOf limit d from to a x → IsBuiltOf limit d from to b y → a ≡ b
-one_image limit d from to a b x y g h =
-    let s = one_list limit (all_placed (source_of d from to)) g.items h.items a.entry b.entry g.good h.good in
+pub one_image : (count : ℕ) (d : Disk) (from to : ℕ) (a b : Contents) (x y : Done) → IsBuiltOf count d from to a x → IsBuiltOf count d from to b y → a ≡ b
+one_image count d from to a b x y g h =
+    let s = one_list (limit_of count) (all_placed (source_of d from to)) g.items h.items a.entry b.entry g.good h.good in
     let i : a.bytes ≡ b.bytes = g.is ∙ ap image s.0 ∙ sym h.is in
-    same_contents a b s.1 i
+    same_contents a b (g.buffers ∙ sym h.buffers) s.1 i
   where
-    same_contents : (a b : Contents) → a.entry ≡ b.entry → a.bytes ≡ b.bytes → a ≡ b
-    same_contents a b e i = rw (e, i) refl
+    same_contents : (a b : Contents) → a.buffers ≡ b.buffers → a.entry ≡ b.entry → a.bytes ≡ b.bytes → a ≡ b
+    same_contents a b n e i = rw (n, e, i) refl

@@ -2,6 +2,7 @@
 use Rattle.std.specs.Prelude.{◌≡◌, ℕ, false, ◌+◌, ◌-◌, ◌<◌, ◌≤◌, ◌⊎◌, List, ◌++◌, length, take, drop, Option, Some}
 use Rattle.block_buffers.specs.Disks.{Disk, succeeds}
 use Rattle.image_loader.specs.Files.{Contents}
+use Rattle.memory.specs.Bytes.{limit_of}
 use Rattle.source_words.specs.Words.{SourceWord, source_words}
 use Rattle.metacompiler.specs.declared.cause.BuildFault.{BuildFault}
 use Rattle.metacompiler.specs.declared.cause.Cause.{Cause}
@@ -41,11 +42,12 @@ pub record IsFaultless (limit : ℕ) (source : List SourceWord) : Type 0 where
   pub stage : Stage
   pub front : IsFront limit (all_placed source) items words stage
 
--- the source is good, its image is this one, and each of its screens was read once
-pub record IsBuiltOf (limit : ℕ) (d : Disk) (from to : ℕ) (built : Contents) (done : Done) : Type 0 where
+-- the source is good, its image for so many buffers is this one, and each of its screens was read once
+pub record IsBuiltOf (count : ℕ) (d : Disk) (from to : ℕ) (built : Contents) (done : Done) : Type 0 where
   pub there : AreThere d from to
+  pub buffers : built.buffers ≡ count
   pub items : Items
-  pub good : IsGood limit (all_placed (source_of d from to)) items built.entry
+  pub good : IsGood (limit_of count) (all_placed (source_of d from to)) items built.entry
   pub is : built.bytes ≡ image items
   pub disk : done.disk ≡ Some (after_reads (to + 1 - from) d)
   pub failures : done.after ≡ done.before

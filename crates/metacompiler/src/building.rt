@@ -3,7 +3,7 @@
 ghost use Rattle.std.specs.Prelude.{◌≡◌, ℕ, ◌≤◌, ◌⊎◌, [], List, Some, IfOk, IfErr, length, vec_len};
 ghost use Rattle.block_buffers.specs.Calls.{failures};
 ghost use Rattle.block_buffers.specs.Disks.{Disk};
-ghost use Rattle.memory.specs.Bytes.{limit_of};
+ghost use Rattle.memory.specs.Bytes.{IsCount, limit_of};
 ghost use Rattle.metacompiler.specs.Places.{Place};
 ghost use Rattle.metacompiler.specs.Faults.{IsFault};
 ghost use Rattle.metacompiler.specs.Grammar.{IsLimit};
@@ -75,7 +75,7 @@ fn begin(alloc: Global, limit: u16) -> Result<Compilation, Cause>
 }
 
 /// Builds the source in the screens from `from` to `to` of a device to an image, whose entry is the word that BOOT names.
-/// It ends where four block buffers begin at the latest.
+/// It is an image for `count` block buffers, 2 to 16, and ends where these begin at the latest.
 ///
 /// One screen at a time is read and kept. Each is read once at most, in order, and none behind the one that decides. Where
 /// the source isn't good the answer is its first fault: the first word that has a cause, with the first of its causes in the
@@ -87,11 +87,13 @@ pub fn build<D: Device>(
     device: &mut D,
     from: u16,
     to: u16,
+    count: u16,
 ) -> Result<Image, BuildFault>
-    ensures built { (d : Disk) → D.disk device.old ≡ Some d → IfOk result (λ i. IsBuiltOf (limit_of 4) d from to i (record { disk = D.disk device.new; before = failures (D.calls device.old); after = failures (D.calls device.new) })) }
-    ensures refused { (d : Disk) → D.disk device.old ≡ Some d → IfErr result (λ e. IsRefused (limit_of 4) d from to e (record { disk = D.disk device.new; before = failures (D.calls device.old); after = failures (D.calls device.new) })) }
+    requires { IsCount count }
+    ensures built { (d : Disk) → D.disk device.old ≡ Some d → IfOk result (λ i. IsBuiltOf count d from to i (record { disk = D.disk device.new; before = failures (D.calls device.old); after = failures (D.calls device.new) })) }
+    ensures refused { (d : Disk) → D.disk device.old ≡ Some d → IfErr result (λ e. IsRefused (limit_of count) d from to e (record { disk = D.disk device.new; before = failures (D.calls device.old); after = failures (D.calls device.new) })) }
 {
-    let mut compilation = match begin(alloc, limit_of(4)) {
+    let mut compilation = match begin(alloc, limit_of(count)) {
         Ok(compilation) => compilation,
         Err(_) => {
             return Err(BuildFault {
@@ -105,7 +107,7 @@ pub fn build<D: Device>(
         return Err(stop.refusal(from));
     }
     match end(alloc, &compilation.build, &compilation.begun, to) {
-        Ok((bytes, entry)) => Ok(Image::new(entry, bytes)),
+        Ok((bytes, entry)) => Ok(Image::new(count, entry, bytes)),
         Err(fault) => Err(Stop::Word(fault).refusal(from)),
     }
 }

@@ -33,7 +33,7 @@ pub fn one_fault()
 /// A good source is the words of one list of items, and has one entry; so there is one image of it.
 pub fn one_image()
     ensures items { (limit : ℕ) (source : List Place) (t u : Items) (e f : ℕ) → IsGood limit source t e → IsGood limit source u f → (t ≡ u) × (e ≡ f) }
-    ensures image { (limit : ℕ) (d : Disk) (from to : ℕ) (a b : Contents) (x y : Done) → IsBuiltOf limit d from to a x → IsBuiltOf limit d from to b y → a ≡ b }
+    ensures image { (count : ℕ) (d : Disk) (from to : ℕ) (a b : Contents) (x y : Done) → IsBuiltOf count d from to a x → IsBuiltOf count d from to b y → a ≡ b }
 {}
 
 /// A refusal of a source whose screens are all there, and of which none fails, is the source's first fault; so a good

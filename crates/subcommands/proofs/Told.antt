@@ -4,7 +4,7 @@ use Rattle.std.specs.declared.alloc.Global.{Global}
 use Rattle.dictionary.specs.Search.{sought}
 use Rattle.subcommands.specs.Causes.{IsNoFile, image_cause}
 use Rattle.subcommands.specs.Lines.{memory_of, EndsSeen, EndsViewed, PrintsOutOfMemory, PrintsRefusal, PrintsSeen, PrintsViewed}
-use Rattle.image_loader.specs.Files.{Contents, IsCutShort, IsFollowed, HasBadMagic, HasBadVersion, HasBadSize}
+use Rattle.image_loader.specs.Files.{Contents, IsCutShort, IsFollowed, HasBadMagic, HasBadVersion, HasBadBuffers, HasBadSize}
 use Rattle.image_loader.specs.declared.fault.ImageFault.{ImageFault}
 use Rattle.image_loader.specs.declared.fault.ImageFault.TheVariants as fault
 use Rattle.memory.specs.Bytes.{front_put, zeros}
@@ -39,13 +39,14 @@ told file m name typed answer status old new same spelled is printed =
 pub answered : {T : Type 0} (r : Result T ImageFault) (bytes : List ℕ) (f : ImageFault)
     → (IsErrOf r fault.Truncated ↔ IsCutShort bytes) → (IsErrOf r fault.TrailingBytes ↔ IsFollowed bytes)
     → (IsErrOf r fault.BadMagic ↔ HasBadMagic bytes) → (IsErrOf r fault.BadVersion ↔ HasBadVersion bytes)
-    → (IsErrOf r fault.BadSize ↔ HasBadSize bytes) → IsNoFile bytes f → r ≡ Err f
-answered r bytes fault.Truncated t l m v s h = t.1 h
-answered r bytes fault.TrailingBytes t l m v s h = l.1 h
-answered r bytes fault.BadMagic t l m v s h = m.1 h
-answered r bytes fault.BadVersion t l m v s h = v.1 h
-answered r bytes fault.BadSize t l m v s h = s.1 h
-answered r bytes fault.OutOfMemory t l m v s h = absurd h
+    → (IsErrOf r fault.BadBuffers ↔ HasBadBuffers bytes) → (IsErrOf r fault.BadSize ↔ HasBadSize bytes) → IsNoFile bytes f → r ≡ Err f
+answered r bytes fault.Truncated t l m v b s h = t.1 h
+answered r bytes fault.TrailingBytes t l m v b s h = l.1 h
+answered r bytes fault.BadMagic t l m v b s h = m.1 h
+answered r bytes fault.BadVersion t l m v b s h = v.1 h
+answered r bytes fault.BadBuffers t l m v b s h = b.1 h
+answered r bytes fault.BadSize t l m v b s h = s.1 h
+answered r bytes fault.OutOfMemory t l m v b s h = absurd h
 
 pub not_read : {T : Type 0} (x : T) (f : ImageFault) → Ok x ≡ Err f → ⊥
 not_read x f e = cc

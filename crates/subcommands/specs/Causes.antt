@@ -2,9 +2,11 @@
 use Rattle.std.specs.Prelude.{ℕ, List, ◌++◌, codes, decimal}
 use Rattle.debug_tracer.specs.declared.fault.DebugFault.{DebugFault}
 use Rattle.debug_tracer.specs.declared.fault.DebugFault.TheVariants as debug
-use Rattle.image_loader.specs.Files.{IsCutShort, IsFollowed, HasBadMagic, HasBadVersion, HasBadSize}
+use Rattle.image_loader.specs.Files.{IsCutShort, IsFollowed, HasBadMagic, HasBadVersion, HasBadBuffers, HasBadSize}
 use Rattle.image_loader.specs.declared.fault.ImageFault.{ImageFault}
 use Rattle.image_loader.specs.declared.fault.ImageFault.TheVariants as image
+use Rattle.image_loader.specs.declared.upgrading.UpgradeFault.{UpgradeFault}
+use Rattle.image_loader.specs.declared.upgrading.UpgradeFault.TheVariants as upgrade
 use Rattle.metacompiler.specs.declared.cause.Cause.{Cause}
 use Rattle.metacompiler.specs.declared.cause.Cause.TheVariants as build
 use Rattle.see.specs.declared.refusal.SeeRefused.{SeeRefused}
@@ -16,6 +18,7 @@ abbrev pub image_cause : ImageFault → List ℕ
 image_cause image.Truncated = codes "Truncated"
 image_cause image.BadMagic = codes "BadMagic"
 image_cause image.BadVersion = codes "BadVersion"
+image_cause image.BadBuffers = codes "BadBuffers"
 image_cause image.BadSize = codes "BadSize"
 image_cause image.TrailingBytes = codes "TrailingBytes"
 image_cause image.OutOfMemory = codes "OutOfMemory"
@@ -32,6 +35,10 @@ build_cause build.BadName = codes "BadName"
 build_cause build.Full = codes "Full"
 build_cause build.NoBoot = codes "NoBoot"
 build_cause build.Device = codes "Device"
+
+abbrev pub upgrade_cause : UpgradeFault → List ℕ
+upgrade_cause upgrade.TooLarge = codes "TooLarge"
+upgrade_cause upgrade.OutOfMemory = codes "OutOfMemory"
 
 abbrev pub view_cause : ViewRefused → List ℕ
 view_cause view.NotFound = codes "NotFound"
@@ -58,6 +65,7 @@ abbrev pub IsNoFile : List ℕ → ImageFault → Type 0
 IsNoFile bytes image.Truncated = IsCutShort bytes
 IsNoFile bytes image.BadMagic = HasBadMagic bytes
 IsNoFile bytes image.BadVersion = HasBadVersion bytes
+IsNoFile bytes image.BadBuffers = HasBadBuffers bytes
 IsNoFile bytes image.BadSize = HasBadSize bytes
 IsNoFile bytes image.TrailingBytes = IsFollowed bytes
 IsNoFile bytes image.OutOfMemory = ⊥

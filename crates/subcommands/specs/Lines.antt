@@ -6,8 +6,9 @@ use Rattle.block_buffers.specs.Disks.{Disk}
 use Rattle.debug_tracer.specs.declared.fault.DebugFault.{DebugFault}
 use Rattle.debug_tracer.specs.declared.fault.DebugFault.TheVariants as debug
 use Rattle.dictionary.specs.Search.{sought}
-use Rattle.subcommands.specs.Causes.{build_cause, debug_cause, view_cause, see_cause}
-use Rattle.image_loader.specs.Files.{Contents, IsFile}
+use Rattle.subcommands.specs.Causes.{build_cause, debug_cause, view_cause, see_cause, upgrade_cause}
+use Rattle.image_loader.specs.Files.{Contents, IsWritten}
+use Rattle.image_loader.specs.declared.upgrading.UpgradeFault.TheVariants as upgrade
 use Rattle.metacompiler.specs.Sources.{Done, IsRefused}
 use Rattle.metacompiler.specs.declared.cause.BuildFault.{BuildFault}
 use Rattle.metacompiler.specs.declared.cause.Cause.{Cause}
@@ -49,21 +50,34 @@ PrintsFault screen offset build.OutOfMemory status old new = PrintsOutOfMemory s
 PrintsFault screen offset cause status old new =
     (status ≡ 1) × (Appends old new (fault_line screen offset (build_cause cause)) ⊎ Appends old new (line (codes "out of memory")))
 
--- the screens from..to are refused for a fault, and that was printed
-pub record EndsRefused (d : Disk) (from to : ℕ) (done : Done) (status : ℕ) (old new : Option (List ℕ)) : Type 0 where
+-- the screens from..to are refused for a fault, as an image for so many buffers, and that was printed
+pub record EndsRefused (count : ℕ) (d : Disk) (from to : ℕ) (done : Done) (status : ℕ) (old new : Option (List ℕ)) : Type 0 where
   pub fault : BuildFault
-  pub is_refused : IsRefused (limit_of 4) d from to fault done
+  pub is_refused : IsRefused (limit_of count) d from to fault done
   pub printed : PrintsFault fault.screen fault.offset fault.cause status old new
 
 -- `size S entry E`
 abbrev pub image_line : Contents → List ℕ
 image_line image = codes "size " ++ (decimal (length image.bytes) ++ (codes " entry " ++ line (decimal image.entry)))
 
--- these bytes are an image's file, and its line was printed
+-- these bytes are the file that is written of an image, and its line was printed
 pub record IsTold (bytes : List ℕ) (old new : Option (List ℕ)) : Type 0 where
   pub image : Contents
-  pub is_file : IsFile bytes image
+  pub is_file : IsWritten bytes image
   pub printed : Appends old new (image_line image)
+
+-- `size S buffers N`
+abbrev pub upgrade_line : Contents → List ℕ
+upgrade_line image = codes "size " ++ (decimal (length image.bytes) ++ (codes " buffers " ++ line (decimal image.buffers)))
+
+-- the same entry and bytes, for so many buffers
+abbrev pub for_buffers : Contents → ℕ → Contents
+for_buffers image count = record image { buffers = count }
+
+-- these bytes are the file that is written of this image, and its line was printed
+pub record IsUpgraded (bytes : List ℕ) (image : Contents) (old new : Option (List ℕ)) : Type 0 where
+  pub is_file : IsWritten bytes image
+  pub printed : Appends old new (upgrade_line image)
 
 -- the number of a screen was printed, or why there is none
 abbrev pub PrintsViewed : (name : List ℕ) → Result ℕ ViewRefused → (status : ℕ) → (old new : Option (List ℕ)) → Type 0

@@ -2,10 +2,10 @@
 //! them itself, and clauses know what it prints.
 
 ghost use Rattle.std.specs.Prelude.{◌≡◌, ℕ, List, IfOk, string_bytes};
-ghost use Rattle.subcommands.specs.Causes.{image_cause, build_cause, view_cause, see_cause, debug_cause};
+ghost use Rattle.subcommands.specs.Causes.{image_cause, build_cause, view_cause, see_cause, debug_cause, upgrade_cause};
 
 use debug_tracer::DebugFault;
-use image_loader::ImageFault;
+use image_loader::{ImageFault, UpgradeFault};
 use metacompiler::Cause;
 use see::{SeeRefused, ViewRefused};
 use std::alloc::{AllocError, Global};
@@ -28,9 +28,21 @@ impl Reason for ImageFault {
             ImageFault::Truncated => "Truncated".to_string(alloc),
             ImageFault::BadMagic => "BadMagic".to_string(alloc),
             ImageFault::BadVersion => "BadVersion".to_string(alloc),
+            ImageFault::BadBuffers => "BadBuffers".to_string(alloc),
             ImageFault::BadSize => "BadSize".to_string(alloc),
             ImageFault::TrailingBytes => "TrailingBytes".to_string(alloc),
             ImageFault::OutOfMemory => "OutOfMemory".to_string(alloc),
+        }
+    }
+}
+
+impl Reason for UpgradeFault {
+    ghost spelling = { λ f. upgrade_cause f };
+
+    fn spelled(&self, alloc: Global) -> Result<String, AllocError> {
+        match *self {
+            UpgradeFault::TooLarge => "TooLarge".to_string(alloc),
+            UpgradeFault::OutOfMemory => "OutOfMemory".to_string(alloc),
         }
     }
 }

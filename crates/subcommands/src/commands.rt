@@ -12,6 +12,7 @@ ghost use Rattle.subcommands.specs.Statuses.{status_of, EndsWith};
 ghost use Rattle.image_loader.specs.Files.{Contents, IsFile};
 ghost use Rattle.image_loader.specs.declared.fault.ImageFault.{ImageFault};
 ghost use Rattle.inner_interpreter.specs.Worlds.{OfFile};
+ghost use Rattle.memory.specs.Bytes.{IsCount};
 
 use crate::causes::Reason;
 use crate::kernel::kernel_file;
@@ -40,7 +41,7 @@ pub fn end_with(status: u8) -> Ended
 }
 
 /// The end of a subcommand that makes a file.
-fn end_with_file(file: Vec<u8>) -> Ended
+pub fn end_with_file(file: Vec<u8>) -> Ended
     ensures status { result.status ≡ 0 }
     ensures file { result.file ≡ Some file }
 {
@@ -76,7 +77,7 @@ pub fn print<W: Output>(writer: &mut W, line: &[u8], status: u8) -> Ended
 }
 
 /// Prints a line, and answers whether all of it was written.
-fn is_printed<W: Output>(writer: &mut W, line: &[u8]) -> bool
+pub fn is_printed<W: Output>(writer: &mut W, line: &[u8]) -> bool
     ensures printed { W.failed writer.new ≡ false → (result ≡ true) × Appends (W.sent writer.old) (W.sent writer.new) line.now }
     ensures cut { W.failed writer.old ≡ false → W.failed writer.new ≡ true → result ≡ false }
 {
@@ -185,7 +186,7 @@ fn report(alloc: Global, image: &Image) -> Result<String, AllocError>
     format!(in alloc; "size {size} entry {entry}\n")
 }
 
-/// Builds the source in the screens from `from` to `to` to an image, and prints `size S entry E`. Status 0, with the bytes of
+/// Builds the source in the screens from `from` to `to` to an image for so many block buffers, 2 to 16, and prints `size S entry E`. Status 0, with the bytes of
 /// the image's file. Without a file 1: the source is refused (`screen S offset O: CAUSE` is printed) or memory ran out;
 /// 5: a line can't be printed.
 pub fn do_build<W: Output, D: Device>(
@@ -193,17 +194,19 @@ pub fn do_build<W: Output, D: Device>(
     device: &mut D,
     from: u16,
     to: u16,
+    buffers: u16,
     writer: &mut W,
 ) -> Ended
+    requires { IsCount buffers }
     ensures status { MatchOption result.file (0 < result.status) (λ _. result.status ≡ 0) }
-    ensures file { (d : Disk) → D.disk device.old ≡ Some d → IfSome result.file (λ file. IsBuiltFile file.items d from to (record { disk = D.disk device.new; before = failures (D.calls device.old); after = failures (D.calls device.new) })) }
+    ensures file { (d : Disk) → D.disk device.old ≡ Some d → IfSome result.file (λ file. IsBuiltFile buffers file.items d from to (record { disk = D.disk device.new; before = failures (D.calls device.old); after = failures (D.calls device.new) })) }
     // Where there is a file, its line is printed; where there is none, it is printed why.
     ensures told { W.failed writer.new ≡ false → IfSome result.file (λ file. IsTold file.items (W.sent writer.old) (W.sent writer.new)) }
-    ensures refused { W.failed writer.new ≡ false → IsNone result.file → (d : Disk) → D.disk device.old ≡ Some d → EndsRefused d from to (record { disk = D.disk device.new; before = failures (D.calls device.old); after = failures (D.calls device.new) }) result.status (W.sent writer.old) (W.sent writer.new) ⊎ PrintsOutOfMemory result.status (W.sent writer.old) (W.sent writer.new) }
+    ensures refused { W.failed writer.new ≡ false → IsNone result.file → (d : Disk) → D.disk device.old ≡ Some d → EndsRefused buffers d from to (record { disk = D.disk device.new; before = failures (D.calls device.old); after = failures (D.calls device.new) }) result.status (W.sent writer.old) (W.sent writer.new) ⊎ PrintsOutOfMemory result.status (W.sent writer.old) (W.sent writer.new) }
     // Where a line can't be printed, there is no file.
     ensures cut { W.failed writer.old ≡ false → W.failed writer.new ≡ true → (result.status ≡ 5) × IsNone result.file }
 {
-    let image = match build(alloc, device, from, to) {
+    let image = match build(alloc, device, from, to, buffers) {
         Ok(image) => image,
         Err(fault) => return refuse_source(alloc, fault, writer),
     };

@@ -2,7 +2,7 @@ use Rattle.std.proofs.Common.{◌∙◌}
 use Rattle.metacompiler.specs.Spelled.{all_placed}
 use Rattle.metacompiler.specs.Sources.{source_of}
 use Rattle.metacompiler.proofs.Held.{held_building, is_read}
-use Rattle.metacompiler.proofs.Refusing.{stopped_refused, ended_refused, built_of, refused_by, built_by}
+use Rattle.metacompiler.proofs.Refusing.{stopped_refused, ended_refused, built_of, refused_by}
 use Rattle.metacompiler.proofs.building.build.Goals as goal
 
 pub returns-in-Err-take_screens-clause-refused : goal.returns-in-Err-take_screens-clause-refused
@@ -15,7 +15,7 @@ pub returns-in-Ok-end-clause-built : goal.returns-in-Ok-end-clause-built
 returns-in-Ok-end-clause-built g c = λ d e.
     let h = c.in_default.ensures.taken d e in
     let s = all_placed (source_of d c.args.from c.args.to) in
-    rw (c.new.ensures.entry, c.new.ensures.bytes) (built_by _ _ d c.args.from c.args.to _ _ (c.in-Ok.ensures.limit ∙ c.limit_of.ensures.value) (built_of d c.args.from c.args.to c.take_screens.new.compilation c.in-Ok-end.bytes.items c.in-Ok-end.entry _ h (c.in-Ok-end.ensures.built c.in-Ok.compilation.build.limit s (is_read c.take_screens.new.compilation (source_of d c.args.from c.args.to) h.took))))
+    rw (c.new.ensures.buffers, c.new.ensures.entry, c.new.ensures.bytes) (built_of c.args.count d c.args.from c.args.to c.take_screens.new.compilation c.in-Ok-end.bytes.items c.in-Ok-end.entry _ (c.in-Ok.ensures.limit ∙ c.limit_of.ensures.value) h (c.in-Ok-end.ensures.built c.in-Ok.compilation.build.limit s (is_read c.take_screens.new.compilation (source_of d c.args.from c.args.to) h.took)))
 
 pub returns-clause-refused : goal.returns-clause-refused
 returns-clause-refused g c = λ d e.

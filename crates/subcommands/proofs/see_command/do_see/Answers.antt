@@ -19,9 +19,9 @@ returns-in-Ok-see-clause-seen g c = λ fine file is.
 pub returns-in-Err-clause-refused : goal.returns-in-Err-clause-refused
 returns-in-Err-clause-refused g c = λ fine f is.
     let h = c.in-Err.ensures in
-    refused_so (Err c.in-Err.fault) c.in-Err.fault f _ _ _ refl (answered (Err c.in-Err.fault) c.args.image.now f h.truncated h.trailing h.bad_magic h.bad_version h.bad_size is) (c.refuse_image.ensures.printed fine)
+    refused_so (Err c.in-Err.fault) c.in-Err.fault f _ _ _ refl (answered (Err c.in-Err.fault) c.args.image.now f h.truncated h.trailing h.bad_magic h.bad_version h.bad_buffers h.bad_size is) (c.refuse_image.ensures.printed fine)
 
 pub returns-in-Ok-see-clause-refused : goal.returns-in-Ok-see-clause-refused
 returns-in-Ok-see-clause-refused g c = λ fine f is.
     let h = c.in-Ok.ensures in
-    absurd (not_read c.in-Ok.image f (answered (Ok c.in-Ok.image) c.args.image.now f h.truncated h.trailing h.bad_magic h.bad_version h.bad_size is))
+    absurd (not_read c.in-Ok.image f (answered (Ok c.in-Ok.image) c.args.image.now f h.truncated h.trailing h.bad_magic h.bad_version h.bad_buffers h.bad_size is))

@@ -1,0 +1,87 @@
+//! `upgrade`.
+
+ghost use Rattle.std.specs.Prelude.{◌≡◌, ◌<◌, ◌≤◌, codes, false, true, length, unwrap_or, IsNone, IsSome, IfOk, IfSome, MatchOption, string_bytes};
+ghost use Rattle.memory.specs.Bytes.{IsCount, limit_of};
+ghost use Rattle.image_loader.specs.Files.{Contents, IsFile};
+ghost use Rattle.image_loader.specs.declared.fault.ImageFault.{ImageFault};
+ghost use Rattle.subcommands.specs.Causes.{IsNoFile, image_cause};
+ghost use Rattle.subcommands.specs.Lines.{IsUpgraded, PrintsOutOfMemory, PrintsRefusal, for_buffers, upgrade_line};
+
+use crate::commands::{Ended, end_with, end_with_file, is_printed, print_out_of_memory, refuse, refuse_image};
+use image_loader::{Image, UpgradeFault, upgrade};
+use inner_interpreter::Output;
+use std::alloc::{AllocError, Global};
+
+/// The line that tells of an image which was upgraded.
+fn report(alloc: Global, image: &Image) -> Result<String, AllocError>
+    ensures { IfOk result (λ s. string_bytes s ≡ upgrade_line image.now) }
+{
+    let size = image.bytes().len();
+    let buffers = image.buffers();
+    format!(in alloc; "size {size} buffers {buffers}\n")
+}
+
+/// Prints why there is no image for so many buffers.
+fn refuse_upgrade<W: Output>(alloc: Global, fault: UpgradeFault, writer: &mut W) -> Ended
+    ensures too_large { W.failed writer.new ≡ false → fault ≡ UpgradeFault.TooLarge → PrintsRefusal (codes "image") (codes "TooLarge") result.status (W.sent writer.old) (W.sent writer.new) }
+    ensures out_of_memory { W.failed writer.new ≡ false → fault ≡ UpgradeFault.OutOfMemory → PrintsOutOfMemory result.status (W.sent writer.old) (W.sent writer.new) }
+    ensures cut { W.failed writer.old ≡ false → W.failed writer.new ≡ true → result.status ≡ 5 }
+    ensures status { 0 < result.status }
+    ensures file { IsNone result.file }
+{
+    match fault {
+        UpgradeFault::OutOfMemory => print_out_of_memory(writer),
+        UpgradeFault::TooLarge => refuse(alloc, "image", UpgradeFault::TooLarge, writer),
+    }
+}
+
+/// Prints `size S buffers N`, and ends with the file of an image.
+fn end_with_image<W: Output>(alloc: Global, image: &Image, writer: &mut W) -> Ended
+    ensures status { MatchOption result.file (0 < result.status) (λ _. result.status ≡ 0) }
+    ensures told { W.failed writer.new ≡ false → IfSome result.file (λ file. IsUpgraded file.items image.now (W.sent writer.old) (W.sent writer.new)) }
+    ensures wanting { W.failed writer.new ≡ false → IsNone result.file → PrintsOutOfMemory result.status (W.sent writer.old) (W.sent writer.new) }
+    ensures cut { W.failed writer.old ≡ false → W.failed writer.new ≡ true → (result.status ≡ 5) × IsNone result.file }
+{
+    let Ok(file) = image_loader::write(alloc, image) else {
+        return print_out_of_memory(writer);
+    };
+    let Ok(line) = report(alloc, image) else {
+        return print_out_of_memory(writer);
+    };
+    if is_printed(writer, line.as_str().as_bytes()) {
+        return end_with_file(file);
+    }
+    end_with(5)
+}
+
+/// Makes of an image's file the file of the same image for other block buffers, 2 to 16 of them, or for as many as it has,
+/// and prints `size S buffers N`. Status 0, with the bytes of the new file, which are of version 2. Without a file 1: the
+/// bytes are no image (`image: CAUSE` is printed), they reach beyond where so many buffers begin (`image: TooLarge`), or
+/// memory ran out; 5: the line can't be printed.
+pub fn do_upgrade<W: Output>(
+    alloc: Global,
+    image: &[u8],
+    buffers: Option<u16>,
+    writer: &mut W,
+) -> Ended
+    requires { IfSome buffers (λ count. IsCount count) }
+    ensures status { MatchOption result.file (0 < result.status) (λ _. result.status ≡ 0) }
+    // Where the bytes are an image's file, the new one is that of the same entry and bytes; where these reach too far, that
+    // is printed, and else that memory ran out.
+    ensures upgraded { W.failed writer.new ≡ false → (old : Contents) → IsFile image.now old → IfSome result.file (λ file. IsUpgraded file.items (for_buffers old (unwrap_or buffers old.buffers)) (W.sent writer.old) (W.sent writer.new)) }
+    ensures too_large { W.failed writer.new ≡ false → (old : Contents) → IsFile image.now old → limit_of (unwrap_or buffers old.buffers) < length old.bytes → PrintsRefusal (codes "image") (codes "TooLarge") result.status (W.sent writer.old) (W.sent writer.new) }
+    ensures wanting { W.failed writer.new ≡ false → IsNone result.file → (old : Contents) → IsFile image.now old → length old.bytes ≤ limit_of (unwrap_or buffers old.buffers) → PrintsOutOfMemory result.status (W.sent writer.old) (W.sent writer.new) }
+    // Where they are none, it is printed why.
+    ensures refused { W.failed writer.new ≡ false → (fault : ImageFault) → IsNoFile image.now fault → PrintsRefusal (codes "image") (image_cause fault) result.status (W.sent writer.old) (W.sent writer.new) }
+    ensures cut { W.failed writer.old ≡ false → W.failed writer.new ≡ true → (result.status ≡ 5) × IsNone result.file }
+{
+    let image = match image_loader::read(alloc, image) {
+        Ok(image) => image,
+        Err(fault) => return refuse_image(alloc, fault, writer),
+    };
+    let count = buffers.unwrap_or(image.buffers());
+    match upgrade(alloc, &image, count) {
+        Ok(image) => end_with_image(alloc, &image, writer),
+        Err(fault) => refuse_upgrade(alloc, fault, writer),
+    }
+}
