@@ -4,7 +4,7 @@ use crate::assertions::assert_equal;
 use block_buffers::{Buffers, Device, Entry, MemoryDevice};
 use image_loader::Image;
 use inner_interpreter::{Act, Answer, Event, Machine, Reading, Shown, Stop, Writing, run};
-use memory::Memory;
+use memory::{Memory, limit_of};
 use plain_rows::parts::{Outcome, Parts, Request};
 use primitives::row;
 use stacks::Stack;
@@ -33,8 +33,8 @@ pub fn image(
         patch(rt, bytes.as_mut_slice(), at, cell);
     }
     assert!(rt; bytes.len() >= 256);
-    assert!(rt; bytes.len() <= 61440);
-    Ok(Image::new(entry, bytes))
+    assert!(rt; bytes.len() <= usize::from(limit_of(4)));
+    Ok(Image::new(4, entry, bytes))
 }
 
 /// A machine that is loaded from `image`, with a device of `block_count` blocks.

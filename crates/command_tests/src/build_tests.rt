@@ -53,7 +53,7 @@ fn sources_are_refused(rt: HostRuntime) -> Result<(), Fail> {
     for (from, to, line) in cases {
         let mut device = device(rt.alloc())?;
         let mut writer = Writing::new(Vec::new(rt.alloc()));
-        let Ended { status, file } = do_build(rt.alloc(), &mut device, from, to, &mut writer);
+        let Ended { status, file } = do_build(rt.alloc(), &mut device, from, to, 4, &mut writer);
         assert_equal(&rt, status, 1);
         assert!(rt; file.is_none());
         assert_equal(&rt, writer.into_inner().as_slice(), line);
@@ -87,17 +87,17 @@ const WORDS: [u8; 34] = [
 /// The whole file of the image in screen 1: its header, the cells and the words.
 #[test]
 fn an_image_is_built(rt: HostRuntime) -> Result<(), Fail> {
-    let mut wanted = [0u8; 304];
-    wanted[..14].copy_from_slice(b"FTH83IMG\x01\x00\x1C\x01\x22\x01");
+    let mut wanted = [0u8; 306];
+    wanted[..16].copy_from_slice(b"FTH83IMG\x02\x00\x04\x00\x1C\x01\x22\x01");
     for (at, cell) in CELLS {
         assert!(rt; at < 255, "no cell at {at}");
-        wanted[14 + at] = (cell % 256) as u8;
-        wanted[15 + at] = (cell / 256) as u8;
+        wanted[16 + at] = (cell % 256) as u8;
+        wanted[17 + at] = (cell / 256) as u8;
     }
-    wanted[270..].copy_from_slice(&WORDS);
+    wanted[272..].copy_from_slice(&WORDS);
     let mut device = device(rt.alloc())?;
     let mut writer = Writing::new(Vec::new(rt.alloc()));
-    let Ended { status, file } = do_build(rt.alloc(), &mut device, 1, 1, &mut writer);
+    let Ended { status, file } = do_build(rt.alloc(), &mut device, 1, 1, 4, &mut writer);
     assert_equal(&rt, status, 0);
     assert_equal(
         &rt,
@@ -115,7 +115,7 @@ fn a_line_that_is_not_written(rt: HostRuntime) -> Result<(), Fail> {
     let mut device = device(rt.alloc())?;
     let mut room = [0; 18];
     let mut writer = Writing::new(room.as_mut_slice());
-    let Ended { status, file } = do_build(rt.alloc(), &mut device, 1, 1, &mut writer);
+    let Ended { status, file } = do_build(rt.alloc(), &mut device, 1, 1, 4, &mut writer);
     assert_equal(&rt, status, 5);
     assert!(rt; file.is_none());
     Ok(())
@@ -129,7 +129,7 @@ fn the_screen_of_the_newest_word(rt: HostRuntime) -> Result<(), Fail> {
     let second = ": GO 0 Z BYE ; : DUP 7 ; BOOT GO";
     let mut device = device_of(rt.alloc(), &[first.as_bytes(), second.as_bytes()])?;
     let mut writer = Writing::new(Vec::new(rt.alloc()));
-    let Ended { file, .. } = do_build(rt.alloc(), &mut device, 0, 1, &mut writer);
+    let Ended { file, .. } = do_build(rt.alloc(), &mut device, 0, 1, 4, &mut writer);
     let file = file.expect(&rt, "a file");
     for (name, line) in [
         ("Z", b"0\n"),
@@ -150,7 +150,7 @@ fn the_screen_of_the_newest_word(rt: HostRuntime) -> Result<(), Fail> {
 fn the_screen_of_a_word(rt: HostRuntime) -> Result<(), Fail> {
     let mut device = device(rt.alloc())?;
     let mut writer = Writing::new(Vec::new(rt.alloc()));
-    let Ended { file, .. } = do_build(rt.alloc(), &mut device, 0, 1, &mut writer);
+    let Ended { file, .. } = do_build(rt.alloc(), &mut device, 0, 1, 4, &mut writer);
     let file = file.expect(&rt, "a file");
     let cases = [
         ("GO", 0, b"1\n".as_slice()),

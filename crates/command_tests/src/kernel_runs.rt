@@ -70,7 +70,7 @@ fn kernel_image(alloc: Global) -> Result<Vec<u8>, Fail> {
         return Err("no block file".into());
     };
     let mut blocks = device(alloc, file.as_slice(), &[])?;
-    let Ended { file, .. } = do_build(alloc, &mut blocks, 1, 20, &mut printed);
+    let Ended { file, .. } = do_build(alloc, &mut blocks, 1, 20, 4, &mut printed);
     match file {
         Some(file) => Ok(file),
         None => Err("no image".into()),

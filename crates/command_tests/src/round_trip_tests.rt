@@ -21,7 +21,7 @@ fn built(alloc: Global, blocks: Vec<[u8; 1024]>, last: u16) -> Result<Image, Fai
     }
     let mut device = MemoryDevice::new(blocks, Vec::new(alloc));
     let mut writer = Writing::new(Vec::new(alloc));
-    let Ended { file, .. } = do_build(alloc, &mut device, 1, last, &mut writer);
+    let Ended { file, .. } = do_build(alloc, &mut device, 1, last, 4, &mut writer);
     let Some(file) = file else {
         return Err("no image".into());
     };

@@ -26,18 +26,18 @@ pub fn built(alloc: Global, source: &str) -> Result<Vec<u8>, Fail> {
     }
     let mut device = MemoryDevice::new(blocks, Vec::new(alloc));
     let mut writer = Writing::new(Vec::new(alloc));
-    let Ended { file, .. } = do_build(alloc, &mut device, 1, 1, &mut writer);
+    let Ended { file, .. } = do_build(alloc, &mut device, 1, 1, 4, &mut writer);
     match file {
         Some(file) => Ok(file),
         None => Err("no image".into()),
     }
 }
 
-/// A cell of the image in a file, which has 14 bytes before memory.
+/// A cell of the image in a file, which has 16 bytes before memory.
 fn set_cell(file: &mut Vec<u8>, at: usize, cell: u16) {
     for (to, from) in file
         .iter_mut()
-        .skip(at.saturating_add(14))
+        .skip(at.saturating_add(16))
         .zip([cell % 256, cell / 256])
     {
         *to = from as u8;

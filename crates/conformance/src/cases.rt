@@ -8,7 +8,7 @@ use anyhow::{Context, Result, bail};
 use block_buffers::MemoryDevice;
 use image_loader::Image;
 use inner_interpreter::{Machine, Reading, Writing, run};
-use memory::Memory;
+use memory::{Memory, limit_of};
 use primitives::row;
 use std::alloc::Global;
 
@@ -365,10 +365,10 @@ fn load(alloc: Global, state: &State<'_>) -> Result<Machine> {
         .context("no front")?;
     let mut bytes = Vec::new(alloc);
     bytes.extend_from_slice(front)?;
-    if bytes.len() < 256 || bytes.len() > 61440 {
+    if bytes.len() < 256 || bytes.len() > usize::from(limit_of(4)) {
         bail!("no image");
     }
-    let image = Image::new(state.entry, bytes);
+    let image = Image::new(4, state.entry, bytes);
     Machine::load(alloc, &image, state.parts.block_count)
         .ok()
         .context("out of memory")

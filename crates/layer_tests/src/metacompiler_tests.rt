@@ -77,7 +77,7 @@ fn answer(
     wanted: &str,
 ) -> Result<String, Fail> {
     let mut device = device(alloc, screens)?;
-    match build(alloc, &mut device, from, to) {
+    match build(alloc, &mut device, from, to, 4) {
         Ok(image) => shown(alloc, &image, wanted),
         Err(fault) => Ok(format!(in alloc; "{fault}")?),
     }
@@ -170,7 +170,7 @@ fn each_byte(rt: HostRuntime) -> Result<(), Fail> {
     }
     wanted[256..].copy_from_slice(behind);
     let mut device = device(rt.alloc(), "5 PRIM EXIT 23 PRIM BYE : GO BYE ; BOOT GO")?;
-    let image = build(rt.alloc(), &mut device, 1, 1)?;
+    let image = build(rt.alloc(), &mut device, 1, 1, 4)?;
     assert_equal(&rt, image.entry(), 284);
     assert_equal(&rt, image.bytes(), wanted.as_slice());
     Ok(())
