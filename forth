@@ -8,6 +8,7 @@ kept=$here/workbench/out
 saved=
 child=
 killed=
+unproved=
 
 say() {
   echo "forth: $1" >&2
@@ -17,6 +18,7 @@ usage() {
   cat >&2 << 'END'
 usage: ./forth [BLOCKS]                      works on the file BLOCKS, forth.blk where none is named, and makes it where it isn't there
        ./forth --kernel-of SOURCES [BLOCKS]  does so with a kernel built of screens 1 to 20 of SOURCES
+       ./forth --unproved [BLOCKS]           does so by a slow program of which nothing is proved, ready in a minute
 A name that begins with - is written as ./-NAME.
 END
   exit "$1"
@@ -32,7 +34,7 @@ refuse() {
 is_made() {
   local from
   [ -f "$1" ] || return 1
-  for from in "$here/forth83" "$here/crates/forth83/out/forth83" "$here"/workbench/make "$here"/workbench/*.txt; do
+  for from in "$here/forth83" "$here/crates/forth83/out/forth83" "$here"/workbench/{make,screens.awk,*.txt}; do
     if [ "$from" -nt "$1" ]; then
       return 1
     fi
@@ -72,15 +74,27 @@ make_images() {
   mv -f -- "$2/plain.new" "$2/plain.img" && mv -f -- "$2/tools.new" "$2/tools.img"
 }
 
-# The images of the program's own kernel, kept beside the tools' texts, or in ROOM where nothing can be kept there.
+# The program as `rt try` makes it, kept beside the tools' images, or in ROOM where nothing can be kept there.
+find_unproved() {
+  forth83=$kept/unproved
+  if [ -x "$forth83" ] && [ -z "$(find "$here/crates.txt" "$here"/crates/*/src -newer "$forth83" -type f -print -quit 2> /dev/null)" ]; then
+    return
+  fi
+  mkdir -p "$kept" 2> /dev/null && [ -w "$kept" ] || forth83=$room/unproved
+  say "making the program without its proofs takes a minute or so"
+  "$here/workbench/unproved" "$forth83" || exit 1
+}
+
+# The images of the program's own kernel, kept beside the tools' texts, or in ROOM where nothing can be kept there. What an
+# unproved program makes isn't kept.
 find_images() {
   images=$kept
-  if is_made "$kept/plain.img" && is_made "$kept/tools.img"; then
+  if [ -z "$unproved" ] && is_made "$kept/plain.img" && is_made "$kept/tools.img"; then
     return
   fi
   "$forth83" kernel "$room/kernel.blk" > "$room/said" || refuse "the program can't make its kernel: $(cat "$room/said")"
   make_images "$room/kernel.blk" "$room" || exit 1
-  if mkdir -p "$kept" 2> /dev/null && [ -w "$kept" ]; then
+  if [ -z "$unproved" ] && mkdir -p "$kept" 2> /dev/null && [ -w "$kept" ]; then
     cp -- "$room/plain.img" "$kept/plain.$$" && mv -f -- "$kept/plain.$$" "$kept/plain.img" &&
       cp -- "$room/tools.img" "$kept/tools.$$" && mv -f -- "$kept/tools.$$" "$kept/tools.img" && return
   fi
@@ -165,6 +179,7 @@ run_at_terminal() {
 
 case ${1:-} in
   -h | --help) usage 0 ;;
+  --unproved) unproved=1 sources=; shift ;;
   --kernel-of) [ $# -ge 2 ] && [ $# -le 3 ] || usage 2; sources=$2; shift 2; set -- "${1:-$sources}" ;;
   *) sources= ;;
 esac
@@ -172,9 +187,12 @@ esac
 case "${1:-} $sources" in -* | *' -'*) usage 2 ;; esac
 blocks=${1-forth.blk}
 [ -n "$blocks" ] || usage 2
-"$forth83" --version > /dev/null || exit 1
 room=$(mktemp -d) || exit 1
 trap leave EXIT
+if [ -n "$unproved" ]; then
+  find_unproved
+fi
+"$forth83" --version > /dev/null || exit 1
 if [ -n "$sources" ]; then
   [ -f "$sources" ] && [ -r "$sources" ] || refuse "$sources isn't there, or can't be read"
   images=$room
@@ -183,6 +201,9 @@ else
   find_images
 fi
 open_blocks
+if [ -n "$unproved" ]; then
+  say "UNPROVED: nothing is proved of this program, and it is slow; ./forth without --unproved proves and builds it."
+fi
 status=0
 if [ -t 0 ] && [ -t 1 ]; then
   run_at_terminal

@@ -1,0 +1,111 @@
+"""Runs the sessions of a page by the built program, and tells where one shows another thing than the page says.
+
+They stand between lines of three backquotes, and are done one after another in a folder of their own, which has the
+repository's `forth`, `workbench` and `examples`, and the program as `forth83`.
+
+- A line behind `$` is done by the shell. `$ ./forth [BLOCKS]` starts the Forth with the workbench's tools.
+- A line behind `>` is typed there. One behind `>>` is typed, too, as the answer to a question; behind `>>>` stand keys
+  without a return.
+- What is shown stands below. Places that a terminal is told (`ESC [`) and blanks at line ends are left out.
+"""
+import pathlib
+import re
+import shutil
+import subprocess
+import sys
+import tempfile
+
+ROOT = pathlib.Path(__file__).resolve().parent.parent
+
+
+class Step:
+    """What is typed, at the shell or not, what is typed behind it, and the lines that are shown."""
+
+    def __init__(self, typed, at_shell):
+        self.typed, self.at_shell = typed, at_shell
+        self.answers, self.shown = "", []
+
+
+def steps_of(text):
+    steps = []
+    for block in re.findall(r"^```\n(.*?)^```$", text, re.M | re.S):
+        for line in block.splitlines():
+            sign, _, rest = line.partition(" ")
+            if sign in ("$", ">"):
+                steps.append(Step(rest, sign == "$"))
+            elif sign in (">>", ">>>"):
+                steps[-1].answers += rest + ("\n" if sign == ">>" else "")
+            else:
+                steps[-1].shown.append(line)
+    return steps
+
+
+def behind(text):
+    """The lines that are shown behind what was typed, without the blanks that part them from it."""
+    first, *rest = [line.rstrip() for line in text.removesuffix("\n").split("\n")]
+    return [first.lstrip(), *rest] if first else rest
+
+
+def parted(steps, output):
+    """What was shown behind each line that was typed: each begins a line of the output, and has a blank behind it."""
+    at, shown = 0, []
+    for step, following in zip(steps, steps[1:] + [None]):
+        at += len(step.typed)
+        end = output.find(f"\n{following.typed} ", at) if following else len(output)
+        end = len(output) if end < 0 else end
+        shown.append(behind(output[at:end]))
+        at = end + 1
+    return shown
+
+
+class Folder:
+    """Where the sessions are done."""
+
+    def __init__(self, room, program):
+        self.room = room
+        shutil.copy(ROOT / "forth", room)
+        for name in ("workbench", "examples"):
+            shutil.copytree(ROOT / name, f"{room}/{name}", ignore=shutil.ignore_patterns("out"))
+        pathlib.Path(room, "forth83").symlink_to(program)
+        self.run(["./forth83", "kernel", "kernel"])
+        self.run(["workbench/make", "./forth83", "kernel", "tools"])
+
+    def run(self, words, typed=""):
+        ends = {"stdout": subprocess.PIPE, "stderr": subprocess.STDOUT}
+        return subprocess.run(words, cwd=self.room, input=typed, text=True, check=False, **ends).stdout
+
+    def session(self, command, steps):
+        blocks = (command.split() + ["forth.blk"])[1]
+        if not pathlib.Path(self.room, blocks).exists():
+            shutil.copy(f"{self.room}/kernel", f"{self.room}/{blocks}")
+        typed = "".join(f"{step.typed}\n{step.answers}" for step in steps)
+        output = self.run(["./forth83", "run", "tools", blocks], typed)
+        return parted(steps, re.sub(r"\x1b\[[0-9;]*[A-Za-z]", "", output))
+
+
+def differs(page, step, got):
+    got = [line.rstrip() for line in got]
+    if step.shown == got:
+        return 0
+    print(f"{page}: {step.typed}\n  wanted {step.shown}\n  got    {got}", file=sys.stderr)
+    return 1
+
+
+def check(page, program, at_least):
+    """Returns 1 where a session differs, or where the page has fewer lines to type than that."""
+    steps, wrong = steps_of((ROOT / page).read_text(encoding="utf-8")), 0
+    if len(steps) < at_least or not steps[0].at_shell:
+        print(f"{page}: {len(steps)} lines to type were found, the first of them at no shell", file=sys.stderr)
+        return 1
+    with tempfile.TemporaryDirectory() as room:
+        folder = Folder(room, pathlib.Path(program).resolve())
+        while steps:
+            step, inside = steps.pop(0), []
+            while steps and not steps[0].at_shell:
+                inside.append(steps.pop(0))
+            if not re.fullmatch(r"\./forth( \S+)?", step.typed):
+                wrong |= differs(page, step, folder.run(["bash", "-c", step.typed]).splitlines())
+                continue
+            for one, got in zip(inside, folder.session(step.typed, inside)):
+                wrong |= differs(page, one, got)
+    return wrong
