@@ -2,11 +2,12 @@
 
 use crate::assertions::assert_equal;
 use crate::fixtures::{
-    Course, assert_cells, assert_entries, assert_row, assert_ticks, device, follow, machine, none,
-    output_over, parts,
+    Course, assert_cells, assert_entries, assert_row, assert_ticks, device, follow, image, machine,
+    none, output_over, parts,
 };
 use block_buffers::Device;
 use block_buffers::laws::buffers_from;
+use image_loader::upgrade;
 use inner_interpreter::{Answer, Cause, Event, Machine, Refused, Shown, Stop};
 use plain_rows::parts::{Outcome, Parts, Request};
 use primitives::row;
@@ -68,6 +69,49 @@ fn an_updated_victim_is_written_first(rt: HostRuntime) -> Result<(), Fail> {
     assert_equal(&rt, machine.halted(), Some(Cause::Bye));
     assert_cells(&rt, machine.values(), &[61440]);
     assert_entries(&rt, machine.buffers(), FIVE_ENTRIES);
+    Ok(())
+}
+
+/// The same image for other numbers of buffers: what is asked, and the address of block 5 that is left.
+#[test]
+fn other_numbers_of_buffers(rt: HostRuntime) -> Result<(), Fail> {
+    let read = |block| Request::Read { block };
+    let write = |block| Request::Write { block };
+    let two = [
+        read(1),
+        read(2),
+        write(1),
+        read(3),
+        write(2),
+        read(4),
+        write(3),
+        read(5),
+    ];
+    let three = [
+        read(1),
+        read(2),
+        read(3),
+        write(1),
+        read(4),
+        write(2),
+        read(5),
+    ];
+    let all = [read(1), read(2), read(3), read(4), read(5)];
+    let numbers: [(u16, &[Request], u16); 4] = [
+        (2, &two, 63488),
+        (3, &three, 63488),
+        (5, &all, 64512),
+        (16, &all, 53248),
+    ];
+    for (count, requests, address) in numbers {
+        assert!(rt; 2 <= count);
+        assert!(rt; count <= 16);
+        let image = upgrade(rt.alloc(), &image(&rt, 266, &FIVE[..60], &[])?, count)?;
+        let mut machine = Machine::load(rt.alloc(), &image, 6)?;
+        let course = follow(rt.alloc(), &mut machine, &mut device(&rt, 6, &[])?)?;
+        assert_equal(&rt, (count, course.requests.as_slice()), (count, requests));
+        assert_cells(&rt, machine.values(), &[address]);
+    }
     Ok(())
 }
 

@@ -238,7 +238,7 @@ fn serve(machine: &mut Machine, device: &mut MemoryDevice, request: Request) -> 
 /// The buffers have these slots, blocks and marks, the most recently referenced first.
 pub fn assert_entries(rt: &impl Abort, buffers: &Buffers, wanted: [(usize, Option<u16>, bool); 4]) {
     for (place, &(slot, block, updated)) in wanted.iter().enumerate() {
-        if place < 4 {
+        if place < usize::from(buffers.count()) {
             let entry = Entry {
                 slot,
                 block,

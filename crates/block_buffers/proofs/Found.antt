@@ -125,9 +125,9 @@ latest_end u xs k h = rw (drop_of_length-le xs h) refl
 pub ruleset finding = (latest_end, latest_here, latest_past)
 
 -- a buffer's slot is below the number of buffers
-victim_slot : (b : List Entry) → AreBuffers b → (victim b).slot < length b
+pub victim_small : (b : List Entry) → AreBuffers b → (victim b).slot < length b
 unfolding entry_at
-victim_slot b h = h.slots (length b - 1) (unassigned_slot 0) (last_place b h)
+victim_small b h = h.slots (length b - 1) (unassigned_slot 0) (last_place b h)
 
 pub held_small : (u : ℕ) (b : List Entry) → AreBuffers b → holds b u ≡ true → slot_of b u < length b
 held_small u b h k =
@@ -139,7 +139,7 @@ slot_small u b h = by (holds b u) refl
   where
     by : (m : Bool) → holds b u ≡ m → slot_of b u < length b
     by true k = held_small u b h k
-    by false k = rw (not_held u b k) (victim_slot b h)
+    by false k = rw (not_held u b k) (victim_small b h)
 
 -- so it is below the number of slots, of which there are 2 to 16
 pub some_slots : (xs : List Slot) → AreBuffers (recent xs) → 0 < length xs
@@ -155,7 +155,7 @@ last_recent xs d h =
     ∙ ap (λ n. get_or (recent xs) (n - 1) (unassigned_slot 0)) (sym (length-recent xs))
 
 pub victim_among : (xs : List Slot) → AreBuffers (recent xs) → (victim (recent xs)).slot < length xs
-victim_among xs h = omega (arith, victim_slot (recent xs) h, length-recent xs)
+victim_among xs h = omega (arith, victim_small (recent xs) h, length-recent xs)
 
 pub slot_among : (xs : List Slot) (u : ℕ) → AreBuffers (recent xs) → slot_of (recent xs) u < length xs
 slot_among xs u h = omega (arith, slot_small u (recent xs) h, length-recent xs)

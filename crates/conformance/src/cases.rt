@@ -354,9 +354,6 @@ fn first_difference(got: &Memory, want: &Memory) -> Option<u16> {
 /// The machine of the image that a state's memory is.
 fn load(alloc: Global, state: &State<'_>) -> Result<Machine> {
     let size = usize::from(state.size);
-    if !(256..=61440).contains(&size) {
-        bail!("no image of {size} bytes");
-    }
     let front = state
         .parts
         .memory
@@ -365,10 +362,11 @@ fn load(alloc: Global, state: &State<'_>) -> Result<Machine> {
         .context("no front")?;
     let mut bytes = Vec::new(alloc);
     bytes.extend_from_slice(front)?;
-    if bytes.len() < 256 || bytes.len() > usize::from(limit_of(4)) {
-        bail!("no image");
+    let buffers = state.parts.buffers.count();
+    if bytes.len() < 256 || bytes.len() > usize::from(limit_of(buffers)) {
+        bail!("no image of {size} bytes");
     }
-    let image = Image::new(4, state.entry, bytes);
+    let image = Image::new(buffers, state.entry, bytes);
     Machine::load(alloc, &image, state.parts.block_count)
         .ok()
         .context("out of memory")

@@ -71,6 +71,9 @@ fields_read count entry size v few fits is_size =
 pub small : (image : Contents) → IsImage image → length image.bytes < 65536
 small image h = omega (arith, h.size.1, limit_most image.buffers h.buffers)
 
+pub most_bytes : (image : Contents) → IsImage image → length image.bytes ≤ 63488
+most_bytes image h = omega (arith, h.size.1, limit_most image.buffers h.buffers)
+
 pub whole_reads : (image : Contents) → IsImage image → tail_of image.buffers (tail image) ≡ Ok image
 whole_reads image h =
     let even : nat_lt (length image.bytes) (length image.bytes) ≡ false = le-ltb _ _ (omega arith) in

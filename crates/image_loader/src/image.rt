@@ -1,7 +1,8 @@
 //! What a machine is loaded from.
 
-ghost use Rattle.std.specs.Prelude.{◌≡◌, ◌≤◌, vec_len};
+ghost use Rattle.std.specs.Prelude.{◌≡◌, ◌≤◌, length, vec_len};
 ghost use Rattle.memory.specs.Bytes.{IsCount, limit_of};
+ghost use Rattle.memory.specs.declared.limit.TheConstants.{GREATEST_LIMIT};
 ghost use Rattle.image_loader.specs.Files.{IsImage};
 
 use std::marker::Model;
@@ -62,6 +63,7 @@ impl Image {
     pub fn bytes(&self) -> &[u8]
         ensures bytes { result.now ≡ self.now.bytes }
         ensures image { IsImage self.now }
+        ensures most { length result.now ≤ GREATEST_LIMIT }
     {
         self.bytes.as_slice()
     }

@@ -16,8 +16,9 @@ fn entry(slot: usize, block: Option<u16>, updated: bool) -> Entry {
 }
 
 fn assert_entries(rt: &impl Abort, buffers: &Buffers, wanted: [Entry; 4]) {
+    assert_equal(rt, buffers.count(), 4);
     for (place, &entry) in wanted.iter().enumerate() {
-        if place < 4 {
+        if place < usize::from(buffers.count()) {
             assert_equal(rt, (place, buffers.entry(place)), (place, entry));
         }
     }
@@ -77,6 +78,42 @@ fn stamps_that_run_out(rt: HostRuntime) {
         entry(2, Some(3), false),
     ];
     assert_entries(&rt, &buffers, wanted);
+}
+
+/// Blocks 1 to 16 fill the slots 0 to 15. The lowest slot is written first; a reference to the victim makes block 2 the next.
+#[test]
+fn sixteen_buffers(rt: HostRuntime) {
+    let mut buffers = Buffers::new(16);
+    for block in 1..17 {
+        buffers.assign(block);
+        buffers.mark_front();
+    }
+    assert_equal(&rt, buffers.victim(), entry(0, Some(1), true));
+    for slot in 0..16 {
+        assert_equal(
+            &rt,
+            buffers.first_dirty(),
+            Some(entry(slot, Some(slot as u16 + 1), true)),
+        );
+        clean(&mut buffers, slot);
+    }
+    assert_equal(&rt, buffers.first_dirty(), None);
+    assert!(rt; buffers.find(1).is_some());
+    buffers.touch(1);
+    assert_equal(&rt, buffers.victim(), entry(1, Some(2), false));
+    assert_equal(&rt, (buffers.limit(), buffers.find(16)), (49152, Some(15)));
+}
+
+/// Two buffers, whose stamps run out: block 3 gets the slot of block 1.
+#[test]
+fn two_buffers(rt: HostRuntime) {
+    let mut buffers = buffers_from(2, u64::MAX - 1);
+    for block in 1..4 {
+        buffers.assign(block);
+    }
+    assert_equal(&rt, buffers.victim(), entry(1, Some(2), false));
+    assert_equal(&rt, (buffers.find(3), buffers.find(1)), (Some(0), None));
+    assert_equal(&rt, (buffers.count(), buffers.limit()), (2, 63488));
 }
 
 #[test]
