@@ -1,0 +1,4 @@
+pub mod Bytes
+pub mod Screens
+pub mod Reading
+pub mod Writing
