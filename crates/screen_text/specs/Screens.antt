@@ -1,6 +1,6 @@
 -- Screens, and the text of them.
-use Rattle.std.specs.Prelude.{◌≡◌, ◌<◌, ℕ, zero, suc, ◌==◌, List, [], ◌∷◌, ◌++◌, length, take, drop, Bool, true, false, codes, decimal, flat_map, if◌then◌else◌}
-use Rattle.std.specs.List.{list_all}
+use Rattle.std.specs.Prelude.{All, eqb, map, ◌≡◌, ◌<◌, ℕ, zero, suc, ◌==◌, List, [], ◌∷◌, ◌++◌, length, take, drop, Bool, true, false, codes, decimal, flat_map, if◌then◌else◌}
+use Rattle.std.specs.List.{list_all, IsDistinct}
 use Rattle.screen_text.specs.Bytes.{is_blank, is_text, trimmed}
 
 -- a screen: its number and its 1,024 bytes
@@ -38,8 +38,24 @@ screen_text number bytes = heading number ++ (10 ∷ flat_map line_text (screen_
 unfoldable pub text_of : List Screen → List ℕ
 text_of screens = flat_map (λ s. screen_text s.number s.bytes) screens
 
+-- the screens of these numbers, with 1,024 bytes for each
+unfoldable pub screens_of : (numbers bytes : List ℕ) → List Screen
+screens_of [] bytes = []
+screens_of (n ∷ numbers) bytes = record { number = n; bytes = take 1024 bytes } ∷ screens_of numbers (drop 1024 bytes)
+
+unfoldable pub numbers_of : List Screen → List ℕ
+numbers_of screens = map (λ s. s.number) screens
+
+unfoldable pub bytes_of : List Screen → List ℕ
+bytes_of screens = flat_map (λ s. s.bytes) screens
+
 -- a screen that a text can carry
 pub record IsWritable (s : Screen) : Type 0 where
   pub number : s.number < 65536
   pub size : length s.bytes ≡ 1024
   pub text : list_all is_text s.bytes ≡ true
+
+-- screens that a text can carry: no number stands twice
+pub record AreWritable (screens : List Screen) : Type 0 where
+  pub each : All IsWritable screens
+  pub distinct : IsDistinct eqb (numbers_of screens)

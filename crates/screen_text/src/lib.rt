@@ -4,6 +4,7 @@
 mod bytes;
 mod cause;
 mod headings;
+pub mod laws;
 mod printing;
 mod reading;
 
