@@ -41,6 +41,7 @@ pub record IsReturned (numbers bytes : List ℕ) : Type 0 where
   pub writable : AreWritable (screens_of numbers bytes)
   pub numbers_same : numbers_of (screens_of numbers bytes) ≡ numbers
   pub bytes_same : bytes_of (screens_of numbers bytes) ≡ bytes
+  pub size : length bytes ≡ 1024 * length numbers
 
 good-returned : (s : State) → IsGood s → IsReturned s.numbers (whole s)
 unfolding whole
@@ -51,6 +52,7 @@ good-returned s h =
       writable = record { each = writable-cut s.numbers (whole s) h.low size text; distinct = subst (IsDistinct eqb) (sym (numbers-cut s.numbers (whole s))) h.distinct };
       numbers_same = numbers-cut s.numbers (whole s);
       bytes_same = bytes-cut s.numbers (whole s) size;
+      size = size;
     }
 
 returned-by : (r : Result State TextFault) → IsGoodText r → (numbers bytes : List ℕ) → IsRead r numbers bytes → IsReturned numbers bytes
@@ -67,3 +69,7 @@ same_again text numbers bytes h =
     let r : IsReturned numbers bytes = returned text numbers bytes h in
     let again : IsRead (read (text_of (screens_of numbers bytes))) (numbers_of (screens_of numbers bytes)) (bytes_of (screens_of numbers bytes)) = reread (screens_of numbers bytes) r.writable in
     subst (λ bs. IsRead (read (text_of (screens_of numbers bytes))) numbers bs) r.bytes_same (subst (λ ns. IsRead (read (text_of (screens_of numbers bytes))) ns (bytes_of (screens_of numbers bytes))) r.numbers_same again)
+
+-- there are 1,024 bytes for each number
+pub read_size : (text : List ℕ) (s : State) (numbers bytes : List ℕ) → read text ≡ Ok s → numbers ≡ s.numbers → bytes ≡ whole s → length bytes ≡ 1024 * length numbers
+read_size text s numbers bytes e n b = (returned text numbers bytes (rw e (n, b))).size

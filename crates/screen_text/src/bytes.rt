@@ -1,10 +1,13 @@
 //! Blanks, tabs, and bytes that are text.
 
-ghost use Rattle.std.specs.Prelude.{◌≡◌, ◌||◌, ◌==◌, ◌∷◌, [], List, ℕ, length, IfOk, OnOk, ◌++◌};
+ghost use Rattle.std.specs.Prelude.{◌≡◌, ◌||◌, ◌==◌, ◌∷◌, [], List, ℕ, length, IfOk, OnOk, ◌++◌, take};
 ghost use Rattle.std.specs.List.{list_all};
 ghost use Rattle.screen_text.specs.Bytes.{blanks, is_blank, is_text, padded, spread, trimmed};
 
 use std::alloc::{AllocError, Global};
+
+/// How many bytes a line of a screen has.
+pub const LINE: usize = 64;
 
 /// Whether a text can carry this byte.
 #[tactic(auto, unfolding(crate::specs::Bytes::is_text))]
@@ -42,6 +45,18 @@ pub fn trimmed(line: &[u8]) -> &[u8]
         end -= 1;
     }
     &[]
+}
+
+/// The first line of a screen: 64 bytes, or all where there are fewer.
+#[tactic(auto, using(crate::proofs::Lines::taken_front, crate::proofs::Lines::taken_all))]
+pub fn first_line(bytes: &[u8]) -> &[u8]
+    ensures { result.now ≡ take 64 bytes.now }
+{
+    if bytes.len() > LINE {
+        &bytes[..LINE]
+    } else {
+        bytes
+    }
 }
 
 /// Fills bytes with blanks, up to this length.

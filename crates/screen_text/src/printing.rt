@@ -1,18 +1,15 @@
 //! Screens written as text.
 
-ghost use Rattle.std.specs.Prelude.{◌≡◌, ◌⊎◌, ◌<◌, ◌/◌, ◌++◌, true, false, length, codes, flat_map, IfOk, MatchResult, OnOk, take};
+ghost use Rattle.std.specs.Prelude.{◌≡◌, ◌⊎◌, ◌<◌, ◌/◌, ◌++◌, true, false, length, codes, flat_map, IfOk, MatchResult, OnOk};
 ghost use Rattle.std.specs.List.{list_all};
 ghost use Rattle.screen_text.specs.Bytes.{is_text};
 ghost use Rattle.screen_text.specs.Screens.{line_text, screen_lines, screen_text};
 ghost use Rattle.screen_text.specs.Writing.{IsUnwritten, first_bad};
 
-use crate::bytes::{is_blank, is_text, trimmed};
+use crate::bytes::{LINE, first_line, is_blank, is_text, trimmed};
 use crate::cause::Unwritten;
 use crate::headings::{behind, has_mark, heading};
 use std::alloc::{AllocError, Global};
-
-/// How many bytes a line of a screen has.
-const LINE: usize = 64;
 
 /// Adds a line of a screen.
 #[tactic(auto, unfolding(crate::specs::Screens::line_text, crate::specs::Screens::marked))]
@@ -25,18 +22,6 @@ fn push_line(text: &mut Vec<u8>, line: &[u8]) -> Result<(), AllocError>
     text.extend_from_slice(line)?;
     text.push(b'\n')?;
     Ok(())
-}
-
-/// The first 64 bytes.
-#[tactic(auto, using(crate::proofs::Lines::taken_front, crate::proofs::Lines::taken_all))]
-fn first_line(bytes: &[u8]) -> &[u8]
-    ensures { result.now ≡ take 64 bytes.now }
-{
-    if bytes.len() > LINE {
-        &bytes[..LINE]
-    } else {
-        bytes
-    }
 }
 
 /// Adds the lines of a screen, up to the last that isn't blank.

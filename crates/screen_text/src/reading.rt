@@ -1,11 +1,11 @@
 //! Texts read as screens.
 
-ghost use Rattle.std.specs.Prelude.{◌≡◌, ◌==◌, ◌||◌, ◌++◌, length, Ok, Err, IfErr, IfOk, OnOk, map};
+ghost use Rattle.std.specs.Prelude.{◌≡◌, ◌==◌, ◌||◌, ◌++◌, ◌*◌, length, Ok, Err, IfErr, IfOk, OnOk, map};
 ghost use Rattle.std.specs.List.{list_any};
 ghost use Rattle.screen_text.specs.Reading.{Refuses, RefusesText, IsRead, nothing, read, text_lines, whole, with_line, with_plain, with_screen, with_text, with_texts};
 ghost use Rattle.screen_text.specs.Bytes.{padded};
 
-use crate::bytes::{is_line, pad, spread, trimmed};
+use crate::bytes::{LINE, is_line, pad, spread, trimmed};
 use crate::cause::{Cause, TextFault};
 use crate::headings::{behind, has_mark, named};
 use bstr::ByteSlice;
@@ -14,9 +14,6 @@ use std::marker::Model;
 
 /// How many bytes a screen has.
 const SCREEN: usize = 1024;
-
-/// How many bytes a line of a screen has.
-const LINE: usize = 64;
 
 /// The last screen that a block file can have.
 const LAST_SCREEN: usize = 65535;
@@ -250,6 +247,7 @@ fn read(alloc: Global, text: &[u8]) -> Result<Reading, TextFault>
 /// Reads a text as screens. An error: the first line at fault and what is wrong with it, or memory ran out.
 pub fn read_text(alloc: Global, text: &[u8]) -> Result<Screens, TextFault>
     ensures screens { IfOk result (λ s. IsRead (read text.now) s.numbers.items s.bytes.items) }
+    ensures size { IfOk result (λ s. length s.bytes.items ≡ 1024 * length s.numbers.items) }
     ensures refused { IfErr result (RefusesText (read text.now)) }
 {
     let reading = match read(alloc, text) {
