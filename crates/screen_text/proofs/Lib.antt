@@ -1,0 +1,11 @@
+pub mod Blanks
+pub mod Lines
+pub mod Splitting
+pub mod Numbers
+pub mod Tidy
+pub mod Rereading
+pub mod Gathering
+pub mod Kept
+pub mod Good
+pub mod Returning
+pub mod Placing

@@ -1,0 +1,89 @@
+use Rattle.std.proofs.Common.{◌≡◌, ◌∙◌, ℕ, zero, suc, ◌+◌, ◌-◌, ◌*◌, ◌<◌, ◌≤◌, List, [], ◌∷◌, ◌++◌, length, take, drop, map, flat_map, get_or, Bool, true, false, Ok, Err, Result, append_assoc, append-nil, length-take-le, drop-cons, add-one, inl, inr, Bor, arith, refl, ap, sym}
+use Rattle.std.proofs.lemmas.List.{drop-drop, drop_all, take_all}
+use Rattle.std.specs.List.{list_all, prefix_len}
+use Rattle.screen_text.specs.declared.cause.Cause.{Cause}
+use Rattle.screen_text.specs.declared.cause.TextFault.{TextFault}
+use Rattle.screen_text.specs.Bytes.{is_blank, is_text, trimmed}
+use Rattle.screen_text.specs.Screens.{line_text, screen_lines}
+use Rattle.screen_text.specs.Reading.{State, Refuses, RefusesText, with_text, with_texts, then_read}
+use Rattle.screen_text.specs.Writing.{first_bad}
+
+-- where the rest of a screen is blank no line comes any more, and else the next
+pub lines_end : (n : ℕ) (bytes : List ℕ) → is_blank bytes ≡ true → flat_map line_text (screen_lines n bytes) ≡ []
+unfolding screen_lines
+lines_end zero bytes e = refl
+lines_end (suc n) bytes e = rw e refl
+
+pub lines_more : (n : ℕ) (bytes : List ℕ) → is_blank bytes ≡ false →
+    flat_map line_text (screen_lines (suc n) bytes) ≡ line_text (trimmed (take 64 bytes)) ++ flat_map line_text (screen_lines n (drop 64 bytes))
+unfolding screen_lines
+lines_more n bytes e = rw e refl
+
+-- a line that is taken, and one that is refused
+pub texts_more : (line : ℕ) (s t : State) (text : List ℕ) (texts : List (List ℕ)) → with_text s text ≡ Ok t → with_texts line s (text ∷ texts) ≡ with_texts (line + 1) t texts
+unfolding with_texts
+texts_more line s t text texts e = ap (λ r. then_read line r (λ u. with_texts (line + 1) u texts)) e
+
+pub texts_end : (line : ℕ) (s : State) (text : List ℕ) (texts : List (List ℕ)) (cause : Cause) → with_text s text ≡ Err cause → with_texts line s (text ∷ texts) ≡ Err (record { line = line; cause = cause })
+unfolding with_texts
+texts_end line s text texts cause e = ap (λ r. then_read line r (λ u. with_texts (line + 1) u texts)) e
+
+by_first : (b : ℕ) (bytes : List ℕ) (t : Bool) → is_text b ≡ t → (length bytes ≤ prefix_len is_text bytes → list_all is_text bytes ≡ true) → length (b ∷ bytes) ≤ prefix_len is_text (b ∷ bytes) → list_all is_text (b ∷ bytes) ≡ true
+by_first b bytes true e more within = rw e (more (let w : length (b ∷ bytes) ≤ 1 + prefix_len is_text bytes = rw e at within in omega arith))
+by_first b bytes false e more within = absurd (let w : length (b ∷ bytes) ≤ 0 = rw e at within in omega arith)
+
+-- all is text where no byte comes before the end that isn't
+pub all_text : (bytes : List ℕ) → length bytes ≤ first_bad bytes → list_all is_text bytes ≡ true
+unfolding first_bad
+all_text [] within = refl
+all_text (b ∷ bytes) within = by_first b bytes (is_text b) refl (all_text bytes) within
+
+pub taken_front : (bytes : List ℕ) → 64 < length bytes → 64 ≡ length (take 64 bytes)
+taken_front bytes long = sym (length-take-le 64 bytes (omega arith))
+
+pub taken_all : (bytes : List ℕ) → length bytes ≤ 64 → bytes ≡ take 64 bytes
+taken_all bytes short = sym (take_all 64 bytes short)
+
+-- the lines of a screen, of which `row` are added to what was there
+pub rows_end : (text all : List ℕ) (n : ℕ) (bytes : List ℕ) → text ++ flat_map line_text (screen_lines n bytes) ≡ all → is_blank bytes ≡ true → text ≡ all
+rows_end text all n bytes e blank = sym (append-nil text) ∙ ap (λ r. text ++ r) (sym (lines_end n bytes blank)) ∙ e
+
+pub rows_none : (text : List ℕ) (row : ℕ) (bytes all : List ℕ) → 16 ≤ row → text ++ flat_map line_text (screen_lines (16 - row) bytes) ≡ all → text ≡ all
+unfolding screen_lines
+rows_none text row bytes all done e =
+    let none : 16 - row ≡ 0 = omega arith in
+    sym (append-nil text) ∙ ap (λ n. text ++ flat_map line_text (screen_lines n bytes)) (sym none) ∙ e
+
+pub rows_more : (text all bytes rest line : List ℕ) (row : ℕ) → row < 16 → text ++ flat_map line_text (screen_lines (16 - row) (drop (64 * row) bytes)) ≡ all →
+    is_blank rest ≡ false → rest ≡ drop (64 * row) bytes → line ≡ trimmed (take 64 rest) →
+    (text ++ line_text line) ++ flat_map line_text (screen_lines (16 - (row + 1)) (drop (64 * (row + 1)) bytes)) ≡ all
+rows_more text all bytes rest line row within e blank r l =
+    let n : 16 - row ≡ suc (16 - (row + 1)) = omega arith in
+    let k : 64 * row + 64 ≡ 64 * (row + 1) = omega arith in
+    let skipped : drop 64 rest ≡ drop (64 * (row + 1)) bytes = ap (drop 64) r ∙ drop-drop 64 (64 * row) bytes ∙ ap (λ j. drop j bytes) k in
+    append_assoc text (line_text line) _
+    ∙ ap (λ b. text ++ (line_text line ++ flat_map line_text (screen_lines (16 - (row + 1)) b))) (sym skipped)
+    ∙ ap (λ b. text ++ (line_text b ++ flat_map line_text (screen_lines (16 - (row + 1)) (drop 64 rest)))) l
+    ∙ ap (λ b. text ++ b) (sym (lines_more (16 - (row + 1)) rest blank))
+    ∙ ap (λ j. text ++ flat_map line_text (screen_lines j rest)) (sym n)
+    ∙ ap (λ b. text ++ flat_map line_text (screen_lines (16 - row) b)) r
+    ∙ e
+
+fronted : (bs : List (Bor (List ℕ))) (i : ℕ) (d : Bor (List ℕ)) → i < length bs → map (λ x. x.now) (drop i bs) ≡ (get_or bs i d).now ∷ map (λ x. x.now) (drop (i + 1) bs)
+fronted bs i d below = ap (map (λ x. x.now)) (drop-cons bs i d below) ∙ ap (λ k. (get_or bs i d).now ∷ map (λ x. x.now) (drop k bs)) (sym (add-one i))
+
+-- what all lines come to is what those come to that aren't taken yet
+pub takes_more : (r : Result State TextFault) (s t : State) (bs : List (Bor (List ℕ))) (i : ℕ) (d : Bor (List ℕ)) → i < length bs → r ≡ with_texts (i + 1) s (map (λ x. x.now) (drop i bs)) →
+    with_text s (get_or bs i d).now ≡ Ok t → r ≡ with_texts (i + 1 + 1) t (map (λ x. x.now) (drop (i + 1) bs))
+takes_more r s t bs i d below e took =
+    e ∙ ap (with_texts (i + 1) s) (fronted bs i d below) ∙ texts_more (i + 1) s t (get_or bs i d).now (map (λ x. x.now) (drop (i + 1) bs)) took
+
+pub takes_end : (r : Result State TextFault) (s : State) (cause : Cause) (bs : List (Bor (List ℕ))) (i : ℕ) (d : Bor (List ℕ)) → i < length bs → r ≡ with_texts (i + 1) s (map (λ x. x.now) (drop i bs)) →
+    Refuses (with_text s (get_or bs i d).now) cause → RefusesText r (record { line = i + 1; cause = cause })
+takes_end r s cause bs i d below e (inl refused) =
+    inl (e ∙ ap (with_texts (i + 1) s) (fronted bs i d below) ∙ texts_end (i + 1) s (get_or bs i d).now (map (λ x. x.now) (drop (i + 1) bs)) cause refused)
+takes_end r s cause bs i d below e (inr wanting) = inr wanting
+
+pub takes_all : (r : Result State TextFault) (s : State) (bs : List (Bor (List ℕ))) (i : ℕ) → length bs ≤ i → r ≡ with_texts (i + 1) s (map (λ x. x.now) (drop i bs)) → r ≡ Ok s
+unfolding with_texts
+takes_all r s bs i end e = e ∙ ap (λ l. with_texts (i + 1) s (map (λ x. x.now) l)) (drop_all i bs end)
