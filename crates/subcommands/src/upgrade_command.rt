@@ -7,7 +7,9 @@ ghost use Rattle.image_loader.specs.declared.fault.ImageFault.{ImageFault};
 ghost use Rattle.subcommands.specs.Causes.{IsNoFile, image_cause};
 ghost use Rattle.subcommands.specs.Lines.{IsUpgraded, PrintsOutOfMemory, PrintsRefusal, for_buffers, upgrade_line};
 
-use crate::commands::{Ended, end_with, end_with_file, is_printed, print_out_of_memory, refuse, refuse_image};
+use crate::commands::{
+    Ended, end_with, end_with_file, is_printed, print_out_of_memory, refuse, refuse_image,
+};
 use image_loader::{Image, UpgradeFault, upgrade};
 use inner_interpreter::Output;
 use std::alloc::{AllocError, Global};
