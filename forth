@@ -130,9 +130,14 @@ by_key() {
   stty -icanon -echo min 1 time 0
 }
 
-# ^Z: the terminal is as before while the run is stopped.
+# ^Z: the terminal is as before while the run is stopped. The program stops first: until then it would read what the shell is typed.
 stop() {
+  local tries
   stty "$saved"
+  for ((tries = 0; tries < 100; tries++)); do
+    case $(cat "/proc/$child/stat" 2> /dev/null) in '' | *') T '*) break ;; esac
+    sleep 0.02
+  done
   kill -STOP $$
   by_key
 }
