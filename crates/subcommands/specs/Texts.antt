@@ -4,8 +4,8 @@ use Rattle.std.specs.List.{list_all}
 use Rattle.std.specs.Io.KnownBytes.{Appends}
 use Rattle.block_buffers.specs.Disks.{Disk, succeeds, block_at, called}
 use Rattle.screen_text.specs.Bytes.{is_text, padded}
-use Rattle.screen_text.specs.Reading.{State, IsRead}
-use Rattle.screen_text.specs.Screens.{Screen, screen_text}
+use Rattle.screen_text.specs.Reading.{State, whole}
+use Rattle.screen_text.specs.Screens.{Screen, screen_text, screens_of}
 use Rattle.screen_text.specs.Writing.{first_bad}
 use Rattle.screen_text.specs.declared.cause.Cause.{Cause}
 use Rattle.screen_text.specs.declared.cause.Cause.TheVariants as text
@@ -30,19 +30,48 @@ text_cause text.NamedTwice = codes "NamedTwice"
 text_cause text.NoScreen = codes "NoScreen"
 text_cause text.OutOfMemory = codes "out of memory"
 
--- bytes before those that come of the rest, unless this is refused
-abbrev pub behind : List ℕ → Result (List ℕ) Unprinted → Result (List ℕ) Unprinted
-behind bytes (Ok rest) = Ok (bytes ++ rest)
-behind bytes (Err why) = Err why
+-- the text of a screen, or its first line with a byte that no text can carry
+unfoldable pub written : (screen : ℕ) → List ℕ → Result (List ℕ) Unprinted
+written screen bytes =
+    if list_all is_text bytes then Ok (screen_text screen bytes)
+    else Err (record { screen = screen; line = first_bad bytes / 64; cause = page.BadByte })
 
--- the text of n screens of a disk, each of which is read once; the first that can't be read or written decides
-unfoldable pub printed : Disk → (screen n : ℕ) → Result (List ℕ) Unprinted
-printed d screen zero = Ok []
-printed d screen (suc n) =
-    if not (succeeds d screen) then Err (record { screen = screen; line = 0; cause = page.Device })
-    else if not (list_all is_text (block_at d.blocks screen)) then
-      Err (record { screen = screen; line = first_bad (block_at d.blocks screen) / 64; cause = page.BadByte })
-    else behind (screen_text screen (block_at d.blocks screen)) (printed (called d) (screen + 1) n)
+-- the text of a screen of a disk, if it can be read and a text can carry it
+unfoldable pub page : Disk → (screen : ℕ) → Result (List ℕ) Unprinted
+page d screen =
+    if succeeds d screen then written screen (block_at d.blocks screen) else Err (record { screen = screen; line = 0; cause = page.Device })
+
+-- two texts, one behind the other: the first that is refused decides
+abbrev pub joined : Result (List ℕ) Unprinted → Result (List ℕ) Unprinted → Result (List ℕ) Unprinted
+joined (Err why) rest = Err why
+joined (Ok text) (Err why) = Err why
+joined (Ok text) (Ok rest) = Ok (text ++ rest)
+
+-- the text of n screens of a disk, of which each is read once
+unfoldable pub pages : Disk → (screen n : ℕ) → Result (List ℕ) Unprinted
+pages d screen zero = Ok []
+pages d screen (suc n) = joined (page d screen) (pages (called d) (screen + 1) n)
+
+-- this is why they aren't printed, or memory ran out
+abbrev pub IsWhy : Result (List ℕ) Unprinted → Unprinted → Type 0
+IsWhy r why = (r ≡ Err why) ⊎ (why.cause ≡ page.OutOfMemory)
+
+-- `screen S line L: CAUSE`
+abbrev pub screen_line : (screen place : ℕ) → List ℕ → List ℕ
+screen_line screen place cause = codes "screen " ++ (decimal screen ++ (codes " line " ++ (decimal place ++ (codes ": " ++ line cause))))
+
+-- status 1, and this line was printed, or that memory ran out
+abbrev pub PrintsLine : List ℕ → (status : ℕ) → (old new : Option (List ℕ)) → Type 0
+PrintsLine bytes status old new = (status ≡ 1) × (Appends old new bytes ⊎ Appends old new (line (codes "out of memory")))
+
+-- the text was printed, or why there is none
+abbrev pub PrintsText : Result (List ℕ) Unprinted → (status : ℕ) → (old new : Option (List ℕ)) → Type 0
+PrintsText (Ok text) status old new = Prints text 0 status old new
+PrintsText (Err why) status old new = PrintsLine (screen_line why.screen why.line (page_cause why.cause)) status old new
+
+-- what `text` prints of the screens from..to, or that memory ran out
+abbrev pub EndsText : Disk → (from to : ℕ) → (status : ℕ) → (old new : Option (List ℕ)) → Type 0
+EndsText d from to status old new = PrintsText (pages d from (to + 1 - from)) status old new ⊎ PrintsOutOfMemory status old new
 
 -- a block file with the bytes of this screen; it grows with blanks, where it must
 unfoldable pub with_screen : (file : List ℕ) → Screen → List ℕ
@@ -51,3 +80,17 @@ with_screen file s =
 
 unfoldable pub with_screens : (file : List ℕ) → List Screen → List ℕ
 with_screens file screens = fold with_screen file screens
+
+-- the block file with the screens that were read of a text
+abbrev pub IsWritten : Result State TextFault → (old new : List ℕ) → Type 0
+IsWritten (Ok s) old new = new ≡ with_screens old (screens_of s.numbers (whole s))
+IsWritten (Err fault) old new = ⊥
+
+-- `line L: CAUSE`
+abbrev pub numbered_line : (place : ℕ) → List ℕ → List ℕ
+numbered_line place cause = codes "line " ++ (decimal place ++ (codes ": " ++ line cause))
+
+-- why a text isn't written was printed, or that memory ran out
+abbrev pub EndsUnwritten : Result State TextFault → (status : ℕ) → (old new : Option (List ℕ)) → Type 0
+EndsUnwritten (Ok s) status old new = PrintsOutOfMemory status old new
+EndsUnwritten (Err fault) status old new = PrintsLine (numbered_line fault.line (text_cause fault.cause)) status old new

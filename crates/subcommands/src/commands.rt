@@ -40,7 +40,7 @@ pub fn end_with(status: u8) -> Ended
 }
 
 /// The end of a subcommand that makes a file.
-fn end_with_file(file: Vec<u8>) -> Ended
+pub fn end_with_file(file: Vec<u8>) -> Ended
     ensures status { result.status ≡ 0 }
     ensures file { result.file ≡ Some file }
 {
