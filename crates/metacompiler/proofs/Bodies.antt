@@ -34,7 +34,7 @@ use Rattle.metacompiler.specs.Stages.{Inside, body_at}
 use Rattle.metacompiler.specs.Faults.{InBody, FirstCause, rank, refusal}
 use Rattle.metacompiler.specs.Built.{Built}
 use Rattle.metacompiler.specs.Names.{newest_first}
-use Rattle.metacompiler.specs.State.{IsState, Goes, IsSame, Finishes}
+use Rattle.metacompiler.specs.State.{IsState, Goes, IsSame, Ends}
 use Rattle.metacompiler.proofs.Taking.{whole as whole_item}
 
 -- one more word's meaning
@@ -148,7 +148,7 @@ inside_goes b new t ws s p w before x h titled k m f =
       front = refl;
     }
 
-pub ends_goes : (b new : Build) (t : Items) (ws : List Place) (p w : Place) (before : List Token) (h : IsState b t ws (Inside p before)) → meaning (rules.half_of Free before) t w ≡ Ok SEMI → Finishes t p before new → Goes new g.Whole t ws w
+pub ends_goes : (b new : Build) (t : Items) (ws : List Place) (p w : Place) (before : List Token) (h : IsState b t ws (Inside p before)) → meaning (rules.half_of Free before) t w ≡ Ok SEMI → Ends t p before new → Goes new g.Whole t ws w
 ends_goes b new t ws p w before h m f =
     let i = h.begun in
     whole_item new t ws w (Colon p f.body) (f.built (ws ++ w ∷ [])) h.sound
@@ -218,7 +218,7 @@ ended_in b t ws p before at image h e z =
     subst (λ r. BodyEnds r (body_at t p) 61440 g.outer g.body g.half image) i.runtime
     (subst (λ a. BodyEnds (slice_index b.runtime.items) a 61440 g.outer g.body g.half image) e z)
 
-pub ended_ends : (b new : Build) (t : Items) (ws : List Place) (p : Place) (before : List Token) (image : List ℕ) (h : IsState b t ws (Inside p before)) → (z : BodyEnds (controls t) (body_at t p) 61440 h.drafts.outer h.drafts.body h.drafts.half image) → ((vs : List Place) → Built new (Then t vs (Colon p z.body))) → (new.draft.image.items ≡ []) × (new.draft.marks.items ≡ b.draft.marks.items) × (new.draft.half ≡ Free) × (new.draft.is_past ≡ false) → Finishes t p before new
+pub ended_ends : (b new : Build) (t : Items) (ws : List Place) (p : Place) (before : List Token) (image : List ℕ) (h : IsState b t ws (Inside p before)) → (z : BodyEnds (controls t) (body_at t p) 61440 h.drafts.outer h.drafts.body h.drafts.half image) → ((vs : List Place) → Built new (Then t vs (Colon p z.body))) → (new.draft.image.items ≡ []) × (new.draft.marks.items ≡ b.draft.marks.items) × (new.draft.half ≡ Free) × (new.draft.is_past ≡ false) → Ends t p before new
 ended_ends b new t ws p before image h z f k =
     let d = h.drafts in
     let y = z.body in
