@@ -1,13 +1,12 @@
-use Rattle.std.proofs.Common.{◌≡◌, ◌≢◌, ◌∙◌, ℕ, zero, suc, ◌+◌, ◌-◌, ◌*◌, ◌%◌, ◌<◌, ◌≤◌, ◌==◌, List, [], ◌∷◌, ◌++◌, length, take, drop, replicate, Bool, true, false, not, ◌&&◌, ◌||◌, nat_lt, nat_le, if◌then◌else◌, append_assoc, append-nil, length-append, arith, Ok, Err, Result, refl, ap, sym}
+use Rattle.std.proofs.Common.{◌≡◌, ◌∙◌, ℕ, zero, suc, ◌+◌, ◌-◌, ◌*◌, ◌%◌, ◌<◌, ◌≤◌, ◌==◌, List, [], ◌∷◌, ◌++◌, length, drop, Bool, true, false, not, ◌&&◌, ◌||◌, nat_lt, nat_le, if◌then◌else◌, length-append, arith, Ok, Err, Result, refl, ap}
 use Rattle.std.specs.Prelude.{eqb}
 use Rattle.std.specs.List.{list_all, list_any, IsDistinct, AllByRecursion}
-use Rattle.std.proofs.lemmas.Grind.{common_steps}
 use Rattle.std.proofs.lemmas.List.Folds.{list_all-append}
 use Rattle.screen_text.specs.declared.cause.Cause.{Cause}
 use Rattle.screen_text.specs.declared.cause.Cause.TheVariants.{BadByte, LongLine, FullScreen, BadHeading, LateHeading, NamedTwice, NoScreen}
 use Rattle.screen_text.specs.declared.cause.TextFault.{TextFault}
 use Rattle.screen_text.specs.Bytes.{blanks, padded, is_text, trimmed, spread}
-use Rattle.screen_text.specs.Screens.{has_mark, heading}
+use Rattle.screen_text.specs.Screens.{has_mark}
 use Rattle.screen_text.specs.Reading.{State, is_heading, number_of, nothing, then_read, whole, with_line, with_plain, with_screen, with_text, with_texts}
 use Rattle.screen_text.proofs.Blanks.{length-blanks}
 use Rattle.screen_text.proofs.Tidy.{trimmed-text-of}

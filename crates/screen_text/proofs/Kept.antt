@@ -1,20 +1,13 @@
-use Rattle.std.proofs.Common.{◌≡◌, ◌≢◌, ◌∙◌, ℕ, zero, suc, ◌+◌, ◌-◌, ◌*◌, ◌%◌, ◌<◌, ◌≤◌, ◌==◌, List, [], ◌∷◌, ◌++◌, length, take, drop, map, flat_map, Bool, true, false, not, ◌&&◌, ◌||◌, nat_lt, nat_le, if◌then◌else◌, append_assoc, append-nil, length-append, length-take-le, length-drop, take-append-drop, arith, Ok, Err, Result, refl, ap, sym}
+use Rattle.std.proofs.Common.{◌≡◌, ◌∙◌, ℕ, ◌<◌, ◌≤◌, List, [], ◌∷◌, length, Bool, true, false, ◌||◌, append-nil, arith, Ok, refl, ap, sym}
 use Rattle.std.specs.Prelude.{All, eqb}
-use Rattle.std.specs.List.{list_all, list_any, IsDistinct, AllByRecursion}
-use Rattle.std.proofs.lemmas.Grind.{common_steps}
+use Rattle.std.specs.List.{list_any}
 use Rattle.std.proofs.lemmas.List.{length-map}
-use Rattle.std.proofs.lemmas.List.Elements.{All-head, All-tail, All-nil, All-cons}
-use Rattle.std.proofs.lemmas.List.Folds.{list_all-append}
+use Rattle.std.proofs.lemmas.List.Elements.{All-head, All-tail}
 use Rattle.std.proofs.lemmas.Map.Steps.{length-le_from_distinct_below}
-use Rattle.screen_text.specs.declared.cause.Cause.{Cause}
-use Rattle.screen_text.specs.declared.cause.TextFault.{TextFault}
-use Rattle.screen_text.specs.Bytes.{blanks, padded, is_blank, is_text, trimmed, spread}
-use Rattle.screen_text.specs.Screens.{Screen, IsWritable, AreWritable, has_mark, heading, text_of, screens_of, numbers_of, bytes_of}
-use Rattle.screen_text.specs.Reading.{State, IsRead, is_heading, number_of, nothing, read, text_lines, then_read, whole, with_line, with_plain, with_screen, with_text, with_texts}
-use Rattle.screen_text.proofs.Blanks.{length-blanks}
-use Rattle.screen_text.proofs.Splitting.{ended, lines-ended}
-use Rattle.screen_text.proofs.Tidy.{trimmed-text-of}
-use Rattle.screen_text.proofs.Rereading.{text-front, text-back}
+use Rattle.screen_text.specs.Bytes.{blanks, padded}
+use Rattle.screen_text.specs.Screens.{Screen, IsWritable, AreWritable, text_of, numbers_of, bytes_of}
+use Rattle.screen_text.specs.Reading.{IsRead, nothing, read, text_lines, whole, with_texts}
+use Rattle.screen_text.proofs.Splitting.{lines-ended}
 use Rattle.screen_text.proofs.Gathering.{Reads, all_lines, all-text-lines, apart-none, new-of, reads_screens, text-is}
 
 below-by : (t : Bool) (q : ℕ) (s : Screen) (numbers : List ℕ) → eqb q s.number ≡ t → s.number < 65536 → (list_any (eqb q) numbers ≡ true → q < 65536) → (eqb q s.number || list_any (eqb q) numbers) ≡ true → q < 65536

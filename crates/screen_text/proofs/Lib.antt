@@ -8,3 +8,4 @@ pub mod Gathering
 pub mod Kept
 pub mod Good
 pub mod Returning
+pub mod Placing

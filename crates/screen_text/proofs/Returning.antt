@@ -1,10 +1,10 @@
-use Rattle.std.proofs.Common.{◌≡◌, ◌∙◌, ℕ, zero, suc, ◌+◌, ◌-◌, ◌*◌, ◌<◌, ◌≤◌, List, [], ◌∷◌, ◌++◌, length, take, drop, Bool, true, ◌&&◌, nat_lt, length-take-le, length-drop, take-append-drop, arith, Ok, Err, Result, refl, ap, sym, subst}
+use Rattle.std.proofs.Common.{◌≡◌, ◌∙◌, ℕ, ◌*◌, ◌<◌, List, [], ◌∷◌, ◌++◌, length, take, drop, Bool, true, ◌&&◌, nat_lt, length-take-le, length-drop, take-append-drop, arith, Ok, Err, Result, refl, ap, sym, subst}
 use Rattle.std.specs.Prelude.{All, eqb}
 use Rattle.std.specs.List.{list_all, IsDistinct}
 use Rattle.std.proofs.lemmas.List.Elements.{All-nil, All-cons}
 use Rattle.screen_text.specs.declared.cause.TextFault.{TextFault}
 use Rattle.screen_text.specs.Bytes.{is_text}
-use Rattle.screen_text.specs.Screens.{Screen, IsWritable, AreWritable, text_of, screens_of, numbers_of, bytes_of}
+use Rattle.screen_text.specs.Screens.{IsWritable, AreWritable, text_of, screens_of, numbers_of, bytes_of}
 use Rattle.screen_text.specs.Reading.{State, IsRead, nothing, read, text_lines, whole}
 use Rattle.screen_text.proofs.Good.{IsGood, IsGoodText, good_texts, good_nothing, length-padded, padded-text}
 use Rattle.screen_text.proofs.Kept.{reread}

@@ -2,3 +2,4 @@ pub mod Bytes
 pub mod Screens
 pub mod Reading
 pub mod Writing
+pub mod Blocks

@@ -1,6 +1,7 @@
 //! Screens as text, both ways.
 #![tactic(auto)]
 
+mod blocks;
 mod bytes;
 mod cause;
 mod headings;
@@ -8,6 +9,7 @@ pub mod laws;
 mod printing;
 mod reading;
 
+pub use blocks::put_screens;
 pub use cause::{Cause, TextFault, Unwritten};
 pub use printing::screen_text;
 pub use reading::{Screens, read_text};

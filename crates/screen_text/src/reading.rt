@@ -13,7 +13,7 @@ use std::alloc::{AllocError, Global};
 use std::marker::Model;
 
 /// How many bytes a screen has.
-const SCREEN: usize = 1024;
+pub const SCREEN: usize = 1024;
 
 /// The last screen that a block file can have.
 const LAST_SCREEN: usize = 65535;

@@ -3,9 +3,10 @@ use Rattle.std.specs.Prelude.{◌≡◌, ◌⊎◌, ℕ, zero, suc, ◌+◌, ◌
 use Rattle.std.specs.List.{list_all}
 use Rattle.std.specs.Io.KnownBytes.{Appends}
 use Rattle.block_buffers.specs.Disks.{Disk, succeeds, block_at, called}
-use Rattle.screen_text.specs.Bytes.{is_text, padded}
+use Rattle.screen_text.specs.Bytes.{is_text}
+use Rattle.screen_text.specs.Blocks.{with_screens}
 use Rattle.screen_text.specs.Reading.{State, whole}
-use Rattle.screen_text.specs.Screens.{Screen, screen_text, screens_of}
+use Rattle.screen_text.specs.Screens.{screen_text, screens_of}
 use Rattle.screen_text.specs.Writing.{first_bad}
 use Rattle.screen_text.specs.declared.cause.Cause.{Cause}
 use Rattle.screen_text.specs.declared.cause.Cause.TheVariants as text
@@ -72,14 +73,6 @@ PrintsText (Err why) status old new = PrintsLine (screen_line why.screen why.lin
 -- what `text` prints of the screens from..to, or that memory ran out
 abbrev pub EndsText : Disk → (from to : ℕ) → (status : ℕ) → (old new : Option (List ℕ)) → Type 0
 EndsText d from to status old new = PrintsText (pages d from (to + 1 - from)) status old new ⊎ PrintsOutOfMemory status old new
-
--- a block file with the bytes of this screen; it grows with blanks, where it must
-unfoldable pub with_screen : (file : List ℕ) → Screen → List ℕ
-with_screen file s =
-    let grown = padded (1024 * (s.number + 1)) file in take (1024 * s.number) grown ++ (s.bytes ++ drop (1024 * (s.number + 1)) grown)
-
-unfoldable pub with_screens : (file : List ℕ) → List Screen → List ℕ
-with_screens file screens = fold with_screen file screens
 
 -- the block file with the screens that were read of a text
 abbrev pub IsWritten : Result State TextFault → (old new : List ℕ) → Type 0

@@ -3,18 +3,17 @@
 ghost use Rattle.std.specs.Prelude.{◌≡◌, ◌⊎◌, ◌<◌, ◌≤◌, ◌+◌, ◌-◌, ◌*◌, Err, IfErr, IfOk, IsNone, IsSome, MatchOption, Ok, OnOk, Some, false, length, string_bytes, true};
 ghost use Rattle.block_buffers.specs.Disks.{Disk, called};
 ghost use Rattle.screen_text.specs.Reading.{read};
-ghost use Rattle.screen_text.specs.Screens.{screens_of};
 ghost use Rattle.subcommands.specs.Kernel.{blanks};
 ghost use Rattle.screen_text.specs.declared.cause.Cause.{Cause};
 ghost use Rattle.subcommands.specs.Lines.{PrintsOutOfMemory};
 ghost use Rattle.subcommands.specs.declared.text_command.PageCause.{PageCause};
-ghost use Rattle.subcommands.specs.Texts.{EndsText, EndsUnwritten, IsWhy, IsWritten, PrintsLine, numbered_line, page, page_cause, pages, screen_line, text_cause, with_screen, with_screens, written};
+ghost use Rattle.subcommands.specs.Texts.{EndsText, EndsUnwritten, IsWhy, IsWritten, PrintsLine, numbered_line, page, page_cause, pages, screen_line, text_cause, written};
 
 use crate::causes::Reason;
 use crate::commands::{Ended, end_with_file, print, print_out_of_memory};
 use block_buffers::{BLOCK_SIZE, Device};
 use inner_interpreter::Output;
-use screen_text::{Cause, Screens, TextFault, Unwritten, read_text, screen_text};
+use screen_text::{Cause, TextFault, Unwritten, put_screens, read_text, screen_text};
 use std::alloc::{AllocError, Global};
 
 /// What is wrong with a screen that is to be printed.
@@ -185,31 +184,6 @@ pub fn do_text<W: Output, D: Device>(
         Ok(text) => print(writer, text.as_slice(), 0),
         Err(why) => refuse_page(alloc, why, writer),
     }
-}
-
-/// Writes a screen into a block file, which grows with blanks where it must.
-fn put_screen(file: &mut Vec<u8>, number: u16, bytes: &[u8]) -> Result<(), AllocError>
-    requires { length bytes.now ≡ 1024 }
-    ensures { OnOk result (file.new.items ≡ with_screen file.old.items (record { number = number; bytes = bytes.now })) }
-{
-    let start = BLOCK_SIZE * usize::from(number);
-    if file.len() < start + BLOCK_SIZE {
-        file.resize(start + BLOCK_SIZE, b' ')?;
-    }
-    file[start..start + BLOCK_SIZE].copy_from_slice(bytes);
-    Ok(())
-}
-
-/// Writes the screens of a text into a block file.
-fn put_screens(file: &mut Vec<u8>, screens: &Screens) -> Result<(), AllocError>
-    requires { length screens.now.bytes.items ≡ 1024 * length screens.now.numbers.items }
-    ensures { OnOk result (file.new.items ≡ with_screens file.old.items (screens_of screens.now.numbers.items screens.now.bytes.items)) }
-{
-    for (index, number) in screens.numbers.iter().enumerate() {
-        let start = BLOCK_SIZE * index;
-        put_screen(file, *number, &screens.bytes[start..start + BLOCK_SIZE])?;
-    }
-    Ok(())
 }
 
 /// The line that tells where and why a text isn't written.
