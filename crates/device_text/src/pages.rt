@@ -1,0 +1,106 @@
+//! Screens of a device as text.
+
+ghost use Rattle.std.specs.Prelude.{◌≡◌, ◌+◌, ◌-◌, Err, IfErr, IfOk, Ok, Some};
+ghost use Rattle.block_buffers.specs.Disks.{Disk, called};
+ghost use Rattle.device_text.specs.declared.pages.PageCause.{PageCause};
+ghost use Rattle.device_text.specs.Pages.{IsWhy, page, pages, written};
+
+use block_buffers::{BLOCK_SIZE, Device};
+use screen_text::{Unwritten, screen_text};
+use std::alloc::Global;
+
+/// What is wrong with a screen that is to be printed.
+#[derive(Clone, Copy, Debug, PartialEq, Eq, Drop)]
+pub enum PageCause {
+    /// A byte that no text can carry.
+    BadByte,
+    /// The screen isn't there, or can't be read.
+    Device,
+    /// Memory ran out.
+    OutOfMemory,
+}
+
+/// Why screens aren't printed as text.
+#[derive(Clone, Copy, Debug, PartialEq, Eq, Drop)]
+pub struct Unprinted {
+    pub screen: u16,
+    /// The line of the screen, counted from 0.
+    pub line: usize,
+    pub cause: PageCause,
+}
+
+/// Want of memory at a screen.
+fn wanting(screen: u16) -> Unprinted
+    ensures { result.cause ≡ PageCause.OutOfMemory }
+{
+    Unprinted {
+        screen,
+        line: 0,
+        cause: PageCause::OutOfMemory,
+    }
+}
+
+/// The text of the bytes of a screen.
+fn text_of(alloc: Global, screen: u16, bytes: &[u8; BLOCK_SIZE]) -> Result<Vec<u8>, Unprinted>
+    ensures text { IfOk result (λ v. written screen bytes.now ≡ Ok v.items) }
+    ensures refused { IfErr result (IsWhy (written screen bytes.now)) }
+{
+    match screen_text(alloc, screen, bytes) {
+        Ok(text) => Ok(text),
+        Err(Unwritten::BadByte(line)) => Err(Unprinted {
+            screen,
+            line,
+            cause: PageCause::BadByte,
+        }),
+        Err(Unwritten::OutOfMemory) => Err(wanting(screen)),
+    }
+}
+
+/// The text of a screen of a device.
+fn page_text<D: Device>(alloc: Global, device: &mut D, screen: u16) -> Result<Vec<u8>, Unprinted>
+    ensures text { IfOk result (λ v. (d : Disk) → D.disk device.old ≡ Some d → page d screen ≡ Ok v.items) }
+    ensures refused { IfErr result (λ why. (d : Disk) → D.disk device.old ≡ Some d → IsWhy (page d screen) why) }
+    ensures disk { (d : Disk) → D.disk device.old ≡ Some d → D.disk device.new ≡ Some (called d) }
+{
+    let mut bytes = [b' '; BLOCK_SIZE];
+    match device.read(screen, &mut bytes) {
+        Ok(()) => text_of(alloc, screen, &bytes),
+        Err(_) => Err(Unprinted {
+            screen,
+            line: 0,
+            cause: PageCause::Device,
+        }),
+    }
+}
+
+/// How many screens there are from `from` to `to`.
+fn count_of(from: u16, to: u16) -> u32
+    ensures { result ≡ to + 1 - from }
+{
+    (u32::from(to) + 1).saturating_sub(u32::from(from))
+}
+
+/// The text of the screens of a device, from `from` to `to`.
+pub fn pages_text<D: Device>(
+    alloc: Global,
+    device: &mut D,
+    from: u16,
+    to: u16,
+) -> Result<Vec<u8>, Unprinted>
+    ensures text { IfOk result (λ v. (d : Disk) → D.disk device.old ≡ Some d → pages d from (to + 1 - from) ≡ Ok v.items) }
+    ensures refused { IfErr result (λ why. (d : Disk) → D.disk device.old ≡ Some d → IsWhy (pages d from (to + 1 - from)) why) }
+{
+    let mut text = Vec::new(alloc);
+    for index in 0..count_of(from, to) {
+        let screen = from + index as u16;
+        let page = match page_text(alloc, device, screen) {
+            Ok(page) => page,
+            Err(why) => return Err(why),
+        };
+        match text.extend_from_slice(page.as_slice()) {
+            Ok(()) => {}
+            Err(_) => return Err(wanting(screen)),
+        }
+    }
+    Ok(text)
+}
