@@ -1,19 +1,20 @@
 //! The subcommands that print screens as text, and write a text into a block file.
 
-ghost use Rattle.std.specs.Prelude.{◌≡◌, ◌⊎◌, ◌<◌, ◌≤◌, ◌+◌, ◌-◌, ◌*◌, Err, IfErr, IfOk, IsNone, IsSome, MatchOption, Ok, OnOk, Some, false, length, string_bytes, true};
-ghost use Rattle.block_buffers.specs.Disks.{Disk, called};
+ghost use Rattle.std.specs.Prelude.{◌≡◌, ◌⊎◌, ◌<◌, ◌≤◌, ◌*◌, IfOk, IsNone, IsSome, MatchOption, Some, false, string_bytes, true};
+ghost use Rattle.block_buffers.specs.Disks.{Disk};
+ghost use Rattle.device_text.specs.declared.pages.PageCause.{PageCause};
 ghost use Rattle.screen_text.specs.Reading.{read};
 ghost use Rattle.subcommands.specs.Kernel.{blanks};
 ghost use Rattle.screen_text.specs.declared.cause.Cause.{Cause};
 ghost use Rattle.subcommands.specs.Lines.{PrintsOutOfMemory};
-ghost use Rattle.subcommands.specs.declared.text_command.PageCause.{PageCause};
-ghost use Rattle.subcommands.specs.Texts.{EndsText, EndsUnwritten, IsWhy, IsWritten, PrintsLine, numbered_line, page, page_cause, pages, screen_line, text_cause, written};
+ghost use Rattle.subcommands.specs.Texts.{EndsText, EndsUnwritten, IsWritten, PrintsLine, numbered_line, page_cause, screen_line, text_cause};
 
 use crate::causes::Reason;
 use crate::commands::{Ended, end_with_file, print, print_out_of_memory};
 use block_buffers::{BLOCK_SIZE, Device};
+use device_text::{PageCause, Unprinted, pages_text};
 use inner_interpreter::Output;
-use screen_text::{Cause, TextFault, Unwritten, put_screens, read_text, screen_text};
+use screen_text::{Cause, TextFault, put_screens, read_text};
 use std::alloc::{AllocError, Global};
 
 impl Reason for PageCause {
