@@ -141,6 +141,7 @@ pub fn do_screens<W: Output>(alloc: Global, blocks: Vec<u8>, text: &[u8], writer
 }
 
 /// Blank blocks.
+#[tactic(auto, unfolding(crate::specs::Kernel::blanks))]
 fn blank_blocks(alloc: Global, count: u32) -> Result<Vec<u8>, AllocError>
     requires { count ≤ 65536 }
     ensures { IfOk result (λ file. file.items ≡ blanks (1024 * count)) }
