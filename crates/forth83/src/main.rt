@@ -9,12 +9,14 @@ ghost use Rattle.memory.specs.Bytes.{IsCount};
 use block_buffers::{Device, MemoryDevice};
 use inner_interpreter::{Reading, Writing};
 use std::fs::File;
-use std::io::{BufReader, BufWriter, IsTerminal, Stdin, Stdout};
+use std::io;
+use std::io::{BufReader, BufWriter, ErrorKind, IsTerminal, Stdin, Stdout};
 use std::os::fd::AsFd;
 use std::process::ExitCode;
 use subcommands::{
-    Ended, FileDevice, create_file, do_build, do_debug, do_kernel, do_run, do_see, do_upgrade,
-    do_view, open_device, open_to_read, read_image, write_file,
+    Ended, FileDevice, create_file, do_build, do_debug, do_kernel, do_new, do_run, do_screens,
+    do_see, do_text, do_upgrade, do_view, open_device, open_to_read, read_blocks, read_file,
+    read_image, replace_file, write_file,
 };
 use words::{Parsed, Words};
 
@@ -143,6 +145,63 @@ fn upgrade_image(rt: &HostRuntime, image: &str, out: &str, buffers: Option<u16>)
     let mut writer = standard_output(rt)?;
     let ended = do_upgrade(rt.alloc(), bytes.as_slice(), buffers, &mut writer);
     Ok(finish(rt, ended, out))
+}
+
+/// How many blocks a file has at most.
+const MOST_BLOCKS: u32 = 65536;
+
+/// Prints why a file isn't read or replaced, and answers the status.
+fn refuse_file(rt: &HostRuntime, error: &io::Error, name: &str) -> u8 {
+    if error.kind() == ErrorKind::OutOfMemory {
+        return out_of_memory(rt);
+    }
+    cannot_open(rt, name)
+}
+
+/// Replaces the file of a subcommand that makes one, and answers the status.
+fn replace(rt: &HostRuntime, ended: Ended, name: &str) -> u8 {
+    let Ended { status, file } = ended;
+    let Some(file) = file else {
+        return status;
+    };
+    match replace_file(rt, name, file.as_slice()) {
+        Ok(()) => status,
+        Err(error) => refuse_file(rt, &error, name),
+    }
+}
+
+/// Prints the screens that `text` names.
+fn print_text(rt: &HostRuntime, blocks: &str, from: u16, to: u16) -> Result<u8, u8> {
+    let Some(mut device) = open_to_read(rt, blocks) else {
+        return Err(cannot_open(rt, blocks));
+    };
+    let mut writer = standard_output(rt)?;
+    Ok(do_text(rt.alloc(), &mut device, from, to, &mut writer).status)
+}
+
+/// Writes the screens of the text that `screens` names.
+fn write_screens(rt: &HostRuntime, text: &str, blocks: &str) -> Result<u8, u8> {
+    let bytes = match read_file(rt, text) {
+        Ok(bytes) => bytes,
+        Err(error) => return Err(refuse_file(rt, &error, text)),
+    };
+    let old = match read_blocks(rt, blocks) {
+        Ok(old) => old,
+        Err(error) => return Err(refuse_file(rt, &error, blocks)),
+    };
+    let mut writer = standard_output(rt)?;
+    let ended = do_screens(rt.alloc(), old, bytes.as_slice(), &mut writer);
+    Ok(replace(rt, ended, blocks))
+}
+
+/// Writes the new file that `new` names.
+fn write_new(rt: &HostRuntime, blocks: &str, count: u32) -> Result<u8, u8> {
+    if count > MOST_BLOCKS {
+        return Err(say(rt, "error: a file has at most 65536 blocks", "", 2));
+    }
+    let mut writer = standard_output(rt)?;
+    let ended = do_new(rt.alloc(), count, &mut writer);
+    Ok(replace(rt, ended, blocks))
 }
 
 /// Says in which screen the word that `view` names was made.
@@ -274,6 +333,9 @@ fn obey(rt: &HostRuntime, words: Words) -> Result<u8, u8> {
             out,
             buffers,
         } => upgrade_image(rt, image.as_str(), out.as_str(), buffers),
+        Words::Text { blocks, from, to } => print_text(rt, blocks.as_str(), from, to),
+        Words::Screens { text, blocks } => write_screens(rt, text.as_str(), blocks.as_str()),
+        Words::New { blocks, count } => write_new(rt, blocks.as_str(), count),
         Words::Run {
             image,
             blocks,

@@ -34,6 +34,19 @@ pub enum Words {
         /// How many block buffers, 2 to 16; the image's own number where none is given.
         buffers: Option<u16>,
     },
+    Text {
+        blocks: String,
+        from: u16,
+        to: u16,
+    },
+    Screens {
+        text: String,
+        blocks: String,
+    },
+    New {
+        blocks: String,
+        count: u32,
+    },
     Run {
         image: String,
         blocks: Option<String>,
@@ -129,6 +142,45 @@ fn upgrade_command<'a>(alloc: Global) -> Result<Command<'a>, AllocError> {
         .arg(buffers(alloc).help("Block buffers, 2 to 16 (as many as the image has)"))
 }
 
+fn text_command<'a>(alloc: Global) -> Result<Command<'a>, AllocError> {
+    Command::new(alloc, "text")
+        .about("Print screens as text")
+        .arg(
+            Arg::new(alloc, "BLOCKS")
+                .required(true)
+                .help("A file of blocks of 1,024 bytes"),
+        )?
+        .arg(screen(alloc, "FROM", "The first screen, 0 to 65535"))?
+        .arg(screen(alloc, "TO", "The last screen, 0 to 65535"))
+}
+
+fn screens_command<'a>(alloc: Global) -> Result<Command<'a>, AllocError> {
+    Command::new(alloc, "screens")
+        .about("Write the screens of a text into a file of blocks")
+        .arg(Arg::new(alloc, "TEXT").required(true).help("The text"))?
+        .arg(
+            Arg::new(alloc, "BLOCKS")
+                .required(true)
+                .help("A file of blocks of 1,024 bytes, or a new one"),
+        )
+}
+
+fn new_command<'a>(alloc: Global) -> Result<Command<'a>, AllocError> {
+    Command::new(alloc, "new")
+        .about("Write a new file of blank blocks")
+        .arg(
+            Arg::new(alloc, "BLOCKS")
+                .required(true)
+                .help("The new file"),
+        )?
+        .arg(
+            Arg::new(alloc, "N")
+                .required(true)
+                .value_parser(value_parser!(u32))
+                .help("How many blocks, 0 to 65536"),
+        )
+}
+
 /// How many ticks are allowed.
 fn limit<'a>(alloc: Global) -> Arg<'a> {
     Arg::new(alloc, "limit")
@@ -200,6 +252,9 @@ fn command<'a>(alloc: Global) -> Result<Command<'a>, AllocError> {
         .subcommand(kernel_command(alloc)?)?
         .subcommand(build_command(alloc)?)?
         .subcommand(upgrade_command(alloc)?)?
+        .subcommand(text_command(alloc)?)?
+        .subcommand(screens_command(alloc)?)?
+        .subcommand(new_command(alloc)?)?
         .subcommand(run_command(alloc)?)?
         .subcommand(see_command(alloc)?)?
         .subcommand(debug_command(alloc)?)?
@@ -253,6 +308,36 @@ fn upgrade_words(alloc: Global, inner: &ArgMatches<'_>) -> Result<Option<Words>,
         out,
         buffers,
     }))
+}
+
+fn text_words(alloc: Global, inner: &ArgMatches<'_>) -> Result<Option<Words>, AllocError> {
+    let Some(blocks) = copied(alloc, inner, "BLOCKS")? else {
+        return Ok(None);
+    };
+    let (Some(from), Some(to)) = (inner.get_one::<u16>("FROM"), inner.get_one::<u16>("TO")) else {
+        return Ok(None);
+    };
+    Ok(Some(Words::Text { blocks, from, to }))
+}
+
+fn screens_words(alloc: Global, inner: &ArgMatches<'_>) -> Result<Option<Words>, AllocError> {
+    let Some(text) = copied(alloc, inner, "TEXT")? else {
+        return Ok(None);
+    };
+    let Some(blocks) = copied(alloc, inner, "BLOCKS")? else {
+        return Ok(None);
+    };
+    Ok(Some(Words::Screens { text, blocks }))
+}
+
+fn new_words(alloc: Global, inner: &ArgMatches<'_>) -> Result<Option<Words>, AllocError> {
+    let Some(blocks) = copied(alloc, inner, "BLOCKS")? else {
+        return Ok(None);
+    };
+    let Some(count) = inner.get_one::<u32>("N") else {
+        return Ok(None);
+    };
+    Ok(Some(Words::New { blocks, count }))
 }
 
 fn run_words(alloc: Global, inner: &ArgMatches<'_>) -> Result<Option<Words>, AllocError> {
@@ -320,6 +405,9 @@ fn words_of(alloc: Global, matches: &ArgMatches<'_>) -> Result<Option<Words>, Al
         Some(("kernel", inner)) => kernel_words(alloc, inner),
         Some(("build", inner)) => build_words(alloc, inner),
         Some(("upgrade", inner)) => upgrade_words(alloc, inner),
+        Some(("text", inner)) => text_words(alloc, inner),
+        Some(("screens", inner)) => screens_words(alloc, inner),
+        Some(("new", inner)) => new_words(alloc, inner),
         Some(("debug", inner)) => debug_words(alloc, inner),
         Some(("see", inner)) => see_words(alloc, inner),
         Some(("view", inner)) => view_words(alloc, inner),

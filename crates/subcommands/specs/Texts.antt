@@ -1,0 +1,61 @@
+-- Screens printed as text, and texts written into a block file.
+use Rattle.std.specs.Prelude.{◌≡◌, ◌⊎◌, ℕ, ◌+◌, ◌-◌, List, ◌++◌, Option, Result, Ok, Err, codes, decimal}
+use Rattle.std.specs.Io.KnownBytes.{Appends}
+use Rattle.block_buffers.specs.Disks.{Disk}
+use Rattle.device_text.specs.Pages.{pages}
+use Rattle.device_text.specs.declared.pages.PageCause.{PageCause}
+use Rattle.device_text.specs.declared.pages.PageCause.TheVariants as page
+use Rattle.device_text.specs.declared.pages.Unprinted.{Unprinted}
+use Rattle.screen_text.specs.Blocks.{with_screens}
+use Rattle.screen_text.specs.Reading.{State, whole}
+use Rattle.screen_text.specs.Screens.{screens_of}
+use Rattle.screen_text.specs.declared.cause.Cause.{Cause}
+use Rattle.screen_text.specs.declared.cause.Cause.TheVariants as text
+use Rattle.screen_text.specs.declared.cause.TextFault.{TextFault}
+use Rattle.subcommands.specs.Lines.{Prints, PrintsOutOfMemory, line}
+
+abbrev pub page_cause : PageCause → List ℕ
+page_cause page.BadByte = codes "BadByte"
+page_cause page.Device = codes "Device"
+page_cause page.OutOfMemory = codes "out of memory"
+
+abbrev pub text_cause : Cause → List ℕ
+text_cause text.BadByte = codes "BadByte"
+text_cause text.LongLine = codes "LongLine"
+text_cause text.FullScreen = codes "FullScreen"
+text_cause text.BadHeading = codes "BadHeading"
+text_cause text.LateHeading = codes "LateHeading"
+text_cause text.NamedTwice = codes "NamedTwice"
+text_cause text.NoScreen = codes "NoScreen"
+text_cause text.OutOfMemory = codes "out of memory"
+
+-- `screen S line L: CAUSE`
+abbrev pub screen_line : (screen place : ℕ) → List ℕ → List ℕ
+screen_line screen place cause = codes "screen " ++ (decimal screen ++ (codes " line " ++ (decimal place ++ (codes ": " ++ line cause))))
+
+-- status 1, and this line was printed, or that memory ran out
+abbrev pub PrintsLine : List ℕ → (status : ℕ) → (old new : Option (List ℕ)) → Type 0
+PrintsLine bytes status old new = (status ≡ 1) × (Appends old new bytes ⊎ Appends old new (line (codes "out of memory")))
+
+-- the text was printed, or why there is none
+abbrev pub PrintsText : Result (List ℕ) Unprinted → (status : ℕ) → (old new : Option (List ℕ)) → Type 0
+PrintsText (Ok text) status old new = Prints text 0 status old new
+PrintsText (Err why) status old new = PrintsLine (screen_line why.screen why.line (page_cause why.cause)) status old new
+
+-- what `text` prints of the screens from..to, or that memory ran out
+abbrev pub EndsText : Disk → (from to : ℕ) → (status : ℕ) → (old new : Option (List ℕ)) → Type 0
+EndsText d from to status old new = PrintsText (pages d from (to + 1 - from)) status old new ⊎ PrintsOutOfMemory status old new
+
+-- the block file with the screens that were read of a text
+abbrev pub IsWritten : Result State TextFault → (old new : List ℕ) → Type 0
+IsWritten (Ok s) old new = new ≡ with_screens old (screens_of s.numbers (whole s))
+IsWritten (Err fault) old new = ⊥
+
+-- `line L: CAUSE`
+abbrev pub numbered_line : (place : ℕ) → List ℕ → List ℕ
+numbered_line place cause = codes "line " ++ (decimal place ++ (codes ": " ++ line cause))
+
+-- why a text isn't written was printed, or that memory ran out
+abbrev pub EndsUnwritten : Result State TextFault → (status : ℕ) → (old new : Option (List ℕ)) → Type 0
+EndsUnwritten (Ok s) status old new = PrintsOutOfMemory status old new
+EndsUnwritten (Err fault) status old new = PrintsLine (numbered_line fault.line (text_cause fault.cause)) status old new
