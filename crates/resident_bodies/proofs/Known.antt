@@ -1,5 +1,5 @@
 -- The rows of the other numbers: none answers unknown code.
-use Rattle.std.proofs.Common.{◌≡◌, ◌≢◌, ℕ, ◌+◌, ◌==◌, ◌<◌, ◌≤◌, List, Bool, true, false, nat_lt, inl, inr, arith, refl, sym, ap, ◌∙◌, subst, rules, if◌then◌else◌}
+use Rattle.std.proofs.Common.{◌≡◌, ◌≢◌, ℕ, Result, Ok, Err, ◌+◌, ◌==◌, ◌<◌, ◌≤◌, List, Bool, true, false, nat_lt, inl, inr, arith, refl, sym, ap, ◌∙◌, subst, rules, if◌then◌else◌}
 use Rattle.std.proofs.lemmas.Bool.{eqb-true, cases_lt}
 use Rattle.dictionary.specs.declared.fault.ForgetFault.{ForgetFault}
 use Rattle.dictionary.specs.declared.fault.ForgetFault.TheVariants.{NameLength, NotFound, ChainTooLong}
@@ -17,7 +17,7 @@ use Rattle.plain_rows.proofs.Shapes.{by_if, by_room, by_room_r, by_takes1, by_ta
 use Rattle.plain_rows.specs.Table.{control, stack, cells, doubles, memory}
 use Rattle.primitives.specs.Blocks.{without_block}
 use Rattle.primitives.specs.Devices.{saves_victim, saves}
-use Rattle.primitives.specs.Names.{searches}
+use Rattle.primitives.specs.Names.{searches, forgets}
 use Rattle.primitives.specs.DictionaryRows.{leaves_past, creates}
 use Rattle.primitives.specs.Interpret.{compiles_past}
 use Rattle.primitives.specs.Defining.{lays_past}
