@@ -1,4 +1,4 @@
-use Rattle.std.proofs.Common.{◌≡◌, subst, rules}
+use Rattle.std.proofs.Common.{◌≡◌, inr, subst, rules}
 use Rattle.subcommands.specs.Statuses.{EndsTracedWith}
 use Rattle.image_loader.specs.Files.{Contents}
 use Rattle.inner_interpreter.specs.Worlds.{loaded}
@@ -9,3 +9,10 @@ returns-in-Ok-load_and_debug-clause-ran g c = λ other fine good kept file f typ
     let same : c.in-Ok.image ≡ file = c.in-Ok.ensures.accepted file f in
     subst (λ (i : Contents). EndsTracedWith c.end_with.result.status (loaded i typed disk sent c.args.limit) c.args.name.now (g.R.Input.unread c.load_and_debug.new.reader) (g.D.Device.disk c.load_and_debug.new.device) (g.W.Output.sent c.load_and_debug.new.writer) (g.T.Output.sent c.args.trace.now) (g.T.Output.sent c.load_and_debug.new.trace)) same
     (record { stop = c.in-Ok-load_and_debug.stop; status_is = search rules; ends = c.in-Ok-load_and_debug.ensures.ran fine good kept typed u disk k sent s })
+
+pub returns-in-Err-clause-untraced : goal.returns-in-Err-clause-untraced
+returns-in-Err-clause-untraced g c = λ fine file f why is.
+    let p = c.refuse_image.ensures.out_of_memory fine (c.in-Err.ensures.accepted file f) in (p.0, inr p.1)
+
+pub returns-in-Err-clause-wanting : goal.returns-in-Err-clause-wanting
+returns-in-Err-clause-wanting g c = λ fine file f traced one. c.refuse_image.ensures.out_of_memory fine (c.in-Err.ensures.accepted file f)
