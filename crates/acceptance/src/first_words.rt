@@ -22,11 +22,24 @@ const HI_HEADER: [u8; 14] = [
     0x46, 0x54, 0x48, 0x38, 0x33, 0x49, 0x4D, 0x47, 0x01, 0x00, 0x06, 0x01, 0x16, 0x01,
 ];
 
-/// The file of 292 bytes.
+/// Magic, version 2, four buffers, entry 262, size 278.
+const HI_HEADER_2: [u8; 16] = [
+    0x46, 0x54, 0x48, 0x38, 0x33, 0x49, 0x4D, 0x47, 0x02, 0x00, 0x04, 0x00, 0x06, 0x01, 0x16, 0x01,
+];
+
+/// The file of version 1, of 292 bytes.
 fn hi_file() -> [u8; 292] {
     let mut bytes = [0; 292];
     bytes[..14].copy_from_slice(&HI_HEADER);
     bytes[270..].copy_from_slice(&HI);
+    bytes
+}
+
+/// The file of version 2, of 294 bytes.
+fn hi_file_2() -> [u8; 294] {
+    let mut bytes = [0; 294];
+    bytes[..16].copy_from_slice(&HI_HEADER_2);
+    bytes[272..].copy_from_slice(&HI);
     bytes
 }
 
@@ -38,10 +51,18 @@ fn a_file_is_read_and_run(rt: HostRuntime) -> Result<(), Fail> {
 }
 
 #[test]
-fn a_file_is_written_as_it_was_read(rt: HostRuntime) -> Result<(), Fail> {
+fn a_file_of_version_1_is_written_as_version_2(rt: HostRuntime) -> Result<(), Fail> {
     let image = read(rt.alloc(), &hi_file())?;
     let written = write(rt.alloc(), &image)?;
-    assert_equal(&rt, written.as_slice(), hi_file().as_slice());
+    assert_equal(&rt, written.as_slice(), hi_file_2().as_slice());
+    Ok(())
+}
+
+#[test]
+fn a_file_of_version_2_is_written_as_it_was_read(rt: HostRuntime) -> Result<(), Fail> {
+    let image = read(rt.alloc(), &hi_file_2())?;
+    let written = write(rt.alloc(), &image)?;
+    assert_equal(&rt, written.as_slice(), hi_file_2().as_slice());
     Ok(())
 }
 
