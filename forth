@@ -41,16 +41,8 @@ is_made() {
   done
 }
 
-# tell_place SOURCES SAID: where and why a build was refused, with its line, and how the kernel's screens come back.
-tell_place() {
-  local screen offset cause
-  read -r _ screen _ offset cause <<< "$2"
-  offset=${offset%:}
-  say "$1: screen $screen, line $((offset / 64)), column $((offset % 64)): $cause"
-  if [ "$offset" -lt 1024 ]; then
-    dd if="$1" bs=64 skip=$((screen * 16 + offset / 64)) count=1 status=none | tr '\000-\037' ' ' >&2
-    printf '\n%*s^\n' $((offset % 64)) '' >&2
-  fi
+# tell_kernel SOURCES: how the kernel's screens come back, where their build was refused.
+tell_kernel() {
   say "nothing is changed, and ./forth BLOCKS starts with the program's own kernel as before"
   say "the kernel's screens come back by: $here/forth83 kernel new.blk"
   say "then: dd if=new.blk of=$1 bs=1024 skip=1 seek=1 count=20 conv=notrunc"
@@ -59,9 +51,9 @@ tell_place() {
 # make_images SOURCES FOLDER: the image of the screens 1 to 20 alone, and that with the tools.
 make_images() {
   local said
-  said=$("$forth83" build -- "$1" 1 20 "$2/plain.new" 9>&-) || {
+  said=$("$forth83" build --where -- "$1" 1 20 "$2/plain.new" 9>&-) || {
     case $said in
-      screen*) tell_place "$1" "$said" ;;
+      screen*) tell_kernel "$1" ;;
       *) say "the image can't be made: $said" ;;
     esac
     return 1

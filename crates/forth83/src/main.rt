@@ -1,6 +1,7 @@
 //! A Forth-83 system with block storage.
 #![tactic(auto)]
 
+mod places;
 mod words;
 
 ghost use Rattle.std.specs.Prelude.{◌≡◌, ◌↔◌, true};
@@ -8,6 +9,7 @@ ghost use Rattle.memory.specs.Bytes.{IsCount};
 
 use block_buffers::{Device, MemoryDevice};
 use inner_interpreter::{Reading, Writing};
+use places::show_place;
 use std::fs::File;
 use std::io;
 use std::io::{BufReader, BufWriter, ErrorKind, IsTerminal, Stdin, Stdout};
@@ -18,7 +20,7 @@ use subcommands::{
     do_see, do_text, do_upgrade, do_view, open_device, open_to_read, read_blocks, read_file,
     read_image, replace_file, write_file,
 };
-use words::{Parsed, Words};
+use words::{BuildWords, Parsed, Words};
 
 /// Prints a line of the program's own, and answers the status: 5 where it can't be written.
 fn say<R: Print>(rt: &R, text: &str, name: &str, status: u8) -> u8 {
@@ -115,23 +117,26 @@ fn is_count(buffers: u16) -> bool
 }
 
 /// Builds the screens that `build` names, and writes the image.
-fn build_image(
-    rt: &HostRuntime,
-    blocks: &str,
-    from: u16,
-    to: u16,
-    image: &str,
-    buffers: u16,
-) -> Result<u8, u8> {
+fn build_image(rt: &HostRuntime, words: &BuildWords) -> Result<u8, u8> {
+    let BuildWords {
+        from,
+        to,
+        buffers,
+        ..
+    } = *words;
     if !is_count(buffers) {
         return Err(2);
     }
+    let blocks = words.blocks.as_str();
     let Some(mut device) = open_to_read(rt, blocks) else {
         return Err(cannot_open(rt, blocks));
     };
     let mut writer = standard_output(rt)?;
     let ended = do_build(rt.alloc(), &mut device, from, to, buffers, &mut writer);
-    Ok(finish(rt, ended, image))
+    if ended.status == 1 && (words.shows_place || rt.stderr().is_terminal()) {
+        show_place(rt, blocks, &mut device, (from, to), buffers);
+    }
+    Ok(finish(rt, ended, words.image.as_str()))
 }
 
 /// Writes the image that `upgrade` names anew, for other block buffers.
@@ -321,13 +326,7 @@ fn debug_word(
 fn obey(rt: &HostRuntime, words: Words) -> Result<u8, u8> {
     match words {
         Words::Kernel { blocks } => write_kernel(rt, blocks.as_str()),
-        Words::Build {
-            blocks,
-            from,
-            to,
-            image,
-            buffers,
-        } => build_image(rt, blocks.as_str(), from, to, image.as_str(), buffers),
+        Words::Build(words) => build_image(rt, &words),
         Words::Upgrade {
             image,
             out,

@@ -1,7 +1,7 @@
 //! The command line.
 
 use clap::error::ErrorKind;
-use clap::{Arg, ArgMatches, Command, value_parser};
+use clap::{Arg, ArgAction, ArgMatches, Command, value_parser};
 use std::alloc::{AllocError, Global};
 use std::{env, io};
 
@@ -20,14 +20,7 @@ pub enum Words {
     Kernel {
         blocks: String,
     },
-    Build {
-        blocks: String,
-        from: u16,
-        to: u16,
-        image: String,
-        /// How many block buffers, 2 to 16.
-        buffers: u16,
-    },
+    Build(BuildWords),
     Upgrade {
         image: String,
         out: String,
@@ -67,6 +60,19 @@ pub enum Words {
         image: String,
         name: String,
     },
+}
+
+/// The words of `build`.
+#[derive(Drop)]
+pub struct BuildWords {
+    pub blocks: String,
+    pub from: u16,
+    pub to: u16,
+    pub image: String,
+    /// How many block buffers, 2 to 16.
+    pub buffers: u16,
+    /// Whether it is shown where a source is refused, also if standard error is no terminal.
+    pub shows_place: bool,
 }
 
 /// What became of the command line.
@@ -115,6 +121,12 @@ fn build_command<'a>(alloc: Global) -> Result<Command<'a>, AllocError> {
             buffers(alloc)
                 .default_value("4")
                 .help("Block buffers, 2 to 16"),
+        )?
+        .arg(
+            Arg::new(alloc, "where")
+                .long("where")
+                .action(ArgAction::SetTrue)
+                .help("Show where a source is refused, as at a terminal"),
         )
 }
 
@@ -286,13 +298,14 @@ fn build_words(alloc: Global, inner: &ArgMatches<'_>) -> Result<Option<Words>, A
         return Ok(None);
     };
     let buffers = inner.get_one::<u16>("buffers").unwrap_or(DEFAULT_BUFFERS);
-    Ok(Some(Words::Build {
+    Ok(Some(Words::Build(BuildWords {
         blocks,
         from,
         to,
         image,
         buffers,
-    }))
+        shows_place: inner.get_flag("where"),
+    })))
 }
 
 fn upgrade_words(alloc: Global, inner: &ArgMatches<'_>) -> Result<Option<Words>, AllocError> {
