@@ -186,9 +186,9 @@ fn report(alloc: Global, image: &Image) -> Result<String, AllocError>
     format!(in alloc; "size {size} entry {entry}\n")
 }
 
-/// Builds the source in the screens from `from` to `to` to an image for so many block buffers, 2 to 16, and prints `size S
-/// entry E`. Status 0, with the bytes of the image's file. Without a file 1: the source is refused (`screen S offset O:
-/// CAUSE` is printed) or memory ran out; 5: a line can't be printed.
+/// Builds the source in the screens from `from` to `to` to an image for so many block buffers, 2 to 16, and prints `size S entry E`. Status 0, with the bytes of
+/// the image's file. Without a file 1: the source is refused (`screen S offset O: CAUSE` is printed) or memory ran out;
+/// 5: a line can't be printed.
 pub fn do_build<W: Output, D: Device>(
     alloc: Global,
     device: &mut D,
