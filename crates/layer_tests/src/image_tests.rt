@@ -1,5 +1,5 @@
 use crate::assertions::assert_equal;
-use image_loader::{Image, ImageFault, UpgradeFault, read, upgrade, write};
+use image_loader::{ImageFault, UpgradeFault, read, upgrade, write};
 use std::test::Fail;
 
 /// Magic, version 1, entry 262 (1 * 256 + 6), size 278 (1 * 256 + 22).
@@ -48,9 +48,7 @@ fn reads_files_of_both_versions(rt: HostRuntime) -> Result<(), Fail> {
 
 #[test]
 fn writes_version_2(rt: HostRuntime) -> Result<(), Fail> {
-    let bytes = memory().to_vec(rt.alloc())?;
-    assert_equal(&rt, bytes.len(), 278);
-    let image = Image::new(4, 262, bytes);
+    let image = read(rt.alloc(), &first_file())?;
     match write(rt.alloc(), &image) {
         Ok(written) => assert_equal(&rt, written.as_slice(), file().as_slice()),
         Err(_) => assert!(rt; false, "out of memory"),
@@ -79,15 +77,12 @@ fn each_beginning_is_truncated(rt: HostRuntime) {
 
 #[test]
 fn a_byte_more_is_trailing(rt: HostRuntime) {
+    let mut first = [0; 293];
+    first[..292].copy_from_slice(&first_file());
+    assert_equal(&rt, fault(&rt, &first), Some(ImageFault::TrailingBytes));
     let mut longer = [0; 295];
     longer[..294].copy_from_slice(&file());
     assert_equal(&rt, fault(&rt, &longer), Some(ImageFault::TrailingBytes));
-    longer[..292].copy_from_slice(&first_file());
-    assert_equal(
-        &rt,
-        fault(&rt, &longer[..293]),
-        Some(ImageFault::TrailingBytes),
-    );
 }
 
 /// Two bytes of a whole file are changed. The sizes are 255, 61,441 and 279; the numbers of buffers 1, 17 and 260.
