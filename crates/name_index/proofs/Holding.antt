@@ -1,0 +1,75 @@
+-- An index that holds for one memory, and for another.
+use Rattle.std.proofs.Common.{◌≡◌, ℕ, ◌+◌, ◌-◌, ◌<◌, ◌≤◌, List, true, false, arith, ◌∙◌, slice_index, replicate, inl, inr}
+use Rattle.std.proofs.lemmas.List.{get_or-replicate}
+use Rattle.std.proofs.lemmas.Bool.{cases_lt}
+use Rattle.std.proofs.lemmas.Grind.{common_steps}
+use Rattle.name_index.specs.declared.index.NameIndex.{NameIndex}
+use Rattle.name_index.specs.Covers.{is_met}
+use Rattle.name_index.specs.Watch.{is_watched, Agree, AgreeBelow, AgreeBeside, IsBeside}
+use Rattle.name_index.specs.Index.{Keeps, IsValid, Holds}
+
+-- an index that keeps nothing
+none_case : (limit : ℕ) (m : List ℕ) (k : ℕ) → k < 256 → 0 < slice_index (replicate 256 0) k → IsValid limit 256 m (slice_index (replicate 256 0) k)
+none_case limit m k b q =
+    let s : slice_index (replicate 256 0) k ≡ 0 = get_or-replicate 256 k 0 0 b in
+    absurd (omega (arith, s))
+
+pub holds_none : (index : NameIndex) (limit : ℕ) (m : List ℕ) → index.places ≡ replicate 256 0 → index.top ≡ 256 → Holds limit index m
+unfolding Holds
+holds_none index limit m p t = rw (p, t) (λ k b q. none_case limit m k b q)
+
+-- what holds for one memory holds for each that agrees with it
+keeps_by : (top : ℕ) (m other : List ℕ) (l : ℕ) → Agree top m other → Keeps top m l → Keeps top other l
+keeps_by top m other l s keeps third len g name some named = keeps third len (λ a w. g a w ∙ s a w) name some named
+
+valid_by : (limit top : ℕ) (m other : List ℕ) (l : ℕ) → (256 < top → top ≤ limit → Agree top m other) → IsValid limit top m l → IsValid limit top other l
+valid_by limit top m other l s v = record {
+  raised = v.raised;
+  bound = v.bound;
+  keeps = keeps_by top m other l (s v.raised v.bound) v.keeps;
+}
+
+pub holds_by : (limit : ℕ) (index : NameIndex) (m other : List ℕ) → (256 < index.top → index.top ≤ limit → Agree index.top m other) → Holds limit index m → Holds limit index other
+unfolding Holds
+holds_by limit index m other s holds k b q = valid_by limit index.top m other (slice_index index.places k) s (holds k b q)
+
+-- memories that are the same below an address, and below the limit
+watched_below : (top floor a : ℕ) → 256 < top → top ≤ floor → is_watched top a ≡ true → a < floor
+unfolding is_watched
+watched_below top floor a h k w = grind (arith, common_steps)
+
+pub holds_above : (limit floor : ℕ) (index : NameIndex) (m other : List ℕ) → (256 < index.top → index.top ≤ floor) → AgreeBelow floor m other → Holds limit index m → Holds limit index other
+holds_above limit floor index m other t s holds =
+    holds_by limit index m other (λ r b a w. s a (watched_below index.top floor a r (t r) w)) holds
+
+pub holds_below_limit : (limit : ℕ) (index : NameIndex) (m other : List ℕ) → AgreeBelow limit m other → Holds limit index m → Holds limit index other
+holds_below_limit limit index m other s holds = holds_by limit index m other (λ r b a w. s a (watched_below index.top limit a r b w)) holds
+
+-- a range that meets nothing watched
+apart : (top start end a : ℕ) → is_met top start end ≡ false → is_watched top a ≡ true → start ≤ a → a < end → true ≡ false
+unfolding is_met is_watched
+apart top start end a f w h k = grind (arith, common_steps)
+
+pub beside : (top at n : ℕ) → at < 65536 → n < 65536 → is_met top at (at + n) ≡ false → is_met top 0 (at + n - 65536) ≡ false → (a : ℕ) → is_watched top a ≡ true → IsBeside at n a
+beside top at n h k f g a w i lt e =
+    elim (cases_lt (at + i) 65536) [
+      | inl low ↦
+          let p : true ≡ false = apart top at (at + n) a f w (omega (arith, e, low)) (omega (arith, e, low, lt)) in
+          cc
+      | inr high ↦
+          let p : true ≡ false = apart top 0 (at + n - 65536) a g w (omega arith) (omega (arith, e, high, h, k, lt)) in
+          cc
+    ]
+
+-- a range at top or above, and an empty one
+pub unmet_above : (top start end : ℕ) → 256 ≤ start → top ≤ start → is_met top start end ≡ false
+unfolding is_met
+unmet_above top start end h k = grind (arith, common_steps)
+
+pub unmet_none : (top end : ℕ) → end ≤ 0 → is_met top 0 end ≡ false
+unfolding is_met
+unmet_none top end h = grind (arith, common_steps)
+
+-- a write beside all that is watched
+pub holds_beside : (limit at n : ℕ) (index : NameIndex) (m other : List ℕ) → ((a : ℕ) → is_watched index.top a ≡ true → IsBeside at n a) → AgreeBeside at n m other → Holds limit index m → Holds limit index other
+holds_beside limit at n index m other b s holds = holds_by limit index m other (λ r t a w. s a (b a w)) holds
