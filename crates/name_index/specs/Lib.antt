@@ -1,3 +1,4 @@
 pub mod Watch
 pub mod Index
 pub mod Covers
+pub mod Stays

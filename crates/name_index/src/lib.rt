@@ -3,6 +3,9 @@
 //! Nothing is assumed of memory: the index answers what `dictionary`'s search does, whatever memory holds.
 #![tactic(auto)]
 
+mod chains;
+mod headers;
 mod index;
+mod reach;
 
 pub use index::NameIndex;
