@@ -1,3 +1,4 @@
 pub mod Holding
 pub mod Alike
 pub mod Orders
+pub mod Keeping

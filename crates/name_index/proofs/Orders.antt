@@ -1,5 +1,5 @@
 -- CONTEXT's vocabulary, and then FORTH.
-use Rattle.std.proofs.Common.{◌≡◌, ℕ, ◌<◌, ◌≤◌, List, [], ◌∷◌, length, refl, arith, sym, ◌∙◌, Bool, false, ◌==◌, ap, subst}
+use Rattle.std.proofs.Common.{◌≡◌, ℕ, ◌<◌, ◌≤◌, List, [], ◌∷◌, length, refl, arith, sym, ◌∙◌, Bool, true, false, ◌==◌, ap, subst}
 use Rattle.std.proofs.lemmas.Grind.{common_steps}
 use Rattle.memory.specs.Bytes.{cell}
 use Rattle.dictionary.specs.Search.{Sought, Found, Nowhere, TooLong, head_of, sought, sought_in, sought_from, first_from, first_in}
@@ -9,6 +9,10 @@ use Rattle.name_index.proofs.Alike.{agree_less, context_alike}
 
 some_name : (name : List ℕ) → 0 < length name → (length name == 0) ≡ false
 some_name name h = grind (arith, common_steps)
+
+pub sought_empty : (m name : List ℕ) → (length name == 0) ≡ true → sought m name ≡ Nowhere
+unfolding sought sought_from first_from
+sought_empty m name e = rw e refl
 
 pub sought_forth : (m name : List ℕ) → 0 < length name → sought_in m (cell m 32) name ≡ Nowhere → sought m name ≡ sought_in m 42 name
 unfolding sought sought_from first_from sought_in

@@ -87,6 +87,7 @@ pub fn search(memory: &Memory, name: &[u8], reach: u32) -> Watched
     let first = search_in(memory, memory.cell(CONTEXT), name, reach);
     match first.answer {
         Ok(None) => search_in(memory, FORTH_VOC, name, first.reach),
-        Ok(Some(_)) | Err(_) => first,
+        Ok(Some(_)) => first,
+        Err(_) => first,
     }
 }

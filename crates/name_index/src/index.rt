@@ -32,9 +32,9 @@ fn is_met(top: u16, start: u32, end: u32) -> bool
 }
 
 impl NameIndex {
-    ghost use Rattle.std.specs.Prelude.{ℕ, ◌≡◌, ◌≤◌, ◌+◌, List, true, false};
+    ghost use Rattle.std.specs.Prelude.{ℕ, ◌≡◌, ◌<◌, ◌≤◌, ◌+◌, List, true, false, slice_index};
     ghost use Rattle.name_index.specs.Watch.{is_watched, IsBeside, AgreeBelow, AgreeBeside};
-    ghost use Rattle.name_index.specs.Index.{Holds, top_of};
+    ghost use Rattle.name_index.specs.Index.{Keeps, Holds, top_of};
 
     /// An index that keeps nothing.
     #[tactic(auto, using(crate::proofs::Holding::holds_none))]
@@ -91,6 +91,34 @@ impl NameIndex {
             self.top
         } else {
             LEAST_FLOOR
+        }
+    }
+
+    /// The header that a place keeps, 0 for none.
+    pub(crate) fn kept(&self, place: u8) -> u16
+        ensures { result ≡ slice_index self.now.places place }
+    {
+        self.places[usize::from(place)]
+    }
+
+    /// How far the dictionary is watched.
+    pub(crate) fn reach(&self) -> u32
+        ensures { result ≡ top_of self.now }
+    {
+        u32::from(self.top)
+    }
+
+    /// Keeps that the header at `found` was found, by a search for which the dictionary has to be watched below `reach`. A
+    /// reach above the limit is not kept.
+    #[tactic(auto, using(crate::proofs::Keeping::holds_set))]
+    pub(crate) fn keep(&mut self, place: u8, found: u16, reach: u32, limit: u16)
+        requires raised { 256 < reach }
+        requires more { top_of self.old ≤ reach }
+        ensures { (m : List ℕ) → (reach < 65536 → Keeps reach m found) → Holds limit self.old m → Holds limit self.new m }
+    {
+        if reach <= u32::from(limit) {
+            self.places[usize::from(place)] = found;
+            self.top = reach as u16;
         }
     }
 }

@@ -4,8 +4,10 @@
 #![tactic(auto)]
 
 mod chains;
+mod finding;
 mod headers;
 mod index;
 mod reach;
 
+pub use finding::find_indexed;
 pub use index::NameIndex;

@@ -8,7 +8,10 @@ returns-in-Ok-None-clause-stays c =
       c.search_in.ensures.more (search rules) (search rules) (search rules) c.search_in.ensures.stays
 
 pub returns-in-Ok-Some-clause-stays : goal.returns-in-Ok-Some-clause-stays
-returns-in-Ok-Some-clause-stays c = search (rules, stays_found)
+returns-in-Ok-Some-clause-stays c =
+    stays_found c.search_in-first.result.reach c.in-Ok-Some.field-0-0 c.args.memory.now c.args.name.now
+      (search rules) (search rules) (search rules)
 
-pub returns-in-Ok-Some-2-clause-stays : goal.returns-in-Ok-Some-2-clause-stays
-returns-in-Ok-Some-2-clause-stays c = search (rules, stays_long)
+pub returns-in-Err-clause-stays : goal.returns-in-Err-clause-stays
+returns-in-Err-clause-stays c =
+    stays_long c.search_in-first.result.reach c.args.memory.now c.args.name.now (search rules) (search rules) (search rules)
