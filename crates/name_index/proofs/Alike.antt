@@ -1,7 +1,7 @@
 -- What is read at watched addresses is the same in each memory that agrees there.
-use Rattle.std.proofs.Common.{◌≡◌, ◌≢◌, ℕ, ◌+◌, ◌-◌, ◌<◌, ◌≤◌, List, length, Bool, true, false, ◌||◌, ◌&&◌, nat_lt, nat_le, refl, arith, sym, ◌∙◌}
+use Rattle.std.proofs.Common.{◌≡◌, ◌≢◌, ℕ, ◌+◌, ◌-◌, ◌<◌, ◌≤◌, List, length, true, false, arith, sym, ◌∙◌}
 use Rattle.std.proofs.lemmas.Grind.{common_steps}
-use Rattle.memory.specs.Bytes.{byte, cell}
+use Rattle.memory.specs.Bytes.{cell}
 use Rattle.memory.proofs.Same.{cell_by}
 use Rattle.dictionary.specs.Header.{is_named, name_length}
 use Rattle.dictionary.specs.Search.{walked}
@@ -97,7 +97,7 @@ follows_on reach old m name left l start more follows covers lm some nonzero nam
     let k : cell other l ≡ cell m l = link_alike reach l m other r covers g in
     let n : is_named other name l ≡ false = named_alike reach l m other name r covers lm lo g ∙ named in
     let f : walked (is_named other name) other left l ≡ walked (is_named other name) other 32768 start =
-      follows (omega (arith, more, r)) other lo (agree_less old reach m other more g) in
+    follows (omega (arith, more, r)) other lo (agree_less old reach m other more g) in
     let w : walked (is_named other name) other left l ≡ walked (is_named other name) other (left - 1) (cell other l) =
-      walked_later (is_named other name) other left l some nonzero n in
+    walked_later (is_named other name) other left l some nonzero n in
     rw (← k) (sym w ∙ f)

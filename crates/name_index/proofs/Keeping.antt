@@ -1,5 +1,5 @@
 -- What a search found is kept, and answers searches.
-use Rattle.std.proofs.Common.{rules, ◌≡◌, ◌≢◌, ℕ, zero, suc, ◌+◌, ◌<◌, ◌≤◌, List, [], ◌∷◌, length, Bool, true, false, not, ◌&&◌, ◌==◌, if◌then◌else◌, Option, Some, None, refl, arith, sym, ◌∙◌, slice_index, slice_set, bytes_eq}
+use Rattle.std.proofs.Common.{rules, ◌≡◌, ◌≢◌, ℕ, ◌<◌, ◌≤◌, List, [], ◌∷◌, length, Bool, true, false, not, ◌&&◌, ◌==◌, if◌then◌else◌, Option, Some, None, refl, arith, sym, ◌∙◌, slice_index, slice_set, bytes_eq}
 use Rattle.std.specs.Prelude.{find}
 use Rattle.std.proofs.lemmas.Grind.{common_steps, get_or-set_at}
 use Rattle.std.proofs.lemmas.List.{get_or-set_other}
@@ -9,8 +9,7 @@ use Rattle.dictionary.specs.Header.{is_named, is_hidden, name_of}
 use Rattle.dictionary.specs.Chain.{chain, is_longer}
 use Rattle.dictionary.specs.Search.{Sought, Found, Nowhere, TooLong, comes_to, walked, first_in, or_else, first_from, sought_from, sought}
 use Rattle.name_index.specs.declared.index.NameIndex.{NameIndex}
-use Rattle.name_index.specs.Watch.{Agree}
-use Rattle.name_index.specs.Stays.{Alike, StaysSought}
+use Rattle.name_index.specs.Stays.{StaysSought}
 use Rattle.name_index.specs.Index.{Keeps, IsValid, Holds}
 use Rattle.name_index.proofs.Alike.{agree_less}
 

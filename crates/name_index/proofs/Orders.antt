@@ -1,10 +1,10 @@
 -- CONTEXT's vocabulary, and then FORTH.
-use Rattle.std.proofs.Common.{◌≡◌, ℕ, ◌<◌, ◌≤◌, List, [], ◌∷◌, length, refl, arith, sym, ◌∙◌, Bool, true, false, ◌==◌, ap, subst}
+use Rattle.std.proofs.Common.{◌≡◌, ℕ, ◌<◌, ◌≤◌, List, length, refl, arith, sym, ◌∙◌, true, false, ◌==◌, ap, subst}
 use Rattle.std.proofs.lemmas.Grind.{common_steps}
 use Rattle.memory.specs.Bytes.{cell}
-use Rattle.dictionary.specs.Search.{Sought, Found, Nowhere, TooLong, head_of, sought, sought_in, sought_from, first_from, first_in}
+use Rattle.dictionary.specs.Search.{Found, Nowhere, TooLong, head_of, sought, sought_in, sought_from, first_from, first_in}
 use Rattle.name_index.specs.Watch.{Agree}
-use Rattle.name_index.specs.Stays.{Alike, Stays, StaysIn, StaysSought}
+use Rattle.name_index.specs.Stays.{Stays, StaysIn, StaysSought}
 use Rattle.name_index.proofs.Alike.{agree_less, context_alike}
 
 some_name : (name : List ℕ) → 0 < length name → (length name == 0) ≡ false
@@ -37,8 +37,8 @@ pub stays_from : (reach old voc at start : ℕ) (m name : List ℕ) → at ≡ h
     → (old < 65536 → (m other : List ℕ) → Agree old m other → cell other at ≡ cell m at) → Stays reach m name start → StaysIn reach m voc name
 stays_from reach old voc at start m name e s more head stays =
     stays_in reach old voc m name more
-      (subst (λ (x : ℕ). old < 65536 → (m other : List ℕ) → Agree old m other → cell other x ≡ cell m x) e head)
-      (subst (λ (x : ℕ). Stays reach m name x) (s ∙ ap (λ (x : ℕ). cell m x) e) stays)
+    (subst (λ (x : ℕ). old < 65536 → (m other : List ℕ) → Agree old m other → cell other x ≡ cell m x) e head)
+    (subst (λ (x : ℕ). Stays reach m name x) (s ∙ ap (λ (x : ℕ). cell m x) e) stays)
 
 -- in CONTEXT alone, where it decides
 context_stays : (reach : ℕ) (m name other : List ℕ) → reach < 65536 → length other ≡ 65536 → Agree reach m other → StaysIn reach m (cell m 32) name
@@ -57,7 +57,7 @@ pub stays_forth : (reach old : ℕ) (m name : List ℕ) → old ≤ reach → 0 
     → StaysIn old m (cell m 32) name → StaysIn reach m 42 name → StaysSought reach m name
 stays_forth reach old m name more some nowhere context forth r other lo g =
     let c : sought_in other (cell other 32) name ≡ Nowhere =
-      context_stays old m name other (omega (arith, more, r)) lo (agree_less old reach m other more g) context ∙ nowhere in
+    context_stays old m name other (omega (arith, more, r)) lo (agree_less old reach m other more g) context ∙ nowhere in
     sought_forth other name some c ∙ forth r other lo g ∙ sym (sought_forth m name some nowhere)
 
 pub ruleset orders = (sought_forth, sought_context, sought_long, stays_found, stays_long, stays_forth)

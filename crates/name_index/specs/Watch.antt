@@ -1,4 +1,4 @@
-use Rattle.std.specs.Prelude.{ℕ, ◌+◌, ◌<◌, ◌≡◌, ◌≢◌, List, Bool, true, nat_le, nat_lt, ◌&&◌, ◌||◌}
+use Rattle.std.specs.Prelude.{ℕ, ◌+◌, ◌<◌, ◌≡◌, ◌≢◌, List, Bool, true, false, nat_le, nat_lt, ◌&&◌, ◌||◌}
 use Rattle.cells.specs.Cell.{wrap}
 use Rattle.memory.specs.Bytes.{byte}
 
@@ -19,6 +19,10 @@ AgreeBelow end m other = (a : ℕ) → a < end → byte other a ≡ byte m a
 -- a is none of the n addresses from at on
 abbrev pub IsBeside : ℕ → ℕ → ℕ → Type 0
 IsBeside at n a = (i : ℕ) → i < n → wrap (at + i) ≢ a
+
+-- none of them is watched
+abbrev pub IsUnwatched : ℕ → ℕ → ℕ → Type 0
+IsUnwatched top at n = (i : ℕ) → i < n → is_watched top (wrap (at + i)) ≡ false
 
 -- two memories have the same bytes but at the n addresses from at on
 abbrev pub AgreeBeside : ℕ → ℕ → List ℕ → List ℕ → Type 0

@@ -46,19 +46,31 @@ fn walk(memory: &Memory, start: u16, name: &[u8], reach: u32) -> Watched
     let mut left = LIMIT;
     while left > 0 {
         if l == 0 {
-            return Watched { answer: Ok(None), reach };
+            return Watched {
+                answer: Ok(None),
+                reach,
+            };
         }
         reach = covered(reach, l, end_of(memory, l));
         if is_named(memory, l, name) {
-            return Watched { answer: Ok(Some(l)), reach };
+            return Watched {
+                answer: Ok(Some(l)),
+                reach,
+            };
         }
         l = memory.cell(l);
         left -= 1;
     }
     if l == 0 {
-        return Watched { answer: Ok(None), reach };
+        return Watched {
+            answer: Ok(None),
+            reach,
+        };
     }
-    Watched { answer: Err(ChainTooLong), reach }
+    Watched {
+        answer: Err(ChainTooLong),
+        reach,
+    }
 }
 
 /// The search in the vocabulary at `voc` alone.

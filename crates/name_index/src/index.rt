@@ -1,10 +1,6 @@
 //! The table, and when it is emptied.
 
-ghost use Rattle.std.specs.Prelude.{◌≡◌};
-ghost use Rattle.name_index.specs.Covers.{is_met};
-
-/// The first address of the dictionary.
-const DICTIONARY: u16 = 256;
+use crate::watch::{DICTIONARY, is_touched};
 
 /// How many bytes of memory's beginning a loop may keep behind its end too: below them a store is never in place.
 const LEAST_FLOOR: u16 = 16;
@@ -17,23 +13,9 @@ pub struct NameIndex {
     top: u16,
 }
 
-/// Whether one of the addresses from `start` to `end - 1` is watched, where the dictionary is watched below `top`.
-#[tactic(auto, unfolding(crate::specs::Covers::is_met))]
-fn is_met(top: u16, start: u32, end: u32) -> bool
-    ensures { result ≡ is_met top start end }
-{
-    if start < 34 && 32 < end {
-        return true;
-    }
-    if start < 52 && 42 < end {
-        return true;
-    }
-    start < u32::from(top) && 256 < end
-}
-
 impl NameIndex {
     ghost use Rattle.std.specs.Prelude.{ℕ, ◌≡◌, ◌<◌, ◌≤◌, ◌+◌, List, true, false, slice_index};
-    ghost use Rattle.name_index.specs.Watch.{is_watched, IsBeside, AgreeBelow, AgreeBeside};
+    ghost use Rattle.name_index.specs.Watch.{is_watched, IsBeside, IsUnwatched, AgreeBelow, AgreeBeside};
     ghost use Rattle.name_index.specs.Index.{Keeps, Holds, top_of};
 
     /// An index that keeps nothing.
@@ -54,29 +36,15 @@ impl NameIndex {
         *self = NameIndex::new();
     }
 
-    /// Whether one of the `n` addresses from `at` on is watched. Addresses wrap.
-    #[tactic(auto, using(crate::proofs::Holding::beside))]
-    fn is_touched(&self, at: u16, n: u16) -> bool
-        ensures beside { result ≡ false → (a : ℕ) → is_watched self.now.top a ≡ true → IsBeside at n a }
-        ensures above { 256 ≤ at → self.now.top ≤ at → at + n ≤ 65536 → result ≡ false }
-    {
-        let start = u32::from(at);
-        let end = start + u32::from(n);
-        if is_met(self.top, start, end) {
-            return true;
-        }
-        is_met(self.top, 0, end.saturating_sub(65536))
-    }
-
     /// Stands beside a write of the `n` addresses from `at` on, which wrap: where one of them is watched, nothing is kept any
     /// more.
     #[tactic(auto, using(crate::proofs::Holding::holds_beside))]
     pub fn note(&mut self, at: u16, n: u16)
         ensures holds { (limit : ℕ) (m other : List ℕ)
             → AgreeBeside at n m other → Holds limit self.old m → Holds limit self.new other }
-        ensures above { 256 ≤ at → top_of self.old ≤ at → at + n ≤ 65536 → self.new ≡ self.old }
+        ensures unwatched { IsUnwatched (top_of self.old) at n → self.new ≡ self.old }
     {
-        if self.is_touched(at, n) {
+        if is_touched(self.top, at, n) {
             self.clear();
         }
     }

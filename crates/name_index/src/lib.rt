@@ -8,6 +8,7 @@ mod finding;
 mod headers;
 mod index;
 mod reach;
+mod watch;
 
 pub use finding::find_indexed;
 pub use index::NameIndex;

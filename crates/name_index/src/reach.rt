@@ -4,8 +4,7 @@ ghost use Rattle.std.specs.Prelude.{◌≡◌, ◌<◌, ◌≤◌, List, ℕ};
 ghost use Rattle.memory.specs.Bytes.{cell};
 ghost use Rattle.name_index.specs.Watch.{Agree};
 
-/// The first address of the dictionary.
-const DICTIONARY: u16 = 256;
+use crate::watch::DICTIONARY;
 
 /// Behind memory: what was read is not watched.
 const BEHIND: u32 = 65536;

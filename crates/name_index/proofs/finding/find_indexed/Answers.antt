@@ -9,11 +9,11 @@ returns-then-is_empty-clause-found c = sought_empty c.args.memory.now c.args.nam
 pub returns-then-is_named-clause-found : goal.returns-then-is_named-clause-found
 returns-then-is_named-clause-found c =
     keeps_at c.args.limit c.place_of-place.result c.kept-kept.result c.args.index.now c.args.memory.now c.args.name.now
-      c.requires c.len.ensures.bytes (search rules) c.kept-kept.ensures (search rules) (search rules) (search rules)
+    c.requires c.len.ensures.bytes (search rules) c.kept-kept.ensures (search rules) (search rules) (search rules)
 
 pub returns-in-Ok-Some-clause-holds : goal.returns-in-Ok-Some-clause-holds
 returns-in-Ok-Some-clause-holds c =
     c.keep.ensures c.args.memory.now
-      (λ t. keeps_found c.search-watched.result.reach c.args.memory.now c.args.name.now c.in-Ok-Some.found t
-        (search rules) c.search-watched.ensures.stays)
-      c.requires
+    (λ t. keeps_found c.search-watched.result.reach c.args.memory.now c.args.name.now c.in-Ok-Some.found t
+    (search rules) c.search-watched.ensures.stays)
+    c.requires

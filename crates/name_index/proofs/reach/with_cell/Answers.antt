@@ -1,4 +1,4 @@
-use Rattle.std.proofs.Common.{rules, arith}
+use Rattle.std.proofs.Common.{rules}
 use Rattle.name_index.proofs.Alike.{cell_alike, forth_alike}
 use Rattle.name_index.proofs.reach.with_cell.Goals as goal
 
