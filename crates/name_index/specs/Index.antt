@@ -1,4 +1,4 @@
-use Rattle.std.specs.Prelude.{ℕ, ◌<◌, ◌≤◌, ◌≡◌, List, true, length, slice_index}
+use Rattle.std.specs.Prelude.{ℕ, ◌<◌, ◌≤◌, ◌≡◌, List, true, length, slice_index, replicate, nat_lt, if◌then◌else◌}
 use Rattle.dictionary.specs.Header.{is_named}
 use Rattle.dictionary.specs.Search.{sought, Found}
 use Rattle.name_index.specs.declared.index.NameIndex.{NameIndex}
@@ -19,6 +19,14 @@ pub record IsValid (limit top : ℕ) (m : List ℕ) (l : ℕ) : Type 0 where
 -- the end of what is watched of the dictionary
 abbrev pub top_of : NameIndex → ℕ
 top_of index = index.top
+
+-- an index that keeps nothing
+abbrev pub emptied : NameIndex
+emptied = record { places = replicate 256 0; top = 256 }
+
+-- the end of the addresses at which a write may change what is kept. Sixteen where nothing is kept
+abbrev pub floor_of : NameIndex → ℕ
+floor_of index = if nat_lt 256 index.top then index.top else 16
 
 -- each place that isn't 0 holds for memory m
 unfoldable pub Holds : ℕ → NameIndex → List ℕ → Type 0

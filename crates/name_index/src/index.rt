@@ -15,13 +15,15 @@ pub struct NameIndex {
 
 impl NameIndex {
     ghost use Rattle.std.specs.Prelude.{ℕ, ◌≡◌, ◌<◌, ◌≤◌, ◌+◌, List, true, false, slice_index};
-    ghost use Rattle.name_index.specs.Watch.{is_watched, IsBeside, IsUnwatched, AgreeBelow, AgreeBeside};
-    ghost use Rattle.name_index.specs.Index.{Keeps, Holds, top_of};
+    ghost use Rattle.name_index.specs.Watch.{is_watched, IsUnwatched, AgreeBelow, AgreeBeside};
+    ghost use Rattle.name_index.specs.Index.{Keeps, Holds, top_of, emptied, floor_of};
+    ghost use Rattle.cells.specs.Cell.{wrap};
 
     /// An index that keeps nothing.
     #[tactic(auto, using(crate::proofs::Holding::holds_none))]
     pub fn new() -> NameIndex
-        ensures { (limit : ℕ) (m : List ℕ) → Holds limit result m }
+        ensures value { result ≡ emptied }
+        ensures holds { (limit : ℕ) (m : List ℕ) → Holds limit result m }
     {
         NameIndex {
             places: [0; 256],
@@ -31,7 +33,8 @@ impl NameIndex {
 
     /// Keeps nothing any more.
     pub fn clear(&mut self)
-        ensures { (limit : ℕ) (m : List ℕ) → Holds limit self.new m }
+        ensures value { self.new ≡ emptied }
+        ensures holds { (limit : ℕ) (m : List ℕ) → Holds limit self.new m }
     {
         *self = NameIndex::new();
     }
@@ -42,6 +45,7 @@ impl NameIndex {
     pub fn note(&mut self, at: u16, n: u16)
         ensures holds { (limit : ℕ) (m other : List ℕ)
             → AgreeBeside at n m other → Holds limit self.old m → Holds limit self.new other }
+        ensures watched { (i : ℕ) → i < n → is_watched (top_of self.old) (wrap (at + i)) ≡ true → self.new ≡ emptied }
         ensures unwatched { IsUnwatched (top_of self.old) at n → self.new ≡ self.old }
     {
         if is_touched(self.top, at, n) {
@@ -52,6 +56,7 @@ impl NameIndex {
     /// The least address at which a write changes nothing of what is kept: 16 where nothing is.
     #[tactic(auto, using(crate::proofs::Holding::holds_above))]
     pub fn floor(&self) -> u16
+        ensures value { result ≡ floor_of self.now }
         ensures least { 16 ≤ result }
         ensures holds { (limit : ℕ) (m other : List ℕ) → AgreeBelow result m other → Holds limit self.now m → Holds limit self.now other }
     {
