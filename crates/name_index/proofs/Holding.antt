@@ -106,7 +106,7 @@ unmet top start end some f =
     let three : (nat_lt 256 top && meets start end 256 top) ≡ false = unmet_headers top start end some f in
     rw (one, two, three) refl
 
-unmet_none : (top end : ℕ) → end ≤ 0 → is_met top 0 end ≡ false
+pub unmet_none : (top end : ℕ) → end ≤ 0 → is_met top 0 end ≡ false
 unfolding is_met
 unmet_none top end h = grind (arith, common_steps)
 

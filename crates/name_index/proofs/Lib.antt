@@ -2,3 +2,4 @@ pub mod Holding
 pub mod Alike
 pub mod Orders
 pub mod Keeping
+pub mod Writes

@@ -1,0 +1,76 @@
+-- Which addresses a write leaves as they were, and writes that no find rests on.
+use Rattle.std.proofs.Common.{◌≡◌, ◌≢◌, ℕ, zero, suc, ◌+◌, ◌-◌, ◌<◌, ◌≤◌, ◌%◌, ◌/◌, List, [], ◌∷◌, length, Bool, true, false, ◌&&◌, ◌||◌, nat_lt, refl, arith, sym, ◌∙◌}
+use Rattle.std.proofs.lemmas.Grind.{common_steps}
+use Rattle.cells.specs.Cell.{wrap}
+use Rattle.memory.specs.Bytes.{byte, put_byte, put_cell, put_bytes, filled, moved_up, moved_down}
+use Rattle.memory.proofs.Kept.{byte_set}
+use Rattle.name_index.specs.declared.index.NameIndex.{NameIndex}
+use Rattle.name_index.specs.Covers.{meets, is_met}
+use Rattle.name_index.specs.Watch.{is_watched, AgreeBeside, IsBeside}
+use Rattle.name_index.specs.Index.{Holds}
+use Rattle.name_index.proofs.Holding.{beside, holds_beside, unmet_none}
+
+-- the first, the last and the others of n addresses
+beside_first : (at n a : ℕ) → at < 65536 → 0 < n → IsBeside at n a → a ≢ at
+beside_first at n a h some b = λ e. b 0 some (omega (arith, h, e))
+
+beside_last : (at n a : ℕ) → IsBeside at (suc n) a → a ≢ wrap (at + n)
+beside_last at n a b = λ e. b n (omega arith) (sym e)
+
+beside_less : (at n a : ℕ) → IsBeside at (suc n) a → IsBeside at n a
+beside_less at n a b i h = b i (omega (arith, h))
+
+beside_rest : (at n a : ℕ) → IsBeside at (suc n) a → IsBeside (wrap (at + 1)) n a
+beside_rest at n a b i h = λ e. b (suc i) (omega (arith, h)) (omega (arith, e))
+
+-- a byte, a cell, bytes in turn
+pub beside_byte : (m : List ℕ) (at x : ℕ) → at < 65536 → AgreeBeside at 1 m (put_byte m at x)
+beside_byte m at x h a b = byte_set m at x a (beside_first at 1 a h (omega arith) b)
+
+pub beside_cell : (m : List ℕ) (at x : ℕ) → at < 65536 → AgreeBeside at 2 m (put_cell m at x)
+unfolding put_cell
+beside_cell m at x h a b =
+    byte_set (put_byte m at (x % 256)) (wrap (at + 1)) (x / 256) a (beside_last at 1 a b)
+    ∙ byte_set m at (x % 256) a (beside_first at 2 a h (omega arith) b)
+
+pub beside_bytes : (m : List ℕ) (at : ℕ) (bs : List ℕ) → at < 65536 → AgreeBeside at (length bs) m (put_bytes m at bs)
+unfolding put_bytes
+beside_bytes m at [] h a b = refl
+beside_bytes m at (x ∷ bs) h a b =
+    beside_bytes (put_byte m at x) (wrap (at + 1)) bs (omega arith) a (beside_rest at (length bs) a b)
+    ∙ byte_set m at x a (beside_first at (suc (length bs)) a h (omega arith) b)
+
+-- FILL, CMOVE and CMOVE>
+pub beside_filled : (m : List ℕ) (at n x : ℕ) → AgreeBeside at n m (filled m at n x)
+unfolding filled
+beside_filled m at zero x a b = refl
+beside_filled m at (suc n) x a b =
+    byte_set (filled m at n x) (wrap (at + n)) x a (beside_last at n a b) ∙ beside_filled m at n x a (beside_less at n a b)
+
+pub beside_moved_up : (m : List ℕ) (from to n : ℕ) → AgreeBeside to n m (moved_up m from to n)
+unfolding moved_up
+beside_moved_up m from to zero a b = refl
+beside_moved_up m from to (suc n) a b =
+    byte_set (moved_up m from to n) (wrap (to + n)) (byte (moved_up m from to n) (wrap (from + n))) a (beside_last to n a b)
+    ∙ beside_moved_up m from to n a (beside_less to n a b)
+
+pub beside_moved_down : (m : List ℕ) (from to n : ℕ) → AgreeBeside to n m (moved_down m from to n)
+unfolding moved_down
+beside_moved_down m from to zero a b = refl
+beside_moved_down m from to (suc n) a b =
+    beside_moved_down (put_byte m (wrap (to + n)) (byte m (wrap (from + n)))) from to n a (beside_less to n a b)
+    ∙ byte_set m (wrap (to + n)) (byte m (wrap (from + n))) a (beside_last to n a b)
+
+-- a write below the dictionary, beside CONTEXT and FORTH's record: at constants its premises compute
+below_dictionary : (top start end : ℕ) → end ≤ 256 → is_met 0 start end ≡ false → is_met top start end ≡ false
+unfolding is_met
+below_dictionary top start end h e = grind (arith, common_steps)
+
+pub holds_system : (limit at n : ℕ) (index : NameIndex) (m other : List ℕ) → at + n ≤ 256 → is_met 0 at (at + n) ≡ false
+    → AgreeBeside at n m other → Holds limit index m → Holds limit index other
+holds_system limit at n index m other small e s holds =
+    holds_beside limit at n index m other
+    (beside index.top at n (omega (arith, small)) (omega (arith, small)) (below_dictionary index.top at (at + n) small e)
+    (unmet_none index.top (at + n - 65536) (omega (arith, small)))) s holds
+
+pub ruleset writes = (beside_byte, beside_cell, beside_bytes, beside_filled, beside_moved_up, beside_moved_down, holds_beside, holds_system)
