@@ -8,7 +8,7 @@ use Rattle.dictionary.specs.Search.{walked}
 use Rattle.dictionary.proofs.Chains.{walked_at_end, walked_here, walked_later, walked_cut}
 use Rattle.dictionary.proofs.Searches.{HeaderSame, named_by}
 use Rattle.name_index.specs.Watch.{is_watched, Agree}
-use Rattle.name_index.specs.Stays.{Covers, Alike, Stays}
+use Rattle.name_index.specs.Stays.{Alike, Stays}
 
 pub watched : (top a : ℕ) → 256 ≤ a → a < top → is_watched top a ≡ true
 unfolding is_watched
@@ -42,7 +42,10 @@ pub context_alike : (reach : ℕ) (m other : List ℕ) → Agree reach m other �
 context_alike reach m other g =
     cell_by other m 32 (omega arith) (g 32 (watched_context reach 32 (omega arith) (omega arith))) (g 33 (watched_context reach 33 (omega arith) (omega arith)))
 
--- headers
+-- headers, from the link field to behind the code field
+abbrev pub Covers : ℕ → List ℕ → ℕ → Type 0
+Covers reach m l = reach < 65536 → (256 ≤ l) × (l + (5 + name_length m l) ≤ reach)
+
 pub covers_by : (reach end l : ℕ) (m : List ℕ) → end ≡ l + (5 + name_length m l) → (reach < 65536 → (256 ≤ l) × (end ≤ reach)) → Covers reach m l
 covers_by reach end l m e c r = let h = c r in (h.0, omega (arith, e, h.1))
 

@@ -5,7 +5,7 @@ use Rattle.std.proofs.lemmas.Bool.{cases_lt}
 use Rattle.std.proofs.lemmas.Grind.{common_steps}
 use Rattle.cells.specs.Cell.{wrap}
 use Rattle.name_index.specs.declared.index.NameIndex.{NameIndex}
-use Rattle.name_index.specs.Covers.{meets, is_met}
+use Rattle.name_index.specs.Ranges.{meets, is_met}
 use Rattle.name_index.specs.Watch.{is_watched, Agree, AgreeBelow, AgreeBeside, IsBeside, IsUnwatched}
 use Rattle.name_index.specs.Index.{Keeps, IsValid, Holds}
 

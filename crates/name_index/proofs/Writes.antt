@@ -1,14 +1,17 @@
 -- Which addresses a write leaves as they were, and writes that no find rests on.
-use Rattle.std.proofs.Common.{◌≡◌, ◌≢◌, ℕ, zero, suc, ◌+◌, ◌-◌, ◌<◌, ◌≤◌, ◌%◌, ◌/◌, List, [], ◌∷◌, length, Bool, true, false, ◌&&◌, ◌||◌, nat_lt, refl, arith, sym, ◌∙◌}
+use Rattle.std.proofs.Common.{◌≡◌, ◌≢◌, ℕ, zero, suc, ◌+◌, ◌-◌, ◌<◌, ◌≤◌, ◌%◌, ◌/◌, List, [], ◌∷◌, length, true, false, refl, arith, sym, ◌∙◌}
 use Rattle.std.proofs.lemmas.Grind.{common_steps}
 use Rattle.cells.specs.Cell.{wrap}
-use Rattle.memory.specs.Bytes.{byte, put_byte, put_cell, put_bytes, filled, moved_up, moved_down}
+use Rattle.memory.specs.Bytes.{byte, put_byte, put_cell, put_bytes, filled, moved_up, moved_down, with_page, Write, PutCell, PutBytes, with_write, written}
 use Rattle.memory.proofs.Kept.{byte_set}
+use Rattle.memory.proofs.Pages.{byte_below}
+use Rattle.std.specs.Prelude.{All}
+use Rattle.std.proofs.lemmas.List.Elements.{All-head, All-tail}
 use Rattle.name_index.specs.declared.index.NameIndex.{NameIndex}
-use Rattle.name_index.specs.Covers.{meets, is_met}
+use Rattle.name_index.specs.Ranges.{is_met}
 use Rattle.name_index.specs.Watch.{is_watched, AgreeBeside, IsBeside}
 use Rattle.name_index.specs.Index.{Holds}
-use Rattle.name_index.proofs.Holding.{beside, holds_beside, unmet_none}
+use Rattle.name_index.proofs.Holding.{beside, holds_beside, holds_below_limit, unmet_none}
 
 -- the first, the last and the others of n addresses
 beside_first : (at n a : ℕ) → at < 65536 → 0 < n → IsBeside at n a → a ≢ at
@@ -73,4 +76,27 @@ holds_system limit at n index m other small e s holds =
     (beside index.top at n (omega (arith, small)) (omega (arith, small)) (below_dictionary index.top at (at + n) small e)
     (unmet_none index.top (at + n - 65536) (omega (arith, small)))) s holds
 
-pub ruleset writes = (beside_byte, beside_cell, beside_bytes, beside_filled, beside_moved_up, beside_moved_down, holds_beside, holds_system)
+-- a page of a block buffer
+pub holds_page : (limit at : ℕ) (index : NameIndex) (m bs : List ℕ) → length m ≡ 65536 → limit ≤ at → at ≤ 64512 → Holds limit index m → Holds limit index (with_page m at bs)
+holds_page limit at index m bs lm behind small holds =
+    holds_below_limit limit index m (with_page m at bs) (λ a k. byte_below m bs at a lm small (omega (arith, k, behind))) holds
+
+-- a write to addresses none of which is watched
+abbrev pub IsAside : ℕ → Write → Type 0
+IsAside top (PutCell at x) = (at < 65536) × ((a : ℕ) → is_watched top a ≡ true → IsBeside at 2 a)
+IsAside top (PutBytes at bs) = (at < 65536) × ((a : ℕ) → is_watched top a ≡ true → IsBeside at (length bs) a)
+
+pub holds_write : (limit : ℕ) (index : NameIndex) (m : List ℕ) (w : Write) → IsAside index.top w → Holds limit index m → Holds limit index (with_write m w)
+holds_write limit index m (PutCell at x) aside holds = holds_beside limit at 2 index m (put_cell m at x) aside.1 (beside_cell m at x aside.0) holds
+holds_write limit index m (PutBytes at bs) aside holds =
+    holds_beside limit at (length bs) index m (put_bytes m at bs) aside.1 (beside_bytes m at bs aside.0) holds
+
+-- such writes in turn
+pub holds_written : (limit : ℕ) (index : NameIndex) (m : List ℕ) (ws : List Write) → All (λ w. IsAside index.top w) ws → Holds limit index m → Holds limit index (written m ws)
+unfolding written
+holds_written limit index m [] aside holds = holds
+holds_written limit index m (w ∷ ws) aside holds =
+    holds_written limit index (with_write m w) ws (All-tail (λ (v : Write). IsAside index.top v) w ws aside)
+    (holds_write limit index m w (All-head (λ (v : Write). IsAside index.top v) w ws aside) holds)
+
+pub ruleset writes = (beside_byte, beside_cell, beside_bytes, beside_filled, beside_moved_up, beside_moved_down, holds_beside, holds_system, holds_page, holds_written)

@@ -1,4 +1,4 @@
 pub mod Watch
 pub mod Index
-pub mod Covers
+pub mod Ranges
 pub mod Stays

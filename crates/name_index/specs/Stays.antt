@@ -1,14 +1,10 @@
-use Rattle.std.specs.Prelude.{ℕ, ◌+◌, ◌<◌, ◌≤◌, ◌≡◌, List, length}
-use Rattle.dictionary.specs.Header.{is_named, name_length}
+use Rattle.std.specs.Prelude.{ℕ, ◌<◌, ◌≡◌, List, length}
+use Rattle.dictionary.specs.Header.{is_named}
 use Rattle.dictionary.specs.Search.{walked, sought_in, sought}
 use Rattle.name_index.specs.Watch.{Agree}
 
 -- What a search read stands at what is watched of the dictionary below reach: so it comes to the same in each memory
 -- that agrees there. A reach above 65,535 says that it read something else, too.
-
--- the header at l, from its link field to behind its code field
-abbrev pub Covers : ℕ → List ℕ → ℕ → Type 0
-Covers reach m l = reach < 65536 → (256 ≤ l) × (l + (5 + name_length m l) ≤ reach)
 
 -- P of each memory that agrees with m at what is watched below reach
 abbrev pub Alike : ℕ → List ℕ → (List ℕ → Type 0) → Type 0

@@ -14,7 +14,7 @@ pub struct NameIndex {
 }
 
 impl NameIndex {
-    ghost use Rattle.std.specs.Prelude.{ℕ, ◌≡◌, ◌<◌, ◌≤◌, ◌+◌, List, true, false, slice_index};
+    ghost use Rattle.std.specs.Prelude.{ℕ, ◌≡◌, ◌<◌, ◌≤◌, ◌+◌, List, true, false, slice_index, slice_set};
     ghost use Rattle.name_index.specs.Watch.{is_watched, IsUnwatched, AgreeBelow, AgreeBeside};
     ghost use Rattle.name_index.specs.Index.{Keeps, Holds, top_of, emptied, floor_of};
     ghost use Rattle.cells.specs.Cell.{wrap};
@@ -87,7 +87,9 @@ impl NameIndex {
     pub(crate) fn keep(&mut self, place: u8, found: u16, reach: u32, limit: u16)
         requires raised { 256 < reach }
         requires more { top_of self.old ≤ reach }
-        ensures { (m : List ℕ) → (reach < 65536 → Keeps reach m found) → Holds limit self.old m → Holds limit self.new m }
+        ensures places { reach ≤ limit → self.new.places ≡ slice_set self.old.places place found }
+        ensures top { reach ≤ limit → top_of self.new ≡ reach }
+        ensures holds { (m : List ℕ) → (reach < 65536 → Keeps reach m found) → Holds limit self.old m → Holds limit self.new m }
     {
         if reach <= u32::from(limit) {
             self.places[usize::from(place)] = found;

@@ -1,6 +1,6 @@
 //! How far the dictionary has to be watched.
 
-ghost use Rattle.std.specs.Prelude.{◌≡◌, ◌<◌, ◌≤◌, List, ℕ};
+ghost use Rattle.std.specs.Prelude.{◌≡◌, ◌<◌, ◌≤◌, ◌⊎◌, List, ℕ};
 ghost use Rattle.memory.specs.Bytes.{cell};
 ghost use Rattle.name_index.specs.Watch.{Agree};
 
@@ -12,6 +12,7 @@ const BEHIND: u32 = 65536;
 /// How far the dictionary has to be watched where the addresses from `start` to `end - 1` are to be, too.
 pub fn covered(reach: u32, start: u16, end: u32) -> u32
     ensures more { reach ≤ result }
+    ensures least { 256 ≤ start → (result ≡ reach) ⊎ (result ≡ end) }
     ensures covers { result < 65536 → (256 ≤ start) × (end ≤ result) }
 {
     if start < DICTIONARY {

@@ -1,7 +1,7 @@
 //! Which addresses are watched.
 
 ghost use Rattle.std.specs.Prelude.{◌≡◌, ◌<◌, ◌+◌, ℕ, true, false};
-ghost use Rattle.name_index.specs.Covers.{is_met};
+ghost use Rattle.name_index.specs.Ranges.{is_met};
 ghost use Rattle.name_index.specs.Watch.{is_watched, IsBeside, IsUnwatched};
 
 /// The first address of the dictionary.
@@ -9,7 +9,7 @@ pub const DICTIONARY: u16 = 256;
 
 /// Whether one of the addresses from `start` to `end - 1`, which are some, is watched: 32 and 33 are
 /// CONTEXT's cell, 42 to 51 FORTH's record, and those from 256 on the dictionary.
-#[tactic(auto, unfolding(crate::specs::Covers::is_met))]
+#[tactic(auto, unfolding(crate::specs::Ranges::is_met))]
 fn is_met(top: u16, start: u32, end: u32) -> bool
     ensures { result ≡ is_met top start end }
 {

@@ -13,7 +13,7 @@ returns-then-is_named-clause-found c =
 
 pub returns-in-Ok-Some-clause-holds : goal.returns-in-Ok-Some-clause-holds
 returns-in-Ok-Some-clause-holds c =
-    c.keep.ensures c.args.memory.now
+    c.keep.ensures.holds c.args.memory.now
     (λ t. keeps_found c.search-watched.result.reach c.args.memory.now c.args.name.now c.in-Ok-Some.found t
     (search rules) c.search-watched.ensures.stays)
     c.requires

@@ -1,5 +1,5 @@
 use Rattle.std.proofs.Common.{rules, ◌≡◌, ◌+◌, false}
-use Rattle.name_index.specs.Covers.{is_met}
+use Rattle.name_index.specs.Ranges.{is_met}
 use Rattle.name_index.proofs.Holding.{beside, unmet_first, unmet_second}
 use Rattle.name_index.proofs.watch.is_touched.Goals as goal
 
