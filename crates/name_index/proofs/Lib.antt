@@ -1,0 +1,5 @@
+pub mod Holding
+pub mod Alike
+pub mod Orders
+pub mod Keeping
+pub mod Writes

@@ -1,0 +1,127 @@
+-- Which addresses a write leaves as they were, and writes that no find rests on.
+use Rattle.std.proofs.Common.{◌≡◌, ◌≢◌, ℕ, zero, suc, ◌+◌, ◌-◌, ◌<◌, ◌≤◌, ◌%◌, ◌/◌, List, [], ◌∷◌, length, true, false, refl, arith, sym, ◌∙◌}
+use Rattle.std.proofs.lemmas.Grind.{common_steps}
+use Rattle.cells.specs.Cell.{wrap}
+use Rattle.memory.specs.Bytes.{byte, put_byte, put_cell, put_bytes, filled, moved_up, moved_down, with_page, Write, PutCell, PutBytes, with_write, written}
+use Rattle.memory.proofs.Kept.{byte_set}
+use Rattle.memory.proofs.Pages.{byte_below}
+use Rattle.std.specs.Prelude.{All}
+use Rattle.std.proofs.lemmas.List.Elements.{All-head, All-tail}
+use Rattle.name_index.specs.declared.index.NameIndex.{NameIndex}
+use Rattle.name_index.specs.Ranges.{is_met}
+use Rattle.name_index.specs.Watch.{is_watched, AgreeBeside, IsBeside}
+use Rattle.name_index.specs.Index.{Holds}
+use Rattle.name_index.proofs.Holding.{beside, holds_beside, holds_below_limit, unmet_none}
+
+-- the first, the last and the others of n addresses
+beside_first : (at n a : ℕ) → at < 65536 → 0 < n → IsBeside at n a → a ≢ at
+beside_first at n a h some b = λ e. b 0 some (omega (arith, h, e))
+
+beside_last : (at n a : ℕ) → IsBeside at (suc n) a → a ≢ wrap (at + n)
+beside_last at n a b = λ e. b n (omega arith) (sym e)
+
+beside_less : (at n a : ℕ) → IsBeside at (suc n) a → IsBeside at n a
+beside_less at n a b i h = b i (omega (arith, h))
+
+beside_rest : (at n a : ℕ) → IsBeside at (suc n) a → IsBeside (wrap (at + 1)) n a
+beside_rest at n a b i h = λ e. b (suc i) (omega (arith, h)) (omega (arith, e))
+
+-- a byte, a cell, bytes in turn
+pub beside_byte : (m : List ℕ) (at x : ℕ) → at < 65536 → AgreeBeside at 1 m (put_byte m at x)
+beside_byte m at x h a b = byte_set m at x a (beside_first at 1 a h (omega arith) b)
+
+pub beside_cell : (m : List ℕ) (at x : ℕ) → at < 65536 → AgreeBeside at 2 m (put_cell m at x)
+unfolding put_cell
+beside_cell m at x h a b =
+    byte_set (put_byte m at (x % 256)) (wrap (at + 1)) (x / 256) a (beside_last at 1 a b)
+    ∙ byte_set m at (x % 256) a (beside_first at 2 a h (omega arith) b)
+
+pub beside_bytes : (m : List ℕ) (at : ℕ) (bs : List ℕ) → at < 65536 → AgreeBeside at (length bs) m (put_bytes m at bs)
+unfolding put_bytes
+beside_bytes m at [] h a b = refl
+beside_bytes m at (x ∷ bs) h a b =
+    beside_bytes (put_byte m at x) (wrap (at + 1)) bs (omega arith) a (beside_rest at (length bs) a b)
+    ∙ byte_set m at x a (beside_first at (suc (length bs)) a h (omega arith) b)
+
+-- FILL, CMOVE and CMOVE>
+pub beside_filled : (m : List ℕ) (at n x : ℕ) → AgreeBeside at n m (filled m at n x)
+unfolding filled
+beside_filled m at zero x a b = refl
+beside_filled m at (suc n) x a b =
+    byte_set (filled m at n x) (wrap (at + n)) x a (beside_last at n a b) ∙ beside_filled m at n x a (beside_less at n a b)
+
+pub beside_moved_up : (m : List ℕ) (from to n : ℕ) → AgreeBeside to n m (moved_up m from to n)
+unfolding moved_up
+beside_moved_up m from to zero a b = refl
+beside_moved_up m from to (suc n) a b =
+    byte_set (moved_up m from to n) (wrap (to + n)) (byte (moved_up m from to n) (wrap (from + n))) a (beside_last to n a b)
+    ∙ beside_moved_up m from to n a (beside_less to n a b)
+
+pub beside_moved_down : (m : List ℕ) (from to n : ℕ) → AgreeBeside to n m (moved_down m from to n)
+unfolding moved_down
+beside_moved_down m from to zero a b = refl
+beside_moved_down m from to (suc n) a b =
+    beside_moved_down (put_byte m (wrap (to + n)) (byte m (wrap (from + n)))) from to n a (beside_less to n a b)
+    ∙ byte_set m (wrap (to + n)) (byte m (wrap (from + n))) a (beside_last to n a b)
+
+-- a write below the dictionary, beside CONTEXT and FORTH's record: at constants its premises compute
+below_dictionary : (top start end : ℕ) → end ≤ 256 → is_met 0 start end ≡ false → is_met top start end ≡ false
+unfolding is_met
+below_dictionary top start end h e = grind (arith, common_steps)
+
+pub holds_system : (limit at n : ℕ) (index : NameIndex) (m other : List ℕ) → at + n ≤ 256 → is_met 0 at (at + n) ≡ false
+    → AgreeBeside at n m other → Holds limit index m → Holds limit index other
+holds_system limit at n index m other small e s holds =
+    holds_beside limit at n index m other
+    (beside index.top at n (omega (arith, small)) (omega (arith, small)) (below_dictionary index.top at (at + n) small e)
+    (unmet_none index.top (at + n - 65536) (omega (arith, small)))) s holds
+
+-- cells of the system: before CONTEXT, up to FORTH's record, and behind it
+unmet_low : (at : ℕ) → at + 2 ≤ 32 → is_met 0 at (at + 2) ≡ false
+unfolding is_met
+unmet_low at h = grind (arith, common_steps)
+
+unmet_between : (at : ℕ) → 34 ≤ at → at + 2 ≤ 42 → is_met 0 at (at + 2) ≡ false
+unfolding is_met
+unmet_between at h k = grind (arith, common_steps)
+
+unmet_high : (at : ℕ) → 52 ≤ at → is_met 0 at (at + 2) ≡ false
+unfolding is_met
+unmet_high at h = grind (arith, common_steps)
+
+pub holds_low_cell : (limit at x : ℕ) (index : NameIndex) (m : List ℕ) → at + 2 ≤ 32 → Holds limit index m → Holds limit index (put_cell m at x)
+holds_low_cell limit at x index m h holds =
+    holds_system limit at 2 index m (put_cell m at x) (omega (arith, h)) (unmet_low at h) (beside_cell m at x (omega (arith, h))) holds
+
+pub holds_cell_between : (limit at x : ℕ) (index : NameIndex) (m : List ℕ) → 34 ≤ at → at + 2 ≤ 42 → Holds limit index m → Holds limit index (put_cell m at x)
+holds_cell_between limit at x index m h k holds =
+    holds_system limit at 2 index m (put_cell m at x) (omega (arith, k)) (unmet_between at h k) (beside_cell m at x (omega (arith, k))) holds
+
+pub holds_high_cell : (limit at x : ℕ) (index : NameIndex) (m : List ℕ) → 52 ≤ at → at + 2 ≤ 256 → Holds limit index m → Holds limit index (put_cell m at x)
+holds_high_cell limit at x index m h k holds =
+    holds_system limit at 2 index m (put_cell m at x) k (unmet_high at h) (beside_cell m at x (omega (arith, k))) holds
+
+-- a page of a block buffer
+pub holds_page : (limit at : ℕ) (index : NameIndex) (m bs : List ℕ) → length m ≡ 65536 → limit ≤ at → at ≤ 64512 → Holds limit index m → Holds limit index (with_page m at bs)
+holds_page limit at index m bs lm behind small holds =
+    holds_below_limit limit index m (with_page m at bs) (λ a k. byte_below m bs at a lm small (omega (arith, k, behind))) holds
+
+-- a write to addresses none of which is watched
+abbrev pub IsAside : ℕ → Write → Type 0
+IsAside top (PutCell at x) = (at < 65536) × ((a : ℕ) → is_watched top a ≡ true → IsBeside at 2 a)
+IsAside top (PutBytes at bs) = (at < 65536) × ((a : ℕ) → is_watched top a ≡ true → IsBeside at (length bs) a)
+
+pub holds_write : (limit : ℕ) (index : NameIndex) (m : List ℕ) (w : Write) → IsAside index.top w → Holds limit index m → Holds limit index (with_write m w)
+holds_write limit index m (PutCell at x) aside holds = holds_beside limit at 2 index m (put_cell m at x) aside.1 (beside_cell m at x aside.0) holds
+holds_write limit index m (PutBytes at bs) aside holds =
+    holds_beside limit at (length bs) index m (put_bytes m at bs) aside.1 (beside_bytes m at bs aside.0) holds
+
+-- such writes in turn
+pub holds_written : (limit : ℕ) (index : NameIndex) (m : List ℕ) (ws : List Write) → All (λ w. IsAside index.top w) ws → Holds limit index m → Holds limit index (written m ws)
+unfolding written
+holds_written limit index m [] aside holds = holds
+holds_written limit index m (w ∷ ws) aside holds =
+    holds_written limit index (with_write m w) ws (All-tail (λ (v : Write). IsAside index.top v) w ws aside)
+    (holds_write limit index m w (All-head (λ (v : Write). IsAside index.top v) w ws aside) holds)
+
+pub ruleset writes = (beside_byte, beside_cell, beside_bytes, beside_filled, beside_moved_up, beside_moved_down, holds_beside, holds_low_cell, holds_cell_between, holds_high_cell, holds_page)

@@ -1,0 +1,4 @@
+pub mod Watch
+pub mod Index
+pub mod Ranges
+pub mod Stays
