@@ -157,8 +157,8 @@ run_at_terminal() {
   saved=$(stty -g)
   trap : INT QUIT
   by_key
-  say "$blocks, $(($(stat -L -c %s -- "$blocks") / 1024)) screens. Words are in capitals: WORDS lists them, HELP says more."
-  say "BYE or ^D saves changed screens and leaves; ^C breaks off: what isn't SAVEd is lost then."
+  say "$blocks, $(($(stat -L -c %s -- "$blocks") / 1024)) screens. Words are in capitals; WORDS and HELP tell more."
+  say "BYE or ^D saves changed screens and leaves; ^C loses what isn't SAVEd."
   if env --default-signal=INT,QUIT,TSTP true 2> /dev/null; then
     trap stop TSTP
     trap by_key CONT
