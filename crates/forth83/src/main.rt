@@ -11,10 +11,10 @@ use block_buffers::{Device, MemoryDevice};
 use inner_interpreter::{Reading, Writing};
 use places::show_place;
 use std::fs::File;
-use std::io;
 use std::io::{BufReader, BufWriter, ErrorKind, IsTerminal, Stdin, Stdout};
 use std::os::fd::AsFd;
 use std::process::ExitCode;
+use std::{fs, io};
 use subcommands::{
     Ended, FileDevice, create_file, do_build, do_debug, do_kernel, do_new, do_run, do_screens,
     do_see, do_text, do_upgrade, do_view, open_device, open_to_read, read_blocks, read_file,
@@ -184,8 +184,19 @@ fn print_text(rt: &HostRuntime, blocks: &str, from: u16, to: u16) -> Result<u8, 
     Ok(do_text(rt.alloc(), &mut device, from, to, &mut writer).status)
 }
 
-/// Writes the screens of the text that `screens` names.
+/// Whether two names are known to mean one file.
+fn is_one_file(rt: &HostRuntime, name: &str, other: &str) -> bool {
+    match (fs::canonicalize(rt, name), fs::canonicalize(rt, other)) {
+        (Ok(path), Ok(other)) => path.into_string().as_str() == other.into_string().as_str(),
+        _ => false,
+    }
+}
+
+/// Writes the screens of the text that `screens` names. A text isn't written over by its screens.
 fn write_screens(rt: &HostRuntime, text: &str, blocks: &str) -> Result<u8, u8> {
+    if is_one_file(rt, text, blocks) {
+        return Err(say(rt, "error: the text and the blocks are one file", "", 2));
+    }
     let bytes = match read_file(rt, text) {
         Ok(bytes) => bytes,
         Err(error) => return Err(refuse_file(rt, &error, text)),
