@@ -11,6 +11,7 @@ pub mod laws;
 mod memory_rows;
 pub mod parts;
 mod stack;
+mod writing;
 
 pub use cell::{flag, greater_of, halved, lesser, magnitude};
 pub use double::double_of;

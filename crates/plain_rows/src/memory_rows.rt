@@ -40,7 +40,7 @@ pub fn store(parts: &mut Parts) -> Outcome
         return Outcome::Fault(DATA_UNDERFLOW);
     };
     parts.values.lower(2);
-    parts.memory.set_cell(a, x);
+    parts.set_cell(a, x);
     Outcome::Done
 }
 
@@ -63,7 +63,7 @@ pub fn c_store(parts: &mut Parts) -> Outcome
         return Outcome::Fault(DATA_UNDERFLOW);
     };
     parts.values.lower(2);
-    parts.memory.set_byte(a, (c % 256) as u8);
+    parts.set_byte(a, (c % 256) as u8);
     Outcome::Done
 }
 
@@ -76,7 +76,7 @@ pub fn plus_store(parts: &mut Parts) -> Outcome
     };
     parts.values.lower(2);
     let sum = parts.memory.cell(a).wrapping_add(x);
-    parts.memory.set_cell(a, sum);
+    parts.set_cell(a, sum);
     Outcome::Done
 }
 
@@ -100,8 +100,8 @@ pub fn two_store(parts: &mut Parts) -> Outcome
         return Outcome::Fault(DATA_UNDERFLOW);
     };
     parts.values.lower(3);
-    parts.memory.set_cell(a, high);
-    parts.memory.set_cell(a.wrapping_add(2), low);
+    parts.set_cell(a, high);
+    parts.set_cell(a.wrapping_add(2), low);
     Outcome::Done
 }
 
@@ -113,7 +113,7 @@ pub fn cmove(parts: &mut Parts) -> Outcome
         return Outcome::Fault(DATA_UNDERFLOW);
     };
     parts.values.lower(3);
-    parts.memory.move_up(from, to, n);
+    parts.move_up(from, to, n);
     Outcome::Done
 }
 
@@ -125,7 +125,7 @@ pub fn cmove_down(parts: &mut Parts) -> Outcome
         return Outcome::Fault(DATA_UNDERFLOW);
     };
     parts.values.lower(3);
-    parts.memory.move_down(from, to, n);
+    parts.move_down(from, to, n);
     Outcome::Done
 }
 
@@ -137,7 +137,7 @@ pub fn fill(parts: &mut Parts) -> Outcome
         return Outcome::Fault(DATA_UNDERFLOW);
     };
     parts.values.lower(3);
-    parts.memory.fill(a, u, (c % 256) as u8);
+    parts.fill(a, u, (c % 256) as u8);
     Outcome::Done
 }
 

@@ -6,6 +6,7 @@ ghost use Rattle.plain_rows.specs.Row.{has_room};
 use block_buffers::buffers::Buffers;
 use dictionary::fits;
 use memory::Memory;
+use name_index::NameIndex;
 use stacks::Stack;
 use std::marker::Model;
 
@@ -49,8 +50,9 @@ pub enum Outcome {
 }
 
 /// What the rows read and write: memory, the data stack and the return stack, the place in the thread (`ip`),
-/// the token that comes next in its place (`pending`), the block buffers, how many blocks the device has, and where the
-/// buffers begin in memory, as they tell it.
+/// the token that comes next in its place (`pending`), the block buffers, how many blocks the device has, where the
+/// buffers begin in memory, as they tell it, and what searches of this memory found, in `index`. Whoever writes memory
+/// notes it there.
 #[derive(Drop)]
 pub struct Parts {
     pub memory: Memory,
@@ -61,18 +63,20 @@ pub struct Parts {
     pub buffers: Buffers,
     pub block_count: u32,
     pub limit: u16,
+    pub index: NameIndex,
 }
 
 impl Model for Parts {
     ghost use Rattle.std.specs.Prelude.{◌≡◌};
     ghost use Rattle.block_buffers.specs.Entries.{limit as limit_by};
+    ghost use Rattle.name_index.specs.Index.{Holds};
     ghost use Rattle.plain_rows.specs.Whole.{Whole};
 
     ghost Value = { Whole };
 
     ghost view = { λ p. record { memory = p.memory; values = p.values; returns = p.returns; ip = p.ip; pending = p.pending; buffers = p.buffers; block_count = p.block_count } };
 
-    ghost invariant = { λ p. p.limit ≡ limit_by p.buffers };
+    ghost invariant = { λ p. (p.limit ≡ limit_by p.buffers) × Holds p.limit p.index p.memory };
 }
 
 impl Parts {

@@ -1,12 +1,12 @@
 //! Rows 169 to 197: the words that lay code, but for those that take names or texts out of the stream.
 
-#![tactic(auto, using(plain_rows::proofs::Takes::takes))]
+#![tactic(auto, using(plain_rows::proofs::Takes::takes, name_index::proofs::Writes::writes))]
 
 ghost use Rattle.std.specs.Prelude.{◌≡◌, ◌≤◌, ◌++◌, length, drop};
 ghost use Rattle.primitives.specs.Compiling.{compiles, resolves, ahead, semicolon, left_bracket, right_bracket, comma, c_comma, allot, literal, compile_does, if_row, else_row, then_row, begin, until, while_row, repeat, again, do_row, loop_row, plus_loop, mark_back, resolve_back, mark_forward, resolve_forward};
 
-use compiling_words::{Control, control_code, end_definition, literal_code, runtime};
-use dictionary::lay_at;
+use crate::writing::end_definition;
+use compiling_words::{Control, control_code, literal_code, runtime};
 use memory::cell_bytes;
 use memory::system::{DP, STATE};
 use plain_rows::faults::{DATA_OVERFLOW, DATA_UNDERFLOW, DICTIONARY_FULL};
@@ -26,7 +26,7 @@ pub fn compile(parts: &mut Parts, bytes: &[u8], taken: usize, given: &[u16]) -> 
         return Outcome::Fault(DATA_OVERFLOW);
     }
     let here = parts.memory.cell(DP);
-    lay_at(&mut parts.memory, here, bytes);
+    parts.lay_at(here, bytes);
     Outcome::Done
 }
 
@@ -43,10 +43,8 @@ fn resolve(parts: &mut Parts, bytes: &[u8], a: u16, taken: usize, given: &[u16])
         return Outcome::Fault(DATA_OVERFLOW);
     }
     let here = parts.memory.cell(DP);
-    lay_at(&mut parts.memory, here, bytes);
-    parts
-        .memory
-        .set_cell(a, here.wrapping_add(bytes.len() as u16));
+    parts.lay_at(here, bytes);
+    parts.set_cell(a, here.wrapping_add(bytes.len() as u16));
     Outcome::Done
 }
 
@@ -61,7 +59,7 @@ fn ahead(parts: &Parts, n: u16) -> u16
 pub fn semicolon(parts: &mut Parts) -> Outcome
     ensures { (parts.new, result) ≡ semicolon parts.old }
 {
-    match end_definition(&mut parts.memory, parts.limit) {
+    match end_definition(parts) {
         Ok(()) => Outcome::Done,
         Err(_) => Outcome::Fault(DICTIONARY_FULL),
     }
@@ -71,7 +69,7 @@ pub fn semicolon(parts: &mut Parts) -> Outcome
 pub fn left_bracket(parts: &mut Parts) -> Outcome
     ensures { (parts.new, result) ≡ left_bracket parts.old }
 {
-    parts.memory.set_cell(STATE, 0);
+    parts.set_cell(STATE, 0);
     Outcome::Done
 }
 
@@ -79,7 +77,7 @@ pub fn left_bracket(parts: &mut Parts) -> Outcome
 pub fn right_bracket(parts: &mut Parts) -> Outcome
     ensures { (parts.new, result) ≡ right_bracket parts.old }
 {
-    parts.memory.set_cell(STATE, 65535);
+    parts.set_cell(STATE, 65535);
     Outcome::Done
 }
 
@@ -277,6 +275,7 @@ pub fn resolve_forward(parts: &mut Parts) -> Outcome
         return Outcome::Fault(DATA_UNDERFLOW);
     };
     compiling_words::resolve_forward(&mut parts.memory, a);
+    parts.index.note(a, 2);
     parts.values.lower(1);
     Outcome::Done
 }

@@ -8,8 +8,9 @@ ghost use Rattle.primitives.specs.Defining.{colon, lays_past, bracket_tick, brac
 use crate::dictionary_rows::create_with;
 use crate::names::sought;
 use crate::streams::{open, pass};
-use compiling_words::{TextWord, lay_text, literal_code, runtime_of};
-use dictionary::{Site, compilation_address, lay_at};
+use crate::writing::{lay_text, write_header};
+use compiling_words::{TextWord, literal_code, runtime_of};
+use dictionary::{Site, compilation_address};
 use input_source::{Word, next_word, parse_to, word_bytes};
 use memory::cell_bytes;
 use memory::system::{CONTEXT, CURRENT, DP, STATE};
@@ -36,10 +37,10 @@ pub fn colon(parts: &mut Parts) -> Outcome
     let name = &bytes[..word.len as usize];
     let site = Site::of(&parts.memory, name);
     let current = parts.memory.cell(CURRENT);
-    pass(&mut parts.memory, word);
-    site.write(&mut parts.memory, name, 1, &[], true);
-    parts.memory.set_cell(STATE, 65535);
-    parts.memory.set_cell(CONTEXT, current);
+    pass(parts, word);
+    write_header(parts, site, name, 1, &[], true);
+    parts.set_cell(STATE, 65535);
+    parts.set_cell(CONTEXT, current);
     Outcome::Done
 }
 
@@ -52,8 +53,8 @@ fn lay_past(parts: &mut Parts, word: Word, bytes: &[u8]) -> Outcome
         return Outcome::Fault(DICTIONARY_FULL);
     }
     let here = parts.memory.cell(DP);
-    pass(&mut parts.memory, word);
-    lay_at(&mut parts.memory, here, bytes);
+    pass(parts, word);
+    parts.lay_at(here, bytes);
     Outcome::Done
 }
 
@@ -69,7 +70,7 @@ pub fn bracket_tick(parts: &mut Parts) -> Outcome
     if word.len == 0 {
         return Outcome::Fault(BAD_LENGTH);
     }
-    match sought(&parts.memory, stream, word) {
+    match sought(parts, stream, word) {
         Ok(Some(link_field)) => {
             let w = compilation_address(&parts.memory, link_field);
             let code = literal_code(&parts.memory, w);
@@ -92,7 +93,7 @@ pub fn bracket_compile(parts: &mut Parts) -> Outcome
     if word.len == 0 {
         return Outcome::Fault(BAD_LENGTH);
     }
-    match sought(&parts.memory, stream, word) {
+    match sought(parts, stream, word) {
         Ok(Some(link_field)) => {
             let w = compilation_address(&parts.memory, link_field);
             lay_past(parts, word, &cell_bytes(w))
@@ -120,8 +121,8 @@ fn quote(parts: &mut Parts, shows: TextWord) -> Outcome
     let bytes = word_bytes(&parts.memory, stream, word);
     let token = runtime_of(&parts.memory, shows);
     let here = parts.memory.cell(DP);
-    pass(&mut parts.memory, word);
-    lay_text(&mut parts.memory, here, token, &bytes[..word.len as usize]);
+    pass(parts, word);
+    lay_text(parts, here, token, &bytes[..word.len as usize]);
     Outcome::Done
 }
 

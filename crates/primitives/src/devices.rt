@@ -120,7 +120,7 @@ pub fn expect(parts: &mut Parts) -> Outcome
         return Outcome::Ask(Request::Line { n: u });
     }
     parts.values.lower(2);
-    parts.memory.set_cell(SPAN, 0);
+    parts.set_cell(SPAN, 0);
     Outcome::Done
 }
 

@@ -8,7 +8,10 @@ ghost use Rattle.primitives.specs.Names.{name_word, name_in, counted_string};
 
 use crate::names::{sought, sought_at, target_in};
 use crate::streams::{open, pass};
-use dictionary::{ForgetFault, Site, compilation_address, cut_by, is_immediate, set_immediate};
+use crate::writing::{write_header, write_vocabulary};
+use dictionary::{
+    ForgetFault, Site, compilation_address, cut_by, is_immediate, newest_count, set_immediate,
+};
 use input_source::{Stream, Word, next_word, word_bytes};
 use memory::system::{CONTEXT, CURRENT, DP, VOC_LINK};
 use plain_rows::faults::{
@@ -24,7 +27,7 @@ pub fn find(parts: &mut Parts) -> Outcome
     let Some(a) = parts.values.pick(0) else {
         return Outcome::Fault(DATA_UNDERFLOW);
     };
-    match sought_at(&parts.memory, a) {
+    match sought_at(parts, a) {
         Ok(Some(link_field)) => {
             let w = compilation_address(&parts.memory, link_field);
             let flag = if is_immediate(&parts.memory, link_field) {
@@ -47,7 +50,7 @@ pub fn leave_past(parts: &mut Parts, word: Word, cells: &[u16]) -> Outcome
     if parts.values.replace(0, cells).is_err() {
         return Outcome::Fault(DATA_OVERFLOW);
     }
-    pass(&mut parts.memory, word);
+    pass(parts, word);
     Outcome::Done
 }
 
@@ -63,7 +66,7 @@ pub fn tick(parts: &mut Parts) -> Outcome
     if word.len == 0 {
         return Outcome::Fault(BAD_LENGTH);
     }
-    match sought(&parts.memory, stream, word) {
+    match sought(parts, stream, word) {
         Ok(Some(link_field)) => {
             let w = compilation_address(&parts.memory, link_field);
             leave_past(parts, word, &[w])
@@ -96,8 +99,8 @@ pub fn create_with(
     let bytes = word_bytes(&parts.memory, stream, word);
     let name = &bytes[..word.len as usize];
     let site = Site::of(&parts.memory, name);
-    pass(&mut parts.memory, word);
-    site.write(&mut parts.memory, name, code, extra, false);
+    pass(parts, word);
+    write_header(parts, site, name, code, extra, false);
     parts.values.lower(taken);
     Outcome::Done
 }
@@ -113,10 +116,13 @@ pub fn create(parts: &mut Parts) -> Outcome
 }
 
 /// 151 `IMMEDIATE` ( -- )
+#[tactic(auto, using(name_index::proofs::Writes::writes), unfolding(dictionary::specs::Newest::with_immediate))]
 pub fn immediate(parts: &mut Parts) -> Outcome
     ensures { (parts.new, result) ≡ immediate parts.old }
 {
+    let at = newest_count(&parts.memory);
     set_immediate(&mut parts.memory);
+    parts.index.note(at, 1);
     Outcome::Done
 }
 
@@ -133,8 +139,9 @@ pub fn forget(parts: &mut Parts) -> Outcome
     match target_in(&parts.memory, stream, word) {
         Ok(target) => {
             let before = parts.memory.snapshot();
-            pass(&mut parts.memory, word);
+            pass(parts, word);
             cut_by(&mut parts.memory, &before, target);
+            parts.index.clear();
             Outcome::Done
         }
         Err(ForgetFault::NameLength) => Outcome::Fault(BAD_LENGTH),
@@ -189,8 +196,8 @@ pub fn vocabulary(parts: &mut Parts) -> Outcome
     let name = &bytes[..word.len as usize];
     let site = Site::of(&parts.memory, name);
     let newest = parts.memory.cell(VOC_LINK);
-    pass(&mut parts.memory, word);
-    site.write_vocabulary(&mut parts.memory, name, newest);
+    pass(parts, word);
+    write_vocabulary(parts, site, name, newest);
     Outcome::Done
 }
 
@@ -199,6 +206,6 @@ pub fn definitions(parts: &mut Parts) -> Outcome
     ensures { (parts.new, result) ≡ definitions parts.old }
 {
     let context = parts.memory.cell(CONTEXT);
-    parts.memory.set_cell(CURRENT, context);
+    parts.set_cell(CURRENT, context);
     Outcome::Done
 }

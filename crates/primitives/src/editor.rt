@@ -1,6 +1,6 @@
 //! Rows 200 to 204: the line editor, on the screen that SCR names.
 
-#![tactic(auto, using(plain_rows::proofs::Takes::takes))]
+#![tactic(auto, using(plain_rows::proofs::Takes::takes, name_index::proofs::Writes::writes))]
 
 ghost use Rattle.std.specs.Prelude.{◌≡◌, ◌≤◌, ◌+◌, length};
 ghost use Rattle.block_buffers.specs.Screens.{blank_screen, line_start, with_line, line_inserted, line_deleted};

@@ -11,7 +11,7 @@ use crate::dictionary_rows::leave_past;
 use crate::names::{number_in, sought};
 use crate::streams::open;
 use compiling_words::literal_code;
-use dictionary::{compilation_address, is_immediate, lay_at};
+use dictionary::{compilation_address, is_immediate};
 use input_source::{Stream, Word, next_word};
 use memory::system::{BASE, DP, STATE, TO_IN};
 use memory::{Memory, cell_bytes};
@@ -31,8 +31,8 @@ fn compile_past(parts: &mut Parts, word: Word, bytes: &[u8]) -> Outcome
         return Outcome::Fault(DATA_OVERFLOW);
     }
     let here = parts.memory.cell(DP);
-    parts.memory.set_cell(TO_IN, word.next);
-    lay_at(&mut parts.memory, here, bytes);
+    parts.set_cell(TO_IN, word.next);
+    parts.lay_at(here, bytes);
     Outcome::Done
 }
 
@@ -112,7 +112,7 @@ pub fn interpret(parts: &mut Parts) -> Outcome
     if word.len == 0 {
         return leave_past(parts, word, &[0]);
     }
-    match sought(&parts.memory, stream, word) {
+    match sought(parts, stream, word) {
         Ok(Some(link_field)) => take_word(parts, word, link_field),
         Ok(None) => take_number(parts, stream, word),
         Err(_) => Outcome::Fault(CHAIN_TOO_LONG),

@@ -14,5 +14,6 @@ mod numbers;
 pub mod streams;
 mod table;
 mod text;
+mod writing;
 
 pub use table::{compile_row, device_row, editor_row, input_row, number_row, row};

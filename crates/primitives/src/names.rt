@@ -3,47 +3,59 @@
 ghost use Rattle.std.specs.Prelude.{◌≡◌, ◌<◌, ◌≤◌, ◌+◌, ◌++◌, length, MatchOption, IsTrue};
 ghost use Rattle.dictionary.specs.Forgetting.{target};
 ghost use Rattle.input_source.specs.Words.{bytes_in};
+ghost use Rattle.memory.specs.Bytes.{bytes};
 ghost use Rattle.number_text.specs.Numbers.{IsNumber, IsNoNumber};
 ghost use Rattle.dictionary.specs.Search.{sought, IsSought};
 ghost use Rattle.primitives.specs.Names.{counted_string};
 
 use crate::text::Text;
-use dictionary::{ChainTooLong, ForgetFault, forget_target, search};
+use dictionary::{ChainTooLong, ForgetFault, forget_target};
 use input_source::{Stream, Word};
 use memory::Memory;
+use name_index::find_indexed;
 use number_text::{Number, number};
+use plain_rows::parts::Parts;
 
-/// The link field of the header that a name in two pieces means.
-fn sought_in_pieces(memory: &Memory, head: &[u8], tail: &[u8]) -> Result<Option<u16>, ChainTooLong>
-    requires { length head.now + length tail.now ≤ 65535 }
-    ensures { IsSought (sought memory.now (head.now ++ tail.now)) result }
+/// The same of a name that goes on at address 0.
+fn sought_in_pieces(parts: &mut Parts, from: u16, n: u16) -> Result<Option<u16>, ChainTooLong>
+    ensures found { IsSought (sought parts.old.memory (bytes parts.old.memory from n)) result }
+    ensures same { parts.new ≡ parts.old }
 {
+    let (head, tail) = parts.memory.span(from, n);
     let name = Text::joined(head, tail);
-    search(memory, name.as_slice())
+    find_indexed(&parts.memory, &mut parts.index, name.as_slice(), parts.limit)
+}
+
+/// The link field of the header that the `n` bytes from `from` on mean.
+#[tactic(auto, using(crate::proofs::Pieces::all_in_front))]
+fn sought_bytes(parts: &mut Parts, from: u16, n: u16) -> Result<Option<u16>, ChainTooLong>
+    ensures found { IsSought (sought parts.old.memory (bytes parts.old.memory from n)) result }
+    ensures same { parts.new ≡ parts.old }
+{
+    let (head, tail) = parts.memory.span(from, n);
+    if tail.is_empty() {
+        return find_indexed(&parts.memory, &mut parts.index, head, parts.limit);
+    }
+    sought_in_pieces(parts, from, n)
 }
 
 /// The link field of the header that a word of the stream means.
-#[tactic(auto, using(crate::proofs::Pieces::all_in_front), unfolding(input_source::specs::Words::bytes_in))]
-pub fn sought(memory: &Memory, stream: Stream, word: Word) -> Result<Option<u16>, ChainTooLong>
-    ensures { IsSought (sought memory.now (bytes_in memory.now stream word)) result }
+#[tactic(auto, unfolding(input_source::specs::Words::bytes_in))]
+pub fn sought(parts: &mut Parts, stream: Stream, word: Word) -> Result<Option<u16>, ChainTooLong>
+    ensures found { IsSought (sought parts.old.memory (bytes_in parts.old.memory stream word)) result }
+    ensures same { parts.new ≡ parts.old }
 {
-    let (head, tail) = memory.span(stream.at.wrapping_add(word.at), word.len);
-    if tail.is_empty() {
-        return search(memory, head);
-    }
-    sought_in_pieces(memory, head, tail)
+    sought_bytes(parts, stream.at.wrapping_add(word.at), word.len)
 }
 
 /// The link field of the header that the counted string at `a` means.
-#[tactic(auto, using(crate::proofs::Pieces::all_in_front), unfolding(crate::specs::Names::counted_string))]
-pub fn sought_at(memory: &Memory, a: u16) -> Result<Option<u16>, ChainTooLong>
-    ensures { IsSought (sought memory.now (counted_string memory.now a)) result }
+#[tactic(auto, unfolding(crate::specs::Names::counted_string))]
+pub fn sought_at(parts: &mut Parts, a: u16) -> Result<Option<u16>, ChainTooLong>
+    ensures found { IsSought (sought parts.old.memory (counted_string parts.old.memory a)) result }
+    ensures same { parts.new ≡ parts.old }
 {
-    let (head, tail) = memory.span(a.wrapping_add(1), u16::from(memory.byte(a)));
-    if tail.is_empty() {
-        return search(memory, head);
-    }
-    sought_in_pieces(memory, head, tail)
+    let count = parts.memory.byte(a);
+    sought_bytes(parts, a.wrapping_add(1), u16::from(count))
 }
 
 /// The number that a word of the stream spells.

@@ -1,15 +1,31 @@
 //! Rows 128 to 134: pictures of numbers, and numbers that are read.
 
-#![tactic(auto, using(plain_rows::proofs::Takes::takes))]
+#![tactic(auto, using(plain_rows::proofs::Takes::takes, name_index::proofs::Writes::writes, crate::proofs::Writing::writing))]
 
 ghost use Rattle.std.specs.Prelude.{◌≡◌};
+ghost use Rattle.cells.specs.Cell.{difference};
+ghost use Rattle.memory.specs.Bytes.{cell};
+ghost use Rattle.memory.specs.declared.system.TheConstants.{HLD};
 ghost use Rattle.primitives.specs.Numbers.{open_picture, picture_digit, picture_digits, close_picture, hold, sign, convert};
 
+use memory::Memory;
+use memory::system::HLD;
 use plain_rows::faults::{BAD_BASE, DATA_UNDERFLOW};
 use plain_rows::parts::{Outcome, Parts};
 use plain_rows::{double_of, leave};
 
+/// How many digits a double has at most: in base 2.
+const MOST_DIGITS: u16 = 32;
+
+/// Where the next byte of the picture goes.
+fn next_place(memory: &Memory) -> u16
+    ensures { result ≡ difference (cell memory.now HLD) 1 }
+{
+    memory.cell(HLD).wrapping_sub(1)
+}
+
 /// 128 `<#` ( -- )
+#[tactic(auto, using(name_index::proofs::Writes::writes), unfolding(number_text::specs::Picture::opened))]
 pub fn open_picture(parts: &mut Parts) -> Outcome
     ensures { (parts.new, result) ≡ open_picture parts.old }
 {
@@ -18,15 +34,18 @@ pub fn open_picture(parts: &mut Parts) -> Outcome
 }
 
 /// 129 `#` ( ud -- ud2 )
+#[tactic(auto, using(plain_rows::proofs::Takes::takes, name_index::proofs::Writes::writes), unfolding(number_text::specs::Picture::with_digit, number_text::specs::Picture::held))]
 pub fn picture_digit(parts: &mut Parts) -> Outcome
     ensures { (parts.new, result) ≡ picture_digit parts.old }
 {
     let Some((low, high)) = parts.values.top2() else {
         return Outcome::Fault(DATA_UNDERFLOW);
     };
+    let place = next_place(&parts.memory);
     let Ok(rest) = number_text::picture_digit(&mut parts.memory, double_of(low, high)) else {
         return Outcome::Fault(BAD_BASE);
     };
+    parts.index.note(place, 1);
     parts.values.lower(2);
     parts.values.put((rest % 65536) as u16);
     parts.values.put((rest / 65536) as u16);
@@ -34,15 +53,18 @@ pub fn picture_digit(parts: &mut Parts) -> Outcome
 }
 
 /// 130 `#S` ( ud -- 0 0 )
+#[tactic(auto, using(plain_rows::proofs::Takes::takes, name_index::proofs::Writes::writes, crate::proofs::Writing::writing), unfolding(number_text::specs::Picture::with_digits, number_text::specs::Base::has_base))]
 pub fn picture_digits(parts: &mut Parts) -> Outcome
     ensures { (parts.new, result) ≡ picture_digits parts.old }
 {
     let Some((low, high)) = parts.values.top2() else {
         return Outcome::Fault(DATA_UNDERFLOW);
     };
+    let end = parts.memory.cell(HLD);
     if number_text::picture_digits(&mut parts.memory, double_of(low, high)).is_err() {
         return Outcome::Fault(BAD_BASE);
     }
+    parts.index.note(end.wrapping_sub(MOST_DIGITS), MOST_DIGITS);
     parts.values.lower(2);
     parts.values.put(0);
     parts.values.put(0);
@@ -61,6 +83,7 @@ pub fn close_picture(parts: &mut Parts) -> Outcome
 }
 
 /// 132 `HOLD` ( c -- )
+#[tactic(auto, using(plain_rows::proofs::Takes::takes, name_index::proofs::Writes::writes), unfolding(number_text::specs::Picture::held))]
 pub fn hold(parts: &mut Parts) -> Outcome
     ensures { (parts.new, result) ≡ hold parts.old }
 {
@@ -68,11 +91,14 @@ pub fn hold(parts: &mut Parts) -> Outcome
         return Outcome::Fault(DATA_UNDERFLOW);
     };
     parts.values.lower(1);
+    let place = next_place(&parts.memory);
     number_text::hold(&mut parts.memory, (c % 256) as u8);
+    parts.index.note(place, 1);
     Outcome::Done
 }
 
 /// 133 `SIGN` ( n -- )
+#[tactic(auto, using(plain_rows::proofs::Takes::takes, name_index::proofs::Writes::writes), unfolding(number_text::specs::Picture::signed_picture, number_text::specs::Picture::held))]
 pub fn sign(parts: &mut Parts) -> Outcome
     ensures { (parts.new, result) ≡ sign parts.old }
 {
@@ -80,7 +106,11 @@ pub fn sign(parts: &mut Parts) -> Outcome
         return Outcome::Fault(DATA_UNDERFLOW);
     };
     parts.values.lower(1);
+    let place = next_place(&parts.memory);
     number_text::sign(&mut parts.memory, n);
+    if n >= 32768 {
+        parts.index.note(place, 1);
+    }
     Outcome::Done
 }
 

@@ -6,8 +6,8 @@ ghost use Rattle.std.specs.Prelude.{◌≡◌};
 ghost use Rattle.primitives.specs.Streams.{IsOpened, past, word, paren, dot_paren};
 
 use crate::blocks::without_block;
-use input_source::{Stream, Word, next_word, parse_to, place_word, stream};
-use memory::Memory;
+use crate::writing::place_word;
+use input_source::{Stream, Word, next_word, parse_to, stream};
 use memory::system::{BLK, TO_IN};
 use plain_rows::faults::{BAD_LENGTH, DATA_UNDERFLOW, NO_BLOCK};
 use plain_rows::parts::{Outcome, Parts, Span};
@@ -32,10 +32,10 @@ pub fn open(parts: &mut Parts) -> Result<Stream, Outcome>
 }
 
 /// Makes `>IN` the place behind a word.
-pub fn pass(memory: &mut Memory, word: Word)
-    ensures { memory.new ≡ past memory.old word }
+pub fn pass(parts: &mut Parts, word: Word)
+    ensures { parts.new ≡ (record parts.old { memory = past parts.old.memory word }) }
 {
-    memory.set_cell(TO_IN, word.next);
+    parts.set_cell(TO_IN, word.next);
 }
 
 /// 144 `WORD` ( c -- a )
@@ -50,7 +50,7 @@ pub fn word(parts: &mut Parts) -> Outcome
         Err(outcome) => return outcome,
     };
     let word = next_word(&parts.memory, stream, (c % 256) as u8);
-    let Ok(here) = place_word(&mut parts.memory, stream, word) else {
+    let Ok(here) = place_word(parts, stream, word) else {
         return Outcome::Fault(BAD_LENGTH);
     };
     parts.values.lower(1);
@@ -67,7 +67,7 @@ pub fn paren(parts: &mut Parts) -> Outcome
         Err(outcome) => return outcome,
     };
     let word = parse_to(&parts.memory, stream, b')');
-    pass(&mut parts.memory, word);
+    pass(parts, word);
     Outcome::Done
 }
 
@@ -80,7 +80,7 @@ pub fn dot_paren(parts: &mut Parts) -> Outcome
         Err(outcome) => return outcome,
     };
     let word = parse_to(&parts.memory, stream, b')');
-    pass(&mut parts.memory, word);
+    pass(parts, word);
     Outcome::Show(Span {
         at: stream.at.wrapping_add(word.at),
         len: word.len,

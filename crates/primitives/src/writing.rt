@@ -1,0 +1,107 @@
+//! What rows write in several places: the index is told of each.
+
+ghost use Rattle.std.specs.Prelude.{ℕ, ◌≡◌, ◌+◌, ◌≤◌, List, [], ◌∷◌, length};
+ghost use Rattle.block_buffers.specs.Entries.{limit};
+ghost use Rattle.compiling_words.specs.Code.{text_code};
+ghost use Rattle.compiling_words.specs.Definitions.{IsEnded};
+ghost use Rattle.dictionary.specs.Adding.{header_size, with_header_at, with_vocabulary_at};
+ghost use Rattle.dictionary.specs.Laying.{laid_at};
+ghost use Rattle.input_source.specs.Placing.{IsPlaced};
+ghost use Rattle.memory.specs.Bytes.{PutBytes, PutCell, written};
+ghost use Rattle.memory.specs.declared.system.TheConstants.{DP, LAST};
+ghost use Rattle.name_index.specs.Index.{Holds};
+
+use compiling_words::Full;
+use dictionary::{Site, newest_count};
+use input_source::{Stream, TooLong, Word};
+use memory::system::DP;
+use name_index::NameIndex;
+use plain_rows::parts::Parts;
+
+/// The bytes of a header besides its name: view, link, count byte and code field.
+const FIXED_SIZE: u16 = 7;
+
+/// The bytes of a vocabulary's record.
+const RECORD_SIZE: u16 = 10;
+
+/// Tells the index of a new header of `size` bytes: of its bytes, and of the head of its chain. DP and LAST are not
+/// watched.
+fn note_header(index: &mut NameIndex, site: Site, size: u16)
+    ensures holds { (limit : ℕ) (m header : List ℕ) (end link : ℕ) → length header ≡ size → Holds limit index.old m
+        → Holds limit index.new (written m
+            (PutBytes site.here header ∷ PutCell DP end ∷ PutCell site.head link ∷ PutCell LAST link ∷ [])) }
+{
+    index.note(site.here, size);
+    index.note(site.head, 2);
+}
+
+/// Writes a header at its site, as `Site::write`.
+#[tactic(auto, using(dictionary::proofs::Pieces::length_header), unfolding(dictionary::specs::Adding::with_header_at))]
+pub fn write_header(
+    parts: &mut Parts,
+    site: Site,
+    name: &[u8],
+    code: u16,
+    extra: &[u8],
+    hidden: bool,
+)
+    requires name { length name.now ≤ 31 }
+    requires size { header_size name.now extra.now ≤ 65535 }
+    ensures { parts.new ≡ (record parts.old { memory = with_header_at site parts.old.memory name.now code extra.now hidden }) }
+{
+    site.write(&mut parts.memory, name, code, extra, hidden);
+    note_header(
+        &mut parts.index,
+        site,
+        FIXED_SIZE + name.len() as u16 + extra.len() as u16,
+    );
+}
+
+/// Writes a vocabulary at its site, as `Site::write_vocabulary`.
+pub fn write_vocabulary(parts: &mut Parts, site: Site, name: &[u8], newest: u16)
+    requires { length name.now ≤ 31 }
+    ensures { parts.new ≡ (record parts.old { memory = with_vocabulary_at site newest parts.old.memory name.now }) }
+{
+    site.write_vocabulary(&mut parts.memory, name, newest);
+    note_header(
+        &mut parts.index,
+        site,
+        FIXED_SIZE + name.len() as u16 + RECORD_SIZE,
+    );
+}
+
+/// Lays a token and a counted text at an address, as `compiling_words::lay_text`.
+#[tactic(auto, using(name_index::proofs::Writes::writes, compiling_words::proofs::Texts::texts), unfolding(dictionary::specs::Laying::laid_at))]
+pub fn lay_text(parts: &mut Parts, here: u16, token: u16, text: &[u8])
+    requires { length text.now ≤ 255 }
+    ensures { parts.new ≡ (record parts.old { memory = laid_at here parts.old.memory (text_code token text.now) }) }
+{
+    compiling_words::lay_text(&mut parts.memory, here, token, text);
+    parts.index.note(here, 3 + text.len() as u16);
+}
+
+/// Leaves a word of the stream at HERE, as `input_source::place_word`.
+#[tactic(auto, using(name_index::proofs::Writes::writes, crate::proofs::Writing::writing), unfolding(input_source::specs::Placing::with_word))]
+pub fn place_word(parts: &mut Parts, stream: Stream, word: Word) -> Result<u16, TooLong>
+    ensures placed { IsPlaced parts.old.memory parts.new.memory stream word result }
+    ensures same { parts.new ≡ (record parts.old { memory = parts.new.memory }) }
+{
+    let _ = parts.memory.len();
+    let here = input_source::place_word(&mut parts.memory, stream, word)?;
+    parts.index.note(here, word.len + 2);
+    Ok(here)
+}
+
+/// Ends a definition, as `compiling_words::end_definition`.
+#[tactic(auto, using(name_index::proofs::Writes::writes))]
+pub fn end_definition(parts: &mut Parts) -> Result<(), Full>
+    ensures ended { IsEnded (limit parts.old.buffers) parts.old.memory parts.new.memory result }
+    ensures same { parts.new ≡ (record parts.old { memory = parts.new.memory }) }
+{
+    let here = parts.memory.cell(DP);
+    let count = newest_count(&parts.memory);
+    compiling_words::end_definition(&mut parts.memory, parts.limit)?;
+    parts.index.note(here, 2);
+    parts.index.note(count, 1);
+    Ok(())
+}
