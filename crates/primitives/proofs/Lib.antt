@@ -1,6 +1,6 @@
 pub mod Searching
 pub mod Pieces
-pub mod Writing
+pub mod Beside
 pub mod Behaves
 pub mod Rows
 pub mod Requests

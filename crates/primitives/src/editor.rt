@@ -1,6 +1,6 @@
 //! Rows 200 to 204: the line editor, on the screen that SCR names.
 
-#![tactic(auto, using(plain_rows::proofs::Takes::takes, name_index::proofs::Writes::writes))]
+#![tactic(auto, using(plain_rows::proofs::Takes::takes, crate::proofs::Beside::holding))]
 
 ghost use Rattle.std.specs.Prelude.{◌≡◌, ◌≤◌, ◌+◌, length};
 ghost use Rattle.block_buffers.specs.Screens.{blank_screen, line_start, with_line, line_inserted, line_deleted};
@@ -55,8 +55,10 @@ fn line_text(memory: &Memory, stream: Stream) -> [u8; 64]
 /// Deletes a line of the screen that begins at `at`.
 fn delete_in(memory: &mut Memory, at: u16, n: u16)
     requires { at ≤ 64512 }
-    ensures { memory.new ≡ with_page memory.old at (line_deleted (page memory.old at) n) }
+    ensures value { memory.new ≡ with_page memory.old at (line_deleted (page memory.old at) n) }
+    ensures len { length memory.old ≡ 65536 }
 {
+    let _ = memory.len();
     let mut screen = *memory.page(at);
     delete_line(&mut screen, n);
     memory.set_page(at, &screen);
@@ -65,8 +67,10 @@ fn delete_in(memory: &mut Memory, at: u16, n: u16)
 /// Wipes the screen that begins at `at`.
 fn wipe_in(memory: &mut Memory, at: u16)
     requires { at ≤ 64512 }
-    ensures { memory.new ≡ with_page memory.old at blank_screen }
+    ensures value { memory.new ≡ with_page memory.old at blank_screen }
+    ensures len { length memory.old ≡ 65536 }
 {
+    let _ = memory.len();
     let mut screen = *memory.page(at);
     block_buffers::wipe(&mut screen);
     memory.set_page(at, &screen);
@@ -76,9 +80,11 @@ fn wipe_in(memory: &mut Memory, at: u16)
 fn put_in(memory: &mut Memory, at: u16, n: u16, stream: Stream)
     requires screen { at ≤ 64512 }
     requires place { stream.place ≤ stream.size }
-    ensures { memory.new ≡ with_page (put_cell memory.old TO_IN stream.size) at
+    ensures value { memory.new ≡ with_page (put_cell memory.old TO_IN stream.size) at
         (with_line (page memory.old at) n (line_text memory.old stream)) }
+    ensures len { length memory.old ≡ 65536 }
 {
+    let _ = memory.len();
     let text = line_text(memory, stream);
     let mut screen = *memory.page(at);
     put_line(&mut screen, n, &text);
@@ -90,9 +96,11 @@ fn put_in(memory: &mut Memory, at: u16, n: u16, stream: Stream)
 fn insert_in(memory: &mut Memory, at: u16, n: u16, stream: Stream)
     requires screen { at ≤ 64512 }
     requires place { stream.place ≤ stream.size }
-    ensures { memory.new ≡ with_page (put_cell memory.old TO_IN stream.size) at
+    ensures value { memory.new ≡ with_page (put_cell memory.old TO_IN stream.size) at
         (line_inserted (page memory.old at) n (line_text memory.old stream)) }
+    ensures len { length memory.old ≡ 65536 }
 {
+    let _ = memory.len();
     let text = line_text(memory, stream);
     let mut screen = *memory.page(at);
     insert_line(&mut screen, n, &text);

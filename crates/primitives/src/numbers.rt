@@ -1,6 +1,6 @@
 //! Rows 128 to 134: pictures of numbers, and numbers that are read.
 
-#![tactic(auto, using(plain_rows::proofs::Takes::takes, name_index::proofs::Writes::writes, crate::proofs::Writing::writing))]
+#![tactic(auto, using(plain_rows::proofs::Takes::takes, crate::proofs::Beside::holding))]
 
 ghost use Rattle.std.specs.Prelude.{◌≡◌};
 ghost use Rattle.cells.specs.Cell.{difference};
@@ -34,7 +34,6 @@ pub fn open_picture(parts: &mut Parts) -> Outcome
 }
 
 /// 129 `#` ( ud -- ud2 )
-#[tactic(auto, using(plain_rows::proofs::Takes::takes, name_index::proofs::Writes::writes), unfolding(number_text::specs::Picture::with_digit, number_text::specs::Picture::held))]
 pub fn picture_digit(parts: &mut Parts) -> Outcome
     ensures { (parts.new, result) ≡ picture_digit parts.old }
 {
@@ -53,7 +52,6 @@ pub fn picture_digit(parts: &mut Parts) -> Outcome
 }
 
 /// 130 `#S` ( ud -- 0 0 )
-#[tactic(auto, using(plain_rows::proofs::Takes::takes, name_index::proofs::Writes::writes, crate::proofs::Writing::writing), unfolding(number_text::specs::Picture::with_digits, number_text::specs::Base::has_base))]
 pub fn picture_digits(parts: &mut Parts) -> Outcome
     ensures { (parts.new, result) ≡ picture_digits parts.old }
 {
@@ -61,9 +59,9 @@ pub fn picture_digits(parts: &mut Parts) -> Outcome
         return Outcome::Fault(DATA_UNDERFLOW);
     };
     let end = parts.memory.cell(HLD);
-    if number_text::picture_digits(&mut parts.memory, double_of(low, high)).is_err() {
+    let Ok(()) = number_text::picture_digits(&mut parts.memory, double_of(low, high)) else {
         return Outcome::Fault(BAD_BASE);
-    }
+    };
     parts.index.note(end.wrapping_sub(MOST_DIGITS), MOST_DIGITS);
     parts.values.lower(2);
     parts.values.put(0);
@@ -83,7 +81,6 @@ pub fn close_picture(parts: &mut Parts) -> Outcome
 }
 
 /// 132 `HOLD` ( c -- )
-#[tactic(auto, using(plain_rows::proofs::Takes::takes, name_index::proofs::Writes::writes), unfolding(number_text::specs::Picture::held))]
 pub fn hold(parts: &mut Parts) -> Outcome
     ensures { (parts.new, result) ≡ hold parts.old }
 {
@@ -98,7 +95,6 @@ pub fn hold(parts: &mut Parts) -> Outcome
 }
 
 /// 133 `SIGN` ( n -- )
-#[tactic(auto, using(plain_rows::proofs::Takes::takes, name_index::proofs::Writes::writes), unfolding(number_text::specs::Picture::signed_picture, number_text::specs::Picture::held))]
 pub fn sign(parts: &mut Parts) -> Outcome
     ensures { (parts.new, result) ≡ sign parts.old }
 {

@@ -26,13 +26,14 @@ const RECORD_SIZE: u16 = 10;
 
 /// Tells the index of a new header of `size` bytes: of its bytes, and of the head of its chain. DP and LAST are not
 /// watched.
-fn note_header(index: &mut NameIndex, site: Site, size: u16)
+#[tactic(auto, using(crate::proofs::Beside::holding))]
+fn note_header(index: &mut NameIndex, here: u16, size: u16, head: u16)
     ensures holds { (limit : ℕ) (m header : List ℕ) (end link : ℕ) → length header ≡ size → Holds limit index.old m
         → Holds limit index.new (written m
-            (PutBytes site.here header ∷ PutCell DP end ∷ PutCell site.head link ∷ PutCell LAST link ∷ [])) }
+            (PutBytes here header ∷ PutCell DP end ∷ PutCell head link ∷ PutCell LAST link ∷ [])) }
 {
-    index.note(site.here, size);
-    index.note(site.head, 2);
+    index.note(here, size);
+    index.note(head, 2);
 }
 
 /// Writes a header at its site, as `Site::write`.
@@ -50,24 +51,19 @@ pub fn write_header(
     ensures { parts.new ≡ (record parts.old { memory = with_header_at site parts.old.memory name.now code extra.now hidden }) }
 {
     site.write(&mut parts.memory, name, code, extra, hidden);
-    note_header(
-        &mut parts.index,
-        site,
-        FIXED_SIZE + name.len() as u16 + extra.len() as u16,
-    );
+    let size = FIXED_SIZE + name.len() as u16 + extra.len() as u16;
+    note_header(&mut parts.index, site.here, size, site.head);
 }
 
 /// Writes a vocabulary at its site, as `Site::write_vocabulary`.
+#[tactic(auto, using(crate::proofs::Beside::holding))]
 pub fn write_vocabulary(parts: &mut Parts, site: Site, name: &[u8], newest: u16)
     requires { length name.now ≤ 31 }
     ensures { parts.new ≡ (record parts.old { memory = with_vocabulary_at site newest parts.old.memory name.now }) }
 {
     site.write_vocabulary(&mut parts.memory, name, newest);
-    note_header(
-        &mut parts.index,
-        site,
-        FIXED_SIZE + name.len() as u16 + RECORD_SIZE,
-    );
+    let size = FIXED_SIZE + name.len() as u16 + RECORD_SIZE;
+    note_header(&mut parts.index, site.here, size, site.head);
 }
 
 /// Lays a token and a counted text at an address, as `compiling_words::lay_text`.
@@ -81,27 +77,35 @@ pub fn lay_text(parts: &mut Parts, here: u16, token: u16, text: &[u8])
 }
 
 /// Leaves a word of the stream at HERE, as `input_source::place_word`.
-#[tactic(auto, using(name_index::proofs::Writes::writes, crate::proofs::Writing::writing), unfolding(input_source::specs::Placing::with_word))]
+#[tactic(auto, using(crate::proofs::Beside::holding))]
 pub fn place_word(parts: &mut Parts, stream: Stream, word: Word) -> Result<u16, TooLong>
     ensures placed { IsPlaced parts.old.memory parts.new.memory stream word result }
     ensures same { parts.new ≡ (record parts.old { memory = parts.new.memory }) }
 {
     let _ = parts.memory.len();
-    let here = input_source::place_word(&mut parts.memory, stream, word)?;
-    parts.index.note(here, word.len + 2);
-    Ok(here)
+    match input_source::place_word(&mut parts.memory, stream, word) {
+        Ok(here) => {
+            parts.index.note(here, word.len + 2);
+            Ok(here)
+        }
+        Err(too_long) => Err(too_long),
+    }
 }
 
 /// Ends a definition, as `compiling_words::end_definition`.
-#[tactic(auto, using(name_index::proofs::Writes::writes))]
+#[tactic(auto, using(crate::proofs::Beside::holding))]
 pub fn end_definition(parts: &mut Parts) -> Result<(), Full>
     ensures ended { IsEnded (limit parts.old.buffers) parts.old.memory parts.new.memory result }
     ensures same { parts.new ≡ (record parts.old { memory = parts.new.memory }) }
 {
     let here = parts.memory.cell(DP);
     let count = newest_count(&parts.memory);
-    compiling_words::end_definition(&mut parts.memory, parts.limit)?;
-    parts.index.note(here, 2);
-    parts.index.note(count, 1);
-    Ok(())
+    match compiling_words::end_definition(&mut parts.memory, parts.limit) {
+        Ok(()) => {
+            parts.index.note(here, 2);
+            parts.index.note(count, 1);
+            Ok(())
+        }
+        Err(full) => Err(full),
+    }
 }
