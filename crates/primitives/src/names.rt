@@ -23,7 +23,12 @@ fn sought_in_pieces(parts: &mut Parts, from: u16, n: u16) -> Result<Option<u16>,
 {
     let (head, tail) = parts.memory.span(from, n);
     let name = Text::joined(head, tail);
-    find_indexed(&parts.memory, &mut parts.index, name.as_slice(), parts.limit)
+    find_indexed(
+        &parts.memory,
+        &mut parts.index,
+        name.as_slice(),
+        parts.limit,
+    )
 }
 
 /// The link field of the header that the `n` bytes from `from` on mean.

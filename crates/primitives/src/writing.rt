@@ -30,7 +30,7 @@ const RECORD_SIZE: u16 = 10;
 fn note_header(index: &mut NameIndex, here: u16, size: u16, head: u16)
     ensures holds { (limit : ℕ) (m header : List ℕ) (end link : ℕ) → length header ≡ size → Holds limit index.old m
         → Holds limit index.new (written m
-            (PutBytes here header ∷ PutCell DP end ∷ PutCell head link ∷ PutCell LAST link ∷ [])) }
+        (PutBytes here header ∷ PutCell DP end ∷ PutCell head link ∷ PutCell LAST link ∷ [])) }
 {
     index.note(here, size);
     index.note(head, 2);
