@@ -1,9 +1,10 @@
-//! Writes to memory by rows: the index is told of each.
+//! Writes to memory by rows and answers: the index is told of each.
 
 #![tactic(auto, using(name_index::proofs::Writes::writes))]
 
-ghost use Rattle.std.specs.Prelude.{◌≡◌, ◌≤◌, length};
-ghost use Rattle.memory.specs.Bytes.{put_byte, put_cell, moved_up, moved_down, filled};
+ghost use Rattle.std.specs.Prelude.{◌≡◌, ◌<◌, ◌≤◌, length};
+ghost use Rattle.block_buffers.specs.Entries.{address_of};
+ghost use Rattle.memory.specs.Bytes.{put_byte, put_bytes, put_cell, moved_up, moved_down, filled, with_page};
 ghost use Rattle.dictionary.specs.Laying.{laid_at};
 
 use crate::parts::Parts;
@@ -48,6 +49,25 @@ impl Parts {
     {
         self.memory.fill(at, n, value);
         self.index.note(at, n);
+    }
+
+    /// Writes `bytes` from `at` on.
+    pub fn set_bytes(&mut self, at: u16, bytes: &[u8])
+        requires { length bytes.now ≤ 65535 }
+        ensures { self.new ≡ (record self.old { memory = put_bytes self.old.memory at bytes.now }) }
+    {
+        self.memory.set_bytes(at, bytes);
+        self.index.note(at, bytes.len() as u16);
+    }
+
+    /// Writes the 1,024 bytes of the buffer in a slot, on which no search rests that the index keeps.
+    pub fn set_page(&mut self, slot: usize, page: &[u8; 1024])
+        requires { slot < length self.old.buffers }
+        ensures { self.new ≡ (record self.old { memory = with_page self.old.memory (address_of self.old.buffers slot) page.now }) }
+    {
+        let at = self.buffers.address_of(slot);
+        let _ = self.memory.len();
+        self.memory.set_page(at, page);
     }
 
     /// Lays bytes at an address, and sets DP behind them. Whether they fit isn't asked.

@@ -1,12 +1,11 @@
 -- An index that is told of a write holds for the memory behind it. Cells of the system by their addresses: STATE 16,
 -- BASE 18, >IN 20, DP 28, LAST 30, HLD 36, VOC-LINK 52.
-use Rattle.std.proofs.Common.{◌≡◌, ◌≢◌, ℕ, ◌+◌, ◌*◌, ◌-◌, ◌%◌, ◌<◌, ◌≤◌, List, [], ◌∷◌, ◌++◌, length, map, arith, ◌∙◌, IsTrue, length-append, refl, subst, sym, true, false}
+use Rattle.std.proofs.Common.{◌≡◌, ◌≢◌, ℕ, ◌+◌, ◌-◌, ◌%◌, ◌<◌, ◌≤◌, List, [], ◌∷◌, ◌++◌, length, map, arith, ◌∙◌, IsTrue, length-append, refl, subst, sym, true, false}
 use Rattle.std.specs.Prelude.{Result, Ok, Err}
 use Rattle.std.proofs.lemmas.List.{length-map}
 use Rattle.std.proofs.lemmas.Grind.{common_steps}
 use Rattle.cells.specs.Cell.{wrap, difference, is_negative}
-use Rattle.memory.specs.Bytes.{byte, cell, cell_bytes, put_byte, put_cell, put_bytes, bytes, with_page, PutCell, PutBytes, with_write, written}
-use Rattle.memory.proofs.Kept.{length_cell}
+use Rattle.memory.specs.Bytes.{byte, cell, cell_bytes, put_byte, put_cell, put_bytes, bytes, PutCell, PutBytes, with_write, written}
 use Rattle.memory.proofs.Ranges.{length-bytes}
 use Rattle.compiling_words.specs.Code.{runtime}
 use Rattle.compiling_words.specs.declared.laying.Full.{Full}
@@ -30,7 +29,7 @@ use Rattle.number_text.proofs.Expansions.{count_most}
 use Rattle.name_index.specs.declared.index.NameIndex.{NameIndex}
 use Rattle.name_index.specs.Watch.{AgreeBeside, IsBeside}
 use Rattle.name_index.specs.Index.{Holds}
-use Rattle.name_index.proofs.Writes.{beside_byte, beside_cell, beside_bytes, holds_low_cell, holds_cell_between, holds_high_cell, holds_page}
+use Rattle.name_index.proofs.Writes.{beside_byte, beside_cell, beside_bytes, holds_low_cell, holds_cell_between, holds_high_cell}
 
 -- what an index is after it was told of n addresses from at on
 abbrev pub IsTold : ℕ → ℕ → NameIndex → NameIndex → Type 0
@@ -182,14 +181,4 @@ definition_holds limit index one two m other result room here count u is r e h f
     let p : IsEnded room m other (Ok u) = subst (λ q. IsEnded room m other q) r is in
     ended_holds limit index one two m other here count p.1 e h f g first second holds
 
--- the page of a block buffer, with >IN written before it or not
-pub page_holds : (limit : ℕ) (index : NameIndex) (m other bs : List ℕ) (at base slot : ℕ) → other ≡ with_page m at bs → length m ≡ 65536 → at ≡ base + 1024 * slot → limit ≡ base → at ≤ 64512
-    → Holds limit index m → Holds limit index other
-page_holds limit index m other bs at base slot is l e b small holds = rw is (holds_page limit at index m bs l (omega (arith, e, b)) small holds)
-
-pub text_holds : (limit : ℕ) (index : NameIndex) (m other bs : List ℕ) (at x base slot : ℕ) → other ≡ with_page (put_cell m 20 x) at bs → length m ≡ 65536 → at ≡ base + 1024 * slot → limit ≡ base → at ≤ 64512
-    → Holds limit index m → Holds limit index other
-text_holds limit index m other bs at x base slot is l e b small holds =
-    rw is (holds_page limit at index (put_cell m 20 x) bs (length_cell m 20 x ∙ l) (omega (arith, e, b)) small (holds_low_cell limit 20 x index m (omega arith) holds))
-
-pub ruleset holding = (held_holds, digit_pictured, minus_holds, plus_holds, digits_pictured, placed_holds, header_holds, vocabulary_holds, definition_holds, page_holds, text_holds, holds_cell_between, holds_low_cell)
+pub ruleset holding = (held_holds, digit_pictured, minus_holds, plus_holds, digits_pictured, placed_holds, header_holds, vocabulary_holds, definition_holds, holds_cell_between, holds_low_cell)

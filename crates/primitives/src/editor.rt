@@ -1,8 +1,9 @@
 //! Rows 200 to 204: the line editor, on the screen that SCR names.
 
-#![tactic(auto, using(plain_rows::proofs::Takes::takes, crate::proofs::Beside::holding))]
+#![tactic(auto, using(plain_rows::proofs::Takes::takes))]
 
-ghost use Rattle.std.specs.Prelude.{◌≡◌, ◌≤◌, ◌+◌, length};
+ghost use Rattle.std.specs.Prelude.{◌≡◌, ◌<◌, ◌≤◌, ◌+◌, length};
+ghost use Rattle.block_buffers.specs.Entries.{address_of};
 ghost use Rattle.block_buffers.specs.Screens.{blank_screen, line_start, with_line, line_inserted, line_deleted};
 ghost use Rattle.memory.specs.Bytes.{cell, front_put, page, put_cell, with_page};
 ghost use Rattle.primitives.specs.Blocks.{IsFetched};
@@ -52,60 +53,59 @@ fn line_text(memory: &Memory, stream: Stream) -> [u8; 64]
     line
 }
 
-/// Deletes a line of the screen that begins at `at`.
-fn delete_in(memory: &mut Memory, at: u16, n: u16)
-    requires { at ≤ 64512 }
-    ensures value { memory.new ≡ with_page memory.old at (line_deleted (page memory.old at) n) }
-    ensures len { length memory.old ≡ 65536 }
+/// Deletes a line of the screen in a slot.
+fn delete_in(parts: &mut Parts, slot: usize, n: u16)
+    requires { slot < length parts.old.buffers }
+    ensures { parts.new ≡ (record parts.old { memory = with_page parts.old.memory (address_of parts.old.buffers slot)
+        (line_deleted (page parts.old.memory (address_of parts.old.buffers slot)) n) }) }
 {
-    let _ = memory.len();
-    let mut screen = *memory.page(at);
+    let at = parts.buffers.address_of(slot);
+    let mut screen = *parts.memory.page(at);
     delete_line(&mut screen, n);
-    memory.set_page(at, &screen);
+    parts.set_page(slot, &screen);
 }
 
-/// Wipes the screen that begins at `at`.
-fn wipe_in(memory: &mut Memory, at: u16)
-    requires { at ≤ 64512 }
-    ensures value { memory.new ≡ with_page memory.old at blank_screen }
-    ensures len { length memory.old ≡ 65536 }
+/// Wipes the screen in a slot.
+fn wipe_in(parts: &mut Parts, slot: usize)
+    requires { slot < length parts.old.buffers }
+    ensures { parts.new ≡ (record parts.old { memory = with_page parts.old.memory (address_of parts.old.buffers slot) blank_screen }) }
 {
-    let _ = memory.len();
-    let mut screen = *memory.page(at);
+    let at = parts.buffers.address_of(slot);
+    let mut screen = *parts.memory.page(at);
     block_buffers::wipe(&mut screen);
-    memory.set_page(at, &screen);
+    parts.set_page(slot, &screen);
 }
 
-/// `>IN` goes to the stream's end, and its text becomes line `n` of the screen that begins at `at`.
-fn put_in(memory: &mut Memory, at: u16, n: u16, stream: Stream)
-    requires screen { at ≤ 64512 }
+/// `>IN` goes to the stream's end, and its text becomes line `n` of the screen in a slot.
+fn put_in(parts: &mut Parts, slot: usize, n: u16, stream: Stream)
+    requires slot { slot < length parts.old.buffers }
     requires place { stream.place ≤ stream.size }
-    ensures value { memory.new ≡ with_page (put_cell memory.old TO_IN stream.size) at
-        (with_line (page memory.old at) n (line_text memory.old stream)) }
-    ensures len { length memory.old ≡ 65536 }
+    ensures { parts.new ≡ (record parts.old { memory = with_page (put_cell parts.old.memory TO_IN stream.size)
+        (address_of parts.old.buffers slot)
+        (with_line (page parts.old.memory (address_of parts.old.buffers slot)) n (line_text parts.old.memory stream)) }) }
 {
-    let _ = memory.len();
-    let text = line_text(memory, stream);
-    let mut screen = *memory.page(at);
+    let at = parts.buffers.address_of(slot);
+    let text = line_text(&parts.memory, stream);
+    let mut screen = *parts.memory.page(at);
     put_line(&mut screen, n, &text);
-    memory.set_cell(TO_IN, stream.size);
-    memory.set_page(at, &screen);
+    parts.set_cell(TO_IN, stream.size);
+    parts.set_page(slot, &screen);
 }
 
-/// `>IN` goes to the stream's end, and its text comes before line `n` of the screen that begins at `at`.
-fn insert_in(memory: &mut Memory, at: u16, n: u16, stream: Stream)
-    requires screen { at ≤ 64512 }
+/// `>IN` goes to the stream's end, and its text comes before line `n` of the screen in a slot.
+fn insert_in(parts: &mut Parts, slot: usize, n: u16, stream: Stream)
+    requires slot { slot < length parts.old.buffers }
     requires place { stream.place ≤ stream.size }
-    ensures value { memory.new ≡ with_page (put_cell memory.old TO_IN stream.size) at
-        (line_inserted (page memory.old at) n (line_text memory.old stream)) }
-    ensures len { length memory.old ≡ 65536 }
+    ensures { parts.new ≡ (record parts.old { memory = with_page (put_cell parts.old.memory TO_IN stream.size)
+        (address_of parts.old.buffers slot)
+        (line_inserted (page parts.old.memory (address_of parts.old.buffers slot)) n (line_text parts.old.memory stream)) }) }
 {
-    let _ = memory.len();
-    let text = line_text(memory, stream);
-    let mut screen = *memory.page(at);
+    let at = parts.buffers.address_of(slot);
+    let text = line_text(&parts.memory, stream);
+    let mut screen = *parts.memory.page(at);
     insert_line(&mut screen, n, &text);
-    memory.set_cell(TO_IN, stream.size);
-    memory.set_page(at, &screen);
+    parts.set_cell(TO_IN, stream.size);
+    parts.set_page(slot, &screen);
 }
 
 /// 200 `LINE` ( n -- a 64 )
@@ -147,8 +147,7 @@ pub fn put(parts: &mut Parts) -> Outcome
         Ok(slot) => slot,
         Err(outcome) => return outcome,
     };
-    let at = parts.buffers.address_of(slot);
-    put_in(&mut parts.memory, at, n, stream);
+    put_in(parts, slot, n, stream);
     parts.values.lower(1);
     parts.buffers.mark_front();
     Outcome::Done
@@ -169,8 +168,7 @@ pub fn insert(parts: &mut Parts) -> Outcome
         Ok(slot) => slot,
         Err(outcome) => return outcome,
     };
-    let at = parts.buffers.address_of(slot);
-    insert_in(&mut parts.memory, at, n, stream);
+    insert_in(parts, slot, n, stream);
     parts.values.lower(1);
     parts.buffers.mark_front();
     Outcome::Done
@@ -187,8 +185,7 @@ pub fn delete(parts: &mut Parts) -> Outcome
         Ok(slot) => slot,
         Err(outcome) => return outcome,
     };
-    let at = parts.buffers.address_of(slot);
-    delete_in(&mut parts.memory, at, n);
+    delete_in(parts, slot, n);
     parts.values.lower(1);
     parts.buffers.mark_front();
     Outcome::Done
@@ -202,8 +199,7 @@ pub fn wipe(parts: &mut Parts) -> Outcome
         Ok(slot) => slot,
         Err(outcome) => return outcome,
     };
-    let at = parts.buffers.address_of(slot);
-    wipe_in(&mut parts.memory, at);
+    wipe_in(parts, slot);
     parts.buffers.mark_front();
     Outcome::Done
 }

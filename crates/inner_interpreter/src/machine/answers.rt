@@ -122,7 +122,7 @@ impl Machine {
     }
 
     /// EXPECT's line: its count goes to SPAN, then its bytes to the address that EXPECT was given.
-    #[tactic(auto, using(name_index::proofs::Writes::writes), unfolding(crate::specs::Answer::line_answered))]
+    #[tactic(auto, unfolding(crate::specs::Answer::line_answered))]
     fn put_line(&mut self, bytes: &[u8], returned: bool) -> Act
         requires halt { self.old.halt ≡ None }
         requires few { length bytes.now ≤ 65535 }
@@ -136,9 +136,8 @@ impl Machine {
         };
         let count = bytes.len() as u16;
         self.parts.values.lower(2);
-        self.parts.memory.set_cell(SPAN, count);
-        self.parts.memory.set_bytes(at, bytes);
-        self.parts.index.note(at, count);
+        self.parts.set_cell(SPAN, count);
+        self.parts.set_bytes(at, bytes);
         Act {
             shown: line_shown(at, count, returned),
             event: Event::Went,
@@ -165,7 +164,7 @@ impl Machine {
     }
 
     /// A block's bytes go to the victim's buffer.
-    #[tactic(auto, using(primitives::proofs::Beside::page_holds), unfolding(crate::specs::Answer::read_answered))]
+    #[tactic(auto, unfolding(crate::specs::Answer::read_answered))]
     fn bring(&mut self, block: u16, token: u16, page: &[u8; 1024]) -> Act
         requires { self.old.halt ≡ None }
         ensures done { (self.new, result) ≡ read_answered self.old.parts block token page.now }
@@ -173,9 +172,7 @@ impl Machine {
         ensures settled { self.new.wait ≡ None }
     {
         let slot = self.parts.buffers.victim().slot;
-        let at = self.parts.buffers.address_of(slot);
-        let _ = self.parts.memory.len();
-        self.parts.memory.set_page(at, page);
+        self.parts.set_page(slot, page);
         self.parts.buffers.assign(block);
         self.parts.pending = Some(token);
         self.wait = None;
