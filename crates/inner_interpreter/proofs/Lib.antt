@@ -16,3 +16,4 @@ pub mod Requested
 pub mod Ending
 pub mod Faultless
 pub mod Hosting
+pub mod Kept
