@@ -1,14 +1,15 @@
 -- The resident compiler agrees.
 use Rattle.std.proofs.Common.{◌≡◌, ℕ, suc, ◌+◌, ◌-◌, ◌*◌, ◌<◌, ◌≤◌, ◌∷◌, List, [], length, take, drop, length-append, length-drop, refl, arith, Bool, true, false, ap, sym, subst, ◌∙◌, inl, inr, ◌⊎◌, All}
-use Rattle.std.specs.Prelude.{◌==◌, ◌&&◌, nat_le, if◌then◌else◌, Ok, Err, IsOk}
+use Rattle.std.specs.Prelude.{◌==◌, if◌then◌else◌, Ok, Err, IsOk, Result, Option}
 use Rattle.std.proofs.lemmas.Bool.{cases_lt}
 use Rattle.std.proofs.lemmas.List.{get_or_append_left, length-replicate}
 use Rattle.memory.specs.Bytes.{limit_of, byte, cell, front_put, zeros}
 use Rattle.memory.proofs.Limits.{limit_most}
 use Rattle.memory.specs.declared.limit.TheConstants.{GREATEST_LIMIT}
 use Rattle.block_buffers.specs.Disks.{Disk}
-use Rattle.dictionary.specs.Header.{compilation_address}
-use Rattle.dictionary.specs.Search.{Found}
+use Rattle.block_buffers.proofs.Kept.{length-start}
+use Rattle.inner_interpreter.specs.Entering.{can_save, saved}
+use Rattle.dictionary.specs.Search.{by_address}
 use Rattle.colon_bodies.specs.Code.{all_size}
 use Rattle.image_loader.specs.Files.{Contents, IsImage}
 use Rattle.plain_rows.specs.Whole.{Whole}
@@ -21,8 +22,8 @@ use Rattle.resident_screens.specs.Rounds.{Ended, Out, out, screens, then_screens
 use Rattle.resident_screens.specs.Resident.{Resident}
 use Rattle.resident_screens.specs.Sources.{ColonDefinition, laid_one, laid_all, AreDefined}
 use Rattle.resident_screens.specs.Orderly.{Orderly}
-use Rattle.resident_screens.specs.Loaded.{BadSize, Unfinished, Loaded, by_out, by_search, ended, restored, IsLaidOr, loaded_by_machine}
-use Rattle.resident_screens.specs.Compiled.{memory_of, context_behind, Agree, Enough}
+use Rattle.resident_screens.specs.Loaded.{LoadFault, NotFound, ChainTooLong, Fault, Halted, Asked, Limit, Unfinished, BadSize, OutOfMemory, Loaded, address_found, interpret_in, by_interpret, by_out, ended, restored, IsLoaded, IsLaidOr, loaded_by_machine}
+use Rattle.resident_screens.specs.Compiled.{memory_of, context_behind, Agree, Enough, Compiles}
 use Rattle.resident_screens.proofs.OrderKept.{orderly_kept}
 use Rattle.resident_screens.proofs.Defining.{context_of}
 use Rattle.resident_screens.proofs.Loading.{agrees_self, saved_as, load_law, enough_law}
@@ -70,19 +71,24 @@ same_context : (m : List ℕ) (es : List ColonDefinition) → context_of (cell m
 same_context m [] = refl
 same_context m (e ∷ es) = refl
 
--- what comes of the search of INTERPRET
-by_found : (old : Contents) (u : Whole) (d : Disk) (from to ticks l : ℕ) → 0 < from → by_search old u d from to ticks (Found l) ≡ by_out old u.memory (screens (compilation_address u.memory l) (to + 1 - from) from ticks u d)
-by_found old u d from to ticks l h = let z : (from == 0) ≡ false = grind arith in rw z refl
+-- INTERPRET is found
+interpret_found : {limit : ℕ} (ws : Words) (a : ℕ) (m : List ℕ) → Resident limit ws a m → interpret_in m ≡ Ok ws.interpret
+interpret_found {limit} ws a m r = ap (λ s. address_found (by_address m s)) r.interpret ∙ ap (λ w. Ok w) r.address
+
+by_found : (entry : ℕ) (u : Whole) (d : Disk) (from to ticks w : ℕ) → 0 < from → by_interpret entry u d from to ticks (Ok w) ≡ by_out entry u.memory (screens w (to + 1 - from) from ticks u d)
+by_found entry u d from to ticks w h = let z : (from == 0) ≡ false = grind arith in rw z refl
+
+loaded_is : {limit : ℕ} (image : Contents) (d : Disk) (from to ticks : ℕ) (ws : Words) (a : ℕ) → 0 < from → Resident limit ws a (memory_of image d)
+    → loaded_by_machine image d from to ticks ≡ by_out image.entry (memory_of image d) (screens ws.interpret (to + 1 - from) from ticks (start image (length d.blocks)).parts d)
+loaded_is {limit} image d from to ticks ws a h r =
+    let u = (start image (length d.blocks)).parts in
+    ap (λ s. by_interpret image.entry u d from to ticks s) (interpret_found ws a u.memory r) ∙ by_found image.entry u d from to ticks ws.interpret h
 
 answer_of : {limit : ℕ} (image : Contents) (d : Disk) (from to ticks : ℕ) (ws : Words) (a : ℕ) (n : List ℕ) (context : ℕ) → 0 < from → Resident limit ws a (memory_of image d)
-    → IsLaidOr image n context (by_out image (memory_of image d) (screens ws.interpret (to + 1 - from) from ticks (start image (length d.blocks)).parts d)).answer
+    → IsLaidOr image n context (by_out image.entry (memory_of image d) (screens ws.interpret (to + 1 - from) from ticks (start image (length d.blocks)).parts d)).answer
     → IsLaidOr image n context (loaded_by_machine image d from to ticks).answer
 answer_of {limit} image d from to ticks ws a n context h r y =
-    let u = (start image (length d.blocks)).parts in
-    let m = u.memory in
-    let e : loaded_by_machine image d from to ticks ≡ by_out image m (screens ws.interpret (to + 1 - from) from ticks u d) =
-    ap (λ s. by_search image u d from to ticks s) r.interpret ∙ by_found image u d from to ticks r.link h ∙ ap (λ w. by_out image m (screens w (to + 1 - from) from ticks u d)) r.address in
-    subst (λ (x : Loaded). IsLaidOr image n context x.answer) (sym e) y
+    subst (λ (x : Loaded). IsLaidOr image n context x.answer) (sym (loaded_is image d from to ticks ws a h r)) y
 
 pub agree : Agree
 agree image d from to ticks ws a es x = by (cases_lt to from)
@@ -118,12 +124,12 @@ agree image d from to ticks ws a es x = by (cases_lt to from)
     none (e ∷ es) s h = absurd (nothing_defined m e es s)
     none [] s h =
         let z : to + 1 - from ≡ 0 = omega arith in
-        let o = ap (λ c. by_out image m (screens ws.interpret c from ticks u d)) z ∙ ap (λ x. by_out image m x) (no_screens ws.interpret from ticks u d) in
+        let o = ap (λ c. by_out image.entry m (screens ws.interpret c from ticks u d)) z ∙ ap (λ x. by_out image.entry m x) (no_screens ws.interpret from ticks u d) in
         let dp = r.low in
         let hi = r.high in
         answer_of image d from to ticks ws a m (cell m 32) x.some r
         (subst (λ (x : Loaded). IsLaidOr image m (cell m 32) x.answer) (sym o)
-        (saved_as image (cell m 32) m m m all (agrees_self m) refl r.executing r.low r.high top low (λ i q. refl)))
+        (saved_as image (cell m 32) m u m (length-start image.buffers) all (agrees_self m) refl r.executing r.low r.high top low (λ i q. refl)))
 
     some : (more : ℕ) → to + 1 - from ≡ suc more → from ≤ to → IsLaidOr image (laid_all m es) (context_behind m es) (loaded_by_machine image d from to ticks).answer
     some more e h =
@@ -133,8 +139,8 @@ agree image d from to ticks ws a es x = by (cases_lt to from)
         let few = few_all ws a (cell m 34) (cell m 32) 9033 (cell m 28) m (source_of d from to) es g (omega arith) x.source in
         let y = load_law ws a (cell m 34) (cell m 32) 9033 (cell m 28) image d from more ticks es is.buffers g few refl r.first_keys r.keys low x.reliable x.some (omega arith) src2 in
         answer_of image d from to ticks ws a (laid_all m es) (context_behind m es) x.some r
-        (subst (λ c. IsLaidOr image (laid_all m es) c (by_out image m (screens ws.interpret (to + 1 - from) from ticks u d)).answer) (same_context m es)
-        (subst (λ c. IsLaidOr image (laid_all m es) (context_of (cell m 34) (cell m 32) es) (by_out image m (screens ws.interpret c from ticks u d)).answer) (sym e) y))
+        (subst (λ c. IsLaidOr image (laid_all m es) c (by_out image.entry m (screens ws.interpret (to + 1 - from) from ticks u d)).answer) (same_context m es)
+        (subst (λ c. IsLaidOr image (laid_all m es) (context_of (cell m 34) (cell m 32) es) (by_out image.entry m (screens ws.interpret c from ticks u d)).answer) (sym e) y))
 
     by : (to < from) ⊎ (from ≤ to) → IsLaidOr image (laid_all m es) (context_behind m es) (loaded_by_machine image d from to ticks).answer
     by (inl h) = none es (subst (λ ws. AreDefined limit m ws es) (no_source h) x.source) h
@@ -144,26 +150,22 @@ agree image d from to ticks ws a es x = by (cases_lt to from)
     by (inr h) = some (to - from) (omega arith) h
 
 -- with enough ticks
-saved_ok : (old : Contents) (n m : List ℕ) (context : ℕ) → IsLaidOr old n context (ended old m) → IsOk (ended old m)
-saved_ok old n m context x = by (cell m 16 == 0) (nat_le 256 (cell m 28) && nat_le (cell m 28) (limit_of old.buffers)) x
+saved_ok : (old : Contents) (n : List ℕ) (s : Whole) (context : ℕ) → IsLaidOr old n context (ended old.entry s) → IsOk (ended old.entry s)
+saved_ok old n s context x = by (cell s.memory 16 == 0) (can_save s) x
   where
-    by : (a b : Bool) → IsLaidOr old n context (if a then (if b then Ok (record { buffers = old.buffers; entry = old.entry; bytes = take (cell m 28) m }) else Err BadSize) else Err Unfinished) → IsOk {T = Contents} (if a then (if b then Ok (record { buffers = old.buffers; entry = old.entry; bytes = take (cell m 28) m }) else Err BadSize) else Err Unfinished)
+    by : (a b : Bool) → IsLaidOr old n context (if a then (if b then Ok (saved s old.entry) else Err BadSize) else Err Unfinished) → IsOk {T = Contents} (if a then (if b then Ok (saved s old.entry) else Err BadSize) else Err Unfinished)
     by true true y = refl
     by true false y = cc
     by false b y = cc
 
-answered_ok : (old : Contents) (n m : List ℕ) (o : Out) (context : ℕ) (parts : Whole) (disk : Disk) (k : ℕ) → o ≡ out parts disk k Ended → IsLaidOr old m context (ended old (restored n parts.memory)) → IsOk (by_out old n o).answer
-answered_ok old n m o context parts disk k e x = rw e (saved_ok old m (restored n parts.memory) context x)
+answered_ok : (old : Contents) (n m : List ℕ) (o : Out) (context : ℕ) (parts : Whole) (disk : Disk) (k : ℕ) → o ≡ out parts disk k Ended → IsLaidOr old m context (ended old.entry (restored n parts)) → IsOk (by_out old.entry n o).answer
+answered_ok old n m o context parts disk k e x = rw e (saved_ok old m (restored n parts) context x)
 
 is_ok_of : {limit : ℕ} (image : Contents) (d : Disk) (from to ticks : ℕ) (ws : Words) (a : ℕ) → 0 < from → Resident limit ws a (memory_of image d)
-    → IsOk (by_out image (memory_of image d) (screens ws.interpret (to + 1 - from) from ticks (start image (length d.blocks)).parts d)).answer
+    → IsOk (by_out image.entry (memory_of image d) (screens ws.interpret (to + 1 - from) from ticks (start image (length d.blocks)).parts d)).answer
     → IsOk (loaded_by_machine image d from to ticks).answer
 is_ok_of {limit} image d from to ticks ws a h r y =
-    let u = (start image (length d.blocks)).parts in
-    let m = u.memory in
-    let e : loaded_by_machine image d from to ticks ≡ by_out image m (screens ws.interpret (to + 1 - from) from ticks u d) =
-    ap (λ s. by_search image u d from to ticks s) r.interpret ∙ by_found image u d from to ticks r.link h ∙ ap (λ w. by_out image m (screens w (to + 1 - from) from ticks u d)) r.address in
-    subst (λ (x : Loaded). IsOk x.answer) (sym e) y
+    subst (λ (x : Loaded). IsOk x.answer) (sym (loaded_is image d from to ticks ws a h r)) y
 
 pub enough : Enough
 enough image d from to ws a es x = by (cases_lt to from)
@@ -204,7 +206,7 @@ enough image d from to ws a es x = by (cases_lt to from)
           let l1 = r.low in
           let l2 = r.high in
           is_ok_of image d from to ticks ws a x.some r
-          (answered_ok image m m (screens ws.interpret (to + 1 - from) from ticks u d) (cell m 32) u d ticks o (saved_as image (cell m 32) m m m all (agrees_self m) refl r.executing r.low r.high top low (λ i q. refl))),
+          (answered_ok image m m (screens ws.interpret (to + 1 - from) from ticks u d) (cell m 32) u d ticks o (saved_as image (cell m 32) m u m (length-start image.buffers) all (agrees_self m) refl r.executing r.low r.high top low (λ i q. refl))),
     )
     by (inr h) =
         let more = to - from in
@@ -220,3 +222,16 @@ enough image d from to ws a es x = by (cases_lt to from)
               is_ok_of image d from to ticks ws a x.some r
               (answered_ok image m (laid_all m es) (screens ws.interpret (to + 1 - from) from ticks u d) (context_of (cell m 34) (cell m 32) es) z.0 z.1 z.2 (ap (λ c. screens ws.interpret c from ticks u d) e ∙ z.3) z.4),
         )
+
+-- what is answered
+pub compiles_by : (image : Contents) (d : Disk) (from to ticks : ℕ) (r : Result Contents LoadFault) (disk : Option Disk) → IsLoaded (loaded_by_machine image d from to ticks) r disk → Compiles image d from to r
+compiles_by image d from to ticks (Err OutOfMemory) disk h = λ ws a es x. tt
+compiles_by image d from to ticks (Ok i) disk h = λ ws a es x. subst (λ v. IsLaidOr image (laid_all (memory_of image d) es) (context_behind (memory_of image d) es) v) (sym h.0) (agree image d from to ticks ws a es x)
+compiles_by image d from to ticks (Err NotFound) disk h = λ ws a es x. subst (λ v. IsLaidOr image (laid_all (memory_of image d) es) (context_behind (memory_of image d) es) v) (sym h.0) (agree image d from to ticks ws a es x)
+compiles_by image d from to ticks (Err ChainTooLong) disk h = λ ws a es x. subst (λ v. IsLaidOr image (laid_all (memory_of image d) es) (context_behind (memory_of image d) es) v) (sym h.0) (agree image d from to ticks ws a es x)
+compiles_by image d from to ticks (Err (Fault f)) disk h = λ ws a es x. subst (λ v. IsLaidOr image (laid_all (memory_of image d) es) (context_behind (memory_of image d) es) v) (sym h.0) (agree image d from to ticks ws a es x)
+compiles_by image d from to ticks (Err Halted) disk h = λ ws a es x. subst (λ v. IsLaidOr image (laid_all (memory_of image d) es) (context_behind (memory_of image d) es) v) (sym h.0) (agree image d from to ticks ws a es x)
+compiles_by image d from to ticks (Err Asked) disk h = λ ws a es x. subst (λ v. IsLaidOr image (laid_all (memory_of image d) es) (context_behind (memory_of image d) es) v) (sym h.0) (agree image d from to ticks ws a es x)
+compiles_by image d from to ticks (Err Limit) disk h = λ ws a es x. subst (λ v. IsLaidOr image (laid_all (memory_of image d) es) (context_behind (memory_of image d) es) v) (sym h.0) (agree image d from to ticks ws a es x)
+compiles_by image d from to ticks (Err Unfinished) disk h = λ ws a es x. subst (λ v. IsLaidOr image (laid_all (memory_of image d) es) (context_behind (memory_of image d) es) v) (sym h.0) (agree image d from to ticks ws a es x)
+compiles_by image d from to ticks (Err BadSize) disk h = λ ws a es x. subst (λ v. IsLaidOr image (laid_all (memory_of image d) es) (context_behind (memory_of image d) es) v) (sym h.0) (agree image d from to ticks ws a es x)

@@ -2,7 +2,7 @@
 use Rattle.std.proofs.Common.{◌≡◌, ℕ, zero, suc, ◌+◌, ◌≤◌, ◌++◌, ◌∷◌, List, [], length, refl, arith, Bool, true, false, ap, sym, ◌∙◌}
 use Rattle.std.specs.Prelude.{◌==◌}
 use Rattle.block_buffers.specs.Disks.{Disk, block_at, called}
-use Rattle.memory.specs.Bytes.{put_cell}
+use Rattle.memory.specs.Bytes.{IsCount, limit_of, put_cell}
 use Rattle.plain_rows.specs.Whole.{Whole}
 use Rattle.input_source.specs.Words.{parsed, IsNextWord}
 use Rattle.input_source.proofs.WordLaw.{word_law}
@@ -21,11 +21,13 @@ use Rattle.resident_screens.proofs.Advance.{left_word}
 use Rattle.resident_screens.proofs.Seek.{comment, left_by, over, reliable_called, left_over, further}
 
 -- all screens end
-pub record Finished (w a : ℕ) (I : List ℕ → Type 0) (u : Whole) (f : Disk) (d : List ℕ) (b more : ℕ) : Type 0 where
+pub record Finished (limit w a : ℕ) (I : List ℕ → Type 0) (u : Whole) (f : Disk) (d : List ℕ) (b more : ℕ) : Type 0 where
   pub ticks : ℕ
   pub parts : Whole
   pub disk : Disk
   pub blocks : disk.blocks ≡ f.blocks
+  pub limit_is : limit_of (length parts.buffers) ≡ limit
+  pub count : IsCount (length parts.buffers)
   pub inv : I parts.memory
   pub is : (k : ℕ) → then_screens w more (b + 1) (rounds (ticks + suc k) (at u d a) f) ≡ out parts disk k Ended
 
@@ -43,12 +45,14 @@ only_comments {limit} f u b p more r z e = by (begins_comment (name text p)) ref
     by true c = refl
     by false c = let l = left_word Outside f.blocks b p more (length_text u b p text r.reading) r.reading.within z c refl in let q = sym l ∙ e in cc
 
-finish_on : (w a : ℕ) (I : List ℕ → Type 0) (u v : Whole) (f g : Disk) (d : List ℕ) (b c more rest : ℕ) → Leads w (spot (at u d a) f b more) (spot (at v d a) g c rest) → g.blocks ≡ f.blocks → Finished w a I v g d c rest → Finished w a I u f d b more
-finish_on w a I u v f g d b c more rest l e x = record {
+finish_on : {limit : ℕ} (w a : ℕ) (I : List ℕ → Type 0) (u v : Whole) (f g : Disk) (d : List ℕ) (b c more rest : ℕ) → Leads w (spot (at u d a) f b more) (spot (at v d a) g c rest) → g.blocks ≡ f.blocks → Finished limit w a I v g d c rest → Finished limit w a I u f d b more
+finish_on {limit} w a I u v f g d b c more rest l e x = record {
   ticks = l.ticks + x.ticks;
   parts = x.parts;
   disk = x.disk;
   blocks = x.blocks ∙ e;
+  limit_is = x.limit_is;
+  count = x.count;
   inv = x.inv;
   is = λ k.
       let n : l.ticks + x.ticks + suc k ≡ l.ticks + suc (x.ticks + k) = omega arith in
@@ -61,8 +65,8 @@ unfolding then_screens
 last_screen w b o = refl
 
 finish_within : {limit : ℕ} (ws : Words) (a here : ℕ) (n : List ℕ) (voc : ℕ) (I : List ℕ → Type 0) (f : Disk) (d : List ℕ) (b more fuel : ℕ) → Holds limit ws a here n voc I → Keys n voc → length d ≤ 250 →
-    ((u : Whole) (p : ℕ) → Ready limit f u b p more → I u.memory → ((next (block_at f.blocks b) p).len == 0) ≡ true → words_left Outside f.blocks b p more ≡ [] → Finished ws.interpret a I u f d b more) →
-    (u : Whole) (p : ℕ) → 1024 ≤ p + fuel → Ready limit f u b p more → I u.memory → words_left Outside f.blocks b p more ≡ [] → Finished ws.interpret a I u f d b more
+    ((u : Whole) (p : ℕ) → Ready limit f u b p more → I u.memory → ((next (block_at f.blocks b) p).len == 0) ≡ true → words_left Outside f.blocks b p more ≡ [] → Finished limit ws.interpret a I u f d b more) →
+    (u : Whole) (p : ℕ) → 1024 ≤ p + fuel → Ready limit f u b p more → I u.memory → words_left Outside f.blocks b p more ≡ [] → Finished limit ws.interpret a I u f d b more
 finish_within {limit} ws a here n voc I f d b more zero h keys l end u p g r i e =
     let text = block_at f.blocks b in
     let lt = length_text u b p text r.reading in
@@ -76,7 +80,7 @@ finish_within {limit} ws a here n voc I f d b more (suc fuel) h keys l end u p g
     text : List ℕ
     text = block_at f.blocks b
 
-    by : (go : (u1 : Whole) (p1 : ℕ) → 1024 ≤ p1 + fuel → Ready limit f u1 b p1 more → I u1.memory → words_left Outside f.blocks b p1 more ≡ [] → Finished ws.interpret a I u1 f d b more) (x : Bool) → ((next text p).len == 0) ≡ x → Finished ws.interpret a I u f d b more
+    by : (go : (u1 : Whole) (p1 : ℕ) → 1024 ≤ p1 + fuel → Ready limit f u1 b p1 more → I u1.memory → words_left Outside f.blocks b p1 more ≡ [] → Finished limit ws.interpret a I u1 f d b more) (x : Bool) → ((next text p).len == 0) ≡ x → Finished limit ws.interpret a I u f d b more
     by go true z = end u p r i z e
     by go false z =
         let lt = length_text u b p text r.reading in
@@ -90,7 +94,7 @@ finish_within {limit} ws a here n voc I f d b more (suc fuel) h keys l end u p g
         (go (record u { memory = one.memory }) q (omega arith) one.ready one.inv (sym (left_by Outside f.blocks b p q more same) ∙ e))
 
 pub finish : {limit : ℕ} (ws : Words) (a here : ℕ) (n : List ℕ) (voc : ℕ) (I : List ℕ → Type 0) (more : ℕ) (d : List ℕ) → Holds limit ws a here n voc I → Keys n voc → length d ≤ 250 →
-    (f : Disk) (b : ℕ) (u : Whole) (p : ℕ) → Ready limit f u b p more → IsReliable f → I u.memory → words_left Outside f.blocks b p more ≡ [] → Finished ws.interpret a I u f d b more
+    (f : Disk) (b : ℕ) (u : Whole) (p : ℕ) → Ready limit f u b p more → IsReliable f → I u.memory → words_left Outside f.blocks b p more ≡ [] → Finished limit ws.interpret a I u f d b more
 finish {limit} ws a here n voc I zero d h keys l f b u p r reliable i e =
     finish_within ws a here n voc I f d b 0 1024 h keys l
     (λ u1 p1 r1 i1 z e1.
@@ -106,6 +110,8 @@ finish {limit} ws a here n voc I zero d h keys l f b u p r reliable i e =
       parts = record (at v d 0) { returns = [] };
       disk = f;
       blocks = refl;
+      limit_is = r1.limit_is;
+      count = r1.buffers.count;
       inv = j1;
       is = λ k. last_screen ws.interpret (b + 1) (rounds (3 + suc k) (at u1 d a) f) ∙ ended_screen ws a here n voc u1 f d b p1 k text s r1.reading l (takes_none (at u1 d (a + 2)) (next text p1) (name text p1) z) t1 r1.returns;
     })

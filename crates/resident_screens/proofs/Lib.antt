@@ -27,3 +27,5 @@ pub mod Disjoint
 pub mod Endings
 pub mod Residents
 pub mod Agreeing
+pub mod Making
+pub mod Answering

@@ -5,6 +5,8 @@ use Rattle.std.proofs.lemmas.Bool.{cases_lt, eqb-true}
 use Rattle.std.proofs.lemmas.List.{get_or-take, length-take-le}
 use Rattle.memory.specs.Bytes.{IsCount, limit_of, byte, cell, put_byte, put_cell}
 use Rattle.memory.specs.declared.limit.TheConstants.{GREATEST_LIMIT}
+use Rattle.memory.proofs.Limits.{limit_is}
+use Rattle.inner_interpreter.specs.Entering.{can_save}
 use Rattle.memory.proofs.Kept.{wrap_small, byte_set, byte_here, byte_cell, length_byte, length_cell}
 use Rattle.memory.proofs.Same.{cell_by}
 use Rattle.block_buffers.specs.Disks.{Disk, called}
@@ -24,7 +26,7 @@ use Rattle.resident_screens.specs.Sources.{ColonDefinition, laid_one, laid_all, 
 use Rattle.resident_screens.specs.Orderly.{IsHead, Orderly}
 use Rattle.resident_screens.specs.Turning.{IsReliable}
 use Rattle.resident_screens.specs.Between.{IsBetween}
-use Rattle.resident_screens.specs.Loaded.{restored, ended, answered, by_out, IsLaidOr}
+use Rattle.resident_screens.specs.Loaded.{put_back, restored, ended, answered, by_out, IsLaidOr}
 use Rattle.resident_screens.proofs.Points.{Here}
 use Rattle.cells.specs.Cell.{wrap}
 use Rattle.compiling_words.specs.Code.{runtime}
@@ -59,11 +61,14 @@ head_of_all : (cur ctx voc : ℕ) (es : List ColonDefinition) → ((y : List ℕ
 head_of_all cur ctx voc [] i y = i y
 head_of_all cur ctx voc (e ∷ es) i y = own_head cur ctx y
 
+count_by : (a b : ℕ) → IsCount a → IsCount b → limit_of a ≡ limit_of b → a ≡ b
+count_by a b x y e = omega (arith, limit_is a x, limit_is b y)
+
 pub screens_law : (ws : Words) (a cur ctx most here : ℕ) (image : Contents) (f : Disk) (from more : ℕ) (es : List ColonDefinition) → let u = (start image (length f.blocks)).parts in let n = u.memory in let limit = limit_of image.buffers in
     IsCount image.buffers → Orderly limit ws a cur ctx most here n → most + length es ≤ 32767 → cell n 32 ≡ ctx → Keys n ctx → Keys n cur → IsReliable f → 0 < from → from + more < length f.blocks
     → Keys (laid_all n es) (context_of cur ctx es)
     → AreDefined limit n (words_of_screens Outside from (take (suc more) (drop from f.blocks))) es
-    → (ticks : ℕ) × (parts : Whole) × (disk : Disk) × (disk.blocks ≡ f.blocks) × IsBetween (laid_all n es) (context_of cur ctx es) parts.memory × ((k : ℕ) → screens ws.interpret (suc more) from (ticks + suc k) u f ≡ out parts disk k Ended)
+    → (ticks : ℕ) × (parts : Whole) × (disk : Disk) × (disk.blocks ≡ f.blocks) × IsBetween (laid_all n es) (context_of cur ctx es) parts.memory × ((k : ℕ) → screens ws.interpret (suc more) from (ticks + suc k) u f ≡ out parts disk k Ended) × (length parts.buffers ≡ image.buffers)
 screens_law ws a cur ctx most here image f from more es count g l c keys own reliable pos room last src =
     let u = (start image (length f.blocks)).parts in
     let n = u.memory in
@@ -91,7 +96,7 @@ screens_law ws a cur ctx most here image f from more es count g l c keys own rel
     let hold2 = holds_between ws a cur ctx (most + length es) z.0 voc2 n2 z.1 l (head_of_all cur ctx ctx es (context_head cur ctx)) in
     let r = x.final in
     let lv : length r.values ≤ 250 = subst (λ j. length j ≤ 250) (sym x.values) (omega arith) in
-    let y : Finished ws.interpret a (IsBetween n2 voc2) r.parts r.disk r.values r.screen r.others = finish ws a z.0 n2 voc2 (IsBetween n2 voc2) r.others r.values hold2 last lv r.disk r.screen r.parts r.place x.idle.ready x.idle.reliable x.idle.between x.idle.left in
+    let y : Finished limit ws.interpret a (IsBetween n2 voc2) r.parts r.disk r.values r.screen r.others = finish ws a z.0 n2 voc2 (IsBetween n2 voc2) r.others r.values hold2 last lv r.disk r.screen r.parts r.place x.idle.ready x.idle.reliable x.idle.between x.idle.left in
     let led = x.leads in (
       2 + (led.ticks + y.ticks),
       y.parts,
@@ -109,6 +114,7 @@ screens_law ws a cur ctx most here image f from more es count g l c keys own rel
           ∙ led.is (y.ticks + k)
           ∙ ap (λ j. then_screens ws.interpret r.others (r.screen + 1) (rounds j (at r.parts r.values a) r.disk)) e3
           ∙ y.is k,
+      count_by (length y.parts.buffers) image.buffers y.count count y.limit_is,
     )
 
 -- the resident compiler's words behind all definitions
@@ -170,7 +176,7 @@ back_high m n a l h b =
     rw w (byte_here (put_byte m a ((byte n a + 256 * byte n (a + 1)) % 256)) (a + 1) ((byte n a + 256 * byte n (a + 1)) / 256) (omega (arith, length_byte m a ((byte n a + 256 * byte n (a + 1)) % 256))) ∙ omega arith)
 
 -- the stream's cells, put back
-restored_byte : (n m : List ℕ) (i : ℕ) → length m ≡ 65536 → ((j : ℕ) → j < 256 → byte n j < 256) → i / 4 ≡ 5 → byte (restored n m) i ≡ byte n i
+restored_byte : (n m : List ℕ) (i : ℕ) → length m ≡ 65536 → ((j : ℕ) → j < 256 → byte n j < 256) → i / 4 ≡ 5 → byte (put_back n m) i ≡ byte n i
 restored_byte n m i l b h = by (cases_lt i 22)
   where
     r1 : List ℕ
@@ -179,23 +185,23 @@ restored_byte n m i l b h = by (cases_lt i 22)
     l1 : length r1 ≡ 65536
     l1 = length_cell m 22 (cell n 22) ∙ l
 
-    by : (i < 22) ⊎ (22 ≤ i) → byte (restored n m) i ≡ byte n i
+    by : (i < 22) ⊎ (22 ≤ i) → byte (put_back n m) i ≡ byte n i
     by (inl x) = elim (cases_lt i 21) [
-      | inl y ↦ (let e : i ≡ 20 = omega arith in subst (λ j. byte (restored n m) j ≡ byte n j) (sym e) (back_low r1 n 20 l1 (omega arith) (b 20 (omega arith))))
-      | inr y ↦ (let e : i ≡ 20 + 1 = omega arith in subst (λ j. byte (restored n m) j ≡ byte n j) (sym e) (back_high r1 n 20 l1 (omega arith) (b 20 (omega arith))))
+      | inl y ↦ (let e : i ≡ 20 = omega arith in subst (λ j. byte (put_back n m) j ≡ byte n j) (sym e) (back_low r1 n 20 l1 (omega arith) (b 20 (omega arith))))
+      | inr y ↦ (let e : i ≡ 20 + 1 = omega arith in subst (λ j. byte (put_back n m) j ≡ byte n j) (sym e) (back_high r1 n 20 l1 (omega arith) (b 20 (omega arith))))
     ]
     by (inr x) = byte_cell r1 20 (cell n 20) i (omega arith) (omega arith) (omega arith) ∙ elim (cases_lt i 23) [
       | inl y ↦ (let e : i ≡ 22 = omega arith in subst (λ j. byte r1 j ≡ byte n j) (sym e) (back_low m n 22 l (omega arith) (b 22 (omega arith))))
       | inr y ↦ (let e : i ≡ 22 + 1 = omega arith in subst (λ j. byte r1 j ≡ byte n j) (sym e) (back_high m n 22 l (omega arith) (b 22 (omega arith))))
     ]
 
-restored_other : (n m : List ℕ) (i : ℕ) → i / 4 ≢ 5 → byte (restored n m) i ≡ byte m i
+restored_other : (n m : List ℕ) (i : ℕ) → i / 4 ≢ 5 → byte (put_back n m) i ≡ byte m i
 restored_other n m i h = byte_cell (put_cell m 22 (cell n 22)) 20 (cell n 20) i (omega arith) (omega arith) (omega arith) ∙ byte_cell m 22 (cell n 22) i (omega arith) (omega arith) (omega arith)
 
-restored_cell : (n m : List ℕ) (i : ℕ) → i / 4 ≢ 5 → (i + 1) / 4 ≢ 5 → i + 1 < 65536 → cell (restored n m) i ≡ cell m i
-restored_cell n m i h k l = cell_by (restored n m) m i l (restored_other n m i h) (restored_other n m (i + 1) k)
+restored_cell : (n m : List ℕ) (i : ℕ) → i / 4 ≢ 5 → (i + 1) / 4 ≢ 5 → i + 1 < 65536 → cell (put_back n m) i ≡ cell m i
+restored_cell n m i h k l = cell_by (put_back n m) m i l (restored_other n m i h) (restored_other n m (i + 1) k)
 
-length-restored : (n m : List ℕ) → length (restored n m) ≡ length m
+length-restored : (n m : List ℕ) → length (put_back n m) ≡ length m
 length-restored n m = length_cell (put_cell m 22 (cell n 22)) 20 (cell n 20) ∙ length_cell m 22 (cell n 22)
 
 -- the first bytes of a memory
@@ -207,18 +213,24 @@ taken_cell : (m : List ℕ) (z i : ℕ) → i + 1 < z → i + 1 < 65536 → cell
 taken_cell m z i h l = cell_by (take z m) m i l (taken_byte m z i (omega arith)) (taken_byte m z (i + 1) h)
 
 -- what is saved behind all screens
-pub saved_as : (old : Contents) (context : ℕ) (n m n2 : List ℕ) → length m ≡ 65536 → Agrees m n2 → cell m 32 ≡ context → cell n2 16 ≡ 0 → 256 ≤ cell n2 28 → cell n2 28 ≤ limit_of old.buffers → limit_of old.buffers ≤ GREATEST_LIMIT → ((j : ℕ) → j < 256 → byte n j < 256) → ((i : ℕ) → i / 4 ≡ 5 → byte n2 i ≡ byte n i)
-    → IsLaidOr old n2 context (ended old (restored n m))
-saved_as old context n m n2 l g c st lo hi top b low =
-    let r = restored n m in
+can_save_by : (s : Whole) (z : ℕ) → cell s.memory 28 ≡ z → nat_le 256 z ≡ true → nat_le z (limit_of (length s.buffers)) ≡ true → can_save s ≡ true
+unfolding can_save
+can_save_by s z e a b = rw (e, a, b) refl
+
+pub saved_as : (old : Contents) (context : ℕ) (n : List ℕ) (s : Whole) (n2 : List ℕ) → length s.buffers ≡ old.buffers → length s.memory ≡ 65536 → Agrees s.memory n2 → cell s.memory 32 ≡ context → cell n2 16 ≡ 0 → 256 ≤ cell n2 28 → cell n2 28 ≤ limit_of old.buffers → limit_of old.buffers ≤ GREATEST_LIMIT → ((j : ℕ) → j < 256 → byte n j < 256) → ((i : ℕ) → i / 4 ≡ 5 → byte n2 i ≡ byte n i)
+    → IsLaidOr old n2 context (ended old.entry (restored n s))
+saved_as old context n s n2 size l g c st lo hi top b low =
+    let m = s.memory in
+    let r = put_back n m in
     let z = cell n2 28 in
     let dp : cell r 28 ≡ z = restored_cell n m 28 (omega arith) (omega arith) (omega arith) ∙ g.here in
     let s16 : cell m 16 ≡ cell n2 16 = cell_by m n2 16 (omega arith) (g.same 16 (omega arith) (omega arith) (omega arith) (omega arith)) (g.same 17 (omega arith) (omega arith) (omega arith) (omega arith)) in
     let st2 : cell r 16 ≡ 0 = restored_cell n m 16 (omega arith) (omega arith) (omega arith) ∙ s16 ∙ st in
     let one : nat_le 256 z ≡ true = grind arith in
-    let two : nat_le z (limit_of old.buffers) ≡ true = grind arith in
-    rw (st2, dp, one, two) (record {
-      buffers_are = refl;
+    let two : nat_le z (limit_of (length s.buffers)) ≡ true = rw size (grind arith) in
+    let fits : can_save (restored n s) ≡ true = can_save_by (restored n s) z dp one two in
+    rw (st2, fits, dp) (record {
+      buffers_are = size;
       entry_is = refl;
       size = length-take-le z r (omega (arith, length-restored n m));
       here = taken_cell r z 28 (omega arith) (omega arith) ∙ dp;
@@ -229,12 +241,12 @@ saved_as old context n m n2 l g c st lo hi top b low =
     not_five : (i : ℕ) → (i / 4 == 5) ≡ false → i / 4 ≢ 5
     not_five i e = grind arith
 
-    by : (i : ℕ) → i < cell n2 28 → i / 2 ≢ 14 → i / 2 ≢ 16 → (v : Bool) → (i / 4 == 5) ≡ v → byte (restored n m) i ≡ byte n2 i
-    by i h x y true e = let q = eqb-true (i / 4) 5 e in restored_byte n m i l b q ∙ sym (low i q)
-    by i h x y false e = let q = not_five i e in restored_other n m i q ∙ g.same i h q x y
+    by : (i : ℕ) → i < cell n2 28 → i / 2 ≢ 14 → i / 2 ≢ 16 → (v : Bool) → (i / 4 == 5) ≡ v → byte (put_back n s.memory) i ≡ byte n2 i
+    by i h x y true e = let q = eqb-true (i / 4) 5 e in restored_byte n s.memory i l b q ∙ sym (low i q)
+    by i h x y false e = let q = not_five i e in restored_other n s.memory i q ∙ g.same i h q x y
 
 -- whatever the ticks are
-by_limit : (old : Contents) (context : ℕ) (n n2 : List ℕ) (o : Out) (parts : Whole) (disk : Disk) (t k : ℕ) → Lasts t o (out parts disk k Ended) → IsLaidOr old n2 context (ended old (restored n parts.memory)) → IsLaidOr old n2 context (answered old n o o.stop)
+by_limit : (old : Contents) (context : ℕ) (n n2 : List ℕ) (o : Out) (parts : Whole) (disk : Disk) (t k : ℕ) → Lasts t o (out parts disk k Ended) → IsLaidOr old n2 context (ended old.entry (restored n parts)) → IsLaidOr old n2 context (answered old.entry n o o.stop)
 by_limit old context n n2 o parts disk t k (inl x) y = rw x.0 refl
 by_limit old context n n2 o parts disk t k (inr x) y =
     let s : Ended ≡ o.stop = ap (λ (p : Out). p.stop) x in
@@ -245,7 +257,7 @@ by_limit old context n n2 o parts disk t k (inr x) y =
 pub load_law : (ws : Words) (a cur ctx chains here : ℕ) (image : Contents) (f : Disk) (from more ticks : ℕ) (es : List ColonDefinition) → let u = (start image (length f.blocks)).parts in let n = u.memory in let limit = limit_of image.buffers in
     IsCount image.buffers → Orderly limit ws a cur ctx chains here n → chains + length es ≤ 32767 → cell n 32 ≡ ctx → Keys n ctx → Keys n cur → ((j : ℕ) → j < 256 → byte n j < 256) → IsReliable f → 0 < from → from + more < length f.blocks
     → AreDefined limit n (words_of_screens Outside from (take (suc more) (drop from f.blocks))) es
-    → IsLaidOr image (laid_all n es) (context_of cur ctx es) (by_out image n (screens ws.interpret (suc more) from ticks u f)).answer
+    → IsLaidOr image (laid_all n es) (context_of cur ctx es) (by_out image.entry n (screens ws.interpret (suc more) from ticks u f)).answer
 load_law ws a cur ctx chains here image f from more ticks es count g l c keys own b reliable pos room src =
     let u = (start image (length f.blocks)).parts in
     let n = u.memory in
@@ -263,14 +275,14 @@ load_law ws a cur ctx chains here image f from more ticks es count g l c keys ow
     let hi = g2.high in
     let bt = x.4 in
     by_limit image (context_of cur ctx es) n n2 o x.1 x.2 (suc x.0) ticks last
-    (saved_as image (context_of cur ctx es) n x.1.memory n2 bt.all bt.agrees bt.context g2.executing (omega arith) (omega arith) g2.top b
+    (saved_as image (context_of cur ctx es) n x.1 n2 x.6 bt.all bt.agrees bt.context g2.executing (omega arith) (omega arith) g2.top b
     (λ i h. laid_low ws a cur ctx chains here n words es i g l src (omega arith) (omega arith) (omega arith) (stream_apart ws a cur ctx chains here n g i (omega arith))))
 
 -- With enough ticks screens end, and what is saved is so laid.
 pub enough_law : (ws : Words) (a cur ctx chains here : ℕ) (image : Contents) (f : Disk) (from more : ℕ) (es : List ColonDefinition) → let u = (start image (length f.blocks)).parts in let n = u.memory in let limit = limit_of image.buffers in
     IsCount image.buffers → Orderly limit ws a cur ctx chains here n → chains + length es ≤ 32767 → cell n 32 ≡ ctx → Keys n ctx → Keys n cur → ((j : ℕ) → j < 256 → byte n j < 256) → IsReliable f → 0 < from → from + more < length f.blocks
     → AreDefined limit n (words_of_screens Outside from (take (suc more) (drop from f.blocks))) es
-    → (t : ℕ) × ((ticks : ℕ) → t < ticks → (parts : Whole) × (disk : Disk) × (k : ℕ) × (screens ws.interpret (suc more) from ticks u f ≡ out parts disk k Ended) × IsLaidOr image (laid_all n es) (context_of cur ctx es) (ended image (restored n parts.memory)))
+    → (t : ℕ) × ((ticks : ℕ) → t < ticks → (parts : Whole) × (disk : Disk) × (k : ℕ) × (screens ws.interpret (suc more) from ticks u f ≡ out parts disk k Ended) × IsLaidOr image (laid_all n es) (context_of cur ctx es) (ended image.entry (restored n parts)))
 enough_law ws a cur ctx chains here image f from more es count g l c keys own b reliable pos room src =
     let u = (start image (length f.blocks)).parts in
     let n = u.memory in
@@ -284,7 +296,7 @@ enough_law ws a cur ctx chains here image f from more es count g l c keys own b 
     let lo = g2.low in
     let hi = g2.high in
     let bt = x.4 in
-    let laid_so = saved_as image (context_of cur ctx es) n x.1.memory n2 bt.all bt.agrees bt.context g2.executing (omega arith) (omega arith) g2.top b
+    let laid_so = saved_as image (context_of cur ctx es) n x.1 n2 x.6 bt.all bt.agrees bt.context g2.executing (omega arith) (omega arith) g2.top b
     (λ i h. laid_low ws a cur ctx chains here n words es i g l src (omega arith) (omega arith) (omega arith) (stream_apart ws a cur ctx chains here n g i (omega arith))) in (
       x.0,
       λ ticks h.

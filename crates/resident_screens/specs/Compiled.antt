@@ -1,6 +1,6 @@
 -- The resident compiler agrees: what is claimed of screens that hold colon definitions, on an image whose memory is
 -- resident.
-use Rattle.std.specs.Prelude.{◌<◌, ℕ, List, [], ◌∷◌, length, IsOk}
+use Rattle.std.specs.Prelude.{◌<◌, ℕ, List, [], ◌∷◌, length, Result, Err, IsOk}
 use Rattle.block_buffers.specs.Disks.{Disk}
 use Rattle.image_loader.specs.Files.{Contents, IsImage}
 use Rattle.memory.specs.Bytes.{cell, limit_of}
@@ -11,7 +11,7 @@ use Rattle.resident_screens.specs.Loop.{Words}
 use Rattle.resident_screens.specs.Resident.{Resident}
 use Rattle.resident_screens.specs.Sources.{ColonDefinition, laid_all, AreDefined}
 use Rattle.resident_screens.specs.Turning.{IsReliable}
-use Rattle.resident_screens.specs.Loaded.{loaded_by_machine, IsLaidOr}
+use Rattle.resident_screens.specs.Loaded.{LoadFault, OutOfMemory, loaded_by_machine, IsLaidOr}
 
 -- the memory that an image is loaded to
 abbrev pub memory_of : Contents → Disk → List ℕ
@@ -22,9 +22,9 @@ abbrev pub context_behind : List ℕ → List ColonDefinition → ℕ
 context_behind m [] = cell m CONTEXT
 context_behind m (e ∷ es) = cell m CURRENT
 
--- what is supposed of an image, a device and the screens of it: these definitions are all that the screens hold, the
--- image's memory is resident, and no coming call of the device fails
-pub record IsCompiled (image : Contents) (d : Disk) (from to : ℕ) (ws : Words) (a : ℕ) (es : List ColonDefinition)
+-- an image can compile screens of a device: its memory is resident, these definitions are all that the screens hold,
+-- and no coming call of the device fails
+pub record CanCompile (image : Contents) (d : Disk) (from to : ℕ) (ws : Words) (a : ℕ) (es : List ColonDefinition)
     : Type 0 where
   pub image_is : IsImage image
   pub resident : Resident (limit_of image.buffers) ws a (memory_of image d)
@@ -37,12 +37,23 @@ pub record IsCompiled (image : Contents) (d : Disk) (from to : ℕ) (ws : Words)
 abbrev pub Agree : Type 0
 Agree =
     (image : Contents) (d : Disk) (from to ticks : ℕ) (ws : Words) (a : ℕ) (es : List ColonDefinition) →
-    IsCompiled image d from to ws a es → let m = memory_of image d in
+    CanCompile image d from to ws a es → let m = memory_of image d in
     IsLaidOr image (laid_all m es) (context_behind m es) (loaded_by_machine image d from to ticks).answer
 
 -- With enough ticks the image is answered.
 abbrev pub Enough : Type 0
 Enough =
     (image : Contents) (d : Disk) (from to : ℕ) (ws : Words) (a : ℕ) (es : List ColonDefinition) →
-    IsCompiled image d from to ws a es
+    CanCompile image d from to ws a es
     → (least : ℕ) × ((ticks : ℕ) → least < ticks → IsOk (loaded_by_machine image d from to ticks).answer)
+
+-- So what is answered is that image, or that there were too few ticks, or that memory was not found.
+abbrev pub IsCompiledAs : Contents → List ℕ → (context : ℕ) → Result Contents LoadFault → Type 0
+IsCompiledAs old n context (Err OutOfMemory) = Unit {0}
+IsCompiledAs old n context result = IsLaidOr old n context result
+
+abbrev pub Compiles : Contents → Disk → (from to : ℕ) → Result Contents LoadFault → Type 0
+Compiles image d from to result =
+    (ws : Words) (a : ℕ) (es : List ColonDefinition) →
+    CanCompile image d from to ws a es → let m = memory_of image d in
+    IsCompiledAs image (laid_all m es) (context_behind m es) result

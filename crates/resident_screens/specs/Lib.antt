@@ -12,3 +12,4 @@ pub mod Loaded
 pub mod Resident
 pub mod Compiled
 pub mod Turns
+pub mod Making

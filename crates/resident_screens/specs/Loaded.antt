@@ -1,17 +1,18 @@
 -- What loading screens on an image answers, for every image, device, screens and ticks.
-use Rattle.std.specs.Prelude.{◌≡◌, ◌≢◌, ◌<◌, ◌/◌, ℕ, ◌+◌, ◌-◌, ◌==◌, ◌&&◌, nat_le, if◌then◌else◌, List, length, take, codes, Result, Ok, Err}
+use Rattle.std.specs.Prelude.{◌≡◌, ◌≢◌, ◌<◌, ◌/◌, ℕ, ◌+◌, ◌-◌, ◌==◌, ◌&&◌, nat_le, if◌then◌else◌, List, length, codes, Option, Some, Result, Ok, Err}
 use Rattle.block_buffers.specs.Disks.{Disk}
-use Rattle.dictionary.specs.Header.{compilation_address}
-use Rattle.dictionary.specs.Search.{Sought, Found, Nowhere, TooLong, sought}
+use Rattle.dictionary.specs.Search.{Sought, Found, Nowhere, TooLong, sought, by_address}
 use Rattle.image_loader.specs.Files.{Contents}
-use Rattle.memory.specs.Bytes.{byte, cell, put_cell, limit_of}
+use Rattle.memory.specs.Bytes.{byte, cell, put_cell}
 use Rattle.memory.specs.declared.system.TheConstants.{STATE, DP, BLK, TO_IN, CONTEXT}
 use Rattle.plain_rows.specs.Whole.{Whole}
+use Rattle.plain_rows.specs.declared.faults.TheConstants.{BLOCK_ZERO}
 use Rattle.inner_interpreter.specs.State.{start}
+use Rattle.inner_interpreter.specs.Entering.{can_save, saved}
 use Rattle.resident_screens.specs.Rounds.{Stop, Ended, Out, screens}
 use Rattle.resident_screens.specs.Rounds as rounds
 pub use Rattle.resident_screens.specs.declared.load.LoadFault.{LoadFault}
-pub use Rattle.resident_screens.specs.declared.load.LoadFault.TheVariants.{NotFound, ChainTooLong, Fault, Halted, Asked, Limit, Unfinished, BadSize}
+pub use Rattle.resident_screens.specs.declared.load.LoadFault.TheVariants.{NotFound, ChainTooLong, Fault, Halted, Asked, Limit, Unfinished, BadSize, OutOfMemory}
 
 -- the answer, and the device then
 pub record Loaded : Type 0 where
@@ -21,43 +22,63 @@ pub record Loaded : Type 0 where
 abbrev pub refused : LoadFault → Disk → Loaded
 refused c d = record { answer = Err c; disk = d }
 
--- memory up to HERE, as an image with as many buffers as the old one and its entry
-abbrev pub saved : (old : Contents) → List ℕ → Result Contents LoadFault
-saved old m =
-    if nat_le 256 (cell m DP) && nat_le (cell m DP) (limit_of old.buffers)
-    then Ok (record { buffers = old.buffers; entry = old.entry; bytes = take (cell m DP) m })
-    else Err BadSize
-
 -- BLK and >IN get their cells of before
-abbrev pub restored : (before m : List ℕ) → List ℕ
-restored before m = put_cell (put_cell m BLK (cell before BLK)) TO_IN (cell before TO_IN)
+abbrev pub put_back : (before m : List ℕ) → List ℕ
+put_back before m = put_cell (put_cell m BLK (cell before BLK)) TO_IN (cell before TO_IN)
 
--- behind all screens: words must be executed again
-abbrev pub ended : (old : Contents) → List ℕ → Result Contents LoadFault
-ended old m = if cell m STATE == 0 then saved old m else Err Unfinished
+abbrev pub restored : (before : List ℕ) → Whole → Whole
+restored before s = record s { memory = put_back before s.memory }
 
-abbrev pub answered : (old : Contents) → (before : List ℕ) → Out → Stop → Result Contents LoadFault
-answered old before o Ended = ended old (restored before o.parts.memory)
-answered old before o rounds.Limit = Err Limit
-answered old before o (rounds.Fault f) = Err (Fault f)
-answered old before o rounds.Halted = Err Halted
-answered old before o rounds.Asked = Err Asked
+-- behind all screens words must be executed again; then memory is saved as an image
+abbrev pub ended : (entry : ℕ) → Whole → Result Contents LoadFault
+ended entry s =
+    if cell s.memory STATE == 0 then (if can_save s then Ok (saved s entry) else Err BadSize) else Err Unfinished
 
-abbrev pub by_out : (old : Contents) → (before : List ℕ) → Out → Loaded
-by_out old before o = record { answer = answered old before o o.stop; disk = o.disk }
+-- why screens can't be loaded whose rounds stop so
+abbrev pub fault_of : Stop → LoadFault
+fault_of (rounds.Fault f) = Fault f
+fault_of rounds.Halted = Halted
+fault_of rounds.Asked = Asked
+fault_of _ = Limit
 
--- INTERPRET is found first; then screen 0 is refused
-abbrev pub by_search : (old : Contents) → Whole → Disk → (from to ticks : ℕ) → Sought → Loaded
-by_search old s d from to ticks TooLong = refused ChainTooLong d
-by_search old s d from to ticks Nowhere = refused NotFound d
-by_search old s d from to ticks (Found l) =
-    if (from == 0) && nat_le from to then refused (Fault 16) d
-    else by_out old s.memory (screens (compilation_address s.memory l) (to + 1 - from) from ticks s d)
+abbrev pub answered : (entry : ℕ) → (before : List ℕ) → Out → Stop → Result Contents LoadFault
+answered entry before o Ended = ended entry (restored before o.parts)
+answered entry before o why = Err (fault_of why)
 
+abbrev pub by_out : (entry : ℕ) → (before : List ℕ) → Out → Loaded
+by_out entry before o = record { answer = answered entry before o o.stop; disk = o.disk }
+
+-- INTERPRET's compilation address, as a search for it comes out
+abbrev pub address_found : Sought → Result ℕ LoadFault
+address_found (Found word) = Ok word
+address_found Nowhere = Err NotFound
+address_found TooLong = Err ChainTooLong
+
+abbrev pub interpret_in : List ℕ → Result ℕ LoadFault
+interpret_in m = address_found (by_address m (sought m (codes "INTERPRET")))
+
+-- it is found first; then screen 0 is refused
+abbrev pub by_interpret : (entry : ℕ) → Whole → Disk → (from to ticks : ℕ) → Result ℕ LoadFault → Loaded
+by_interpret entry s d from to ticks (Err c) = refused c d
+by_interpret entry s d from to ticks (Ok word) =
+    if (from == 0) && nat_le from to then refused (Fault BLOCK_ZERO) d
+    else by_out entry s.memory (screens word (to + 1 - from) from ticks s d)
+
+-- screens are loaded on an image with so many ticks
 abbrev pub loaded_by_machine : Contents → Disk → (from to ticks : ℕ) → Loaded
 loaded_by_machine image d from to ticks =
     let s = (start image (length d.blocks)).parts in
-    by_search image s d from to ticks (sought s.memory (codes "INTERPRET"))
+    by_interpret image.entry s d from to ticks (interpret_in s.memory)
+
+-- this is answered, or that memory was not found
+abbrev pub IsSaved : Result Contents LoadFault → Result Contents LoadFault → Type 0
+IsSaved answer (Err OutOfMemory) = Unit {0}
+IsSaved answer result = result ≡ answer
+
+-- the same, and the device is then so
+abbrev pub IsLoaded : Loaded → Result Contents LoadFault → Option Disk → Type 0
+IsLoaded o (Err OutOfMemory) disk = Unit {0}
+IsLoaded o result disk = (result ≡ o.answer) × (disk ≡ Some o.disk)
 
 -- the image has the memory n up to HERE, but that another vocabulary may be searched first; else it is as the old one
 pub record IsLaidAs (old : Contents) (n : List ℕ) (context : ℕ) (image : Contents) : Type 0 where

@@ -1,5 +1,5 @@
 -- The rounds by which a machine compiles screens, by the ticks that are left, with a device that tells its blocks.
-use Rattle.std.specs.Prelude.{ℕ, zero, suc, ◌+◌, ◌==◌, ◌≡◌, List, [], Bool, None, Some, is_none, ◌&&◌, if◌then◌else◌, length}
+use Rattle.std.specs.Prelude.{ℕ, zero, suc, ◌+◌, ◌==◌, ◌≡◌, List, [], Bool, true, false, None, Some, is_none, ◌&&◌, if◌then◌else◌, length}
 use Rattle.block_buffers.specs.Disks.{Disk}
 use Rattle.memory.specs.Bytes.{put_cell}
 use Rattle.memory.specs.declared.system.TheConstants.{TO_IN, BLK}
@@ -15,6 +15,11 @@ use Rattle.inner_interpreter.specs.Answer.{answer_of}
 use Rattle.inner_interpreter.specs.Runs.{served}
 pub use Rattle.resident_screens.specs.declared.rounds.Stop.{Stop}
 pub use Rattle.resident_screens.specs.declared.rounds.Stop.TheVariants.{Ended, Limit, Fault, Halted, Asked}
+
+-- the rounds of a screen stop at its end
+abbrev pub is_end : Stop → Bool
+is_end Ended = true
+is_end _ = false
 
 -- where they stop, and the ticks that are left then
 pub record Out : Type 0 where

@@ -6,5 +6,5 @@ pub mod laws;
 mod load;
 mod rounds;
 
-pub use load::LoadFault;
+pub use load::{LoadFault, load_by_machine};
 pub use rounds::Stop;
