@@ -63,7 +63,7 @@ fn device(alloc: Global, bytes: &[u8], coming: &[bool]) -> Result<MemoryDevice, 
 }
 
 /// The file of the kernel's image, as `kernel` and `build` make it.
-fn kernel_image(alloc: Global) -> Result<Vec<u8>, Fail> {
+pub fn kernel_image(alloc: Global) -> Result<Vec<u8>, Fail> {
     let mut printed = Writing::new(Vec::new(alloc));
     let Ended { file, .. } = do_kernel(alloc, &mut printed);
     let Some(file) = file else {

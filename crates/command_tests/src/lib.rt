@@ -18,6 +18,8 @@ mod kernel_runs;
 #[cfg(test)]
 mod kernel_tests;
 #[cfg(test)]
+mod load_tests;
+#[cfg(test)]
 mod round_trip_tests;
 #[cfg(test)]
 mod run_tests;

@@ -14,3 +14,4 @@ pub mod Served
 pub mod Worlds
 pub mod Tracing
 pub mod Onward
+pub mod Entering

@@ -19,7 +19,7 @@ use Rattle.resident_bodies.specs.Drafts.{places, Draft, Bodied}
 use Rattle.resident_bodies.proofs.Words.{word_is}
 
 -- how much a word lays
-grows : (o p : Outer) (t u : Body) (h k : Half) (w : Token) → read o t h w ≡ Some (At p u k) → open_size p u k ≡ open_size o t h + laid_by w
+pub grows : (o p : Outer) (t u : Body) (h k : Half) (w : Token) → read o t h w ≡ Some (At p u k) → open_size p u k ≡ open_size o t h + laid_by w
 grows o p t u h k w e =
     let a = laid-open p u k in
     let b = laid-open o t h in
@@ -58,7 +58,7 @@ reads (w ∷ ws) before at o t h u m d below l r e g = by (read o t h w) refl e
     by (Some (At p v k)) q f go = go p v k q f
 
 -- nothing is read yet
-begins : (m d : List ℕ) (at : ℕ) → length m ≡ 65536 → cell m 28 ≡ at → at ≤ GREATEST_LIMIT → Draft m at Top Empty Free m d d
+pub begins : (m d : List ℕ) (at : ℕ) → length m ≡ 65536 → cell m 28 ≡ at → at ≤ GREATEST_LIMIT → Draft m at Top Empty Free m d d
 begins m d at l e h = record {
   stands = record { before = take at m; after = drop at m; is = sym (take-append-drop at m); place = length-take-le at m (omega arith) };
   here = omega arith;
@@ -68,7 +68,7 @@ begins m d at l e h = record {
 }
 
 -- the whole is there
-whole_code : (rt : ℕ → ℕ) (at : ℕ) (o : Outer) (t : Body) (h : Half) (u : Definition) → whole o t h ≡ Some u → (open_code rt o t h at ≡ all_code rt u at) × (open_size o t h ≡ all_size u) × (places at o ≡ [])
+pub whole_code : (rt : ℕ → ℕ) (at : ℕ) (o : Outer) (t : Body) (h : Half) (u : Definition) → whole o t h ≡ Some u → (open_code rt o t h at ≡ all_code rt u at) × (open_size o t h ≡ all_size u) × (places at o ≡ [])
 whole_code rt at Top t Free u e =
     let q : Simple t ≡ u = cc in
     let z : at + 0 ≡ at = omega arith in

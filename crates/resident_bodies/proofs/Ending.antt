@@ -31,39 +31,39 @@ use Rattle.resident_bodies.proofs.Items.{written_is}
 use Rattle.resident_bodies.proofs.Bodies.{body_laid}
 
 -- DP, the head of a chain and LAST are written over what was laid
-abbrev tops : List ℕ → (d head x : ℕ) → List ℕ
+abbrev pub tops : List ℕ → (d head x : ℕ) → List ℕ
 tops p d head x = put_cell (put_cell (put_cell p 28 d) head x) 30 x
 
 -- a head stands between 42 and an address, and apart from the other cells of the system
-abbrev IsPlaced : (head here : ℕ) → Type 0
+abbrev pub IsPlaced : (head here : ℕ) → Type 0
 IsPlaced head here = ((42 ≤ head) × (head + 1 < 52)) ⊎ ((256 ≤ head) × (head + 1 < here))
 
-head_low : (head here : ℕ) → 256 ≤ here → IsPlaced head here → (42 ≤ head) × (head + 1 < here)
+pub head_low : (head here : ℕ) → 256 ≤ here → IsPlaced head here → (42 ≤ head) × (head + 1 < here)
 head_low head here l (inl q) = (q.0, let z = q.1 in omega arith)
 head_low head here l (inr q) = (let z = q.0 in omega arith, q.1)
 
-top_byte : (p : List ℕ) (d head x j : ℕ) → head + 1 < 65536 → j / 2 ≢ 14 → j / 2 ≢ 15 → j ≢ head → j ≢ head + 1 → byte (tops p d head x) j ≡ byte p j
+pub top_byte : (p : List ℕ) (d head x j : ℕ) → head + 1 < 65536 → j / 2 ≢ 14 → j / 2 ≢ 15 → j ≢ head → j ≢ head + 1 → byte (tops p d head x) j ≡ byte p j
 top_byte p d head x j h a b c e =
     byte_cell (put_cell (put_cell p 28 d) head x) 30 x j (omega arith) (omega arith) (omega arith)
     ∙ byte_cell (put_cell p 28 d) head x j h c e
     ∙ byte_cell p 28 d j (omega arith) (omega arith) (omega arith)
 
-length-tops : (p : List ℕ) (d head x : ℕ) → length (tops p d head x) ≡ length p
+pub length-tops : (p : List ℕ) (d head x : ℕ) → length (tops p d head x) ≡ length p
 length-tops p d head x = length_cell (put_cell (put_cell p 28 d) head x) 30 x ∙ length_cell (put_cell p 28 d) head x ∙ length_cell p 28 d
 
-top_both : (p q : List ℕ) (d e head x j : ℕ) → length p ≡ 65536 → length q ≡ 65536 → head + 1 < 65536 → j / 2 ≢ 14 → byte p j ≡ byte q j → byte (tops p d head x) j ≡ byte (tops q e head x) j
+pub top_both : (p q : List ℕ) (d e head x j : ℕ) → length p ≡ 65536 → length q ≡ 65536 → head + 1 < 65536 → j / 2 ≢ 14 → byte p j ≡ byte q j → byte (tops p d head x) j ≡ byte (tops q e head x) j
 top_both p q d e head x j lp lq h a s =
     let one : byte (put_cell p 28 d) j ≡ byte (put_cell q 28 e) j = byte_cell p 28 d j (omega arith) (omega arith) (omega arith) ∙ s ∙ sym (byte_cell q 28 e j (omega arith) (omega arith) (omega arith)) in
     cell_both (put_cell (put_cell p 28 d) head x) (put_cell (put_cell q 28 e) head x) 30 x j (length_cell (put_cell p 28 d) head x ∙ length_cell p 28 d ∙ lp) (length_cell (put_cell q 28 e) head x ∙ length_cell q 28 e ∙ lq) (omega arith)
     (cell_both (put_cell p 28 d) (put_cell q 28 e) head x j (length_cell p 28 d ∙ lp) (length_cell q 28 e ∙ lq) h one)
 
-top_here : (p : List ℕ) (d head x : ℕ) → length p ≡ 65536 → 42 ≤ head → head + 1 < 65536 → cell (tops p d head x) 28 ≡ d
+pub top_here : (p : List ℕ) (d head x : ℕ) → length p ≡ 65536 → 42 ≤ head → head + 1 < 65536 → cell (tops p d head x) 28 ≡ d
 top_here p d head x l a h =
     cell_beside (put_cell (put_cell p 28 d) head x) 30 x 28 (omega arith) (omega arith) (omega arith) (omega arith) (omega arith)
     ∙ cell_beside (put_cell p 28 d) head x 28 h (omega arith) (omega arith) (omega arith) (omega arith)
     ∙ cell_here p 28 d l (omega arith)
 
-top_last : (p : List ℕ) (d head x : ℕ) → length p ≡ 65536 → cell (tops p d head x) 30 ≡ x
+pub top_last : (p : List ℕ) (d head x : ℕ) → length p ≡ 65536 → cell (tops p d head x) 30 ≡ x
 top_last p d head x l = cell_here (put_cell (put_cell p 28 d) head x) 30 x (length_cell (put_cell p 28 d) head x ∙ length_cell p 28 d ∙ l) (omega arith)
 
 -- headers that differ in their counts
@@ -77,10 +77,10 @@ count_here : (f g : List ℕ) (c : ℕ) → slice_index (f ++ (c ∷ g)) (length
 count_here [] g c = refl
 count_here (y ∷ f) g c = count_here f g c
 
-abbrev front : (view link : ℕ) → List ℕ
+abbrev pub front : (view link : ℕ) → List ℕ
 front view link = cell_bytes view ++ cell_bytes link
 
-abbrev whole_header : (view link count : ℕ) → List ℕ → List ℕ
+abbrev pub whole_header : (view link count : ℕ) → List ℕ → List ℕ
 whole_header view link count name = front view link ++ (count ∷ (name ++ cell_bytes 1))
 
 length-front : (v k : ℕ) → length (front v k) ≡ 4
@@ -102,29 +102,29 @@ unfolding begun written site_of
 begun_is m name = refl
 
 -- a definition's place: what holds of it in memory before
-record Site (m name : List ℕ) (here head : ℕ) : Type 0 where
-  here_is : cell m 28 ≡ here
-  head_is : head_of (cell m 34) name ≡ head
-  all : length m ≡ 65536
-  executing : cell m 16 ≡ 0
-  short : length name ≤ 31
-  low : 256 ≤ here
-  placed : IsPlaced head here
+pub record Site (m name : List ℕ) (here head : ℕ) : Type 0 where
+  pub here_is : cell m 28 ≡ here
+  pub head_is : head_of (cell m 34) name ≡ head
+  pub all : length m ≡ 65536
+  pub executing : cell m 16 ≡ 0
+  pub short : length name ≤ 31
+  pub low : 256 ≤ here
+  pub placed : IsPlaced head here
 
 -- what `:` puts, and what the whole is
-abbrev opened : (m name : List ℕ) (here head : ℕ) → List ℕ
+abbrev pub opened : (m name : List ℕ) (here head : ℕ) → List ℕ
 opened m name here head = tops (put_bytes m here (header_bytes (cell m 22) (cell m head) (160 + length name) name 1 [])) (here + (7 + length name)) head (here + 2)
 
-abbrev opening : (m name : List ℕ) (here head : ℕ) → List ℕ
+abbrev pub opening : (m name : List ℕ) (here head : ℕ) → List ℕ
 opening m name here head = put_cell (put_cell (opened m name here head) 16 65535) 32 (cell m 34)
 
-abbrev closed : (m name extra : List ℕ) (here head : ℕ) → List ℕ
+abbrev pub closed : (m name extra : List ℕ) (here head : ℕ) → List ℕ
 closed m name extra here head = tops (put_bytes m here (header_bytes (cell m 22) (cell m head) (128 + length name) name 1 extra)) (here + (7 + length name + length extra)) head (here + 2)
 
 length-header : (v k c : ℕ) (name extra : List ℕ) → length (header_bytes v k c name 1 extra) ≡ 7 + length name + length extra
 length-header v k c name extra = length_header v k c 1 name extra
 
-begun_opening : (m name : List ℕ) (here head : ℕ) → Site m name here head → here + (7 + length name) ≤ GREATEST_LIMIT → begun m name ≡ opening m name here head
+pub begun_opening : (m name : List ℕ) (here head : ℕ) → Site m name here head → here + (7 + length name) ≤ GREATEST_LIMIT → begun m name ≡ opening m name here head
 begun_opening m name here head s r =
     let f = λ (h g d x : ℕ). put_cell (put_cell (tops (put_bytes m h (header_bytes (cell m 22) (cell m g) (160 + length name) name 1 [])) d g x) 16 65535) 32 (cell m 34) in
     let lo = s.low in
@@ -157,7 +157,7 @@ whole_has m name extra here head c i s r h =
     laid_has m here i (header_bytes (cell m 22) (cell m head) c name 1 extra) s.all (omega arith) (omega arith)
     ∙ ap (λ l. slice_index l i) (header_is (cell m 22) (cell m head) c name extra)
 
-opening_low : (m name : List ℕ) (here head j : ℕ) → Site m name here head → here + (7 + length name) ≤ GREATEST_LIMIT → j < here → j / 2 ≢ 8 → j / 2 ≢ 14 → j / 2 ≢ 15 → j / 2 ≢ 16 → j ≢ head → j ≢ head + 1 → byte (opening m name here head) j ≡ byte m j
+pub opening_low : (m name : List ℕ) (here head j : ℕ) → Site m name here head → here + (7 + length name) ≤ GREATEST_LIMIT → j < here → j / 2 ≢ 8 → j / 2 ≢ 14 → j / 2 ≢ 15 → j / 2 ≢ 16 → j ≢ head → j ≢ head + 1 → byte (opening m name here head) j ≡ byte m j
 opening_low m name here head j s r h a b c e f g =
     let hl = head_low head here s.low s.placed in
     let h1 = header_bytes (cell m 22) (cell m head) (160 + length name) name 1 [] in
@@ -166,7 +166,7 @@ opening_low m name here head j s r h a b c e f g =
     ∙ top_byte (put_bytes m here h1) (here + (7 + length name)) head (here + 2) j (omega (arith, hl.1)) b c f g
     ∙ byte_below m here h1 j (omega (arith, length-header (cell m 22) (cell m head) (160 + length name) name [])) h
 
-opening_header : (m name : List ℕ) (here head i : ℕ) → Site m name here head → here + (7 + length name) ≤ GREATEST_LIMIT → i < 7 + length name → byte (opening m name here head) (here + i) ≡ slice_index (whole_header (cell m 22) (cell m head) (160 + length name) name ++ []) i
+pub opening_header : (m name : List ℕ) (here head i : ℕ) → Site m name here head → here + (7 + length name) ≤ GREATEST_LIMIT → i < 7 + length name → byte (opening m name here head) (here + i) ≡ slice_index (whole_header (cell m 22) (cell m head) (160 + length name) name ++ []) i
 opening_header m name here head i s r h =
     let hl = head_low head here s.low s.placed in
     let lo = s.low in
@@ -185,13 +185,13 @@ closed_has m name extra here head i s r h =
     top_byte (put_bytes m here h2) (here + (7 + length name + length extra)) head (here + 2) (here + i) (omega (arith, hl.1)) (omega arith) (omega arith) (omega (arith, hl.1)) (omega (arith, hl.1))
     ∙ whole_has m name extra here head (128 + length name) i s r h
 
-length-opening : (m name : List ℕ) (here head : ℕ) → Site m name here head → length (opening m name here head) ≡ 65536
+pub length-opening : (m name : List ℕ) (here head : ℕ) → Site m name here head → length (opening m name here head) ≡ 65536
 length-opening m name here head s =
     let h1 = header_bytes (cell m 22) (cell m head) (160 + length name) name 1 [] in
     length_cell (put_cell (opened m name here head) 16 65535) 32 (cell m 34) ∙ length_cell (opened m name here head) 16 65535
     ∙ length-tops (put_bytes m here h1) (here + (7 + length name)) head (here + 2) ∙ length_bytes m here h1 ∙ s.all
 
-opening_here : (m name : List ℕ) (here head : ℕ) → Site m name here head → here + (7 + length name) ≤ GREATEST_LIMIT → cell (opening m name here head) 28 ≡ here + (7 + length name)
+pub opening_here : (m name : List ℕ) (here head : ℕ) → Site m name here head → here + (7 + length name) ≤ GREATEST_LIMIT → cell (opening m name here head) 28 ≡ here + (7 + length name)
 opening_here m name here head s r =
     let hl = head_low head here s.low s.placed in
     let h1 = header_bytes (cell m 22) (cell m head) (160 + length name) name 1 [] in
@@ -199,14 +199,14 @@ opening_here m name here head s r =
     ∙ cell_beside (opened m name here head) 16 65535 28 (omega arith) (omega arith) (omega arith) (omega arith) (omega arith)
     ∙ top_here (put_bytes m here h1) (here + (7 + length name)) head (here + 2) (length_bytes m here h1 ∙ s.all) hl.0 (omega (arith, hl.1))
 
-opening_last : (m name : List ℕ) (here head : ℕ) → Site m name here head → here + (7 + length name) ≤ GREATEST_LIMIT → cell (opening m name here head) 30 ≡ here + 2
+pub opening_last : (m name : List ℕ) (here head : ℕ) → Site m name here head → here + (7 + length name) ≤ GREATEST_LIMIT → cell (opening m name here head) 30 ≡ here + 2
 opening_last m name here head s r =
     let h1 = header_bytes (cell m 22) (cell m head) (160 + length name) name 1 [] in
     cell_beside (put_cell (opened m name here head) 16 65535) 32 (cell m 34) 30 (omega arith) (omega arith) (omega arith) (omega arith) (omega arith)
     ∙ cell_beside (opened m name here head) 16 65535 30 (omega arith) (omega arith) (omega arith) (omega arith) (omega arith)
     ∙ top_last (put_bytes m here h1) (here + (7 + length name)) head (here + 2) (length_bytes m here h1 ∙ s.all)
 
-cell_of : (m n : List ℕ) (a : ℕ) → a + 1 < 65536 → byte m a ≡ byte n a → byte m (a + 1) ≡ byte n (a + 1) → cell m a ≡ cell n a
+pub cell_of : (m n : List ℕ) (a : ℕ) → a + 1 < 65536 → byte m a ≡ byte n a → byte m (a + 1) ≡ byte n (a + 1) → cell m a ≡ cell n a
 unfolding cell
 cell_of m n a h e f = let w : wrap (a + 1) ≡ a + 1 = omega arith in rw (w, e, f) refl
 
@@ -214,7 +214,7 @@ apart : (k head here : ℕ) → k < 32 → IsPlaced head here → (64 + 2 * k �
 apart k head here h (inl q) = let z = q.1 in (omega arith, omega arith, omega arith, omega arith)
 apart k head here h (inr q) = let z = q.0 in (omega arith, omega arith, omega arith, omega arith)
 
-opening_controls : (m name : List ℕ) (here head k : ℕ) → Site m name here head → here + (7 + length name) ≤ GREATEST_LIMIT → k < 32 → runtime (opening m name here head) k ≡ runtime m k
+pub opening_controls : (m name : List ℕ) (here head k : ℕ) → Site m name here head → here + (7 + length name) ≤ GREATEST_LIMIT → k < 32 → runtime (opening m name here head) k ≡ runtime m k
 opening_controls m name here head k s r h =
     let a = 64 + 2 * k in
     let lo = s.low in
@@ -224,26 +224,26 @@ opening_controls m name here head k s r h =
     (opening_low m name here head (a + 1) s r (omega arith) (omega arith) (omega arith) (omega arith) (omega arith) q.2 q.3)
 
 -- what `;` leaves
-abbrev finished : (s : List ℕ) → (here n e : ℕ) → List ℕ
+abbrev pub finished : (s : List ℕ) → (here n e : ℕ) → List ℕ
 finished s here n e = put_cell (put_byte (laid s (cell_bytes e)) (here + 4) (128 + n)) 16 0
 
-kept_cell : (at a : ℕ) (m n : List ℕ) → Kept at m n → a + 1 < at → a + 1 < 65536 → a / 4 ≢ 5 → (a + 1) / 4 ≢ 5 → a / 2 ≢ 14 → (a + 1) / 2 ≢ 14 → cell m a ≡ cell n a
+pub kept_cell : (at a : ℕ) (m n : List ℕ) → Kept at m n → a + 1 < at → a + 1 < 65536 → a / 4 ≢ 5 → (a + 1) / 4 ≢ 5 → a / 2 ≢ 14 → (a + 1) / 2 ≢ 14 → cell m a ≡ cell n a
 kept_cell at a m n k l h b c e f = cell_of m n a h (k a (omega arith) b e) (k (a + 1) l c f)
 
 -- the place of the whole, from that of a definition begun
-site_of_opens : (m name : List ℕ) (n : ℕ) → Opens m name n → Site m name (cell m 28) (head_of (cell m 34) name)
+pub site_of_opens : (m name : List ℕ) (n : ℕ) → Opens m name n → Site m name (cell m 28) (head_of (cell m 34) name)
 site_of_opens m name n o = record { here_is = refl; head_is = refl; all = o.all; executing = o.executing; short = o.short; low = o.low; placed = o.head }
 
 -- a body that is laid behind `:`
-record Read (m name : List ℕ) (here head : ℕ) (b : Definition) (s : List ℕ) : Type 0 where
-  site : Site m name here head
-  room : here + (7 + length name + (all_size b + 2)) ≤ GREATEST_LIMIT
-  body : Bodied (opening m name here head) (here + (7 + length name)) b s
+pub record Read (m name : List ℕ) (here head : ℕ) (b : Definition) (s : List ℕ) : Type 0 where
+  pub site : Site m name here head
+  pub room : here + (7 + length name + (all_size b + 2)) ≤ GREATEST_LIMIT
+  pub body : Bodied (opening m name here head) (here + (7 + length name)) b s
 
-length-extra : (rt : ℕ → ℕ) (b : Definition) (at : ℕ) → length (thread rt b at) ≡ all_size b + 2
+pub length-extra : (rt : ℕ → ℕ) (b : Definition) (at : ℕ) → length (thread rt b at) ≡ all_size b + 2
 length-extra rt b at = length-append (all_code rt b at) (cell_bytes (rt 5)) ∙ omega (arith, length-all rt b at, length-cell (rt 5))
 
-ended_is : (m name s : List ℕ) (here head : ℕ) (b : Definition) → Read m name here head b s → ended s ≡ finished s here (length name) (runtime m 5)
+pub ended_is : (m name s : List ℕ) (here head : ℕ) (b : Definition) → Read m name here head b s → ended s ≡ finished s here (length name) (runtime m 5)
 unfolding newest_count
 ended_is m name s here head b r =
     let st = r.site in
@@ -268,14 +268,14 @@ ended_is m name s here head b r =
     ∙ ap (λ x. put_cell (put_byte (laid s (cell_bytes (runtime m 5))) (here + 4) x) 16 0) (reveal_new name st.short)
 
 -- its bytes, but for the count and STATE
-finished_byte : (s : List ℕ) (here n e j : ℕ) → j / 2 ≢ 8 → j / 2 ≢ 14 → j ≢ here + 4 → byte (finished s here n e) j ≡ byte (put_bytes s (cell s 28) (cell_bytes e)) j
+pub finished_byte : (s : List ℕ) (here n e j : ℕ) → j / 2 ≢ 8 → j / 2 ≢ 14 → j ≢ here + 4 → byte (finished s here n e) j ≡ byte (put_bytes s (cell s 28) (cell_bytes e)) j
 unfolding laid_at
 finished_byte s here n e j a b c =
     byte_cell (put_byte (laid s (cell_bytes e)) (here + 4) (128 + n)) 16 0 j (omega arith) (omega arith) (omega arith)
     ∙ byte_set (laid s (cell_bytes e)) (here + 4) (128 + n) j c
     ∙ byte_cell (put_bytes s (cell s 28) (cell_bytes e)) 28 (wrap (cell s 28 + length (cell_bytes e))) j (omega arith) (omega arith) (omega arith)
 
-length-laid : (s bs : List ℕ) → length (laid s bs) ≡ length s
+pub length-laid : (s bs : List ℕ) → length (laid s bs) ≡ length s
 unfolding laid_at
 length-laid s bs = length_cell (put_bytes s (cell s 28) bs) 28 (wrap (cell s 28 + length bs)) ∙ length_bytes s (cell s 28) bs
 
@@ -284,7 +284,7 @@ finished_count s here n e l a h =
     byte_cell (put_byte (laid s (cell_bytes e)) (here + 4) (128 + n)) 16 0 (here + 4) (omega arith) (omega arith) (omega arith)
     ∙ byte_here (laid s (cell_bytes e)) (here + 4) (128 + n) (omega (arith, length-laid s (cell_bytes e)))
 
-finished_state : (s : List ℕ) (here n e j : ℕ) → length s ≡ 65536 → j / 2 ≡ 8 → byte (finished s here n e) j ≡ 0
+pub finished_state : (s : List ℕ) (here n e j : ℕ) → length s ≡ 65536 → j / 2 ≡ 8 → byte (finished s here n e) j ≡ 0
 unfolding put_cell
 finished_state s here n e j l h =
     let m = put_byte (laid s (cell_bytes e)) (here + 4) (128 + n) in
@@ -460,6 +460,24 @@ agrees m name s here head b r =
       ];
     }
 
+-- a definition that was begun, and whose body is laid, agrees with the whole once it is ended
+pub ended_agrees : (m name s : List ℕ) (b : Definition) → Opens m name (all_size b + 2) → Bodied (begun m name) (cell m 28 + (7 + length name)) b s → Agrees (ended s) (laid_definition m (cell m 22) name b)
+ended_agrees m name s b o h =
+    let here = cell m 28 in
+    let head = head_of (cell m 34) name in
+    let st = site_of_opens m name (all_size b + 2) o in
+    let lo = o.low in
+    let hi = o.high in
+    let pf = here + (7 + length name) in
+    let q : begun m name ≡ opening m name here head = begun_opening m name here head st (omega arith) in
+    let body : Bodied (opening m name here head) pf b s = subst (λ x. Bodied x pf b s) q h in
+    let r : Read m name here head b s = record { site = st; room = omega arith; body = body } in
+    let le = length-extra (runtime m) b pf in
+    let w : laid_definition m (cell m 22) name b ≡ closed m name (thread (runtime m) b pf) here head = laid_closed m name here head b st (omega arith) in
+    let e : ended s ≡ finished s here (length name) (runtime m 5) = ended_is m name s here head b r in
+    subst (λ x. Agrees x (laid_definition m (cell m 22) name b)) (sym e)
+    (subst (λ x. Agrees (finished s here (length name) (runtime m 5)) x) (sym w) (agrees m name s here head b r))
+
 pub definition_is : (m d name : List ℕ) (b : Definition) → Opens m name (all_size b + 2) → Agrees (ended (lays_all (all_words b) (begun m name) d).0) (laid_definition m (cell m 22) name b)
 definition_is m d name b o =
     let here = cell m 28 in
@@ -468,14 +486,6 @@ definition_is m d name b o =
     let lo = o.low in
     let hi = o.high in
     let pf = here + (7 + length name) in
-    let begin = opening m name here head in
-    let s = (lays_all (all_words b) begin d).0 in
-    let body : Bodied begin pf b s = body_laid begin d pf b (length-opening m name here head st) (opening_here m name here head st (omega arith)) (omega arith) (omega arith) in
-    let r : Read m name here head b s = record { site = st; room = omega arith; body = body } in
-    let le = length-extra (runtime m) b pf in
-    let w : laid_definition m (cell m 22) name b ≡ closed m name (thread (runtime m) b pf) here head = laid_closed m name here head b st (omega arith) in
-    let e : ended s ≡ finished s here (length name) (runtime m 5) = ended_is m name s here head b r in
-    let q : begun m name ≡ begin = begun_opening m name here head st (omega arith) in
-    subst (λ x. Agrees (ended (lays_all (all_words b) x d).0) (laid_definition m (cell m 22) name b)) (sym q)
-    (subst (λ x. Agrees x (laid_definition m (cell m 22) name b)) (sym e)
-    (subst (λ x. Agrees (finished s here (length name) (runtime m 5)) x) (sym w) (agrees m name s here head b r)))
+    let laid_body : Bodied (opening m name here head) pf b (lays_all (all_words b) (opening m name here head) d).0 = body_laid (opening m name here head) d pf b (length-opening m name here head st) (opening_here m name here head st (omega arith)) (omega arith) (omega arith) in
+    let q : begun m name ≡ opening m name here head = begun_opening m name here head st (omega arith) in
+    ended_agrees m name (lays_all (all_words b) (begun m name) d).0 b o (subst (λ x. Bodied x pf b (lays_all (all_words b) x d).0) (sym q) laid_body)

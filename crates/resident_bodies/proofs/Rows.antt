@@ -27,7 +27,7 @@ use Rattle.resident_bodies.specs.Words.{ahead, laid_and_resolved, lays, row_of}
 use Rattle.resident_bodies.specs.Drafts.{places, Draft}
 use Rattle.resident_bodies.proofs.Words.{length-two}
 
-has_room_is : (s : Whole) (n : ℕ) → cell s.memory 28 + n ≤ limit s.buffers → has_room s n ≡ true
+pub has_room_is : (s : Whole) (n : ℕ) → cell s.memory 28 + n ≤ limit s.buffers → has_room s n ≡ true
 unfolding fits
 has_room_is s n h = grind arith
 

@@ -1,0 +1,15 @@
+pub mod Loop
+pub mod Rounds
+pub mod Reading
+pub mod Meaning
+pub mod Sources
+pub mod Orderly
+pub mod Seen
+pub mod Turning
+pub mod Opened
+pub mod Between
+pub mod Loaded
+pub mod Resident
+pub mod Compiled
+pub mod Turns
+pub mod Making
