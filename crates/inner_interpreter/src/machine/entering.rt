@@ -44,7 +44,7 @@ impl Machine {
     pub fn set_cell(&mut self, address: u16, x: u16)
         ensures { self.new ≡ with_cell self.old address x }
     {
-        self.parts.memory.set_cell(address, x);
+        self.parts.set_cell(address, x);
     }
 
     /// Memory up to HERE as an image with as many block buffers, which starts with the word at `entry`. `BadSize` where
