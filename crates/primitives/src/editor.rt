@@ -56,8 +56,10 @@ fn line_text(memory: &Memory, stream: Stream) -> [u8; 64]
 /// Deletes a line of the screen in a slot.
 fn delete_in(parts: &mut Parts, slot: usize, n: u16)
     requires { slot < length parts.old.buffers }
-    ensures { parts.new ≡ (record parts.old { memory = with_page parts.old.memory (address_of parts.old.buffers slot)
-        (line_deleted (page parts.old.memory (address_of parts.old.buffers slot)) n) }) }
+    ensures { parts.new ≡ (record parts.old {
+      memory = with_page parts.old.memory (address_of parts.old.buffers slot)
+          (line_deleted (page parts.old.memory (address_of parts.old.buffers slot)) n);
+    }) }
 {
     let at = parts.buffers.address_of(slot);
     let mut screen = *parts.memory.page(at);
@@ -80,9 +82,11 @@ fn wipe_in(parts: &mut Parts, slot: usize)
 fn put_in(parts: &mut Parts, slot: usize, n: u16, stream: Stream)
     requires slot { slot < length parts.old.buffers }
     requires place { stream.place ≤ stream.size }
-    ensures { parts.new ≡ (record parts.old { memory = with_page (put_cell parts.old.memory TO_IN stream.size)
-        (address_of parts.old.buffers slot)
-        (with_line (page parts.old.memory (address_of parts.old.buffers slot)) n (line_text parts.old.memory stream)) }) }
+    ensures { parts.new ≡ (record parts.old {
+      memory = with_page (put_cell parts.old.memory TO_IN stream.size)
+          (address_of parts.old.buffers slot)
+          (with_line (page parts.old.memory (address_of parts.old.buffers slot)) n (line_text parts.old.memory stream));
+    }) }
 {
     let at = parts.buffers.address_of(slot);
     let text = line_text(&parts.memory, stream);
@@ -96,9 +100,11 @@ fn put_in(parts: &mut Parts, slot: usize, n: u16, stream: Stream)
 fn insert_in(parts: &mut Parts, slot: usize, n: u16, stream: Stream)
     requires slot { slot < length parts.old.buffers }
     requires place { stream.place ≤ stream.size }
-    ensures { parts.new ≡ (record parts.old { memory = with_page (put_cell parts.old.memory TO_IN stream.size)
-        (address_of parts.old.buffers slot)
-        (line_inserted (page parts.old.memory (address_of parts.old.buffers slot)) n (line_text parts.old.memory stream)) }) }
+    ensures { parts.new ≡ (record parts.old {
+      memory = with_page (put_cell parts.old.memory TO_IN stream.size)
+          (address_of parts.old.buffers slot)
+          (line_inserted (page parts.old.memory (address_of parts.old.buffers slot)) n (line_text parts.old.memory stream));
+    }) }
 {
     let at = parts.buffers.address_of(slot);
     let text = line_text(&parts.memory, stream);
