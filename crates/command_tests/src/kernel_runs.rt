@@ -87,7 +87,7 @@ fn blocks_with_a_source(alloc: Global, count: usize) -> Result<Vec<u8>, Fail> {
 }
 
 /// What is typed, all that is shown, what is asked of six blocks, and whether the fifth call of their device fails.
-const CASES: [(&str, &str, &str, bool); 22] = [
+const CASES: [(&str, &str, &str, bool); 24] = [
     ("", "", "", false),
     ("3 4 + .\n", "3 4 + . 7  ok\n", "", false),
     ("3 4 + .", "3 4 + .7  ok\n", "", false),
@@ -108,6 +108,18 @@ const CASES: [(&str, &str, &str, bool); 22] = [
     (
         "7 65535 C! 1 0 C! 65535 @ .\n",
         "7 65535 C! 1 0 C! 65535 @ . 263  ok\n",
+        "",
+        false,
+    ),
+    (
+        ": Q 5 ; Q . : Q 6 ; Q .\n",
+        ": Q 5 ; Q . : Q 6 ; Q . 5 6  ok\n",
+        "",
+        false,
+    ),
+    (
+        "VOCABULARY V V DEFINITIONS : Q 7 ; FORTH DEFINITIONS : Q 5 ;\nQ . V Q . FORTH Q .\n",
+        "VOCABULARY V V DEFINITIONS : Q 7 ; FORTH DEFINITIONS : Q 5 ;  ok\nQ . V Q . FORTH Q . 5 7 5  ok\n",
         "",
         false,
     ),
