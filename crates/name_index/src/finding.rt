@@ -14,7 +14,7 @@ use memory::Memory;
 fn place_of(name: &[u8]) -> u8 {
     let mut place = 0u8;
     for byte in name {
-        place = place.wrapping_mul(113).wrapping_add(*byte);
+        place = place.wrapping_mul(37).wrapping_add(*byte);
     }
     place
 }
