@@ -6,10 +6,10 @@ ghost use Rattle.std.specs.Prelude.{◌≤◌, vec_len};
 use crate::assertions::assert_equal;
 use crate::kernel_runs::kernel_image;
 use block_buffers::MemoryDevice;
-use image_loader::{Image, read};
+use image_loader::read;
 use memory::Memory;
-use resident_screens::load_by_machine;
-use see::{see, view};
+use memory::system::BASE;
+use resident_screens::{is_resident, load_by_machine};
 use std::alloc::Global;
 use std::test::Fail;
 
@@ -48,6 +48,22 @@ fn device(alloc: Global, first: &str, second: &str) -> Result<MemoryDevice, Fail
         return Err("too many blocks".into());
     }
     Ok(MemoryDevice::new(blocks, Vec::new(alloc)))
+}
+
+#[test]
+fn the_kernel_is_resident(rt: HostRuntime) -> Result<(), Fail> {
+    let alloc = rt.alloc();
+    let file = kernel_image(alloc)?;
+    let Ok(kernel) = read(alloc, file.as_slice()) else {
+        return Err("no image".into());
+    };
+    let Ok(mut memory) = Memory::with_front(alloc, kernel.bytes()) else {
+        return Err("no memory".into());
+    };
+    assert_equal(&rt, is_resident(alloc, &memory, 61440)?, true);
+    memory.set_cell(BASE, 16);
+    assert_equal(&rt, is_resident(alloc, &memory, 61440)?, false);
+    Ok(())
 }
 
 #[test]

@@ -29,3 +29,5 @@ pub mod Residents
 pub mod Agreeing
 pub mod Making
 pub mod Answering
+pub mod Residence
+pub mod Chaining

@@ -45,7 +45,7 @@ NameIf None = Unit {0}
 abbrev pub Marks : List ℕ → List ℕ → Option Token → Type 0
 Marks nm text k = (ends_body nm ≡ semi_if k) × (names_in_body nm ≡ lead_if k) × (takes_text nm ≡ text_if k) × Says k text × NameIf k
 
-split : (nm c : List ℕ) (P : List ℕ → Type 0) → P c → (bytes_eq nm c ≡ false → P nm) → P nm
+pub split : (nm c : List ℕ) (P : List ℕ → Type 0) → P c → (bytes_eq nm c ≡ false → P nm) → P nm
 split nm c P here there = by (bytes_eq nm c) refl
   where
     by : (b : Bool) → bytes_eq nm c ≡ b → P nm

@@ -13,3 +13,4 @@ pub mod Resident
 pub mod Compiled
 pub mod Turns
 pub mod Making
+pub mod Residency

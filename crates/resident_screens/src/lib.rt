@@ -2,9 +2,11 @@
 //! machine's moves.
 #![tactic(auto)]
 
+mod checking;
 pub mod laws;
 mod load;
 mod rounds;
 
+pub use checking::is_resident;
 pub use load::{LoadFault, load_by_machine};
 pub use rounds::Stop;

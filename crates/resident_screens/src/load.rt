@@ -154,10 +154,10 @@ fn load_on<D: Device>(
     save(machine, alloc, entry, blk, to_in)
 }
 
-/// Loads screens on an image: the machine that it is loaded to compiles them in turn, with at most `limit` ticks, and its
-/// memory up to HERE is the new image, which starts with the same word. For each screen BLK is set to it, >IN to 0, and
-/// INTERPRET is entered; behind the last BLK and >IN get their cells of before. What is shown is dropped; what is asked
-/// of the device is asked of `device`, and what was written stays written.
+/// Loads screens on an image: the machine that it is loaded to compiles them in turn, with at most `limit` ticks, and
+/// its memory up to HERE is the new image, which starts with the same word. For each screen BLK is set to it, >IN to 0,
+/// and INTERPRET is entered; behind the last BLK and >IN get their cells of before. What is shown is dropped; what is
+/// asked of the device is asked of `device`, and what was written stays written.
 pub fn load_by_machine<D: Device>(
     alloc: Global,
     image: &Image,
