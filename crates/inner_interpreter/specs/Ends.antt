@@ -13,3 +13,14 @@ TakesByte old new (Err _) = Keeps old new
 abbrev pub Marks : {T : Type 0} → Bool → Bool → Result T EndFault → Type 0
 Marks old new (Ok _) = new ≡ old
 Marks old new (Err _) = new ≡ true
+
+-- a writer that takes `room` bytes in all: the bytes that it took, and whether a call has failed
+pub record Taker : Type 0 where
+  pub room : ℕ
+  pub taken : List ℕ
+  pub failed : Bool
+
+-- what is left of one byte
+abbrev pub left_of : Option ℕ → List ℕ
+left_of None = []
+left_of (Some byte) = byte ∷ []

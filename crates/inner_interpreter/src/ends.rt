@@ -2,6 +2,10 @@
 
 ghost use Rattle.std.specs.Prelude.{◌<◌, ◌≤◌, ℕ, Bool, List, Option, length, IfOk};
 
+mod failing;
+
+pub use failing::{FailingReader, FailingWriter};
+
 /// A reader or a writer failed.
 #[derive(Clone, Copy, Debug, PartialEq, Eq)]
 pub struct EndFault;

@@ -2,7 +2,7 @@
 #![tactic(auto)]
 
 mod act;
-mod ends;
+pub mod ends;
 mod executing;
 mod files;
 mod in_place;
