@@ -6,8 +6,6 @@ mod assertions;
 #[cfg(test)]
 mod build_tests;
 #[cfg(test)]
-mod cases;
-#[cfg(test)]
 mod debug_tests;
 #[cfg(test)]
 mod end_tests;

@@ -1,14 +1,14 @@
 //! Goes over a text of cases.
 
-use crate::numbers::{number, quoted, unescaped};
+use crate::loops::{Each, read_each, rounds};
+use crate::machines::{Running, act, load, stretches};
+use crate::numbers::{many, number};
 use crate::reading::{halves, row_line};
 use crate::state::{State, fill_stack};
 use crate::told;
 use anyhow::{Context, Result, bail};
-use block_buffers::MemoryDevice;
-use image_loader::Image;
-use inner_interpreter::{Machine, Reading, Writing, run};
-use memory::{Memory, limit_of};
+use inner_interpreter::Machine;
+use memory::Memory;
 use primitives::row;
 use std::alloc::Global;
 
@@ -16,14 +16,40 @@ use std::alloc::Global;
 #[derive(Drop)]
 enum Subject<'t> {
     State(State<'t>),
-    Machine(Machine),
+    Machine(Running),
+}
+
+impl Case<'_> {
+    /// The memory that is wanted.
+    fn wanted_memory(&self) -> &Memory {
+        match &self.single {
+            Some(running) => running.machine.memory(),
+            None => &self.want.parts.memory,
+        }
+    }
+
+    /// What is wanted, as text.
+    fn wanted_told(&self, alloc: Global) -> Result<String> {
+        match &self.single {
+            Some(running) => machine_told(alloc, &running.machine),
+            None => state_told(alloc, &self.want),
+        }
+    }
+
+    /// The first block of the device that isn't as wanted.
+    fn differing_block(&self) -> Option<usize> {
+        match &self.got {
+            Subject::Machine(running) => self.want.ends.first_difference(&running.device),
+            Subject::State(_) => None,
+        }
+    }
 }
 
 impl Subject<'_> {
     fn memory(&self) -> &Memory {
         match self {
             Subject::State(state) => &state.parts.memory,
-            Subject::Machine(machine) => machine.memory(),
+            Subject::Machine(running) => running.machine.memory(),
         }
     }
 
@@ -31,14 +57,16 @@ impl Subject<'_> {
     fn told(&self, alloc: Global) -> Result<String> {
         match self {
             Subject::State(state) => state_told(alloc, state),
-            Subject::Machine(machine) => {
-                let order = told::order(alloc, machine.buffers())?;
-                let stacks = (machine.values(), machine.returns());
-                let places = (machine.ip(), machine.pending());
-                told::all(alloc, stacks, places, order.as_str())
-            }
+            Subject::Machine(running) => machine_told(alloc, &running.machine),
         }
     }
+}
+
+fn machine_told(alloc: Global, machine: &Machine) -> Result<String> {
+    let order = told::order(alloc, machine.buffers())?;
+    let stacks = (machine.values(), machine.returns());
+    let places = (machine.ip(), machine.pending());
+    told::all(alloc, stacks, places, order.as_str())
 }
 
 fn state_told(alloc: Global, state: &State<'_>) -> Result<String> {
@@ -59,14 +87,18 @@ fn state_told(alloc: Global, state: &State<'_>) -> Result<String> {
     }
 }
 
-/// A case that was done: its line, what it came to and is to come to, and both states.
+/// A case that was done: where it stands, what it came to and is to come to, and both states.
 #[derive(Drop)]
 struct Case<'t> {
-    place: usize,
+    place: String,
     came: String,
-    wanted: &'t str,
+    wanted: String,
     got: Subject<'t>,
     want: State<'t>,
+    /// The machine of single ticks, which is then wanted in place of the state.
+    single: Option<Running>,
+    /// Whether it was told where it differs.
+    is_told: bool,
 }
 
 /// What came of a text's cases: what is told of them, how many there are, and how many differ.
@@ -95,6 +127,9 @@ pub fn tell_text<'t>(alloc: Global, name: String, is_wrong: bool, text: &'t str)
     })
 }
 
+/// A line of a text: its number, whether it is indented, and what it says.
+type Line<'t> = (usize, bool, &'t str);
+
 /// What was read of a text.
 #[derive(Drop)]
 struct Reader<'t> {
@@ -102,6 +137,8 @@ struct Reader<'t> {
     name: String,
     report: String,
     names: Vec<(&'t str, u16)>,
+    /// Which values the names of loops have.
+    round: String,
     /// Each line of each world, with the world's name.
     worlds: Vec<(&'t str, &'t str)>,
     /// The world that is being said.
@@ -122,6 +159,7 @@ impl<'t> Reader<'t> {
             name,
             report: String::new(alloc),
             names: Vec::new(alloc),
+            round: String::new(alloc),
             worlds: Vec::new(alloc),
             world: None,
             given: Vec::new(alloc),
@@ -132,24 +170,75 @@ impl<'t> Reader<'t> {
         }
     }
 
-    /// Does all cases of the text.
+    /// Does all cases of the text, up to each empty line and at its end.
     fn read(&mut self, text: &'t str) -> Result<()> {
+        let mut lines: Vec<Line<'t>> = Vec::new(self.alloc);
         for (place, line) in text.lines().enumerate() {
-            let place = place.saturating_add(1);
-            self.take(place, line)
-                .context(format_args!("line {place}"))?;
+            let said = line
+                .split_once(" \\ ")
+                .map_or(line, |(said, _)| said)
+                .trim();
+            if said.is_empty() {
+                self.take_all(lines.as_slice())?;
+                lines.clear();
+            } else if !said.starts_with('\\') {
+                lines.push((place.saturating_add(1), line.starts_with(' '), said))?;
+            }
         }
-        self.end_case()
+        self.take_all(lines.as_slice())
+    }
+
+    /// Takes lines between empty ones: once, or for each value of the names that `each` lines have.
+    fn take_all(&mut self, lines: &[Line<'t>]) -> Result<()> {
+        let loops = self.loops(lines)?;
+        let kept = self.names.len();
+        for round in 0..rounds(loops.as_slice()) {
+            if !loops.is_empty() {
+                self.names.truncate(kept);
+                self.choose(loops.as_slice(), round)?;
+            }
+            for &line in lines {
+                let (place, _, _) = line;
+                self.take(line).context(format_args!("line {place}"))?;
+            }
+            self.end_case()?;
+            self.world = None;
+            self.given.clear();
+        }
+        self.round.clear();
+        Ok(())
+    }
+
+    /// The `each` lines of these.
+    fn loops(&self, lines: &[Line<'t>]) -> Result<Vec<Each<'t>>> {
+        let mut loops = Vec::new(self.alloc);
+        for &(place, _, text) in lines {
+            if let Some(said) = text.strip_prefix("each ") {
+                let read = read_each(self.alloc, self.names.as_slice(), said);
+                loops.push(read.context(format_args!("line {place}"))?)?;
+            }
+        }
+        Ok(loops)
+    }
+
+    /// Gives the names of loops their values of a round.
+    fn choose(&mut self, loops: &[Each<'t>], round: usize) -> Result<()> {
+        self.round.clear();
+        let mut left = round;
+        for each in loops {
+            let (value, others) = each.value(left)?;
+            let name = each.name;
+            let told = format!(in self.alloc; " {name} {value}")?;
+            self.round.push_str(told.as_str())?;
+            self.names.push((name, value))?;
+            left = others;
+        }
+        Ok(())
     }
 
     /// Takes a line.
-    fn take(&mut self, place: usize, line: &'t str) -> Result<()> {
-        let said = line.split_once(" \\ ").map_or(line, |(said, _)| said);
-        let text = said.trim();
-        if text.starts_with('\\') {
-            return Ok(());
-        }
-        if line.starts_with(' ') {
+    fn take(&mut self, (place, is_indented, text): Line<'t>) -> Result<()> {
+        if is_indented {
             return self.want(text);
         }
         let (first, rest) = text.split_once(' ').unwrap_or((text, ""));
@@ -158,10 +247,7 @@ impl<'t> Reader<'t> {
         }
         self.end_case()?;
         match first {
-            "" => {
-                self.world = None;
-                self.given.clear();
-            }
+            "each" => {}
             "name" => {
                 let (name, value) = rest.split_once(' ').context("no value")?;
                 let value = number(self.names.as_slice(), value)?;
@@ -198,14 +284,15 @@ impl<'t> Reader<'t> {
     fn give_or_do(&mut self, place: usize, first: &str, text: &'t str) -> Result<()> {
         if let Some(world) = self.world {
             self.worlds.push((world, text))?;
-        } else if first == "run" || first == "ticks" {
-            let state = self.given_state()?;
-            let machine = load(self.alloc, &state)?;
-            let want = self.given_state()?;
-            self.do_machine(place, machine, want, text)?;
-        } else if first.parse::<u8>().is_ok() {
+        } else if is_row(first) {
             let (got, want) = (self.given_state()?, self.given_state()?);
             self.do_row(place, got, want, text)?;
+        } else if first == "stretches" {
+            self.do_stretches(place, text)?;
+        } else if text.contains("->") {
+            let state = self.given_state()?;
+            let running = load(self.alloc, &state)?;
+            self.do_machine(place, running, state, text)?;
         } else {
             self.given.push(text)?;
         }
@@ -221,6 +308,15 @@ impl<'t> Reader<'t> {
         Ok(state)
     }
 
+    /// The same, with the cell that is said to differ.
+    fn given_beside(&self) -> Result<State<'t>> {
+        let mut state = self.given_state()?;
+        if let Some((at, cell)) = state.beside {
+            state.parts.memory.set_cell(at, cell);
+        }
+        Ok(state)
+    }
+
     /// A line of what is wanted of the case.
     fn want(&mut self, text: &'t str) -> Result<()> {
         let Some(case) = &mut self.case else {
@@ -229,7 +325,7 @@ impl<'t> Reader<'t> {
         case.want.apply(self.alloc, self.names.as_slice(), text)
     }
 
-    /// The case goes on.
+    /// The case goes on, with a row or a move, or where both states are given something more.
     fn go_on(&mut self, place: usize, text: &'t str) -> Result<()> {
         self.tell()?;
         let Some(case) = self.case.take() else {
@@ -237,9 +333,36 @@ impl<'t> Reader<'t> {
         };
         let Case { got, want, .. } = case;
         match got {
-            Subject::State(state) => self.do_row(place, state, want, text),
-            Subject::Machine(machine) => self.do_machine(place, machine, want, text),
+            Subject::State(state) => {
+                if is_row(text) {
+                    self.do_row(place, state, want, text)
+                } else {
+                    self.give_both(state, want, text)
+                }
+            }
+            Subject::Machine(running) => self.do_machine(place, running, want, text),
         }
+    }
+
+    /// Both states are given something more.
+    fn give_both(&mut self, mut got: State<'t>, mut want: State<'t>, text: &'t str) -> Result<()> {
+        got.apply(self.alloc, self.names.as_slice(), text)?;
+        want.apply(self.alloc, self.names.as_slice(), text)?;
+        self.case = Some(Case {
+            place: String::new(self.alloc),
+            came: String::new(self.alloc),
+            wanted: String::new(self.alloc),
+            got: Subject::State(got),
+            want,
+            single: None,
+            is_told: true,
+        });
+        Ok(())
+    }
+
+    /// Where a case stands, and which values the names of loops have there.
+    fn place(&self, line: usize) -> Result<String> {
+        Ok(format!(in self.alloc; "{}:{line}{}", self.name, self.round)?)
     }
 
     /// Does a row.
@@ -254,37 +377,64 @@ impl<'t> Reader<'t> {
         let names = self.names.as_slice();
         fill_stack(&mut got.parts.values, names, line.given)?;
         fill_stack(&mut want.parts.values, names, line.left)?;
-        let outcome = row(&mut got.parts, line.number.parse::<u8>()?, 0);
+        let (number, token) = (line.number.parse::<u8>()?, got.token);
+        let outcome = row(&mut got.parts, number, token);
         self.case = Some(Case {
-            place,
+            place: self.place(place)?,
             came: told::outcome(self.alloc, outcome)?,
-            wanted: line.wanted,
+            wanted: format!(in self.alloc; "{}", line.wanted)?,
             got: Subject::State(got),
             want,
+            single: None,
+            is_told: false,
         });
         Ok(())
     }
 
-    /// Does ticks or a run.
+    /// Does something with a machine.
     fn do_machine(
         &mut self,
         place: usize,
-        mut machine: Machine,
+        mut running: Running,
         want: State<'t>,
         text: &'t str,
     ) -> Result<()> {
         let (done, wanted) = halves(text)?;
-        let came = if let Some(most) = done.strip_prefix("ticks ") {
-            told::ticks(self.alloc, machine.ticks(most.parse::<u64>()?))?
-        } else {
-            do_run(self.alloc, &mut machine, done)?
-        };
+        let came = act(
+            self.alloc,
+            self.names.as_slice(),
+            &mut running,
+            &want.ends,
+            done,
+        )?;
         self.case = Some(Case {
-            place,
+            place: self.place(place)?,
+            came,
+            wanted: format!(in self.alloc; "{wanted}")?,
+            got: Subject::Machine(running),
+            want,
+            single: None,
+            is_told: false,
+        });
+        Ok(())
+    }
+
+    /// Does ticks in stretches, and as many single ones of another machine, which is to be in the same state.
+    fn do_stretches(&mut self, place: usize, text: &'t str) -> Result<()> {
+        let (_, most) = text.split_once(' ').context("no number")?;
+        let most = many(self.names.as_slice(), most)?;
+        let state = self.given_state()?;
+        let mut got = load(self.alloc, &state)?;
+        let mut single = load(self.alloc, &self.given_beside()?)?;
+        let (came, wanted) = stretches(self.alloc, &mut got.machine, &mut single.machine, most)?;
+        self.case = Some(Case {
+            place: self.place(place)?,
             came,
             wanted,
-            got: Subject::Machine(machine),
-            want,
+            got: Subject::Machine(got),
+            want: state,
+            single: Some(single),
+            is_told: false,
         });
         Ok(())
     }
@@ -301,8 +451,11 @@ impl<'t> Reader<'t> {
         let Some(case) = &self.case else {
             return Ok(());
         };
+        if case.is_told {
+            return Ok(());
+        }
         self.count = self.count.saturating_add(1);
-        let told = differences(self.alloc, self.name.as_str(), case)?;
+        let told = differences(self.alloc, case)?;
         if !told.is_empty() {
             self.differing = self.differing.saturating_add(1);
         }
@@ -310,34 +463,39 @@ impl<'t> Reader<'t> {
             self.report.push_str(told.as_str())?;
         } else if told.is_empty() {
             let alloc = self.alloc;
-            let line = format!(in alloc; "{}:{}: differs in nothing\n", self.name, case.place)?;
+            let line = format!(in alloc; "{}: differs in nothing\n", case.place)?;
             self.report.push_str(line.as_str())?;
         }
         Ok(())
     }
 }
 
-/// Where a case differs from what is wanted of it, line by line: in what it came to, its state, its memory.
-fn differences(alloc: Global, name: &str, case: &Case<'_>) -> Result<String> {
+/// Whether a line does a row: it begins with the row's number.
+fn is_row(text: &str) -> bool {
+    let first = text.split_whitespace().next().unwrap_or("");
+    first.parse::<u8>().is_ok()
+}
+
+/// Where a case differs from what is wanted of it, line by line: in what it came to, its state, its memory, its blocks.
+fn differences(alloc: Global, case: &Case<'_>) -> Result<String> {
     let mut text = String::new(alloc);
-    let place = case.place;
-    if case.came.as_str() != case.wanted {
-        let line = format!(in alloc;
-            "{name}:{place}: wanted {}, came to {}\n",
-            case.wanted, case.came
-        )?;
+    let place = case.place.as_str();
+    if case.came.as_str() != case.wanted.as_str() {
+        let line = format!(in alloc; "{place}: wanted {}, came to {}\n", case.wanted, case.came)?;
         text.push_str(line.as_str())?;
     }
-    let (got, want) = (case.got.told(alloc)?, state_told(alloc, &case.want)?);
+    let (got, want) = (case.got.told(alloc)?, case.wanted_told(alloc)?);
     if got.as_str() != want.as_str() {
-        let line = format!(in alloc;
-            "{name}:{place}: wanted {want}\n{name}:{place}: got    {got}\n"
-        )?;
+        let line = format!(in alloc; "{place}: wanted {want}\n{place}: got    {got}\n")?;
         text.push_str(line.as_str())?;
     }
-    if let Some(at) = first_difference(case.got.memory(), &case.want.parts.memory) {
-        let (is, wanted) = (case.got.memory().byte(at), case.want.parts.memory.byte(at));
-        let line = format!(in alloc; "{name}:{place}: at {at} wanted byte {wanted}, got {is}\n")?;
+    if let Some(at) = first_difference(case.got.memory(), case.wanted_memory()) {
+        let (is, wanted) = (case.got.memory().byte(at), case.wanted_memory().byte(at));
+        let line = format!(in alloc; "{place}: at {at} wanted byte {wanted}, got {is}\n")?;
+        text.push_str(line.as_str())?;
+    }
+    if let Some(block) = case.differing_block() {
+        let line = format!(in alloc; "{place}: block {block} isn't as wanted\n")?;
         text.push_str(line.as_str())?;
     }
     Ok(text)
@@ -349,45 +507,4 @@ fn first_difference(got: &Memory, want: &Memory) -> Option<u16> {
         return None;
     }
     (0..=65535).find(|&at| got.byte(at) != want.byte(at))
-}
-
-/// The machine of the image that a state's memory is.
-fn load(alloc: Global, state: &State<'_>) -> Result<Machine> {
-    let size = usize::from(state.size);
-    let front = state
-        .parts
-        .memory
-        .as_slice()
-        .get(..size)
-        .context("no front")?;
-    let mut bytes = Vec::new(alloc);
-    bytes.extend_from_slice(front)?;
-    let buffers = state.parts.buffers.count();
-    if bytes.len() < 256 || bytes.len() > usize::from(limit_of(buffers)) {
-        bail!("no image of {size} bytes");
-    }
-    let image = Image::new(buffers, state.entry, bytes);
-    Machine::load(alloc, &image, state.parts.block_count)
-        .ok()
-        .context("out of memory")
-}
-
-/// `run 1000 "typed"`: why it stops and what it shows.
-fn do_run(alloc: Global, machine: &mut Machine, done: &str) -> Result<String> {
-    let mut words = done.split_whitespace();
-    if words.next() != Some("run") {
-        bail!("neither ticks nor run");
-    }
-    let limit = words.next().context("no limit")?.parse::<u64>()?;
-    let typed = match done.find('"') {
-        Some(_) => unescaped(alloc, quoted(done)?)?,
-        None => Vec::new(alloc),
-    };
-    let mut reader = Reading::new(typed.as_slice());
-    let mut writer = Writing::new(Vec::new(alloc));
-    let mut device = MemoryDevice::new(Vec::new(alloc), Vec::new(alloc));
-    let stop = run(alloc, machine, &mut reader, &mut writer, &mut device, limit)
-        .ok()
-        .context("out of memory")?;
-    told::run(alloc, stop, writer.into_inner().as_slice())
 }

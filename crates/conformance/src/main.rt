@@ -4,6 +4,9 @@
 #![tactic(auto)]
 
 mod cases;
+mod ends;
+mod loops;
+mod machines;
 mod numbers;
 mod reading;
 mod state;
