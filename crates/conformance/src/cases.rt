@@ -312,7 +312,7 @@ impl<'t> Reader<'t> {
     fn given_beside(&self) -> Result<State<'t>> {
         let mut state = self.given_state()?;
         if let Some((at, cell)) = state.beside {
-            state.parts.memory.set_cell(at, cell);
+            state.parts.set_cell(at, cell);
         }
         Ok(state)
     }
