@@ -184,18 +184,25 @@ fn print_text(rt: &HostRuntime, blocks: &str, from: u16, to: u16) -> Result<u8, 
     Ok(do_text(rt.alloc(), &mut device, from, to, &mut writer).status)
 }
 
-/// Whether two names are known to mean one file.
-fn is_one_file(rt: &HostRuntime, name: &str, other: &str) -> bool {
+/// Whether two names are known to mean one file. An error: memory ran out.
+fn is_one_file(rt: &HostRuntime, name: &str, other: &str) -> io::Result<bool> {
     match (fs::canonicalize(rt, name), fs::canonicalize(rt, other)) {
-        (Ok(path), Ok(other)) => path.into_string().as_str() == other.into_string().as_str(),
-        _ => false,
+        (Ok(path), Ok(other)) => Ok(path.into_string().as_str() == other.into_string().as_str()),
+        (Err(error), _) | (_, Err(error)) => {
+            if error.kind() == ErrorKind::OutOfMemory {
+                return Err(error);
+            }
+            Ok(false)
+        }
     }
 }
 
 /// Writes the screens of the text that `screens` names. A text isn't written over by its screens.
 fn write_screens(rt: &HostRuntime, text: &str, blocks: &str) -> Result<u8, u8> {
-    if is_one_file(rt, text, blocks) {
-        return Err(say(rt, "error: the text and the blocks are one file", "", 2));
+    match is_one_file(rt, text, blocks) {
+        Ok(false) => {}
+        Ok(true) => return Err(say(rt, "error: the text and the blocks are one file", "", 2)),
+        Err(_) => return Err(out_of_memory(rt)),
     }
     let bytes = match read_file(rt, text) {
         Ok(bytes) => bytes,
