@@ -6,6 +6,7 @@ ghost use Rattle.block_buffers.specs.Calls.{Logs};
 
 use crate::assertions::assert_equal;
 use block_buffers::{Device, DeviceFault, MemoryDevice};
+use inner_interpreter::ends::FailingWriter;
 use inner_interpreter::{Reading, Writing};
 use std::alloc::Global;
 use std::test::Fail;
@@ -254,6 +255,24 @@ fn a_line_is_put(rt: HostRuntime) -> Result<(), Fail> {
         } else {
             assert!(rt; *block == [b'x'; 1024], "block {number}");
         }
+    }
+    Ok(())
+}
+
+/// `3 4 + .` and a return show 14 bytes. Where the writer takes fewer, these were written, and the status says so.
+#[test]
+fn output_that_is_cut(rt: HostRuntime) -> Result<(), Fail> {
+    let alloc = rt.alloc();
+    let image = kernel_image(alloc)?;
+    for room in 0..14usize {
+        let mut writer = FailingWriter::new(room);
+        let mut none = device(alloc, b"", &[])?;
+        let mut reader = Reading::new(b"3 4 + .\n".as_slice());
+        let image = image.as_slice();
+        let ended = do_run(alloc, image, &mut none, 1_000_000, &mut reader, &mut writer);
+        assert_equal(&rt, (room, ended.status), (room, 5));
+        let wanted = &b"3 4 + . 7  ok\n"[..room];
+        assert_equal(&rt, (room, writer.written()), (room, wanted));
     }
     Ok(())
 }

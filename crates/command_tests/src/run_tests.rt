@@ -1,10 +1,9 @@
 //! The subcommands over bytes: what they print, and the status.
 
-ghost use Rattle.std.specs.Prelude.{◌≡◌, false, None};
-
 use crate::assertions::assert_equal;
 use block_buffers::MemoryDevice;
-use inner_interpreter::{EndFault, Input, Reading, Writing};
+use inner_interpreter::ends::FailingReader;
+use inner_interpreter::{Reading, Writing};
 use std::alloc::Global;
 use subcommands::do_run;
 
@@ -145,37 +144,12 @@ fn a_line_that_is_not_written(rt: HostRuntime) {
     assert_equal(&rt, room, *b"image: Truncated\n");
 }
 
-/// Fails at its first read.
-#[derive(Drop)]
-struct FailingReader {
-    has_failed: bool,
-}
-
-impl FailingReader {
-    /// A reader of which no call has failed.
-    fn new() -> FailingReader
-        ensures { ⟦<FailingReader as Input>⟧.failed result ≡ false }
-    {
-        FailingReader { has_failed: false }
-    }
-}
-
-impl Input for FailingReader {
-    ghost unread = { λ _. None };
-
-    ghost failed = { λ r. r.has_failed };
-
-    fn byte(&mut self) -> Result<Option<u8>, EndFault> {
-        self.has_failed = true;
-        Err(EndFault)
-    }
-}
-
+/// The first KEY gets its byte, and the second one none.
 #[test]
 fn a_reader_that_fails(rt: HostRuntime) {
     let mut file = hi();
     file[EMIT] = 118;
-    let mut reader = FailingReader::new();
+    let mut reader = FailingReader::new(b'a');
     let mut writer = Writing::new(Vec::new(rt.alloc()));
     let mut none = none(rt.alloc());
     let ended = do_run(

@@ -1,7 +1,7 @@
 use crate::assertions::assert_equal;
 use block_buffers::{
-    BLOCK_SIZE, Device, DeviceFault, LINE_SIZE, MemoryDevice, delete_line, insert_line, put_line,
-    screen_line, wipe,
+    BLOCK_SIZE, Buffers, Device, DeviceFault, LINE_SIZE, MemoryDevice, delete_line, insert_line,
+    put_line, screen_line, wipe,
 };
 use std::test::Fail;
 
@@ -86,4 +86,35 @@ fn lines_of_a_screen(rt: HostRuntime) {
     assert_equal(&rt, letters(&screen), *b"+abdefghijklmno*");
     wipe(&mut screen);
     assert!(rt; screen == [b' '; BLOCK_SIZE]);
+}
+
+/// Marks the entry of a slot as written.
+fn clean(buffers: &mut Buffers, slot: usize) {
+    if slot < usize::from(buffers.count()) {
+        buffers.clean(slot);
+    }
+}
+
+#[test]
+fn updated_victim_is_written_and_given_away(rt: HostRuntime) {
+    let mut buffers = Buffers::new(4);
+    for block in 1..5 {
+        buffers.assign(block);
+        buffers.mark_front();
+    }
+    let victim = buffers.victim();
+    assert_equal(
+        &rt,
+        (victim.slot, victim.block, victim.updated),
+        (0, Some(1), true),
+    );
+    clean(&mut buffers, 0);
+    let victim = buffers.victim();
+    assert_equal(
+        &rt,
+        (victim.slot, victim.block, victim.updated),
+        (0, Some(1), false),
+    );
+    buffers.assign(5);
+    assert_equal(&rt, (buffers.find(5), buffers.find(1)), (Some(0), None));
 }

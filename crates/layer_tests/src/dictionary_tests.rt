@@ -1,8 +1,8 @@
 use crate::assertions::assert_equal;
 use dictionary::{
     AddFault, ChainTooLong, ForgetFault, Header, HeadersFault, Site, add_header, add_vocabulary,
-    compilation_address, fits, header, headers_in_order, lay_at, search, search_from,
-    search_hiding,
+    compilation_address, fits, forget, header, headers_in_order, lay_at, reveal, search,
+    search_from, search_hiding,
 };
 use memory::system::{BASE, BLK, CONTEXT, CURRENT, DP, FENCE, FORTH_VOC, LAST, VOC_LINK};
 use memory::{Memory, OutOfMemory};
@@ -253,5 +253,19 @@ fn faults_are_spelled_as_their_variants(rt: HostRuntime) -> Result<(), Fail> {
         HeadersFault::OutOfMemory
     )?;
     assert_equal(&rt, headers.as_str(), "ChainTooLong OutOfMemory");
+    Ok(())
+}
+
+#[test]
+fn header_is_revealed_and_forgotten(rt: HostRuntime) -> Result<(), Fail> {
+    let mut memory = three_words(rt.alloc())?;
+    let added = add_header(&mut memory, b"GO", 1, &[], true, LIMIT);
+    assert_equal(&rt, added, Ok(()));
+    assert_equal(&rt, search(&memory, b"GO"), Ok(Some(279)));
+    reveal(&mut memory);
+    assert_equal(&rt, search(&memory, b"GO"), Ok(Some(292)));
+    assert_equal(&rt, forget(&mut memory, b"GO"), Ok(()));
+    assert_equal(&rt, search(&memory, b"GO"), Ok(Some(279)));
+    assert_equal(&rt, memory.cell(DP), 290);
     Ok(())
 }

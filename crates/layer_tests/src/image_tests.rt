@@ -48,10 +48,13 @@ fn reads_files_of_both_versions(rt: HostRuntime) -> Result<(), Fail> {
 
 #[test]
 fn writes_version_2(rt: HostRuntime) -> Result<(), Fail> {
-    let image = read(rt.alloc(), &first_file())?;
-    match write(rt.alloc(), &image) {
-        Ok(written) => assert_equal(&rt, written.as_slice(), file().as_slice()),
-        Err(_) => assert!(rt; false, "out of memory"),
+    let files: [&[u8]; 2] = [&first_file(), &file()];
+    for bytes in files {
+        let image = read(rt.alloc(), bytes)?;
+        match write(rt.alloc(), &image) {
+            Ok(written) => assert_equal(&rt, written.as_slice(), file().as_slice()),
+            Err(_) => assert!(rt; false, "out of memory"),
+        }
     }
     Ok(())
 }

@@ -8,6 +8,8 @@ mod block_buffer_tests;
 #[cfg(test)]
 mod colon_body_tests;
 #[cfg(test)]
+mod compiling_tests;
+#[cfg(test)]
 mod dictionary_tests;
 #[cfg(test)]
 mod image_tests;
