@@ -105,9 +105,9 @@ fn literals_and_texts(rt: HostRuntime) {
         &[0xEE, 3, 0x34, 0x12, 0xF9, 3, 3, 98, 97, 100],
         310,
     );
-    // 61,130 bytes from 310 to the limit, and one more
-    assert!(rt; can_allot(&memory, 61130, LIMIT));
-    assert!(rt; !can_allot(&memory, 61131, LIMIT));
+    // The greatest signed cell, and one more than there is back to 0.
+    assert!(rt; can_allot(&memory, 32767, LIMIT));
+    assert!(rt; !can_allot(&memory, (-311i16).cast_unsigned(), LIMIT));
     let back = (-10i16).cast_unsigned();
     assert_equal(&rt, allot(&mut memory, back, LIMIT), Ok(()));
     assert_equal(&rt, memory.cell(28), 300);
