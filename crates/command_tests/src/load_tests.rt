@@ -9,7 +9,7 @@ use block_buffers::MemoryDevice;
 use image_loader::read;
 use memory::Memory;
 use memory::system::BASE;
-use resident_screens::{is_resident, load_by_machine};
+use metacompiler::{is_resident, load_by_machine};
 use std::alloc::Global;
 use std::test::Fail;
 

@@ -12,11 +12,11 @@ mod compiling_tests;
 #[cfg(test)]
 mod dictionary_tests;
 #[cfg(test)]
+mod image_builder_tests;
+#[cfg(test)]
 mod image_tests;
 #[cfg(test)]
 mod input_tests;
-#[cfg(test)]
-mod metacompiler_tests;
 #[cfg(test)]
 mod number_tests;
 #[cfg(test)]

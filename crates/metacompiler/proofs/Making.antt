@@ -1,197 +1,254 @@
--- What headers do to what was built.
-use Rattle.std.proofs.Common.{◌≡◌, ◌≢◌, ℕ, ◌+◌, ◌-◌, ◌*◌, ◌<◌, ◌≤◌, ◌⊎◌, inl, inr, zero, suc, List, [], ◌∷◌, ◌++◌, length, refl, sym, ap, ◌∙◌, subst, arith, lit≤, append_assoc, append-nil, length-append, get_or}
-use Rattle.std.specs.Prelude.{true, false, slice_index, slice_set, take, Some}
-use Rattle.std.proofs.Math.Dec.{eqb}
-use Rattle.std.proofs.Math.ListN.{set}
-use Rattle.std.proofs.lemmas.Bool.Decides.{eqb_tells}
-use Rattle.std.proofs.lemmas.List.{get_or-set_same, get_or-set_other, length-take-le}
-use Rattle.std.proofs.Math.Seq.{take-suc, take-length, set-append_seam}
-use Rattle.colon_bodies.specs.Tree.{Definition}
-use Rattle.memory.specs.Bytes.{cell_bytes}
-use Rattle.colon_bodies.specs.Code.{thread}
-use Rattle.memory.specs.declared.limit.TheConstants.{GREATEST_LIMIT}
-use Rattle.metacompiler.specs.declared.entry.Sign.TheVariants as s
-use Rattle.colon_bodies.specs.Draft.{Patches}
-use Rattle.metacompiler.specs.declared.state.Build.{Build}
-use Rattle.metacompiler.specs.declared.entry.Sign.{Sign}
-use Rattle.metacompiler.specs.declared.entry.Entry.{Entry}
-use Rattle.metacompiler.specs.declared.entry.Named.{Named}
-use Rattle.metacompiler.specs.Places.{Place}
-use Rattle.metacompiler.specs.Names.{Name, entry, stored, class_of, newest_link, newest_first, found}
-use Rattle.metacompiler.specs.declared.entry.Kind.{Kind}
-use Rattle.metacompiler.specs.declared.entry.Kind.TheVariants.{Primitive, Vocabulary}
-use Rattle.metacompiler.specs.Items.{Item, Header, Colon, Immediate, Items, Then, end_of, current, names, new_name, head, head_size, link_of, bytes, heads_of, zeros, own, passes, field, code_of, sign_of, record_bytes, newest_record, mark, controls}
-use Rattle.metacompiler.specs.Grammar.{AreSound}
-use Rattle.metacompiler.specs.Meanings.{look}
-use Rattle.metacompiler.specs.Built.{Built, Building, Headed}
-use Rattle.metacompiler.proofs.Finding.{reverse_more, head_new, head_else, no_head, heads_marked, Every, every_found}
-use Rattle.metacompiler.proofs.Imaging.{length-bytes, record_below, bytes_same, bytes_seam, bytes_marked}
-use Rattle.metacompiler.proofs.Sound.{IsName, sound_names, sound_end, none_above, sound_below}
+-- A round of the machine and its device.
+use Rattle.std.proofs.Common.{◌≡◌, ◌≢◌, ℕ, ◌+◌, zero, suc, ◌<◌, ◌==◌, ◌∷◌, [], List, length, nat_lt, Option, Some, None, Bool, true, false, refl, ap, sym, subst, ◌∙◌, if◌then◌else◌, arith}
+use Rattle.block_buffers.specs.Disks.{Disk}
+use Rattle.memory.specs.Bytes.{cell}
+use Rattle.memory.specs.declared.system.TheConstants.{FAULT}
+use Rattle.plain_rows.specs.Whole.{Whole}
+use Rattle.plain_rows.specs.Row.{After}
+use Rattle.plain_rows.specs.declared.parts.Outcome.TheVariants.{Done, Show, Byte as ByteOut, Ask as AskOut, Fault as FaultOut, Abort, Halt as HaltOut}
+use Rattle.plain_rows.specs.declared.parts.Request.{Request}
+use Rattle.plain_rows.specs.declared.parts.Request.TheVariants as request
+use Rattle.inner_interpreter.specs.declared.act.Act.{Act}
+use Rattle.inner_interpreter.specs.declared.act.Event.{Event}
+use Rattle.inner_interpreter.specs.declared.act.Event.TheVariants as event
+use Rattle.inner_interpreter.specs.declared.act.Cause.TheVariants as cause
+use Rattle.inner_interpreter.specs.declared.act.Shown.{Shown}
+use Rattle.inner_interpreter.specs.State.{State}
+use Rattle.inner_interpreter.specs.Tick.{Runs, taken, executed, by_fault, concluded, ticked, quiet}
+use Rattle.inner_interpreter.specs.Answer as answering
+use Rattle.inner_interpreter.specs.Answer.{Reply, asked_by, answered, answer_of, key_answered, line_answered, read_answered, write_answered}
+use Rattle.inner_interpreter.specs.Served.{Serves}
+use Rattle.inner_interpreter.specs.Runs.{served}
+use Rattle.metacompiler.specs.Rounds.{is_end, Stop, Ended, Limit, Fault, Halted, Asked, Out, out, is_ended, went, by_answer, by_device, by_request, by_tick, rounds, entered, then_screens, screens}
+use Rattle.metacompiler.specs.Making.{stop_by, continued, GoesOn, IsSettled, IsRound, StopsAt, IsSoFar, AreSoFar}
 
-pub built_end : {limit : ℕ} (b : Build) (t : Items) → Built limit b t → length b.image.items + 256 ≡ end_of t
-built_end b t h = ap (λ l. length l + 256) h.laid ∙ length-bytes (heads_of t) t false
+-- what an event tells of the state behind a move
+abbrev Tells : State → Event → Type 0
+Tells s event.Went = Runs s
+Tells s (event.Ask r) = (s.halt ≡ None) × (asked_by s.wait ≡ Some r)
+Tells s e = Unit {0}
 
-pub building_end : (b : Build) → Building b → length b.image.items + 256 ≤ GREATEST_LIMIT
-building_end b h = let e = built_end b h.items h.is in let s = sound_below b.limit h.is.limited h.items h.sound in omega arith
+abbrev Told : State × Act → Type 0
+Told t = Tells t.0 t.1.event
 
-pub within_image : (b : Build) → Building b → (b.current ≡ 42) ⊎ ((256 ≤ b.current) × (b.current + 10 ≤ length b.image.items + 256))
-within_image b h =
-    let e = built_end b h.items h.is in
-    let c = h.is.current_is in
-    elim ((sound_names b.limit h.items h.sound).0) [
-      | inl x ↦ inl (c ∙ x)
-      | inr r ↦ let z = record_below h.items (current h.items) r in inr (omega arith, omega arith)
-    ]
+either : (b : Bool) (x y : State × Act) → Told x → Told y → Told (if b then x else y)
+either true x y p q = p
+either false x y p q = q
 
-pub class_small : (bs : List ℕ) → class_of bs < 4
-class_small [] = omega arith
-class_small (b ∷ bs) = omega arith
+fault_told : (s : Whole) (shown : Shown) (f : ℕ) → Told (by_fault s shown f)
+unfolding by_fault
+fault_told s shown f = either (cell s.memory FAULT == 0) _ _ tt tt
 
--- the bytes once the head of the chain is the new link field
-pub headed_bytes : (limit : ℕ) (t : Items) (p : Place) (sign : Sign) (old mid : List ℕ) (at : ℕ) → AreSound limit t → old ≡ bytes (heads_of t) t false → at ≡ current t → (at ≡ 42 → mid ≡ old) → (at ≢ 42 → Patches old mid (at + 2 * class_of p.name - 256) (end_of t + 2)) → mid ≡ bytes (newest_link (new_name t p sign ∷ names t)) t false
-headed_bytes limit t p sign old mid at s o a f g =
-    let n = new_name t p sign in
-    let h = newest_link (n ∷ names t) in
-    elim ((sound_names limit t s).0) [
-      | inl x ↦ f (a ∙ x) ∙ o ∙ bytes_same (heads_of t) h t false (λ v r c. head_else (names t) n v c (λ e _. let z = record_below t v r in omega (arith, e, x)))
-      | inr r ↦
-          let z = record_below t (current t) r in
-          let k = bytes_seam (heads_of t) h t false (current t) (class_of p.name) r (class_small p.name) (λ u d e. head_else (names t) n u d e) (at + 2 * class_of p.name - 256) (omega arith) in
-          g (omega arith) k.front k.back k.was (o ∙ k.old_is) k.length_is
-          ∙ ap (λ x. k.front ++ (cell_bytes x ++ k.back)) (sym (head_new (names t) n))
-          ∙ sym k.new_is
-    ]
+concluded_told : (w : ℕ) (x : After) → Told (concluded w x)
+unfolding concluded
+concluded_told w (s, Done) = (refl, refl)
+concluded_told w (s, Show span) = (refl, refl)
+concluded_told w (s, ByteOut c) = (refl, refl)
+concluded_told w (s, AskOut r) = (refl, refl)
+concluded_told w (s, FaultOut f) = fault_told s _ f
+concluded_told w (s, Abort span) = fault_told s _ 17
+concluded_told w (s, HaltOut) = tt
 
-pub named_more : (es new : List Named) (e : Named) (n : Name) (ns : List Name) → newest_first es ≡ ns → new ≡ es ++ e ∷ [] → stored e ≡ n → newest_first new ≡ n ∷ ns
-named_more es new e n ns h i j = ap newest_first i ∙ reverse_more stored es e ∙ ap (λ m. m ∷ newest_first es) j ∙ ap (λ l. n ∷ l) h
+ticked_told : (s : Whole) → Told (ticked s)
+unfolding ticked
+ticked_told s = concluded_told (taken s).0 (executed (taken s).0 (taken s).1)
 
-pub headed_laid : {limit : ℕ} (b : Build) (t : Items) (p : Place) (sign : Sign) (code link older class : ℕ) (es : List Named) (mid new : List ℕ) → Built limit b t → AreSound limit t → link ≡ length b.image.items + 256 → class ≡ class_of p.name → es ≡ b.names.items → older ≡ newest_link (newest_first es) b.current class → (b.current ≡ 42 → mid ≡ b.image.items) → (b.current ≢ 42 → Patches b.image.items mid (b.current + 2 * class - 256) (link + 2)) → new ≡ mid ++ head older p false code → new ≡ bytes (newest_link (new_name t p sign ∷ names t)) t false ++ head (link_of t p) p false code
-headed_laid {limit} b t p sign code link older class es mid new h s l q r o f g n =
-    let at : link ≡ end_of t = l ∙ built_end b t h in
-    let k : older ≡ link_of t p = o ∙ ap (λ m. newest_link (newest_first m) b.current class) r ∙ ap (λ m. newest_link m b.current class) h.named ∙ ap (λ v. newest_link (names t) v class) h.current_is ∙ ap (λ d. newest_link (names t) (current t) d) q in
-    let P : ℕ → ℕ → Type 0 = λ a d. Patches b.image.items mid (b.current + 2 * d - 256) (a + 2) in
-    let g' : b.current ≢ 42 → P (end_of t) (class_of p.name) = λ ne. subst (λ a. P a (class_of p.name)) at (subst (λ d. P link d) q (g ne)) in
-    n ∙ ap (λ x. mid ++ head x p false code) k ∙ ap (λ x. x ++ head (link_of t p) p false code) (headed_bytes limit t p sign b.image.items mid b.current s h.laid h.current_is f g')
+answered_told : (s : Whole) (p : Request × ℕ) (reply : Reply) → Told (answered s p reply)
+unfolding answered key_answered line_answered read_answered write_answered
+answered_told s p (answering.Key c) = either (nat_lt 256 (length (c ∷ s.values))) _ _ (fault_told s _ _) (refl, refl)
+answered_told s p (answering.Line bytes returned) = either (nat_lt (length s.values) 2) _ _ (fault_told s _ _) (refl, refl)
+answered_told s p answering.InputEnd = tt
+answered_told s p answering.InputFault = tt
+answered_told s p (answering.ReadOk page) = (refl, refl)
+answered_told s p answering.ReadFault = fault_told s _ _
+answered_told s p answering.WriteOk = (refl, refl)
+answered_told s p answering.WriteFault = fault_told s _ _
 
-pub headed_named : {limit : ℕ} (b : Build) (t : Items) (p : Place) (sign : Sign) (link : ℕ) (es : List Named) (e : Named) → Built limit b t → link ≡ length b.image.items + 256 → es ≡ b.names.items ++ e ∷ [] → stored e ≡ record { name = p.name; vocabulary = b.current; link = link + 2; immediate = false; sign = sign } → newest_first es ≡ new_name t p sign ∷ names t
-headed_named b t p sign link es e h l i j =
-    let at : link ≡ end_of t = l ∙ built_end b t h in
-    let N : ℕ → ℕ → Name = λ v a. record { name = p.name; vocabulary = v; link = a + 2; immediate = false; sign = sign } in
-    named_more b.names.items es e (new_name t p sign) (names t) h.named i (j ∙ ap (λ v. N v link) h.current_is ∙ ap (λ a. N (current t) a) at)
+answer_told : (s : State) (r : Request) (reply : Reply) → asked_by s.wait ≡ Some r → Told (answer_of s reply)
+unfolding answer_of
+answer_told s r reply e = by_wait s.wait e where
+  by_wait : (w : Option (Request × ℕ)) → asked_by w ≡ Some r → Told (elim w [ Some p ↦ answered s.parts p reply | None ↦ (s, quiet) ])
+  by_wait None q = absurd (cc)
+  by_wait (Some p) q = answered_told s.parts p reply
 
--- an item of which the state but the image is as before
-pub laid_more : (t : Items) (ws : List Place) (i : Item) (old new more : List ℕ) → old ≡ bytes (heads_of t) t false → passes i false ≡ false → heads_of (Then t ws i) ≡ heads_of t → new ≡ old ++ more → more ≡ own (heads_of t) t i false → new ≡ bytes (heads_of (Then t ws i)) (Then t ws i) false
-laid_more t ws i old new more o p h n m =
-    n ∙ ap (λ l. l ++ more) o ∙ ap (λ l. bytes (heads_of t) t false ++ l) m
-    ∙ ap (λ b. bytes (heads_of t) t b ++ own (heads_of t) t i false) (sym p)
-    ∙ ap (λ g. bytes g (Then t ws i) false) (sym h)
+-- nothing is asked
+abbrev pub NoAsk : Event → Type 0
+NoAsk (event.Ask r) = ⊥
+NoAsk e = Unit {0}
 
--- a header's item, from the state behind its code field
-pub field_laid : {limit : ℕ} (b : Build) (t : Items) (ws : List Place) (p : Place) (k : Kind) (new more : List ℕ) → Headed limit b t p (sign_of k) (code_of k) → new ≡ b.image.items ++ more → more ≡ field (heads_of (Then t ws (Header p k))) t (end_of t + head_size p) k → new ≡ bytes (heads_of (Then t ws (Header p k))) (Then t ws (Header p k)) false
-field_laid b t ws p k new more h n m =
-    let g = heads_of (Then t ws (Header p k)) in
-    n ∙ ap (λ l. l ++ more) h.laid ∙ append_assoc (bytes g t false) (head (link_of t p) p false (code_of k)) more
-    ∙ ap (λ l. bytes g t false ++ (head (link_of t p) p false (code_of k) ++ l)) m
+stop_goes : (s : State) (e : Event) → Tells s e → GoesOn s (stop_by s e)
+stop_goes s event.Went h = by_end (is_ended s.parts) where
+  by_end : (b : Bool) → GoesOn s (if b then Some Ended else None)
+  by_end true = h
+  by_end false = h
+stop_goes s (event.Ask r) h = tt
+stop_goes s (event.Fault f) h = tt
+stop_goes s (event.Halt cause.Bye) h = tt
+stop_goes s (event.Halt cause.InputEnded) h = tt
+stop_goes s (event.Halt cause.InputFault) h = tt
+stop_goes s (event.Halt (cause.Fault f)) h = tt
 
-pub zeros_more : (n : ℕ) → zeros n ++ 0 ∷ [] ≡ zeros (suc n)
-zeros_more zero = refl
-zeros_more (suc n) = ap (λ l. 0 ∷ l) (zeros_more n)
+went_is : (left : ℕ) (go : Whole → Disk → Out) (s : State) (d : Disk) → went left go s.parts d ≡ continued left go s d (stop_by s event.Went)
+went_is left go s d = by_end (is_ended s.parts) where
+  by_end : (b : Bool) → (if b then out s.parts d left Ended else go s.parts d) ≡ continued left go s d (if b then Some Ended else None)
+  by_end true = refl
+  by_end false = refl
 
--- the heads of a vocabulary that is just made are 0
-zero_cell : cell_bytes 0 ≡ zeros 2
-unfolding cell_bytes
-zero_cell = refl
+answer_is : (left : ℕ) (go : Whole → Disk → Out) (s : State) (d : Disk) (e : Event) → by_answer left go s d e ≡ continued left go s d (stop_by s e)
+answer_is left go s d event.Went = went_is left go s d
+answer_is left go s d (event.Ask r) = refl
+answer_is left go s d (event.Fault f) = refl
+answer_is left go s d (event.Halt c) = refl
 
-pub new_record : (limit : ℕ) (t : Items) (ws : List Place) (p : Place) → 256 ≤ limit → AreSound limit t → zeros 8 ++ cell_bytes (newest_record t) ≡ record_bytes (heads_of (Then t ws (Header p Vocabulary))) (end_of t + head_size p) (newest_record t)
-new_record limit t ws p e s =
-    let v = end_of t + head_size p in
-    let ns = names (Then t ws (Header p Vocabulary)) in
-    let n = length-bytes (heads_of t) t false in
-    let c : current t ≢ v = λ q. elim ((sound_names limit t s).0) [ inl x ↦ absurd (omega arith) | inr r ↦ let z = record_below t (current t) r in absurd (omega arith) ] in
-    let h : (d : ℕ) → newest_link ns v d ≡ 0 = λ d. no_head ns v d (c, none_above limit t v s (omega arith) (omega arith)) in
-    let z = zero_cell in
-    let o = cell_bytes (newest_record t) in
-    sym (ap (λ x. cell_bytes x ++ (cell_bytes (newest_link ns v 1) ++ (cell_bytes (newest_link ns v 2) ++ (cell_bytes (newest_link ns v 3) ++ o)))) (h 0)
-    ∙ ap (λ x. cell_bytes 0 ++ (cell_bytes x ++ (cell_bytes (newest_link ns v 2) ++ (cell_bytes (newest_link ns v 3) ++ o)))) (h 1)
-    ∙ ap (λ x. cell_bytes 0 ++ (cell_bytes 0 ++ (cell_bytes x ++ (cell_bytes (newest_link ns v 3) ++ o)))) (h 2)
-    ∙ ap (λ x. cell_bytes 0 ++ (cell_bytes 0 ++ (cell_bytes 0 ++ (cell_bytes x ++ o)))) (h 3)
-    ∙ ap (λ l. l ++ (l ++ (l ++ (l ++ o)))) z)
+tick_is : (left : ℕ) (go : Whole → Disk → Out) (s : State) (d : Disk) (e : Event) → NoAsk e → by_tick left go s d e ≡ continued left go s d (stop_by s e)
+tick_is left go s d event.Went h = went_is left go s d
+tick_is left go s d (event.Ask r) h = absurd h
+tick_is left go s d (event.Fault f) h = refl
+tick_is left go s d (event.Halt c) h = refl
 
-ext : (f g : ℕ → ℕ) → ((k : ℕ) → f k ≡ g k) → f ≡ g
-ext f g h = λ i k. h k i
+-- an answer of the device
+settled : (left : ℕ) (s new : State) (d : Disk) (r : Request) (unread : Option (List ℕ)) (disk : Option Disk) (act : Act)
+    → asked_by s.wait ≡ Some r → ((go : Whole → Disk → Out) → by_request left go s d r ≡ by_device left go s d r)
+    → Serves s r [] d new unread disk act → IsSettled left s d r new disk (stop_by new act.event)
+settled left s new d r unread disk act asks on h =
+    let a = served s r [] d in
+    let t = answer_of s a.reply in
+    let n : new ≡ t.0 = ap (λ v. v.0) h.answers in
+    let e : act ≡ t.1 = ap (λ v. v.1) h.answers in
+    let c : IsSettled left s d r t.0 disk (stop_by t.0 t.1.event) = record {
+      told = a.disk;
+      disk_is = h.disk_is;
+      step_is = λ go. on go ∙ answer_is left go t.0 a.disk t.1.event;
+      goes = stop_goes t.0 t.1.event (answer_told s r a.reply asks);
+    } in
+    rw (n, e) c
 
-pub runtime_more : (r : List ℕ) (t : Items) (ws : List Place) (p : Place) (n x : ℕ) → slice_index r ≡ controls t → n < length r → x ≡ end_of t + (5 + length p.name) → slice_index (slice_set r n x) ≡ controls (Then t ws (Header p (Primitive n)))
-runtime_more r t ws p n x h lt e = ext _ _ (λ k. at k (eqb_tells k n))
-  where
-    at : (k : ℕ) → ((eqb k n ≡ true) × (k ≡ n)) ⊎ ((eqb k n ≡ false) × (k ≢ n)) → slice_index (slice_set r n x) k ≡ controls (Then t ws (Header p (Primitive n))) k
-    at k (inl z) =
-        let b = z.0 in
-        ap (slice_index (slice_set r n x)) z.1 ∙ get_or-set_same r n x 0 lt ∙ e ∙ rw b refl
-    at k (inr z) =
-        let b = z.0 in
-        get_or-set_other r n k x 0 z.1 ∙ ap (λ f. f k) h ∙ rw b refl
+pub read_settled : (left : ℕ) (s new : State) (d : Disk) (u : ℕ) (unread : Option (List ℕ)) (disk : Option Disk) (act : Act)
+    → asked_by s.wait ≡ Some (request.Read u) → 0 < left → Serves s (request.Read u) [] d new unread disk act → IsSettled left s d (request.Read u) new disk (stop_by new act.event)
+read_settled zero s new d u unread disk act asks some h = absurd (omega (arith, some))
+read_settled (suc n) s new d u unread disk act asks some h = settled (suc n) s new d (request.Read u) unread disk act asks (λ go. let e : (suc n == 0) ≡ false = grind arith in ap (λ b. if b then out s.parts d (suc n) Limit else by_device (suc n) go s d (request.Read u)) e) h
 
--- IMMEDIATE
-pub last_of : {X : Type 0} (es : List X) (i : ℕ) (d : X) → i + 1 ≡ length es → es ≡ take i es ++ get_or es i d ∷ []
-last_of es i d e =
-    let n : suc i ≡ length es = omega arith in
-    sym (ap (λ j. take j es) n ∙ take-length es) ∙ take-suc es i d (omega arith)
+pub write_settled : (left : ℕ) (s new : State) (d : Disk) (u : ℕ) (unread : Option (List ℕ)) (disk : Option Disk) (act : Act)
+    → asked_by s.wait ≡ Some (request.Write u) → 0 < left → Serves s (request.Write u) [] d new unread disk act → IsSettled left s d (request.Write u) new disk (stop_by new act.event)
+write_settled zero s new d u unread disk act asks some h = absurd (omega (arith, some))
+write_settled (suc n) s new d u unread disk act asks some h = settled (suc n) s new d (request.Write u) unread disk act asks (λ go. let e : (suc n == 0) ≡ false = grind arith in ap (λ b. if b then out s.parts d (suc n) Limit else by_device (suc n) go s d (request.Write u)) e) h
 
-pub marked_names : (es : List Named) (i : ℕ) (y : Named) → i + 1 ≡ length es → y ≡ get_or es i y → newest_first (set es i (record y { immediate = true })) ≡ mark (newest_first es)
-marked_names es i y l h =
-    let front = take i es in
-    let e : Named = record y { immediate = true } in
-    let s : es ≡ front ++ y ∷ [] = last_of es i y l ∙ ap (λ x. front ++ x ∷ []) (sym h) in
-    let m : length front ≡ i = length-take-le i es (omega arith) in
-    let t : set es i e ≡ front ++ e ∷ [] = ap (λ k. set es k e) (sym m) ∙ ap (λ l. set l (length front) e) s ∙ set-append_seam front y [] e in
-    ap newest_first t ∙ reverse_more stored front e
-    ∙ sym (ap mark (ap newest_first s ∙ reverse_more stored front y))
+-- where nothing is answered
+abbrev pub stop_of : (left : ℕ) → Request → Option Stop
+stop_of left (request.Read u) = if left == 0 then Some Limit else None
+stop_of left (request.Write u) = if left == 0 then Some Limit else None
+stop_of left r = Some Asked
 
-pub newest_is : (es : List Named) (i : ℕ) (d : Named) → i + 1 ≡ length es → newest_first es ≡ stored (get_or es i d) ∷ newest_first (take i es)
-newest_is es i d l = ap newest_first (last_of es i d l) ∙ reverse_more stored (take i es) (get_or es i d)
+none_some : (y : Stop) → None ≡ Some y → ⊥
+none_some y e = absurd (cc)
 
-pub colon_laid : {limit : ℕ} (b : Build) (t : Items) (ws : List Place) (p : Place) (body : Definition) (new more : List ℕ) → Headed limit b t p s.Plain 1 → new ≡ b.image.items ++ more → more ≡ thread (controls t) body (end_of t + head_size p) → new ≡ bytes (heads_of (Then t ws (Colon p body))) (Then t ws (Colon p body)) false
-colon_laid b t ws p body new more h n m =
-    let g = heads_of (Then t ws (Colon p body)) in
-    n ∙ ap (λ l. l ++ more) h.laid ∙ append_assoc (bytes g t false) (head (link_of t p) p false 1) more
-    ∙ ap (λ l. bytes g t false ++ (head (link_of t p) p false 1 ++ l)) m
+pub unsettled : (left : ℕ) (s : State) (d : Disk) (r : Request) (disk : Option Disk) (y : Stop) → stop_of left r ≡ Some y → disk ≡ Some d → GoesOn s (Some y) → IsSettled left s d r s disk (Some y)
+unsettled zero s d (request.Read u) disk y e q h = record { told = d; disk_is = q; step_is = λ go. ap (λ v. out s.parts d 0 v) cc; goes = h }
+unsettled (suc n) s d (request.Read u) disk y e q h = let z : (suc n == 0) ≡ false = grind arith in absurd (none_some y (ap (λ b. if b then Some Limit else None) (sym z) ∙ e))
+unsettled zero s d (request.Write u) disk y e q h = record { told = d; disk_is = q; step_is = λ go. ap (λ v. out s.parts d 0 v) cc; goes = h }
+unsettled (suc n) s d (request.Write u) disk y e q h = let z : (suc n == 0) ≡ false = grind arith in absurd (none_some y (ap (λ b. if b then Some Limit else None) (sym z) ∙ e))
+unsettled left s d request.Key disk y e q h = record { told = d; disk_is = q; step_is = λ go. ap (λ v. out s.parts d left v) cc; goes = h }
+unsettled left s d (request.Line n) disk y e q h = record { told = d; disk_is = q; step_is = λ go. ap (λ v. out s.parts d left v) cc; goes = h }
 
--- IMMEDIATE's byte
-pub immediate_laid : {limit : ℕ} (b : Build) (t : Items) (ws : List Place) (n : Name) (ns : List Name) (place : ℕ) → Built limit b t → names t ≡ n ∷ ns → place + 254 ≡ n.link → set b.image.items place (192 + length n.name) ≡ bytes (heads_of (Then t ws Immediate)) (Then t ws Immediate) false
-immediate_laid b t ws n ns place h e q =
-    let m = bytes_marked (heads_of t) t n ns e place q in
-    let x = 192 + length n.name in
-    ap (λ l. set l place x) (h.laid ∙ m.old_is) ∙ ap (λ k. set (m.front ++ (m.was ∷ m.back)) k x) (sym m.length_is) ∙ set-append_seam m.front m.was m.back x ∙ sym m.new_is
-    ∙ bytes_same (heads_of t) (heads_of (Then t ws Immediate)) t true (λ v r c. sym (heads_marked (names t) v c))
-    ∙ sym (append-nil (bytes (heads_of (Then t ws Immediate)) t true))
+-- a tick that asked
+pub asked_waits : (s : Whole) (new : State) (act : Act) (r : Request) → (new, act) ≡ ticked s → act.event ≡ event.Ask r → (new.halt ≡ None) × (asked_by new.wait ≡ Some r)
+asked_waits s new act r t e =
+    let n : new ≡ (ticked s).0 = ap (λ v. v.0) t in
+    let a : (ticked s).1.event ≡ event.Ask r = ap (λ v. v.1.event) (sym t) ∙ e in
+    let h : Tells (ticked s).0 (event.Ask r) = subst (λ v. Tells (ticked s).0 v) a (ticked_told s) in
+    rw n h
 
-pub immediate_within : {limit : ℕ} (b : Build) (t : Items) (n : Name) (ns : List Name) (place : ℕ) → Built limit b t → names t ≡ n ∷ ns → place + 254 ≡ n.link → place < length b.image.items
-immediate_within b t n ns place h e q =
-    let m = bytes_marked (heads_of t) t n ns e place q in
-    let l = m.length_is in
-    omega (arith, ap length (h.laid ∙ m.old_is), length-append m.front (m.was ∷ m.back), l)
+pub round_asked : (left : ℕ) (s : Whole) (mid new : State) (act : Act) (d : Disk) (r : Request) (disk : Option Disk) (y : Option Stop)
+    → (mid, act) ≡ ticked s → act.event ≡ event.Ask r → IsSettled left mid d r new disk y → IsRound left s d new disk y
+round_asked left s mid new act d r disk y t e h =
+    let n : (ticked s).0 ≡ mid = ap (λ v. v.0) (sym t) in
+    let a : (ticked s).1.event ≡ event.Ask r = ap (λ v. v.1.event) (sym t) ∙ e in
+    record {
+      told = h.told;
+      disk_is = h.disk_is;
+      step_is = λ go. ap (λ v. by_tick left go (ticked s).0 d v) a ∙ ap (λ v. by_request left go v d r) n ∙ h.step_is go;
+      goes = h.goes;
+    }
 
--- the newest name is short, and its byte lies in the image
-pub newest_name : (b : Build) (h : Building b) (xs : List Named) (x : Entry) (ns : List Name) → xs ≡ b.names.items → newest_first xs ≡ entry x ∷ ns → names h.items ≡ entry x ∷ ns
-newest_name b h xs x ns q e = let i = h.is in sym i.named ∙ ap newest_first (sym q) ∙ e
+-- a tick that didn't ask
+pub round_made : (left : ℕ) (s : Whole) (new : State) (act : Act) (d : Disk) (disk : Option Disk) (y : Option Stop)
+    → (new, act) ≡ ticked s → NoAsk act.event → disk ≡ Some d → y ≡ stop_by new act.event → IsRound left s d new disk y
+round_made left s new act d disk y t silent q e =
+    let n : new ≡ (ticked s).0 = ap (λ v. v.0) t in
+    let a : act ≡ (ticked s).1 = ap (λ v. v.1) t in
+    let silent' : NoAsk (ticked s).1.event = subst (λ (v : Act). NoAsk v.event) a silent in
+    let c : IsRound left s d (ticked s).0 disk (stop_by (ticked s).0 (ticked s).1.event) = record {
+      told = d;
+      disk_is = q;
+      step_is = λ go. tick_is left go (ticked s).0 d (ticked s).1.event silent';
+      goes = stop_goes (ticked s).0 (ticked s).1.event (ticked_told s);
+    } in
+    rw e (rw (n, a) c)
 
-pub newest_facts : (b : Build) (h : Building b) (x : Name) (ns : List Name) → names h.items ≡ x ∷ ns → (length x.name < 32) × (258 ≤ x.link) × (x.link - 254 < length b.image.items)
-newest_facts b h x ns e =
-    let g = (subst (λ l. Every (IsName h.items) l) e (sound_names b.limit h.items h.sound).1).0 in
-    let a = g.above in
-    (g.short, g.above, immediate_within b h.items x ns (x.link - 254) h.is e (omega arith))
+-- the rounds so far
+pub none_so_far : (s : State) (d : Disk) (disk : Option Disk) (left : ℕ) → Runs s → disk ≡ Some d → IsSoFar (rounds left s.parts d) s disk left
+none_so_far s d disk left h q = record { told = d; disk_is = q; same = refl; goes = h }
 
--- a name that was found lies below the end
-pub found_fits : (b : Build) (h : Building b) (xs : List Named) (bs : List ℕ) (n : Name) → xs ≡ b.names.items → Some n ≡ found b.current bs (newest_first xs) → (length n.name < 32) × (n.link + 3 + length n.name + 2 ≤ GREATEST_LIMIT)
-found_fits b h xs bs n q e =
-    let i = h.is in
-    let f : found (current h.items) bs (names h.items) ≡ Some n =
-    sym (e ∙ ap (λ l. found b.current bs (newest_first l)) q ∙ ap (λ l. found b.current bs l) i.named ∙ ap (λ v. found v bs (names h.items)) i.current_is) in
-    let g = every_found (IsName h.items) (current h.items) bs (names h.items) n (sound_names b.limit h.items h.sound).1 f in
-    let a = g.below in
-    let z = sound_below b.limit h.is.limited h.items h.sound in
-    (g.short, omega arith)
+pub more_so_far : (o : Out) (s new : State) (disk disk' : Option Disk) (n : ℕ) → IsSoFar o s disk (suc n)
+    → ((d : Disk) → disk ≡ Some d → Runs s → IsRound n s.parts d new disk' None) → IsSoFar o new disk' n
+unfolding rounds
+more_so_far o s new disk disk' n h r =
+    let c = r h.told h.disk_is h.goes in
+    record { told = c.told; disk_is = c.disk_is; same = sym (c.step_is (λ u e. rounds n u e)) ∙ h.same; goes = c.goes }
 
-pub found_look : {limit : ℕ} (b : Build) (t : Items) (p : Place) (xs : List Named) (n : Name) → Built limit b t → xs ≡ b.names.items → Some n ≡ found b.current p.name (newest_first xs) → Some n ≡ look t p
-found_look b t p xs n i q e =
-    e ∙ ap (λ l. found b.current p.name (newest_first l)) q ∙ ap (λ l. found b.current p.name l) i.named ∙ ap (λ v. found v p.name (names t)) i.current_is
+pub stops_so_far : (o : Out) (s new : State) (disk disk' : Option Disk) (n : ℕ) (y : Stop) → IsSoFar o s disk (suc n)
+    → ((d : Disk) → disk ≡ Some d → Runs s → IsRound n s.parts d new disk' (Some y)) → StopsAt o new disk' n y
+unfolding rounds
+stops_so_far o s new disk disk' n y h r =
+    let c = r h.told h.disk_is h.goes in
+    record { told = c.told; disk_is = c.disk_is; stop_is = sym h.same ∙ c.step_is (λ u e. rounds n u e); goes = c.goes }
+
+pub all_so_far : (o : Out) (s : State) (disk : Option Disk) → IsSoFar o s disk 0 → StopsAt o s disk 0 Limit
+unfolding rounds
+all_so_far o s disk h = record { told = h.told; disk_is = h.disk_is; stop_is = sym h.same; goes = tt }
+
+-- the screens so far
+pub none_read : (w count screen : ℕ) (s : State) (d : Disk) (disk : Option Disk) (left : ℕ) → Runs s → disk ≡ Some d → AreSoFar w count screen (screens w count screen left s.parts d) s disk left
+none_read w count screen s d disk left h q = record { told = d; disk_is = q; same = refl; goes = h }
+
+pub one_read : (w more screen : ℕ) (o : Out) (s new : State) (disk disk' : Option Disk) (left left' : ℕ) → AreSoFar w (suc more) screen o s disk left
+    → ((d : Disk) → disk ≡ Some d → Runs s → StopsAt (rounds left (entered s.parts w screen) d) new disk' left' Ended) → AreSoFar w more (screen + 1) o new disk' left'
+unfolding then_screens
+one_read w more screen o s new disk disk' left left' h r =
+    let c = r h.told h.disk_is h.goes in
+    record { told = c.told; disk_is = c.disk_is; same = sym (ap (then_screens w more (screen + 1)) c.stop_is) ∙ h.same; goes = c.goes }
+
+stopped_stays : (w more screen : ℕ) (s : Whole) (d : Disk) (left : ℕ) (y : Stop) → y ≢ Ended → then_screens w more screen (out s d left y) ≡ out s d left y
+unfolding then_screens
+stopped_stays w zero screen s d left y n = refl
+stopped_stays w (suc more) screen s d left Ended n = absurd (n refl)
+stopped_stays w (suc more) screen s d left Limit n = refl
+stopped_stays w (suc more) screen s d left (Fault f) n = refl
+stopped_stays w (suc more) screen s d left Halted n = refl
+stopped_stays w (suc more) screen s d left Asked n = refl
+
+pub stops_reading : (w more screen : ℕ) (o : Out) (s new : State) (disk disk' : Option Disk) (left left' : ℕ) (y : Stop) → AreSoFar w (suc more) screen o s disk left
+    → ((d : Disk) → disk ≡ Some d → Runs s → StopsAt (rounds left (entered s.parts w screen) d) new disk' left' y) → y ≢ Ended → StopsAt o new disk' left' y
+unfolding then_screens
+stops_reading w more screen o s new disk disk' left left' y h r n =
+    let c = r h.told h.disk_is h.goes in
+    record {
+      told = c.told;
+      disk_is = c.disk_is;
+      stop_is = sym h.same ∙ ap (then_screens w more (screen + 1)) c.stop_is ∙ stopped_stays w more (screen + 1) new.parts c.told left' y n;
+      goes = c.goes;
+    }
+
+pub all_read : (w screen : ℕ) (o : Out) (s : State) (disk : Option Disk) (left : ℕ) → AreSoFar w 0 screen o s disk left → StopsAt o s disk left Ended
+unfolding then_screens
+all_read w screen o s disk left h = record { told = h.told; disk_is = h.disk_is; stop_is = sym h.same; goes = h.goes }
+
+pub at_end : (y : Stop) → is_end y ≡ true → y ≡ Ended
+at_end Ended e = refl
+at_end Limit e = cc
+at_end (Fault f) e = cc
+at_end Halted e = cc
+at_end Asked e = cc
+
+pub before_end : (y : Stop) → is_end y ≡ false → y ≢ Ended
+before_end y e q = let w : is_end y ≡ true = ap is_end q in let z : true ≡ false = sym w ∙ e in cc

@@ -1,83 +1,58 @@
--- A whole source on a device: what is built of it, and why it is refused.
-use Rattle.std.specs.Prelude.{◌≡◌, ℕ, false, ◌+◌, ◌-◌, ◌<◌, ◌≤◌, ◌⊎◌, List, ◌++◌, length, take, drop, Option, Some}
-use Rattle.block_buffers.specs.Disks.{Disk, succeeds}
-use Rattle.image_loader.specs.Files.{Contents}
-use Rattle.memory.specs.Bytes.{limit_of}
-use Rattle.source_words.specs.Words.{SourceWord, source_words}
-use Rattle.metacompiler.specs.declared.cause.BuildFault.{BuildFault}
-use Rattle.metacompiler.specs.declared.cause.Cause.{Cause}
-use Rattle.metacompiler.specs.declared.cause.Cause.TheVariants as c
-use Rattle.metacompiler.specs.Places.{Place}
-use Rattle.metacompiler.specs.Spelled.{all_placed}
-use Rattle.metacompiler.specs.Items.{Items, image}
-use Rattle.metacompiler.specs.Stages.{Stage, IsFront}
-use Rattle.metacompiler.specs.Faults.{IsFault, IsGood}
+-- Screens that hold colon definitions alone, and the memory with all of them.
+use Rattle.std.specs.Prelude.{◌≡◌, ◌≤◌, ◌<◌, ◌+◌, ℕ, false, true, List, [], ◌∷◌, ◌++◌, length, None}
+use Rattle.memory.specs.Bytes.{cell}
+use Rattle.memory.specs.declared.system.TheConstants.{DP, CURRENT}
+use Rattle.colon_bodies.specs.Tokens.{SEMI, AreShort}
+use Rattle.colon_bodies.specs.Tree.{Definition, all_words, all_depth}
+use Rattle.colon_bodies.specs.Code.{all_size}
+use Rattle.colon_bodies.specs.declared.words.Half.TheVariants.{Free}
+use Rattle.source_words.specs.Modes.{begins_body, begins_comment}
+use Rattle.source_words.specs.Words.{SourceWord}
+use Rattle.image_builder.specs.Spelled.{keyword}
+use Rattle.resident_bodies.specs.Definitions.{laid_definition}
+use Rattle.metacompiler.specs.Meaning.{Means}
 
--- the disk after k reads, each of which uses up a coming result
-abbrev pub after_reads : ℕ → Disk → Disk
-after_reads k d = record { blocks = d.blocks; coming = drop k d.coming }
+-- a definition: the screen of its name, the name, and what is behind it
+pub record ColonDefinition : Type 0 where
+  pub screen : ℕ
+  pub title : List ℕ
+  pub body : Definition
 
--- n screens from a number on
-abbrev pub screens : Disk → (from n : ℕ) → List (List ℕ)
-screens d from n = take n (drop from d.blocks)
+-- memory with one definition more, and with more of them
+abbrev pub laid_one : List ℕ → ColonDefinition → List ℕ
+laid_one m e = laid_definition m e.screen e.title e.body
 
--- the words of the screens from..to
-abbrev pub source_of : Disk → (from to : ℕ) → List SourceWord
-source_of d from to = source_words from (screens d from (to + 1 - from))
+abbrev pub laid_all : List ℕ → List ColonDefinition → List ℕ
+laid_all m [] = m
+laid_all m (e ∷ es) = laid_all (laid_one m e) es
 
--- the device has all these screens
-abbrev pub AreThere : Disk → (from to : ℕ) → Type 0
-AreThere d from to = from ≤ to → to < length d.blocks
+-- a name that is neither a keyword nor `:`
+pub record IsFree (name : List ℕ) : Type 0 where
+  pub colon : begins_body name ≡ false
+  pub comment : begins_comment name ≡ false
+  pub keyword_none : (text : List ℕ) → keyword name text ≡ None
 
--- what a device did: the disk, and its count of failures before and after
-pub record Done : Type 0 where
-  pub disk : Option Disk
-  pub before : ℕ
-  pub after : ℕ
+-- These words begin with a definition, which fits below the limit; its words are looked up in the memory before it. No
+-- `:` is the last word of its screen.
+pub record Defines (limit : ℕ) (m : List ℕ) (ws : List SourceWord) (e : ColonDefinition) (rest : List SourceWord)
+    : Type 0 where
+  pub colon : SourceWord
+  pub name : SourceWord
+  pub inner : List SourceWord
+  pub is : ws ≡ colon ∷ name ∷ inner
+  pub begins : begins_body colon.name ≡ true
+  pub beside : name.screen ≡ colon.screen
+  pub screen : name.screen ≡ e.screen
+  pub title : name.name ≡ e.title
+  pub short : length e.title < 32
+  pub free : IsFree e.title
+  pub means : Means m (cell m CURRENT) Free inner (all_words e.body ++ SEMI ∷ []) rest
+  pub shallow : all_depth e.body ≤ 64
+  pub texts : AreShort (all_words e.body)
+  pub room : cell m DP + (7 + length e.title + (all_size e.body + 2)) ≤ limit
 
--- nothing is wrong with these words, whatever comes behind them
-pub record IsFaultless (limit : ℕ) (source : List SourceWord) : Type 0 where
-  pub items : Items
-  pub words : List Place
-  pub stage : Stage
-  pub front : IsFront limit (all_placed source) items words stage
-
--- the source is good, its image for so many buffers is this one, and each of its screens was read once
-pub record IsBuiltOf (count : ℕ) (d : Disk) (from to : ℕ) (built : Contents) (done : Done) : Type 0 where
-  pub there : AreThere d from to
-  pub buffers : built.buffers ≡ count
-  pub items : Items
-  pub good : IsGood (limit_of count) (all_placed (source_of d from to)) items built.entry
-  pub is : built.bytes ≡ image items
-  pub disk : done.disk ≡ Some (after_reads (to + 1 - from) d)
-  pub failures : done.after ≡ done.before
-
--- the device has this screen, and behind one read each of the screens before it a read of it fails
-abbrev pub CantBeRead : Disk → (from screen : ℕ) → Type 0
-CantBeRead d from screen = (screen < length d.blocks) × (succeeds (after_reads (screen - from) d) screen ≡ false)
-
--- a screen that isn't the device's, before which k were read; or one that couldn't be read, the last of the k
-abbrev pub IsUnread : Disk → (from k screen : ℕ) → Done → Type 0
-IsUnread d from k screen done =
-    ((length d.blocks ≤ screen) × (from + k ≡ screen) × (done.after ≡ done.before))
-    ⊎ (CantBeRead d from screen × (from + k ≡ screen + 1) × (done.after ≡ done.before + 1))
-
--- why it is refused, once k screens were read: want of memory, a screen, the end of all screens, or a word. That is the
--- first fault of every source that begins with the words of these k, and before the last of these was read none was known
-abbrev pub Because : ℕ → Disk → (from to k screen offset : ℕ) → Cause → Done → Type 0
-Because limit d from to k screen offset c.OutOfMemory done = (screen ≡ from) × (offset ≡ 0) × (done.after ≡ done.before)
-Because limit d from to k screen offset c.Device done =
-    (offset ≡ 0) × (from ≤ screen) × (screen ≤ to) × IsUnread d from k screen done × IsFaultless limit (source_words from (screens d from (screen - from)))
-Because limit d from to k screen offset c.EndsInside done =
-    (k ≡ to + 1 - from) × AreThere d from to × (done.after ≡ done.before) × IsFault limit (all_placed (source_of d from to)) to screen offset c.EndsInside
-Because limit d from to k screen offset c.NoBoot done =
-    (k ≡ to + 1 - from) × AreThere d from to × (done.after ≡ done.before) × IsFault limit (all_placed (source_of d from to)) to screen offset c.NoBoot
-Because limit d from to k screen offset cause done =
-    (done.after ≡ done.before) × IsFaultless limit (source_words from (screens d from (k - 1))) × ((rest : List SourceWord) → IsFault limit (all_placed (source_words from (screens d from k) ++ rest)) to screen offset cause)
-
--- it is refused after one read each of the first k of the screens, in order
-pub record IsRefused (limit : ℕ) (d : Disk) (from to : ℕ) (e : BuildFault) (done : Done) : Type 0 where
-  pub k : ℕ
-  pub few : k ≤ to + 1 - from
-  pub disk : done.disk ≡ Some (after_reads k d)
-  pub because : Because limit d from to k e.screen e.offset e.cause done
+-- the words of screens are these definitions, one behind the other
+abbrev pub AreDefined : (limit : ℕ) → List ℕ → List SourceWord → List ColonDefinition → Type 0
+AreDefined limit m ws [] = ws ≡ []
+AreDefined limit m ws (e ∷ es) =
+    (rest : List SourceWord) × Defines limit m ws e rest × AreDefined limit (laid_one m e) rest es

@@ -1,22 +1,13 @@
-//! The metacompiler: screens of source are built to an image.
+//! Screens compiled to an image: by the rules of a source (`build`), or by the running image itself (`load_by_machine`);
+//! and that both lay the same, as laws.
 #![tactic(auto)]
 
-mod body;
-mod building;
-mod cause;
-mod entry;
-mod header;
-mod image;
+mod checking;
 pub mod laws;
-mod make;
-mod name;
-mod reading;
-mod source;
-mod spelled;
-mod spot;
-mod state;
-mod take;
+mod load;
+mod rounds;
 
-pub use building::build;
-pub use cause::{BuildFault, Cause};
-pub use spelled::keyword;
+pub use checking::is_resident;
+pub use image_builder::{BuildFault, Cause, build};
+pub use load::{LoadFault, load_by_machine};
+pub use rounds::Stop;

@@ -7,7 +7,7 @@ use Rattle.plain_rows.specs.Row.{After, fault}
 use Rattle.plain_rows.specs.Table.{control, stack, cells, doubles, memory}
 use Rattle.plain_rows.specs.declared.faults.TheConstants.{UNKNOWN_CODE}
 use Rattle.primitives.specs.Table.{devices, numbers, input, compiling, editor, row}
-use Rattle.metacompiler.specs.Grammar.{is_gap}
+use Rattle.image_builder.specs.Grammar.{is_gap}
 
 -- another number's row is passed over
 above : (n k : ℕ) (x y : After) → k < n → (if n == k then x else y) ≡ y

@@ -16,20 +16,20 @@ use Rattle.colon_bodies.specs.Tree.{Definition}
 use Rattle.colon_bodies.specs.Code.{all_size, all_code, thread}
 use Rattle.colon_bodies.proofs.Cells.{length-cell, patched}
 use Rattle.colon_bodies.proofs.Laying.{length-all}
-use Rattle.metacompiler.specs.Places.{Place}
-use Rattle.metacompiler.specs.Names.{Name, class_of, newest_link}
-use Rattle.metacompiler.specs.declared.entry.Sign.TheVariants as s
-use Rattle.metacompiler.specs.Items.{Colon, Items, Then, end_of, current, names, new_name, controls, newest_record, head, head_size, link_of, zeros, bytes as item_bytes, heads_of, last_link, system, low, image}
-use Rattle.metacompiler.specs.Grammar.{IsLimit, AreSound}
-use Rattle.metacompiler.specs.Built.{IsRecord}
-use Rattle.metacompiler.specs.Headers.{memory_of}
-use Rattle.metacompiler.proofs.Imaging.{length-zeros, record_below, bytes_seam}
-use Rattle.metacompiler.proofs.Looping.{length-low}
-use Rattle.metacompiler.proofs.Sound.{sound_names, sound_below, end_above}
-use Rattle.metacompiler.proofs.Making.{headed_bytes}
-use Rattle.metacompiler.proofs.Headers.{length-image, system_cell, control_cell}
-use Rattle.metacompiler.proofs.Finding.{head_new, head_else}
-use Rattle.metacompiler.proofs.Chained.{head_is, class_is, class_below, vocabulary_below, length-memory}
+use Rattle.image_builder.specs.Places.{Place}
+use Rattle.image_builder.specs.Names.{Name, class_of, newest_link}
+use Rattle.image_builder.specs.declared.entry.Sign.TheVariants as s
+use Rattle.image_builder.specs.Items.{Colon, Items, Then, end_of, current, names, new_name, controls, newest_record, head, head_size, link_of, zeros, bytes as item_bytes, heads_of, last_link, system, low, image}
+use Rattle.image_builder.specs.Grammar.{IsLimit, AreSound}
+use Rattle.image_builder.specs.Built.{IsRecord}
+use Rattle.image_builder.specs.Headers.{memory_of}
+use Rattle.image_builder.proofs.Imaging.{length-zeros, record_below, bytes_seam}
+use Rattle.image_builder.proofs.Looping.{length-low}
+use Rattle.image_builder.proofs.Sound.{sound_names, sound_below, end_above}
+use Rattle.image_builder.proofs.Making.{headed_bytes}
+use Rattle.image_builder.proofs.Headers.{length-image, system_cell, control_cell}
+use Rattle.image_builder.proofs.Finding.{head_new, head_else}
+use Rattle.image_builder.proofs.Chained.{head_is, class_is, class_below, vocabulary_below, length-memory}
 use Rattle.resident_bodies.specs.Definitions.{Opens, laid_definition}
 use Rattle.resident_bodies.proofs.Controls.{thread_same}
 

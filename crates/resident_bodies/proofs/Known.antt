@@ -23,7 +23,7 @@ use Rattle.primitives.specs.Interpret.{compiles_past}
 use Rattle.primitives.specs.Defining.{lays_past}
 use Rattle.primitives.specs.Compiling.{compiles, resolves}
 use Rattle.primitives.specs.Table.{devices, numbers, input, compiling, editor, row}
-use Rattle.metacompiler.specs.Grammar.{is_gap}
+use Rattle.image_builder.specs.Grammar.{is_gap}
 use Rattle.resident_bodies.proofs.Gaps.{row_of_control, row_of_stack, row_of_cells, row_of_doubles, row_of_memory, row_of_devices, row_of_numbers, row_of_input, row_of_compiling, row_of_editor}
 use Rattle.plain_rows.specs.Control.{colon_code as row_1, variable_code as row_2, constant_code as row_3, vocabulary_code as row_4, exit as row_5, lit as row_6, branch as row_7, zero_branch as row_8, begin_loop as row_9, next_loop as row_10, step_loop as row_11, leave_loop as row_12, index as row_13, outer_index as row_14, execute as row_15, show_inline as row_16, abort_inline as row_17, run_does as row_18, compile as row_19, to_r as row_20, from_r as row_21, r_fetch as row_22, bye as row_23, r_clear as row_24, s_clear as row_25, raise as row_26, noop as row_27}
 use Rattle.plain_rows.specs.Stack.{dup as row_32, drop_cell as row_33, swap as row_34, over as row_35, rot as row_36, pick as row_37, roll as row_38, question_dup as row_39, depth as row_40, two_drop as row_41, two_dup as row_42, two_over as row_43, two_rot as row_44, two_swap as row_45}

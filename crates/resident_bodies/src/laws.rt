@@ -24,10 +24,10 @@ ghost use Rattle.colon_bodies.specs.Tokens.{Token, NAME, NUMBER, DOUBLE, TEXT, t
 ghost use Rattle.colon_bodies.specs.Tree.{Body, Definition, Tick, all_words};
 ghost use Rattle.colon_bodies.specs.Code.{all_size};
 ghost use Rattle.colon_bodies.specs.Open.{Outer, At, open_size, read};
-ghost use Rattle.metacompiler.specs.Places.{Place};
-ghost use Rattle.metacompiler.specs.Items.{Items, Then, Colon, end_of};
-ghost use Rattle.metacompiler.specs.Grammar.{IsLimit, AreSound, is_gap};
-ghost use Rattle.metacompiler.specs.Headers.{memory_of};
+ghost use Rattle.image_builder.specs.Places.{Place};
+ghost use Rattle.image_builder.specs.Items.{Items, Then, Colon, end_of};
+ghost use Rattle.image_builder.specs.Grammar.{IsLimit, AreSound, is_gap};
+ghost use Rattle.image_builder.specs.Headers.{memory_of};
 ghost use Rattle.resident_bodies.specs.Definitions.{Opens, Agrees, laid_definition};
 ghost use Rattle.resident_bodies.specs.Words.{lays, lays_all, row_of};
 ghost use Rattle.resident_bodies.specs.Drafts.{Draft, Bodied};

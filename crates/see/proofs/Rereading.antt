@@ -10,7 +10,7 @@ use Rattle.colon_bodies.specs.Tree.{named}
 use Rattle.colon_bodies.specs.Rules.{half_after}
 use Rattle.colon_bodies.specs.declared.words.Half.{Half}
 use Rattle.colon_bodies.specs.declared.words.Half.TheVariants.{Free, Ticked, Forced, Compiling, Both}
-use Rattle.metacompiler.specs.Spelled.{keyword, naming, choosing, repeating, counting, saying, ending, sense_of_word}
+use Rattle.image_builder.specs.Spelled.{keyword, naming, choosing, repeating, counting, saying, ending, sense_of_word}
 use Rattle.see.specs.PlainWords.{IsPlainWord, ArePlainWords}
 use Rattle.see.specs.Extent.{controls_of}
 use Rattle.see.specs.Naming.{name_at, is_meant, IsReadableWord, AreReadableWords}

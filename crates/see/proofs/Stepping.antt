@@ -7,7 +7,7 @@ use Rattle.source_words.specs.Modes.{takes_text, begins_comment, ends_body, name
 use Rattle.source_words.specs.Spaced.{bare, IsStep, is_plain_word}
 use Rattle.source_words.proofs.Colons.{plain_word_step}
 use Rattle.colon_bodies.specs.Tokens.{Token, TICK, FORCE, COMPILE, TEXT, DOES, SEMI}
-use Rattle.metacompiler.specs.Spelled.{keyword, naming, choosing, repeating, counting, saying, ending, either_token}
+use Rattle.image_builder.specs.Spelled.{keyword, naming, choosing, repeating, counting, saying, ending, either_token}
 use Rattle.see.specs.Naming.{is_word}
 use Rattle.see.specs.Printing.{is_keyword}
 

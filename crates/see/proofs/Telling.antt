@@ -13,8 +13,8 @@ use Rattle.colon_bodies.specs.Tokens.{Token, NAME, NUMBER}
 use Rattle.colon_bodies.specs.Plain.{IsPlainCell}
 use Rattle.colon_bodies.specs.declared.words.Half.{Half}
 use Rattle.colon_bodies.specs.declared.words.Half.TheVariants.{Free, Ticked, Forced, Compiling, Both}
-use Rattle.metacompiler.specs.Places.{Plain, Keyword, Figure, Wide}
-use Rattle.metacompiler.specs.Spelled.{keyword, naming, choosing, repeating, counting, saying, ending, sense_of_word, figure_of, text_of}
+use Rattle.image_builder.specs.Places.{Plain, Keyword, Figure, Wide}
+use Rattle.image_builder.specs.Spelled.{keyword, naming, choosing, repeating, counting, saying, ending, sense_of_word, figure_of, text_of}
 use Rattle.see.specs.Naming.{number_text, is_word, gives, gives_none, is_meant, is_free, name_at}
 use Rattle.see.specs.Printing.{gives_immediate, is_forced, is_keyword}
 use Rattle.see.specs.Extent.{controls_of}

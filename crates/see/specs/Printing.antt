@@ -7,7 +7,7 @@ use Rattle.colon_bodies.specs.Plain.{respelled}
 use Rattle.dictionary.specs.Header.{is_immediate}
 use Rattle.dictionary.specs.Search.{Sought, Found, Nowhere, TooLong, sought_hiding}
 use Rattle.source_words.specs.Modes.{begins_comment}
-use Rattle.metacompiler.specs.Spelled.{keyword}
+use Rattle.image_builder.specs.Spelled.{keyword}
 use Rattle.see.specs.Naming.{name_at, number_text}
 
 -- a word that a body reads as a keyword, or as the beginning of a comment

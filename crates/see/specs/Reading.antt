@@ -11,8 +11,8 @@ use Rattle.colon_bodies.specs.Tree.{Definition}
 use Rattle.colon_bodies.specs.Rules.{half_after}
 use Rattle.colon_bodies.specs.declared.words.Half.{Half}
 use Rattle.colon_bodies.specs.declared.words.Half.TheVariants.{Free, Compiling}
-use Rattle.metacompiler.specs.Places.{Sense, Keyword, Figure, Wide}
-use Rattle.metacompiler.specs.Spelled.{sense_of_word, text_of}
+use Rattle.image_builder.specs.Places.{Sense, Keyword, Figure, Wide}
+use Rattle.image_builder.specs.Spelled.{sense_of_word, text_of}
 use Rattle.see.specs.Extent.{controls_of}
 use Rattle.see.specs.Printing.{its_words}
 

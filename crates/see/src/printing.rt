@@ -13,8 +13,8 @@ use crate::naming::{is_free, is_quotable, is_word, meant, name_if, number_text};
 use crate::refusal::SeeRefused;
 use colon_bodies::BodyWord;
 use dictionary::{header_at, is_immediate};
+use image_builder::keyword;
 use memory::Memory;
-use metacompiler::keyword;
 use std::alloc::{AllocError, Global};
 
 /// Whether a word is one that a body reads as a keyword, or as the beginning of a comment.

@@ -7,8 +7,8 @@ use Rattle.image_loader.specs.declared.fault.ImageFault.{ImageFault}
 use Rattle.image_loader.specs.declared.fault.ImageFault.TheVariants as image
 use Rattle.image_loader.specs.declared.upgrading.UpgradeFault.{UpgradeFault}
 use Rattle.image_loader.specs.declared.upgrading.UpgradeFault.TheVariants as upgrade
-use Rattle.metacompiler.specs.declared.cause.Cause.{Cause}
-use Rattle.metacompiler.specs.declared.cause.Cause.TheVariants as build
+use Rattle.image_builder.specs.declared.cause.Cause.{Cause}
+use Rattle.image_builder.specs.declared.cause.Cause.TheVariants as build
 use Rattle.see.specs.declared.refusal.SeeRefused.{SeeRefused}
 use Rattle.see.specs.declared.refusal.SeeRefused.TheVariants as see
 use Rattle.see.specs.declared.refusal.ViewRefused.{ViewRefused}

@@ -9,10 +9,10 @@ use Rattle.dictionary.specs.Search.{sought}
 use Rattle.subcommands.specs.Causes.{build_cause, debug_cause, view_cause, see_cause, upgrade_cause}
 use Rattle.image_loader.specs.Files.{Contents, IsWritten}
 use Rattle.image_loader.specs.declared.upgrading.UpgradeFault.TheVariants as upgrade
-use Rattle.metacompiler.specs.Sources.{Done, IsRefused}
-use Rattle.metacompiler.specs.declared.cause.BuildFault.{BuildFault}
-use Rattle.metacompiler.specs.declared.cause.Cause.{Cause}
-use Rattle.metacompiler.specs.declared.cause.Cause.TheVariants as build
+use Rattle.image_builder.specs.Sources.{Done, IsRefused}
+use Rattle.image_builder.specs.declared.cause.BuildFault.{BuildFault}
+use Rattle.image_builder.specs.declared.cause.Cause.{Cause}
+use Rattle.image_builder.specs.declared.cause.Cause.TheVariants as build
 use Rattle.memory.specs.Bytes.{front_put, zeros, limit_of}
 use Rattle.see.specs.Seeing.{IsSeen}
 use Rattle.see.specs.View.{viewed}

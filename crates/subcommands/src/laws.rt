@@ -6,9 +6,9 @@ ghost use Rattle.dictionary.specs.Search.{sought};
 ghost use Rattle.image_loader.specs.Files.{Contents};
 ghost use Rattle.inner_interpreter.specs.State.{start};
 ghost use Rattle.memory.specs.Bytes.{IsCount};
-ghost use Rattle.metacompiler.specs.Places.{Place};
-ghost use Rattle.metacompiler.specs.Headers.{titled};
-ghost use Rattle.metacompiler.specs.Sources.{Done, IsBuiltOf};
+ghost use Rattle.image_builder.specs.Places.{Place};
+ghost use Rattle.image_builder.specs.Headers.{titled};
+ghost use Rattle.image_builder.specs.Sources.{Done, IsBuiltOf};
 ghost use Rattle.see.specs.View.{viewed};
 ghost use Rattle.see.specs.declared.refusal.ViewRefused.TheVariants.{NotFound};
 

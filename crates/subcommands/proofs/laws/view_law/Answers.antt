@@ -2,11 +2,11 @@ use Rattle.std.proofs.Common.{ap, ◌∙◌, ℕ, arith}
 use Rattle.std.specs.Prelude.{Ok}
 use Rattle.memory.specs.Bytes.{IsCount, limit_of, front_put}
 use Rattle.memory.proofs.Limits.{limit_least, limit_most}
-use Rattle.metacompiler.specs.Grammar.{IsLimit}
+use Rattle.image_builder.specs.Grammar.{IsLimit}
 use Rattle.memory.specs.Bytes as memory
 use Rattle.dictionary.specs.Search.{sought}
-use Rattle.metacompiler.specs.Headers.{memory_of}
-use Rattle.metacompiler.proofs.Chained.{image_view, image_no_view}
+use Rattle.image_builder.specs.Headers.{memory_of}
+use Rattle.image_builder.proofs.Chained.{image_view, image_no_view}
 use Rattle.see.specs.View.{viewed}
 use Rattle.subcommands.proofs.laws.view_law.Goals as goal
 

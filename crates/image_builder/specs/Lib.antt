@@ -1,0 +1,14 @@
+pub mod Places
+pub mod Spelled
+pub mod Names
+pub mod Items
+pub mod Meanings
+pub mod Grammar
+pub mod Stages
+pub mod Faults
+pub mod Built
+pub mod Headers
+pub mod Causes
+pub mod State
+pub mod Sources
+pub mod Reading

@@ -1,0 +1,73 @@
+-- What a word means where it stands.
+use Rattle.std.proofs.Math.Dec.{ltb}
+use Rattle.std.specs.Prelude.{ℕ, Bool, false, cond, ◌||◌, ◌&&◌, List, [], ◌∷◌, Option, Some, None, Result, Ok, Err, codes}
+use Rattle.std.specs.Str.{bytes_eq}
+use Rattle.colon_bodies.specs.Tokens.{Token, NAME, NUMBER, DOUBLE}
+use Rattle.colon_bodies.specs.declared.words.Half.{Half}
+use Rattle.colon_bodies.specs.declared.words.Half.TheVariants.{Free, Compiling}
+use Rattle.image_builder.specs.Places.{Place, Sense, Plain, Keyword, Figure, Wide, Remark}
+use Rattle.image_builder.specs.Names.{Name, address, found}
+use Rattle.image_builder.specs.Items.{Items, current, names, record_of}
+use Rattle.image_builder.specs.declared.entry.Sign.{Sign}
+use Rattle.image_builder.specs.declared.cause.Cause.{Cause}
+use Rattle.colon_bodies.specs.Rules as rules
+use Rattle.image_builder.specs.declared.entry.Sign.TheVariants as g
+use Rattle.image_builder.specs.declared.cause.Cause.TheVariants as c
+
+-- what a word's name stands for behind these items
+abbrev pub look : Items → Place → Option Name
+look t p = found (current t) p.name (names t)
+
+-- the record of the vocabulary that a name stands for
+abbrev pub if_record : Sign → ℕ → Option ℕ
+if_record g.Record v = Some v
+if_record _ v = None
+
+abbrev pub record_if : Option Name → Option ℕ
+record_if None = None
+record_if (Some n) = if_record n.sign (record_of n)
+
+abbrev pub record_named : Items → Place → Option ℕ
+record_named t p = cond (bytes_eq p.name (codes "FORTH")) (Some 42) (record_if (look t p))
+
+-- the controls that only a keyword or a number lays
+abbrev pub is_inner : Sign → Bool
+is_inner (g.Control n) = (ltb 5 n && ltb n 12) || (ltb 15 n && ltb n 19)
+is_inner _ = false
+
+-- a name that can't stand behind what is half read
+abbrev pub is_barred : Half → Name → Bool
+is_barred Free n = n.immediate || is_inner n.sign
+is_barred Compiling n = n.immediate
+is_barred _ n = false
+
+-- what a word is in a body that isn't a name's
+abbrev pub unnamed : Sense → Result Token Cause
+unnamed (Keyword w) = Ok w
+unnamed (Figure n) = Ok (NUMBER n)
+unnamed (Wide n) = Ok (DOUBLE n)
+unnamed Remark = Err c.Misplaced
+unnamed Plain = Err c.Unknown
+
+abbrev pub name_first : Half → Option Name → Sense → Result Token Cause
+name_first h (Some n) s = cond (is_barred h n) (Err c.Misplaced) (Ok (NAME (address n)))
+name_first h None s = unnamed s
+
+-- behind ['] and [COMPILE] a word is a name first, elsewhere a keyword
+abbrev pub sense_of : Half → Option Name → Sense → Result Token Cause
+sense_of Free n (Keyword w) = Ok w
+sense_of Compiling n (Keyword w) = Ok w
+sense_of h n s = name_first h n s
+
+-- what a word is in a body, behind what is half read
+abbrev pub meaning : Half → Items → Place → Result Token Cause
+meaning h t p = sense_of h (look t p) p.inner
+
+-- what words are in a body, each behind what those before it leave half read
+abbrev pub half_past : Half → Result Token Cause → Half
+half_past h (Ok w) = rules.half_after h w
+half_past h (Err e) = h
+
+abbrev pub meanings : Half → Items → List Place → List (Result Token Cause)
+meanings h t [] = []
+meanings h t (p ∷ ps) = meaning h t p ∷ meanings (half_past h (meaning h t p)) t ps

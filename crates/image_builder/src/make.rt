@@ -1,0 +1,201 @@
+//! What each item lays.
+
+ghost use Rattle.std.specs.Prelude.{◌≡◌, ◌≢◌, false, ℕ, ◌+◌, ◌-◌, ◌<◌, ◌≤◌, ◌++◌, List, [], ◌∷◌, take, length, OnOk, IfErr};
+ghost use Rattle.colon_bodies.specs.Tree.{Definition};
+ghost use Rattle.memory.specs.Bytes.{cell_bytes};
+ghost use Rattle.colon_bodies.specs.Code.{thread};
+ghost use Rattle.colon_bodies.specs.declared.words.Half.TheVariants.{Free};
+ghost use Rattle.image_builder.specs.Places.{Place, place, IsTitle};
+ghost use Rattle.image_builder.specs.Names.{entry, newest_first};
+ghost use Rattle.image_builder.specs.Items.{Items, Then, Header, Cell, Byte, Allot, Immediate, Definitions, Boot, Colon, mark, zeros, controls, end_of, head_size};
+ghost use Rattle.image_builder.specs.Grammar.{AreSound};
+ghost use Rattle.image_builder.specs.Built.{Built, Building};
+ghost use Rattle.image_builder.specs.declared.cause.Cause.TheVariants.{OutOfMemory};
+ghost use Rattle.image_builder.specs.declared.entry.Kind.TheVariants as k;
+
+use crate::cause::Cause;
+use crate::entry::{Entry, Named, Sign, lent};
+use crate::header::{here, make_header};
+use crate::spot::Spot;
+use crate::state::{Build, Title};
+use colon_bodies::{Half, lay_cell};
+
+/// CREATE lays a header with code field 2.
+pub fn make_create(b: &mut Build, p: Spot) -> Result<(), Cause>
+    requires building { Building b.old }
+    requires short { length p.name.now < 32 }
+    ensures built { (limit : ℕ) (t : Items) (ws : List Place) → Built limit b.old t → AreSound limit t → OnOk result (Built limit b.new (Then t ws (Header (place p.entry) k.Create))) }
+    ensures kept { OnOk result (b.new.draft ≡ b.old.draft) }
+    ensures memory { IfErr result (λ e. e ≡ OutOfMemory) }
+{
+    make_header(b, p.screen, p.name, Sign::Plain, 2)?;
+    Ok(())
+}
+
+/// VARIABLE lays a header with code field 2, and the cell 0.
+pub fn make_variable(b: &mut Build, p: Spot) -> Result<(), Cause>
+    requires building { Building b.old }
+    requires short { length p.name.now < 32 }
+    ensures built { (limit : ℕ) (t : Items) (ws : List Place) → Built limit b.old t → AreSound limit t → OnOk result (Built limit b.new (Then t ws (Header (place p.entry) k.Variable))) }
+    ensures kept { OnOk result (b.new.draft ≡ b.old.draft) }
+    ensures memory { IfErr result (λ e. e ≡ OutOfMemory) }
+{
+    make_header(b, p.screen, p.name, Sign::Plain, 2)?;
+    lay_cell(&mut b.image, 0)?;
+    Ok(())
+}
+
+/// CONSTANT lays a header with code field 3, and its value.
+pub fn make_constant(b: &mut Build, p: Spot, n: u16) -> Result<(), Cause>
+    requires building { Building b.old }
+    requires short { length p.name.now < 32 }
+    ensures built { (limit : ℕ) (t : Items) (ws : List Place) → Built limit b.old t → AreSound limit t → OnOk result (Built limit b.new (Then t ws (Header (place p.entry) (k.Constant n)))) }
+    ensures kept { OnOk result (b.new.draft ≡ b.old.draft) }
+    ensures memory { IfErr result (λ e. e ≡ OutOfMemory) }
+{
+    make_header(b, p.screen, p.name, Sign::Plain, 3)?;
+    lay_cell(&mut b.image, n)?;
+    Ok(())
+}
+
+/// PRIM lays a header with the primitive's number as its code field.
+pub fn make_primitive(b: &mut Build, p: Spot, n: u16) -> Result<(), Cause>
+    requires building { Building b.old }
+    requires short { length p.name.now < 32 }
+    requires number { n < 256 }
+    ensures built { (limit : ℕ) (t : Items) (ws : List Place) → Built limit b.old t → AreSound limit t → OnOk result (Built limit b.new (Then t ws (Header (place p.entry) (k.Primitive n)))) }
+    ensures kept { OnOk result (b.new.draft ≡ b.old.draft) }
+    ensures memory { IfErr result (λ e. e ≡ OutOfMemory) }
+{
+    let at = here(b);
+    make_header(b, p.screen, p.name, Sign::Control(n), n)?;
+    b.runtime[n as usize] = at + 5 + p.name.len() as u16;
+    Ok(())
+}
+
+/// Lays the record of a vocabulary: four chain heads, and the link to the next older record.
+pub fn lay_record(image: &mut Vec<u8>, older: u16) -> Result<(), Cause>
+    ensures bytes { OnOk result (image.new.items ≡ image.old.items ++ (zeros 8 ++ cell_bytes older)) }
+    ensures memory { IfErr result (λ e. e ≡ OutOfMemory) }
+{
+    lay_zeros(image, 8)?;
+    lay_cell(image, older)?;
+    Ok(())
+}
+
+/// VOCABULARY lays a header with code field 4, and a record.
+pub fn make_vocabulary(b: &mut Build, p: Spot) -> Result<(), Cause>
+    requires building { Building b.old }
+    requires short { length p.name.now < 32 }
+    ensures built { (limit : ℕ) (t : Items) (ws : List Place) → Built limit b.old t → AreSound limit t → OnOk result (Built limit b.new (Then t ws (Header (place p.entry) k.Vocabulary))) }
+    ensures kept { OnOk result (b.new.draft ≡ b.old.draft) }
+    ensures memory { IfErr result (λ e. e ≡ OutOfMemory) }
+{
+    let at = here(b);
+    make_header(b, p.screen, p.name, Sign::Record, 4)?;
+    lay_record(&mut b.image, b.newest_record)?;
+    b.newest_record = at + 7 + p.name.len() as u16;
+    Ok(())
+}
+
+/// `,` lays a cell.
+pub fn comma(b: &mut Build, n: u16) -> Result<(), Cause>
+    ensures built { (limit : ℕ) (t : Items) (ws : List Place) → Built limit b.old t → OnOk result (Built limit b.new (Then t ws (Cell n))) }
+    ensures kept { OnOk result (b.new.draft ≡ b.old.draft) }
+    ensures memory { IfErr result (λ e. e ≡ OutOfMemory) }
+{
+    lay_cell(&mut b.image, n)?;
+    Ok(())
+}
+
+/// `C,` lays the low byte.
+pub fn char_comma(b: &mut Build, n: u16) -> Result<(), Cause>
+    ensures built { (limit : ℕ) (t : Items) (ws : List Place) → Built limit b.old t → OnOk result (Built limit b.new (Then t ws (Byte n))) }
+    ensures kept { OnOk result (b.new.draft ≡ b.old.draft) }
+    ensures memory { IfErr result (λ e. e ≡ OutOfMemory) }
+{
+    b.image.push((n % 256) as u8)?;
+    Ok(())
+}
+
+/// Lays zero bytes.
+pub fn lay_zeros(image: &mut Vec<u8>, n: u16) -> Result<(), Cause>
+    ensures bytes { OnOk result (image.new.items ≡ image.old.items ++ zeros n) }
+    ensures memory { IfErr result (λ e. e ≡ OutOfMemory) }
+{
+    for _ in 0..n {
+        image.push(0)?;
+    }
+    Ok(())
+}
+
+/// ALLOT lays zero bytes.
+pub fn allot(b: &mut Build, n: u16) -> Result<(), Cause>
+    ensures built { (limit : ℕ) (t : Items) (ws : List Place) → Built limit b.old t → OnOk result (Built limit b.new (Then t ws (Allot n))) }
+    ensures kept { OnOk result (b.new.draft ≡ b.old.draft) }
+    ensures memory { IfErr result (λ e. e ≡ OutOfMemory) }
+{
+    lay_zeros(&mut b.image, n)?;
+    Ok(())
+}
+
+/// DEFINITIONS sends later headers to a vocabulary.
+pub fn set_definitions(b: &mut Build, vocabulary: u16)
+    ensures built { (limit : ℕ) (t : Items) (ws : List Place) → Built limit b.old t → Built limit b.new (Then t ws (Definitions vocabulary)) }
+    ensures kept { b.new.draft ≡ b.old.draft }
+{
+    b.current = vocabulary;
+}
+
+/// BOOT sets the entry.
+pub fn set_boot(b: &mut Build, w: u16)
+    ensures built { (limit : ℕ) (t : Items) (ws : List Place) → Built limit b.old t → Built limit b.new (Then t ws (Boot w)) }
+    ensures kept { b.new.draft ≡ b.old.draft }
+{
+    b.boot = Some(w);
+}
+
+/// The newest name.
+pub fn newest(names: &[Named]) -> Entry<'_>
+    requires { 0 < length names.now }
+    ensures { newest_first names.now ≡ entry result ∷ newest_first (take (length names.now - 1) names.now) }
+{
+    lent(&names[names.len() - 1])
+}
+
+/// Makes the newest name immediate.
+fn mark_newest(names: &mut Vec<Named>)
+    requires { 0 < length names.old.items }
+    ensures { newest_first names.new.items ≡ mark (newest_first names.old.items) }
+{
+    let i = names.len() - 1;
+    names[i].immediate = true;
+}
+
+/// Marks the newest header.
+pub fn set_immediate(b: &mut Build)
+    requires building { Building b.old }
+    requires named { 0 < length b.old.names.items }
+    ensures built { (limit : ℕ) (t : Items) (ws : List Place) → Built limit b.old t → Built limit b.new (Then t ws Immediate) }
+    ensures kept { b.new.draft ≡ b.old.draft }
+{
+    let e = newest(b.names.as_slice());
+    b.image[e.link as usize - 254] = 192 + e.name.len() as u8;
+    mark_newest(&mut b.names);
+}
+
+/// Lays a definition, of which the body was drafted.
+pub fn make_colon(b: &mut Build, p: &Title) -> Result<(), Cause>
+    requires building { Building b.old }
+    requires short { length p.now.name.items < 32 }
+    ensures built { (limit : ℕ) (t : Items) (ws : List Place) (body : Definition) (q : Place) → IsTitle p.now.screen p.now.name.items q → Built limit b.old t → AreSound limit t → b.old.draft.image.items ≡ thread (controls t) body (end_of t + head_size q) → OnOk result (Built limit b.new (Then t ws (Colon q body))) }
+    ensures cleared { OnOk result ((b.new.draft.image.items ≡ []) × (b.new.draft.marks.items ≡ b.old.draft.marks.items) × (b.new.draft.half ≡ Free) × (b.new.draft.is_past ≡ false)) }
+    ensures memory { IfErr result (λ e. e ≡ OutOfMemory) }
+{
+    make_header(b, p.screen, p.name.as_slice(), Sign::Plain, 1)?;
+    b.image.extend_from_slice(b.draft.image.as_slice())?;
+    b.draft.image.clear();
+    b.draft.half = Half::Free;
+    b.draft.is_past = false;
+    Ok(())
+}

@@ -1,0 +1,144 @@
+//! The screens of a source, read one at a time, and their words taken one by one.
+
+ghost use Rattle.std.specs.Prelude.{◌≡◌, ℕ, ◌<◌, ◌++◌, [], ◌∷◌, List, Some, length, OnOk};
+ghost use Rattle.block_buffers.specs.Calls.{failures};
+ghost use Rattle.block_buffers.specs.Disks.{Disk};
+ghost use Rattle.source_words.specs.Words.{SourceWord, screen_words};
+ghost use Rattle.source_words.specs.Scanned.{source_word};
+ghost use Rattle.image_builder.specs.Reading.{Holds, IsHeld, Takes, TakesAll, TakesScreen, TakesScreens, refusal, settled};
+ghost use Rattle.image_builder.specs.declared.reading.Stop.TheVariants as stop;
+
+use crate::cause::{BuildFault, Cause};
+use crate::source::take;
+use crate::spelled::spot_of;
+use crate::state::{Begun, Build};
+use block_buffers::{BLOCK_SIZE, Device};
+use source_words::{Mode, Scanner, Word};
+use std::mem;
+
+/// A source that is read in part: what was built of it, and what is begun of an item.
+#[derive(Drop)]
+pub struct Compilation {
+    /// What was built so far.
+    pub build: Build,
+    /// What is begun of an item.
+    pub begun: Begun,
+}
+
+/// Why the reading of a source stopped.
+#[derive(Clone, Copy, Debug, PartialEq, Eq)]
+pub enum Stop {
+    /// This screen isn't there, or could not be read.
+    Device(u16),
+    /// A word is at fault, or memory was not found.
+    Word(BuildFault),
+}
+
+impl From<BuildFault> for Stop {
+    ghost from_gives = { λ f e. e ≡ stop.Word f };
+
+    fn from(fault: BuildFault) -> Stop {
+        Stop::Word(fault)
+    }
+}
+
+/// A fault as the caller is told of it: want of memory is told of the first screen.
+fn settle(fault: BuildFault, from: u16) -> BuildFault
+    ensures { result ≡ settled fault.screen fault.offset fault.cause from }
+{
+    match fault.cause {
+        Cause::OutOfMemory => BuildFault {
+            screen: from,
+            offset: 0,
+            cause: Cause::OutOfMemory,
+        },
+        _ => fault,
+    }
+}
+
+impl Stop {
+    /// The refusal of a source whose first screen this is.
+    pub fn refusal(self, from: u16) -> BuildFault
+        ensures { result ≡ refusal self from }
+    {
+        match self {
+            Stop::Device(screen) => BuildFault {
+                screen,
+                offset: 0,
+                cause: Cause::Device,
+            },
+            Stop::Word(fault) => settle(fault, from),
+        }
+    }
+}
+
+impl Compilation {
+    /// Takes one more word.
+    fn take(&mut self, word: Word<'_>) -> Result<(), BuildFault>
+        requires { IsHeld self.old.build.limit self.old }
+        ensures { (limit : ℕ) (front : List SourceWord) → Holds limit self.old front → Takes limit front (source_word word.entry) result self.new }
+    {
+        let begun = mem::replace(&mut self.begun, Begun::Whole);
+        self.begun = take(&mut self.build, begun, spot_of(word))?;
+        Ok(())
+    }
+}
+
+/// Takes the words of a screen.
+fn take_words(
+    compilation: &mut Compilation,
+    text: &[u8],
+    screen: u16,
+    mode: Mode,
+) -> Result<Mode, Stop>
+    requires short { length text.now < 65536 }
+    requires held { IsHeld compilation.old.build.limit compilation.old }
+    ensures { (limit : ℕ) (front : List SourceWord) → Holds limit compilation.old front → TakesAll limit mode front (screen_words mode screen text.now) result compilation.new }
+{
+    let mut scanner = Scanner::new(text, screen, mode);
+    while let Some(word) = scanner.next() {
+        compilation.take(word)?;
+    }
+    Ok(scanner.mode())
+}
+
+/// Reads a screen into `page`, and takes its words.
+fn take_screen<D: Device>(
+    compilation: &mut Compilation,
+    device: &mut D,
+    page: &mut [u8; BLOCK_SIZE],
+    screen: u16,
+    mode: Mode,
+) -> Result<Mode, Stop>
+    requires { IsHeld compilation.old.build.limit compilation.old }
+    ensures taken { (d : Disk) → D.disk device.old ≡ Some d → (limit : ℕ) (front : List SourceWord) → Holds limit compilation.old front → TakesScreen limit d screen mode front result compilation.old compilation.new (record { disk = D.disk device.new; before = failures (D.calls device.old); after = failures (D.calls device.new) }) }
+    ensures held { OnOk result (IsHeld compilation.old.build.limit compilation.new) }
+{
+    let count = device.count();
+    if u32::from(screen) >= count {
+        return Err(Stop::Device(screen));
+    }
+    if device.read(screen, page).is_err() {
+        return Err(Stop::Device(screen));
+    }
+    take_words(compilation, page, screen, mode)
+}
+
+/// Takes the words of the screens from `from` to `to`, of which one at a time is kept.
+pub fn take_screens<D: Device>(
+    compilation: &mut Compilation,
+    device: &mut D,
+    from: u16,
+    to: u16,
+) -> Result<(), Stop>
+    requires { Holds compilation.old.build.limit compilation.old [] }
+    ensures taken { (d : Disk) → D.disk device.old ≡ Some d → TakesScreens compilation.old.build.limit d from to result compilation.new (record { disk = D.disk device.new; before = failures (D.calls device.old); after = failures (D.calls device.new) }) }
+    ensures held { OnOk result (IsHeld compilation.old.build.limit compilation.new) }
+{
+    let mut page = [b' '; BLOCK_SIZE];
+    let mut mode = Mode::Outside;
+    for screen in from..=to {
+        mode = take_screen(compilation, device, &mut page, screen, mode)?;
+    }
+    Ok(())
+}

@@ -1,6 +1,0 @@
-use Rattle.std.proofs.Common.{◌≡◌}
-use Rattle.metacompiler.specs.Items.{zeros}
-use Rattle.metacompiler.proofs.image.no_controls.Given as goal
-
-abbrev pub invariant-loop : goal.invariant-loop
-invariant-loop l = l.cells.items ≡ zeros l.counter

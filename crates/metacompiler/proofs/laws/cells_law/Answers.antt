@@ -1,8 +1,0 @@
-use Rattle.metacompiler.proofs.Headers.{system_cell, control_cell}
-use Rattle.metacompiler.proofs.laws.cells_law.Goals as goal
-
-pub returns-clause-system : goal.returns-clause-system
-returns-clause-system c = system_cell
-
-pub returns-clause-runtime : goal.returns-clause-runtime
-returns-clause-runtime c = control_cell

@@ -1,8 +1,0 @@
-use Rattle.metacompiler.proofs.Single.{one_list, one_image}
-use Rattle.metacompiler.proofs.laws.one_image.Goals as goal
-
-pub returns-clause-items : goal.returns-clause-items
-returns-clause-items c = one_list
-
-pub returns-clause-image : goal.returns-clause-image
-returns-clause-image c = one_image

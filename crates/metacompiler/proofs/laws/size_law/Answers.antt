@@ -1,8 +1,0 @@
-use Rattle.metacompiler.proofs.Headers.{length_is, pointer_is}
-use Rattle.metacompiler.proofs.laws.size_law.Goals as goal
-
-pub returns-clause-length : goal.returns-clause-length
-returns-clause-length c = length_is
-
-pub returns-clause-end : goal.returns-clause-end
-returns-clause-end c = pointer_is

@@ -1,0 +1,10 @@
+use Rattle.std.proofs.Common.{◌≡◌, ◌+◌, ◌-◌, Some}
+use Rattle.block_buffers.specs.Disks.{Disk}
+use Rattle.inner_interpreter.specs.Tick.{Runs}
+use Rattle.metacompiler.specs.Rounds.{screens}
+use Rattle.metacompiler.specs.Making.{AreSoFar}
+use Rattle.metacompiler.proofs.load.load_screens.Given as goal
+
+-- what the screens come to is what those that follow come to from here
+abbrev pub invariant-loop-screen : goal.invariant-loop-screen
+invariant-loop-screen g l = (d : Disk) → g.D.Device.disk l.fn.device ≡ Some d → Runs l.fn.machine → AreSoFar l.interpret (l.to + 1 - l.screen) l.screen (screens l.interpret (l.to + 1 - l.from) l.from l.fn.left l.fn.machine.parts d) l.machine (g.D.Device.disk l.device) l.left

@@ -1,7 +1,0 @@
-use Rattle.std.proofs.Common.{refl, sym, append-nil, []}
-use Rattle.metacompiler.specs.Items.{Definitions}
-use Rattle.metacompiler.proofs.Making.{laid_more}
-use Rattle.metacompiler.proofs.make.set_definitions.Goals as goal
-
-pub returns-clause-built : goal.returns-clause-built
-returns-clause-built c = λ limit t ws h. record { limit_is = h.limit_is; limited = h.limited; laid = laid_more t ws (Definitions c.args.vocabulary) _ _ [] h.laid refl refl (sym (append-nil _)) refl; named = h.named; runtime = h.runtime; all = h.all; current_is = refl; record_is = h.record_is; boot_is = h.boot_is }

@@ -1,0 +1,64 @@
+-- One round, and the rounds of screens, by what the machine and its device tell.
+use Rattle.std.specs.Prelude.{◌≡◌, ℕ, None, Some, Option, if◌then◌else◌}
+use Rattle.block_buffers.specs.Disks.{Disk}
+use Rattle.plain_rows.specs.Whole.{Whole}
+use Rattle.plain_rows.specs.declared.parts.Request.{Request}
+use Rattle.inner_interpreter.specs.State.{State}
+use Rattle.inner_interpreter.specs.Tick.{Runs, ticked}
+use Rattle.inner_interpreter.specs.declared.act.Event.{Event}
+use Rattle.inner_interpreter.specs.declared.act.Event.TheVariants as event
+use Rattle.metacompiler.specs.Rounds.{Stop, Ended, Out, out, is_ended, stopped, by_request, by_tick, rounds, screens}
+
+-- where the rounds stop behind a move
+abbrev pub stop_by : State → Event → Option Stop
+stop_by s event.Went = if is_ended s.parts then Some Ended else None
+stop_by s e = Some (stopped e)
+
+-- the rounds go on, or stop
+abbrev pub continued : (left : ℕ) → (Whole → Disk → Out) → State → Disk → Option Stop → Out
+continued left go s d None = go s.parts d
+continued left go s d (Some y) = out s.parts d left y
+
+-- the machine runs where the rounds go on, and at the screen's end
+abbrev pub GoesOn : State → Option Stop → Type 0
+GoesOn s None = Runs s
+GoesOn s (Some Ended) = Runs s
+GoesOn s (Some y) = Unit {0}
+
+-- a step of the rounds, whatever comes behind it: they go on from the machine and the device as these are, or stop with
+-- them
+pub record IsStep (step : (Whole → Disk → Out) → Out) (left : ℕ) (new : State) (disk : Option Disk) (y : Option Stop)
+    : Type 0 where
+  pub told : Disk
+  pub disk_is : disk ≡ Some told
+  pub step_is : (go : Whole → Disk → Out) → step go ≡ continued left go new told y
+  pub goes : GoesOn new y
+
+-- a request's answer, where one is given
+abbrev pub IsSettled : (left : ℕ) → State → Disk → Request → State → Option Disk → Option Stop → Type 0
+IsSettled left s d r new disk y = IsStep (λ go. by_request left go s d r) left new disk y
+
+-- a round: a tick, and the answer to what it asks of the device
+abbrev pub IsRound : (left : ℕ) → Whole → Disk → State → Option Disk → Option Stop → Type 0
+IsRound left s d new disk y = IsStep (λ go. by_tick left go (ticked s).0 d (ticked s).1.event) left new disk y
+
+-- these rounds stop here
+pub record StopsAt (o : Out) (new : State) (disk : Option Disk) (left : ℕ) (y : Stop) : Type 0 where
+  pub told : Disk
+  pub disk_is : disk ≡ Some told
+  pub stop_is : o ≡ out new.parts told left y
+  pub goes : GoesOn new (Some y)
+
+-- so far these rounds came to this machine and device
+pub record IsSoFar (o : Out) (new : State) (disk : Option Disk) (left : ℕ) : Type 0 where
+  pub told : Disk
+  pub disk_is : disk ≡ Some told
+  pub same : rounds left new.parts told ≡ o
+  pub goes : Runs new
+
+-- so far screens came to this machine and device, and so many follow, from this one on
+pub record AreSoFar (w count screen : ℕ) (o : Out) (new : State) (disk : Option Disk) (left : ℕ) : Type 0 where
+  pub told : Disk
+  pub disk_is : disk ≡ Some told
+  pub same : screens w count screen left new.parts told ≡ o
+  pub goes : Runs new

@@ -1,0 +1,177 @@
+//! Screens are loaded on an image: the machine that it is loaded to compiles them.
+
+ghost use Rattle.std.specs.Prelude.{◌≡◌, ◌+◌, ◌-◌, Some};
+ghost use Rattle.block_buffers.specs.Disks.{Disk};
+ghost use Rattle.memory.specs.Bytes.{put_cell};
+ghost use Rattle.inner_interpreter.specs.Tick.{Runs};
+ghost use Rattle.metacompiler.specs.Rounds.{entered, rounds, screens};
+ghost use Rattle.metacompiler.specs.Loaded.{interpret_in, by_interpret, ended, fault_of, loaded_by_machine, IsLoaded, IsSaved};
+ghost use Rattle.metacompiler.specs.Compiled.{Compiles};
+ghost use Rattle.metacompiler.specs.Making.{StopsAt};
+
+use crate::rounds::{Stop, is_end, make_rounds};
+use block_buffers::Device;
+use dictionary::find;
+use image_loader::Image;
+use inner_interpreter::{Machine, SaveRefused};
+use memory::system::{BLK, STATE, TO_IN};
+use plain_rows::faults::BLOCK_ZERO;
+use std::alloc::Global;
+
+/// Why screens can't be loaded.
+#[derive(Clone, Copy, Debug, PartialEq, Eq)]
+pub enum LoadFault {
+    /// The image has no word INTERPRET.
+    NotFound,
+    /// A chain that is searched for it has more than 32,768 headers.
+    ChainTooLong,
+    /// A fault of the machine, of this number; 16 where the first screen is 0, which is the terminal's buffer.
+    Fault(u16),
+    /// The machine halted.
+    Halted,
+    /// It asked for a key or a line.
+    Asked,
+    /// All ticks are done, and it must go on.
+    Limit,
+    /// A definition isn't ended: STATE isn't 0.
+    Unfinished,
+    /// HERE is no size of an image.
+    BadSize,
+    OutOfMemory,
+}
+
+/// INTERPRET's compilation address.
+fn interpret_in(machine: &Machine) -> Result<u16, LoadFault>
+    ensures { result ≡ interpret_in machine.now.parts.memory }
+{
+    match find(machine.memory(), b"INTERPRET") {
+        Ok(Some(word)) => Ok(word),
+        Ok(None) => Err(LoadFault::NotFound),
+        Err(_) => Err(LoadFault::ChainTooLong),
+    }
+}
+
+/// One screen is read from its beginning.
+fn load_screen<D: Device>(
+    machine: &mut Machine,
+    device: &mut D,
+    interpret: u16,
+    screen: u16,
+    left: &mut u64,
+) -> Stop
+    ensures told { (d : Disk) → D.disk device.old ≡ Some d → Runs machine.old → StopsAt (rounds left.old (entered machine.old.parts interpret screen) d) machine.new (D.disk device.new) left.new result }
+{
+    machine.set_cell(BLK, screen);
+    machine.set_cell(TO_IN, 0);
+    match machine.enter(interpret) {
+        Ok(()) => make_rounds(machine, device, left),
+        Err(_) => Stop::Halted,
+    }
+}
+
+/// The screens from one to another in turn, up to the first that doesn't end.
+fn load_screens<D: Device>(
+    machine: &mut Machine,
+    device: &mut D,
+    interpret: u16,
+    from: u16,
+    to: u16,
+    left: &mut u64,
+) -> Stop
+    ensures told { (d : Disk) → D.disk device.old ≡ Some d → Runs machine.old → StopsAt (screens interpret (to + 1 - from) from left.old machine.old.parts d) machine.new (D.disk device.new) left.new result }
+{
+    for screen in from..=to {
+        let stop = load_screen(machine, device, interpret, screen, left);
+        if !is_end(stop) {
+            return stop;
+        }
+    }
+    Stop::Ended
+}
+
+/// Why screens can't be loaded whose rounds stop so.
+fn fault_of(stop: Stop) -> LoadFault
+    ensures { result ≡ fault_of stop }
+{
+    match stop {
+        Stop::Fault(f) => LoadFault::Fault(f),
+        Stop::Halted => LoadFault::Halted,
+        Stop::Asked => LoadFault::Asked,
+        Stop::Limit => LoadFault::Limit,
+        Stop::Ended => LoadFault::Limit,
+    }
+}
+
+/// Behind all screens: BLK and >IN get these cells, words must be executed again, and memory is saved.
+fn save(
+    machine: &mut Machine,
+    alloc: Global,
+    entry: u16,
+    blk: u16,
+    to_in: u16,
+) -> Result<Image, LoadFault>
+    ensures { IsSaved (ended entry (record machine.old.parts { memory = put_cell (put_cell machine.old.parts.memory BLK blk) TO_IN to_in })) result }
+{
+    machine.set_cell(BLK, blk);
+    machine.set_cell(TO_IN, to_in);
+    if machine.memory().cell(STATE) != 0 {
+        return Err(LoadFault::Unfinished);
+    }
+    match machine.save(alloc, entry) {
+        Ok(image) => Ok(image),
+        Err(SaveRefused::BadSize) => Err(LoadFault::BadSize),
+        Err(SaveRefused::OutOfMemory) => Err(LoadFault::OutOfMemory),
+    }
+}
+
+/// Screens are loaded by a machine that runs.
+#[tactic(auto, using(crate::proofs::Answering::refused_loaded, crate::proofs::Answering::stopped_loaded, crate::proofs::Answering::saved_loaded))]
+fn load_on<D: Device>(
+    machine: &mut Machine,
+    alloc: Global,
+    device: &mut D,
+    entry: u16,
+    from: u16,
+    to: u16,
+    limit: u64,
+) -> Result<Image, LoadFault>
+    ensures told { (d : Disk) → D.disk device.old ≡ Some d → Runs machine.old → IsLoaded (by_interpret entry machine.old.parts d from to limit (interpret_in machine.old.parts.memory)) result (D.disk device.new) }
+{
+    let interpret = match interpret_in(machine) {
+        Ok(interpret) => interpret,
+        Err(fault) => return Err(fault),
+    };
+    if from == 0 && from <= to {
+        return Err(LoadFault::Fault(BLOCK_ZERO));
+    }
+    let blk = machine.memory().cell(BLK);
+    let to_in = machine.memory().cell(TO_IN);
+    let mut left = limit;
+    let stop = load_screens(machine, device, interpret, from, to, &mut left);
+    if !is_end(stop) {
+        return Err(fault_of(stop));
+    }
+    save(machine, alloc, entry, blk, to_in)
+}
+
+/// Loads screens on an image: the machine that it is loaded to compiles them in turn, with at most `limit` ticks, and
+/// its memory up to HERE is the new image, which starts with the same word. For each screen BLK is set to it, >IN to 0,
+/// and INTERPRET is entered; behind the last BLK and >IN get their cells of before. What is shown is dropped; what is
+/// asked of the device is asked of `device`, and what was written stays written.
+pub fn load_by_machine<D: Device>(
+    alloc: Global,
+    image: &Image,
+    device: &mut D,
+    from: u16,
+    to: u16,
+    limit: u64,
+) -> Result<Image, LoadFault>
+    ensures told { (d : Disk) → D.disk device.old ≡ Some d → IsLoaded (loaded_by_machine image.now d from to limit) result (D.disk device.new) }
+    ensures compiled { (d : Disk) → D.disk device.old ≡ Some d → Compiles image.now d from to result }
+{
+    let count = device.count();
+    match Machine::load(alloc, image, count) {
+        Ok(mut machine) => load_on(&mut machine, alloc, device, image.entry(), from, to, limit),
+        Err(_) => Err(LoadFault::OutOfMemory),
+    }
+}

@@ -1,8 +1,0 @@
-use Rattle.resident_screens.proofs.Agreeing.{agree, enough}
-use Rattle.resident_screens.proofs.laws.agree_law.Goals as goal
-
-pub returns-clause-agree : goal.returns-clause-agree
-returns-clause-agree c = agree
-
-pub returns-clause-enough : goal.returns-clause-enough
-returns-clause-enough c = enough
