@@ -16,11 +16,11 @@ use std::os::fd::AsFd;
 use std::process::ExitCode;
 use std::{fs, io};
 use subcommands::{
-    Ended, FileDevice, create_file, do_build, do_debug, do_kernel, do_new, do_run, do_screens,
-    do_see, do_text, do_upgrade, do_view, open_device, open_to_read, read_blocks, read_file,
-    read_image, replace_file, write_file,
+    Ended, FileDevice, create_file, do_build, do_debug, do_kernel, do_load, do_new, do_run,
+    do_screens, do_see, do_text, do_upgrade, do_view, open_device, open_to_read, read_blocks,
+    read_file, read_image, replace_file, write_file,
 };
-use words::{BuildWords, Parsed, Words};
+use words::{BuildWords, LoadWords, Parsed, Words};
 
 /// Prints a line of the program's own, and answers the status: 5 where it can't be written.
 fn say<R: Print>(rt: &R, text: &str, name: &str, status: u8) -> u8 {
@@ -137,6 +137,29 @@ fn build_image(rt: &HostRuntime, words: &BuildWords) -> Result<u8, u8> {
         show_place(rt, blocks, &mut device, (from, to), buffers);
     }
     Ok(finish(rt, ended, words.image.as_str()))
+}
+
+/// Lets the image that `load` names compile screens, and writes the image that results.
+fn load_screens(rt: &HostRuntime, words: &LoadWords) -> Result<u8, u8> {
+    let LoadWords {
+        from,
+        to,
+        limit,
+        ..
+    } = *words;
+    let bytes = image_bytes(rt, words.image.as_str())?;
+    let mut device = run_blocks(rt, words.blocks.as_str())?;
+    let mut writer = standard_output(rt)?;
+    let ended = do_load(
+        rt.alloc(),
+        bytes.as_slice(),
+        &mut device,
+        from,
+        to,
+        limit,
+        &mut writer,
+    );
+    Ok(finish(rt, ended, words.out.as_str()))
 }
 
 /// Writes the image that `upgrade` names anew, for other block buffers.
@@ -345,6 +368,7 @@ fn obey(rt: &HostRuntime, words: Words) -> Result<u8, u8> {
     match words {
         Words::Kernel { blocks } => write_kernel(rt, blocks.as_str()),
         Words::Build(words) => build_image(rt, &words),
+        Words::Load(words) => load_screens(rt, &words),
         Words::Upgrade {
             image,
             out,

@@ -27,6 +27,7 @@ pub enum Words {
         /// How many block buffers, 2 to 16; the image's own number where none is given.
         buffers: Option<u16>,
     },
+    Load(LoadWords),
     Text {
         blocks: String,
         from: u16,
@@ -73,6 +74,17 @@ pub struct BuildWords {
     pub buffers: u16,
     /// Whether it is shown where a source is refused, also if standard error is no terminal.
     pub shows_place: bool,
+}
+
+/// The words of `load`.
+#[derive(Drop)]
+pub struct LoadWords {
+    pub image: String,
+    pub blocks: String,
+    pub from: u16,
+    pub to: u16,
+    pub out: String,
+    pub limit: u64,
 }
 
 /// What became of the command line.
@@ -128,6 +140,29 @@ fn build_command<'a>(alloc: Global) -> Result<Command<'a>, AllocError> {
                 .action(ArgAction::SetTrue)
                 .help("Show where a source is refused, as at a terminal"),
         )
+}
+
+fn load_command<'a>(alloc: Global) -> Result<Command<'a>, AllocError> {
+    Command::new(alloc, "load")
+        .about("Let an image compile screens, and write the image that results")
+        .arg(
+            Arg::new(alloc, "IMAGE")
+                .required(true)
+                .help("The image file"),
+        )?
+        .arg(
+            Arg::new(alloc, "BLOCKS")
+                .required(true)
+                .help("A file of blocks of 1,024 bytes"),
+        )?
+        .arg(screen(alloc, "FROM", "The first screen, 0 to 65535"))?
+        .arg(screen(alloc, "TO", "The last screen, 0 to 65535"))?
+        .arg(
+            Arg::new(alloc, "OUT")
+                .required(true)
+                .help("The new image file"),
+        )?
+        .arg(limit(alloc))
 }
 
 /// How many block buffers an image has.
@@ -263,6 +298,7 @@ fn command<'a>(alloc: Global) -> Result<Command<'a>, AllocError> {
         .arg_required_else_help(true)
         .subcommand(kernel_command(alloc)?)?
         .subcommand(build_command(alloc)?)?
+        .subcommand(load_command(alloc)?)?
         .subcommand(upgrade_command(alloc)?)?
         .subcommand(text_command(alloc)?)?
         .subcommand(screens_command(alloc)?)?
@@ -305,6 +341,30 @@ fn build_words(alloc: Global, inner: &ArgMatches<'_>) -> Result<Option<Words>, A
         image,
         buffers,
         shows_place: inner.get_flag("where"),
+    })))
+}
+
+fn load_words(alloc: Global, inner: &ArgMatches<'_>) -> Result<Option<Words>, AllocError> {
+    let Some(image) = copied(alloc, inner, "IMAGE")? else {
+        return Ok(None);
+    };
+    let Some(blocks) = copied(alloc, inner, "BLOCKS")? else {
+        return Ok(None);
+    };
+    let Some(out) = copied(alloc, inner, "OUT")? else {
+        return Ok(None);
+    };
+    let (Some(from), Some(to)) = (inner.get_one::<u16>("FROM"), inner.get_one::<u16>("TO")) else {
+        return Ok(None);
+    };
+    let limit = inner.get_one::<u64>("limit").unwrap_or(DEFAULT_LIMIT);
+    Ok(Some(Words::Load(LoadWords {
+        image,
+        blocks,
+        from,
+        to,
+        out,
+        limit,
     })))
 }
 
@@ -417,6 +477,7 @@ fn words_of(alloc: Global, matches: &ArgMatches<'_>) -> Result<Option<Words>, Al
         None => Ok(None),
         Some(("kernel", inner)) => kernel_words(alloc, inner),
         Some(("build", inner)) => build_words(alloc, inner),
+        Some(("load", inner)) => load_words(alloc, inner),
         Some(("upgrade", inner)) => upgrade_words(alloc, inner),
         Some(("text", inner)) => text_words(alloc, inner),
         Some(("screens", inner)) => screens_words(alloc, inner),

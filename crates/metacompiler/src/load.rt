@@ -17,26 +17,37 @@ use inner_interpreter::{Machine, SaveRefused};
 use memory::system::{BLK, STATE, TO_IN};
 use plain_rows::faults::BLOCK_ZERO;
 use std::alloc::Global;
+use thiserror::Error;
 
 /// Why screens can't be loaded.
-#[derive(Clone, Copy, Debug, PartialEq, Eq)]
+#[derive(Clone, Copy, Debug, PartialEq, Eq, Error)]
 pub enum LoadFault {
     /// The image has no word INTERPRET.
+    #[error("NotFound")]
     NotFound,
     /// A chain that is searched for it has more than 32,768 headers.
+    #[error("ChainTooLong")]
     ChainTooLong,
     /// A fault of the machine, of this number; 16 where the first screen is 0, which is the terminal's buffer.
+    #[error("Fault {0}")]
     Fault(u16),
     /// The machine halted.
+    #[error("Halted")]
     Halted,
     /// It asked for a key or a line.
+    #[error("Asked")]
     Asked,
     /// All ticks are done, and it must go on.
+    #[error("Limit")]
     Limit,
     /// A definition isn't ended: STATE isn't 0.
+    #[error("Unfinished")]
     Unfinished,
     /// HERE is no size of an image.
+    #[error("BadSize")]
     BadSize,
+    /// Memory was not found.
+    #[error("out of memory")]
     OutOfMemory,
 }
 

@@ -60,11 +60,15 @@ pub record EndsRefused (count : ℕ) (d : Disk) (from to : ℕ) (done : Done) (s
 abbrev pub image_line : Contents → List ℕ
 image_line image = codes "size " ++ (decimal (length image.bytes) ++ (codes " entry " ++ line (decimal image.entry)))
 
+-- these bytes are the file that is written of this image, and this was printed
+pub record IsFileOf (image : Contents) (said : List ℕ) (bytes : List ℕ) (old new : Option (List ℕ)) : Type 0 where
+  pub is_file : IsWritten bytes image
+  pub printed : Appends old new said
+
 -- these bytes are the file that is written of an image, and its line was printed
 pub record IsTold (bytes : List ℕ) (old new : Option (List ℕ)) : Type 0 where
   pub image : Contents
-  pub is_file : IsWritten bytes image
-  pub printed : Appends old new (image_line image)
+  pub told : IsFileOf image (image_line image) bytes old new
 
 -- `size S buffers N`
 abbrev pub upgrade_line : Contents → List ℕ
@@ -75,9 +79,8 @@ abbrev pub for_buffers : Contents → ℕ → Contents
 for_buffers image count = record image { buffers = count }
 
 -- these bytes are the file that is written of this image, and its line was printed
-pub record IsUpgraded (bytes : List ℕ) (image : Contents) (old new : Option (List ℕ)) : Type 0 where
-  pub is_file : IsWritten bytes image
-  pub printed : Appends old new (upgrade_line image)
+abbrev pub IsUpgraded : List ℕ → Contents → (old new : Option (List ℕ)) → Type 0
+IsUpgraded bytes image old new = IsFileOf image (upgrade_line image) bytes old new
 
 -- the number of a screen was printed, or why there is none
 abbrev pub PrintsViewed : (name : List ℕ) → Result ℕ ViewRefused → (status : ℕ) → (old new : Option (List ℕ)) → Type 0

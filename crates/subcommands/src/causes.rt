@@ -3,10 +3,11 @@
 
 ghost use Rattle.std.specs.Prelude.{◌≡◌, ℕ, List, IfOk, string_bytes};
 ghost use Rattle.subcommands.specs.Causes.{image_cause, build_cause, view_cause, see_cause, debug_cause, upgrade_cause};
+ghost use Rattle.subcommands.specs.Loads.{load_cause};
 
 use debug_tracer::DebugFault;
 use image_loader::{ImageFault, UpgradeFault};
-use metacompiler::Cause;
+use metacompiler::{Cause, LoadFault};
 use see::{SeeRefused, ViewRefused};
 use std::alloc::{AllocError, Global};
 
@@ -63,6 +64,24 @@ impl Reason for Cause {
             Cause::Full => "Full".to_string(alloc),
             Cause::NoBoot => "NoBoot".to_string(alloc),
             Cause::Device => "Device".to_string(alloc),
+        }
+    }
+}
+
+impl Reason for LoadFault {
+    ghost spelling = { λ c. load_cause c };
+
+    fn spelled(&self, alloc: Global) -> Result<String, AllocError> {
+        match *self {
+            LoadFault::NotFound => "NotFound".to_string(alloc),
+            LoadFault::ChainTooLong => "ChainTooLong".to_string(alloc),
+            LoadFault::Fault(number) => format!(in alloc; "Fault {number}"),
+            LoadFault::Halted => "Halted".to_string(alloc),
+            LoadFault::Asked => "Asked".to_string(alloc),
+            LoadFault::Limit => "Limit".to_string(alloc),
+            LoadFault::Unfinished => "Unfinished".to_string(alloc),
+            LoadFault::BadSize => "BadSize".to_string(alloc),
+            LoadFault::OutOfMemory => "out of memory".to_string(alloc),
         }
     }
 }

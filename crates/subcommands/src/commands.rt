@@ -7,9 +7,9 @@ ghost use Rattle.block_buffers.specs.Disks.{Disk};
 ghost use Rattle.subcommands.specs.Kernel.{filled, blocks_of};
 ghost use Rattle.subcommands.specs.Images.{IsBuiltFile};
 ghost use Rattle.subcommands.specs.Causes.{IsNoFile, image_cause};
-ghost use Rattle.subcommands.specs.Lines.{EndsRefused, EndsViewed, IsTold, Prints, PrintsFault, PrintsOutOfMemory, PrintsRefusal, fault_line, image_line, line};
+ghost use Rattle.subcommands.specs.Lines.{EndsRefused, EndsViewed, IsFileOf, IsTold, Prints, PrintsFault, PrintsOutOfMemory, PrintsRefusal, fault_line, image_line, line};
 ghost use Rattle.subcommands.specs.Statuses.{status_of, EndsWith};
-ghost use Rattle.image_loader.specs.Files.{Contents, IsFile};
+ghost use Rattle.image_loader.specs.Files.{Contents, IsFile, IsWritten};
 ghost use Rattle.image_loader.specs.declared.fault.ImageFault.{ImageFault};
 ghost use Rattle.inner_interpreter.specs.Worlds.{OfFile};
 ghost use Rattle.memory.specs.Bytes.{IsCount};
@@ -136,6 +136,23 @@ pub fn refuse_image<W: Output>(alloc: Global, fault: ImageFault, writer: &mut W)
     refuse(alloc, "image", fault, writer)
 }
 
+/// Prints a line of an image, and ends with the image's file.
+pub fn end_with_image<W: Output>(alloc: Global, image: &Image, line: &str, writer: &mut W) -> Ended
+    ensures status { MatchOption result.file (0 < result.status) (λ _. result.status ≡ 0) }
+    ensures told { W.failed writer.new ≡ false → IfSome result.file (λ file. IsFileOf image.now line.now file.items (W.sent writer.old) (W.sent writer.new)) }
+    ensures file { IfSome result.file (λ file. IsWritten file.items image.now) }
+    ensures wanting { W.failed writer.new ≡ false → IsNone result.file → PrintsOutOfMemory result.status (W.sent writer.old) (W.sent writer.new) }
+    ensures cut { W.failed writer.old ≡ false → W.failed writer.new ≡ true → (result.status ≡ 5) × IsNone result.file }
+{
+    let Ok(file) = image_loader::write(alloc, image) else {
+        return print_out_of_memory(writer);
+    };
+    if is_printed(writer, line.as_bytes()) {
+        return end_with_file(file);
+    }
+    end_with(5)
+}
+
 /// Makes the block file with the kernel's sources, of 64 blocks. Status 0; without a file 1, where memory ran out, or 5,
 /// where that can't be printed.
 pub fn do_kernel<W: Output>(alloc: Global, writer: &mut W) -> Ended
@@ -177,7 +194,7 @@ fn refuse_source<W: Output>(alloc: Global, fault: BuildFault, writer: &mut W) ->
     }
 }
 
-/// The line that tells of an image which was built.
+/// The line that tells of an image which was made.
 fn report(alloc: Global, image: &Image) -> Result<String, AllocError>
     ensures { IfOk result (λ s. string_bytes s ≡ image_line image.now) }
 {
@@ -186,9 +203,23 @@ fn report(alloc: Global, image: &Image) -> Result<String, AllocError>
     format!(in alloc; "size {size} entry {entry}\n")
 }
 
-/// Builds the source in the screens from `from` to `to` to an image for so many block buffers, 2 to 16, and prints `size S entry E`. Status 0, with the bytes of
-/// the image's file. Without a file 1: the source is refused (`screen S offset O: CAUSE` is printed) or memory ran out;
-/// 5: a line can't be printed.
+/// Prints `size S entry E`, and ends with the file of an image that was made.
+pub fn end_with_made<W: Output>(alloc: Global, image: &Image, writer: &mut W) -> Ended
+    ensures status { MatchOption result.file (0 < result.status) (λ _. result.status ≡ 0) }
+    ensures told { W.failed writer.new ≡ false → IfSome result.file (λ file. IsFileOf image.now (image_line image.now) file.items (W.sent writer.old) (W.sent writer.new)) }
+    ensures file { IfSome result.file (λ file. IsWritten file.items image.now) }
+    ensures wanting { W.failed writer.new ≡ false → IsNone result.file → PrintsOutOfMemory result.status (W.sent writer.old) (W.sent writer.new) }
+    ensures cut { W.failed writer.old ≡ false → W.failed writer.new ≡ true → (result.status ≡ 5) × IsNone result.file }
+{
+    match report(alloc, image) {
+        Ok(line) => end_with_image(alloc, image, line.as_str(), writer),
+        Err(_) => print_out_of_memory(writer),
+    }
+}
+
+/// Builds the source in the screens from `from` to `to` to an image for so many block buffers, 2 to 16, and prints
+/// `size S entry E`. Status 0, with the bytes of the image's file. Without a file 1: the source is refused (`screen S
+/// offset O: CAUSE` is printed) or memory ran out; 5: a line can't be printed.
 pub fn do_build<W: Output, D: Device>(
     alloc: Global,
     device: &mut D,
@@ -206,20 +237,10 @@ pub fn do_build<W: Output, D: Device>(
     // Where a line can't be printed, there is no file.
     ensures cut { W.failed writer.old ≡ false → W.failed writer.new ≡ true → (result.status ≡ 5) × IsNone result.file }
 {
-    let image = match build(alloc, device, from, to, buffers) {
-        Ok(image) => image,
-        Err(fault) => return refuse_source(alloc, fault, writer),
-    };
-    let Ok(file) = image_loader::write(alloc, &image) else {
-        return print_out_of_memory(writer);
-    };
-    let Ok(line) = report(alloc, &image) else {
-        return print_out_of_memory(writer);
-    };
-    if is_printed(writer, line.as_str().as_bytes()) {
-        return end_with_file(file);
+    match build(alloc, device, from, to, buffers) {
+        Ok(image) => end_with_made(alloc, &image, writer),
+        Err(fault) => refuse_source(alloc, fault, writer),
     }
-    end_with(5)
 }
 
 /// Prints a number on a line.

@@ -7,9 +7,7 @@ ghost use Rattle.image_loader.specs.declared.fault.ImageFault.{ImageFault};
 ghost use Rattle.subcommands.specs.Causes.{IsNoFile, image_cause};
 ghost use Rattle.subcommands.specs.Lines.{IsUpgraded, PrintsOutOfMemory, PrintsRefusal, for_buffers, upgrade_line};
 
-use crate::commands::{
-    Ended, end_with, end_with_file, is_printed, print_out_of_memory, refuse, refuse_image,
-};
+use crate::commands::{Ended, end_with_image, print_out_of_memory, refuse, refuse_image};
 use image_loader::{Image, UpgradeFault, upgrade};
 use inner_interpreter::Output;
 use std::alloc::{AllocError, Global};
@@ -38,22 +36,16 @@ fn refuse_upgrade<W: Output>(alloc: Global, fault: UpgradeFault, writer: &mut W)
 }
 
 /// Prints `size S buffers N`, and ends with the file of an image.
-fn end_with_image<W: Output>(alloc: Global, image: &Image, writer: &mut W) -> Ended
+fn end_with_upgraded<W: Output>(alloc: Global, image: &Image, writer: &mut W) -> Ended
     ensures status { MatchOption result.file (0 < result.status) (λ _. result.status ≡ 0) }
     ensures told { W.failed writer.new ≡ false → IfSome result.file (λ file. IsUpgraded file.items image.now (W.sent writer.old) (W.sent writer.new)) }
     ensures wanting { W.failed writer.new ≡ false → IsNone result.file → PrintsOutOfMemory result.status (W.sent writer.old) (W.sent writer.new) }
     ensures cut { W.failed writer.old ≡ false → W.failed writer.new ≡ true → (result.status ≡ 5) × IsNone result.file }
 {
-    let Ok(file) = image_loader::write(alloc, image) else {
-        return print_out_of_memory(writer);
-    };
-    let Ok(line) = report(alloc, image) else {
-        return print_out_of_memory(writer);
-    };
-    if is_printed(writer, line.as_str().as_bytes()) {
-        return end_with_file(file);
+    match report(alloc, image) {
+        Ok(line) => end_with_image(alloc, image, line.as_str(), writer),
+        Err(_) => print_out_of_memory(writer),
     }
-    end_with(5)
 }
 
 /// Makes of an image's file the file of the same image for other block buffers, 2 to 16 of them, or for as many as it has,
@@ -83,7 +75,7 @@ pub fn do_upgrade<W: Output>(
     };
     let count = buffers.unwrap_or(image.buffers());
     match upgrade(alloc, &image, count) {
-        Ok(image) => end_with_image(alloc, &image, writer),
+        Ok(image) => end_with_upgraded(alloc, &image, writer),
         Err(fault) => refuse_upgrade(alloc, fault, writer),
     }
 }

@@ -1,0 +1,57 @@
+//! `load`.
+
+ghost use Rattle.std.specs.Prelude.{◌≡◌, ◌<◌, codes, false, true, IsNone, MatchOption};
+ghost use Rattle.image_loader.specs.declared.fault.ImageFault.{ImageFault};
+ghost use Rattle.subcommands.specs.Causes.{IsNoFile, image_cause};
+ghost use Rattle.subcommands.specs.Lines.{PrintsRefusal};
+ghost use Rattle.subcommands.specs.Loads.{EndsLoaded, OfLoad, PrintsUnloaded};
+
+use crate::commands::{Ended, end_with_made, print_out_of_memory, refuse, refuse_image};
+use block_buffers::Device;
+use inner_interpreter::Output;
+use metacompiler::{LoadFault, load_by_machine};
+use std::alloc::Global;
+
+/// Prints why screens aren't loaded.
+fn refuse_load<W: Output>(alloc: Global, why: LoadFault, writer: &mut W) -> Ended
+    ensures printed { W.failed writer.new ≡ false → PrintsUnloaded why result.status (W.sent writer.old) (W.sent writer.new) }
+    ensures cut { W.failed writer.old ≡ false → W.failed writer.new ≡ true → result.status ≡ 5 }
+    ensures status { 0 < result.status }
+    ensures file { IsNone result.file }
+{
+    if why == LoadFault::OutOfMemory {
+        return print_out_of_memory(writer);
+    }
+    refuse(alloc, "load", why, writer)
+}
+
+/// Loads the screens from `from` to `to` on an image, whose own INTERPRET compiles them in at most `limit` ticks, and prints
+/// `size S entry E` of the image that results. Status 0, with the bytes of its file. Without a file 1: the bytes are no
+/// image (`image: CAUSE` is printed), the screens aren't loaded (`load: CAUSE`) or memory ran out; 5: a line can't be
+/// printed.
+pub fn do_load<W: Output, D: Device>(
+    alloc: Global,
+    image: &[u8],
+    device: &mut D,
+    from: u16,
+    to: u16,
+    limit: u64,
+    writer: &mut W,
+) -> Ended
+    ensures status { MatchOption result.file (0 < result.status) (λ _. result.status ≡ 0) }
+    // Where the bytes are an image's file, and the device tells its blocks, the new image is that of the written rounds.
+    ensures loaded { W.failed writer.new ≡ false → OfLoad image.now (D.disk device.old) from to limit (λ o. EndsLoaded o result (D.disk device.new) (W.sent writer.old) (W.sent writer.new)) }
+    // Where they are none, that is printed, and the device isn't touched.
+    ensures refused { W.failed writer.new ≡ false → (fault : ImageFault) → IsNoFile image.now fault → PrintsRefusal (codes "image") (image_cause fault) result.status (W.sent writer.old) (W.sent writer.new) }
+    ensures untouched { (fault : ImageFault) → IsNoFile image.now fault → device.new ≡ device.old }
+    ensures cut { W.failed writer.old ≡ false → W.failed writer.new ≡ true → (result.status ≡ 5) × IsNone result.file }
+{
+    let image = match image_loader::read(alloc, image) {
+        Ok(image) => image,
+        Err(fault) => return refuse_image(alloc, fault, writer),
+    };
+    match load_by_machine(alloc, &image, device, from, to, limit) {
+        Ok(image) => end_with_made(alloc, &image, writer),
+        Err(why) => refuse_load(alloc, why, writer),
+    }
+}
