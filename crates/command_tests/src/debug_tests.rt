@@ -5,7 +5,10 @@ ghost use Rattle.std.specs.Prelude.{◌≤◌, vec_len};
 use crate::assertions::assert_equal;
 use crate::see_tests::{CHOICE, built};
 use block_buffers::MemoryDevice;
-use inner_interpreter::{Reading, Writing};
+use debug_tracer::debug;
+use image_loader::read;
+use inner_interpreter::ends::FailingWriter;
+use inner_interpreter::{Machine, Reading, Stop, Writing};
 use std::alloc::Global;
 use std::io;
 use std::io::{ErrorKind, Write};
@@ -182,5 +185,77 @@ fn a_trace_that_is_cut(rt: HostRuntime) -> Result<(), Fail> {
                 .starts_with(&trace.into_inner().taken)
         );
     }
+    Ok(())
+}
+
+/// Before the ticks of these lines: where the token stands, how many cells are on the data stack, and the two upper ones.
+const CHOICE_STATES: [(u16, usize, [Option<u16>; 2]); 4] = [
+    (334, 1, [Some(0), None]),
+    (336, 2, [Some(0), Some(0)]),
+    (348, 1, [Some(0), None]),
+    (352, 2, [Some(65535), Some(0)]),
+];
+
+/// The machine of the image of CHOICE, traced over a writer that takes so many bytes: why it stopped, and the machine then.
+fn cut_behind(alloc: Global, trace: &mut FailingWriter) -> Result<(Stop, Machine), Fail> {
+    let Ok(image) = read(alloc, built(alloc, CHOICE)?.as_slice()) else {
+        return Err("no image".into());
+    };
+    let Ok(mut machine) = Machine::load(alloc, &image, 0) else {
+        return Err("no machine".into());
+    };
+    let mut device = MemoryDevice::new(Vec::new(alloc), Vec::new(alloc));
+    let mut writer = Writing::new(Vec::new(alloc));
+    let mut reader = Reading::new(b"".as_slice());
+    match debug(
+        alloc,
+        &mut machine,
+        b"Z",
+        &mut reader,
+        &mut writer,
+        &mut device,
+        trace,
+        1000,
+    ) {
+        Ok(stop) => Ok((stop, machine)),
+        Err(_) => Err("not traced".into()),
+    }
+}
+
+/// The trace is cut behind each number of bytes below its length. The machine is then before the tick of the line that is
+/// cut, and these bytes were written.
+#[test]
+fn a_trace_that_is_cut(rt: HostRuntime) -> Result<(), Fail> {
+    let alloc = rt.alloc();
+    let whole = CHOICE_TRACE.as_bytes();
+    for room in 0..whole.len() {
+        let mut trace = FailingWriter::new(room.min(256));
+        let (stop, machine) = cut_behind(alloc, &mut trace)?;
+        assert_equal(&rt, (room, stop), (room, Stop::TraceFault));
+        assert_equal(&rt, trace.written(), &whole[..room]);
+        let line = whole[..room].iter().filter(|byte| **byte == b'\n').count();
+        let values = machine.values();
+        let state = (
+            machine.ip(),
+            values.depth(),
+            [values.pick(0), values.pick(1)],
+        );
+        assert_equal(&rt, (room, Some(&state)), (room, CHOICE_STATES.get(line)));
+        assert_equal(
+            &rt,
+            (machine.pending(), machine.returns().depth()),
+            (None, 2),
+        );
+    }
+    Ok(())
+}
+
+/// A trace that fits isn't cut: it has 92 bytes.
+#[test]
+fn a_trace_that_fits(rt: HostRuntime) -> Result<(), Fail> {
+    let mut trace = FailingWriter::new(93);
+    let (stop, _machine) = cut_behind(rt.alloc(), &mut trace)?;
+    assert_equal(&rt, stop, Stop::Bye);
+    assert_equal(&rt, trace.written(), CHOICE_TRACE.as_bytes());
     Ok(())
 }

@@ -9,7 +9,7 @@ ghost use Rattle.memory.specs.Bytes.{IsCount};
 
 use block_buffers::{Device, MemoryDevice};
 use inner_interpreter::{Reading, Writing};
-use places::show_place;
+use places::{blocks_of, show_place, show_stop};
 use std::fs::File;
 use std::io::{BufReader, BufWriter, ErrorKind, IsTerminal, Stdin, Stdout};
 use std::os::fd::AsFd;
@@ -148,17 +148,19 @@ fn load_screens(rt: &HostRuntime, words: &LoadWords) -> Result<u8, u8> {
         ..
     } = *words;
     let bytes = image_bytes(rt, words.image.as_str())?;
-    let mut device = run_blocks(rt, words.blocks.as_str())?;
+    let bytes = bytes.as_slice();
+    let blocks = words.blocks.as_str();
+    let mut device = run_blocks(rt, blocks)?;
+    let mut before = if words.shows_place || rt.stderr().is_terminal() {
+        blocks_of(rt.alloc(), &mut device)
+    } else {
+        None
+    };
     let mut writer = standard_output(rt)?;
-    let ended = do_load(
-        rt.alloc(),
-        bytes.as_slice(),
-        &mut device,
-        from,
-        to,
-        limit,
-        &mut writer,
-    );
+    let ended = do_load(rt.alloc(), bytes, &mut device, from, to, limit, &mut writer);
+    if let (1, Some(before)) = (ended.status, &mut before) {
+        show_stop(rt, blocks, bytes, before, (from, to), limit);
+    }
     Ok(finish(rt, ended, words.out.as_str()))
 }
 

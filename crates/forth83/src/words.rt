@@ -85,6 +85,8 @@ pub struct LoadWords {
     pub to: u16,
     pub out: String,
     pub limit: u64,
+    /// Whether it is shown where the screens stopped, also if standard error is no terminal.
+    pub shows_place: bool,
 }
 
 /// What became of the command line.
@@ -134,12 +136,15 @@ fn build_command<'a>(alloc: Global) -> Result<Command<'a>, AllocError> {
                 .default_value("4")
                 .help("Block buffers, 2 to 16"),
         )?
-        .arg(
-            Arg::new(alloc, "where")
-                .long("where")
-                .action(ArgAction::SetTrue)
-                .help("Show where a source is refused, as at a terminal"),
-        )
+        .arg(show_place(alloc))
+}
+
+/// Whether it is shown where a refusal stands.
+fn show_place<'a>(alloc: Global) -> Arg<'a> {
+    Arg::new(alloc, "where")
+        .long("where")
+        .action(ArgAction::SetTrue)
+        .help("Show where a source is refused, as at a terminal")
 }
 
 fn load_command<'a>(alloc: Global) -> Result<Command<'a>, AllocError> {
@@ -162,7 +167,8 @@ fn load_command<'a>(alloc: Global) -> Result<Command<'a>, AllocError> {
                 .required(true)
                 .help("The new image file"),
         )?
-        .arg(limit(alloc))
+        .arg(limit(alloc))?
+        .arg(show_place(alloc))
 }
 
 /// How many block buffers an image has.
@@ -365,6 +371,7 @@ fn load_words(alloc: Global, inner: &ArgMatches<'_>) -> Result<Option<Words>, Al
         to,
         out,
         limit,
+        shows_place: inner.get_flag("where"),
     })))
 }
 

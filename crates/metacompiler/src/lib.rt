@@ -9,5 +9,5 @@ mod rounds;
 
 pub use checking::is_resident;
 pub use image_builder::{BuildFault, Cause, build};
-pub use load::{LoadFault, load_by_machine};
+pub use load::{LoadFault, load_by_machine, load_on};
 pub use rounds::Stop;

@@ -135,9 +135,10 @@ fn save(
     }
 }
 
-/// Screens are loaded by a machine that runs.
+/// The screens from one to another are loaded by a machine that runs, to which an image with this entry was loaded, as
+/// `load_by_machine` does. Where they aren't, its BLK and >IN tell where it stopped, but behind the last screen.
 #[tactic(auto, using(crate::proofs::Answering::refused_loaded, crate::proofs::Answering::stopped_loaded, crate::proofs::Answering::saved_loaded))]
-fn load_on<D: Device>(
+pub fn load_on<D: Device>(
     machine: &mut Machine,
     alloc: Global,
     device: &mut D,
