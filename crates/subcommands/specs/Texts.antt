@@ -47,9 +47,9 @@ abbrev pub EndsText : Disk → (from to : ℕ) → (status : ℕ) → (old new :
 EndsText d from to status old new = PrintsText (pages d from (to + 1 - from)) status old new ⊎ PrintsOutOfMemory status old new
 
 -- the block file with the screens that were read of a text
-abbrev pub IsWritten : Result State TextFault → (old new : List ℕ) → Type 0
-IsWritten (Ok s) old new = new ≡ with_screens old (screens_of s.numbers (whole s))
-IsWritten (Err fault) old new = ⊥
+abbrev pub HasScreens : Result State TextFault → (old new : List ℕ) → Type 0
+HasScreens (Ok s) old new = new ≡ with_screens old (screens_of s.numbers (whole s))
+HasScreens (Err fault) old new = ⊥
 
 -- `line L: CAUSE`
 abbrev pub numbered_line : (place : ℕ) → List ℕ → List ℕ

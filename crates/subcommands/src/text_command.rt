@@ -7,7 +7,7 @@ ghost use Rattle.screen_text.specs.Reading.{read};
 ghost use Rattle.subcommands.specs.Kernel.{blanks};
 ghost use Rattle.screen_text.specs.declared.cause.Cause.{Cause};
 ghost use Rattle.subcommands.specs.Lines.{PrintsOutOfMemory};
-ghost use Rattle.subcommands.specs.Texts.{EndsText, EndsUnwritten, IsWritten, PrintsLine, numbered_line, page_cause, screen_line, text_cause};
+ghost use Rattle.subcommands.specs.Texts.{EndsText, EndsUnwritten, HasScreens, PrintsLine, numbered_line, page_cause, screen_line, text_cause};
 
 use crate::causes::Reason;
 use crate::commands::{Ended, end_with_file, print, print_out_of_memory};
@@ -123,7 +123,7 @@ fn refuse_text<W: Output>(alloc: Global, fault: TextFault, writer: &mut W) -> En
 /// blanks where it must. Status 0, with the bytes of the new file. Without a file 1: the text is refused (`line L: CAUSE` is
 /// printed) or memory ran out; 5: that can't be printed.
 pub fn do_screens<W: Output>(alloc: Global, blocks: Vec<u8>, text: &[u8], writer: &mut W) -> Ended
-    ensures file { MatchOption result.file (0 < result.status) (λ file. (result.status ≡ 0) × IsWritten (read text.now) blocks.items file.items) }
+    ensures file { MatchOption result.file (0 < result.status) (λ file. (result.status ≡ 0) × HasScreens (read text.now) blocks.items file.items) }
     // Beside the file nothing is printed; where there is none, it is printed why.
     ensures silent { IsSome result.file → writer.new ≡ writer.old }
     ensures refused { W.failed writer.new ≡ false → IsNone result.file → EndsUnwritten (read text.now) result.status (W.sent writer.old) (W.sent writer.new) ⊎ PrintsOutOfMemory result.status (W.sent writer.old) (W.sent writer.new) }
