@@ -34,7 +34,7 @@ refuse() {
 is_made() {
   local from
   [ -f "$1" ] || return 1
-  for from in "$here/forth83" "$here/crates/forth83/out/forth83" "$here"/workbench/{make,screens.awk,*.txt}; do
+  for from in "$here/forth83" "$here/crates/forth83/out/forth83" "$here"/workbench/{make,*.txt}; do
     if [ "$from" -nt "$1" ]; then
       return 1
     fi

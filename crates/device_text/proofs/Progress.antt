@@ -1,7 +1,7 @@
-use Rattle.std.proofs.Common.{◌≡◌, ◌∙◌, ℕ, suc, ◌+◌, ◌-◌, ◌<◌, ◌≤◌, List, [], ◌∷◌, ◌++◌, Option, Some, Result, Ok, Err, append_assoc, append-nil, length, ◌/◌, Bool, true, false, ◌&&◌, inl, inr, arith, refl, ap, sym}
+use Rattle.std.proofs.Common.{◌≡◌, ◌∙◌, ℕ, suc, ◌+◌, ◌-◌, ◌<◌, ◌≤◌, List, [], ◌∷◌, ◌++◌, Option, Some, None, Result, Ok, Err, append_assoc, append-nil, length, ◌/◌, Bool, true, false, ◌&&◌, inl, inr, arith, refl, ap, sym}
 use Rattle.std.specs.Prelude.{IfSome, IfOk, IfErr}
 use Rattle.std.specs.List.{list_all}
-use Rattle.block_buffers.specs.Calls.{Reads}
+use Rattle.block_buffers.specs.Calls.{KeepsBlocks, Reads}
 use Rattle.block_buffers.specs.Disks.{Disk, called}
 use Rattle.block_buffers.specs.declared.devices.DeviceFault.{DeviceFault}
 use Rattle.screen_text.specs.Bytes.{is_text}
@@ -16,6 +16,13 @@ pub record Underway (d : Disk) (from count k : ℕ) (text : List ℕ) (disk : Op
   pub now : Disk
   pub told : disk ≡ Some now
   pub same : pages d from count ≡ joined (Ok text) (pages now (from + k) (count - k))
+
+-- one call behind another keeps the blocks that each of them keeps
+pub keeps_more : (a b c : Option Disk) → KeepsBlocks a b → KeepsBlocks b c → KeepsBlocks a c
+keeps_more None b c h k = tt
+keeps_more (Some d) None c h k = absurd h
+keeps_more (Some d) (Some e) None h k = absurd k
+keeps_more (Some d) (Some e) (Some f) h k = k ∙ h
 
 joined-none : (r : Result (List ℕ) Unprinted) → r ≡ joined (Ok []) r
 joined-none (Ok text) = refl

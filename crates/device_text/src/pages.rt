@@ -1,6 +1,7 @@
 //! Screens of a device as text.
 
 ghost use Rattle.std.specs.Prelude.{◌≡◌, ◌+◌, ◌-◌, Err, IfErr, IfOk, Ok, Some};
+ghost use Rattle.block_buffers.specs.Calls.{KeepsBlocks};
 ghost use Rattle.block_buffers.specs.Disks.{Disk, called};
 ghost use Rattle.device_text.specs.declared.pages.PageCause.{PageCause};
 ghost use Rattle.device_text.specs.Pages.{IsWhy, page, pages, written};
@@ -61,6 +62,7 @@ fn page_text<D: Device>(alloc: Global, device: &mut D, screen: u16) -> Result<Ve
     ensures text { IfOk result (λ v. (d : Disk) → D.disk device.old ≡ Some d → page d screen ≡ Ok v.items) }
     ensures refused { IfErr result (λ why. (d : Disk) → D.disk device.old ≡ Some d → IsWhy (page d screen) why) }
     ensures disk { (d : Disk) → D.disk device.old ≡ Some d → D.disk device.new ≡ Some (called d) }
+    ensures kept { KeepsBlocks (D.disk device.old) (D.disk device.new) }
 {
     let mut bytes = [b' '; BLOCK_SIZE];
     match device.read(screen, &mut bytes) {
@@ -89,6 +91,7 @@ pub fn pages_text<D: Device>(
 ) -> Result<Vec<u8>, Unprinted>
     ensures text { IfOk result (λ v. (d : Disk) → D.disk device.old ≡ Some d → pages d from (to + 1 - from) ≡ Ok v.items) }
     ensures refused { IfErr result (λ why. (d : Disk) → D.disk device.old ≡ Some d → IsWhy (pages d from (to + 1 - from)) why) }
+    ensures kept { KeepsBlocks (D.disk device.old) (D.disk device.new) }
 {
     let mut text = Vec::new(alloc);
     for index in 0..count_of(from, to) {

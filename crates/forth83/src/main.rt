@@ -242,10 +242,23 @@ fn write_screens(rt: &HostRuntime, text: &str, blocks: &str) -> Result<u8, u8> {
     Ok(replace(rt, ended, blocks))
 }
 
-/// Writes the new file that `new` names.
+/// Refuses to make a file that is there, and answers the status.
+fn refuse_existing(rt: &HostRuntime, name: &str) -> u8 {
+    match println!(rt; "error: {name} is there already") {
+        Ok(()) => 2,
+        Err(_) => 5,
+    }
+}
+
+/// Writes the new file that `new` names; one that is there is left alone.
 fn write_new(rt: &HostRuntime, blocks: &str, count: u32) -> Result<u8, u8> {
     if count > MOST_BLOCKS {
         return Err(say(rt, "error: a file has at most 65536 blocks", "", 2));
+    }
+    match fs::exists(rt, blocks) {
+        Ok(false) => {}
+        Ok(true) => return Err(refuse_existing(rt, blocks)),
+        Err(error) => return Err(refuse_file(rt, &error, blocks)),
     }
     let mut writer = standard_output(rt)?;
     let ended = do_new(rt.alloc(), count, &mut writer);

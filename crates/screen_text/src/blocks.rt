@@ -1,6 +1,6 @@
 //! Screens in the bytes of a block file.
 
-ghost use Rattle.std.specs.Prelude.{◌≡◌, ◌≤◌, ◌+◌, ◌*◌, ◌++◌, OnOk, drop, length, take};
+ghost use Rattle.std.specs.Prelude.{◌≡◌, ◌≤◌, ◌+◌, ◌*◌, ◌++◌, IfOk, OnOk, drop, length, take};
 ghost use Rattle.screen_text.specs.Blocks.{with_screen, with_screens};
 ghost use Rattle.screen_text.specs.Screens.{screens_of};
 
@@ -36,14 +36,15 @@ fn put_screen(file: &mut Vec<u8>, number: u16, bytes: &[u8]) -> Result<(), Alloc
     Ok(())
 }
 
-/// Writes the screens of a text into a block file.
-pub fn put_screens(file: &mut Vec<u8>, screens: &Screens) -> Result<(), AllocError>
+/// A block file with the screens of a text written into it.
+pub fn put_screens(file: Vec<u8>, screens: &Screens) -> Result<Vec<u8>, AllocError>
     requires { length screens.now.bytes.items ≡ 1024 * length screens.now.numbers.items }
-    ensures { OnOk result (file.new.items ≡ with_screens file.old.items (screens_of screens.now.numbers.items screens.now.bytes.items)) }
+    ensures { IfOk result (λ written. written.items ≡ with_screens file.items (screens_of screens.now.numbers.items screens.now.bytes.items)) }
 {
+    let mut written = file;
     for (index, number) in screens.numbers.iter().enumerate() {
         let start = SCREEN * index;
-        put_screen(file, *number, &screens.bytes[start..start + SCREEN])?;
+        put_screen(&mut written, *number, &screens.bytes[start..start + SCREEN])?;
     }
-    Ok(())
+    Ok(written)
 }

@@ -133,9 +133,8 @@ pub fn do_screens<W: Output>(alloc: Global, blocks: Vec<u8>, text: &[u8], writer
         Ok(screens) => screens,
         Err(fault) => return refuse_text(alloc, fault, writer),
     };
-    let mut file = blocks;
-    match put_screens(&mut file, &screens) {
-        Ok(()) => end_with_file(file),
+    match put_screens(blocks, &screens) {
+        Ok(file) => end_with_file(file),
         Err(_) => print_out_of_memory(writer),
     }
 }
