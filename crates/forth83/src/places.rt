@@ -115,15 +115,20 @@ pub fn blocks_of(alloc: Global, device: &mut FileDevice) -> Option<MemoryDevice>
 
 /// Where the word begins that was read when the stream had come to `place`.
 fn word_before(screen: &[u8], place: usize) -> usize {
-    let word = screen[..place].trim_ascii_end();
-    let before = word.iter().rposition(|byte| *byte == b' ');
-    before.map_or(0, |blank| blank + 1)
+    let Some(read) = screen.get(..place) else {
+        return 0;
+    };
+    let before = read.trim_ascii_end().iter().rposition(|byte| *byte == b' ');
+    before.map_or(0, |blank| blank.saturating_add(1))
 }
 
 /// Where the word begins that comes next behind `place`.
 fn word_behind(screen: &[u8], place: usize) -> usize {
-    let behind = screen[place..].iter().position(|byte| *byte != b' ');
-    behind.map_or(place, |blanks| place + blanks)
+    let Some(coming) = screen.get(place..) else {
+        return place;
+    };
+    let blanks = coming.iter().position(|byte| *byte != b' ');
+    blanks.map_or(place, |blanks| place.saturating_add(blanks))
 }
 
 /// Where the word begins for which the screen stopped when the stream had come to `place`: a name that isn't found, or that
