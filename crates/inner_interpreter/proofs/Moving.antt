@@ -3,13 +3,14 @@ use Rattle.std.proofs.Common.{◌≡◌, ℕ, zero, suc, ◌+◌, ◌-◌, ◌�
 use Rattle.std.proofs.lemmas.List.Sums.{sum_by-cons, sum_by-append}
 use Rattle.plain_rows.specs.Whole.{Whole}
 use Rattle.plain_rows.specs.declared.parts.Request.{Request}
+use Rattle.inner_interpreter.specs.declared.act.Act.{Act}
 use Rattle.inner_interpreter.specs.declared.stop.Stop.{Stop}
 use Rattle.inner_interpreter.specs.declared.stop.Stop.TheVariants.{Limit}
 use Rattle.inner_interpreter.specs.State.{State}
 use Rattle.inner_interpreter.specs.Tick.{ran, ticked, is_quiet, running}
 use Rattle.inner_interpreter.specs.Answer.{Reply, is_answer, asked_by}
 use Rattle.inner_interpreter.specs.Moves.{Turn, Tick, Answer, after, turned, AreAccepted, device_call, device_calls, is_tick, ticks_in, answers_in, HasMoved, HasRun}
-use Rattle.inner_interpreter.specs.Served.{HasAnswered}
+use Rattle.inner_interpreter.specs.Served.{HasActed, HasAnswered}
 use Rattle.inner_interpreter.specs.Worlds.{waiting}
 use Rattle.inner_interpreter.proofs.Ending.{answer_none, one_waits}
 use Rattle.inner_interpreter.proofs.Quiet.{ticked_runs}
@@ -59,6 +60,9 @@ moved_answer a b f g x = record {
   calls_are = x.calls_are ∙ ap (λ cs. f ++ cs) (sym (append-nil (device_call (Answer x.reply))));
   ticks_are = refl;
 }
+
+pub acted_answered : (a b : State) (f g : List Bool) (act : Act) → HasActed a b f g act → HasAnswered a b f g
+acted_answered a b f g act x = record { reply = x.reply; accepted = x.accepted; state_is = ap (λ v. v.0) x.acts; calls_are = x.calls_are }
 
 moved_tick : (p : Whole) (c : List Bool) → HasMoved (running p) (ticked p).0 c c 1
 unfolding after device_calls AreAccepted

@@ -47,3 +47,10 @@ pub record HasAnswered (old new : State) (calls calls' : List Bool) : Type 0 whe
   pub accepted : Accepts old (Answer reply)
   pub state_is : new ≡ (answer_of old reply).0
   pub calls_are : calls' ≡ calls ++ device_call (Answer reply)
+
+-- the same, with the machine's act
+pub record HasActed (old new : State) (calls calls' : List Bool) (act : Act) : Type 0 where
+  pub reply : Reply
+  pub accepted : Accepts old (Answer reply)
+  pub acts : (new, act) ≡ answer_of old reply
+  pub calls_are : calls' ≡ calls ++ device_call (Answer reply)

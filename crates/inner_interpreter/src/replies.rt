@@ -5,7 +5,7 @@ ghost use Rattle.block_buffers.specs.Disks.{Disk};
 ghost use Rattle.inner_interpreter.specs.Answer.{asked_by};
 ghost use Rattle.inner_interpreter.specs.Ends.{Marks};
 ghost use Rattle.inner_interpreter.specs.Lines.{IsBegun, IsLeft};
-ghost use Rattle.inner_interpreter.specs.Served.{Serves, Faults, HasAnswered, HasNotFailed};
+ghost use Rattle.inner_interpreter.specs.Served.{Serves, Faults, HasActed, HasAnswered, HasNotFailed};
 
 use crate::act::{Act, Answer};
 use crate::ends::{EndFault, Input};
@@ -76,7 +76,7 @@ pub fn answer_read<D: Device>(machine: &mut Machine, device: &mut D, block: u16)
     requires waits { asked_by machine.old.wait ≡ Some (Request.Read block) }
     requires goes { machine.old.halt ≡ None }
     ensures told { (disk : Disk) → D.disk device.old ≡ Some disk → (typed : List ℕ) → Serves machine.old (Request.Read block) typed disk machine.new (Some typed) (D.disk device.new) result }
-    ensures answered { HasAnswered machine.old machine.new (D.calls device.old) (D.calls device.new) }
+    ensures answered { HasActed machine.old machine.new (D.calls device.old) (D.calls device.new) result }
     ensures settled { machine.new.wait ≡ None }
     ensures read { HasNotFailed machine.new }
 {
@@ -92,7 +92,7 @@ pub fn answer_write<D: Device>(machine: &mut Machine, device: &mut D, block: u16
     requires waits { asked_by machine.old.wait ≡ Some (Request.Write block) }
     requires goes { machine.old.halt ≡ None }
     ensures told { (disk : Disk) → D.disk device.old ≡ Some disk → (typed : List ℕ) → Serves machine.old (Request.Write block) typed disk machine.new (Some typed) (D.disk device.new) result }
-    ensures answered { HasAnswered machine.old machine.new (D.calls device.old) (D.calls device.new) }
+    ensures answered { HasActed machine.old machine.new (D.calls device.old) (D.calls device.new) result }
     ensures settled { machine.new.wait ≡ None }
     ensures read { HasNotFailed machine.new }
 {
