@@ -28,6 +28,7 @@ pub mod Endings
 pub mod Residents
 pub mod Agreeing
 pub mod Making
+pub mod Moving
 pub mod Answering
 pub mod Residence
 pub mod Chaining

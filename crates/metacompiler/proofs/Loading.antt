@@ -246,7 +246,7 @@ saved_as old context n s n2 size l g c st lo hi top b low =
     by i h x y false e = let q = not_five i e in restored_other n s.memory i q ∙ g.same i h q x y
 
 -- whatever the ticks are
-by_limit : (old : Contents) (context : ℕ) (n n2 : List ℕ) (o : Out) (parts : Whole) (disk : Disk) (t k : ℕ) → Lasts t o (out parts disk k Ended) → IsLaidOr old n2 context (ended old.entry (restored n parts)) → IsLaidOr old n2 context (answered old.entry n o o.stop)
+by_limit : (old : Contents) (context : ℕ) (n n2 : List ℕ) (o : Out) (parts : Whole) (disk : Disk) (t k : ℕ) → Lasts t o (out parts disk k Ended) → IsLaidOr old n2 context (ended old.entry (restored n parts)) → IsLaidOr old n2 context (answered old.entry n o.parts o.stop)
 by_limit old context n n2 o parts disk t k (inl x) y = rw x.0 refl
 by_limit old context n n2 o parts disk t k (inr x) y =
     let s : Ended ≡ o.stop = ap (λ (p : Out). p.stop) x in

@@ -19,16 +19,16 @@ use Rattle.inner_interpreter.specs.Answer as answering
 use Rattle.inner_interpreter.specs.Answer.{Reply, asked_by, answered, answer_of, key_answered, line_answered, read_answered, write_answered}
 use Rattle.inner_interpreter.specs.Served.{Serves}
 use Rattle.inner_interpreter.specs.Runs.{served}
-use Rattle.metacompiler.specs.Rounds.{is_end, Stop, Ended, Limit, Fault, Halted, Asked, Out, out, is_ended, went, by_answer, by_device, by_request, by_tick, rounds, entered, then_screens, screens}
-use Rattle.metacompiler.specs.Making.{stop_by, continued, GoesOn, IsSettled, IsRound, StopsAt, IsSoFar, AreSoFar}
+use Rattle.metacompiler.specs.Rounds.{is_end, Stop, Ended, Limit, Fault, Halted, Asked, Out, out, is_ended, stop_by, went, by_answer, by_device, by_request, by_tick, rounds, entered, then_screens, screens}
+use Rattle.metacompiler.specs.Making.{continued, GoesOn, IsSettled, IsRound, StopsAt, IsSoFar, AreSoFar}
 
 -- what an event tells of the state behind a move
-abbrev Tells : State → Event → Type 0
+abbrev pub Tells : State → Event → Type 0
 Tells s event.Went = Runs s
 Tells s (event.Ask r) = (s.halt ≡ None) × (asked_by s.wait ≡ Some r)
 Tells s e = Unit {0}
 
-abbrev Told : State × Act → Type 0
+abbrev pub Told : State × Act → Type 0
 Told t = Tells t.0 t.1.event
 
 either : (b : Bool) (x y : State × Act) → Told x → Told y → Told (if b then x else y)
@@ -49,7 +49,7 @@ concluded_told w (s, FaultOut f) = fault_told s _ f
 concluded_told w (s, Abort span) = fault_told s _ 17
 concluded_told w (s, HaltOut) = tt
 
-ticked_told : (s : Whole) → Told (ticked s)
+pub ticked_told : (s : Whole) → Told (ticked s)
 unfolding ticked
 ticked_told s = concluded_told (taken s).0 (executed (taken s).0 (taken s).1)
 
@@ -64,7 +64,7 @@ answered_told s p answering.ReadFault = fault_told s _ _
 answered_told s p answering.WriteOk = (refl, refl)
 answered_told s p answering.WriteFault = fault_told s _ _
 
-answer_told : (s : State) (r : Request) (reply : Reply) → asked_by s.wait ≡ Some r → Told (answer_of s reply)
+pub answer_told : (s : State) (r : Request) (reply : Reply) → asked_by s.wait ≡ Some r → Told (answer_of s reply)
 unfolding answer_of
 answer_told s r reply e = by_wait s.wait e where
   by_wait : (w : Option (Request × ℕ)) → asked_by w ≡ Some r → Told (elim w [ Some p ↦ answered s.parts p reply | None ↦ (s, quiet) ])
@@ -76,7 +76,7 @@ abbrev pub NoAsk : Event → Type 0
 NoAsk (event.Ask r) = ⊥
 NoAsk e = Unit {0}
 
-stop_goes : (s : State) (e : Event) → Tells s e → GoesOn s (stop_by s e)
+pub stop_goes : (s : State) (e : Event) → Tells s e → GoesOn s (stop_by s e)
 stop_goes s event.Went h = by_end (is_ended s.parts) where
   by_end : (b : Bool) → GoesOn s (if b then Some Ended else None)
   by_end true = h

@@ -9,6 +9,7 @@ pub mod Turning
 pub mod Opened
 pub mod Between
 pub mod Loaded
+pub mod Moved
 pub mod Resident
 pub mod Compiled
 pub mod Turns

@@ -41,12 +41,12 @@ fault_of rounds.Halted = Halted
 fault_of rounds.Asked = Asked
 fault_of _ = Limit
 
-abbrev pub answered : (entry : ℕ) → (before : List ℕ) → Out → Stop → Result Contents LoadFault
-answered entry before o Ended = ended entry (restored before o.parts)
-answered entry before o why = Err (fault_of why)
+abbrev pub answered : (entry : ℕ) → (before : List ℕ) → Whole → Stop → Result Contents LoadFault
+answered entry before s Ended = ended entry (restored before s)
+answered entry before s why = Err (fault_of why)
 
 abbrev pub by_out : (entry : ℕ) → (before : List ℕ) → Out → Loaded
-by_out entry before o = record { answer = answered entry before o o.stop; disk = o.disk }
+by_out entry before o = record { answer = answered entry before o.parts o.stop; disk = o.disk }
 
 -- INTERPRET's compilation address, as a search for it comes out
 abbrev pub address_found : Sought → Result ℕ LoadFault

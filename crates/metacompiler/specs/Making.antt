@@ -1,18 +1,13 @@
--- One round, and the rounds of screens, by what the machine and its device tell.
+-- One round, and the rounds of screens, by what the machine and its device tell, and by moves.
 use Rattle.std.specs.Prelude.{◌≡◌, ℕ, None, Some, Option, if◌then◌else◌}
 use Rattle.block_buffers.specs.Disks.{Disk}
 use Rattle.plain_rows.specs.Whole.{Whole}
 use Rattle.plain_rows.specs.declared.parts.Request.{Request}
+use Rattle.plain_rows.specs.declared.parts.Request.TheVariants.{Read, Write}
 use Rattle.inner_interpreter.specs.State.{State}
 use Rattle.inner_interpreter.specs.Tick.{Runs, ticked}
-use Rattle.inner_interpreter.specs.declared.act.Event.{Event}
-use Rattle.inner_interpreter.specs.declared.act.Event.TheVariants as event
-use Rattle.metacompiler.specs.Rounds.{Stop, Ended, Out, out, is_ended, stopped, by_request, by_tick, rounds, screens}
-
--- where the rounds stop behind a move
-abbrev pub stop_by : State → Event → Option Stop
-stop_by s event.Went = if is_ended s.parts then Some Ended else None
-stop_by s e = Some (stopped e)
+use Rattle.metacompiler.specs.Rounds.{Stop, Ended, Asked, Out, out, by_request, by_tick, rounds, screens}
+use Rattle.metacompiler.specs.Moved.{Stage, ComesTo, AreRead}
 
 -- the rounds go on, or stop
 abbrev pub continued : (left : ℕ) → (Whole → Disk → Out) → State → Disk → Option Stop → Out
@@ -62,3 +57,24 @@ pub record AreSoFar (w count screen : ℕ) (o : Out) (new : State) (disk : Optio
   pub disk_is : disk ≡ Some told
   pub same : screens w count screen left new.parts told ≡ o
   pub goes : Runs new
+
+-- rounds come from p to q and go on, whatever comes behind them, or they stop there
+abbrev pub LeadsTo : (p q : Stage) → Option Stop → Type 0
+LeadsTo p q None = (r : Stage) (y : Stop) → ComesTo q r y → ComesTo p r y
+LeadsTo p q (Some y) = ComesTo p q y
+
+-- and the machine runs where they go on, and at the screen's end
+pub record IsLed (p q : Stage) (y : Option Stop) : Type 0 where
+  pub goes : GoesOn q.machine y
+  pub leads : LeadsTo p q y
+
+-- where a request was answered, or nothing was done
+abbrev pub IsSettledBy : Request → (p q : Stage) → Option Stop → Type 0
+IsSettledBy (Read u) p q y = IsLed p q y
+IsSettledBy (Write u) p q y = IsLed p q y
+IsSettledBy _ p q y = (q ≡ p) × (y ≡ Some Asked)
+
+-- so far screens were read, and where the others are read, so many from this one on, this holds of where they stop
+pub record IsReadOn (word count screen : ℕ) (p : Stage) (P : Stage → Stop → Type 0) : Type 0 where
+  pub goes : Runs p.machine
+  pub on : (q : Stage) (y : Stop) → AreRead word count screen p q y → P q y

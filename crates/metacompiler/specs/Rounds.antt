@@ -1,5 +1,5 @@
 -- The rounds by which a machine compiles screens, by the ticks that are left, with a device that tells its blocks.
-use Rattle.std.specs.Prelude.{ℕ, zero, suc, ◌+◌, ◌==◌, ◌≡◌, List, [], Bool, true, false, None, Some, is_none, ◌&&◌, if◌then◌else◌, length}
+use Rattle.std.specs.Prelude.{ℕ, zero, suc, ◌+◌, ◌==◌, ◌≡◌, List, [], Bool, true, false, Option, None, Some, is_none, ◌&&◌, if◌then◌else◌, length}
 use Rattle.block_buffers.specs.Disks.{Disk}
 use Rattle.memory.specs.Bytes.{put_cell}
 use Rattle.memory.specs.declared.system.TheConstants.{TO_IN, BLK}
@@ -45,6 +45,11 @@ stopped (event.Fault f) = Fault f
 stopped (event.Halt (cause.Fault f)) = Fault f
 stopped (event.Halt c) = Halted
 stopped _ = Asked
+
+-- where the rounds stop behind a move, if they do
+abbrev pub stop_by : State → Event → Option Stop
+stop_by s event.Went = if is_ended s.parts then Some Ended else None
+stop_by s e = Some (stopped e)
 
 -- behind an answer
 abbrev pub by_answer : ℕ → (Whole → Disk → Out) → State → Disk → Event → Out

@@ -1,13 +1,14 @@
 //! Screens are loaded on an image: the machine that it is loaded to compiles them.
 
-ghost use Rattle.std.specs.Prelude.{◌≡◌, ◌+◌, ◌-◌, Some};
+ghost use Rattle.std.specs.Prelude.{◌≡◌, ◌+◌, ◌-◌, Some, Err, IfOk, IfErr};
 ghost use Rattle.block_buffers.specs.Disks.{Disk};
 ghost use Rattle.memory.specs.Bytes.{put_cell};
 ghost use Rattle.inner_interpreter.specs.Tick.{Runs};
 ghost use Rattle.metacompiler.specs.Rounds.{entered, rounds, screens};
 ghost use Rattle.metacompiler.specs.Loaded.{interpret_in, by_interpret, ended, fault_of, loaded_by_machine, IsLoaded, IsSaved};
+ghost use Rattle.metacompiler.specs.Moved.{stage, at_screen, AreRead, word_for, word_of, HasRead, HasLoaded};
 ghost use Rattle.metacompiler.specs.Compiled.{Compiles};
-ghost use Rattle.metacompiler.specs.Making.{StopsAt};
+ghost use Rattle.metacompiler.specs.Making.{IsLed, StopsAt};
 
 use crate::rounds::{Stop, is_end, make_rounds};
 use block_buffers::Device;
@@ -71,6 +72,7 @@ fn load_screen<D: Device>(
     left: &mut u64,
 ) -> Stop
     ensures told { (d : Disk) → D.disk device.old ≡ Some d → Runs machine.old → StopsAt (rounds left.old (entered machine.old.parts interpret screen) d) machine.new (D.disk device.new) left.new result }
+    ensures moved { Runs machine.old → IsLed (at_screen interpret screen (stage machine.old (D.calls device.old) left.old)) (stage machine.new (D.calls device.new) left.new) (Some result) }
 {
     machine.set_cell(BLK, screen);
     machine.set_cell(TO_IN, 0);
@@ -90,6 +92,7 @@ fn load_screens<D: Device>(
     left: &mut u64,
 ) -> Stop
     ensures told { (d : Disk) → D.disk device.old ≡ Some d → Runs machine.old → StopsAt (screens interpret (to + 1 - from) from left.old machine.old.parts d) machine.new (D.disk device.new) left.new result }
+    ensures moved { Runs machine.old → AreRead interpret (to + 1 - from) from (stage machine.old (D.calls device.old) left.old) (stage machine.new (D.calls device.new) left.new) result }
 {
     for screen in from..=to {
         let stop = load_screen(machine, device, interpret, screen, left);
@@ -148,6 +151,8 @@ pub fn load_on<D: Device>(
     limit: u64,
 ) -> Result<Image, LoadFault>
     ensures told { (d : Disk) → D.disk device.old ≡ Some d → Runs machine.old → IsLoaded (by_interpret entry machine.old.parts d from to limit (interpret_in machine.old.parts.memory)) result (D.disk device.new) }
+    ensures refused { IfErr (word_for from to (interpret_in machine.old.parts.memory)) (λ c. (result ≡ Err c) × (device.new ≡ device.old)) }
+    ensures moved { Runs machine.old → IfOk (word_for from to (interpret_in machine.old.parts.memory)) (λ word. HasRead word entry from to (stage machine.old (D.calls device.old) limit) (D.calls device.new) result) }
 {
     let interpret = match interpret_in(machine) {
         Ok(interpret) => interpret,
@@ -180,6 +185,11 @@ pub fn load_by_machine<D: Device>(
 ) -> Result<Image, LoadFault>
     ensures told { (d : Disk) → D.disk device.old ≡ Some d → IsLoaded (loaded_by_machine image.now d from to limit) result (D.disk device.new) }
     ensures compiled { (d : Disk) → D.disk device.old ≡ Some d → Compiles image.now d from to result }
+
+    // Whatever the device is: where no INTERPRET is found or the first screen is 0, this is answered, and the device is as
+    // it was; else the screens are read by moves of the machine, up to the first that doesn't end.
+    ensures refused { IfErr (word_of image.now from to) (λ c. IsSaved (Err c) result × (device.new ≡ device.old)) }
+    ensures moved { IfOk (word_of image.now from to) (λ word. HasLoaded word image.now (D.block_count device.old) from to limit (D.calls device.old) (D.calls device.new) result) }
 {
     let count = device.count();
     match Machine::load(alloc, image, count) {

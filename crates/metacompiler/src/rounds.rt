@@ -1,11 +1,12 @@
 //! The rounds of one screen.
 
-ghost use Rattle.std.specs.Prelude.{◌≡◌, None, Some};
+ghost use Rattle.std.specs.Prelude.{◌≡◌, ◌+◌, None, Some};
 ghost use Rattle.block_buffers.specs.Disks.{Disk};
 ghost use Rattle.inner_interpreter.specs.Answer.{asked_by};
 ghost use Rattle.inner_interpreter.specs.Tick.{Runs};
-ghost use Rattle.metacompiler.specs.Rounds.{is_end, is_ended, stopped, rounds};
-ghost use Rattle.metacompiler.specs.Making.{stop_by, IsSettled, IsRound, StopsAt};
+ghost use Rattle.metacompiler.specs.Rounds.{is_end, is_ended, stopped, stop_by, rounds};
+ghost use Rattle.metacompiler.specs.Moved.{stage};
+ghost use Rattle.metacompiler.specs.Making.{IsSettled, IsSettledBy, IsRound, IsLed, StopsAt};
 
 use block_buffers::Device;
 use inner_interpreter::{Cause, Event, Machine, answer_read, answer_write};
@@ -65,7 +66,7 @@ fn stop_by(machine: &Machine, event: Event) -> Option<Stop>
 }
 
 /// A request is answered where it is one of the device, and a tick is left.
-#[tactic(auto, using(crate::proofs::Making::read_settled, crate::proofs::Making::write_settled, crate::proofs::Making::unsettled))]
+#[tactic(auto, using(crate::proofs::Making::read_settled, crate::proofs::Making::write_settled, crate::proofs::Making::unsettled, crate::proofs::Moving::none_left))]
 fn settle<D: Device>(
     machine: &mut Machine,
     device: &mut D,
@@ -75,6 +76,7 @@ fn settle<D: Device>(
     requires waits { asked_by machine.old.wait ≡ Some request }
     requires goes { machine.old.halt ≡ None }
     ensures told { (d : Disk) → D.disk device.old ≡ Some d → IsSettled left machine.old d request machine.new (D.disk device.new) result }
+    ensures moved { IsSettledBy request (stage machine.old (D.calls device.old) left) (stage machine.new (D.calls device.new) left) result }
 {
     match request {
         Request::Read { block } => {
@@ -99,6 +101,7 @@ fn settle<D: Device>(
 #[tactic(auto, using(crate::proofs::Making::asked_waits, crate::proofs::Making::round_asked, crate::proofs::Making::round_made))]
 fn make_round<D: Device>(machine: &mut Machine, device: &mut D, left: u64) -> Option<Stop>
     ensures told { (d : Disk) → D.disk device.old ≡ Some d → Runs machine.old → IsRound left machine.old.parts d machine.new (D.disk device.new) result }
+    ensures moved { Runs machine.old → IsLed (stage machine.old (D.calls device.old) (left + 1)) (stage machine.new (D.calls device.new) left) result }
 {
     match machine.tick() {
         Ok(act) => match act.event {
@@ -115,6 +118,7 @@ fn make_round<D: Device>(machine: &mut Machine, device: &mut D, left: u64) -> Op
 #[tactic(auto, using(crate::proofs::Making::none_so_far, crate::proofs::Making::more_so_far, crate::proofs::Making::stops_so_far, crate::proofs::Making::all_so_far))]
 pub fn make_rounds<D: Device>(machine: &mut Machine, device: &mut D, left: &mut u64) -> Stop
     ensures told { (d : Disk) → D.disk device.old ≡ Some d → Runs machine.old → StopsAt (rounds left.old machine.old.parts d) machine.new (D.disk device.new) left.new result }
+    ensures moved { Runs machine.old → IsLed (stage machine.old (D.calls device.old) left.old) (stage machine.new (D.calls device.new) left.new) (Some result) }
 {
     while *left > 0 {
         *left -= 1;

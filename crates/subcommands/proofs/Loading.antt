@@ -1,36 +1,40 @@
 -- What `load` ends with, by what loading answers.
-use Rattle.std.proofs.Common.{◌≡◌, ◌⊎◌, ℕ, List, Option, Some, None, Result, Ok, Err, Vec, inl, inr, refl, sym}
-use Rattle.std.specs.Prelude.{IfSome, IsNone, MatchOption}
-use Rattle.std.specs.declared.alloc.Global.{Global}
+use Rattle.std.proofs.Common.{◌≡◌, ℕ, Bool, List, Option, Some, None, Result, Ok, Err, ap, refl, subst}
+use Rattle.std.specs.Prelude.{IfErr, IfOk, IfSome, IsNone, MatchOption}
 use Rattle.block_buffers.specs.Disks.{Disk}
 use Rattle.image_loader.specs.Files.{Contents}
-use Rattle.metacompiler.specs.Loaded.{Loaded, IsLoaded}
+use Rattle.metacompiler.specs.Loaded.{IsLoaded, IsSaved, loaded_by_machine}
+use Rattle.metacompiler.specs.Moved.{HasLoaded, word_of}
 use Rattle.metacompiler.specs.declared.load.LoadFault.{LoadFault}
-use Rattle.metacompiler.specs.declared.load.LoadFault.TheVariants as load
-use Rattle.subcommands.specs.Lines.{IsFileOf, PrintsOutOfMemory, image_line}
-use Rattle.subcommands.specs.Loads.{EndsLoaded, EndsUnloaded, IsLoadedFile, PrintsUnloaded}
+use Rattle.subcommands.specs.Loads.{EndsAnswered, EndsLoaded, EndsMoved}
 use Rattle.subcommands.specs.declared.commands.Ended.{Ended}
 
--- where there is a file this holds of it, else that
-pub by_file : {T A Q : Type 0} {P R : T → Type 0} (file : Option T) → IfSome file P → (IsNone file → Q) → ((x : T) → P x → R x)
-    → MatchOption file (A ⊎ Q) R
-by_file None is none all = inr (none refl)
-by_file (Some x) is none all = all x is
+-- where there is a value this holds of it, and else that
+pub by_value : {T Q : Type 0} {P : T → Type 0} (o : Option T) → IfSome o P → (IsNone o → Q) → MatchOption o Q P
+by_value None is none = none refl
+by_value (Some x) is none = is
 
-pub image_loaded : (o : Loaded) (image : Contents) (ended : Ended) (disk : Option Disk) (old new : Option (List ℕ))
-    → IsLoaded o (Ok image) disk → IfSome ended.file (λ file. IsFileOf image (image_line image) file.items old new)
-    → (IsNone ended.file → PrintsOutOfMemory ended.status old new) → EndsLoaded o ended disk old new
-image_loaded o image ended disk old new is told none =
-    by_file ended.file told none (λ file made. record { image = image; answer_is = sym is.0; disk_is = is.1; told = made })
+pub loaded_so : (read old : Contents) (d : Disk) (from to limit : ℕ) (answer : Result Contents LoadFault) (disk : Option Disk)
+    (ended : Ended) (sent sent' : Option (List ℕ)) → read ≡ old → IsLoaded (loaded_by_machine read d from to limit) answer disk
+    → EndsAnswered answer ended sent sent' → EndsLoaded (loaded_by_machine old d from to limit) disk ended sent sent'
+loaded_so read old d from to limit answer disk ended sent sent' same is ends =
+    record { answer = answer; is_loaded = subst (λ i. IsLoaded (loaded_by_machine i d from to limit) answer disk) same is; ends = ends }
 
-pub fault_loaded : (o : Loaded) (fault : LoadFault) (status : ℕ) (disk : Option Disk) (old new : Option (List ℕ))
-    → IsLoaded o (Err fault) disk → PrintsUnloaded fault status old new → EndsUnloaded o status disk old new ⊎ PrintsOutOfMemory status old new
-fault_loaded o load.OutOfMemory status disk old new is printed = inr printed
-fault_loaded o load.NotFound status disk old new is printed = inl (record { fault = load.NotFound; answer_is = sym is.0; disk_is = is.1; printed = printed })
-fault_loaded o load.ChainTooLong status disk old new is printed = inl (record { fault = load.ChainTooLong; answer_is = sym is.0; disk_is = is.1; printed = printed })
-fault_loaded o (load.Fault n) status disk old new is printed = inl (record { fault = load.Fault n; answer_is = sym is.0; disk_is = is.1; printed = printed })
-fault_loaded o load.Halted status disk old new is printed = inl (record { fault = load.Halted; answer_is = sym is.0; disk_is = is.1; printed = printed })
-fault_loaded o load.Asked status disk old new is printed = inl (record { fault = load.Asked; answer_is = sym is.0; disk_is = is.1; printed = printed })
-fault_loaded o load.Limit status disk old new is printed = inl (record { fault = load.Limit; answer_is = sym is.0; disk_is = is.1; printed = printed })
-fault_loaded o load.Unfinished status disk old new is printed = inl (record { fault = load.Unfinished; answer_is = sym is.0; disk_is = is.1; printed = printed })
-fault_loaded o load.BadSize status disk old new is printed = inl (record { fault = load.BadSize; answer_is = sym is.0; disk_is = is.1; printed = printed })
+pub moved_so : (read old : Contents) (count from to limit : ℕ) (calls calls' : List Bool) (answer : Result Contents LoadFault)
+    (ended : Ended) (sent sent' : Option (List ℕ)) → read ≡ old
+    → IfErr (word_of read from to) (λ why. IsSaved (Err why) answer × (calls' ≡ calls))
+    → IfOk (word_of read from to) (λ word. HasLoaded word read count from to limit calls calls' answer)
+    → EndsAnswered answer ended sent sent' → EndsMoved old count from to limit calls calls' ended sent sent'
+moved_so read old count from to limit calls calls' answer ended sent sent' same unread is ends = record {
+  answer = answer;
+  unread = subst (λ i. IfErr (word_of i from to) (λ why. IsSaved (Err why) answer × (calls' ≡ calls))) same unread;
+  read = subst (λ i. IfOk (word_of i from to) (λ word. HasLoaded word i count from to limit calls calls' answer)) same is;
+  ends = ends;
+}
+
+-- a device that is as it was had no call
+pub uncalled : {D : Type 0} (calls : D → List Bool) (device device' : D) (word : Result ℕ LoadFault) (answer : Result Contents LoadFault)
+    → IfErr word (λ why. IsSaved (Err why) answer × (device' ≡ device))
+    → IfErr word (λ why. IsSaved (Err why) answer × (calls device' ≡ calls device))
+uncalled calls device device' (Ok word) answer h = tt
+uncalled calls device device' (Err why) answer h = (h.0, ap calls h.1)

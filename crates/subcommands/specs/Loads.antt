@@ -1,8 +1,9 @@
 -- What `load` prints, and the file that it makes.
-use Rattle.std.specs.Prelude.{◌≡◌, ◌⊎◌, ℕ, List, ◌++◌, Option, Ok, Err, MatchOption, codes, decimal}
+use Rattle.std.specs.Prelude.{◌≡◌, ℕ, Bool, List, ◌++◌, Option, Some, Result, Ok, Err, IfErr, IfOk, IsNone, MatchOption, codes, decimal}
 use Rattle.block_buffers.specs.Disks.{Disk}
 use Rattle.image_loader.specs.Files.{Contents, IsFile}
-use Rattle.metacompiler.specs.Loaded.{Loaded, loaded_by_machine}
+use Rattle.metacompiler.specs.Loaded.{Loaded, IsLoaded, IsSaved, loaded_by_machine}
+use Rattle.metacompiler.specs.Moved.{HasLoaded, word_of}
 use Rattle.metacompiler.specs.declared.load.LoadFault.{LoadFault}
 use Rattle.metacompiler.specs.declared.load.LoadFault.TheVariants as load
 use Rattle.subcommands.specs.Lines.{IsFileOf, PrintsOutOfMemory, PrintsRefusal, image_line}
@@ -24,25 +25,27 @@ abbrev pub PrintsUnloaded : LoadFault → (status : ℕ) → (old new : Option (
 PrintsUnloaded load.OutOfMemory status old new = PrintsOutOfMemory status old new
 PrintsUnloaded why status old new = PrintsRefusal (codes "load") (load_cause why) status old new
 
--- these bytes are the file of the image that loading comes to, and its line was printed
-pub record IsLoadedFile (o : Loaded) (bytes : List ℕ) (disk : Option Disk) (old new : Option (List ℕ)) : Type 0 where
-  pub image : Contents
-  pub answer_is : o.answer ≡ Ok image
-  pub disk_is : disk ≡ Some o.disk
-  pub told : IsFileOf image (image_line image) bytes old new
+-- so `load` ends where this is answered: with the file of the image and its line, or with why there is none; memory may
+-- run out behind it
+abbrev pub EndsAnswered : Result Contents LoadFault → Ended → (old new : Option (List ℕ)) → Type 0
+EndsAnswered (Ok image) ended old new =
+    MatchOption ended.file (PrintsOutOfMemory ended.status old new)
+    (λ file. IsFileOf image (image_line image) file.items old new)
+EndsAnswered (Err why) ended old new = IsNone ended.file × PrintsUnloaded why ended.status old new
 
--- loading comes to no image, and why was printed
-pub record EndsUnloaded (o : Loaded) (status : ℕ) (disk : Option Disk) (old new : Option (List ℕ)) : Type 0 where
-  pub fault : LoadFault
-  pub answer_is : o.answer ≡ Err fault
-  pub disk_is : disk ≡ Some o.disk
-  pub printed : PrintsUnloaded fault status old new
+-- what loading comes to is answered, or that memory ran out
+pub record EndsLoaded (o : Loaded) (disk : Option Disk) (ended : Ended) (old new : Option (List ℕ)) : Type 0 where
+  pub answer : Result Contents LoadFault
+  pub is_loaded : IsLoaded o answer disk
+  pub ends : EndsAnswered answer ended old new
 
--- so `load` ends where loading comes to this, or because memory ran out
-abbrev pub EndsLoaded : Loaded → Ended → (disk : Option Disk) → (old new : Option (List ℕ)) → Type 0
-EndsLoaded o ended disk old new =
-    MatchOption ended.file (EndsUnloaded o ended.status disk old new ⊎ PrintsOutOfMemory ended.status old new)
-    (λ file. IsLoadedFile o file.items disk old new)
+-- what follows from the moves that the machine made is answered, whatever the device is
+pub record EndsMoved (image : Contents) (count from to limit : ℕ) (calls calls' : List Bool) (ended : Ended)
+    (old new : Option (List ℕ)) : Type 0 where
+  pub answer : Result Contents LoadFault
+  pub unread : IfErr (word_of image from to) (λ why. IsSaved (Err why) answer × (calls' ≡ calls))
+  pub read : IfOk (word_of image from to) (λ word. HasLoaded word image count from to limit calls calls' answer)
+  pub ends : EndsAnswered answer ended old new
 
 -- where the bytes are an image's file and the device tells its blocks: of what loading the screens comes to
 abbrev pub OfLoad : List ℕ → Option Disk → (from to limit : ℕ) → (Loaded → Type 0) → Type 0

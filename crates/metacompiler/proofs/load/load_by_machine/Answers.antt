@@ -1,17 +1,29 @@
-use Rattle.std.proofs.Common.{◌≡◌, ◌∙◌, length, Some, refl, ap, subst}
+use Rattle.std.proofs.Common.{◌≡◌, ◌∙◌, length, Some, inl, refl, ap, subst}
+use Rattle.std.specs.Prelude.{IfOk, IfErr, Err}
+use Rattle.std.proofs.lemmas.Result.{IfOk-weaker}
 use Rattle.block_buffers.specs.Disks.{Disk}
 use Rattle.inner_interpreter.specs.State.{State, start}
 use Rattle.inner_interpreter.specs.Tick.{Runs}
-use Rattle.metacompiler.specs.Loaded.{interpret_in, by_interpret, loaded_by_machine, IsLoaded}
+use Rattle.metacompiler.specs.Loaded.{interpret_in, by_interpret, loaded_by_machine, IsLoaded, IsSaved}
+use Rattle.metacompiler.specs.Moved.{stage, word_for, word_of, HasRead, HasLoaded}
 use Rattle.metacompiler.proofs.Agreeing.{compiles_by}
+use Rattle.metacompiler.proofs.Moving.{refused_saved, unloaded, not_read}
 use Rattle.metacompiler.proofs.load.load_by_machine.Goals as goal
 
 pub returns-in-Ok : goal.returns-in-Ok
 returns-in-Ok g c = record {
   told = told;
   compiled = λ d q. compiles_by c.args.image.now d c.args.from c.args.to c.args.limit c.load_on.result (g.D.Device.disk c.load_on.new.device) (told d q);
+  refused = refused_saved _ c.load_on.result (c.load_on.new.device ≡ c.args.device.now) (subst (λ (s : State). IfErr (word_for c.args.from c.args.to (interpret_in s.parts.memory)) (λ e. (c.load_on.result ≡ Err e) × (c.load_on.new.device ≡ c.args.device.now))) started c.load_on.ensures.refused);
+  moved = IfOk-weaker _ _ _ (λ word h. inl h)
+      (subst (λ (s : State). IfOk (word_for c.args.from c.args.to (interpret_in s.parts.memory)) (λ word. HasRead word c.args.image.now.entry c.args.from c.args.to (stage s (g.D.Device.calls c.args.device.now) c.args.limit) (g.D.Device.calls c.load_on.new.device) c.load_on.result)) started
+      (subst (λ e. IfOk (word_for c.args.from c.args.to (interpret_in c.in-Ok.machine.parts.memory)) (λ word. HasRead word e c.args.from c.args.to (stage c.in-Ok.machine (g.D.Device.calls c.args.device.now) c.args.limit) (g.D.Device.calls c.load_on.new.device) c.load_on.result)) c.entry.ensures
+      (c.load_on.ensures.moved (rw started (refl, refl)))));
 }
   where
+    started : c.in-Ok.machine ≡ start c.args.image.now (g.D.Device.block_count c.args.device.now)
+    started = c.in-Ok.ensures ∙ ap (λ n. start c.args.image.now n) c.count-count.ensures.value
+
     told : (d : Disk) → g.D.Device.disk c.args.device.now ≡ Some d → IsLoaded (loaded_by_machine c.args.image.now d c.args.from c.args.to c.args.limit) c.load_on.result (g.D.Device.disk c.load_on.new.device)
     told d q =
         let count : c.count-count.result ≡ length d.blocks = rw q at c.count-count.ensures.told in
@@ -20,3 +32,9 @@ returns-in-Ok g c = record {
         subst (λ (s : State). IsLoaded (by_interpret c.args.image.now.entry s.parts d c.args.from c.args.to c.args.limit (interpret_in s.parts.memory)) c.load_on.result (g.D.Device.disk c.load_on.new.device)) m
         (subst (λ e. IsLoaded (by_interpret e c.in-Ok.machine.parts d c.args.from c.args.to c.args.limit (interpret_in c.in-Ok.machine.parts.memory)) c.load_on.result (g.D.Device.disk c.load_on.new.device)) c.entry.ensures
         (c.load_on.ensures.told d q runs))
+
+pub returns-in-Err-clause-refused : goal.returns-in-Err-clause-refused
+returns-in-Err-clause-refused g c = unloaded _ _ refl
+
+pub returns-in-Err-clause-moved : goal.returns-in-Err-clause-moved
+returns-in-Err-clause-moved g c = not_read _ _ _ _ _ _ _

@@ -1,0 +1,86 @@
+-- What loading screens on an image answers, whatever the device is: by the moves that the machine made.
+use Rattle.std.specs.Prelude.{◌≡◌, ◌<◌, ℕ, zero, suc, ◌+◌, ◌-◌, ◌==◌, ◌&&◌, ◌⊎◌, nat_le, if◌then◌else◌, Bool, IsFalse, List, [], ◌∷◌, ◌++◌, Option, Some, None, MatchOption, Result, Ok, Err}
+use Rattle.image_loader.specs.Files.{Contents}
+use Rattle.memory.specs.Bytes.{front_put, zeros}
+use Rattle.plain_rows.specs.declared.faults.TheConstants.{BLOCK_ZERO}
+use Rattle.plain_rows.specs.declared.parts.Request.TheVariants.{Read, Write}
+use Rattle.inner_interpreter.specs.declared.act.Event.{Event}
+use Rattle.inner_interpreter.specs.declared.act.Event.TheVariants as event
+use Rattle.inner_interpreter.specs.State.{State, start}
+use Rattle.inner_interpreter.specs.Tick.{running, ticked}
+use Rattle.inner_interpreter.specs.Answer.{answer_of}
+use Rattle.inner_interpreter.specs.Moves.{Turn, Tick, Answer, turned, Accepts, device_call}
+use Rattle.metacompiler.specs.Rounds.{Stop, Ended, Limit, is_end, stop_by, entered}
+use Rattle.metacompiler.specs.Loaded.{LoadFault, Fault, OutOfMemory, interpret_in, answered, IsSaved}
+
+-- how far loading has come: the machine, the calls that its device was given, each with whether it failed, and how many
+-- ticks are left
+pub record Stage : Type 0 where
+  pub machine : State
+  pub calls : List Bool
+  pub left : ℕ
+
+abbrev pub stage : State → List Bool → ℕ → Stage
+stage s calls left = record { machine = s; calls = calls; left = left }
+
+-- behind a tick, or an answer, which may tell of a call
+abbrev pub behind : Stage → Turn → Stage
+behind p Tick = stage (turned p.machine Tick) p.calls (p.left - 1)
+behind p (Answer reply) = stage (turned p.machine (Answer reply)) (p.calls ++ device_call (Answer reply)) p.left
+
+-- why rounds stop behind a tick with this event, if they do: where the device is asked they go on
+abbrev pub stop_by_tick : State → Event → Option Stop
+stop_by_tick s (event.Ask (Read u)) = None
+stop_by_tick s (event.Ask (Write u)) = None
+stop_by_tick s e = stop_by s e
+
+abbrev pub stop_behind : State → Turn → Option Stop
+stop_behind s Tick = let t = ticked s.parts in stop_by_tick t.0 t.1.event
+stop_behind s (Answer reply) = let t = answer_of s reply in stop_by t.0 t.1.event
+
+-- these moves are the rounds of a screen, which come from p to q and stop there for this: while a tick is left the
+-- machine makes a move that it accepts, up to the first behind which they stop
+unfoldable pub AreRounds : List Turn → (p q : Stage) → Stop → Type 0
+AreRounds [] p q y = (p.left ≡ 0) × (q ≡ p) × (y ≡ Limit)
+AreRounds (t ∷ ts) p q y =
+    (0 < p.left) × Accepts p.machine t
+    × MatchOption (stop_behind p.machine t) (AreRounds ts (behind p t) q y) (λ z. (ts ≡ []) × (q ≡ behind p t) × (y ≡ z))
+
+-- so the rounds of a screen come from p to q
+pub record ComesTo (p q : Stage) (y : Stop) : Type 0 where
+  pub moves : List Turn
+  pub rounds : AreRounds moves p q y
+
+-- the machine is entered to read a screen
+abbrev pub at_screen : (word screen : ℕ) → Stage → Stage
+at_screen word screen p = stage (running (entered p.machine.parts word screen)) p.calls p.left
+
+-- so many screens from a number on are read in turn, up to the first that doesn't end
+unfoldable pub AreRead : (word count screen : ℕ) → (p q : Stage) → Stop → Type 0
+AreRead word zero screen p q y = (q ≡ p) × (y ≡ Ended)
+AreRead word (suc more) screen p q y =
+    (IsFalse (is_end y) × ComesTo (at_screen word screen p) q y)
+    ⊎ ((r : Stage) × ComesTo (at_screen word screen p) r Ended × AreRead word more (screen + 1) r q y)
+
+-- the word that each screen is read by, or why none is read
+abbrev pub word_for : (from to : ℕ) → Result ℕ LoadFault → Result ℕ LoadFault
+word_for from to (Ok word) = if (from == 0) && nat_le from to then Err (Fault BLOCK_ZERO) else Ok word
+word_for from to (Err c) = Err c
+
+abbrev pub word_of : Contents → (from to : ℕ) → Result ℕ LoadFault
+word_of image from to = word_for from to (interpret_in (front_put image.bytes zeros))
+
+-- screens were read by this word, and what is answered follows from where that stopped
+pub record HasRead (word entry from to : ℕ) (p : Stage) (calls : List Bool) (result : Result Contents LoadFault)
+    : Type 0 where
+  pub machine : State
+  pub left : ℕ
+  pub stop : Stop
+  pub read : AreRead word (to + 1 - from) from p (stage machine calls left) stop
+  pub answer : IsSaved (answered entry p.machine.parts.memory machine.parts stop) result
+
+-- so it is on an image, with at most so many ticks; or memory for the machine was not found, and no call was made
+abbrev pub HasLoaded : (word : ℕ) → Contents → (count from to ticks : ℕ) → (calls calls' : List Bool) → Result Contents LoadFault → Type 0
+HasLoaded word image count from to ticks calls calls' result =
+    HasRead word image.entry from to (stage (start image count) calls ticks) calls' result
+    ⊎ ((result ≡ Err OutOfMemory) × (calls' ≡ calls))
