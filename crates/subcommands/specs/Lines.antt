@@ -6,9 +6,8 @@ use Rattle.block_buffers.specs.Disks.{Disk}
 use Rattle.debug_tracer.specs.declared.fault.DebugFault.{DebugFault}
 use Rattle.debug_tracer.specs.declared.fault.DebugFault.TheVariants as debug
 use Rattle.dictionary.specs.Search.{sought}
-use Rattle.subcommands.specs.Causes.{build_cause, debug_cause, view_cause, see_cause, upgrade_cause}
+use Rattle.subcommands.specs.Causes.{build_cause, debug_cause, view_cause, see_cause}
 use Rattle.image_loader.specs.Files.{Contents, IsWritten}
-use Rattle.image_loader.specs.declared.upgrading.UpgradeFault.TheVariants as upgrade
 use Rattle.image_builder.specs.Sources.{Done, IsRefused}
 use Rattle.image_builder.specs.declared.cause.BuildFault.{BuildFault}
 use Rattle.image_builder.specs.declared.cause.Cause.{Cause}

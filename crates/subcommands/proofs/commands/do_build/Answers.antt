@@ -1,10 +1,8 @@
-use Rattle.std.proofs.lemmas.Option.{IfSome_then}
+use Rattle.subcommands.proofs.Loading.{built_file, told_file}
 use Rattle.subcommands.proofs.commands.do_build.Goals as goal
 
 pub returns-in-Ok-clause-file : goal.returns-in-Ok-clause-file
-returns-in-Ok-clause-file g c = λ d e.
-    IfSome_then _ c.end_with_made.ensures.file (λ file is. record { image = c.in-Ok.image; is_built = c.in-Ok.ensures.built d e; is_file = is })
+returns-in-Ok-clause-file g c = λ d e. built_file _ c.in-Ok.image d _ _ _ _ (c.in-Ok.ensures.built d e) c.end_with_made.ensures.file
 
 pub returns-in-Ok-clause-told : goal.returns-in-Ok-clause-told
-returns-in-Ok-clause-told g c = λ fine.
-    IfSome_then _ (c.end_with_made.ensures.told fine) (λ file told. record { image = c.in-Ok.image; told = told })
+returns-in-Ok-clause-told g c = λ fine. told_file c.in-Ok.image _ _ _ (c.end_with_made.ensures.told fine)
