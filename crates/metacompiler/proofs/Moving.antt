@@ -79,7 +79,7 @@ answer_led s new c c' n act r asks some h =
     let e : new ≡ t.0 = ap (λ v. v.0) h.acts in
     let a : act ≡ t.1 = ap (λ v. v.1) h.acts in
     let base : IsLed (stage s c n) (behind (stage s c n) (Answer h.reply)) (stop_by t.0 t.1.event) =
-        record { goes = stop_goes t.0 t.1.event (answer_told s r h.reply asks); leads = one_move (stage s c n) (Answer h.reply) (stop_by t.0 t.1.event) some h.accepted refl } in
+    record { goes = stop_goes t.0 t.1.event (answer_told s r h.reply asks); leads = one_move (stage s c n) (Answer h.reply) (stop_by t.0 t.1.event) some h.accepted refl } in
     rw (e, a, h.calls_are) base
 
 -- rounds so far, and what comes behind them
