@@ -225,7 +225,7 @@ fn cut_behind(alloc: Global, trace: &mut FailingWriter) -> Result<(Stop, Machine
 /// The trace is cut behind each number of bytes below its length. The machine is then before the tick of the line that is
 /// cut, and these bytes were written.
 #[test]
-fn a_trace_that_is_cut(rt: HostRuntime) -> Result<(), Fail> {
+fn a_trace_cut_behind_each_byte(rt: HostRuntime) -> Result<(), Fail> {
     let alloc = rt.alloc();
     let whole = CHOICE_TRACE.as_bytes();
     for room in 0..whole.len() {
