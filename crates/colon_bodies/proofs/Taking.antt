@@ -526,9 +526,3 @@ not_deep b w n f h e m t = omega (arith, λ (g : 64 ≤ n). false_test b ((w ≡
 pub once_if : (b : Bool) (w : Token) (p q : Bool) → IsTrue b ↔ ((w ≡ DOES) × (p ≡ true)) → b ≡ false → p ≡ q → w ≡ DOES → q ≡ false
 once_if b w false q i e f d = sym f
 once_if b w true q i e f d = absurd (false_test b ((w ≡ DOES) × (true ≡ true)) i e (d, refl))
-
-pub whole_marks : (at : ℕ) (o : Outer) (t : Body) (h : Half) (d : Definition) → whole o t h ≡ Some d → marks_of at o ≡ []
-whole_marks at Top t h d e = refl
-whole_marks at (Past a) t h d e = refl
-whole_marks at (InIf o a) t Free d e = cc
-whole_marks at _ t _ d e = cc

@@ -1,8 +1,10 @@
 -- What the compiler keeps while it reads, and what each of its steps does.
-use Rattle.std.specs.Prelude.{◌≡◌, Bool, true, false, ℕ, ◌+◌, ◌≤◌, List, [], ◌∷◌, ◌++◌, ◌⊎◌, length, Option, Some, None, Result, Ok, Err}
+use Rattle.std.specs.Prelude.{◌≡◌, Bool, true, false, ℕ, ◌+◌, ◌≤◌, List, [], ◌∷◌, ◌++◌, ◌⊎◌, length, Option, Some, None, Result, Ok, Err, Vec}
+use Rattle.std.specs.declared.alloc.Global.{Global}
 use Rattle.colon_bodies.specs.declared.words.BodyWord.{BodyWord}
 use Rattle.colon_bodies.specs.declared.words.BodyWord.TheVariants as w
 use Rattle.colon_bodies.specs.declared.words.Half.{Half}
+use Rattle.colon_bodies.specs.declared.words.Half.TheVariants.{Free}
 use Rattle.colon_bodies.specs.declared.draft.Mark.{Mark}
 use Rattle.colon_bodies.specs.declared.draft.Mark.TheVariants as m
 use Rattle.colon_bodies.specs.declared.draft.Draft.{Draft}
@@ -47,6 +49,10 @@ marks_of at (InElse o t a) = marks_of at o ++ m.Else (outer_size o + size t + (4
 marks_of at (InBegin o t) = marks_of at o ++ m.Begin (at + (outer_size o + size t)) ∷ []
 marks_of at (InWhile o t a) = marks_of at o ++ m.While (at + (outer_size o + size t)) (outer_size o + size t + size a + 2) ∷ []
 marks_of at (InDo o t) = marks_of at o ++ m.Do (outer_size o + size t + 2) ∷ []
+
+-- nothing is drafted
+abbrev pub IsBlank : Draft → Type 0
+IsBlank d = (d.image.items ≡ []) × (d.marks.items ≡ []) × (d.half ≡ Free) × (d.is_past ≡ false)
 
 -- the bytes and the marks are those of the words that were read
 pub record Drafted (rt : ℕ → ℕ) (at : ℕ) (o : Outer) (t : Body) (h : Half) (image : List ℕ) (marks : List Mark) : Type 0 where
@@ -111,9 +117,9 @@ pub record Goes (rt : ℕ → ℕ) (at limit : ℕ) (o : Outer) (t : Body) (h : 
   pub room : at + length d.image.items ≤ limit
 
 -- what comes of one more word
-abbrev pub Taken : (ℕ → ℕ) → ℕ → ℕ → Outer → Body → Half → Token → Result (Unit {0}) BodyCause → Draft → Type 0
-Taken rt at limit o t h w (Ok u) d = Goes rt at limit o t h w d
-Taken rt at limit o t h w (Err e) d = (e ≡ r.Memory) ⊎ FirstCause rt at limit e (open_words o t h) w
+abbrev pub Taken : (ℕ → ℕ) → ℕ → ℕ → Outer → Body → Half → Token → Result Draft BodyCause → Type 0
+Taken rt at limit o t h w (Ok d) = Goes rt at limit o t h w d
+Taken rt at limit o t h w (Err e) = (e ≡ r.Memory) ⊎ FirstCause rt at limit e (open_words o t h) w
 
 -- a word that opens a structure
 abbrev pub opener : Token → Bool
@@ -130,9 +136,10 @@ pub record Finishes (rt : ℕ → ℕ) (at limit : ℕ) (o : Outer) (t : Body) (
   pub known : IsKnown rt SEMI
   pub room : at + length image ≤ limit
 
-abbrev pub Ended : (ℕ → ℕ) → ℕ → ℕ → Outer → Body → Half → Result (Unit {0}) BodyCause → List ℕ → Type 0
-Ended rt at limit o t h (Ok u) image = Finishes rt at limit o t h image
-Ended rt at limit o t h (Err e) image = (e ≡ r.Memory) ⊎ FirstCause rt at limit e (open_words o t h) SEMI
+-- what comes of a draft's ;
+abbrev pub Ended : (ℕ → ℕ) → ℕ → ℕ → Outer → Body → Half → Result (Vec ℕ Global) BodyCause → Type 0
+Ended rt at limit o t h (Ok image) = Finishes rt at limit o t h image.items
+Ended rt at limit o t h (Err e) = (e ≡ r.Memory) ⊎ FirstCause rt at limit e (open_words o t h) SEMI
 
 -- how far a source was read
 pub record Progress (rt : ℕ → ℕ) (at limit : ℕ) (done : List Token) (d : Draft) : Type 0 where

@@ -105,21 +105,22 @@ fn lay(d: &mut Draft, word: BodyWord, at: u16, runtime: &[u16]) -> Result<(), Bo
     Ok(())
 }
 
-/// Takes one more word.
+/// Takes one more word; where it is refused, the draft is gone.
 pub fn take_word(
-    d: &mut Draft,
+    d: Draft,
     word: BodyWord,
     at: u16,
     limit: u16,
     runtime: &[u16],
-) -> Result<(), BodyCause>
-    requires drafting { Drafting at d.old.image.items d.old.marks.items }
-    requires room { at + length d.old.image.items ≤ limit }
-    requires jump { at + length d.old.image.items + jump_by (token word) < 2 ^ 16 }
+) -> Result<Draft, BodyCause>
+    requires drafting { Drafting at d.image.items d.marks.items }
+    requires room { at + length d.image.items ≤ limit }
+    requires jump { at + length d.image.items + jump_by (token word) < 2 ^ 16 }
     requires controls { 28 ≤ length runtime.now }
     requires inside { token word ≢ SEMI }
-    ensures { (o : Outer) (t : Body) (h : Half) → Drafts (slice_index runtime.now) at o t h d.old → open_depth o t ≤ 64 → Taken (slice_index runtime.now) at limit o t h (token word.entry) result d.new }
+    ensures { (o : Outer) (t : Body) (h : Half) → Drafts (slice_index runtime.now) at o t h d → open_depth o t ≤ 64 → Taken (slice_index runtime.now) at limit o t h (token word.entry) result }
 {
+    let mut d = d;
     if !is_suited(d.half, word) {
         return Err(BodyCause::Misplaced);
     }
@@ -135,7 +136,7 @@ pub fn take_word(
         }
         return Err(BodyCause::BadName);
     }
-    lay(d, word, at, runtime)?;
+    lay(&mut d, word, at, runtime)?;
     if !is_known(word, runtime) {
         return Err(BodyCause::Unknown);
     }
@@ -144,13 +145,12 @@ pub fn take_word(
     }
     d.half = half_behind(d.half, word);
     d.is_past = past_behind(d.is_past, word);
-    Ok(())
+    Ok(d)
 }
 
-/// Takes the last word.
-pub fn finish(d: &mut Draft, at: u16, limit: u16, control: u16) -> Result<(), BodyCause>
-    ensures taken { (rt : ℕ → ℕ) (o : Outer) (t : Body) (h : Half) → rt 5 ≡ control → Drafts rt at o t h d.old → open_depth o t ≤ 64 → Ended rt at limit o t h result d.new.image.items }
-    ensures kept { d.new.marks ≡ d.old.marks }
+/// Takes the last word, and gives the bytes; where it is refused, the draft is gone.
+pub fn finish(d: Draft, at: u16, limit: u16, control: u16) -> Result<Vec<u8>, BodyCause>
+    ensures { (rt : ℕ → ℕ) (o : Outer) (t : Body) (h : Half) → rt 5 ≡ control → Drafts rt at o t h d → open_depth o t ≤ 64 → Ended rt at limit o t h result }
 {
     if !is_suited(d.half, BodyWord::Semicolon) {
         return Err(BodyCause::Misplaced);
@@ -161,11 +161,12 @@ pub fn finish(d: &mut Draft, at: u16, limit: u16, control: u16) -> Result<(), Bo
     if control == 0 {
         return Err(BodyCause::Unknown);
     }
-    lay_cell(&mut d.image, control)?;
-    if is_over(&d.image, at, limit) {
+    let mut image = d.image;
+    lay_cell(&mut image, control)?;
+    if is_over(&image, at, limit) {
         return Err(BodyCause::Full);
     }
-    Ok(())
+    Ok(image)
 }
 
 /// The bytes of the first definition of a source, and how many words it has; or the first fault.
@@ -182,21 +183,17 @@ pub fn compile(
     ensures compiled { IfOk result (λ c. Compiled (slice_index runtime.now) at limit (map token words.now) c.0.items c.1) }
     ensures refused { IfErr result (λ e. IsFault (slice_index runtime.now) at limit (map token words.now) e.place e.cause) }
 {
-    let mut draft = Draft {
-        image: Vec::new(alloc),
-        marks: Vec::new(alloc),
-        half: Half::Free,
-        is_past: false,
-    };
+    let mut draft = Draft::new(alloc);
     for (i, word) in words.iter().enumerate() {
         if is_semicolon(*word) {
-            return match finish(&mut draft, at, limit, runtime[5]) {
-                Ok(()) => Ok((draft.image, i + 1)),
+            return match finish(draft, at, limit, runtime[5]) {
+                Ok(image) => Ok((image, i + 1)),
                 Err(cause) => Err(BodyFault { place: i, cause }),
             };
         }
-        if let Err(cause) = take_word(&mut draft, *word, at, limit, runtime) {
-            return Err(BodyFault { place: i, cause });
+        match take_word(draft, *word, at, limit, runtime) {
+            Ok(next) => draft = next,
+            Err(cause) => return Err(BodyFault { place: i, cause }),
         }
     }
     Err(BodyFault {

@@ -1,6 +1,9 @@
 //! What the compiler keeps of a definition while it reads.
 
+ghost use Rattle.colon_bodies.specs.Draft.{IsBlank};
+
 use crate::words::Half;
+use std::alloc::Global;
 
 /// An open structure: the places in the draft's bytes of cells that wait for their addresses, and addresses to go back to.
 #[derive(Clone, Copy, Debug, PartialEq, Eq)]
@@ -28,4 +31,18 @@ pub struct Draft {
     pub half: Half,
     /// Whether a DOES> was read.
     pub is_past: bool,
+}
+
+impl Draft {
+    /// The draft of a definition of which nothing is read.
+    pub fn new(alloc: Global) -> Draft
+        ensures { IsBlank result }
+    {
+        Draft {
+            image: Vec::new(alloc),
+            marks: Vec::new(alloc),
+            half: Half::Free,
+            is_past: false,
+        }
+    }
 }

@@ -15,6 +15,7 @@ pub fn lay_cell(image: &mut Vec<u8>, x: u16) -> Result<(), BodyCause>
     ensures bytes { OnOk result (image.new.items ≡ image.old.items ++ cell_bytes x) }
     ensures longer { OnOk result (length image.new.items ≡ length image.old.items + 2) }
     ensures memory { IfErr result (λ e. e ≡ Memory) }
+    ensures kept { OnErr result (image.new.items ≡ image.old.items) }
 {
     image.extend_from_slice(&cell_bytes(x))?;
     Ok(())

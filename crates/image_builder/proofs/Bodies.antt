@@ -1,6 +1,6 @@
 -- A word of a body, and its first cause.
 use Rattle.std.proofs.Common.{◌≡◌, ℕ, ◌+◌, ◌<◌, ◌≤◌, ◌⊎◌, inl, inr, List, [], ◌∷◌, ◌++◌, length, map, refl, sym, ap, ◌∙◌, subst, arith, append_assoc, length-append, lit<}
-use Rattle.std.specs.Prelude.{false, Result, Ok, Err, slice_index}
+use Rattle.std.specs.Prelude.{Result, Ok, Err, slice_index}
 use Rattle.std.proofs.lemmas.List.{map-append}
 use Rattle.colon_bodies.specs.Tokens.{Token, SEMI}
 use Rattle.colon_bodies.specs.Tree.{Body, all_words}
@@ -9,9 +9,10 @@ use Rattle.colon_bodies.specs.Code.{all_code}
 use Rattle.colon_bodies.specs.Faults as body
 use Rattle.colon_bodies.specs.Rules as rules
 use Rattle.colon_bodies.specs.Tokens as tokens
-use Rattle.colon_bodies.specs.Draft.{Drafts, Goes as BodyGoes, Finishes as BodyEnds}
+use Rattle.colon_bodies.specs.Draft.{IsBlank, Drafts, Goes as BodyGoes, Finishes as BodyEnds}
 use Rattle.colon_bodies.specs.declared.words.Half.{Half}
 use Rattle.colon_bodies.specs.declared.words.Half.TheVariants.{Free}
+use Rattle.colon_bodies.specs.declared.draft.Draft.{Draft}
 use Rattle.colon_bodies.specs.Open.{Outer, open_words}
 use Rattle.colon_bodies.proofs.Cells.{length-cell}
 use Rattle.colon_bodies.proofs.Laying.{length-all}
@@ -19,7 +20,7 @@ use Rattle.image_builder.proofs.Making.{built_end}
 use Rattle.colon_bodies.specs.declared.fault.BodyCause.{BodyCause}
 use Rattle.colon_bodies.specs.declared.fault.BodyCause.TheVariants as r
 use Rattle.colon_bodies.proofs.Whole.{goes_on, fronts}
-use Rattle.colon_bodies.proofs.Taking.{half-open, known-append, whole_marks}
+use Rattle.colon_bodies.proofs.Taking.{half-open, known-append}
 use Rattle.colon_bodies.proofs.Reading.{whole_words, whole_depth}
 use Rattle.image_builder.specs.Causes.{cause_of}
 use Rattle.image_builder.specs.declared.state.Build.{Build}
@@ -181,6 +182,12 @@ draft_in b t ws p before at h e =
     subst (λ r. Drafts r at d.outer d.body d.half b.draft) (sym i.runtime)
     (subst (λ a. Drafts (controls t) a d.outer d.body d.half b.draft) (sym e) d.is)
 
+-- the same draft, taken out of its place
+pub taken_out : {limit : ℕ} (b : Build) (t : Items) (ws : List Place) (p : Place) (before : List Token) (at : ℕ) (draft : Draft) (h : IsState limit b t ws (Inside p before)) → at ≡ body_at t p → draft ≡ b.draft → Drafts (slice_index b.runtime.items) at h.drafts.outer h.drafts.body h.drafts.half draft
+taken_out b t ws p before at draft h e k =
+    let d = h.drafts in
+    subst (λ v. Drafts (slice_index b.runtime.items) at d.outer d.body d.half v) (sym k) (draft_in b t ws p before at h e)
+
 pub goes_out : {limit : ℕ} (b new : Build) (t : Items) (p : Place) (at : ℕ) (o : Outer) (u : Body) (h : Half) (x : Token) → Built limit b t → at ≡ body_at t p → BodyGoes (slice_index b.runtime.items) at b.limit o u h x new.draft → BodyGoes (controls t) (body_at t p) limit o u h x new.draft
 goes_out {limit} b new t p at o u h x i e g =
     subst (λ l. BodyGoes (controls t) (body_at t p) l o u h x new.draft) i.limit_is
@@ -223,7 +230,7 @@ ended_in {limit} b t ws p before at image h e z =
     (subst (λ r. BodyEnds r (body_at t p) b.limit g.outer g.body g.half image) i.runtime
     (subst (λ a. BodyEnds (slice_index b.runtime.items) a b.limit g.outer g.body g.half image) e z))
 
-pub ended_ends : {limit : ℕ} (b new : Build) (t : Items) (ws : List Place) (p : Place) (before : List Token) (image : List ℕ) (h : IsState limit b t ws (Inside p before)) → (z : BodyEnds (controls t) (body_at t p) limit h.drafts.outer h.drafts.body h.drafts.half image) → ((vs : List Place) → Built limit new (Then t vs (Colon p z.body))) → (new.draft.image.items ≡ []) × (new.draft.marks.items ≡ b.draft.marks.items) × (new.draft.half ≡ Free) × (new.draft.is_past ≡ false) → Ends limit t p before new
+pub ended_ends : {limit : ℕ} (b new : Build) (t : Items) (ws : List Place) (p : Place) (before : List Token) (image : List ℕ) (h : IsState limit b t ws (Inside p before)) → (z : BodyEnds (controls t) (body_at t p) limit h.drafts.outer h.drafts.body h.drafts.half image) → ((vs : List Place) → Built limit new (Then t vs (Colon p z.body))) → IsBlank new.draft → Ends limit t p before new
 ended_ends b new t ws p before image h z f k =
     let d = h.drafts in
     let y = z.body in
@@ -238,7 +245,7 @@ ended_ends b new t ws p before image h z f k =
       short = subst (λ l. tokens.AreShort l) q d.short;
       room = omega (arith, l, room', length-append (all_code (controls t) y (body_at t p)) (cell_bytes (controls t 5)), length-all (controls t) y (body_at t p), length-cell (controls t 5));
       built = f;
-      drafts = (k.0, k.1 ∙ d.is.is.marked ∙ whole_marks (body_at t p) d.outer d.body d.half y z.is, k.2, k.3);
+      drafts = k;
     }
 
 pub means : {limit : ℕ} {X : Result Token Cause} (b : Build) (t : Items) (ws : List Place) (p w : Place) (before : List Token) (h : IsState limit b t ws (Inside p before)) → meaning b.draft.half t w ≡ X → meaning (rules.half_of Free before) t w ≡ X

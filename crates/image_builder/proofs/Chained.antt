@@ -1,5 +1,5 @@
 -- The chains of an image, and what searches of it come to.
-use Rattle.std.proofs.Common.{◌≡◌, ◌≢◌, ℕ, zero, suc, ◌+◌, ◌*◌, ◌-◌, ◌<◌, ◌≤◌, inl, inr, List, [], ◌∷◌, ◌++◌, map, length, drop, refl, sym, ap, ◌∙◌, subst, arith, length-append, length-drop, lit≤}
+use Rattle.std.proofs.Common.{◌≡◌, ◌≢◌, ℕ, zero, suc, ◌+◌, ◌*◌, ◌-◌, ◌<◌, ◌≤◌, inl, inr, List, [], ◌∷◌, ◌++◌, map, length, drop, refl, sym, ap, ◌∙◌, subst, arith, length-append, length-drop}
 use Rattle.std.specs.Prelude.{Bool, true, false, cond, Option, Some, None, ◌==◌, ◌&&◌, ◌%◌, slice_index, find, if◌then◌else◌}
 use Rattle.std.specs.List.{filter}
 use Rattle.std.specs.Str.{bytes_eq}
@@ -22,7 +22,7 @@ use Rattle.image_builder.specs.Grammar.{AreSound, IsLimit}
 use Rattle.image_builder.specs.Headers.{Says, memory_of, IsTitled, IsVocabulary, chain_of, links_of, sought_name, titled_in, title_or, titled}
 use Rattle.image_builder.proofs.Finding.{Every, heads_marked}
 use Rattle.image_builder.proofs.Imaging.{bytes_seam, record_below}
-use Rattle.image_builder.proofs.Sound.{IsName, sound_names, sound_end, sound_below}
+use Rattle.image_builder.proofs.Sound.{IsName, sound_names, sound_below}
 use Rattle.image_builder.proofs.Standing.{stands_cell}
 use Rattle.image_builder.proofs.Headers.{has_header, header_says, items_stand, length-image, system_cell}
 

@@ -1,5 +1,5 @@
 -- The whole image, and the loop over a source's words.
-use Rattle.std.proofs.Common.{lit≤, length-append, ◌≡◌, ℕ, ◌+◌, ◌*◌, ◌/◌, ◌<◌, ◌≤◌, ◌⊎◌, inl, inr, List, [], ◌∷◌, ◌++◌, length, take, get_or, zero, suc, refl, sym, ap, ◌∙◌, subst, arith, append_assoc, append-nil}
+use Rattle.std.proofs.Common.{length-append, ◌≡◌, ℕ, ◌+◌, ◌*◌, ◌/◌, ◌<◌, ◌≤◌, ◌⊎◌, inl, inr, List, [], ◌∷◌, ◌++◌, length, take, get_or, zero, suc, refl, sym, ap, ◌∙◌, subst, arith, append_assoc, append-nil}
 use Rattle.std.specs.Prelude.{false, Option, Some, None, Result, Ok, Err, slice_index, Bool, true, cond}
 use Rattle.colon_bodies.specs.Tokens.{Token, NAME}
 use Rattle.memory.specs.Bytes.{cell_bytes}
@@ -27,7 +27,8 @@ use Rattle.image_builder.specs.Grammar.{AreSound, IsLimit}
 use Rattle.colon_bodies.proofs.Cells.{length-cell}
 use Rattle.image_builder.proofs.Sound.{sound_end, end_above}
 use Rattle.image_builder.proofs.Imaging.{length-bytes}
-use Rattle.image_builder.specs.State.{IsState, IsBlank, IsBegun, IsRead, Goes, TakenAt, all_cells}
+use Rattle.colon_bodies.specs.Draft.{IsBlank}
+use Rattle.image_builder.specs.State.{IsState, IsBegun, IsRead, Goes, TakenAt, all_cells}
 
 pub cells_more : (xs : List ℕ) (i d : ℕ) → i < length xs → all_cells (take (suc i) xs) ≡ all_cells (take i xs) ++ cell_bytes (get_or xs i d)
 cells_more [] i d h = absurd (omega arith)

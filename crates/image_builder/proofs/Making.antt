@@ -1,5 +1,5 @@
 -- What headers do to what was built.
-use Rattle.std.proofs.Common.{◌≡◌, ◌≢◌, ℕ, ◌+◌, ◌-◌, ◌*◌, ◌<◌, ◌≤◌, ◌⊎◌, inl, inr, zero, suc, List, [], ◌∷◌, ◌++◌, length, refl, sym, ap, ◌∙◌, subst, arith, lit≤, append_assoc, append-nil, length-append, get_or}
+use Rattle.std.proofs.Common.{◌≡◌, ◌≢◌, ℕ, ◌+◌, ◌-◌, ◌*◌, ◌<◌, ◌≤◌, ◌⊎◌, inl, inr, zero, suc, List, [], ◌∷◌, ◌++◌, length, refl, sym, ap, ◌∙◌, subst, arith, append_assoc, append-nil, length-append, get_or}
 use Rattle.std.specs.Prelude.{true, false, slice_index, slice_set, take, Some}
 use Rattle.std.proofs.Math.Dec.{eqb}
 use Rattle.std.proofs.Math.ListN.{set}
@@ -26,7 +26,7 @@ use Rattle.image_builder.specs.Meanings.{look}
 use Rattle.image_builder.specs.Built.{Built, Building, Headed}
 use Rattle.image_builder.proofs.Finding.{reverse_more, head_new, head_else, no_head, heads_marked, Every, every_found}
 use Rattle.image_builder.proofs.Imaging.{length-bytes, record_below, bytes_same, bytes_seam, bytes_marked}
-use Rattle.image_builder.proofs.Sound.{IsName, sound_names, sound_end, none_above, sound_below}
+use Rattle.image_builder.proofs.Sound.{IsName, sound_names, none_above, sound_below}
 
 pub built_end : {limit : ℕ} (b : Build) (t : Items) → Built limit b t → length b.image.items + 256 ≡ end_of t
 built_end b t h = ap (λ l. length l + 256) h.laid ∙ length-bytes (heads_of t) t false

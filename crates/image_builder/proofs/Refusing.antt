@@ -1,5 +1,5 @@
 -- Why a source is refused.
-use Rattle.std.proofs.Common.{◌≡◌, ℕ, ◌+◌, ◌-◌, ◌<◌, ◌≤◌, ◌∙◌, List, [], ◌++◌, length, take, drop, arith, refl, ap, sym, subst, inl, inr, ◌⊎◌, Some, Ok, Err}
+use Rattle.std.proofs.Common.{◌≡◌, ℕ, ◌+◌, ◌-◌, ◌≤◌, ◌∙◌, List, [], ◌++◌, length, take, drop, arith, refl, ap, sym, subst, inl, inr, ◌⊎◌, Some, Ok, Err}
 use Rattle.std.proofs.lemmas.List.{take-take, take-append-drop}
 use Rattle.std.specs.Prelude.{Result}
 use Rattle.block_buffers.specs.Disks.{Disk}

@@ -1,5 +1,5 @@
 -- What one more word does, and its first cause.
-use Rattle.std.proofs.Common.{◌≡◌, ℕ, ◌+◌, ◌<◌, ◌≤◌, ◌⊎◌, inl, inr, List, [], ◌∷◌, ◌++◌, length, refl, sym, ap, ◌∙◌, subst, arith, append-nil, lit≤}
+use Rattle.std.proofs.Common.{◌≡◌, ℕ, ◌+◌, ◌<◌, ◌≤◌, ◌⊎◌, inl, inr, List, [], ◌∷◌, ◌++◌, length, refl, sym, ap, ◌∙◌, subst, arith, append-nil}
 use Rattle.std.specs.Prelude.{Bool, true, false, IsTrue, ◌↔◌, Some, reverse}
 use Rattle.image_builder.specs.declared.state.Build.{Build}
 use Rattle.image_builder.specs.declared.spot.Sort.{Sort}
@@ -24,7 +24,8 @@ use Rattle.image_builder.specs.Grammar.{AreSound, IsSound, Spells, Fits, Leads, 
 use Rattle.image_builder.specs.Stages.{Whole, Counted, Due, Chosen, Inside, body_at}
 use Rattle.image_builder.specs.Faults.{AtNumber, AtName, FirstCause, rank}
 use Rattle.image_builder.specs.Built.{Built}
-use Rattle.image_builder.specs.State.{IsBlank, IsState, Goes}
+use Rattle.colon_bodies.specs.Draft.{IsBlank}
+use Rattle.image_builder.specs.State.{IsState, Goes}
 use Rattle.image_builder.proofs.Making.{built_end}
 
 -- what goes on

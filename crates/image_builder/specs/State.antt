@@ -1,9 +1,7 @@
 -- How far a source was read, and what one more word does.
 use Rattle.std.specs.Prelude.{Bool, true, false, ◌≡◌, ℕ, ◌+◌, ◌<◌, ◌≤◌, ◌⊎◌, List, [], ◌∷◌, ◌++◌, Option, Some, None, Result, Ok, Err}
-use Rattle.colon_bodies.specs.Draft.{Progress, token, Goes as BodyGoes}
+use Rattle.colon_bodies.specs.Draft.{IsBlank, Progress, token, Goes as BodyGoes}
 use Rattle.colon_bodies.specs.declared.words.Half.{Half}
-use Rattle.colon_bodies.specs.declared.words.Half.TheVariants.{Free}
-use Rattle.colon_bodies.specs.declared.draft.Draft.{Draft}
 use Rattle.colon_bodies.specs.Faults.{FirstCause as FirstBodyCause}
 use Rattle.colon_bodies.specs.Rules.{AreKnown}
 use Rattle.colon_bodies.specs.Tokens.{AreShort, Token, SEMI}
@@ -47,10 +45,6 @@ Shows (g.Due l) ws (Due k) = l ≡ k
 Shows (g.Chosen v) ws (Chosen u) = v ≡ u
 Shows (g.Inside p) ws (Inside q before) = IsTitle p.screen p.name.items q
 Shows _ ws _ = ⊥
-
--- nothing is drafted
-abbrev pub IsBlank : Draft → Type 0
-IsBlank d = (d.image.items ≡ []) × (d.marks.items ≡ []) × (d.half ≡ Free) × (d.is_past ≡ false)
 
 abbrev pub Drafts : ℕ → Build → Items → Stage → Type 0
 Drafts limit b t (Inside p before) = Progress (controls t) (body_at t p) limit before b.draft

@@ -21,7 +21,8 @@ use crate::header::here;
 use crate::make::make_colon;
 use crate::spot::{Inner, Spot};
 use crate::state::{Begun, Build, Title};
-use colon_bodies::{BodyWord, Half, finish, is_semicolon, take_word};
+use colon_bodies::{BodyWord, Draft, Half, finish, is_semicolon, take_word};
+use std::mem;
 
 /// Whether only keywords and numbers lay this control.
 fn is_inner_control(sign: Sign) -> bool
@@ -107,7 +108,8 @@ fn go_on(b: &mut Build, word: BodyWord, at: u16) -> Result<(), Cause>
     ensures taken { (o : Outer) (t : Body) (h : Half) → Drafts (slice_index b.old.runtime.items) at o t h b.old.draft → open_depth o t ≤ 64 → TakenSo b.old.limit (slice_index b.old.runtime.items) at o t h (token word.entry) result b.new }
     ensures kept { IsSame b.old b.new }
 {
-    take_word(&mut b.draft, word, at, b.limit, b.runtime.as_slice())?;
+    let draft = mem::replace(&mut b.draft, Draft::new(b.alloc));
+    b.draft = take_word(draft, word, at, b.limit, b.runtime.as_slice())?;
     Ok(())
 }
 
@@ -126,8 +128,9 @@ fn end_body(b: &mut Build, p: &Title, at: u16) -> Result<(), Cause>
     ensures { (t : Items) (ws : List Place) (before : List Token) (q : Place) → IsTitle p.now.screen p.now.name.items q → IsState b.old.limit b.old t ws (Inside q before) → at ≡ body_at t q → EndsSo b.old.limit t q before result b.new }
 {
     let exit = exit_of(b.runtime.as_slice());
-    finish(&mut b.draft, at, b.limit, exit)?;
-    make_colon(b, p)?;
+    let draft = mem::replace(&mut b.draft, Draft::new(b.alloc));
+    let bytes = finish(draft, at, b.limit, exit)?;
+    make_colon(b, p, bytes.as_slice())?;
     Ok(())
 }
 

@@ -1,13 +1,14 @@
 //! The bytes of the image.
 
 ghost use Rattle.std.specs.Prelude.{◌≡◌, ◌≢◌, ℕ, ◌+◌, ◌*◌, ◌/◌, ◌<◌, ◌≤◌, ◌++◌, List, [], length, map, OnOk, IfOk, IfErr};
+ghost use Rattle.colon_bodies.specs.Draft.{IsBlank};
 ghost use Rattle.image_builder.specs.Places.{Place, place};
 ghost use Rattle.image_builder.specs.Names.{newest_first};
 ghost use Rattle.image_builder.specs.Items.{Items, Nothing, controls, zeros, image, low, system, last_link};
 ghost use Rattle.image_builder.specs.Faults.{IsFault};
 ghost use Rattle.image_builder.specs.Grammar.{IsLimit};
 ghost use Rattle.image_builder.specs.Built.{Built, Building};
-ghost use Rattle.image_builder.specs.State.{IsBlank, IsRead, IsBuilt, all_cells, tells_whole};
+ghost use Rattle.image_builder.specs.State.{IsRead, IsBuilt, all_cells, tells_whole};
 ghost use Rattle.image_builder.specs.declared.cause.Cause.TheVariants.{OutOfMemory};
 
 use crate::cause::Cause;
@@ -15,7 +16,7 @@ use crate::entry::{Named, head_of};
 use crate::header::here;
 use crate::make::{lay_zeros, newest};
 use crate::state::Build;
-use colon_bodies::{Draft, Half, lay_cell};
+use colon_bodies::{Draft, lay_cell};
 use std::alloc::Global;
 
 /// Lays cells.
@@ -115,11 +116,6 @@ pub fn start(alloc: Global, limit: u16) -> Result<Build, Cause>
         current: 42,
         newest_record: 42,
         boot: None,
-        draft: Draft {
-            image: Vec::new(alloc),
-            marks: Vec::new(alloc),
-            half: Half::Free,
-            is_past: false,
-        },
+        draft: Draft::new(alloc),
     })
 }

@@ -1,10 +1,9 @@
 //! What each item lays.
 
-ghost use Rattle.std.specs.Prelude.{◌≡◌, ◌≢◌, false, ℕ, ◌+◌, ◌-◌, ◌<◌, ◌≤◌, ◌++◌, List, [], ◌∷◌, take, length, OnOk, IfErr};
+ghost use Rattle.std.specs.Prelude.{◌≡◌, ◌≢◌, ℕ, ◌+◌, ◌-◌, ◌<◌, ◌≤◌, ◌++◌, List, ◌∷◌, take, length, OnOk, IfErr};
 ghost use Rattle.colon_bodies.specs.Tree.{Definition};
 ghost use Rattle.memory.specs.Bytes.{cell_bytes};
 ghost use Rattle.colon_bodies.specs.Code.{thread};
-ghost use Rattle.colon_bodies.specs.declared.words.Half.TheVariants.{Free};
 ghost use Rattle.image_builder.specs.Places.{Place, place, IsTitle};
 ghost use Rattle.image_builder.specs.Names.{entry, newest_first};
 ghost use Rattle.image_builder.specs.Items.{Items, Then, Header, Cell, Byte, Allot, Immediate, Definitions, Boot, Colon, mark, zeros, controls, end_of, head_size};
@@ -18,7 +17,7 @@ use crate::entry::{Entry, Named, Sign, lent};
 use crate::header::{here, make_header};
 use crate::spot::Spot;
 use crate::state::{Build, Title};
-use colon_bodies::{Half, lay_cell};
+use colon_bodies::lay_cell;
 
 /// CREATE lays a header with code field 2.
 pub fn make_create(b: &mut Build, p: Spot) -> Result<(), Cause>
@@ -184,18 +183,15 @@ pub fn set_immediate(b: &mut Build)
     mark_newest(&mut b.names);
 }
 
-/// Lays a definition, of which the body was drafted.
-pub fn make_colon(b: &mut Build, p: &Title) -> Result<(), Cause>
+/// Lays a definition, whose thread is at hand.
+pub fn make_colon(b: &mut Build, p: &Title, bytes: &[u8]) -> Result<(), Cause>
     requires building { Building b.old }
     requires short { length p.now.name.items < 32 }
-    ensures built { (limit : ℕ) (t : Items) (ws : List Place) (body : Definition) (q : Place) → IsTitle p.now.screen p.now.name.items q → Built limit b.old t → AreSound limit t → b.old.draft.image.items ≡ thread (controls t) body (end_of t + head_size q) → OnOk result (Built limit b.new (Then t ws (Colon q body))) }
-    ensures cleared { OnOk result ((b.new.draft.image.items ≡ []) × (b.new.draft.marks.items ≡ b.old.draft.marks.items) × (b.new.draft.half ≡ Free) × (b.new.draft.is_past ≡ false)) }
+    ensures built { (limit : ℕ) (t : Items) (ws : List Place) (body : Definition) (q : Place) → IsTitle p.now.screen p.now.name.items q → Built limit b.old t → AreSound limit t → bytes.now ≡ thread (controls t) body (end_of t + head_size q) → OnOk result (Built limit b.new (Then t ws (Colon q body))) }
+    ensures kept { OnOk result (b.new.draft ≡ b.old.draft) }
     ensures memory { IfErr result (λ e. e ≡ OutOfMemory) }
 {
     make_header(b, p.screen, p.name.as_slice(), Sign::Plain, 1)?;
-    b.image.extend_from_slice(b.draft.image.as_slice())?;
-    b.draft.image.clear();
-    b.draft.half = Half::Free;
-    b.draft.is_past = false;
+    b.image.extend_from_slice(bytes)?;
     Ok(())
 }

@@ -8,13 +8,13 @@ use Rattle.colon_bodies.proofs.Room.{jump_room, progress_length}
 use Rattle.colon_bodies.proofs.compiling.compile.Goals as goal
 
 pub loop-i-init : goal.loop-i-init
-loop-i-init c = starts (slice_index c.args.runtime.now) c.args.at c.args.limit _ c.requires.start c.new.ensures.items c.new-2.ensures.items refl refl
+loop-i-init c = starts (slice_index c.args.runtime.now) c.args.at c.args.limit _ c.requires.start c.new-draft.ensures.0 c.new-draft.ensures.1 c.new-draft.ensures.2 c.new-draft.ensures.3
 
 pub loop-i-preserved : goal.loop-i-preserved
 loop-i-preserved c =
     let p = c.loop-i.invariant in
     let lt = c.loop-i-test.true in
-    rw (add-one, more token c.args.words.now c.loop-i.i (w.Name 0) lt) (goes_on (slice_index c.args.runtime.now) c.args.at c.args.limit _ _ _ _ p (c.in_default.ensures p.outer p.body p.half p.is p.shallow))
+    rw (add-one, more token c.args.words.now c.loop-i.i (w.Name 0) lt) (goes_on (slice_index c.args.runtime.now) c.args.at c.args.limit _ _ _ _ p (c.in-Ok-take_word.ensures p.outer p.body p.half p.is p.shallow))
 
 pub returns-in-Ok-clause-compiled : goal.returns-in-Ok-clause-compiled
 returns-in-Ok-clause-compiled c =
@@ -23,7 +23,7 @@ returns-in-Ok-clause-compiled c =
     ends (slice_index c.args.runtime.now) c.args.at c.args.limit _ _ _ _ c.loop-i.i _ _ p
     (cut token c.args.words.now c.loop-i.i (w.Name 0) lt) (sym (done_length token c.args.words.now c.loop-i.i (omega arith)))
     (c.is_semicolon.ensures.0 c.if-is_semicolon.true)
-    (c.in-Ok.ensures.taken (slice_index c.args.runtime.now) p.outer p.body p.half refl p.is p.shallow)
+    (c.in-Ok.ensures (slice_index c.args.runtime.now) p.outer p.body p.half refl p.is p.shallow)
 
 pub returns-in-Err-clause-refused : goal.returns-in-Err-clause-refused
 returns-in-Err-clause-refused c =
@@ -31,7 +31,7 @@ returns-in-Err-clause-refused c =
     let lt = c.loop-i-test.true in
     word_faults (slice_index c.args.runtime.now) c.args.at c.args.limit _ _ _ SEMI c.loop-i.i _ _ p
     (cut token c.args.words.now c.loop-i.i (w.Name 0) lt ∙ ap (λ v. map token (take c.loop-i.i c.args.words.now) ++ v ∷ map token (drop (suc c.loop-i.i) c.args.words.now)) (c.is_semicolon.ensures.0 c.if-is_semicolon.true)) (sym (done_length token c.args.words.now c.loop-i.i (omega arith)))
-    (c.in-Err.ensures.taken (slice_index c.args.runtime.now) p.outer p.body p.half refl p.is p.shallow)
+    (c.in-Err.ensures (slice_index c.args.runtime.now) p.outer p.body p.half refl p.is p.shallow)
 
 pub returns-in-Err-take_word-clause-refused : goal.returns-in-Err-take_word-clause-refused
 returns-in-Err-take_word-clause-refused c =

@@ -64,4 +64,4 @@ returns c = λ o t h d k.
     let m = drafted_marks rt c.args.at o t h _ _ d.is in
     let s = ap (λ g. suits g w) (sym d.half_is) ∙ sym c.is_suited.ensures ∙ c.if-not-is_suited.false in
     let f = c.in_ok-lay.ensures.kept in
-    take_ok rt c.args.at c.args.limit o t h w c.args.d.now _ c.lay.new.d.image.items c.lay.new.d.marks.items k (λ e. not_deep _ _ _ _ c.is_too_deep.ensures c.if-is_too_deep.false m e) (c.is_known-2.ensures.0 c.if-not-is_known-2.false) (c.is_short.ensures.0 c.if-not-is_short.false) (not_over _ _ _ c.is_over.ensures c.if-is_over.false) d refl refl (c.half_behind-d.ensures ∙ ap (λ g. half_after g w) f.0) (c.past_behind-d.ensures ∙ ap (λ b. past_after b w) f.1) (c.in_ok-lay.ensures.taken o t h s d)
+    take_ok rt c.args.at c.args.limit o t h w c.args.d _ c.lay.new.d.image.items c.lay.new.d.marks.items k (λ e. not_deep _ _ _ _ c.is_too_deep.ensures c.if-is_too_deep.false m e) (c.is_known-2.ensures.0 c.if-not-is_known-2.false) (c.is_short.ensures.0 c.if-not-is_short.false) (not_over _ _ _ c.is_over.ensures c.if-is_over.false) d refl refl (c.half_behind-d.ensures ∙ ap (λ g. half_after g w) f.0) (c.past_behind.ensures ∙ ap (λ b. past_after b w) f.1) (c.in_ok-lay.ensures.taken o t h s d)

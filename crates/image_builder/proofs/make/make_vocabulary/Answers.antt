@@ -1,4 +1,4 @@
-use Rattle.std.proofs.Common.{refl, ap, ◌∙◌, ◌++◌, arith, lit≤}
+use Rattle.std.proofs.Common.{refl, ap, ◌∙◌, ◌++◌, arith}
 use Rattle.memory.specs.Bytes.{cell_bytes}
 use Rattle.image_builder.specs.Places.{place}
 use Rattle.image_builder.specs.Items.{zeros}
