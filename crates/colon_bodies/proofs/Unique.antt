@@ -6,7 +6,7 @@ use Rattle.colon_bodies.specs.declared.fault.BodyCause.TheVariants as r
 use Rattle.colon_bodies.specs.Tokens.{Token, laid, AreShort}
 use Rattle.colon_bodies.specs.Tree.{Empty}
 use Rattle.colon_bodies.specs.Rules.{AreKnown}
-use Rattle.colon_bodies.specs.Faults.{IsFront, Applies, rank, FirstCause, IsFault}
+use Rattle.colon_bodies.specs.Faults.{IsFront, Applies, rank, FirstCause, IsFault, IsSameFault}
 use Rattle.colon_bodies.specs.Open.{Top}
 use Rattle.colon_bodies.proofs.Reading.{accept, accept_all}
 use Rattle.colon_bodies.proofs.Taking.{laid-append}
@@ -80,10 +80,7 @@ same_cause rt at limit before w c d f g a b =
       | inr (inr x) ↦ rank_same c d x
     ]
 
-abbrev Same : ℕ → ℕ → BodyCause → BodyCause → Type 0
-Same p q c d = (c ≡ r.Memory) ⊎ (d ≡ r.Memory) ⊎ ((p ≡ q) × (c ≡ d))
-
-at_one_word : (rt : ℕ → ℕ) (at limit : ℕ) (source : List Token) (p q : ℕ) (c d : BodyCause) (f : AtWord rt at limit source p c) (g : AtWord rt at limit source q d) → g.before ≡ f.before → f.word ≡ g.word → Same p q c d
+at_one_word : (rt : ℕ → ℕ) (at limit : ℕ) (source : List Token) (p q : ℕ) (c d : BodyCause) (f : AtWord rt at limit source p c) (g : AtWord rt at limit source q d) → g.before ≡ f.before → f.word ≡ g.word → IsSameFault p c q d
 at_one_word rt at limit source p q c d f g e h =
     elim (ranked c) [
       | inl x ↦ inl x
@@ -96,18 +93,18 @@ at_one_word rt at limit source p q c d f g e h =
       ]
     ]
 
-words_differ : (rt : ℕ → ℕ) (at limit : ℕ) (source : List Token) (p q : ℕ) (c d : BodyCause) (f : AtWord rt at limit source p c) (g : AtWord rt at limit source q d) (z : List Token) → g.before ≡ f.before ++ z → f.word ∷ f.after ≡ z ++ g.word ∷ g.after → Same p q c d
+words_differ : (rt : ℕ → ℕ) (at limit : ℕ) (source : List Token) (p q : ℕ) (c d : BodyCause) (f : AtWord rt at limit source p c) (g : AtWord rt at limit source q d) (z : List Token) → g.before ≡ f.before ++ z → f.word ∷ f.after ≡ z ++ g.word ∷ g.after → IsSameFault p c q d
 words_differ rt at limit source p q c d f g [] e h = let x : f.word ≡ g.word = cc in at_one_word rt at limit source p q c d f g (e ∙ append-nil f.before) x
 words_differ rt at limit source p q c d f g (v ∷ z) e h =
     let x : f.word ≡ v = cc in
     inl (front_clean rt at limit f.before z f.word c (subst (λ l. IsFront rt at limit l) (e ∙ ap (λ u. f.before ++ u ∷ z) (sym x)) g.front) f.first.applies)
 
-turned : (p q : ℕ) (c d : BodyCause) → Same q p d c → Same p q c d
+turned : (p q : ℕ) (c d : BodyCause) → IsSameFault q d p c → IsSameFault p c q d
 turned p q c d (inl x) = inr (inl x)
 turned p q c d (inr (inl x)) = inl x
 turned p q c d (inr (inr x)) = inr (inr (sym x.0, sym x.1))
 
-by_view : (rt : ℕ → ℕ) (at limit : ℕ) (source : List Token) (p q : ℕ) (c d : BodyCause) → View rt at limit source p c → View rt at limit source q d → Same p q c d
+by_view : (rt : ℕ → ℕ) (at limit : ℕ) (source : List Token) (p q : ℕ) (c d : BodyCause) → View rt at limit source p c → View rt at limit source q d → IsSameFault p c q d
 by_view rt at limit source p q c d (inl x) g = inl x
 by_view rt at limit source p q c d f (inl x) = inr (inl x)
 by_view rt at limit source p q c d (inr (inl x)) (inr (inl y)) = inr (inr (x.1 ∙ sym y.1, x.0 ∙ sym y.0))
@@ -119,5 +116,5 @@ by_view rt at limit source p q c d (inr (inr f)) (inr (inr g)) =
       | inr z ↦ turned p q c d (words_differ rt at limit source q p d c g f z.0 z.1 z.2)
     ]
 
-pub one_fault : (rt : ℕ → ℕ) (at limit : ℕ) (source : List Token) (p q : ℕ) (c d : BodyCause) → IsFault rt at limit source p c → IsFault rt at limit source q d → (c ≡ r.Memory) ⊎ (d ≡ r.Memory) ⊎ ((p ≡ q) × (c ≡ d))
+pub one_fault : (rt : ℕ → ℕ) (at limit : ℕ) (source : List Token) (p q : ℕ) (c d : BodyCause) → IsFault rt at limit source p c → IsFault rt at limit source q d → IsSameFault p c q d
 one_fault rt at limit source p q c d f g = by_view rt at limit source p q c d (view rt at limit source p c f) (view rt at limit source q d g)

@@ -72,6 +72,14 @@ IsFault rt at limit source place cause =
     (before : List Token) × (w : Token) × (after : List Token)
     × (source ≡ before ++ w ∷ after) × (place ≡ length before) × IsFront rt at limit before × FirstCause rt at limit cause before w
 
+-- no fault is found in it, want of memory aside
+abbrev pub HasNoFault : (ℕ → ℕ) → (at limit : ℕ) → List Token → Type 0
+HasNoFault rt at limit source = (place : ℕ) (cause : BodyCause) → IsFault rt at limit source place cause → cause ≡ Memory
+
+-- these are one and the same fault, want of memory aside
+abbrev pub IsSameFault : ℕ → BodyCause → ℕ → BodyCause → Type 0
+IsSameFault p c q d = (c ≡ Memory) ⊎ (d ≡ Memory) ⊎ ((p ≡ q) × (c ≡ d))
+
 -- a source that begins with a whole definition
 pub record IsGood (rt : ℕ → ℕ) (at limit : ℕ) (source : List Token) (body : Definition) (used : ℕ) : Type 0 where
   pub after : List Token

@@ -1,14 +1,13 @@
 //! Laws of the definitions.
 
-ghost use Rattle.std.specs.Prelude.{◌≡◌, Bool, ℕ, Some, ◌⊎◌, List};
+ghost use Rattle.std.specs.Prelude.{◌≡◌, Bool, ℕ, Some, List};
 ghost use Rattle.colon_bodies.specs.Tokens.{Token};
 ghost use Rattle.colon_bodies.specs.Tree.{Definition, all_words};
 ghost use Rattle.colon_bodies.specs.Code.{thread};
 ghost use Rattle.colon_bodies.specs.Found.{found};
 ghost use Rattle.colon_bodies.specs.Plain.{AreApart, IsPlainDefinition, all_spelled, respelled};
-ghost use Rattle.colon_bodies.specs.Faults.{IsGood, IsFault};
+ghost use Rattle.colon_bodies.specs.Faults.{IsGood, IsFault, HasNoFault, IsSameFault};
 ghost use Rattle.colon_bodies.specs.declared.fault.BodyCause.{BodyCause};
-ghost use Rattle.colon_bodies.specs.declared.fault.BodyCause.TheVariants.{Memory};
 
 /// A list of words is the words of one definition at most.
 pub fn one_body()
@@ -17,7 +16,7 @@ pub fn one_body()
 
 /// A good source has no fault.
 pub fn good_has_no_fault()
-    ensures { (rt : ℕ → ℕ) (at limit : ℕ) (source : List Token) (body : Definition) (used place : ℕ) (cause : BodyCause) → IsGood rt at limit source body used → IsFault rt at limit source place cause → cause ≡ Memory }
+    ensures { (rt : ℕ → ℕ) (at limit : ℕ) (source : List Token) (body : Definition) (used : ℕ) → IsGood rt at limit source body used → HasNoFault rt at limit source }
 {}
 
 /// No bytes are the threads of two plain definitions.
@@ -27,7 +26,7 @@ pub fn one_thread()
 
 /// A source has one first fault at most; want of memory aside.
 pub fn one_fault()
-    ensures { (rt : ℕ → ℕ) (at limit : ℕ) (source : List Token) (p q : ℕ) (c d : BodyCause) → IsFault rt at limit source p c → IsFault rt at limit source q d → (c ≡ Memory) ⊎ (d ≡ Memory) ⊎ ((p ≡ q) × (c ≡ d)) }
+    ensures { (rt : ℕ → ℕ) (at limit : ℕ) (source : List Token) (p q : ℕ) (c d : BodyCause) → IsFault rt at limit source p c → IsFault rt at limit source q d → IsSameFault p c q d }
 {}
 
 /// Forced names lay the same.
