@@ -8,12 +8,12 @@ use Rattle.std.specs.Prelude.{Result, OnOk, Option, Bool, true, false, ◌&&◌}
 use Rattle.std.specs.Result.{is_err}
 use Rattle.std.proofs.lemmas.Bool.{ltb-true}
 use Rattle.block_buffers.specs.Disks.{Disk, block_at}
-use Rattle.block_buffers.specs.Calls.{Reads, Logs, failures}
+use Rattle.block_buffers.specs.Calls.{Reads, Logs}
 use Rattle.block_buffers.proofs.Failures.{succeeded, failed}
 use Rattle.block_buffers.specs.declared.devices.DeviceFault.{DeviceFault}
 use Rattle.image_builder.proofs.Held.{held_own}
 use Rattle.image_builder.specs.declared.reading.Stop.{Stop}
-use Rattle.image_builder.specs.Sources.{Done}
+use Rattle.image_builder.specs.Sources.{Done, done_of}
 use Rattle.source_words.specs.Scanned.{words_left}
 use Rattle.source_words.proofs.Joining.{after_snoc}
 use Rattle.image_builder.specs.declared.reading.Compilation.{Compilation}
@@ -66,12 +66,12 @@ left_true : (a b : Bool) → (a && b) ≡ true → a ≡ true
 left_true true b e = refl
 left_true false b e = e
 
-pub read_done : (d : Disk) (s : ℕ) (r : Result Unit DeviceFault) (page : List ℕ) (new : Option Disk) (before after : List Bool) → is_err r ≡ false → Reads d s new page r → Logs before after r → HasRead d s (record { disk = new; before = failures before; after = failures after }) × (page ≡ block_at d.blocks s)
+pub read_done : (d : Disk) (s : ℕ) (r : Result Unit DeviceFault) (page : List ℕ) (new : Option Disk) (before after : List Bool) → is_err r ≡ false → Reads d s new page r → Logs before after r → HasRead d s (done_of new before after) × (page ≡ block_at d.blocks s)
 read_done d s (Ok u) page new before after e x n = (record { there = ltb-true s (length d.blocks) (left_true _ _ x.0); disk = x.1; failures = succeeded before after u n }, x.2)
 read_done d s (Err u) page new before after e x n = cc
 
 -- a screen that the device has, and failed to read
-pub read_failed : (d : Disk) (s : ℕ) (r : Result Unit DeviceFault) (page : List ℕ) (new : Option Disk) (before after : List Bool) → is_err r ≡ true → s < length d.blocks → Reads d s new page r → Logs before after r → HasFailed d s (record { disk = new; before = failures before; after = failures after })
+pub read_failed : (d : Disk) (s : ℕ) (r : Result Unit DeviceFault) (page : List ℕ) (new : Option Disk) (before after : List Bool) → is_err r ≡ true → s < length d.blocks → Reads d s new page r → Logs before after r → HasFailed d s (done_of new before after)
 read_failed d s (Ok u) page new before after e l x n = cc
 read_failed d s (Err u) page new before after e l x n = record { there = l; fails = x.0; disk = x.1; failures = failed before after u n }
 

@@ -24,7 +24,7 @@ use Rattle.image_builder.specs.Items.{Header, Colon, Cell, Byte, Allot, Immediat
 use Rattle.image_builder.specs.Meanings.{look, meaning}
 use Rattle.image_builder.specs.Grammar.{AreSound, IsSound}
 use Rattle.image_builder.specs.Stages.{Stage, Whole, Counted, Due, Chosen, Inside, body_at, Begun, IsFront}
-use Rattle.image_builder.specs.Faults.{IsGood, AtItem, AtNumber, AtName, AtVocabulary, InBody, Applies, FirstCause, refusal, rank, IsFault, Next}
+use Rattle.image_builder.specs.Faults.{IsGood, AtItem, AtNumber, AtName, AtVocabulary, InBody, Applies, FirstCause, refusal, rank, IsFault, Next, IsSameFault}
 use Rattle.block_buffers.specs.Disks.{Disk}
 use Rattle.image_loader.specs.Files.{Contents}
 use Rattle.memory.specs.Bytes.{limit_of}
@@ -306,15 +306,12 @@ same_cause limit t stage w after a b f g x y =
       | inr (inr q) ↦ rank_same a b q
     ]
 
-abbrev Same : ℕ → ℕ → ℕ → ℕ → Cause → Cause → Type 0
-Same p q o n a b = (a ≡ c.OutOfMemory) ⊎ (b ≡ c.OutOfMemory) ⊎ ((p ≡ q) × (o ≡ n) × (a ≡ b))
-
-turned : (p q o n : ℕ) (a b : Cause) → Same q p n o b a → Same p q o n a b
+turned : (p q o n : ℕ) (a b : Cause) → IsSameFault q n b p o a → IsSameFault p o a q n b
 turned p q o n a b (inl x) = inr (inl x)
 turned p q o n a b (inr (inl x)) = inl x
 turned p q o n a b (inr (inr x)) = inr (inr (sym x.0, sym x.1, sym x.2))
 
-at_one_word : (limit : ℕ) (source : List Place) (p q o n : ℕ) (a b : Cause) (f : AtWord limit source p o a) (g : AtWord limit source q n b) → g.before ≡ f.before → f.word ≡ g.word → f.after ≡ g.after → Same p q o n a b
+at_one_word : (limit : ℕ) (source : List Place) (p q o n : ℕ) (a b : Cause) (f : AtWord limit source p o a) (g : AtWord limit source q n b) → g.before ≡ f.before → f.word ≡ g.word → f.after ≡ g.after → IsSameFault p o a q n b
 at_one_word limit source p q o n a b f g e h i =
     elim (ranked a) [
       | inl x ↦ inl x
@@ -327,7 +324,7 @@ at_one_word limit source p q o n a b f g e h i =
       ]
     ]
 
-words_differ : (limit : ℕ) (source : List Place) (p q o n : ℕ) (a b : Cause) (f : AtWord limit source p o a) (g : AtWord limit source q n b) (z : List Place) → g.before ≡ f.before ++ z → f.word ∷ f.after ≡ z ++ g.word ∷ g.after → Same p q o n a b
+words_differ : (limit : ℕ) (source : List Place) (p q o n : ℕ) (a b : Cause) (f : AtWord limit source p o a) (g : AtWord limit source q n b) (z : List Place) → g.before ≡ f.before ++ z → f.word ∷ f.after ≡ z ++ g.word ∷ g.after → IsSameFault p o a q n b
 words_differ limit source p q o n a b f g [] e h =
     let x : f.word ≡ g.word = cc in
     let y : f.after ≡ g.after = cc in
@@ -357,7 +354,7 @@ one_kind s1 s2 a b e (inl x) (inr y) = absurd (x.1 (e ∙ y.1))
 one_kind s1 s2 a b e (inr x) (inl y) = absurd (y.1 (sym e ∙ x.1))
 one_kind s1 s2 a b e (inr x) (inr y) = x.0 ∙ sym y.0
 
-by_view : (limit : ℕ) (source : List Place) (last p q o n : ℕ) (a b : Cause) → View limit source last p o a → View limit source last q n b → Same p q o n a b
+by_view : (limit : ℕ) (source : List Place) (last p q o n : ℕ) (a b : Cause) → View limit source last p o a → View limit source last q n b → IsSameFault p o a q n b
 by_view limit source last p q o n a b (inl x) g = inl x
 by_view limit source last p q o n a b f (inl x) = inr (inl x)
 by_view limit source last p q o n a b (inr (inl x)) (inr (inl y)) =
@@ -371,7 +368,7 @@ by_view limit source last p q o n a b (inr (inr f)) (inr (inr g)) =
       | inr z ↦ turned p q o n a b (words_differ limit source q p n o b a g f z.0 z.1 z.2)
     ]
 
-pub one_fault : (limit : ℕ) (source : List Place) (last p q o n : ℕ) (a b : Cause) → IsFault limit source last p o a → IsFault limit source last q n b → (a ≡ c.OutOfMemory) ⊎ (b ≡ c.OutOfMemory) ⊎ ((p ≡ q) × (o ≡ n) × (a ≡ b))
+pub one_fault : (limit : ℕ) (source : List Place) (last p q o n : ℕ) (a b : Cause) → IsFault limit source last p o a → IsFault limit source last q n b → IsSameFault p o a q n b
 one_fault limit source last p q o n a b f g = by_view limit source last p q o n a b (view limit source last p o a f) (view limit source last q n b g)
 
 -- a good source is the words of one list of items

@@ -1,5 +1,5 @@
 -- Good sources, and the first fault of any other.
-use Rattle.std.specs.Prelude.{◌≡◌, ◌≢◌, ℕ, ◌+◌, ◌<◌, ◌≤◌, List, [], ◌∷◌, ◌++◌, length, Some, None, Result, Ok, Err}
+use Rattle.std.specs.Prelude.{◌≡◌, ◌≢◌, ℕ, ◌+◌, ◌<◌, ◌≤◌, ◌⊎◌, List, [], ◌∷◌, ◌++◌, length, Some, None, Result, Ok, Err}
 use Rattle.colon_bodies.specs.Tokens.{Token}
 use Rattle.colon_bodies.specs.declared.words.Half.TheVariants.{Free}
 use Rattle.colon_bodies.specs.declared.fault.BodyCause.{BodyCause}
@@ -124,6 +124,14 @@ IsFault limit source last screen offset c.NoBoot =
 IsFault limit source last screen offset cause =
     (before : List Place) × (w : Place) × (after : List Place) × (t : Items) × (ws : List Place) × (stage : Stage)
     × (source ≡ before ++ w ∷ after) × (screen ≡ w.screen) × (offset ≡ w.offset) × IsFront limit before t ws stage × FirstCause limit t stage w after cause
+
+-- no fault is found in it, want of memory aside
+abbrev pub HasNoFault : (limit : ℕ) → List Place → Type 0
+HasNoFault limit source = (last screen offset : ℕ) (cause : Cause) → IsFault limit source last screen offset cause → cause ≡ c.OutOfMemory
+
+-- these are one and the same fault, want of memory aside
+abbrev pub IsSameFault : (screen offset : ℕ) → Cause → (screen' offset' : ℕ) → Cause → Type 0
+IsSameFault p o a q n b = (a ≡ c.OutOfMemory) ⊎ (b ≡ c.OutOfMemory) ⊎ ((p ≡ q) × (o ≡ n) × (a ≡ b))
 
 -- a good source
 pub record IsGood (limit : ℕ) (source : List Place) (t : Items) (entry : ℕ) : Type 0 where

@@ -83,3 +83,7 @@ pub record IsSound (limit : ℕ) (t : Items) (ws : List Place) (i : Item) : Type
 abbrev pub AreSound : (limit : ℕ) → Items → Type 0
 AreSound limit Nothing = Unit {0}
 AreSound limit (Then t ws i) = AreSound limit t × IsSound limit t ws i
+
+-- the items of an image, which ends at some limit at the latest
+abbrev pub MakeImage : Items → Type 0
+MakeImage t = (limit : ℕ) × IsLimit limit × AreSound limit t

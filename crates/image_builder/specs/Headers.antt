@@ -6,7 +6,7 @@ use Rattle.memory.specs.Bytes.{cell, front_put}
 use Rattle.memory.specs.Bytes as memory
 use Rattle.dictionary.specs.Header.{view_of, is_hidden, name_of, compilation_address}
 use Rattle.dictionary.specs.Chain.{chain}
-use Rattle.dictionary.specs.Search.{Sought, Found, Nowhere}
+use Rattle.dictionary.specs.Search.{Sought, Found, Nowhere, sought}
 use Rattle.image_builder.specs.Places.{Place}
 use Rattle.image_builder.specs.Names.{Name, class_of}
 use Rattle.image_builder.specs.Items.{Item, Header, Colon, Items, Nothing, Then, current, item_size, image}
@@ -73,3 +73,7 @@ pub record Says (m : List ℕ) (l screen link : ℕ) (name : List ℕ) : Type 0 
   pub shown : is_hidden m l ≡ false
   pub named : name_of m l ≡ name
   pub code_field : compilation_address m l ≡ l + 3 + length name
+
+-- the machine's search finds a header of this name, whose view cell is this screen
+abbrev pub HasView : List ℕ → List ℕ → (screen : ℕ) → Type 0
+HasView m name screen = (l : ℕ) × (sought m name ≡ Found l) × (view_of m l ≡ screen)

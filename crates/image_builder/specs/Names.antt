@@ -1,5 +1,5 @@
 -- Names that were made, newest first, and searches of them.
-use Rattle.std.specs.Prelude.{ℕ, Bool, ◌==◌, ◌&&◌, ◌%◌, ◌+◌, map, reverse, List, [], ◌∷◌, length, Option, Some, None}
+use Rattle.std.specs.Prelude.{◌≡◌, ℕ, Bool, ◌==◌, ◌&&◌, ◌%◌, ◌+◌, map, reverse, List, [], ◌∷◌, ◌++◌, length, Option, Some, None}
 use Rattle.std.specs.Str.{bytes_eq}
 use Rattle.std.specs.List.{find}
 use Rattle.image_builder.specs.declared.entry.Sign.{Sign}
@@ -34,6 +34,10 @@ class_of (b ∷ bs) = b % 4
 -- the newest name of a vocabulary that is spelled so
 abbrev pub within : (voc : ℕ) → List ℕ → List Name → Option Name
 within voc bs names = find (λ n. (n.vocabulary == voc) && bytes_eq n.name bs) names
+
+-- a name among these that no newer one of its vocabulary hides
+abbrev pub IsLatest : Name → List Name → Type 0
+IsLatest n names = (newer older : List Name) × (names ≡ newer ++ n ∷ older) × (within n.vocabulary n.name newer ≡ None)
 
 abbrev pub or_else : Option Name → Option Name → Option Name
 or_else None b = b

@@ -1,7 +1,6 @@
 //! A source built to an image.
 
 ghost use Rattle.std.specs.Prelude.{◌≡◌, ℕ, ◌≤◌, ◌⊎◌, [], List, Some, IfOk, IfErr, length, vec_len};
-ghost use Rattle.block_buffers.specs.Calls.{failures};
 ghost use Rattle.block_buffers.specs.Disks.{Disk};
 ghost use Rattle.memory.specs.Bytes.{IsCount, limit_of};
 ghost use Rattle.image_builder.specs.Places.{Place};
@@ -9,7 +8,7 @@ ghost use Rattle.image_builder.specs.Faults.{IsFault};
 ghost use Rattle.image_builder.specs.Grammar.{IsLimit};
 ghost use Rattle.image_builder.specs.Built.{Building};
 ghost use Rattle.image_builder.specs.State.{IsRead, IsBuilt, tells_whole};
-ghost use Rattle.image_builder.specs.Sources.{IsBuiltOf, IsRefused};
+ghost use Rattle.image_builder.specs.Sources.{IsBuiltOf, IsRefused, done_of};
 ghost use Rattle.image_builder.specs.Reading.{Holds};
 ghost use Rattle.image_builder.specs.declared.cause.Cause.TheVariants as c;
 
@@ -90,8 +89,8 @@ pub fn build<D: Device>(
     count: u16,
 ) -> Result<Image, BuildFault>
     requires { IsCount count }
-    ensures built { (d : Disk) → D.disk device.old ≡ Some d → IfOk result (λ i. IsBuiltOf count d from to i (record { disk = D.disk device.new; before = failures (D.calls device.old); after = failures (D.calls device.new) })) }
-    ensures refused { (d : Disk) → D.disk device.old ≡ Some d → IfErr result (λ e. IsRefused (limit_of count) d from to e (record { disk = D.disk device.new; before = failures (D.calls device.old); after = failures (D.calls device.new) })) }
+    ensures built { (d : Disk) → D.disk device.old ≡ Some d → IfOk result (λ i. IsBuiltOf count d from to i (done_of (D.disk device.new) (D.calls device.old) (D.calls device.new))) }
+    ensures refused { (d : Disk) → D.disk device.old ≡ Some d → IfErr result (λ e. IsRefused (limit_of count) d from to e (done_of (D.disk device.new) (D.calls device.old) (D.calls device.new))) }
 {
     let mut compilation = match begin(alloc, limit_of(count)) {
         Ok(compilation) => compilation,

@@ -1,33 +1,30 @@
 //! Laws of the definitions.
 
-ghost use Rattle.std.specs.Prelude.{◌≡◌, ℕ, ◌+◌, ◌-◌, ◌<◌, ◌≤◌, ◌*◌, ◌++◌, ◌⊎◌, List, ◌∷◌, length, sum, Some, None};
+ghost use Rattle.std.specs.Prelude.{◌≡◌, ℕ, ◌+◌, ◌-◌, ◌<◌, ◌≤◌, ◌*◌, List, length, sum, Some, None};
 ghost use Rattle.memory.specs.Bytes.{cell};
 ghost use Rattle.memory.specs.declared.system.TheConstants.{DP, RUNTIME_CELLS};
 ghost use Rattle.block_buffers.specs.Disks.{Disk};
 ghost use Rattle.image_loader.specs.Files.{Contents};
-ghost use Rattle.source_words.specs.Words.{SourceWord, source_words};
-ghost use Rattle.image_builder.specs.Spelled.{all_placed};
-ghost use Rattle.image_builder.specs.Sources.{Done, AreThere, IsBuiltOf, IsRefused, source_of, screens};
+ghost use Rattle.image_builder.specs.Sources.{Done, AreGood, IsBuiltOf, IsDecided, IsFirstFault, IsOwnRefusal};
 ghost use Rattle.image_builder.specs.declared.cause.BuildFault.{BuildFault};
 ghost use Rattle.image_builder.specs.Places.{Place};
 ghost use Rattle.image_builder.specs.Items.{Items, image, system, controls, names, current, end_of, link_of};
-ghost use Rattle.image_builder.specs.Names.{Name, within, found};
-ghost use Rattle.dictionary.specs.Header.{view_of};
+ghost use Rattle.image_builder.specs.Names.{Name, IsLatest, within, found};
 ghost use Rattle.dictionary.specs.Search.{Found, Nowhere, sought_in, sought};
-ghost use Rattle.image_builder.specs.Grammar.{IsLimit, AreSound};
-ghost use Rattle.image_builder.specs.Headers.{memory_of, sizes, IsVocabulary, IsTitled, Says, chain_of, links_of, sought_name, titled};
-ghost use Rattle.image_builder.specs.Faults.{IsGood, IsFault};
+ghost use Rattle.image_builder.specs.Grammar.{MakeImage};
+ghost use Rattle.image_builder.specs.Headers.{memory_of, sizes, IsVocabulary, IsTitled, Says, HasView, chain_of, links_of, sought_name, titled};
+ghost use Rattle.image_builder.specs.Faults.{IsGood, IsFault, HasNoFault, IsSameFault};
 ghost use Rattle.image_builder.specs.declared.cause.Cause.{Cause};
 ghost use Rattle.image_builder.specs.declared.cause.Cause.TheVariants.{OutOfMemory};
 
 /// A good source has no fault.
 pub fn good_has_no_fault()
-    ensures { (limit : ℕ) (source : List Place) (u : Items) (entry last screen offset : ℕ) (cause : Cause) → IsGood limit source u entry → IsFault limit source last screen offset cause → cause ≡ OutOfMemory }
+    ensures { (limit : ℕ) (source : List Place) (u : Items) (entry : ℕ) → IsGood limit source u entry → HasNoFault limit source }
 {}
 
 /// A source has one first fault at most; want of memory aside.
 pub fn one_fault()
-    ensures { (limit : ℕ) (source : List Place) (last p q o n : ℕ) (a b : Cause) → IsFault limit source last p o a → IsFault limit source last q n b → (a ≡ OutOfMemory) ⊎ (b ≡ OutOfMemory) ⊎ ((p ≡ q) × (o ≡ n) × (a ≡ b)) }
+    ensures { (limit : ℕ) (source : List Place) (last p q o n : ℕ) (a b : Cause) → IsFault limit source last p o a → IsFault limit source last q n b → IsSameFault p o a q n b }
 {}
 
 /// A good source is the words of one list of items, and has one entry; so there is one image of it.
@@ -40,9 +37,9 @@ pub fn one_image()
 /// source is refused only for want of memory. A word that is at fault however the source goes on behind the screens that
 /// were read is the first fault of the whole source.
 pub fn refusal_law()
-    ensures first { (limit : ℕ) (d : Disk) (from to : ℕ) (e : BuildFault) (done : Done) → AreThere d from to → done.after ≡ done.before → IsRefused limit d from to e done → IsFault limit (all_placed (source_of d from to)) to e.screen e.offset e.cause }
-    ensures good { (limit : ℕ) (d : Disk) (from to : ℕ) (e : BuildFault) (done : Done) (items : Items) (entry : ℕ) → AreThere d from to → IsGood limit (all_placed (source_of d from to)) items entry → done.after ≡ done.before → IsRefused limit d from to e done → e.cause ≡ OutOfMemory }
-    ensures whole { (limit : ℕ) (d : Disk) (from to k screen offset : ℕ) (cause : Cause) → k ≤ to + 1 - from → ((rest : List SourceWord) → IsFault limit (all_placed (source_words from (screens d from k) ++ rest)) to screen offset cause) → IsFault limit (all_placed (source_of d from to)) to screen offset cause }
+    ensures first { (limit : ℕ) (d : Disk) (from to : ℕ) (e : BuildFault) → IsOwnRefusal limit d from to e → IsFirstFault limit d from to e }
+    ensures good { (limit : ℕ) (d : Disk) (from to : ℕ) (e : BuildFault) → AreGood limit d from to → IsOwnRefusal limit d from to e → e.cause ≡ OutOfMemory }
+    ensures whole { (limit : ℕ) (d : Disk) (from to k : ℕ) (e : BuildFault) → k ≤ to + 1 - from → IsDecided limit d from to k e → IsFirstFault limit d from to e }
 {}
 
 /// An image is as long as the sizes of its items, behind the 256 bytes of the system's cells.
@@ -61,27 +58,27 @@ pub fn cells_law()
 /// In an image's memory the chain of each class of a vocabulary is exactly the names of that vocabulary and class, newest
 /// first.
 pub fn chain_law()
-    ensures { (limit : ℕ) → IsLimit limit → (t : Items) (voc class : ℕ) → AreSound limit t → IsVocabulary t voc → class < 4 → chain_of (memory_of t) voc class ≡ links_of voc class (names t) }
+    ensures { (t : Items) (voc class : ℕ) → MakeImage t → IsVocabulary t voc → class < 4 → chain_of (memory_of t) voc class ≡ links_of voc class (names t) }
 {}
 
 /// The header of each item that makes one stands where the items before it end. Its view cell is the screen of the name, its
 /// link the newest earlier name of its vocabulary and class, 0 where there is none; and it isn't hidden.
 pub fn header_law()
-    ensures { (limit : ℕ) → IsLimit limit → (t before : Items) (p : Place) → AreSound limit t → IsTitled t before p → Says (memory_of t) (end_of before + 2) p.screen (link_of before p) p.name }
+    ensures { (t before : Items) (p : Place) → MakeImage t → IsTitled t before p → Says (memory_of t) (end_of before + 2) p.screen (link_of before p) p.name }
 {}
 
 /// A search of an image's memory comes to the newest name of a vocabulary that is spelled so, and to none where there is
 /// none: in one vocabulary alone, and the machine's own, in the last current vocabulary and then in FORTH. So each header
 /// is found by its name unless a later one of its vocabulary has it.
 pub fn search_law()
-    ensures alone { (limit : ℕ) → IsLimit limit → (t : Items) (voc : ℕ) (name : List ℕ) → AreSound limit t → IsVocabulary t voc → sought_in (memory_of t) voc name ≡ sought_name (within voc name (names t)) }
-    ensures machine { (limit : ℕ) → IsLimit limit → (t : Items) (name : List ℕ) → AreSound limit t → 0 < length name → sought (memory_of t) name ≡ sought_name (found (current t) name (names t)) }
-    ensures each { (limit : ℕ) → IsLimit limit → (t : Items) (newer older : List Name) (n : Name) → AreSound limit t → names t ≡ newer ++ n ∷ older → within n.vocabulary n.name newer ≡ None → sought_in (memory_of t) n.vocabulary n.name ≡ Found n.link }
+    ensures alone { (t : Items) (voc : ℕ) (name : List ℕ) → MakeImage t → IsVocabulary t voc → sought_in (memory_of t) voc name ≡ sought_name (within voc name (names t)) }
+    ensures machine { (t : Items) (name : List ℕ) → MakeImage t → 0 < length name → sought (memory_of t) name ≡ sought_name (found (current t) name (names t)) }
+    ensures each { (t : Items) (n : Name) → MakeImage t → IsLatest n (names t) → sought_in (memory_of t) n.vocabulary n.name ≡ Found n.link }
 {}
 
 /// What the machine's search finds in an image's memory has the screen of its name in its view cell, that is of the newest
 /// item spelled so in the last current vocabulary, else in FORTH; where no item is, nothing is found.
 pub fn view_law()
-    ensures there { (limit : ℕ) → IsLimit limit → (t : Items) (name : List ℕ) (p : Place) → AreSound limit t → 0 < length name → titled name t ≡ Some p → (l : ℕ) × (sought (memory_of t) name ≡ Found l) × (view_of (memory_of t) l ≡ p.screen) }
-    ensures nowhere { (limit : ℕ) → IsLimit limit → (t : Items) (name : List ℕ) → AreSound limit t → 0 < length name → titled name t ≡ None → sought (memory_of t) name ≡ Nowhere }
+    ensures there { (t : Items) (name : List ℕ) (p : Place) → MakeImage t → 0 < length name → titled name t ≡ Some p → HasView (memory_of t) name p.screen }
+    ensures nowhere { (t : Items) (name : List ℕ) → MakeImage t → 0 < length name → titled name t ≡ None → sought (memory_of t) name ≡ Nowhere }
 {}

@@ -1,10 +1,10 @@
 //! The screens of a source, read one at a time, and their words taken one by one.
 
 ghost use Rattle.std.specs.Prelude.{◌≡◌, ℕ, ◌<◌, ◌++◌, [], ◌∷◌, List, Some, length, OnOk};
-ghost use Rattle.block_buffers.specs.Calls.{failures};
 ghost use Rattle.block_buffers.specs.Disks.{Disk};
 ghost use Rattle.source_words.specs.Words.{SourceWord, screen_words};
 ghost use Rattle.source_words.specs.Scanned.{source_word};
+ghost use Rattle.image_builder.specs.Sources.{done_of};
 ghost use Rattle.image_builder.specs.Reading.{Holds, IsHeld, Takes, TakesAll, TakesScreen, TakesScreens, refusal, settled};
 ghost use Rattle.image_builder.specs.declared.reading.Stop.TheVariants as stop;
 
@@ -111,7 +111,7 @@ fn take_screen<D: Device>(
     mode: Mode,
 ) -> Result<Mode, Stop>
     requires { IsHeld compilation.old.build.limit compilation.old }
-    ensures taken { (d : Disk) → D.disk device.old ≡ Some d → (limit : ℕ) (front : List SourceWord) → Holds limit compilation.old front → TakesScreen limit d screen mode front result compilation.old compilation.new (record { disk = D.disk device.new; before = failures (D.calls device.old); after = failures (D.calls device.new) }) }
+    ensures taken { (d : Disk) → D.disk device.old ≡ Some d → (limit : ℕ) (front : List SourceWord) → Holds limit compilation.old front → TakesScreen limit d screen mode front result compilation.old compilation.new (done_of (D.disk device.new) (D.calls device.old) (D.calls device.new)) }
     ensures held { OnOk result (IsHeld compilation.old.build.limit compilation.new) }
 {
     let count = device.count();
@@ -132,7 +132,7 @@ pub fn take_screens<D: Device>(
     to: u16,
 ) -> Result<(), Stop>
     requires { Holds compilation.old.build.limit compilation.old [] }
-    ensures taken { (d : Disk) → D.disk device.old ≡ Some d → TakesScreens compilation.old.build.limit d from to result compilation.new (record { disk = D.disk device.new; before = failures (D.calls device.old); after = failures (D.calls device.new) }) }
+    ensures taken { (d : Disk) → D.disk device.old ≡ Some d → TakesScreens compilation.old.build.limit d from to result compilation.new (done_of (D.disk device.new) (D.calls device.old) (D.calls device.new)) }
     ensures held { OnOk result (IsHeld compilation.old.build.limit compilation.new) }
 {
     let mut page = [b' '; BLOCK_SIZE];

@@ -2,4 +2,4 @@ use Rattle.image_builder.proofs.Chained.{title_says}
 use Rattle.image_builder.proofs.laws.header_law.Goals as goal
 
 pub returns : goal.returns
-returns c = title_says
+returns c = λ t before p i. title_says i.0 i.1 t before p i.2
