@@ -1,5 +1,5 @@
 -- The rows of the other numbers: none answers unknown code.
-use Rattle.std.proofs.Common.{◌≡◌, ◌≢◌, ℕ, Result, Ok, Err, ◌+◌, ◌==◌, ◌<◌, ◌≤◌, List, Bool, true, false, nat_lt, inl, inr, arith, refl, sym, ap, ◌∙◌, subst, rules, if◌then◌else◌}
+use Rattle.std.proofs.Common.{◌≡◌, ◌≢◌, ℕ, Result, Ok, Err, ◌+◌, ◌==◌, ◌<◌, ◌≤◌, List, Bool, true, false, inl, inr, arith, refl, sym, ap, ◌∙◌, subst, rules, if◌then◌else◌}
 use Rattle.std.proofs.lemmas.Bool.{eqb-true, cases_lt}
 use Rattle.dictionary.specs.declared.fault.ForgetFault.{ForgetFault}
 use Rattle.dictionary.specs.declared.fault.ForgetFault.TheVariants.{NameLength, NotFound, ChainTooLong}
@@ -7,7 +7,7 @@ use Rattle.dictionary.specs.Search.{Sought, Found, Nowhere, TooLong}
 use Rattle.input_source.specs.declared.words.Word.{Word}
 use Rattle.memory.specs.Bytes.{Write}
 use Rattle.plain_rows.specs.Whole.{Whole}
-use Rattle.plain_rows.specs.Row.{After, takes1, takes2, takes3, takes4, takes6, takes_r1, takes_r3, takes_r4, done, fault, room, room_r}
+use Rattle.plain_rows.specs.Row.{After, takes1, takes2, takes3, takes4, takes6, takes_r1, takes_r3, takes_r4, fault, room, room_r}
 use Rattle.plain_rows.specs.declared.faults.TheConstants.{UNKNOWN_CODE}
 use Rattle.plain_rows.specs.declared.parts.Outcome.{Outcome}
 use Rattle.plain_rows.specs.declared.parts.Outcome.TheVariants as outcome
@@ -25,7 +25,7 @@ use Rattle.primitives.specs.Compiling.{compiles, resolves}
 use Rattle.primitives.specs.Table.{devices, numbers, input, compiling, editor, row}
 use Rattle.image_builder.specs.Grammar.{is_gap}
 use Rattle.resident_bodies.proofs.Gaps.{row_of_control, row_of_stack, row_of_cells, row_of_doubles, row_of_memory, row_of_devices, row_of_numbers, row_of_input, row_of_compiling, row_of_editor}
-use Rattle.plain_rows.specs.Control.{colon_code as row_1, variable_code as row_2, constant_code as row_3, vocabulary_code as row_4, exit as row_5, lit as row_6, branch as row_7, zero_branch as row_8, begin_loop as row_9, next_loop as row_10, step_loop as row_11, leave_loop as row_12, index as row_13, outer_index as row_14, execute as row_15, show_inline as row_16, abort_inline as row_17, run_does as row_18, compile as row_19, to_r as row_20, from_r as row_21, r_fetch as row_22, bye as row_23, r_clear as row_24, s_clear as row_25, raise as row_26, noop as row_27}
+use Rattle.plain_rows.specs.Control.{colon_code as row_1, variable_code as row_2, constant_code as row_3, vocabulary_code as row_4, exit as row_5, lit as row_6, branch as row_7, zero_branch as row_8, begin_loop as row_9, next_loop as row_10, step_loop as row_11, leave_loop as row_12, index as row_13, outer_index as row_14, execute as row_15, show_inline as row_16, abort_inline as row_17, run_does as row_18, compile as row_19, to_r as row_20, from_r as row_21, r_fetch as row_22, bye as row_23, r_clear as row_24, s_clear as row_25, noop as row_27}
 use Rattle.plain_rows.specs.Stack.{dup as row_32, drop_cell as row_33, swap as row_34, over as row_35, rot as row_36, pick as row_37, roll as row_38, question_dup as row_39, depth as row_40, two_drop as row_41, two_dup as row_42, two_over as row_43, two_rot as row_44, two_swap as row_45}
 use Rattle.plain_rows.specs.Cell.{plus as row_48, minus as row_49, times as row_50, slash as row_51, modulo as row_52, slash_mod as row_53, times_slash as row_54, times_slash_mod as row_55, one_plus as row_56, one_minus as row_57, two_plus as row_58, two_minus as row_59, two_times as row_60, two_slash as row_61, negate as row_62, absolute as row_63, min as row_64, max as row_65, and as row_66, or as row_67, xor as row_68, turned as row_69, equals as row_70, differs as row_71, less as row_72, greater as row_73, u_less as row_74, zero_equals as row_75, zero_less as row_76, zero_greater as row_77, um_times as row_78, um_slash_mod as row_79}
 use Rattle.plain_rows.specs.Double.{d_plus as row_80, d_minus as row_81, d_negate as row_82, d_absolute as row_83, d_two_slash as row_84, d_min as row_85, d_max as row_86, d_equals as row_87, d_zero_equals as row_88, d_less as row_89, du_less as row_90}

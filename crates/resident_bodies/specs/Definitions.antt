@@ -7,8 +7,14 @@ use Rattle.dictionary.specs.declared.site.Site.{Site}
 use Rattle.dictionary.specs.Search.{head_of}
 use Rattle.dictionary.specs.Adding.{with_header_at}
 use Rattle.compiling_words.specs.Code.{runtime}
-use Rattle.colon_bodies.specs.Tree.{Definition}
+use Rattle.compiling_words.specs.Definitions.{begun, ended}
+use Rattle.colon_bodies.specs.Tree.{Definition, all_words}
 use Rattle.colon_bodies.specs.Code.{thread}
+use Rattle.image_builder.specs.Places.{Place}
+use Rattle.image_builder.specs.Items.{Items, Then, Colon}
+use Rattle.image_builder.specs.Grammar.{IsLimit, AreSound}
+use Rattle.image_builder.specs.Headers.{memory_of}
+use Rattle.resident_bodies.specs.Words.{lays_all}
 
 -- where a definition of this name goes in a memory: at HERE, in front of its chain in CURRENT
 abbrev pub site_in : List ℕ → (view : ℕ) → List ℕ → Site
@@ -23,6 +29,22 @@ site_in m view name = record {
 abbrev pub laid_definition : List ℕ → (view : ℕ) → List ℕ → Definition → List ℕ
 laid_definition m view name body =
     with_header_at (site_in m view name) m name 1 (thread (runtime m) body (cell m DP + (7 + length name))) false
+
+-- memory behind `: NAME`, the body's words one after another, and `;`
+abbrev pub laid_by_words : (m d name : List ℕ) → Definition → List ℕ
+laid_by_words m d name body = ended (lays_all (all_words body) (begun m name) d).0
+
+-- each list of items that is sound where the block buffers begin at a limit
+abbrev pub OfSound : ((limit : ℕ) → Items → Type 0) → Type 0
+OfSound P = (limit : ℕ) → IsLimit limit → (t : Items) → AreSound limit t → P limit t
+
+-- the last of these items is a colon definition, behind t
+abbrev pub EndsInColon : Items → (t : Items) → (name : Place) → Definition → Type 0
+EndsInColon u t name body = (words : List Place) × (u ≡ Then t words (Colon name body))
+
+-- the image's memory of these items, with a definition behind them whose name stands at this place of the source
+abbrev pub with_definition : Items → (name : Place) → Definition → List ℕ
+with_definition t name body = laid_definition (memory_of t) name.screen name.name body
 
 -- A definition of this name may begin: words are executed, its header and so many bytes behind it fit, and the head of its
 -- chain is one of FORTH's or stands among what was laid.

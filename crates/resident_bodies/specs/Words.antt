@@ -1,8 +1,12 @@
 -- What the words of a body make of memory and the data stack where the resident compiler reads them.
-use Rattle.std.specs.Prelude.{ℕ, true, false, ◌+◌, ◌/◌, ◌%◌, List, [], ◌∷◌, ◌++◌, length, Option, Some, None}
+use Rattle.std.specs.Prelude.{◌≡◌, ℕ, true, false, ◌+◌, ◌≤◌, ◌/◌, ◌%◌, List, [], ◌∷◌, ◌++◌, length, Option, Some, None}
 use Rattle.cells.specs.Cell.{wrap}
 use Rattle.memory.specs.Bytes.{cell, put_cell, cell_bytes}
-use Rattle.memory.specs.declared.system.TheConstants.{DP}
+use Rattle.memory.specs.declared.system.TheConstants.{DP, TO_IN}
+use Rattle.block_buffers.specs.Entries.{limit}
+use Rattle.dictionary.specs.Laying.{laid_at}
+use Rattle.input_source.specs.declared.words.Word.{Word}
+use Rattle.plain_rows.specs.Whole.{Whole}
 use Rattle.stacks.specs.Cells.{◌▸◌}
 use Rattle.compiling_words.specs.Code.{runtime, control_code, literal_code, text_code}
 use Rattle.compiling_words.specs.Laying.{laid, resolved}
@@ -36,6 +40,27 @@ lays REPEAT m (b ∷ a ∷ d) = (laid_and_resolved m (control_code m 7 a) b, d)
 lays DO m d = (laid m (control_code m 9 0), d ▸ ahead m 2 ▸ ahead m 4)
 lays (LOOP k) m (b ∷ a ∷ d) = (laid_and_resolved m (control_code m (loop_control k) b) a, d)
 lays _ m d = (m, d)
+
+-- the parts behind a word: memory and the data stack as it leaves them
+abbrev pub behind_word : Token → Whole → Whole
+behind_word word s = record s { memory = (lays word s.memory s.values).0; values = (lays word s.memory s.values).1 }
+
+-- so many bytes fit between HERE and the block buffers
+abbrev pub FitsHere : Whole → ℕ → Type 0
+FitsHere s n = cell s.memory DP + n ≤ limit s.buffers
+
+-- where >IN is moved first, the word lays these bytes at HERE
+abbrev pub LaysBehind : (m d : List ℕ) → (to_in : ℕ) → Token → List ℕ → Type 0
+LaysBehind m d to_in word bs =
+    (lays word (put_cell m TO_IN to_in) d).0 ≡ laid_at (cell m DP) (put_cell m TO_IN to_in) bs
+
+-- the parts where >IN is moved behind a word of the stream, and bytes are laid
+abbrev pub laid_past : Whole → Word → List ℕ → Whole
+laid_past s word bs = record s { memory = laid (put_cell s.memory TO_IN word.next) bs }
+
+-- the parts with -1 on the data stack
+abbrev pub with_true : Whole → Whole
+with_true s = record s { values = s.values ▸ 65535 }
 
 -- the row of the keyword, where it has one that needs no name and no text
 abbrev pub row_of : Token → Option ℕ

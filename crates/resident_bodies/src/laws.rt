@@ -4,10 +4,8 @@ ghost use Rattle.std.specs.Prelude.{◌≡◌, ◌≢◌, ◌<◌, ◌≤◌, �
 ghost use Rattle.memory.specs.Bytes.{cell, cell_bytes, put_cell};
 ghost use Rattle.memory.specs.declared.limit.TheConstants.{GREATEST_LIMIT};
 ghost use Rattle.memory.specs.declared.system.TheConstants.{BLK, DP, TO_IN, FENCE};
-ghost use Rattle.block_buffers.specs.Entries.{limit};
-ghost use Rattle.dictionary.specs.Laying.{laid_at};
 ghost use Rattle.compiling_words.specs.Code.{runtime, literal_code, text_code};
-ghost use Rattle.compiling_words.specs.Definitions.{begun, ended};
+ghost use Rattle.compiling_words.specs.Definitions.{ended};
 ghost use Rattle.compiling_words.specs.Laying.{laid};
 ghost use Rattle.plain_rows.specs.Whole.{Whole};
 ghost use Rattle.plain_rows.specs.Row.{fault};
@@ -17,25 +15,23 @@ ghost use Rattle.primitives.specs.Table.{row};
 ghost use Rattle.primitives.specs.Interpret.{compiles_past};
 ghost use Rattle.primitives.specs.Defining.{lays_past};
 ghost use Rattle.input_source.specs.declared.words.Word.{Word};
-ghost use Rattle.stacks.specs.Cells.{◌▸◌};
 ghost use Rattle.colon_bodies.specs.declared.words.Half.TheVariants.{Free};
-ghost use Rattle.colon_bodies.specs.declared.words.Half.{Half};
 ghost use Rattle.colon_bodies.specs.Tokens.{Token, NAME, NUMBER, DOUBLE, TEXT, text_control, laid_by};
 ghost use Rattle.colon_bodies.specs.Tree.{Body, Definition, Tick, all_words};
 ghost use Rattle.colon_bodies.specs.Code.{all_size};
-ghost use Rattle.colon_bodies.specs.Open.{Outer, At, open_size, read};
+ghost use Rattle.colon_bodies.specs.Open.{Outer, State, At};
 ghost use Rattle.image_builder.specs.Places.{Place};
-ghost use Rattle.image_builder.specs.Items.{Items, Then, Colon, end_of};
-ghost use Rattle.image_builder.specs.Grammar.{IsLimit, AreSound, is_gap};
+ghost use Rattle.image_builder.specs.Items.{Items, end_of};
+ghost use Rattle.image_builder.specs.Grammar.{is_gap};
 ghost use Rattle.image_builder.specs.Headers.{memory_of};
-ghost use Rattle.resident_bodies.specs.Definitions.{Opens, Agrees, laid_definition};
-ghost use Rattle.resident_bodies.specs.Words.{lays, lays_all, row_of};
-ghost use Rattle.resident_bodies.specs.Drafts.{Draft, Bodied};
+ghost use Rattle.resident_bodies.specs.Definitions.{OfSound, EndsInColon, Opens, Agrees, laid_by_words, laid_definition, with_definition};
+ghost use Rattle.resident_bodies.specs.Words.{FitsHere, LaysBehind, behind_word, laid_past, lays, lays_all, row_of, with_true};
+ghost use Rattle.resident_bodies.specs.Drafts.{Beginning, Bodied, HasRoom, IsDraft, MayCome, read_on};
 
 /// What a word of a body lays where the resident compiler reads it is what the word makes of the body that was read in part:
 /// the bytes of the open structures and the bodies, with a 0 in each cell that waits for its address.
 pub fn word_law()
-    ensures { (before : List ℕ) (at : ℕ) (o p : Outer) (t u : Body) (h k : Half) (w : Token) (m d below : List ℕ) → 256 ≤ at → at + open_size o t h + laid_by w ≤ GREATEST_LIMIT → read o t h w ≡ Some (At p u k) → Draft before at o t h m d below → Draft before at p u k (lays w m d).0 (lays w m d).1 below }
+    ensures { (b : Beginning) (r q : State) (w : Token) (m d : List ℕ) → HasRoom b.at m (laid_by w) → read_on r w ≡ Some q → IsDraft b r (m, d) → IsDraft b q (lays w m d) }
 {}
 
 /// Bytes that two calls lay one behind the other are what one call lays: so a control primitive and then a mark, or a literal
@@ -44,31 +40,31 @@ pub fn calls_law()
     ensures { (m xs ys : List ℕ) → length m ≡ 65536 → 30 ≤ cell m DP → cell m DP + length xs + length ys ≤ GREATEST_LIMIT → laid (laid m xs) ys ≡ laid m (xs ++ ys) }
 {}
 
-/// The row of a keyword does this where it fits below the buffers and there is room: it writes memory and leaves the data stack so, and does
-/// nothing else. The row of `;` ends the definition.
+/// Where a keyword may come next, its row writes memory and leaves the data stack as the word does, and does nothing else.
+/// The row of `;` ends the definition.
 pub fn row_law()
-    ensures keyword { (before : List ℕ) (at : ℕ) (o p : Outer) (t u : Body) (k : Half) (word : Token) (number token : ℕ) (s : Whole) (below : List ℕ) → at + open_size o t Free + laid_by word ≤ limit s.buffers → length s.values ≤ 250 → row_of word ≡ Some number → read o t Free word ≡ Some (At p u k) → Draft before at o t Free s.memory s.values below → row number token s ≡ (record s { memory = (lays word s.memory s.values).0; values = (lays word s.memory s.values).1 }, Done) }
-    ensures semicolon { (s : Whole) (token : ℕ) → cell s.memory DP + 2 ≤ limit s.buffers → row 169 token s ≡ (record s { memory = ended s.memory }, Done) }
+    ensures keyword { (b : Beginning) (r : State) (word : Token) (number token : ℕ) (s : Whole) → MayCome b r word s → row_of word ≡ Some number → row number token s ≡ (behind_word word s, Done) }
+    ensures semicolon { (s : Whole) (token : ℕ) → FitsHere s 2 → row 169 token s ≡ (record s { memory = ended s.memory }, Done) }
 {}
 
 /// Where the words of a definition's body are read one after another, its size is how far HERE moves, and its code is what is
 /// laid there; the data stack is as it was.
 pub fn body_law()
-    ensures laid { (m d : List ℕ) (at : ℕ) (body : Definition) → length m ≡ 65536 → cell m DP ≡ at → 256 ≤ at → at + all_size body ≤ GREATEST_LIMIT → Bodied m at body (lays_all (all_words body) m d).0 }
-    ensures stack { (m d : List ℕ) (at : ℕ) (body : Definition) → length m ≡ 65536 → cell m DP ≡ at → 256 ≤ at → at + all_size body ≤ GREATEST_LIMIT → (lays_all (all_words body) m d).1 ≡ d }
+    ensures laid { (m d : List ℕ) (at : ℕ) (body : Definition) → length m ≡ 65536 → cell m DP ≡ at → HasRoom at m (all_size body) → Bodied m at body (lays_all (all_words body) m d).0 }
+    ensures stack { (m d : List ℕ) (at : ℕ) (body : Definition) → length m ≡ 65536 → cell m DP ≡ at → HasRoom at m (all_size body) → (lays_all (all_words body) m d).1 ≡ d }
 {}
 
 /// A row that takes a name, a number or a text out of the stream moves >IN first, and lays what the word lays there; that >IN
 /// moves leaves a definition laid in part as it is. What `[']` lays at once is what its two words lay.
 pub fn stream_law()
-    ensures moved { (before : List ℕ) (at : ℕ) (o : Outer) (t : Body) (h : Half) (m d below : List ℕ) (q : ℕ) → 256 ≤ at → Draft before at o t h m d below → Draft before at o t h (put_cell m TO_IN q) d below }
-    ensures compiles { (s : Whole) (word : Word) (bs : List ℕ) → cell s.memory DP + length bs ≤ limit s.buffers → length s.values ≤ 255 → compiles_past s word bs ≡ (record s { values = s.values ▸ 65535; memory = laid (put_cell s.memory TO_IN word.next) bs }, Done) }
-    ensures lays { (s : Whole) (word : Word) (bs : List ℕ) → cell s.memory DP + length bs ≤ limit s.buffers → lays_past s word bs ≡ (record s { memory = laid (put_cell s.memory TO_IN word.next) bs }, Done) }
-    ensures name { (m d : List ℕ) (q w : ℕ) → (lays (NAME w) (put_cell m TO_IN q) d).0 ≡ laid_at (cell m DP) (put_cell m TO_IN q) (cell_bytes w) }
-    ensures number { (m d : List ℕ) (q n : ℕ) → (lays (NUMBER n) (put_cell m TO_IN q) d).0 ≡ laid_at (cell m DP) (put_cell m TO_IN q) (literal_code m n) }
-    ensures double { (m d : List ℕ) (q n : ℕ) → (lays (DOUBLE n) (put_cell m TO_IN q) d).0 ≡ laid_at (cell m DP) (put_cell m TO_IN q) (literal_code m (n % 65536) ++ literal_code m (n / 65536)) }
-    ensures text { (m d text : List ℕ) (q : ℕ) (aborts : Bool) → (lays (TEXT aborts text) (put_cell m TO_IN q) d).0 ≡ laid_at (cell m DP) (put_cell m TO_IN q) (text_code (runtime m (text_control aborts)) text) }
-    ensures tick { (before : List ℕ) (at : ℕ) (o : Outer) (t : Body) (m d below : List ℕ) (w : ℕ) → 256 ≤ at → at + open_size o t Free + 4 ≤ GREATEST_LIMIT → Draft before at o t Free m d below → Draft before at o (Tick t w) Free (laid m (literal_code m w)) d below }
+    ensures moved { (b : Beginning) (r : State) (m d : List ℕ) (q : ℕ) → 256 ≤ b.at → IsDraft b r (m, d) → IsDraft b r (put_cell m TO_IN q, d) }
+    ensures compiles { (s : Whole) (word : Word) (bs : List ℕ) → FitsHere s (length bs) → length s.values ≤ 255 → compiles_past s word bs ≡ (with_true (laid_past s word bs), Done) }
+    ensures lays { (s : Whole) (word : Word) (bs : List ℕ) → FitsHere s (length bs) → lays_past s word bs ≡ (laid_past s word bs, Done) }
+    ensures name { (m d : List ℕ) (q w : ℕ) → LaysBehind m d q (NAME w) (cell_bytes w) }
+    ensures number { (m d : List ℕ) (q n : ℕ) → LaysBehind m d q (NUMBER n) (literal_code m n) }
+    ensures double { (m d : List ℕ) (q n : ℕ) → LaysBehind m d q (DOUBLE n) (literal_code m (n % 65536) ++ literal_code m (n / 65536)) }
+    ensures text { (m d text : List ℕ) (q : ℕ) (aborts : Bool) → LaysBehind m d q (TEXT aborts text) (text_code (runtime m (text_control aborts)) text) }
+    ensures tick { (b : Beginning) (o : Outer) (t : Body) (m d : List ℕ) (w : ℕ) → HasRoom b.at m 4 → IsDraft b (At o t Free) (m, d) → IsDraft b (At o (Tick t w) Free) (laid m (literal_code m w), d) }
 {}
 
 /// The numbers that no primitive may have, for the metacompiler, are those of no row: there the table answers unknown code, and
@@ -82,12 +78,12 @@ pub fn gap_law()
 /// A colon item of the metacompiler is one header with its code behind it: the image's memory with it is the memory before
 /// it, with that header at HERE, in front of its chain, and FENCE behind it.
 pub fn item_law()
-    ensures { (limit : ℕ) → IsLimit limit → (t : Items) (ws : List Place) (p : Place) (body : Definition) → AreSound limit (Then t ws (Colon p body)) → memory_of (Then t ws (Colon p body)) ≡ put_cell (laid_definition (memory_of t) p.screen p.name body) FENCE (end_of (Then t ws (Colon p body))) }
+    ensures { OfSound (λ limit u. (t : Items) (name : Place) (body : Definition) → EndsInColon u t name body → memory_of u ≡ put_cell (with_definition t name body) FENCE (end_of u)) }
 {}
 
 /// A definition that the resident compiler begins, whose body's words it reads, and which it ends, is that one header with
 /// its code behind it. So both compilers lay the same. In the memory of each image a definition may begin that has room.
 pub fn definition_law()
-    ensures opens { (limit : ℕ) → IsLimit limit → (t : Items) (name : List ℕ) (behind : ℕ) → AreSound limit t → length name ≤ 31 → end_of t + (7 + length name + behind) ≤ limit → Opens (memory_of t) name behind }
-    ensures whole { (m d name : List ℕ) (body : Definition) → Opens m name (all_size body + 2) → Agrees (ended (lays_all (all_words body) (begun m name) d).0) (laid_definition m (cell m BLK) name body) }
+    ensures opens { OfSound (λ limit t. (name : List ℕ) (behind : ℕ) → length name ≤ 31 → end_of t + (7 + length name + behind) ≤ limit → Opens (memory_of t) name behind) }
+    ensures whole { (m d name : List ℕ) (body : Definition) → Opens m name (all_size body + 2) → Agrees (laid_by_words m d name body) (laid_definition m (cell m BLK) name body) }
 {}
