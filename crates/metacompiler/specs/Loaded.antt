@@ -64,11 +64,14 @@ by_interpret entry s d from to ticks (Ok word) =
     if (from == 0) && nat_le from to then refused (Fault BLOCK_ZERO) d
     else by_out entry s.memory (screens word (to + 1 - from) from ticks s d)
 
--- screens are loaded on an image with so many ticks
+-- screens are loaded with so many ticks by a machine of these parts, to which an image with this entry was loaded
+abbrev pub loaded_on : (entry : ℕ) → Whole → Disk → (from to ticks : ℕ) → Loaded
+loaded_on entry s d from to ticks = by_interpret entry s d from to ticks (interpret_in s.memory)
+
+-- they are loaded on an image
 abbrev pub loaded_by_machine : Contents → Disk → (from to ticks : ℕ) → Loaded
 loaded_by_machine image d from to ticks =
-    let s = (start image (length d.blocks)).parts in
-    by_interpret image.entry s d from to ticks (interpret_in s.memory)
+    loaded_on image.entry (start image (length d.blocks)).parts d from to ticks
 
 -- this is answered, or that memory was not found
 abbrev pub IsSaved : Result Contents LoadFault → Result Contents LoadFault → Type 0

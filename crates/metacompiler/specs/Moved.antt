@@ -67,6 +67,11 @@ abbrev pub word_for : (from to : ℕ) → Result ℕ LoadFault → Result ℕ Lo
 word_for from to (Ok word) = if (from == 0) && nat_le from to then Err (Fault BLOCK_ZERO) else Ok word
 word_for from to (Err c) = Err c
 
+-- the same in a machine's memory
+abbrev pub word_on : State → (from to : ℕ) → Result ℕ LoadFault
+word_on s from to = word_for from to (interpret_in s.parts.memory)
+
+-- and in an image's
 abbrev pub word_of : Contents → (from to : ℕ) → Result ℕ LoadFault
 word_of image from to = word_for from to (interpret_in (front_put image.bytes zeros))
 

@@ -5,8 +5,8 @@ ghost use Rattle.block_buffers.specs.Disks.{Disk};
 ghost use Rattle.memory.specs.Bytes.{put_cell};
 ghost use Rattle.inner_interpreter.specs.Tick.{Runs};
 ghost use Rattle.metacompiler.specs.Rounds.{entered, rounds, screens};
-ghost use Rattle.metacompiler.specs.Loaded.{interpret_in, by_interpret, ended, fault_of, loaded_by_machine, IsLoaded, IsSaved};
-ghost use Rattle.metacompiler.specs.Moved.{stage, at_screen, AreRead, word_for, word_of, HasRead, HasLoaded};
+ghost use Rattle.metacompiler.specs.Loaded.{interpret_in, ended, fault_of, loaded_on, loaded_by_machine, IsLoaded, IsSaved};
+ghost use Rattle.metacompiler.specs.Moved.{stage, at_screen, AreRead, word_on, word_of, HasRead, HasLoaded};
 ghost use Rattle.metacompiler.specs.Compiled.{Compiles};
 ghost use Rattle.metacompiler.specs.Making.{IsLed, StopsAt};
 
@@ -150,9 +150,9 @@ pub fn load_on<D: Device>(
     to: u16,
     limit: u64,
 ) -> Result<Image, LoadFault>
-    ensures told { (d : Disk) → D.disk device.old ≡ Some d → Runs machine.old → IsLoaded (by_interpret entry machine.old.parts d from to limit (interpret_in machine.old.parts.memory)) result (D.disk device.new) }
-    ensures refused { IfErr (word_for from to (interpret_in machine.old.parts.memory)) (λ c. (result ≡ Err c) × (device.new ≡ device.old)) }
-    ensures moved { Runs machine.old → IfOk (word_for from to (interpret_in machine.old.parts.memory)) (λ word. HasRead word entry from to (stage machine.old (D.calls device.old) limit) (D.calls device.new) result) }
+    ensures told { (d : Disk) → D.disk device.old ≡ Some d → Runs machine.old → IsLoaded (loaded_on entry machine.old.parts d from to limit) result (D.disk device.new) }
+    ensures refused { IfErr (word_on machine.old from to) (λ c. (result ≡ Err c) × (device.new ≡ device.old)) }
+    ensures moved { Runs machine.old → IfOk (word_on machine.old from to) (λ word. HasRead word entry from to (stage machine.old (D.calls device.old) limit) (D.calls device.new) result) }
 {
     let interpret = match interpret_in(machine) {
         Ok(interpret) => interpret,
