@@ -1,5 +1,5 @@
 -- From the first word of a body to its `;`.
-use Rattle.std.proofs.Common.{◌≡◌, ℕ, zero, suc, ◌+◌, ◌≤◌, ◌++◌, ◌∷◌, List, [], length, refl, arith, Bool, true, false, ap, sym, subst, ◌∙◌, Some, inl, inr}
+use Rattle.std.proofs.Common.{◌≡◌, ℕ, zero, suc, ◌≤◌, ◌++◌, ◌∷◌, List, [], length, refl, arith, Bool, true, false, ap, sym, subst, ◌∙◌, Some, inl, inr}
 use Rattle.std.specs.Prelude.{◌==◌}
 use Rattle.input_source.specs.Words.{parsed, bytes_of}
 use Rattle.colon_bodies.specs.declared.words.Half.{Half}

@@ -1,5 +1,5 @@
 -- Rounds and screens by the moves that the machine makes, whatever its device is.
-use Rattle.std.proofs.Common.{◌≡◌, ℕ, suc, ◌+◌, ◌-◌, ◌<◌, ◌∷◌, [], ◌++◌, List, Option, Some, None, Bool, false, IsFalse, inl, inr, refl, ap, sym, subst, ◌∙◌, arith}
+use Rattle.std.proofs.Common.{◌≡◌, ℕ, suc, ◌+◌, ◌-◌, ◌<◌, ◌∷◌, [], List, Option, Some, None, Bool, IsFalse, inl, inr, refl, ap, sym, subst, ◌∙◌, arith}
 use Rattle.std.specs.Prelude.{Result, Ok, Err, IfOk, IfErr}
 use Rattle.image_loader.specs.Files.{Contents}
 use Rattle.plain_rows.specs.declared.parts.Request.{Request}
@@ -9,13 +9,13 @@ use Rattle.inner_interpreter.specs.declared.act.Event.{Event}
 use Rattle.inner_interpreter.specs.declared.act.Event.TheVariants as event
 use Rattle.inner_interpreter.specs.State.{State}
 use Rattle.inner_interpreter.specs.Tick.{Runs, ticked, IsTicked}
-use Rattle.inner_interpreter.specs.Answer.{Reply, answer_of, asked_by}
-use Rattle.inner_interpreter.specs.Moves.{Turn, Tick, Answer, Accepts, device_call}
+use Rattle.inner_interpreter.specs.Answer.{answer_of, asked_by}
+use Rattle.inner_interpreter.specs.Moves.{Turn, Tick, Answer, Accepts}
 use Rattle.inner_interpreter.specs.Served.{HasActed}
 use Rattle.metacompiler.specs.Rounds.{Stop, Ended, Limit, Fault, Halted, Asked, is_end, stop_by}
 use Rattle.metacompiler.specs.Loaded as loaded
 use Rattle.metacompiler.specs.Loaded.{LoadFault, NotFound, ChainTooLong, Unfinished, BadSize, OutOfMemory, answered, ended, restored, fault_of, IsSaved}
-use Rattle.metacompiler.specs.Moved.{Stage, stage, behind, stop_by_tick, stop_behind, AreRounds, ComesTo, at_screen, AreRead, HasRead, HasLoaded}
+use Rattle.metacompiler.specs.Moved.{Stage, stage, behind, stop_by_tick, stop_behind, AreRounds, at_screen, AreRead, HasRead, HasLoaded}
 use Rattle.metacompiler.specs.Making.{GoesOn, LeadsTo, IsLed, IsSettledBy, IsReadOn}
 use Rattle.metacompiler.proofs.Making.{NoAsk, Tells, ticked_told, answer_told, stop_goes}
 

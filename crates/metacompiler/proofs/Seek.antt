@@ -1,5 +1,5 @@
 -- From a turn to the next word: comments, and the ends of screens.
-use Rattle.std.proofs.Common.{◌≡◌, ℕ, zero, suc, ◌+◌, ◌-◌, ◌<◌, ◌≤◌, ◌++◌, ◌∷◌, List, [], length, take, drop, refl, arith, Bool, true, false, ap, sym, ◌∙◌}
+use Rattle.std.proofs.Common.{◌≡◌, ℕ, zero, suc, ◌+◌, ◌<◌, ◌≤◌, ◌++◌, ◌∷◌, List, [], length, take, drop, refl, arith, Bool, true, false, ap, sym, ◌∙◌}
 use Rattle.std.specs.Prelude.{nat_lt, ◌==◌, ◌||◌, codes}
 use Rattle.std.proofs.lemmas.List.{drop-drop, drop_more}
 use Rattle.std.proofs.lemmas.Slice.Eq.{bytes_eq-Decides}

@@ -7,7 +7,7 @@ use Rattle.dictionary.specs.Header.{is_immediate, compilation_address}
 use Rattle.dictionary.specs.Search.{Sought, Found, Nowhere, TooLong, sought_from}
 use Rattle.number_text.specs.Numbers.{is_number, is_double, number_value}
 use Rattle.source_words.specs.Modes.{takes_text, begins_comment, ends_body, names_in_body}
-use Rattle.colon_bodies.specs.Tokens.{Token, NAME, NUMBER, DOUBLE, TICK, FORCE, COMPILE, TEXT, SEMI}
+use Rattle.colon_bodies.specs.Tokens.{Token, NAME, NUMBER, DOUBLE, TICK, FORCE, TEXT, SEMI}
 use Rattle.colon_bodies.specs.declared.words.Half.{Half}
 use Rattle.colon_bodies.specs.declared.words.Half.TheVariants.{Free, Ticked, Forced, Compiling, Both}
 use Rattle.image_builder.specs.Places.{Sense, Plain, Keyword, Figure, Wide, Remark}

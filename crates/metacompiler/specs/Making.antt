@@ -1,5 +1,5 @@
 -- One round, and the rounds of screens, by what the machine and its device tell, and by moves.
-use Rattle.std.specs.Prelude.{◌≡◌, ℕ, None, Some, Option, if◌then◌else◌}
+use Rattle.std.specs.Prelude.{◌≡◌, ℕ, None, Some, Option}
 use Rattle.block_buffers.specs.Disks.{Disk}
 use Rattle.plain_rows.specs.Whole.{Whole}
 use Rattle.plain_rows.specs.declared.parts.Request.{Request}

@@ -1,5 +1,5 @@
 -- What loading screens on an image answers, whatever the device is: by the moves that the machine made.
-use Rattle.std.specs.Prelude.{◌≡◌, ◌<◌, ℕ, zero, suc, ◌+◌, ◌-◌, ◌==◌, ◌&&◌, ◌⊎◌, nat_le, if◌then◌else◌, Bool, IsFalse, List, [], ◌∷◌, ◌++◌, Option, Some, None, MatchOption, Result, Ok, Err}
+use Rattle.std.specs.Prelude.{◌≡◌, ◌<◌, ℕ, zero, suc, ◌+◌, ◌-◌, ◌==◌, ◌&&◌, ◌⊎◌, nat_le, if◌then◌else◌, Bool, IsFalse, List, [], ◌∷◌, ◌++◌, Option, None, MatchOption, Result, Ok, Err}
 use Rattle.image_loader.specs.Files.{Contents}
 use Rattle.memory.specs.Bytes.{front_put, zeros}
 use Rattle.plain_rows.specs.declared.faults.TheConstants.{BLOCK_ZERO}

@@ -1,4 +1,4 @@
-use Rattle.std.proofs.Common.{rules, arith, ◌≡◌, ◌+◌, ◌-◌, ◌==◌, ◌∷◌, ◌++◌, [], suc, subst, sym, false}
+use Rattle.std.proofs.Common.{rules, arith, ◌≡◌, ◌-◌, ◌==◌, ◌∷◌, ◌++◌, [], suc, subst, sym, false}
 use Rattle.memory.specs.Bytes.{cell}
 use Rattle.std.proofs.lemmas.Bool.{eqb-true}
 use Rattle.metacompiler.specs.Residency.{Walked}

@@ -4,8 +4,8 @@ use Rattle.std.proofs.lemmas.Result.{IfOk-weaker}
 use Rattle.block_buffers.specs.Disks.{Disk}
 use Rattle.inner_interpreter.specs.State.{State, start}
 use Rattle.inner_interpreter.specs.Tick.{Runs}
-use Rattle.metacompiler.specs.Loaded.{interpret_in, by_interpret, loaded_by_machine, IsLoaded, IsSaved}
-use Rattle.metacompiler.specs.Moved.{stage, word_for, word_of, HasRead, HasLoaded}
+use Rattle.metacompiler.specs.Loaded.{interpret_in, by_interpret, loaded_by_machine, IsLoaded}
+use Rattle.metacompiler.specs.Moved.{stage, word_for, HasRead}
 use Rattle.metacompiler.proofs.Agreeing.{compiles_by}
 use Rattle.metacompiler.proofs.Moving.{refused_saved, unloaded, not_read}
 use Rattle.metacompiler.proofs.load.load_by_machine.Goals as goal

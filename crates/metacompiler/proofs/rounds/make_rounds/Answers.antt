@@ -1,4 +1,4 @@
-use Rattle.std.proofs.Common.{rules, arith, ◌≡◌, ◌+◌, ◌-◌, suc, subst, sym, None, Some, refl}
+use Rattle.std.proofs.Common.{rules, arith, ◌≡◌, ◌+◌, ◌-◌, suc, subst, sym, None, Some}
 use Rattle.metacompiler.specs.Rounds.{rounds, Limit}
 use Rattle.metacompiler.specs.Moved.{stage}
 use Rattle.metacompiler.specs.Making.{IsSoFar, IsRound, IsLed, StopsAt}
