@@ -1,5 +1,5 @@
 -- From the last word of the screens to the end of the last screen.
-use Rattle.std.proofs.Common.{◌≡◌, ℕ, zero, suc, ◌+◌, ◌≤◌, ◌++◌, ◌∷◌, List, [], length, refl, arith, Bool, true, false, ap, sym, ◌∙◌}
+use Rattle.std.proofs.Common.{◌≡◌, ℕ, zero, suc, ◌+◌, ◌≤◌, List, [], length, refl, arith, Bool, true, false, ap, sym, ◌∙◌}
 use Rattle.std.specs.Prelude.{◌==◌}
 use Rattle.block_buffers.specs.Disks.{Disk, block_at, called}
 use Rattle.memory.specs.Bytes.{IsCount, limit_of, put_cell}
@@ -8,7 +8,6 @@ use Rattle.input_source.specs.Words.{parsed, IsNextWord}
 use Rattle.input_source.proofs.WordLaw.{word_law}
 use Rattle.source_words.specs.declared.modes.Mode.TheVariants.{Outside}
 use Rattle.source_words.specs.Modes.{begins_comment}
-use Rattle.source_words.specs.Words.{SourceWord}
 use Rattle.metacompiler.specs.Loop.{Words}
 use Rattle.metacompiler.specs.Rounds.{Out, rounds, then_screens, at, out, Ended}
 use Rattle.metacompiler.specs.Reading.{next, name}
@@ -30,9 +29,6 @@ pub record Finished (limit w a : ℕ) (I : List ℕ → Type 0) (u : Whole) (f :
   pub count : IsCount (length parts.buffers)
   pub inv : I parts.memory
   pub is : (k : ℕ) → then_screens w more (b + 1) (rounds (ticks + suc k) (at u d a) f) ≡ out parts disk k Ended
-
-no_word : (xs ys : List SourceWord) (v : SourceWord) → (v ∷ xs) ++ ys ≡ [] → ⊥
-no_word xs ys v e = cc
 
 -- where no word is left, the next word is a comment
 only_comments : {limit : ℕ} (f : Disk) (u : Whole) (b p more : ℕ) → Ready limit f u b p more → ((next (block_at f.blocks b) p).len == 0) ≡ false → words_left Outside f.blocks b p more ≡ [] → begins_comment (name (block_at f.blocks b) p) ≡ true

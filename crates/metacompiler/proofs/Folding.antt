@@ -4,13 +4,11 @@ use Rattle.std.specs.Prelude.{nat_lt, ◌==◌, ◌&&◌, if◌then◌else◌}
 use Rattle.memory.specs.Bytes.{put_cell, cell_bytes}
 use Rattle.memory.proofs.Kept.{cell_beside}
 use Rattle.memory.proofs.Same.{cell_by}
-use Rattle.block_buffers.specs.Disks.{Disk}
 use Rattle.dictionary.specs.Header.{is_immediate, compilation_address}
 use Rattle.dictionary.specs.Search.{Found, Nowhere, sought_from}
 use Rattle.compiling_words.specs.Code.{runtime}
 use Rattle.compiling_words.specs.Laying.{laid as laid_memory}
 use Rattle.number_text.specs.Numbers.{is_number, is_double, number_value}
-use Rattle.plain_rows.specs.Whole.{Whole}
 use Rattle.input_source.specs.Words.{parsed}
 use Rattle.colon_bodies.specs.declared.words.Half.{Half}
 use Rattle.colon_bodies.specs.declared.words.Half.TheVariants.{Free, Ticked, Forced, Compiling, Both}
@@ -21,7 +19,6 @@ use Rattle.colon_bodies.specs.Open.{Outer, State, At, read, whole, open_size, fr
 use Rattle.colon_bodies.proofs.Reading.{accept, next as next_state, finish, finish_is, accept_depth}
 use Rattle.colon_bodies.proofs.Exact.{finish_end}
 use Rattle.colon_bodies.proofs.Taking.{read_half}
-use Rattle.source_words.specs.declared.modes.Mode.{Mode}
 use Rattle.source_words.specs.declared.modes.Mode.TheVariants.{Outside, Body, NameInBody}
 use Rattle.source_words.specs.Modes.{takes_text, begins_comment, ends_body, names_in_body, after}
 use Rattle.source_words.specs.Words.{SourceWord}
@@ -32,7 +29,7 @@ use Rattle.resident_bodies.proofs.Bodies.{grows}
 use Rattle.resident_bodies.proofs.Ending.{kept_cell}
 use Rattle.metacompiler.specs.Reading.{next, name}
 use Rattle.metacompiler.specs.Meaning.{Key, IsKey, Means}
-use Rattle.metacompiler.specs.Turning.{words_left, Leads, Met}
+use Rattle.metacompiler.specs.Turning.{words_left, Leads}
 use Rattle.metacompiler.specs.Opened.{Drafts, Turned}
 use Rattle.metacompiler.proofs.Points.{Env, IsEnv, Here, spot_of, text_of_screen, Point}
 use Rattle.metacompiler.proofs.Joint.{length_text}
@@ -100,10 +97,6 @@ mode_after nm semi lead e f = rw (e, f) refl
 
 pub same_spot : (a b : SourceWord) (xs ys : List SourceWord) → a ∷ xs ≡ b ∷ ys → (a ≡ b) × (xs ≡ ys)
 same_spot a b xs ys e = (cc, cc)
-
--- the place that a machine has come to
-abbrev met_here : (limit : ℕ) → (w a : ℕ) (I : List ℕ → Type 0) (mode : Mode) (u : Whole) (f : Disk) (d : List ℕ) (b more : ℕ) (left : List SourceWord) → Met limit w a I mode u f d b more left → Here
-met_here limit w a I mode u f d b more left m = record { parts = m.parts; disk = m.disk; screen = m.screen; place = m.place; others = m.others; values = d }
 
 -- o, t and h are read, this word is next on the machine's screen, and its token is k
 pub record Facing (E : Env) (s : Here) (o : Outer) (t : Tree) (h : Half) (v : SourceWord) (sw : List SourceWord) (k : Token) (ks : List Token) : Type 0 where

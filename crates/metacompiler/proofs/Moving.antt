@@ -12,10 +12,10 @@ use Rattle.inner_interpreter.specs.Tick.{Runs, ticked, IsTicked}
 use Rattle.inner_interpreter.specs.Answer.{answer_of, asked_by}
 use Rattle.inner_interpreter.specs.Moves.{Turn, Tick, Answer, Accepts}
 use Rattle.inner_interpreter.specs.Served.{HasActed}
-use Rattle.metacompiler.specs.Rounds.{Stop, Ended, Limit, Fault, Halted, Asked, is_end, stop_by}
+use Rattle.metacompiler.specs.Rounds.{Stop, Ended, Limit, Asked, is_end, stop_by}
 use Rattle.metacompiler.specs.Loaded as loaded
 use Rattle.metacompiler.specs.Loaded.{LoadFault, NotFound, ChainTooLong, Unfinished, BadSize, OutOfMemory, answered, ended, restored, fault_of, IsSaved}
-use Rattle.metacompiler.specs.Moved.{Stage, stage, behind, stop_by_tick, stop_behind, AreRounds, at_screen, AreRead, HasRead, HasLoaded}
+use Rattle.metacompiler.specs.Moved.{Stage, stage, behind, stop_by_tick, stop_behind, AreRounds, at_screen, AreRead, HasLoaded}
 use Rattle.metacompiler.specs.Making.{GoesOn, LeadsTo, IsLed, IsSettledBy, IsReadOn}
 use Rattle.metacompiler.proofs.Making.{NoAsk, Tells, ticked_told, answer_told, stop_goes}
 
@@ -98,19 +98,6 @@ stops_here word more screen m q y All h f e = h.on q y (inl (e, (f h.goes).leads
 pub no_more : (word screen : ℕ) (m : Stage) (All : Stage → Stop → Type 0) → IsReadOn word 0 screen m All → All m Ended
 unfolding AreRead
 no_more word screen m All h = h.on m Ended (refl, refl)
-
--- what is answered
-pub read_stopped : (word entry from to : ℕ) (p : Stage) (calls : List Bool) (m : State) (left : ℕ) (y : Stop) → AreRead word (to + 1 - from) from p (stage m calls left) y → IsFalse (is_end y) → HasRead word entry from to p calls (Err (fault_of y))
-read_stopped word entry from to p calls m left y h e = record { machine = m; left = left; stop = y; read = h; answer = by_stop y e } where
-  by_stop : (y : Stop) → IsFalse (is_end y) → IsSaved (answered entry p.machine.parts.memory m.parts y) (Err (fault_of y))
-  by_stop Ended e = absurd (cc)
-  by_stop Limit e = refl
-  by_stop (Fault f) e = refl
-  by_stop Halted e = refl
-  by_stop Asked e = refl
-
-pub read_saved : (word entry from to : ℕ) (p : Stage) (calls : List Bool) (m : State) (left : ℕ) (y : Stop) (r : Result Contents LoadFault) → AreRead word (to + 1 - from) from p (stage m calls left) y → y ≡ Ended → IsSaved (ended entry (restored p.machine.parts.memory m.parts)) r → HasRead word entry from to p calls r
-read_saved word entry from to p calls m left y r h e x = record { machine = m; left = left; stop = Ended; read = subst (λ z. AreRead word (to + 1 - from) from p (stage m calls left) z) e h; answer = x }
 
 -- a refusal, where no screen is read
 pub refused_saved : (o : Result ℕ LoadFault) (r : Result Contents LoadFault) (P : Type 0) → IfErr o (λ c. (r ≡ Err c) × P) → IfErr o (λ c. IsSaved (Err c) r × P)

@@ -4,7 +4,7 @@ use Rattle.std.specs.Prelude.{nat_lt, ◌==◌}
 use Rattle.block_buffers.specs.Disks.{Disk, succeeds, block_at, called}
 use Rattle.block_buffers.specs.Entries.{address_of, victim, assigned}
 use Rattle.plain_rows.specs.Whole.{Whole}
-use Rattle.plain_rows.specs.declared.parts.Outcome.TheVariants.{Done, Ask}
+use Rattle.plain_rows.specs.declared.parts.Outcome.TheVariants.{Done}
 use Rattle.plain_rows.specs.declared.parts.Request.TheVariants.{Read}
 use Rattle.primitives.specs.Table.{row}
 use Rattle.cells.specs.Cell.{wrap}
@@ -13,7 +13,7 @@ use Rattle.inner_interpreter.specs.Answer.{answer_of, answered, read_answered}
 use Rattle.inner_interpreter.specs.Tick.{ticked, running, quiet}
 use Rattle.metacompiler.specs.Loop.{Words, Thread}
 use Rattle.metacompiler.specs.Rounds.{rounds, Goes, at, due, is_ended, out, Ended, by_device, by_tick, Out}
-use Rattle.metacompiler.proofs.Step.{stepped, stepped_due, asked, waiting, row_39, row_39_zero, row_8, row_8_zero, row_77_minus, row_77_one, row_7, row_15, row_5, row_1}
+use Rattle.metacompiler.proofs.Step.{stepped, stepped_due, waiting, row_39, row_39_zero, row_8, row_8_zero, row_77_minus, row_77_one, row_7, row_15, row_5, row_1}
 
 wrap_small : (i : ℕ) → i < 65536 → wrap i ≡ i
 wrap_small i h = omega arith
@@ -57,13 +57,6 @@ request_step k go u s i j w b d e h p = let z : (suc k == 0) ≡ false = grind a
 pub ask_step : (u : Whole) (s : List ℕ) (i j w b k : ℕ) (d : Disk) → ticked (at u s i) ≡ waiting (at u s j) (Read b) w → succeeds d b ≡ true → 0 < j → rounds (suc (suc k)) (at u s i) d ≡ rounds (suc k) (due (brought u b (block_at d.blocks b)) s j w) (called d)
 unfolding rounds
 ask_step u s i j w b k d e h p = request_step k (λ (u : Whole) (e : Disk). rounds (suc k) u e) u s i j w b d e h p
-
-pub goes_asked : (u t : Whole) (s : List ℕ) (i w b n : ℕ) (d e : Disk) → i + 2 < 65536 → cell u.memory i ≡ w → cell u.memory w ≡ 149 → row 149 w (at u s (i + 2)) ≡ (at u s (i + 2), Ask (Read b)) → succeeds d b ≡ true → Goes (suc n) (due (brought u b (block_at d.blocks b)) s (i + 2) w) (called d) t e → Goes (2 + n) (at u s i) d t e
-goes_asked u t s i w b n d e l c r a h g = λ (k : ℕ).
-    let o : 2 + n + k ≡ suc (suc (n + k)) = omega arith in
-    let p : suc n + k ≡ suc (n + k) = omega arith in
-    let q : rounds (suc (n + k)) (due (brought u b (block_at d.blocks b)) s (i + 2) w) (called d) ≡ rounds k t e = rw p at (g k) in
-    rw o (ask_step u s i (i + 2) w b (n + k) d (asked (at u s i) (at u s (i + 2)) w 149 (Read b) refl c r refl (rw (wrap_small (i + 2) l) a)) h (omega arith) ∙ q)
 
 -- a tick in a thread
 pub goes_row : (u v : Whole) (f : Disk) (d e : List ℕ) (i j w n : ℕ) → i + 2 < 65536 → 0 < j → cell u.memory i ≡ w → cell u.memory w ≡ n → nat_lt n 256 ≡ true → row n w (at u d (i + 2)) ≡ (at v e j, Done) → Goes 1 (at u d i) f (at v e j) f
