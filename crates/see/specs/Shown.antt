@@ -4,7 +4,7 @@ use Rattle.colon_bodies.specs.Tokens.{Token, SEMI, laid, AreShort}
 use Rattle.colon_bodies.specs.Tree.{Definition, all_words, all_depth}
 use Rattle.colon_bodies.specs.Code.{thread}
 use Rattle.colon_bodies.specs.Rules.{AreKnown}
-use Rattle.colon_bodies.specs.Plain.{IsPlainDefinition}
+use Rattle.colon_bodies.specs.Plain.{AreApart, IsPlainDefinition}
 
 -- these bytes are the thread of a plain definition, whose structures lie at most 64 deep and whose texts have at most 255 bytes
 pub record IsThread (rt : ℕ → ℕ) (at : ℕ) (bytes : List ℕ) (d : Definition) : Type 0 where
@@ -19,6 +19,10 @@ pub record Shown (rt : ℕ → ℕ) (at : ℕ) (bytes : List ℕ) (shown : List 
   pub body : Definition
   pub words_are : shown ≡ all_words body ++ SEMI ∷ []
   pub is : IsThread rt at bytes body
+
+-- each definition of which these bytes are the thread, where no two runtime cells are equal and not 0
+abbrev pub OfThread : (ℕ → ℕ) → (at : ℕ) → List ℕ → (Definition → Type 0) → Type 0
+OfThread rt at bytes P = AreApart rt → (d : Definition) → IsThread rt at bytes d → P d
 
 -- words that are compiled to these bytes
 pub record Makes (rt : ℕ → ℕ) (at : ℕ) (bytes : List ℕ) (words : List Token) : Type 0 where

@@ -6,7 +6,8 @@ ghost use Rattle.colon_bodies.specs.Tokens.{SEMI, laid};
 ghost use Rattle.colon_bodies.specs.Code.{thread};
 ghost use Rattle.colon_bodies.specs.Draft.{token};
 ghost use Rattle.colon_bodies.specs.Plain.{AreApart};
-ghost use Rattle.see.specs.Shown.{Shown, Makes, Compiles, IsThread};
+ghost use Rattle.see.specs.Printing.{its_words};
+ghost use Rattle.see.specs.Shown.{Shown, Makes, Compiles, OfThread};
 ghost use Rattle.colon_bodies.specs.declared.fault.BodyCause.TheVariants.{Memory};
 
 use crate::apart::are_apart;
@@ -89,7 +90,7 @@ pub fn thread_words<'a>(
     requires room { at + length bytes.now < 2 ^ 16 }
     requires controls { 28 ≤ length runtime.now }
     ensures sound { IfOk result (λ o. IfSome o (λ ws. AreApart (slice_index runtime.now) × Shown (slice_index runtime.now) at bytes.now (map token ws.items))) }
-    ensures complete { AreApart (slice_index runtime.now) → (d : Definition) → IsThread (slice_index runtime.now) at bytes.now d → IfOk result (λ o. IsSome o × IfSome o (λ ws. map token ws.items ≡ all_words d ++ SEMI ∷ [])) }
+    ensures complete { OfThread (slice_index runtime.now) at bytes.now (λ d. IfOk result (λ o. IsSome o × IfSome o (λ ws. map token ws.items ≡ its_words d))) }
 {
     if !are_apart(runtime) {
         return Ok(None);
