@@ -18,9 +18,9 @@ use std::{fs, io};
 use subcommands::{
     Ended, FileDevice, create_file, do_build, do_debug, do_kernel, do_load, do_new, do_run,
     do_screens, do_see, do_text, do_upgrade, do_view, open_device, open_to_read, read_blocks,
-    read_file, read_image, replace_file, write_file,
+    read_file, read_image, write_file,
 };
-use words::{BuildWords, LoadWords, Parsed, Words};
+use words::{BuildWords, LoadWords, Parsed, ScreenRange, Words};
 
 /// Prints a line of the program's own, and answers the status: 5 where it can't be written.
 fn say<R: Print>(rt: &R, text: &str, name: &str, status: u8) -> u8 {
@@ -90,7 +90,15 @@ fn no_blocks(rt: &HostRuntime) -> MemoryDevice {
     MemoryDevice::new(Vec::new(rt.alloc()), Vec::new(rt.alloc()))
 }
 
-/// Makes the new file of a subcommand, if it has one, and answers the status.
+/// Prints why a file isn't read or written, and answers the status.
+fn refuse_file(rt: &HostRuntime, error: &io::Error, name: &str) -> u8 {
+    if error.kind() == ErrorKind::OutOfMemory {
+        return out_of_memory(rt);
+    }
+    cannot_open(rt, name)
+}
+
+/// Writes the file of a subcommand, if it makes one, and answers the status.
 fn finish(rt: &HostRuntime, ended: Ended, name: &str) -> u8 {
     let Ended { status, file } = ended;
     let Some(file) = file else {
@@ -98,7 +106,33 @@ fn finish(rt: &HostRuntime, ended: Ended, name: &str) -> u8 {
     };
     match write_file(rt, name, file.as_slice()) {
         Ok(()) => status,
-        Err(_) => cannot_open(rt, name),
+        Err(error) => refuse_file(rt, &error, name),
+    }
+}
+
+/// Whether two names are known to mean one file. An error: memory ran out.
+fn is_one_file(rt: &HostRuntime, name: &str, other: &str) -> io::Result<bool> {
+    match (fs::canonicalize(rt, name), fs::canonicalize(rt, other)) {
+        (Ok(path), Ok(other)) => Ok(path.into_string().as_str() == other.into_string().as_str()),
+        (Err(error), _) | (_, Err(error)) => {
+            if error.kind() == ErrorKind::OutOfMemory {
+                return Err(error);
+            }
+            Ok(false)
+        }
+    }
+}
+
+/// Sees to it that a file isn't written over one that is read. Where they are one file that is printed, with what they are,
+/// and the status is the error.
+fn keep_apart(rt: &HostRuntime, read: &str, written: &str, files: &str) -> Result<(), u8> {
+    match is_one_file(rt, read, written) {
+        Ok(false) => Ok(()),
+        Ok(true) => match println!(rt; "error: {files} are one file") {
+            Ok(()) => Err(2),
+            Err(_) => Err(5),
+        },
+        Err(_) => Err(out_of_memory(rt)),
     }
 }
 
@@ -118,16 +152,14 @@ fn is_count(buffers: u16) -> bool
 
 /// Builds the screens that `build` names, and writes the image.
 fn build_image(rt: &HostRuntime, words: &BuildWords) -> Result<u8, u8> {
-    let BuildWords {
-        from,
-        to,
-        buffers,
-        ..
-    } = *words;
+    let buffers = words.buffers;
     if !is_count(buffers) {
         return Err(2);
     }
-    let blocks = words.blocks.as_str();
+    let ScreenRange { from, to, .. } = words.screens;
+    let blocks = words.screens.blocks.as_str();
+    let image = words.image.as_str();
+    keep_apart(rt, blocks, image, "the blocks and the image")?;
     let Some(mut device) = open_to_read(rt, blocks) else {
         return Err(cannot_open(rt, blocks));
     };
@@ -136,20 +168,17 @@ fn build_image(rt: &HostRuntime, words: &BuildWords) -> Result<u8, u8> {
     if ended.status == 1 && (words.shows_place || rt.stderr().is_terminal()) {
         show_place(rt, blocks, &mut device, (from, to), buffers);
     }
-    Ok(finish(rt, ended, words.image.as_str()))
+    Ok(finish(rt, ended, image))
 }
 
 /// Lets the image that `load` names compile screens, and writes the image that results.
 fn load_screens(rt: &HostRuntime, words: &LoadWords) -> Result<u8, u8> {
-    let LoadWords {
-        from,
-        to,
-        limit,
-        ..
-    } = *words;
+    let ScreenRange { from, to, .. } = words.screens;
+    let blocks = words.screens.blocks.as_str();
+    let (out, limit) = (words.out.as_str(), words.limit);
+    keep_apart(rt, blocks, out, "the blocks and the new image")?;
     let bytes = image_bytes(rt, words.image.as_str())?;
     let bytes = bytes.as_slice();
-    let blocks = words.blocks.as_str();
     let mut device = run_blocks(rt, blocks)?;
     let mut before = if words.shows_place || rt.stderr().is_terminal() {
         blocks_of(rt.alloc(), &mut device)
@@ -161,7 +190,7 @@ fn load_screens(rt: &HostRuntime, words: &LoadWords) -> Result<u8, u8> {
     if let (1, Some(before)) = (ended.status, &mut before) {
         show_stop(rt, blocks, bytes, before, (from, to), limit);
     }
-    Ok(finish(rt, ended, words.out.as_str()))
+    Ok(finish(rt, ended, out))
 }
 
 /// Writes the image that `upgrade` names anew, for other block buffers.
@@ -180,28 +209,10 @@ fn upgrade_image(rt: &HostRuntime, image: &str, out: &str, buffers: Option<u16>)
 /// How many blocks a file has at most.
 const MOST_BLOCKS: u32 = 65536;
 
-/// Prints why a file isn't read or replaced, and answers the status.
-fn refuse_file(rt: &HostRuntime, error: &io::Error, name: &str) -> u8 {
-    if error.kind() == ErrorKind::OutOfMemory {
-        return out_of_memory(rt);
-    }
-    cannot_open(rt, name)
-}
-
-/// Replaces the file of a subcommand that makes one, and answers the status.
-fn replace(rt: &HostRuntime, ended: Ended, name: &str) -> u8 {
-    let Ended { status, file } = ended;
-    let Some(file) = file else {
-        return status;
-    };
-    match replace_file(rt, name, file.as_slice()) {
-        Ok(()) => status,
-        Err(error) => refuse_file(rt, &error, name),
-    }
-}
-
 /// Prints the screens that `text` names.
-fn print_text(rt: &HostRuntime, blocks: &str, from: u16, to: u16) -> Result<u8, u8> {
+fn print_text(rt: &HostRuntime, words: &ScreenRange) -> Result<u8, u8> {
+    let ScreenRange { from, to, .. } = *words;
+    let blocks = words.blocks.as_str();
     let Some(mut device) = open_to_read(rt, blocks) else {
         return Err(cannot_open(rt, blocks));
     };
@@ -209,26 +220,9 @@ fn print_text(rt: &HostRuntime, blocks: &str, from: u16, to: u16) -> Result<u8, 
     Ok(do_text(rt.alloc(), &mut device, from, to, &mut writer).status)
 }
 
-/// Whether two names are known to mean one file. An error: memory ran out.
-fn is_one_file(rt: &HostRuntime, name: &str, other: &str) -> io::Result<bool> {
-    match (fs::canonicalize(rt, name), fs::canonicalize(rt, other)) {
-        (Ok(path), Ok(other)) => Ok(path.into_string().as_str() == other.into_string().as_str()),
-        (Err(error), _) | (_, Err(error)) => {
-            if error.kind() == ErrorKind::OutOfMemory {
-                return Err(error);
-            }
-            Ok(false)
-        }
-    }
-}
-
 /// Writes the screens of the text that `screens` names. A text isn't written over by its screens.
 fn write_screens(rt: &HostRuntime, text: &str, blocks: &str) -> Result<u8, u8> {
-    match is_one_file(rt, text, blocks) {
-        Ok(false) => {}
-        Ok(true) => return Err(say(rt, "error: the text and the blocks are one file", "", 2)),
-        Err(_) => return Err(out_of_memory(rt)),
-    }
+    keep_apart(rt, text, blocks, "the text and the blocks")?;
     let bytes = match read_file(rt, text) {
         Ok(bytes) => bytes,
         Err(error) => return Err(refuse_file(rt, &error, text)),
@@ -239,7 +233,7 @@ fn write_screens(rt: &HostRuntime, text: &str, blocks: &str) -> Result<u8, u8> {
     };
     let mut writer = standard_output(rt)?;
     let ended = do_screens(rt.alloc(), old, bytes.as_slice(), &mut writer);
-    Ok(replace(rt, ended, blocks))
+    Ok(finish(rt, ended, blocks))
 }
 
 /// Refuses to make a file that is there, and answers the status.
@@ -262,7 +256,7 @@ fn write_new(rt: &HostRuntime, blocks: &str, count: u32) -> Result<u8, u8> {
     }
     let mut writer = standard_output(rt)?;
     let ended = do_new(rt.alloc(), count, &mut writer);
-    Ok(replace(rt, ended, blocks))
+    Ok(finish(rt, ended, blocks))
 }
 
 /// Says in which screen the word that `view` names was made.
@@ -279,37 +273,33 @@ fn see_word(rt: &HostRuntime, image: &str, name: &str) -> Result<u8, u8> {
     Ok(do_see(rt.alloc(), bytes.as_slice(), name, &mut writer).status)
 }
 
-/// Opens what `run` names, and runs the image over standard input and output.
+/// Runs an image over this device, and standard input and output.
+fn run_over<D: Device>(
+    rt: &HostRuntime,
+    image: &[u8],
+    device: &mut D,
+    limit: u64,
+) -> Result<u8, u8> {
+    let mut reader = standard_input(rt)?;
+    let mut writer = standard_output(rt)?;
+    let ended = do_run(rt.alloc(), image, device, limit, &mut reader, &mut writer);
+    Ok(ended.status)
+}
+
+/// Opens what `run` names, and runs the image.
 fn run_image(rt: &HostRuntime, image: &str, blocks: Option<&str>, limit: u64) -> Result<u8, u8> {
     let bytes = image_bytes(rt, image)?;
     let bytes = bytes.as_slice();
-    let mut reader = standard_input(rt)?;
-    let mut writer = standard_output(rt)?;
-    let ended = match blocks {
+    match blocks {
         None => {
             let mut device = no_blocks(rt);
-            do_run(
-                rt.alloc(),
-                bytes,
-                &mut device,
-                limit,
-                &mut reader,
-                &mut writer,
-            )
+            run_over(rt, bytes, &mut device, limit)
         }
         Some(name) => {
             let mut device = run_blocks(rt, name)?;
-            do_run(
-                rt.alloc(),
-                bytes,
-                &mut device,
-                limit,
-                &mut reader,
-                &mut writer,
-            )
+            run_over(rt, bytes, &mut device, limit)
         }
-    };
-    Ok(ended.status)
+    }
 }
 
 /// The file of a trace, made anew. What a terminal is shown is written at once. Where the file can't be opened that is
@@ -363,6 +353,10 @@ fn debug_word(
     blocks: Option<&str>,
     limit: u64,
 ) -> Result<u8, u8> {
+    keep_apart(rt, image, trace, "the image and the trace")?;
+    if let Some(file) = blocks {
+        keep_apart(rt, file, trace, "the blocks and the trace")?;
+    }
     let bytes = image_bytes(rt, image)?;
     let bytes = bytes.as_slice();
     match blocks {
@@ -389,7 +383,7 @@ fn obey(rt: &HostRuntime, words: Words) -> Result<u8, u8> {
             out,
             buffers,
         } => upgrade_image(rt, image.as_str(), out.as_str(), buffers),
-        Words::Text { blocks, from, to } => print_text(rt, blocks.as_str(), from, to),
+        Words::Text(words) => print_text(rt, &words),
         Words::Screens { text, blocks } => write_screens(rt, text.as_str(), blocks.as_str()),
         Words::New { blocks, count } => write_new(rt, blocks.as_str(), count),
         Words::Run {

@@ -28,11 +28,7 @@ pub enum Words {
         buffers: Option<u16>,
     },
     Load(LoadWords),
-    Text {
-        blocks: String,
-        from: u16,
-        to: u16,
-    },
+    Text(ScreenRange),
     Screens {
         text: String,
         blocks: String,
@@ -63,12 +59,18 @@ pub enum Words {
     },
 }
 
-/// The words of `build`.
+/// Screens of a file of blocks, one after another.
 #[derive(Drop)]
-pub struct BuildWords {
+pub struct ScreenRange {
     pub blocks: String,
     pub from: u16,
     pub to: u16,
+}
+
+/// The words of `build`.
+#[derive(Drop)]
+pub struct BuildWords {
+    pub screens: ScreenRange,
     pub image: String,
     /// How many block buffers, 2 to 16.
     pub buffers: u16,
@@ -80,9 +82,7 @@ pub struct BuildWords {
 #[derive(Drop)]
 pub struct LoadWords {
     pub image: String,
-    pub blocks: String,
-    pub from: u16,
-    pub to: u16,
+    pub screens: ScreenRange,
     pub out: String,
     pub limit: u64,
     /// Whether it is shown where the screens stopped, also if standard error is no terminal.
@@ -98,39 +98,34 @@ pub enum Parsed {
     OutOfMemory,
 }
 
-fn kernel_command<'a>(alloc: Global) -> Result<Command<'a>, AllocError> {
-    Command::new(alloc, "kernel")
-        .about("Write a new file of blocks with the sources of a Forth-83 system")
-        .arg(
-            Arg::new(alloc, "BLOCKS")
-                .required(true)
-                .help("The new file"),
-        )
+/// A word that must be given.
+fn word<'a>(alloc: Global, name: &'a str, help: &'a str) -> Arg<'a> {
+    Arg::new(alloc, name).required(true).help(help)
 }
 
 /// A screen's number, which must be given.
 fn screen<'a>(alloc: Global, name: &'a str, help: &'a str) -> Arg<'a> {
-    Arg::new(alloc, name)
-        .required(true)
-        .value_parser(value_parser!(u16))
-        .help(help)
+    word(alloc, name, help).value_parser(value_parser!(u16))
+}
+
+fn kernel_command<'a>(alloc: Global) -> Result<Command<'a>, AllocError> {
+    Command::new(alloc, "kernel")
+        .about("Write a new file of blocks with the sources of a Forth-83 system")
+        .arg(word(alloc, "BLOCKS", "The new file"))
+}
+
+/// A command's BLOCKS, FROM and TO, in this order.
+fn with_screens<'a>(alloc: Global, command: Command<'a>) -> Result<Command<'a>, AllocError> {
+    command
+        .arg(word(alloc, "BLOCKS", "A file of blocks of 1,024 bytes"))?
+        .arg(screen(alloc, "FROM", "The first screen, 0 to 65535"))?
+        .arg(screen(alloc, "TO", "The last screen, 0 to 65535"))
 }
 
 fn build_command<'a>(alloc: Global) -> Result<Command<'a>, AllocError> {
-    Command::new(alloc, "build")
-        .about("Build the source in screens to an image")
-        .arg(
-            Arg::new(alloc, "BLOCKS")
-                .required(true)
-                .help("A file of blocks of 1,024 bytes"),
-        )?
-        .arg(screen(alloc, "FROM", "The first screen, 0 to 65535"))?
-        .arg(screen(alloc, "TO", "The last screen, 0 to 65535"))?
-        .arg(
-            Arg::new(alloc, "IMAGE")
-                .required(true)
-                .help("The new image file"),
-        )?
+    let command = Command::new(alloc, "build").about("Build the source in screens to an image");
+    with_screens(alloc, command)?
+        .arg(word(alloc, "IMAGE", "The new image file"))?
         .arg(
             buffers(alloc)
                 .default_value("4")
@@ -148,25 +143,11 @@ fn show_place<'a>(alloc: Global) -> Arg<'a> {
 }
 
 fn load_command<'a>(alloc: Global) -> Result<Command<'a>, AllocError> {
-    Command::new(alloc, "load")
+    let command = Command::new(alloc, "load")
         .about("Let an image compile screens, and write the image that results")
-        .arg(
-            Arg::new(alloc, "IMAGE")
-                .required(true)
-                .help("The image file"),
-        )?
-        .arg(
-            Arg::new(alloc, "BLOCKS")
-                .required(true)
-                .help("A file of blocks of 1,024 bytes"),
-        )?
-        .arg(screen(alloc, "FROM", "The first screen, 0 to 65535"))?
-        .arg(screen(alloc, "TO", "The last screen, 0 to 65535"))?
-        .arg(
-            Arg::new(alloc, "OUT")
-                .required(true)
-                .help("The new image file"),
-        )?
+        .arg(word(alloc, "IMAGE", "The image file"))?;
+    with_screens(alloc, command)?
+        .arg(word(alloc, "OUT", "The new image file"))?
         .arg(limit(alloc))?
         .arg(show_place(alloc))
 }
@@ -182,50 +163,33 @@ fn buffers<'a>(alloc: Global) -> Arg<'a> {
 fn upgrade_command<'a>(alloc: Global) -> Result<Command<'a>, AllocError> {
     Command::new(alloc, "upgrade")
         .about("Write an image anew for another number of block buffers")
-        .arg(
-            Arg::new(alloc, "IMAGE")
-                .required(true)
-                .help("The image file"),
-        )?
-        .arg(
-            Arg::new(alloc, "OUT")
-                .required(true)
-                .help("The new image file"),
-        )?
+        .arg(word(alloc, "IMAGE", "The image file"))?
+        .arg(word(alloc, "OUT", "The new image file"))?
         .arg(buffers(alloc).help("Block buffers, 2 to 16 (as many as the image has)"))
 }
 
 fn text_command<'a>(alloc: Global) -> Result<Command<'a>, AllocError> {
-    Command::new(alloc, "text")
-        .about("Print screens as text")
-        .arg(
-            Arg::new(alloc, "BLOCKS")
-                .required(true)
-                .help("A file of blocks of 1,024 bytes"),
-        )?
-        .arg(screen(alloc, "FROM", "The first screen, 0 to 65535"))?
-        .arg(screen(alloc, "TO", "The last screen, 0 to 65535"))
+    with_screens(
+        alloc,
+        Command::new(alloc, "text").about("Print screens as text"),
+    )
 }
 
 fn screens_command<'a>(alloc: Global) -> Result<Command<'a>, AllocError> {
     Command::new(alloc, "screens")
         .about("Write the screens of a text into a file of blocks")
-        .arg(Arg::new(alloc, "TEXT").required(true).help("The text"))?
-        .arg(
-            Arg::new(alloc, "BLOCKS")
-                .required(true)
-                .help("A file of blocks of 1,024 bytes, or a new one"),
-        )
+        .arg(word(alloc, "TEXT", "The text"))?
+        .arg(word(
+            alloc,
+            "BLOCKS",
+            "A file of blocks of 1,024 bytes, or a new one",
+        ))
 }
 
 fn new_command<'a>(alloc: Global) -> Result<Command<'a>, AllocError> {
     Command::new(alloc, "new")
         .about("Write a new file of blank blocks")
-        .arg(
-            Arg::new(alloc, "BLOCKS")
-                .required(true)
-                .help("The new file"),
-        )?
+        .arg(word(alloc, "BLOCKS", "The new file"))?
         .arg(
             Arg::new(alloc, "N")
                 .required(true)
@@ -247,11 +211,7 @@ fn limit<'a>(alloc: Global) -> Arg<'a> {
 fn run_command<'a>(alloc: Global) -> Result<Command<'a>, AllocError> {
     Command::new(alloc, "run")
         .about("Run an image over standard input and output")
-        .arg(
-            Arg::new(alloc, "IMAGE")
-                .required(true)
-                .help("The image file"),
-        )?
+        .arg(word(alloc, "IMAGE", "The image file"))?
         .arg(Arg::new(alloc, "BLOCKS").help("A file of blocks of 1,024 bytes"))?
         .arg(limit(alloc))
 }
@@ -259,17 +219,9 @@ fn run_command<'a>(alloc: Global) -> Result<Command<'a>, AllocError> {
 fn debug_command<'a>(alloc: Global) -> Result<Command<'a>, AllocError> {
     Command::new(alloc, "debug")
         .about("Run an image, and write a line before each step of a word")
-        .arg(
-            Arg::new(alloc, "IMAGE")
-                .required(true)
-                .help("The image file"),
-        )?
-        .arg(Arg::new(alloc, "NAME").required(true).help("The word"))?
-        .arg(
-            Arg::new(alloc, "TRACE")
-                .required(true)
-                .help("The new file of the lines"),
-        )?
+        .arg(word(alloc, "IMAGE", "The image file"))?
+        .arg(word(alloc, "NAME", "The word"))?
+        .arg(word(alloc, "TRACE", "The new file of the lines"))?
         .arg(Arg::new(alloc, "BLOCKS").help("A file of blocks of 1,024 bytes"))?
         .arg(limit(alloc))
 }
@@ -277,23 +229,15 @@ fn debug_command<'a>(alloc: Global) -> Result<Command<'a>, AllocError> {
 fn see_command<'a>(alloc: Global) -> Result<Command<'a>, AllocError> {
     Command::new(alloc, "see")
         .about("Print the definition of a colon word")
-        .arg(
-            Arg::new(alloc, "IMAGE")
-                .required(true)
-                .help("The image file"),
-        )?
-        .arg(Arg::new(alloc, "NAME").required(true).help("The word"))
+        .arg(word(alloc, "IMAGE", "The image file"))?
+        .arg(word(alloc, "NAME", "The word"))
 }
 
 fn view_command<'a>(alloc: Global) -> Result<Command<'a>, AllocError> {
     Command::new(alloc, "view")
         .about("Print the number of the screen in which a word was made")
-        .arg(
-            Arg::new(alloc, "IMAGE")
-                .required(true)
-                .help("The image file"),
-        )?
-        .arg(Arg::new(alloc, "NAME").required(true).help("The word"))
+        .arg(word(alloc, "IMAGE", "The image file"))?
+        .arg(word(alloc, "NAME", "The word"))
 }
 
 fn command<'a>(alloc: Global) -> Result<Command<'a>, AllocError> {
@@ -329,21 +273,27 @@ fn kernel_words(alloc: Global, inner: &ArgMatches<'_>) -> Result<Option<Words>, 
     }
 }
 
-fn build_words(alloc: Global, inner: &ArgMatches<'_>) -> Result<Option<Words>, AllocError> {
+/// The screens that BLOCKS, FROM and TO name.
+fn screen_range(alloc: Global, inner: &ArgMatches<'_>) -> Result<Option<ScreenRange>, AllocError> {
     let Some(blocks) = copied(alloc, inner, "BLOCKS")? else {
-        return Ok(None);
-    };
-    let Some(image) = copied(alloc, inner, "IMAGE")? else {
         return Ok(None);
     };
     let (Some(from), Some(to)) = (inner.get_one::<u16>("FROM"), inner.get_one::<u16>("TO")) else {
         return Ok(None);
     };
+    Ok(Some(ScreenRange { blocks, from, to }))
+}
+
+fn build_words(alloc: Global, inner: &ArgMatches<'_>) -> Result<Option<Words>, AllocError> {
+    let Some(screens) = screen_range(alloc, inner)? else {
+        return Ok(None);
+    };
+    let Some(image) = copied(alloc, inner, "IMAGE")? else {
+        return Ok(None);
+    };
     let buffers = inner.get_one::<u16>("buffers").unwrap_or(DEFAULT_BUFFERS);
     Ok(Some(Words::Build(BuildWords {
-        blocks,
-        from,
-        to,
+        screens,
         image,
         buffers,
         shows_place: inner.get_flag("where"),
@@ -354,21 +304,16 @@ fn load_words(alloc: Global, inner: &ArgMatches<'_>) -> Result<Option<Words>, Al
     let Some(image) = copied(alloc, inner, "IMAGE")? else {
         return Ok(None);
     };
-    let Some(blocks) = copied(alloc, inner, "BLOCKS")? else {
+    let Some(screens) = screen_range(alloc, inner)? else {
         return Ok(None);
     };
     let Some(out) = copied(alloc, inner, "OUT")? else {
         return Ok(None);
     };
-    let (Some(from), Some(to)) = (inner.get_one::<u16>("FROM"), inner.get_one::<u16>("TO")) else {
-        return Ok(None);
-    };
     let limit = inner.get_one::<u64>("limit").unwrap_or(DEFAULT_LIMIT);
     Ok(Some(Words::Load(LoadWords {
         image,
-        blocks,
-        from,
-        to,
+        screens,
         out,
         limit,
         shows_place: inner.get_flag("where"),
@@ -391,13 +336,10 @@ fn upgrade_words(alloc: Global, inner: &ArgMatches<'_>) -> Result<Option<Words>,
 }
 
 fn text_words(alloc: Global, inner: &ArgMatches<'_>) -> Result<Option<Words>, AllocError> {
-    let Some(blocks) = copied(alloc, inner, "BLOCKS")? else {
-        return Ok(None);
-    };
-    let (Some(from), Some(to)) = (inner.get_one::<u16>("FROM"), inner.get_one::<u16>("TO")) else {
-        return Ok(None);
-    };
-    Ok(Some(Words::Text { blocks, from, to }))
+    match screen_range(alloc, inner)? {
+        Some(screens) => Ok(Some(Words::Text(screens))),
+        None => Ok(None),
+    }
 }
 
 fn screens_words(alloc: Global, inner: &ArgMatches<'_>) -> Result<Option<Words>, AllocError> {

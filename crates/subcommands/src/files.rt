@@ -6,7 +6,7 @@ ghost use Rattle.subcommands.specs.Streams.{IsApart};
 use std::alloc::{AllocError, Global};
 use std::fs::{File, OpenOptions};
 use std::io;
-use std::io::{ErrorKind, Read, Write};
+use std::io::{ErrorKind, Read};
 use std::os::fd::{AsRawFd, RawFd};
 
 /// The greatest number that a standard stream has: standard error's.
@@ -73,18 +73,4 @@ pub fn create_file(rt: &HostRuntime, name: &str) -> io::Result<File>
         OpenOptions::new().write(true).create(true).truncate(true),
         name,
     )
-}
-
-/// Writes bytes into a file that stands in for no standard stream.
-fn write_bytes(file: File, bytes: &[u8]) -> io::Result<()>
-    requires apart { IsApart file }
-{
-    let mut file = file;
-    file.write_all(bytes)
-}
-
-/// Makes a file anew, with these bytes. An error: it can't be opened, or can't be written whole.
-pub fn write_file(rt: &HostRuntime, name: &str, bytes: &[u8]) -> io::Result<()> {
-    let file = create_file(rt, name)?;
-    write_bytes(file, bytes)
 }

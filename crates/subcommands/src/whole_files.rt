@@ -1,4 +1,4 @@
-//! Files that are read whole, and replaced whole.
+//! Files that are read whole, and written whole.
 
 ghost use Rattle.subcommands.specs.Streams.{IsApart};
 
@@ -79,7 +79,7 @@ fn meant(rt: &HostRuntime, name: &str) -> io::Result<String> {
 /// Replaces a file whole, or makes it: its bytes are written into a file beside it, `NAME.forth83-new`, which then takes its
 /// place. Where that fails the file is as it was, and the one beside it is removed. An error: it can't be written or placed,
 /// or memory ran out.
-pub fn replace_file(rt: &HostRuntime, name: &str, bytes: &[u8]) -> io::Result<()> {
+fn replace_file(rt: &HostRuntime, name: &str, bytes: &[u8]) -> io::Result<()> {
     let place = meant(rt, name)?;
     let beside = format!(in rt.alloc(); "{place}.forth83-new")?;
     // What a run that was killed has left there.
@@ -89,4 +89,31 @@ pub fn replace_file(rt: &HostRuntime, name: &str, bytes: &[u8]) -> io::Result<()
         let _gone = fs::remove_file(rt, beside.as_str());
     }
     done
+}
+
+/// Writes bytes into a file that stands in for no standard stream.
+fn write_bytes(file: File, bytes: &[u8]) -> io::Result<()>
+    requires apart { IsApart file }
+{
+    let mut file = file;
+    file.write_all(bytes)
+}
+
+/// Writes a file whole, or makes it. A plain file is replaced, so that it is as it was where that fails; what is none (a
+/// pipe, a device) is written as it is. An error: it can't be opened for writing, written or placed, or memory ran out.
+pub fn write_file(rt: &HostRuntime, name: &str, bytes: &[u8]) -> io::Result<()> {
+    match open_apart(rt, OpenOptions::new().write(true), name) {
+        Ok(file) => {
+            if file.metadata()?.is_file() {
+                return replace_file(rt, name, bytes);
+            }
+            write_bytes(file, bytes)
+        }
+        Err(error) => {
+            if error.kind() == ErrorKind::NotFound {
+                return replace_file(rt, name, bytes);
+            }
+            Err(error)
+        }
+    }
 }
