@@ -21,7 +21,7 @@ by_value P (Some x) is none = is
 
 pub built_file : (count : ℕ) (image : Contents) (d : Disk) (from to : ℕ) (done : Done) (file : Option (Vec ℕ Global))
     → IsBuiltOf count d from to image done → IfSome file (λ f. IsWritten f.items image)
-    → IfSome file (λ f. IsBuiltFile count f.items d from to done)
+    → IfSome file (IsBuiltFile count d from to done)
 built_file count image d from to done None built is = tt
 built_file count image d from to done (Some f) built is = record { image = image; is_built = built; is_file = is }
 

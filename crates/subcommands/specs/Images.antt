@@ -1,11 +1,21 @@
 -- Files of images that are built.
-use Rattle.std.specs.Prelude.{ℕ, List}
+use Rattle.std.specs.Prelude.{ℕ, List, Vec}
+use Rattle.std.specs.declared.alloc.Global.{Global}
+use Rattle.memory.specs.Bytes.{IsCount}
+use Rattle.inner_interpreter.specs.State.{start}
+use Rattle.image_builder.specs.Items.{Items}
 use Rattle.block_buffers.specs.Disks.{Disk}
 use Rattle.image_loader.specs.Files.{Contents, IsWritten}
 use Rattle.image_builder.specs.Sources.{Done, IsBuiltOf}
 
--- the bytes are the file of the image for so many buffers that is built of the screens from..to
-pub record IsBuiltFile (count : ℕ) (bytes : List ℕ) (d : Disk) (from to : ℕ) (done : Done) : Type 0 where
+-- the file is that of the image for so many buffers that is built of the screens from..to
+pub record IsBuiltFile (count : ℕ) (d : Disk) (from to : ℕ) (done : Done) (file : Vec ℕ Global) : Type 0 where
   pub image : Contents
   pub is_built : IsBuiltOf count d from to image done
-  pub is_file : IsWritten bytes image
+  pub is_file : IsWritten file.items image
+
+-- of the items of each image that is built of screens, and the memory to which it is loaded
+abbrev pub OfBuilt : (Items → List ℕ → Type 0) → Type 0
+OfBuilt Of =
+    (buffers : ℕ) → IsCount buffers → (d : Disk) (from to count : ℕ) (image : Contents) (done : Done)
+    (b : IsBuiltOf buffers d from to image done) → Of b.items (start image count).parts.memory

@@ -1,13 +1,15 @@
 -- Lines that the program prints, and its status.
-use Rattle.std.specs.Prelude.{◌≡◌, ◌⊎◌, ℕ, List, [], ◌∷◌, ◌++◌, length, Option, Result, Ok, Err, Vec, codes, decimal}
+use Rattle.std.specs.Prelude.{◌≡◌, ◌⊎◌, ◌<◌, ◌≤◌, ℕ, List, [], ◌∷◌, ◌++◌, length, Option, Result, Ok, Err, IsOk, Vec, codes, decimal, unwrap_or}
 use Rattle.std.specs.declared.alloc.Global.{Global}
 use Rattle.std.specs.Io.KnownBytes.{Appends}
 use Rattle.block_buffers.specs.Disks.{Disk}
+use Rattle.debug_tracer.specs.Debugged.{debugged}
 use Rattle.debug_tracer.specs.declared.fault.DebugFault.{DebugFault}
 use Rattle.debug_tracer.specs.declared.fault.DebugFault.TheVariants as debug
 use Rattle.dictionary.specs.Search.{sought}
-use Rattle.subcommands.specs.Causes.{build_cause, debug_cause, view_cause, see_cause}
-use Rattle.image_loader.specs.Files.{Contents, IsWritten}
+use Rattle.subcommands.specs.Causes.{IsNoFile, build_cause, debug_cause, image_cause, view_cause, see_cause}
+use Rattle.image_loader.specs.Files.{Contents, IsFile, IsWritten}
+use Rattle.image_loader.specs.declared.fault.ImageFault.{ImageFault}
 use Rattle.image_builder.specs.Sources.{Done, IsRefused}
 use Rattle.image_builder.specs.declared.cause.BuildFault.{BuildFault}
 use Rattle.image_builder.specs.declared.cause.Cause.{Cause}
@@ -35,9 +37,27 @@ abbrev pub PrintsRefusal : (what cause : List ℕ) → (status : ℕ) → (old n
 PrintsRefusal what cause status old new =
     (status ≡ 1) × (Appends old new (what ++ (codes ": " ++ line cause)) ⊎ Appends old new (line (codes "out of memory")))
 
+-- where the bytes are no image's file, it was printed why
+abbrev pub PrintsNoImage : List ℕ → (status : ℕ) → (old new : Option (List ℕ)) → Type 0
+PrintsNoImage bytes status old new =
+    (fault : ImageFault) → IsNoFile bytes fault → PrintsRefusal (codes "image") (image_cause fault) status old new
+
+-- where the bytes are an image's file: of the image
+abbrev pub OfImageFile : List ℕ → (Contents → Type 0) → Type 0
+OfImageFile bytes Of = (image : Contents) → IsFile bytes image → Of image
+
 -- the memory that an image is loaded to
 abbrev pub memory_of : Contents → List ℕ
 memory_of image = front_put image.bytes zeros
+
+-- where the bytes are an image's file, and a word of this name can't be traced: of why
+abbrev pub OfUntraced : List ℕ → (name : List ℕ) → (DebugFault → Type 0) → Type 0
+OfUntraced bytes name Of =
+    (image : Contents) → IsFile bytes image → (why : DebugFault) → debugged (memory_of image) name ≡ Err why → Of why
+
+-- where it can be traced
+abbrev pub OfTraced : List ℕ → (name : List ℕ) → Type 0 → Type 0
+OfTraced bytes name Of = (image : Contents) → IsFile bytes image → IsOk (debugged (memory_of image) name) → Of
 
 -- `screen S offset O: CAUSE`, with some spelling of the cause
 abbrev pub fault_line : (screen offset : ℕ) → List ℕ → List ℕ
@@ -54,6 +74,11 @@ pub record EndsRefused (count : ℕ) (d : Disk) (from to : ℕ) (done : Done) (s
   pub fault : BuildFault
   pub is_refused : IsRefused (limit_of count) d from to fault done
   pub printed : PrintsFault fault.screen fault.offset fault.cause status old new
+
+-- the same, or memory ran out behind it
+abbrev pub EndsUnbuilt : (count : ℕ) → Disk → (from to : ℕ) → Done → (status : ℕ) → (old new : Option (List ℕ)) → Type 0
+EndsUnbuilt count d from to done status old new =
+    EndsRefused count d from to done status old new ⊎ PrintsOutOfMemory status old new
 
 -- `size S entry E`
 abbrev pub image_line : Contents → List ℕ
@@ -73,13 +98,33 @@ pub record IsTold (bytes : List ℕ) (old new : Option (List ℕ)) : Type 0 wher
 abbrev pub upgrade_line : Contents → List ℕ
 upgrade_line image = codes "size " ++ (decimal (length image.bytes) ++ (codes " buffers " ++ line (decimal image.buffers)))
 
--- the same entry and bytes, for so many buffers
-abbrev pub for_buffers : Contents → ℕ → Contents
-for_buffers image count = record image { buffers = count }
+-- how many buffers an image is upgraded for: as many as are given, or as many as it has
+abbrev pub new_buffers : Contents → Option ℕ → ℕ
+new_buffers image given = unwrap_or given image.buffers
+
+-- its bytes reach beyond where so many buffers begin
+abbrev pub IsTooLarge : Contents → Option ℕ → Type 0
+IsTooLarge image given = limit_of (new_buffers image given) < length image.bytes
+
+-- they don't
+abbrev pub HasRoom : Contents → Option ℕ → Type 0
+HasRoom image given = length image.bytes ≤ limit_of (new_buffers image given)
+
+-- the image that an image is upgraded to: the same entry and bytes, for these buffers
+abbrev pub upgraded : Contents → Option ℕ → Contents
+upgraded image given = record image { buffers = new_buffers image given }
+
+-- that an image is too large was printed, or that memory ran out
+abbrev pub PrintsTooLarge : (status : ℕ) → (old new : Option (List ℕ)) → Type 0
+PrintsTooLarge status old new = PrintsRefusal (codes "image") (codes "TooLarge") status old new
 
 -- these bytes are the file that is written of this image, and its line was printed
 abbrev pub IsUpgraded : List ℕ → Contents → (old new : Option (List ℕ)) → Type 0
 IsUpgraded bytes image old new = IsFileOf image (upgrade_line image) bytes old new
+
+-- a text was printed on a line, or that memory ran out
+abbrev pub PrintsOn : List ℕ → (status : ℕ) → (old new : Option (List ℕ)) → Type 0
+PrintsOn text status old new = Prints (line text) 0 status old new ⊎ PrintsOutOfMemory status old new
 
 -- the number of a screen was printed, or why there is none
 abbrev pub PrintsViewed : (name : List ℕ) → Result ℕ ViewRefused → (status : ℕ) → (old new : Option (List ℕ)) → Type 0

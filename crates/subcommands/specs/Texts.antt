@@ -55,7 +55,11 @@ HasScreens (Err fault) old new = ⊥
 abbrev pub numbered_line : (place : ℕ) → List ℕ → List ℕ
 numbered_line place cause = codes "line " ++ (decimal place ++ (codes ": " ++ line cause))
 
--- why a text isn't written was printed, or that memory ran out
+-- why a text isn't written was printed
+abbrev pub PrintsUnwritten : Result State TextFault → (status : ℕ) → (old new : Option (List ℕ)) → Type 0
+PrintsUnwritten (Ok s) status old new = PrintsOutOfMemory status old new
+PrintsUnwritten (Err fault) status old new = PrintsLine (numbered_line fault.line (text_cause fault.cause)) status old new
+
+-- the same, or that memory ran out
 abbrev pub EndsUnwritten : Result State TextFault → (status : ℕ) → (old new : Option (List ℕ)) → Type 0
-EndsUnwritten (Ok s) status old new = PrintsOutOfMemory status old new
-EndsUnwritten (Err fault) status old new = PrintsLine (numbered_line fault.line (text_cause fault.cause)) status old new
+EndsUnwritten reading status old new = PrintsUnwritten reading status old new ⊎ PrintsOutOfMemory status old new

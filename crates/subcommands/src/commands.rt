@@ -1,13 +1,13 @@
 //! The subcommands, over values.
 
-ghost use Rattle.std.specs.Prelude.{◌≡◌, ◌≢◌, ◌<◌, ◌⊎◌, codes, decimal, false, true, Some, IsNone, IsSome, IfOk, IfSome, MatchOption, string_bytes, ◌++◌};
+ghost use Rattle.std.specs.Prelude.{◌≡◌, ◌≢◌, ◌<◌, codes, decimal, false, true, Some, IsNone, IsSome, IfOk, IfSome, MatchOption, string_bytes, ◌++◌};
 ghost use Rattle.std.specs.Io.KnownBytes.{Appends};
-ghost use Rattle.block_buffers.specs.Calls.{failures};
+ghost use Rattle.image_builder.specs.Sources.{done_of};
 ghost use Rattle.block_buffers.specs.Disks.{Disk};
 ghost use Rattle.subcommands.specs.Kernel.{filled, blocks_of};
 ghost use Rattle.subcommands.specs.Images.{IsBuiltFile};
 ghost use Rattle.subcommands.specs.Causes.{IsNoFile, image_cause};
-ghost use Rattle.subcommands.specs.Lines.{EndsRefused, EndsViewed, IsFileOf, IsTold, Prints, PrintsFault, PrintsOutOfMemory, PrintsRefusal, fault_line, image_line, line};
+ghost use Rattle.subcommands.specs.Lines.{EndsUnbuilt, EndsViewed, IsFileOf, IsTold, OfImageFile, Prints, PrintsNoImage, PrintsOn, PrintsFault, PrintsOutOfMemory, PrintsRefusal, fault_line, image_line, line};
 ghost use Rattle.subcommands.specs.Statuses.{status_of, EndsWith};
 ghost use Rattle.image_loader.specs.Files.{Contents, IsFile, IsWritten};
 ghost use Rattle.image_loader.specs.declared.fault.ImageFault.{ImageFault};
@@ -230,10 +230,10 @@ pub fn do_build<W: Output, D: Device>(
 ) -> Ended
     requires { IsCount buffers }
     ensures status { MatchOption result.file (0 < result.status) (λ _. result.status ≡ 0) }
-    ensures file { (d : Disk) → D.disk device.old ≡ Some d → IfSome result.file (λ file. IsBuiltFile buffers file.items d from to (record { disk = D.disk device.new; before = failures (D.calls device.old); after = failures (D.calls device.new) })) }
+    ensures file { (d : Disk) → D.disk device.old ≡ Some d → IfSome result.file (IsBuiltFile buffers d from to (done_of (D.disk device.new) (D.calls device.old) (D.calls device.new))) }
     // Where there is a file, its line is printed; where there is none, it is printed why.
     ensures told { W.failed writer.new ≡ false → IfSome result.file (λ file. IsTold file.items (W.sent writer.old) (W.sent writer.new)) }
-    ensures refused { W.failed writer.new ≡ false → IsNone result.file → (d : Disk) → D.disk device.old ≡ Some d → EndsRefused buffers d from to (record { disk = D.disk device.new; before = failures (D.calls device.old); after = failures (D.calls device.new) }) result.status (W.sent writer.old) (W.sent writer.new) ⊎ PrintsOutOfMemory result.status (W.sent writer.old) (W.sent writer.new) }
+    ensures refused { W.failed writer.new ≡ false → IsNone result.file → (d : Disk) → D.disk device.old ≡ Some d → EndsUnbuilt buffers d from to (done_of (D.disk device.new) (D.calls device.old) (D.calls device.new)) result.status (W.sent writer.old) (W.sent writer.new) }
     // Where a line can't be printed, there is no file.
     ensures cut { W.failed writer.old ≡ false → W.failed writer.new ≡ true → (result.status ≡ 5) × IsNone result.file }
 {
@@ -245,7 +245,7 @@ pub fn do_build<W: Output, D: Device>(
 
 /// Prints a number on a line.
 fn print_number<W: Output>(alloc: Global, number: u16, writer: &mut W) -> Ended
-    ensures printed { W.failed writer.new ≡ false → Prints (line (decimal number)) 0 result.status (W.sent writer.old) (W.sent writer.new) ⊎ PrintsOutOfMemory result.status (W.sent writer.old) (W.sent writer.new) }
+    ensures printed { W.failed writer.new ≡ false → PrintsOn (decimal number) result.status (W.sent writer.old) (W.sent writer.new) }
     ensures cut { W.failed writer.old ≡ false → W.failed writer.new ≡ true → result.status ≡ 5 }
     ensures file { IsNone result.file }
 {
@@ -259,9 +259,9 @@ fn print_number<W: Output>(alloc: Global, number: u16, writer: &mut W) -> Ended
 /// printed), the name isn't found (`NAME: CAUSE`) or memory ran out; 5: the line can't be printed.
 pub fn do_view<W: Output>(alloc: Global, image: &[u8], name: &str, writer: &mut W) -> Ended
     // Where the bytes are an image's file, the word's screen is printed, or why there is none.
-    ensures viewed { W.failed writer.new ≡ false → (file : Contents) → IsFile image.now file → EndsViewed file name.now result.status (W.sent writer.old) (W.sent writer.new) }
+    ensures viewed { W.failed writer.new ≡ false → OfImageFile image.now (λ file. EndsViewed file name.now result.status (W.sent writer.old) (W.sent writer.new)) }
     // Where they are none, it is printed why.
-    ensures refused { W.failed writer.new ≡ false → (fault : ImageFault) → IsNoFile image.now fault → PrintsRefusal (codes "image") (image_cause fault) result.status (W.sent writer.old) (W.sent writer.new) }
+    ensures refused { W.failed writer.new ≡ false → PrintsNoImage image.now result.status (W.sent writer.old) (W.sent writer.new) }
     ensures cut { W.failed writer.old ≡ false → W.failed writer.new ≡ true → result.status ≡ 5 }
     ensures file { IsNone result.file }
 {
@@ -292,10 +292,10 @@ pub fn do_run<R: Input, W: Output, D: Device>(
     // the blocks are those of the written rounds.
     ensures ran { result.status ≢ 1 → R.failed reader.new ≡ false → W.failed writer.new ≡ false → OfFile image.now (R.unread reader.old) (D.disk device.old) (W.sent writer.old) limit (λ w. EndsWith result.status w (R.unread reader.new) (D.disk device.new) (W.sent writer.new)) }
     // Where they are none, that is printed, and no other end is touched.
-    ensures refused { W.failed writer.new ≡ false → (fault : ImageFault) → IsNoFile image.now fault → PrintsRefusal (codes "image") (image_cause fault) result.status (W.sent writer.old) (W.sent writer.new) }
+    ensures refused { W.failed writer.new ≡ false → PrintsNoImage image.now result.status (W.sent writer.old) (W.sent writer.new) }
     ensures unrun { (fault : ImageFault) → IsNoFile image.now fault → (reader.new ≡ reader.old) × (device.new ≡ device.old) }
     // Status 1 over an image's file is want of memory, which is printed; with status 1 nothing was run.
-    ensures wanting { W.failed writer.new ≡ false → (file : Contents) → IsFile image.now file → result.status ≡ 1 → PrintsOutOfMemory result.status (W.sent writer.old) (W.sent writer.new) }
+    ensures wanting { W.failed writer.new ≡ false → OfImageFile image.now (λ _. result.status ≡ 1 → PrintsOutOfMemory result.status (W.sent writer.old) (W.sent writer.new)) }
     ensures untouched { result.status ≡ 1 → (reader.new ≡ reader.old) × (device.new ≡ device.old) }
     // An end that fails gives status 5.
     ensures cut { W.failed writer.old ≡ false → W.failed writer.new ≡ true → result.status ≡ 5 }

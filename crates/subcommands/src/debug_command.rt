@@ -3,8 +3,8 @@
 ghost use Rattle.std.specs.Prelude.{◌≡◌, ◌≢◌, ◌⊎◌, codes, false, true, Err, IsNone, IsOk, IfOk, IfErr, OnErr};
 ghost use Rattle.debug_tracer.specs.Debugged.{EndsDebugged, debugged};
 ghost use Rattle.debug_tracer.specs.declared.fault.DebugFault.{DebugFault};
-ghost use Rattle.subcommands.specs.Causes.{IsNoFile, debug_cause, image_cause};
-ghost use Rattle.subcommands.specs.Lines.{PrintsOutOfMemory, PrintsRefusal, PrintsUntraced, memory_of};
+ghost use Rattle.subcommands.specs.Causes.{IsNoFile, debug_cause};
+ghost use Rattle.subcommands.specs.Lines.{OfTraced, OfUntraced, PrintsNoImage, PrintsOutOfMemory, PrintsRefusal, PrintsUntraced, memory_of};
 ghost use Rattle.subcommands.specs.Ends.{AreKept};
 ghost use Rattle.subcommands.specs.Statuses.{EndsTracedWith};
 ghost use Rattle.image_loader.specs.Files.{Contents, IsFile};
@@ -85,13 +85,13 @@ pub fn do_debug<R: Input, W: Output, D: Device, T: Output>(
     // the unread bytes and the blocks are those of the written rounds, and the trace is that of these rounds.
     ensures ran { result.status ≢ 1 → R.failed reader.new ≡ false → W.failed writer.new ≡ false → T.failed trace.new ≡ false → OfFile image.now (R.unread reader.old) (D.disk device.old) (W.sent writer.old) limit (λ w. EndsTracedWith result.status w name.now (R.unread reader.new) (D.disk device.new) (W.sent writer.new) (T.sent trace.old) (T.sent trace.new)) }
     // Where the word can't be traced, it is printed why.
-    ensures untraced { W.failed writer.new ≡ false → (file : Contents) → IsFile image.now file → (why : DebugFault) → debugged (memory_of file) name.now ≡ Err why → PrintsRefusal name.now (debug_cause why) result.status (W.sent writer.old) (W.sent writer.new) }
-    ensures unmarked { (file : Contents) → IsFile image.now file → (why : DebugFault) → debugged (memory_of file) name.now ≡ Err why → AreKept reader.old reader.new device.old device.new trace.old trace.new }
+    ensures untraced { W.failed writer.new ≡ false → OfUntraced image.now name.now (λ why. PrintsRefusal name.now (debug_cause why) result.status (W.sent writer.old) (W.sent writer.new)) }
+    ensures unmarked { OfUntraced image.now name.now (λ _. AreKept reader.old reader.new device.old device.new trace.old trace.new) }
     // Where the bytes are no image's file, that is printed.
-    ensures refused { W.failed writer.new ≡ false → (fault : ImageFault) → IsNoFile image.now fault → PrintsRefusal (codes "image") (image_cause fault) result.status (W.sent writer.old) (W.sent writer.new) }
+    ensures refused { W.failed writer.new ≡ false → PrintsNoImage image.now result.status (W.sent writer.old) (W.sent writer.new) }
     ensures unrun { (fault : ImageFault) → IsNoFile image.now fault → AreKept reader.old reader.new device.old device.new trace.old trace.new }
     // Status 1 where a word could be traced is want of memory, which is printed; with status 1 nothing was run.
-    ensures wanting { W.failed writer.new ≡ false → (file : Contents) → IsFile image.now file → IsOk (debugged (memory_of file) name.now) → result.status ≡ 1 → PrintsOutOfMemory result.status (W.sent writer.old) (W.sent writer.new) }
+    ensures wanting { W.failed writer.new ≡ false → OfTraced image.now name.now (result.status ≡ 1 → PrintsOutOfMemory result.status (W.sent writer.old) (W.sent writer.new)) }
     ensures untouched { result.status ≡ 1 → AreKept reader.old reader.new device.old device.new trace.old trace.new }
     // An end that fails gives status 5.
     ensures cut { W.failed writer.old ≡ false → W.failed writer.new ≡ true → result.status ≡ 5 }

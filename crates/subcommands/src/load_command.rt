@@ -3,8 +3,8 @@
 ghost use Rattle.std.specs.Prelude.{◌≡◌, ◌<◌, codes, false, true, IsNone, MatchOption};
 ghost use Rattle.image_loader.specs.Files.{Contents, IsFile};
 ghost use Rattle.image_loader.specs.declared.fault.ImageFault.{ImageFault};
-ghost use Rattle.subcommands.specs.Causes.{IsNoFile, image_cause};
-ghost use Rattle.subcommands.specs.Lines.{PrintsRefusal};
+ghost use Rattle.subcommands.specs.Causes.{IsNoFile};
+ghost use Rattle.subcommands.specs.Lines.{OfImageFile, PrintsNoImage, PrintsRefusal};
 ghost use Rattle.subcommands.specs.Loads.{EndsLoaded, EndsMoved, OfLoad, PrintsUnloaded};
 
 use crate::commands::{Ended, end_with_made, print_out_of_memory, refuse, refuse_image};
@@ -43,9 +43,9 @@ pub fn do_load<W: Output, D: Device>(
     // Where the bytes are an image's file, and the device tells its blocks, the new image is that of the written rounds.
     ensures loaded { W.failed writer.new ≡ false → OfLoad image.now (D.disk device.old) from to limit (λ o. EndsLoaded o (D.disk device.new) result (W.sent writer.old) (W.sent writer.new)) }
     // Whatever the device is, it is what the moves of a machine come to that was given the device's answers.
-    ensures moved { W.failed writer.new ≡ false → (old : Contents) → IsFile image.now old → EndsMoved old (D.block_count device.old) from to limit (D.calls device.old) (D.calls device.new) result (W.sent writer.old) (W.sent writer.new) }
+    ensures moved { W.failed writer.new ≡ false → OfImageFile image.now (λ old. EndsMoved old (D.block_count device.old) from to limit (D.calls device.old) (D.calls device.new) result (W.sent writer.old) (W.sent writer.new)) }
     // Where they are none, that is printed, and the device isn't touched.
-    ensures refused { W.failed writer.new ≡ false → (fault : ImageFault) → IsNoFile image.now fault → PrintsRefusal (codes "image") (image_cause fault) result.status (W.sent writer.old) (W.sent writer.new) }
+    ensures refused { W.failed writer.new ≡ false → PrintsNoImage image.now result.status (W.sent writer.old) (W.sent writer.new) }
     ensures untouched { (fault : ImageFault) → IsNoFile image.now fault → device.new ≡ device.old }
     ensures cut { W.failed writer.old ≡ false → W.failed writer.new ≡ true → (result.status ≡ 5) × IsNone result.file }
 {

@@ -1,10 +1,7 @@
 //! The subcommand that shows a word's definition.
 
-ghost use Rattle.std.specs.Prelude.{◌≡◌, ◌⊎◌, codes, false, true, IsNone, Err};
-ghost use Rattle.subcommands.specs.Causes.{IsNoFile, image_cause};
-ghost use Rattle.subcommands.specs.Lines.{EndsSeen, Prints, PrintsOutOfMemory, PrintsRefusal, PrintsSeen, line};
-ghost use Rattle.image_loader.specs.Files.{Contents, IsFile};
-ghost use Rattle.image_loader.specs.declared.fault.ImageFault.{ImageFault};
+ghost use Rattle.std.specs.Prelude.{◌≡◌, codes, false, true, IsNone, Err};
+ghost use Rattle.subcommands.specs.Lines.{EndsSeen, OfImageFile, PrintsNoImage, PrintsOn, PrintsOutOfMemory, PrintsRefusal, PrintsSeen};
 
 use crate::commands::{Ended, print, print_out_of_memory, refuse, refuse_image};
 use inner_interpreter::Output;
@@ -26,7 +23,7 @@ fn refuse_see<W: Output>(alloc: Global, name: &str, why: SeeRefused, writer: &mu
 
 /// Prints a definition on a line.
 fn print_definition<W: Output>(mut text: Vec<u8>, writer: &mut W) -> Ended
-    ensures printed { W.failed writer.new ≡ false → Prints (line text.items) 0 result.status (W.sent writer.old) (W.sent writer.new) ⊎ PrintsOutOfMemory result.status (W.sent writer.old) (W.sent writer.new) }
+    ensures printed { W.failed writer.new ≡ false → PrintsOn text.items result.status (W.sent writer.old) (W.sent writer.new) }
     ensures cut { W.failed writer.old ≡ false → W.failed writer.new ≡ true → result.status ≡ 5 }
     ensures file { IsNone result.file }
 {
@@ -40,9 +37,9 @@ fn print_definition<W: Output>(mut text: Vec<u8>, writer: &mut W) -> Ended
 /// (`image: CAUSE` is printed), the word isn't shown (`NAME: CAUSE`) or memory ran out; 5: the line can't be printed.
 pub fn do_see<W: Output>(alloc: Global, image: &[u8], name: &str, writer: &mut W) -> Ended
     // Where the bytes are an image's file, the word's text is printed, or why there is none.
-    ensures seen { W.failed writer.new ≡ false → (file : Contents) → IsFile image.now file → EndsSeen file name.now result.status (W.sent writer.old) (W.sent writer.new) }
+    ensures seen { W.failed writer.new ≡ false → OfImageFile image.now (λ file. EndsSeen file name.now result.status (W.sent writer.old) (W.sent writer.new)) }
     // Where they are none, it is printed why.
-    ensures refused { W.failed writer.new ≡ false → (fault : ImageFault) → IsNoFile image.now fault → PrintsRefusal (codes "image") (image_cause fault) result.status (W.sent writer.old) (W.sent writer.new) }
+    ensures refused { W.failed writer.new ≡ false → PrintsNoImage image.now result.status (W.sent writer.old) (W.sent writer.new) }
     ensures cut { W.failed writer.old ≡ false → W.failed writer.new ≡ true → result.status ≡ 5 }
     ensures file { IsNone result.file }
 {

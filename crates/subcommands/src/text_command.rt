@@ -126,7 +126,7 @@ pub fn do_screens<W: Output>(alloc: Global, blocks: Vec<u8>, text: &[u8], writer
     ensures file { MatchOption result.file (0 < result.status) (λ file. (result.status ≡ 0) × HasScreens (read text.now) blocks.items file.items) }
     // Beside the file nothing is printed; where there is none, it is printed why.
     ensures silent { IsSome result.file → writer.new ≡ writer.old }
-    ensures refused { W.failed writer.new ≡ false → IsNone result.file → EndsUnwritten (read text.now) result.status (W.sent writer.old) (W.sent writer.new) ⊎ PrintsOutOfMemory result.status (W.sent writer.old) (W.sent writer.new) }
+    ensures refused { W.failed writer.new ≡ false → IsNone result.file → EndsUnwritten (read text.now) result.status (W.sent writer.old) (W.sent writer.new) }
     ensures cut { W.failed writer.old ≡ false → W.failed writer.new ≡ true → (result.status ≡ 5) × IsNone result.file }
 {
     let screens = match read_text(alloc, text) {

@@ -1,11 +1,8 @@
 //! `upgrade`.
 
-ghost use Rattle.std.specs.Prelude.{◌≡◌, ◌<◌, ◌≤◌, codes, false, true, length, unwrap_or, IsNone, IsSome, IfOk, IfSome, MatchOption, string_bytes};
-ghost use Rattle.memory.specs.Bytes.{IsCount, limit_of};
-ghost use Rattle.image_loader.specs.Files.{Contents, IsFile};
-ghost use Rattle.image_loader.specs.declared.fault.ImageFault.{ImageFault};
-ghost use Rattle.subcommands.specs.Causes.{IsNoFile, image_cause};
-ghost use Rattle.subcommands.specs.Lines.{IsUpgraded, PrintsOutOfMemory, PrintsRefusal, for_buffers, upgrade_line};
+ghost use Rattle.std.specs.Prelude.{◌≡◌, ◌<◌, false, true, IsNone, IsSome, IfOk, IfSome, MatchOption, string_bytes};
+ghost use Rattle.memory.specs.Bytes.{IsCount};
+ghost use Rattle.subcommands.specs.Lines.{HasRoom, IsTooLarge, IsUpgraded, OfImageFile, PrintsNoImage, PrintsOutOfMemory, PrintsTooLarge, upgrade_line, upgraded};
 
 use crate::commands::{Ended, end_with_image, print_out_of_memory, refuse, refuse_image};
 use image_loader::{Image, UpgradeFault, upgrade};
@@ -23,7 +20,7 @@ fn report(alloc: Global, image: &Image) -> Result<String, AllocError>
 
 /// Prints why there is no image for so many buffers.
 fn refuse_upgrade<W: Output>(alloc: Global, fault: UpgradeFault, writer: &mut W) -> Ended
-    ensures too_large { W.failed writer.new ≡ false → fault ≡ UpgradeFault.TooLarge → PrintsRefusal (codes "image") (codes "TooLarge") result.status (W.sent writer.old) (W.sent writer.new) }
+    ensures too_large { W.failed writer.new ≡ false → fault ≡ UpgradeFault.TooLarge → PrintsTooLarge result.status (W.sent writer.old) (W.sent writer.new) }
     ensures out_of_memory { W.failed writer.new ≡ false → fault ≡ UpgradeFault.OutOfMemory → PrintsOutOfMemory result.status (W.sent writer.old) (W.sent writer.new) }
     ensures cut { W.failed writer.old ≡ false → W.failed writer.new ≡ true → result.status ≡ 5 }
     ensures status { 0 < result.status }
@@ -62,11 +59,11 @@ pub fn do_upgrade<W: Output>(
     ensures status { MatchOption result.file (0 < result.status) (λ _. result.status ≡ 0) }
     // Where the bytes are an image's file, the new one is that of the same entry and bytes; where these reach too far, that
     // is printed, and else that memory ran out.
-    ensures upgraded { W.failed writer.new ≡ false → (old : Contents) → IsFile image.now old → IfSome result.file (λ file. IsUpgraded file.items (for_buffers old (unwrap_or buffers old.buffers)) (W.sent writer.old) (W.sent writer.new)) }
-    ensures too_large { W.failed writer.new ≡ false → (old : Contents) → IsFile image.now old → limit_of (unwrap_or buffers old.buffers) < length old.bytes → PrintsRefusal (codes "image") (codes "TooLarge") result.status (W.sent writer.old) (W.sent writer.new) }
-    ensures wanting { W.failed writer.new ≡ false → IsNone result.file → (old : Contents) → IsFile image.now old → length old.bytes ≤ limit_of (unwrap_or buffers old.buffers) → PrintsOutOfMemory result.status (W.sent writer.old) (W.sent writer.new) }
+    ensures upgraded { W.failed writer.new ≡ false → OfImageFile image.now (λ old. IfSome result.file (λ file. IsUpgraded file.items (upgraded old buffers) (W.sent writer.old) (W.sent writer.new))) }
+    ensures too_large { W.failed writer.new ≡ false → OfImageFile image.now (λ old. IsTooLarge old buffers → PrintsTooLarge result.status (W.sent writer.old) (W.sent writer.new)) }
+    ensures wanting { W.failed writer.new ≡ false → IsNone result.file → OfImageFile image.now (λ old. HasRoom old buffers → PrintsOutOfMemory result.status (W.sent writer.old) (W.sent writer.new)) }
     // Where they are none, it is printed why.
-    ensures refused { W.failed writer.new ≡ false → (fault : ImageFault) → IsNoFile image.now fault → PrintsRefusal (codes "image") (image_cause fault) result.status (W.sent writer.old) (W.sent writer.new) }
+    ensures refused { W.failed writer.new ≡ false → PrintsNoImage image.now result.status (W.sent writer.old) (W.sent writer.new) }
     ensures cut { W.failed writer.old ≡ false → W.failed writer.new ≡ true → (result.status ≡ 5) × IsNone result.file }
 {
     let image = match image_loader::read(alloc, image) {
