@@ -1,10 +1,11 @@
 -- Requests of the device that are answered Ok, one after another.
 use Rattle.std.specs.Prelude.{ℕ, ◌+◌, ◌≡◌, ◌<◌, ◌≤◌, All, List, [], ◌∷◌, Option, Some, Bool, true, false, IsTrue, IsFalse, length}
+use Rattle.memory.specs.Bytes.{cell}
 use Rattle.block_buffers.specs.Entries.{limit, holds, AreBuffers, HasNoBlockTwice}
 use Rattle.plain_rows.specs.declared.parts.Request.{Request}
 use Rattle.plain_rows.specs.declared.parts.Request.TheVariants as request
 use Rattle.inner_interpreter.specs.State.{State}
-use Rattle.inner_interpreter.specs.Tick.{taken}
+use Rattle.inner_interpreter.specs.Tick.{Runs, taken}
 use Rattle.inner_interpreter.specs.Answer.{Reply, ReadOk, WriteOk, asked_by}
 use Rattle.inner_interpreter.specs.Moves.{Tick, Answer, turned}
 
@@ -47,3 +48,8 @@ token_of s = (taken s.parts).0
 -- the cell at w is below the machine's buffers
 abbrev pub IsBelowBuffers : State → ℕ → Type 0
 IsBelowBuffers s w = w + 2 ≤ limit s.parts.buffers
+
+-- where a machine runs on, and the code field of its next token is below the buffers: of the number in that field
+abbrev pub OfNextCode : State → (ℕ → Type 0) → Type 0
+OfNextCode s Of =
+    Runs s → IsOrderly s → length s.parts.memory ≡ 65536 → IsBelowBuffers s (token_of s) → Of (cell s.parts.memory (token_of s))

@@ -2,14 +2,12 @@
 
 ghost use Rattle.std.specs.Prelude.{◌≡◌, ◌≢◌, ℕ, ◌≤◌, List, Some, IsSome, All, length};
 ghost use Rattle.image_loader.specs.Files.{Contents, IsImage};
-ghost use Rattle.memory.specs.Bytes.{cell};
 ghost use Rattle.primitives.specs.Needs.{most_requests};
 ghost use Rattle.inner_interpreter.specs.Histories.{Call, Made, IsHistory, made, moves_made};
 ghost use Rattle.inner_interpreter.specs.Moves.{Turn, Accepts, turned};
-ghost use Rattle.inner_interpreter.specs.Requests.{IsOrderly, AreAsked, IsPage, IsBelowBuffers, token_of};
+ghost use Rattle.inner_interpreter.specs.Requests.{IsOrderly, AreAsked, IsPage, OfNextCode};
 ghost use Rattle.inner_interpreter.specs.Runs.{World, rounds, stops};
 ghost use Rattle.inner_interpreter.specs.State.{State, start};
-ghost use Rattle.inner_interpreter.specs.Tick.{Runs};
 ghost use Rattle.inner_interpreter.specs.Worlds.{rounds_left};
 
 use crate::act::Cause;
@@ -40,7 +38,7 @@ pub fn orderly_law()
 /// A token whose code field is below the buffers asks its device, where each request is answered Ok, at most twice for
 /// each block that its row needs; BUFFER once; SAVE-BUFFERS and FLUSH once for each updated buffer.
 pub fn requests_law()
-    ensures { (s : State) (pages : List (List ℕ)) → Runs s → IsOrderly s → length s.parts.memory ≡ 65536 → IsBelowBuffers s (token_of s) → All IsPage pages → AreAsked s pages → length pages ≤ most_requests (cell s.parts.memory (token_of s)) s.parts }
+    ensures { (s : State) (pages : List (List ℕ)) → OfNextCode s (λ code. All IsPage pages → AreAsked s pages → length pages ≤ most_requests code s.parts) }
 {}
 
 /// What a host sees of a machine is what the written moves leave: whatever calls it makes of `tick`, `answer` and
