@@ -50,14 +50,8 @@ pub fn act(
 ) -> Result<String> {
     let (what, rest) = done.split_once(' ').unwrap_or((done, ""));
     match what {
-        "tick" => {
-            let made = running.machine.tick();
-            told::answered(alloc, &running.machine, made)
-        }
-        "ticks" => {
-            let made = running.machine.ticks(many(names, rest)?);
-            told::ticks(alloc, &running.machine, made)
-        }
+        "tick" => tick(alloc, &mut running.machine),
+        "ticks" => ticks(alloc, &mut running.machine, many(names, rest)?),
         "answer" => answer(alloc, &mut running.machine, rest),
         "run" => do_run(alloc, names, running, ends, rest),
         "page" => page(alloc, &running.machine),
@@ -65,21 +59,39 @@ pub fn act(
     }
 }
 
+/// `tick`: what comes of it.
+fn tick(alloc: Global, machine: &mut Machine) -> Result<String> {
+    let made = machine.tick();
+    told::answered(alloc, machine, made)
+}
+
+/// `ticks 5`: what comes of so many.
+fn ticks(alloc: Global, machine: &mut Machine, most: u64) -> Result<String> {
+    let made = machine.ticks(most);
+    told::ticks(alloc, machine, made)
+}
+
 /// `key 65`, `line "ab"`, `line "ab" returned`, `read 07`, `write`: what comes of the answer.
 fn answer(alloc: Global, machine: &mut Machine, said: &str) -> Result<String> {
     let (what, rest) = said.split_once(' ').unwrap_or((said, ""));
-    let made = match what {
-        "key" => machine.answer(Answer::Key(rest.parse::<u8>()?)),
+    match what {
+        "key" => answered(alloc, machine, Answer::Key(rest.parse::<u8>()?)),
         "line" => {
             let typed = unescaped(alloc, quoted(rest)?)?;
-            machine.answer(Answer::Line {
+            let line = Answer::Line {
                 bytes: typed.as_slice(),
                 returned: rest.ends_with(" returned"),
-            })
+            };
+            answered(alloc, machine, line)
         }
-        "read" if rest != "fault" => machine.answer(Answer::ReadOk(&[byte(rest)?; 1024])),
-        _ => machine.answer(plain_answer(said)?),
-    };
+        "read" if rest != "fault" => answered(alloc, machine, Answer::ReadOk(&[byte(rest)?; 1024])),
+        _ => answered(alloc, machine, plain_answer(said)?),
+    }
+}
+
+/// What comes of an answer.
+fn answered(alloc: Global, machine: &mut Machine, answer: Answer<'_>) -> Result<String> {
+    let made = machine.answer(answer);
     told::answered(alloc, machine, made)
 }
 
@@ -109,6 +121,15 @@ fn page(alloc: Global, machine: &Machine) -> Result<String> {
     Ok(format!(in alloc; "nowhere")?)
 }
 
+/// What a run came to.
+#[derive(Drop)]
+struct Ran {
+    stop: Stop,
+    shown: Vec<u8>,
+    /// The bytes that it left unread.
+    rest: Vec<u8>,
+}
+
 /// `1000 "typed"`: why a run stops, what it shows, what it leaves unread, what it asks of the blocks and what it waits for.
 fn do_run(
     alloc: Global,
@@ -123,48 +144,100 @@ fn do_run(
         Some(_) => unescaped(alloc, quoted(said)?)?,
         None => Vec::new(alloc),
     };
-    let count = typed.len();
-    let (stop, shown, rest) = match ends.room {
-        Some(room) => {
-            let mut reader = Reading::new(typed.as_slice());
-            let mut writer = Filling::new(alloc, room);
-            let stop = run_over(alloc, running, &mut reader, &mut writer, limit)?;
-            let rest = unread(alloc, &mut reader, count)?;
-            (stop, writer.into_inner(), rest)
-        }
-        None => {
-            let mut writer = Writing::new(Vec::new(alloc));
-            let (stop, rest) = if ends.breaks {
-                let mut reader = Breaking::new(typed);
-                let stop = run_over(alloc, running, &mut reader, &mut writer, limit)?;
-                (stop, unread(alloc, &mut reader, count)?)
-            } else {
-                let mut reader = Reading::new(typed.as_slice());
-                let stop = run_over(alloc, running, &mut reader, &mut writer, limit)?;
-                (stop, unread(alloc, &mut reader, count)?)
-            };
-            (stop, writer.into_inner(), rest)
-        }
-    };
+    let ran = run_typed(alloc, running, ends, typed, limit)?;
+    tell(alloc, running, &ran)
+}
+
+/// What a run came to, as text.
+fn tell(alloc: Global, running: &mut Running, ran: &Ran) -> Result<String> {
     let calls = running.device.take_calls(alloc)?;
     let asked = told::asked(alloc, running.machine.asked())?;
-    let told = told::run(alloc, stop, shown.as_slice())?;
-    let rest = told::unread(alloc, rest.as_slice())?;
+    let told = told::run(alloc, ran.stop, ran.shown.as_slice())?;
+    let rest = told::unread(alloc, ran.rest.as_slice())?;
     Ok(format!(in alloc; "{told}{rest}{calls}{asked}")?)
 }
 
-/// A run over these ends.
+/// Runs over typed bytes, and the writer and the reader that the ends are.
+fn run_typed(
+    alloc: Global,
+    running: &mut Running,
+    ends: &Ends,
+    typed: Vec<u8>,
+    limit: u64,
+) -> Result<Ran> {
+    match ends.room {
+        Some(room) => run_filling(alloc, running, typed.as_slice(), room, limit),
+        None if ends.breaks => run_breaking(alloc, running, typed, limit),
+        None => run_plain(alloc, running, typed.as_slice(), limit),
+    }
+}
+
+/// A run over ends that don't fail.
+fn run_plain(alloc: Global, running: &mut Running, typed: &[u8], limit: u64) -> Result<Ran> {
+    let mut reader = Reading::new(typed);
+    let mut writer = Writing::new(Vec::new(alloc));
+    let (stop, rest) = run_over(alloc, running, &mut reader, &mut writer, typed.len(), limit)?;
+    Ok(Ran {
+        stop,
+        shown: writer.into_inner(),
+        rest,
+    })
+}
+
+/// A run over a reader that fails behind the typed bytes.
+fn run_breaking(alloc: Global, running: &mut Running, typed: Vec<u8>, limit: u64) -> Result<Ran> {
+    let count = typed.len();
+    let mut reader = Breaking::new(typed);
+    let mut writer = Writing::new(Vec::new(alloc));
+    let (stop, rest) = run_over(alloc, running, &mut reader, &mut writer, count, limit)?;
+    Ok(Ran {
+        stop,
+        shown: writer.into_inner(),
+        rest,
+    })
+}
+
+/// A run over a writer that takes so many bytes.
+fn run_filling(
+    alloc: Global,
+    running: &mut Running,
+    typed: &[u8],
+    room: u16,
+    limit: u64,
+) -> Result<Ran> {
+    let mut reader = Reading::new(typed);
+    let mut writer = Filling::new(alloc, room);
+    let (stop, rest) = run_over(alloc, running, &mut reader, &mut writer, typed.len(), limit)?;
+    Ok(Ran {
+        stop,
+        shown: writer.into_inner(),
+        rest,
+    })
+}
+
+/// A run over these ends: why it stopped, and what the reader has left of so many bytes.
 fn run_over<R: Input, W: Output>(
     alloc: Global,
     running: &mut Running,
     reader: &mut R,
     writer: &mut W,
+    most: usize,
     limit: u64,
-) -> Result<Stop> {
+) -> Result<(Stop, Vec<u8>)> {
+    let stop = stop_of(alloc, running, reader, writer, limit).context("out of memory")?;
+    Ok((stop, unread(alloc, reader, most)?))
+}
+
+/// Why a run over these ends stopped, if memory was found for it.
+fn stop_of<R: Input, W: Output>(
+    alloc: Global,
+    running: &mut Running,
+    reader: &mut R,
+    writer: &mut W,
+    limit: u64,
+) -> Option<Stop> {
     let (machine, device) = (&mut running.machine, &mut running.device);
-    run(alloc, machine, reader, writer, device, limit)
-        .ok()
-        .context("out of memory")
+    run(alloc, machine, reader, writer, device, limit).ok()
 }
 
 /// The bytes that a reader has left, of so many.
