@@ -19,8 +19,10 @@ pub fn buffers_from(count: u16, stamp: u64) -> Buffers
 
 /// The entry of any place comes to the front, and the others stay in their order. No entry is lost or changed.
 pub fn moved_front_law()
-    ensures order { (b : List Entry) (place : ℕ) → AreBuffers b → place < length b → moved_front (entry_at b place).slot b ≡ entry_at b place ∷ remove b place }
-    ensures front { (b : List Entry) (slot : ℕ) → AreBuffers b → slot < length b → (entry_at (moved_front slot b) 0).slot ≡ slot }
+    ensures order { (b : List Entry) (place : ℕ) → AreBuffers b → place < length b →
+        moved_front (entry_at b place).slot b ≡ entry_at b place ∷ remove b place }
+    ensures front { (b : List Entry) (slot : ℕ) → AreBuffers b → slot < length b →
+        (entry_at (moved_front slot b) 0).slot ≡ slot }
     ensures same { (b : List Entry) (slot : ℕ) → IsPermutation b (moved_front slot b) }
 {}
 
@@ -31,7 +33,8 @@ pub fn reordered_law()
 
 /// A reference to a block that a buffer has brings its entry to the front.
 pub fn reference_law()
-    ensures { (b : List Entry) (u : ℕ) → AreBuffers b → IsTrue (holds b u) → (entry_at (moved_front (slot_of b u) b) 0).block ≡ Some u }
+    ensures { (b : List Entry) (u : ℕ) → AreBuffers b → IsTrue (holds b u) →
+        (entry_at (moved_front (slot_of b u) b) 0).block ≡ Some u }
 {}
 
 /// The block that a buffer is given to has the victim's slot, and its entry is in front.
@@ -50,7 +53,8 @@ pub fn first_updated_law()
 pub fn no_block_twice_law()
     ensures started { (n : ℕ) → HasNoBlockTwice (start n) }
     ensures moved { (b : List Entry) (slot : ℕ) → HasNoBlockTwice b → HasNoBlockTwice (moved_front slot b) }
-    ensures assigned { (b : List Entry) (u : ℕ) → IsFalse (holds b u) → HasNoBlockTwice b → HasNoBlockTwice (assigned u b) }
+    ensures assigned { (b : List Entry) (u : ℕ) → IsFalse (holds b u) → HasNoBlockTwice b →
+        HasNoBlockTwice (assigned u b) }
     ensures marked { (b : List Entry) → HasNoBlockTwice b → HasNoBlockTwice (front_marked b) }
     ensures cleaned { (b : List Entry) (slot : ℕ) → HasNoBlockTwice b → HasNoBlockTwice (cleaned slot b) }
     ensures unmarked { (b : List Entry) (u : ℕ) → HasNoBlockTwice b → HasNoBlockTwice (unmarked u b) }
@@ -72,8 +76,10 @@ pub fn buffers_law()
 
 /// A write changes its block alone, to the bytes handed in.
 pub fn written_law()
-    ensures block { (d : Disk) (n : ℕ) (page : List ℕ) → n < length d.blocks → block_at (with_block d n page).blocks n ≡ page }
-    ensures others { (d : Disk) (n m : ℕ) (page : List ℕ) → m ≢ n → block_at (with_block d n page).blocks m ≡ block_at d.blocks m }
+    ensures block { (d : Disk) (n : ℕ) (page : List ℕ) → n < length d.blocks →
+        block_at (with_block d n page).blocks n ≡ page }
+    ensures others { (d : Disk) (n m : ℕ) (page : List ℕ) → m ≢ n →
+        block_at (with_block d n page).blocks m ≡ block_at d.blocks m }
     ensures count { (d : Disk) (n : ℕ) (page : List ℕ) → length (with_block d n page).blocks ≡ length d.blocks }
 {}
 
@@ -94,22 +100,26 @@ pub fn line_number_law()
 pub fn put_line_law()
     ensures size { (p text : List ℕ) (n : ℕ) → IsScreen p → IsLine text → IsScreen (with_line p n text) }
     ensures line { (p text : List ℕ) (n : ℕ) → IsScreen p → IsLine text → line_at (with_line p n text) n ≡ text }
-    ensures others { (p text : List ℕ) (n m : ℕ) → IsScreen p → IsLine text → n < 16 → m < 16 → m ≢ n → line_at (with_line p n text) m ≡ line_at p m }
+    ensures others { (p text : List ℕ) (n m : ℕ) → IsScreen p → IsLine text → n < 16 → m < 16 → m ≢ n →
+        line_at (with_line p n text) m ≡ line_at p m }
 {}
 
 /// A line that is inserted moves the lines from it on one down; the last one is lost.
 pub fn insert_line_law()
     ensures size { (p text : List ℕ) (n : ℕ) → IsScreen p → IsLine text → IsScreen (line_inserted p n text) }
-    ensures above { (p text : List ℕ) (n m : ℕ) → IsScreen p → n < 16 → m < n → line_at (line_inserted p n text) m ≡ line_at p m }
+    ensures above { (p text : List ℕ) (n m : ℕ) → IsScreen p → n < 16 → m < n →
+        line_at (line_inserted p n text) m ≡ line_at p m }
     ensures line { (p text : List ℕ) (n : ℕ) → IsScreen p → IsLine text → line_at (line_inserted p n text) n ≡ text }
-    ensures below { (p text : List ℕ) (n m : ℕ) → IsScreen p → IsLine text → n ≤ m → m < 15 → line_at (line_inserted p n text) (m + 1) ≡ line_at p m }
+    ensures below { (p text : List ℕ) (n m : ℕ) → IsScreen p → IsLine text → n ≤ m → m < 15 →
+        line_at (line_inserted p n text) (m + 1) ≡ line_at p m }
 {}
 
 /// A line that is deleted moves the lines behind it one up; the last one becomes blank.
 pub fn delete_line_law()
     ensures size { (p : List ℕ) (n : ℕ) → IsScreen p → IsScreen (line_deleted p n) }
     ensures above { (p : List ℕ) (n m : ℕ) → IsScreen p → n < 16 → m < n → line_at (line_deleted p n) m ≡ line_at p m }
-    ensures below { (p : List ℕ) (n m : ℕ) → IsScreen p → n ≤ m → m < 15 → line_at (line_deleted p n) m ≡ line_at p (m + 1) }
+    ensures below { (p : List ℕ) (n m : ℕ) → IsScreen p → n ≤ m → m < 15 →
+        line_at (line_deleted p n) m ≡ line_at p (m + 1) }
     ensures last { (p : List ℕ) (n : ℕ) → IsScreen p → line_at (line_deleted p n) 15 ≡ blank_line }
 {}
 

@@ -60,7 +60,8 @@ pub fn put_at(bytes: &mut [u8], start: usize, text: &[u8])
 /// The text stands before the bytes from `start` on, and as many are lost at the end.
 pub fn insert_at(bytes: &mut [u8], start: usize, text: &[u8])
     requires { start + length text.now ≤ length bytes.old }
-    ensures { bytes.new ≡ take start bytes.old ++ (text.now ++ take (length bytes.old - start - length text.now) (drop start bytes.old)) }
+    ensures { bytes.new ≡ take start
+        bytes.old ++ (text.now ++ take (length bytes.old - start - length text.now) (drop start bytes.old)) }
 {
     push_first(&mut bytes[start..], text);
 }

@@ -42,7 +42,8 @@ impl MemoryDevice {
     /// together from 0, fails where `coming[i]`; a call for a block that isn't there fails always.
     pub fn new(blocks: Vec<[u8; BLOCK_SIZE]>, coming: Vec<bool>) -> MemoryDevice
         requires { vec_len blocks ≤ 65536 }
-        ensures told { ⟦<MemoryDevice as Device>⟧.disk result ≡ Some (record { blocks = blocks.items; coming = coming.items }) }
+        ensures told { ⟦<MemoryDevice as Device>⟧.disk result ≡ Some
+            (record { blocks = blocks.items; coming = coming.items }) }
         ensures uncalled { ⟦<MemoryDevice as Device>⟧.calls result ≡ [] }
     {
         MemoryDevice {

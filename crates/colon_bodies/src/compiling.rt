@@ -53,7 +53,9 @@ fn step(
     requires room { at + length image.old.items + jump_by (token word) < 2 ^ 16 }
     requires controls { 28 ≤ length runtime.now }
     requires short { IsShort (token word) }
-    ensures { (o : Outer) (t : Body) → is_past ≡ past o → Drafted (slice_index runtime.now) at o t Free image.old.items marks.old.items → After (slice_index runtime.now) at (read o t Free (token word.entry)) result image.new.items marks.new.items }
+    ensures { (o : Outer) (t : Body) → is_past ≡ past o →
+        Drafted (slice_index runtime.now) at o t Free image.old.items marks.old.items →
+        After (slice_index runtime.now) at (read o t Free (token word.entry)) result image.new.items marks.new.items }
 {
     match word {
         BodyWord::Name(w) => lay_name(image, w),
@@ -80,7 +82,9 @@ fn step(
 
 /// Lays what one word lays behind what is half read.
 fn go_on(image: &mut Vec<u8>, word: BodyWord) -> Result<(), BodyCause>
-    ensures { (rt : ℕ → ℕ) (at : ℕ) (o : Outer) (t : Body) (h : Half) (marks : List Mark) → h ≢ Free → suits h (token word.entry) ≡ true → Drafted rt at o t h image.old.items marks → After rt at (read o t h (token word.entry)) result image.new.items marks }
+    ensures { (rt : ℕ → ℕ) (at : ℕ) (o : Outer) (t : Body) (h : Half) (marks : List Mark) → h ≢ Free →
+        suits h (token word.entry) ≡ true → Drafted rt at o t h image.old.items marks →
+        After rt at (read o t h (token word.entry)) result image.new.items marks }
 {
     match word {
         BodyWord::Name(w) => lay_name(image, w),
@@ -94,7 +98,9 @@ fn lay(d: &mut Draft, word: BodyWord, at: u16, runtime: &[u16]) -> Result<(), Bo
     requires room { at + length d.old.image.items + jump_by (token word) < 2 ^ 16 }
     requires controls { 28 ≤ length runtime.now }
     requires short { IsShort (token word) }
-    ensures taken { (o : Outer) (t : Body) (h : Half) → suits h (token word.entry) ≡ true → Drafts (slice_index runtime.now) at o t h d.old → After (slice_index runtime.now) at (read o t h (token word.entry)) result d.new.image.items d.new.marks.items }
+    ensures taken { (o : Outer) (t : Body) (h : Half) → suits h (token word.entry) ≡ true →
+        Drafts (slice_index runtime.now) at o t h d.old →
+        After (slice_index runtime.now) at (read o t h (token word.entry)) result d.new.image.items d.new.marks.items }
     ensures kept { (d.new.half ≡ d.old.half) × (d.new.is_past ≡ d.old.is_past) }
 {
     if is_free(d.half) {
@@ -118,7 +124,8 @@ pub fn take_word(
     requires jump { at + length d.image.items + jump_by (token word) < 2 ^ 16 }
     requires controls { 28 ≤ length runtime.now }
     requires inside { token word ≢ SEMI }
-    ensures { (o : Outer) (t : Body) (h : Half) → Drafts (slice_index runtime.now) at o t h d → open_depth o t ≤ 64 → Taken (slice_index runtime.now) at limit o t h (token word.entry) result }
+    ensures { (o : Outer) (t : Body) (h : Half) → Drafts (slice_index runtime.now) at o t h d → open_depth o t ≤ 64 →
+        Taken (slice_index runtime.now) at limit o t h (token word.entry) result }
 {
     let mut d = d;
     if !is_suited(d.half, word) {
@@ -150,7 +157,8 @@ pub fn take_word(
 
 /// Takes the last word, and gives the bytes; where it is refused, the draft is gone.
 pub fn finish(d: Draft, at: u16, limit: u16, control: u16) -> Result<Vec<u8>, BodyCause>
-    ensures { (rt : ℕ → ℕ) (o : Outer) (t : Body) (h : Half) → rt 5 ≡ control → Drafts rt at o t h d → open_depth o t ≤ 64 → Ended rt at limit o t h result }
+    ensures { (rt : ℕ → ℕ) (o : Outer) (t : Body) (h : Half) → rt 5 ≡ control → Drafts rt at o t h d →
+        open_depth o t ≤ 64 → Ended rt at limit o t h result }
 {
     if !is_suited(d.half, BodyWord::Semicolon) {
         return Err(BodyCause::Misplaced);
@@ -180,8 +188,10 @@ pub fn compile(
     requires jumps { (limit ≤ 65530) ⊎ (at + laid (map token words.now) < 2 ^ 16) }
     requires start { at ≤ limit }
     requires controls { 28 ≤ length runtime.now }
-    ensures compiled { IfOk result (λ c. Compiled (slice_index runtime.now) at limit (map token words.now) c.0.items c.1) }
-    ensures refused { IfErr result (λ e. IsFault (slice_index runtime.now) at limit (map token words.now) e.place e.cause) }
+    ensures compiled { IfOk result (λ c.
+        Compiled (slice_index runtime.now) at limit (map token words.now) c.0.items c.1) }
+    ensures refused { IfErr result (λ e.
+        IsFault (slice_index runtime.now) at limit (map token words.now) e.place e.cause) }
 {
     let mut draft = Draft::new(alloc);
     for (i, word) in words.iter().enumerate() {

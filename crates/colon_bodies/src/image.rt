@@ -40,7 +40,8 @@ pub fn here(at: u16, image: &Vec<u8>) -> u16
 
 /// Takes off the mark of the innermost open structure.
 pub fn pop_mark(marks: &mut Vec<Mark>) -> Option<Mark>
-    ensures { (at : ℕ) (o : Outer) → marks.old.items ≡ marks_of at o → (result ≡ top_mark at o) × (marks.new.items ≡ marks_of at (outside o)) }
+    ensures { (at : ℕ) (o : Outer) → marks.old.items ≡ marks_of at o →
+        (result ≡ top_mark at o) × (marks.new.items ≡ marks_of at (outside o)) }
 {
     marks.pop()
 }

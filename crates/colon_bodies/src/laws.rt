@@ -16,17 +16,20 @@ pub fn one_body()
 
 /// A good source has no fault.
 pub fn good_has_no_fault()
-    ensures { (rt : ℕ → ℕ) (at limit : ℕ) (source : List Token) (body : Definition) (used : ℕ) → IsGood rt at limit source body used → HasNoFault rt at limit source }
+    ensures { (rt : ℕ → ℕ) (at limit : ℕ) (source : List Token) (body : Definition) (used : ℕ) →
+        IsGood rt at limit source body used → HasNoFault rt at limit source }
 {}
 
 /// No bytes are the threads of two plain definitions.
 pub fn one_thread()
-    ensures { (rt : ℕ → ℕ) (t u : Definition) (at : ℕ) → AreApart rt → IsPlainDefinition rt t → IsPlainDefinition rt u → thread rt t at ≡ thread rt u at → t ≡ u }
+    ensures { (rt : ℕ → ℕ) (t u : Definition) (at : ℕ) → AreApart rt → IsPlainDefinition rt t →
+        IsPlainDefinition rt u → thread rt t at ≡ thread rt u at → t ≡ u }
 {}
 
 /// A source has one first fault at most; want of memory aside.
 pub fn one_fault()
-    ensures { (rt : ℕ → ℕ) (at limit : ℕ) (source : List Token) (p q : ℕ) (c d : BodyCause) → IsFault rt at limit source p c → IsFault rt at limit source q d → IsSameFault p c q d }
+    ensures { (rt : ℕ → ℕ) (at limit : ℕ) (source : List Token) (p q : ℕ) (c d : BodyCause) →
+        IsFault rt at limit source p c → IsFault rt at limit source q d → IsSameFault p c q d }
 {}
 
 /// Forced names lay the same.
@@ -36,10 +39,12 @@ pub fn spelled_thread()
 
 /// The words of the same definition with forced names.
 pub fn spelled_words()
-    ensures { (rt : ℕ → ℕ) (f : ℕ → Bool) (d : Definition) → IsPlainDefinition rt d → all_words (all_spelled f d) ≡ respelled f (all_words d) }
+    ensures { (rt : ℕ → ℕ) (f : ℕ → Bool) (d : Definition) → IsPlainDefinition rt d →
+        all_words (all_spelled f d) ≡ respelled f (all_words d) }
 {}
 
 /// A plain definition is found again in its thread.
 pub fn found_again()
-    ensures { (rt : ℕ → ℕ) → AreApart rt → (t : Definition) (at : ℕ) → IsPlainDefinition rt t → found rt (thread rt t at) at ≡ Some t }
+    ensures { (rt : ℕ → ℕ) → AreApart rt → (t : Definition) (at : ℕ) → IsPlainDefinition rt t →
+        found rt (thread rt t at) at ≡ Some t }
 {}

@@ -16,14 +16,17 @@ use crate::image::{here, lay_cell, patch, pop_mark};
 
 /// A name lays its compilation address.
 pub fn lay_name(image: &mut Vec<u8>, w: u16) -> Result<(), BodyCause>
-    ensures { (rt : ℕ → ℕ) (at : ℕ) (o : Outer) (t : Body) (h : Half) (marks : List Mark) → Drafted rt at o t h image.old.items marks → After rt at (read o t h (NAME w)) result image.new.items marks }
+    ensures { (rt : ℕ → ℕ) (at : ℕ) (o : Outer) (t : Body) (h : Half) (marks : List Mark) →
+        Drafted rt at o t h image.old.items marks → After rt at (read o t h (NAME w)) result image.new.items marks }
 {
     lay_cell(image, w)
 }
 
 /// A number lays (LIT) and its value.
 pub fn lay_number(image: &mut Vec<u8>, control: u16, n: u16) -> Result<(), BodyCause>
-    ensures { (rt : ℕ → ℕ) (at : ℕ) (o : Outer) (t : Body) (marks : List Mark) → rt 6 ≡ control → Drafted rt at o t Free image.old.items marks → After rt at (read o t Free (NUMBER n)) result image.new.items marks }
+    ensures { (rt : ℕ → ℕ) (at : ℕ) (o : Outer) (t : Body) (marks : List Mark) → rt 6 ≡ control →
+        Drafted rt at o t Free image.old.items marks →
+        After rt at (read o t Free (NUMBER n)) result image.new.items marks }
 {
     lay_cell(image, control)?;
     lay_cell(image, n)
@@ -31,7 +34,9 @@ pub fn lay_number(image: &mut Vec<u8>, control: u16, n: u16) -> Result<(), BodyC
 
 /// A double lays (LIT) and its low cell, (LIT) and its high cell.
 pub fn lay_double(image: &mut Vec<u8>, control: u16, n: u32) -> Result<(), BodyCause>
-    ensures { (rt : ℕ → ℕ) (at : ℕ) (o : Outer) (t : Body) (marks : List Mark) → rt 6 ≡ control → Drafted rt at o t Free image.old.items marks → After rt at (read o t Free (DOUBLE n)) result image.new.items marks }
+    ensures { (rt : ℕ → ℕ) (at : ℕ) (o : Outer) (t : Body) (marks : List Mark) → rt 6 ≡ control →
+        Drafted rt at o t Free image.old.items marks →
+        After rt at (read o t Free (DOUBLE n)) result image.new.items marks }
 {
     lay_cell(image, control)?;
     lay_cell(image, (n % 65536) as u16)?;
@@ -41,14 +46,17 @@ pub fn lay_double(image: &mut Vec<u8>, control: u16, n: u32) -> Result<(), BodyC
 
 /// `[']` lays (LIT).
 pub fn begin_tick(image: &mut Vec<u8>, control: u16) -> Result<(), BodyCause>
-    ensures { (rt : ℕ → ℕ) (at : ℕ) (o : Outer) (t : Body) (marks : List Mark) → rt 6 ≡ control → Drafted rt at o t Free image.old.items marks → After rt at (read o t Free TICK) result image.new.items marks }
+    ensures { (rt : ℕ → ℕ) (at : ℕ) (o : Outer) (t : Body) (marks : List Mark) → rt 6 ≡ control →
+        Drafted rt at o t Free image.old.items marks → After rt at (read o t Free TICK) result image.new.items marks }
 {
     lay_cell(image, control)
 }
 
 /// COMPILE lays its own control.
 pub fn begin_pair(image: &mut Vec<u8>, control: u16) -> Result<(), BodyCause>
-    ensures { (rt : ℕ → ℕ) (at : ℕ) (o : Outer) (t : Body) (marks : List Mark) → rt 19 ≡ control → Drafted rt at o t Free image.old.items marks → After rt at (read o t Free COMPILE) result image.new.items marks }
+    ensures { (rt : ℕ → ℕ) (at : ℕ) (o : Outer) (t : Body) (marks : List Mark) → rt 19 ≡ control →
+        Drafted rt at o t Free image.old.items marks →
+        After rt at (read o t Free COMPILE) result image.new.items marks }
 {
     lay_cell(image, control)
 }
@@ -60,7 +68,9 @@ pub fn lay_does(
     is_past: bool,
     control: u16,
 ) -> Result<(), BodyCause>
-    ensures { (rt : ℕ → ℕ) (at : ℕ) (o : Outer) (t : Body) → rt 18 ≡ control → is_past ≡ past o → Drafted rt at o t Free image.old.items marks.now.items → After rt at (read o t Free DOES) result image.new.items marks.now.items }
+    ensures { (rt : ℕ → ℕ) (at : ℕ) (o : Outer) (t : Body) → rt 18 ≡ control → is_past ≡ past o →
+        Drafted rt at o t Free image.old.items marks.now.items →
+        After rt at (read o t Free DOES) result image.new.items marks.now.items }
 {
     if is_past || !marks.is_empty() {
         return Err(BodyCause::Unbalanced);
@@ -71,7 +81,9 @@ pub fn lay_does(
 /// A text lays its control, its count byte and its bytes.
 pub fn lay_text(image: &mut Vec<u8>, control: u16, text: &[u8]) -> Result<(), BodyCause>
     requires { length text.now < 256 }
-    ensures { (rt : ℕ → ℕ) (at : ℕ) (o : Outer) (t : Body) (k : Bool) (marks : List Mark) → rt (text_control k) ≡ control → Drafted rt at o t Free image.old.items marks → After rt at (read o t Free (TEXT k text.now)) result image.new.items marks }
+    ensures { (rt : ℕ → ℕ) (at : ℕ) (o : Outer) (t : Body) (k : Bool) (marks : List Mark) →
+        rt (text_control k) ≡ control → Drafted rt at o t Free image.old.items marks →
+        After rt at (read o t Free (TEXT k text.now)) result image.new.items marks }
 {
     lay_cell(image, control)?;
     image.push(text.len() as u8)?;
@@ -81,7 +93,9 @@ pub fn lay_text(image: &mut Vec<u8>, control: u16, text: &[u8]) -> Result<(), Bo
 
 /// IF lays ?BRANCH and a cell that waits.
 pub fn open_if(image: &mut Vec<u8>, marks: &mut Vec<Mark>, control: u16) -> Result<(), BodyCause>
-    ensures { (rt : ℕ → ℕ) (at : ℕ) (o : Outer) (t : Body) → rt 8 ≡ control → Drafted rt at o t Free image.old.items marks.old.items → After rt at (read o t Free IF) result image.new.items marks.new.items }
+    ensures { (rt : ℕ → ℕ) (at : ℕ) (o : Outer) (t : Body) → rt 8 ≡ control →
+        Drafted rt at o t Free image.old.items marks.old.items →
+        After rt at (read o t Free IF) result image.new.items marks.new.items }
 {
     lay_cell(image, control)?;
     marks.push(Mark::If(image.len()))?;
@@ -91,7 +105,9 @@ pub fn open_if(image: &mut Vec<u8>, marks: &mut Vec<Mark>, control: u16) -> Resu
 
 /// DO lays (DO) and a cell that waits.
 pub fn open_do(image: &mut Vec<u8>, marks: &mut Vec<Mark>, control: u16) -> Result<(), BodyCause>
-    ensures { (rt : ℕ → ℕ) (at : ℕ) (o : Outer) (t : Body) → rt 9 ≡ control → Drafted rt at o t Free image.old.items marks.old.items → After rt at (read o t Free DO) result image.new.items marks.new.items }
+    ensures { (rt : ℕ → ℕ) (at : ℕ) (o : Outer) (t : Body) → rt 9 ≡ control →
+        Drafted rt at o t Free image.old.items marks.old.items →
+        After rt at (read o t Free DO) result image.new.items marks.new.items }
 {
     lay_cell(image, control)?;
     marks.push(Mark::Do(image.len()))?;
@@ -102,7 +118,8 @@ pub fn open_do(image: &mut Vec<u8>, marks: &mut Vec<Mark>, control: u16) -> Resu
 /// BEGIN keeps the address behind.
 pub fn open_begin(image: &Vec<u8>, marks: &mut Vec<Mark>, at: u16) -> Result<(), BodyCause>
     requires { at + length image.now.items < 2 ^ 16 }
-    ensures { (rt : ℕ → ℕ) (o : Outer) (t : Body) → Drafted rt at o t Free image.now.items marks.old.items → After rt at (read o t Free BEGIN) result image.now.items marks.new.items }
+    ensures { (rt : ℕ → ℕ) (o : Outer) (t : Body) → Drafted rt at o t Free image.now.items marks.old.items →
+        After rt at (read o t Free BEGIN) result image.now.items marks.new.items }
 {
     marks.push(Mark::Begin(here(at, image)))?;
     Ok(())
@@ -117,7 +134,9 @@ pub fn switch_else(
 ) -> Result<(), BodyCause>
     requires drafting { Drafting at image.old.items marks.old.items }
     requires room { at + length image.old.items + 4 < 2 ^ 16 }
-    ensures { (rt : ℕ → ℕ) (o : Outer) (t : Body) → rt 7 ≡ control → Drafted rt at o t Free image.old.items marks.old.items → After rt at (read o t Free ELSE) result image.new.items marks.new.items }
+    ensures { (rt : ℕ → ℕ) (o : Outer) (t : Body) → rt 7 ≡ control →
+        Drafted rt at o t Free image.old.items marks.old.items →
+        After rt at (read o t Free ELSE) result image.new.items marks.new.items }
 {
     match pop_mark(marks) {
         Some(Mark::If(place)) => {
@@ -135,7 +154,8 @@ pub fn switch_else(
 pub fn close_then(image: &mut Vec<u8>, marks: &mut Vec<Mark>, at: u16) -> Result<(), BodyCause>
     requires drafting { Drafting at image.old.items marks.old.items }
     requires room { at + length image.old.items < 2 ^ 16 }
-    ensures { (rt : ℕ → ℕ) (o : Outer) (t : Body) → Drafted rt at o t Free image.old.items marks.old.items → After rt at (read o t Free THEN) result image.new.items marks.new.items }
+    ensures { (rt : ℕ → ℕ) (o : Outer) (t : Body) → Drafted rt at o t Free image.old.items marks.old.items →
+        After rt at (read o t Free THEN) result image.new.items marks.new.items }
 {
     match pop_mark(marks) {
         Some(Mark::If(place)) => {
@@ -152,8 +172,12 @@ pub fn close_then(image: &mut Vec<u8>, marks: &mut Vec<Mark>, at: u16) -> Result
 
 /// UNTIL and AGAIN lay ?BRANCH or BRANCH, and the address of BEGIN.
 pub fn close_back(image: &mut Vec<u8>, marks: &mut Vec<Mark>, control: u16) -> Result<(), BodyCause>
-    ensures until { (rt : ℕ → ℕ) (at : ℕ) (o : Outer) (t : Body) → rt 8 ≡ control → Drafted rt at o t Free image.old.items marks.old.items → After rt at (read o t Free UNTIL) result image.new.items marks.new.items }
-    ensures again { (rt : ℕ → ℕ) (at : ℕ) (o : Outer) (t : Body) → rt 7 ≡ control → Drafted rt at o t Free image.old.items marks.old.items → After rt at (read o t Free AGAIN) result image.new.items marks.new.items }
+    ensures until { (rt : ℕ → ℕ) (at : ℕ) (o : Outer) (t : Body) → rt 8 ≡ control →
+        Drafted rt at o t Free image.old.items marks.old.items →
+        After rt at (read o t Free UNTIL) result image.new.items marks.new.items }
+    ensures again { (rt : ℕ → ℕ) (at : ℕ) (o : Outer) (t : Body) → rt 7 ≡ control →
+        Drafted rt at o t Free image.old.items marks.old.items →
+        After rt at (read o t Free AGAIN) result image.new.items marks.new.items }
 {
     match pop_mark(marks) {
         Some(Mark::Begin(target)) => {
@@ -166,7 +190,9 @@ pub fn close_back(image: &mut Vec<u8>, marks: &mut Vec<Mark>, control: u16) -> R
 
 /// WHILE lays ?BRANCH and a cell that waits.
 pub fn test_while(image: &mut Vec<u8>, marks: &mut Vec<Mark>, control: u16) -> Result<(), BodyCause>
-    ensures { (rt : ℕ → ℕ) (at : ℕ) (o : Outer) (t : Body) → rt 8 ≡ control → Drafted rt at o t Free image.old.items marks.old.items → After rt at (read o t Free WHILE) result image.new.items marks.new.items }
+    ensures { (rt : ℕ → ℕ) (at : ℕ) (o : Outer) (t : Body) → rt 8 ≡ control →
+        Drafted rt at o t Free image.old.items marks.old.items →
+        After rt at (read o t Free WHILE) result image.new.items marks.new.items }
 {
     match pop_mark(marks) {
         Some(Mark::Begin(target)) => {
@@ -188,7 +214,9 @@ pub fn close_repeat(
 ) -> Result<(), BodyCause>
     requires drafting { Drafting at image.old.items marks.old.items }
     requires room { at + length image.old.items + 4 < 2 ^ 16 }
-    ensures { (rt : ℕ → ℕ) (o : Outer) (t : Body) → rt 7 ≡ control → Drafted rt at o t Free image.old.items marks.old.items → After rt at (read o t Free REPEAT) result image.new.items marks.new.items }
+    ensures { (rt : ℕ → ℕ) (o : Outer) (t : Body) → rt 7 ≡ control →
+        Drafted rt at o t Free image.old.items marks.old.items →
+        After rt at (read o t Free REPEAT) result image.new.items marks.new.items }
 {
     match pop_mark(marks) {
         Some(Mark::While(target, place)) => {
@@ -219,7 +247,9 @@ pub fn close_loop(
 ) -> Result<(), BodyCause>
     requires drafting { Drafting at image.old.items marks.old.items }
     requires room { at + length image.old.items + 4 < 2 ^ 16 }
-    ensures { (rt : ℕ → ℕ) (o : Outer) (t : Body) (k : Bool) → rt (loop_control k) ≡ control → Drafted rt at o t Free image.old.items marks.old.items → After rt at (read o t Free (LOOP k)) result image.new.items marks.new.items }
+    ensures { (rt : ℕ → ℕ) (o : Outer) (t : Body) (k : Bool) → rt (loop_control k) ≡ control →
+        Drafted rt at o t Free image.old.items marks.old.items →
+        After rt at (read o t Free (LOOP k)) result image.new.items marks.new.items }
 {
     match pop_mark(marks) {
         Some(Mark::Do(place)) => {

@@ -47,7 +47,8 @@ pub fn lay_text(memory: &mut Memory, here: u16, token: u16, text: &[u8])
 /// written, also where the text has more than the 255 bytes that a count byte counts.
 #[tactic(auto, using(crate::proofs::Texts::texts))]
 pub fn inline_text(memory: &mut Memory, word: TextWord, text: &[u8], limit: u16) -> Result<(), Full>
-    ensures counted { length text.now ≤ 255 → IsLaid limit memory.old memory.new (text_code (runtime memory.old (text_number word)) text.now) result }
+    ensures counted { length text.now ≤ 255 →
+        IsLaid limit memory.old memory.new (text_code (runtime memory.old (text_number word)) text.now) result }
     ensures long { 255 < length text.now → (is_err result ≡ true) × (memory.new ≡ memory.old) }
 {
     if text.len() > 255 {

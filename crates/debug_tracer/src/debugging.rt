@@ -44,30 +44,54 @@ pub fn debug<R: Input, W: Output, D: Device, T: Output>(
 
     // Where no end fails, and all but the trace tell their bytes, the run ends as the written rounds do, and the trace is
     // that of these rounds.
-    ensures whole { IfOk result (λ stop. R.failed reader.new ≡ false → W.failed writer.new ≡ false → T.failed trace.new ≡ false → (w : World) → IsAt w machine.old (R.unread reader.old) (D.disk device.old) (W.sent writer.old) limit → (e : Extent) → debugged machine.old.parts.memory name.now ≡ Ok e → EndsTraced e (line_from machine.old.parts.memory) w machine.new (R.unread reader.new) (D.disk device.new) (W.sent writer.new) (T.sent trace.old) (T.sent trace.new) stop) }
+    ensures whole { IfOk result (λ stop. R.failed reader.new ≡ false → W.failed writer.new ≡ false →
+        T.failed trace.new ≡ false → (w : World) →
+        IsAt w machine.old (R.unread reader.old) (D.disk device.old) (W.sent writer.old) limit → (e : Extent) →
+        debugged machine.old.parts.memory name.now ≡ Ok e →
+        EndsTraced e (line_from machine.old.parts.memory) w machine.new (R.unread reader.new) (D.disk device.new)
+        (W.sent writer.new) (T.sent trace.old) (T.sent trace.new) stop) }
 
     // Where no end fails, it stops for what the machine halted, and else for want of ticks.
-    ensures ended { IfOk result (λ stop. R.failed reader.new ≡ false → W.failed writer.new ≡ false → T.failed trace.new ≡ false → stop_by machine.new.halt 0 ≡ Some stop) }
+    ensures ended { IfOk result (λ stop. R.failed reader.new ≡ false → W.failed writer.new ≡ false →
+        T.failed trace.new ≡ false → stop_by machine.new.halt 0 ≡ Some stop) }
 
     // It stops for the writer exactly where the writer fails, and then some first rounds were made and traced.
-    ensures output { IfOk result (λ stop. W.failed writer.old ≡ false → (stop ≡ Stop.OutputFault) ↔ (W.failed writer.new ≡ true)) }
-    ensures cut { IfOk result (λ stop. W.failed writer.old ≡ false → W.failed writer.new ≡ true → (w : World) → IsAt w machine.old (R.unread reader.old) (D.disk device.old) (W.sent writer.old) limit → (e : Extent) → debugged machine.old.parts.memory name.now ≡ Ok e → EndsCutTraced e (line_from machine.old.parts.memory) w machine.new (R.unread reader.new) (D.disk device.new) (W.sent writer.new) (T.sent trace.old) (T.sent trace.new)) }
+    ensures output { IfOk result (λ stop. W.failed writer.old ≡ false →
+        (stop ≡ Stop.OutputFault) ↔ (W.failed writer.new ≡ true)) }
+    ensures cut { IfOk result (λ stop. W.failed writer.old ≡ false → W.failed writer.new ≡ true → (w : World) →
+        IsAt w machine.old (R.unread reader.old) (D.disk device.old) (W.sent writer.old) limit → (e : Extent) →
+        debugged machine.old.parts.memory name.now ≡ Ok e →
+        EndsCutTraced e (line_from machine.old.parts.memory) w machine.new (R.unread reader.new) (D.disk device.new)
+        (W.sent writer.new) (T.sent trace.old) (T.sent trace.new)) }
 
     // Where the reader fails, it stops for the reader: some first rounds were made and traced, and then the machine was told
     // so. Of a machine that hadn't halted so before, it stops for the reader only there.
-    ensures input { IfOk result (λ stop. R.failed reader.old ≡ false → R.failed reader.new ≡ true → stop ≡ Stop.InputFault) }
-    ensures faulted { IfOk result (λ stop. R.failed reader.old ≡ false → R.failed reader.new ≡ true → (w : World) → IsAt w machine.old (R.unread reader.old) (D.disk device.old) (W.sent writer.old) limit → (e : Extent) → debugged machine.old.parts.memory name.now ≡ Ok e → EndsFaultedTraced e (line_from machine.old.parts.memory) w machine.new (R.unread reader.new) (D.disk device.new) (W.sent writer.new) (T.sent trace.old) (T.sent trace.new)) }
-    ensures one { IfOk result (λ stop. R.failed reader.old ≡ false → R.failed reader.new ≡ true → W.failed writer.new ≡ W.failed writer.old) }
-    ensures told { IfOk result (λ stop. HasNotFailed machine.old → R.failed reader.new ≡ false → stop ≢ Stop.InputFault) }
+    ensures input { IfOk result (λ stop. R.failed reader.old ≡ false → R.failed reader.new ≡ true →
+        stop ≡ Stop.InputFault) }
+    ensures faulted { IfOk result (λ stop. R.failed reader.old ≡ false → R.failed reader.new ≡ true → (w : World) →
+        IsAt w machine.old (R.unread reader.old) (D.disk device.old) (W.sent writer.old) limit → (e : Extent) →
+        debugged machine.old.parts.memory name.now ≡ Ok e →
+        EndsFaultedTraced e (line_from machine.old.parts.memory) w machine.new (R.unread reader.new)
+        (D.disk device.new) (W.sent writer.new) (T.sent trace.old) (T.sent trace.new)) }
+    ensures one { IfOk result (λ stop. R.failed reader.old ≡ false → R.failed reader.new ≡ true →
+        W.failed writer.new ≡ W.failed writer.old) }
+    ensures told { IfOk result (λ stop. HasNotFailed machine.old → R.failed reader.new ≡ false →
+        stop ≢ Stop.InputFault) }
 
     // It stops for the trace exactly where the trace's writer fails: some first rounds were made, and the line of the tick
     // that comes next was cut.
-    ensures trace { IfOk result (λ stop. T.failed trace.old ≡ false → (stop ≡ Stop.TraceFault) ↔ (T.failed trace.new ≡ true)) }
-    ensures untraced { IfOk result (λ stop. T.failed trace.old ≡ false → T.failed trace.new ≡ true → (w : World) → IsAt w machine.old (R.unread reader.old) (D.disk device.old) (W.sent writer.old) limit → (e : Extent) → debugged machine.old.parts.memory name.now ≡ Ok e → EndsUntraced e (line_from machine.old.parts.memory) w machine.new (R.unread reader.new) (D.disk device.new) (W.sent writer.new) (T.sent trace.old) (T.sent trace.new)) }
+    ensures trace { IfOk result (λ stop. T.failed trace.old ≡ false →
+        (stop ≡ Stop.TraceFault) ↔ (T.failed trace.new ≡ true)) }
+    ensures untraced { IfOk result (λ stop. T.failed trace.old ≡ false → T.failed trace.new ≡ true → (w : World) →
+        IsAt w machine.old (R.unread reader.old) (D.disk device.old) (W.sent writer.old) limit → (e : Extent) →
+        debugged machine.old.parts.memory name.now ≡ Ok e →
+        EndsUntraced e (line_from machine.old.parts.memory) w machine.new (R.unread reader.new) (D.disk device.new)
+        (W.sent writer.new) (T.sent trace.old) (T.sent trace.new)) }
 
     // Whatever the ends are: the machine moved by ticks and answers alone, at most `limit` and one more; and it was told
     // of a device fault just where the very call of its device failed.
-    ensures moved { IfOk result (λ stop. HasRun machine.old machine.new (D.calls device.old) (D.calls device.new) limit stop) }
+    ensures moved { IfOk result (λ stop.
+        HasRun machine.old machine.new (D.calls device.old) (D.calls device.new) limit stop) }
 {
     let word = match word_of(alloc, machine.memory(), name) {
         Ok(word) => word,

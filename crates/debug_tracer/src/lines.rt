@@ -143,8 +143,10 @@ fn send_place<T: Output>(
     machine: &Machine,
     trace: &mut T,
 ) -> Result<(), EndFault>
-    ensures ok { OnOk result (Appends (T.sent trace.old) (T.sent trace.new) (place_text memory.now headers.now machine.now.parts)) }
-    ensures err { OnErr result (AppendsPart (T.sent trace.old) (T.sent trace.new) (place_text memory.now headers.now machine.now.parts)) }
+    ensures ok { OnOk result (Appends (T.sent trace.old) (T.sent trace.new)
+        (place_text memory.now headers.now machine.now.parts)) }
+    ensures err { OnErr result (AppendsPart (T.sent trace.old) (T.sent trace.new)
+        (place_text memory.now headers.now machine.now.parts)) }
     ensures mark { Marks (T.failed trace.old) (T.failed trace.new) result }
 {
     let ip = machine.ip();
@@ -168,7 +170,8 @@ pub fn send_line<T: Output>(
     trace: &mut T,
 ) -> Result<(), EndFault>
     ensures ok { OnOk result (Appends (T.sent trace.old) (T.sent trace.new) (line memory.now headers.now machine.now.parts)) }
-    ensures err { OnErr result (AppendsPart (T.sent trace.old) (T.sent trace.new) (line memory.now headers.now machine.now.parts)) }
+    ensures err { OnErr result (AppendsPart (T.sent trace.old) (T.sent trace.new)
+        (line memory.now headers.now machine.now.parts)) }
     ensures mark { Marks (T.failed trace.old) (T.failed trace.new) result }
 {
     match send_place(memory, headers, machine, trace) {

@@ -89,8 +89,10 @@ pub fn pages_text<D: Device>(
     from: u16,
     to: u16,
 ) -> Result<Vec<u8>, Unprinted>
-    ensures text { IfOk result (λ v. (d : Disk) → D.disk device.old ≡ Some d → pages d from (to + 1 - from) ≡ Ok v.items) }
-    ensures refused { IfErr result (λ why. (d : Disk) → D.disk device.old ≡ Some d → IsWhy (pages d from (to + 1 - from)) why) }
+    ensures text { IfOk result (λ v. (d : Disk) → D.disk device.old ≡ Some d →
+        pages d from (to + 1 - from) ≡ Ok v.items) }
+    ensures refused { IfErr result (λ why.
+        (d : Disk) → D.disk device.old ≡ Some d → IsWhy (pages d from (to + 1 - from)) why) }
     ensures kept { KeepsBlocks (D.disk device.old) (D.disk device.new) }
 {
     let mut text = Vec::new(alloc);

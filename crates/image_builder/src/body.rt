@@ -78,7 +78,8 @@ fn unnamed_word<'a>(inner: Inner<'a>) -> Result<BodyWord<'a>, Cause>
 /// What a word is that is tried as a name first.
 fn name_or_other<'a>(b: &Build, w: Spot<'a>) -> Result<BodyWord<'a>, Cause>
     requires { Building b.now }
-    ensures { (t : Items) → Built b.now.limit b.now t → Means result (name_first b.now.draft.half (look t (place w.entry)) (sense w.entry.inner)) }
+    ensures { (t : Items) → Built b.now.limit b.now t →
+        Means result (name_first b.now.draft.half (look t (place w.entry)) (sense w.entry.inner)) }
 {
     match address_of(b, w)? {
         Some(a) => Ok(BodyWord::Name(a)),
@@ -105,7 +106,9 @@ fn go_on(b: &mut Build, word: BodyWord, at: u16) -> Result<(), Cause>
     requires limit { b.old.limit ≤ GREATEST_LIMIT }
     requires controls { length b.old.runtime.items ≡ 256 }
     requires inside { token word ≢ SEMI }
-    ensures taken { (o : Outer) (t : Body) (h : Half) → Drafts (slice_index b.old.runtime.items) at o t h b.old.draft → open_depth o t ≤ 64 → TakenSo b.old.limit (slice_index b.old.runtime.items) at o t h (token word.entry) result b.new }
+    ensures taken { (o : Outer) (t : Body) (h : Half) → Drafts (slice_index b.old.runtime.items) at o t h b.old.draft →
+        open_depth o t ≤ 64 → TakenSo b.old.limit (slice_index b.old.runtime.items) at o t h
+        (token word.entry) result b.new }
     ensures kept { IsSame b.old b.new }
 {
     let draft = mem::replace(&mut b.draft, Draft::new(b.alloc));
@@ -125,7 +128,9 @@ fn exit_of(runtime: &[u16]) -> u16
 fn end_body(b: &mut Build, p: &Title, at: u16) -> Result<(), Cause>
     requires somewhere { Somewhere b.old p.now }
     requires short { length p.now.name.items < 32 }
-    ensures { (t : Items) (ws : List Place) (before : List Token) (q : Place) → IsTitle p.now.screen p.now.name.items q → IsState b.old.limit b.old t ws (Inside q before) → at ≡ body_at t q → EndsSo b.old.limit t q before result b.new }
+    ensures { (t : Items) (ws : List Place) (before : List Token) (q : Place) →
+        IsTitle p.now.screen p.now.name.items q → IsState b.old.limit b.old t ws (Inside q before) → at ≡ body_at t q →
+        EndsSo b.old.limit t q before result b.new }
 {
     let exit = exit_of(b.runtime.as_slice());
     let draft = mem::replace(&mut b.draft, Draft::new(b.alloc));
@@ -138,7 +143,9 @@ fn end_body(b: &mut Build, p: &Title, at: u16) -> Result<(), Cause>
 pub fn take_body(b: &mut Build, p: Title, w: Spot) -> Result<Begun, Cause>
     requires somewhere { Somewhere b.old p }
     requires short { length p.name.items < 32 }
-    ensures { (t : Items) (ws after : List Place) (before : List Token) (q : Place) → IsTitle p.screen p.name.items q → IsState b.old.limit b.old t ws (Inside q before) → Taken b.old.limit t ws (Inside q before) (place w.entry) after result b.new }
+    ensures { (t : Items) (ws after : List Place) (before : List Token) (q : Place) → IsTitle p.screen p.name.items q →
+        IsState b.old.limit b.old t ws (Inside q before) →
+        Taken b.old.limit t ws (Inside q before) (place w.entry) after result b.new }
 {
     let at = here(b) + 7 + p.name.len() as u16;
     let word = meaning_of(b, w)?;

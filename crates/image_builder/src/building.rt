@@ -42,8 +42,10 @@ fn is_whole(begun: &Begun) -> bool
 /// What comes of a source that was read to its end: the image's bytes and the entry.
 fn end(alloc: Global, b: &Build, begun: &Begun, last: u16) -> Result<(Vec<u8>, u16), BuildFault>
     requires { Building b.now }
-    ensures built { (limit : ℕ) (source : List Place) → IsRead limit b.now begun.now source → IfOk result (λ r. IsBuilt limit source r.0.items r.1) }
-    ensures refused { (limit : ℕ) (source : List Place) → IsRead limit b.now begun.now source → IfErr result (λ f. IsFault limit source last f.screen f.offset f.cause) }
+    ensures built { (limit : ℕ) (source : List Place) → IsRead limit b.now begun.now source →
+        IfOk result (λ r. IsBuilt limit source r.0.items r.1) }
+    ensures refused { (limit : ℕ) (source : List Place) → IsRead limit b.now begun.now source →
+        IfErr result (λ f. IsFault limit source last f.screen f.offset f.cause) }
     ensures kind { IfErr result (λ f. (f.cause ≡ c.EndsInside) ⊎ (f.cause ≡ c.NoBoot) ⊎ (f.cause ≡ c.OutOfMemory)) }
     ensures size { IfOk result (λ r. (256 ≤ vec_len r.0) × (vec_len r.0 ≤ b.now.limit)) }
 {
@@ -89,8 +91,12 @@ pub fn build<D: Device>(
     count: u16,
 ) -> Result<Image, BuildFault>
     requires { IsCount count }
-    ensures built { (d : Disk) → D.disk device.old ≡ Some d → IfOk result (λ i. IsBuiltOf count d from to i (done_of (D.disk device.new) (D.calls device.old) (D.calls device.new))) }
-    ensures refused { (d : Disk) → D.disk device.old ≡ Some d → IfErr result (λ e. IsRefused (limit_of count) d from to e (done_of (D.disk device.new) (D.calls device.old) (D.calls device.new))) }
+    ensures built { (d : Disk) → D.disk device.old ≡ Some d →
+        IfOk result
+        (λ i. IsBuiltOf count d from to i (done_of (D.disk device.new) (D.calls device.old) (D.calls device.new))) }
+    ensures refused { (d : Disk) → D.disk device.old ≡ Some d →
+        IfErr result (λ e. IsRefused (limit_of count) d from to e
+        (done_of (D.disk device.new) (D.calls device.old) (D.calls device.new))) }
 {
     let mut compilation = match begin(alloc, limit_of(count)) {
         Ok(compilation) => compilation,

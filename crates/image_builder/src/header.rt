@@ -24,7 +24,8 @@ fn lay_head(
     code: u16,
 ) -> Result<(), Cause>
     requires { length name.now < 32 }
-    ensures bytes { (p : Place) → IsTitle screen name.now p → OnOk result (image.new.items ≡ image.old.items ++ head link p false code) }
+    ensures bytes { (p : Place) → IsTitle screen name.now p →
+        OnOk result (image.new.items ≡ image.old.items ++ head link p false code) }
     ensures memory { IfErr result (λ e. e ≡ OutOfMemory) }
 {
     lay_cell(image, screen)?;
@@ -67,7 +68,8 @@ pub fn make_header(
 ) -> Result<(), Cause>
     requires building { Building b.old }
     requires short { length name.now < 32 }
-    ensures headed { (limit : ℕ) (t : Items) (p : Place) → IsTitle screen name.now p → Built limit b.old t → AreSound limit t → OnOk result (Headed limit b.new t p sign code) }
+    ensures headed { (limit : ℕ) (t : Items) (p : Place) → IsTitle screen name.now p → Built limit b.old t →
+        AreSound limit t → OnOk result (Headed limit b.new t p sign code) }
     ensures kept { OnOk result (b.new.draft ≡ b.old.draft) }
     ensures memory { IfErr result (λ e. e ≡ OutOfMemory) }
 {

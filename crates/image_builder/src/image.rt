@@ -43,7 +43,8 @@ fn newest_link_of(names: &[Named]) -> u16
 /// Lays the cells of the system.
 fn lay_system(bytes: &mut Vec<u8>, b: &Build) -> Result<(), Cause>
     requires { Building b.now }
-    ensures bytes { (limit : ℕ) (t : Items) → Built limit b.now t → OnOk result (bytes.new.items ≡ bytes.old.items ++ low (system t) 0 32) }
+    ensures bytes { (limit : ℕ) (t : Items) → Built limit b.now t →
+        OnOk result (bytes.new.items ≡ bytes.old.items ++ low (system t) 0 32) }
     ensures memory { IfErr result (λ e. e ≡ OutOfMemory) }
 {
     let names = b.names.as_slice();
@@ -66,7 +67,8 @@ fn lay_system(bytes: &mut Vec<u8>, b: &Build) -> Result<(), Cause>
 /// Lays the compilation addresses of the controls.
 fn lay_controls(bytes: &mut Vec<u8>, b: &Build) -> Result<(), Cause>
     requires { Building b.now }
-    ensures bytes { (limit : ℕ) (t : Items) → Built limit b.now t → OnOk result (bytes.new.items ≡ bytes.old.items ++ low (λ a. controls t (a / 2)) 0 32) }
+    ensures bytes { (limit : ℕ) (t : Items) → Built limit b.now t →
+        OnOk result (bytes.new.items ≡ bytes.old.items ++ low (λ a. controls t (a / 2)) 0 32) }
     ensures memory { IfErr result (λ e. e ≡ OutOfMemory) }
 {
     lay_cells(bytes, &b.runtime[..32])?;

@@ -19,27 +19,34 @@ ghost use Rattle.image_builder.specs.declared.cause.Cause.TheVariants.{OutOfMemo
 
 /// A good source has no fault.
 pub fn good_has_no_fault()
-    ensures { (limit : ℕ) (source : List Place) (u : Items) (entry : ℕ) → IsGood limit source u entry → HasNoFault limit source }
+    ensures { (limit : ℕ) (source : List Place) (u : Items) (entry : ℕ) → IsGood limit source u entry →
+        HasNoFault limit source }
 {}
 
 /// A source has one first fault at most; want of memory aside.
 pub fn one_fault()
-    ensures { (limit : ℕ) (source : List Place) (last p q o n : ℕ) (a b : Cause) → IsFault limit source last p o a → IsFault limit source last q n b → IsSameFault p o a q n b }
+    ensures { (limit : ℕ) (source : List Place) (last p q o n : ℕ) (a b : Cause) → IsFault limit source last p o a →
+        IsFault limit source last q n b → IsSameFault p o a q n b }
 {}
 
 /// A good source is the words of one list of items, and has one entry; so there is one image of it.
 pub fn one_image()
-    ensures items { (limit : ℕ) (source : List Place) (t u : Items) (e f : ℕ) → IsGood limit source t e → IsGood limit source u f → (t ≡ u) × (e ≡ f) }
-    ensures image { (count : ℕ) (d : Disk) (from to : ℕ) (a b : Contents) (x y : Done) → IsBuiltOf count d from to a x → IsBuiltOf count d from to b y → a ≡ b }
+    ensures items { (limit : ℕ) (source : List Place) (t u : Items) (e f : ℕ) → IsGood limit source t e →
+        IsGood limit source u f → (t ≡ u) × (e ≡ f) }
+    ensures image { (count : ℕ) (d : Disk) (from to : ℕ) (a b : Contents) (x y : Done) →
+        IsBuiltOf count d from to a x → IsBuiltOf count d from to b y → a ≡ b }
 {}
 
 /// A refusal of a source whose screens are all there, and of which none fails, is the source's first fault; so a good
 /// source is refused only for want of memory. A word that is at fault however the source goes on behind the screens that
 /// were read is the first fault of the whole source.
 pub fn refusal_law()
-    ensures first { (limit : ℕ) (d : Disk) (from to : ℕ) (e : BuildFault) → IsOwnRefusal limit d from to e → IsFirstFault limit d from to e }
-    ensures good { (limit : ℕ) (d : Disk) (from to : ℕ) (e : BuildFault) → AreGood limit d from to → IsOwnRefusal limit d from to e → e.cause ≡ OutOfMemory }
-    ensures whole { (limit : ℕ) (d : Disk) (from to k : ℕ) (e : BuildFault) → k ≤ to + 1 - from → IsDecided limit d from to k e → IsFirstFault limit d from to e }
+    ensures first { (limit : ℕ) (d : Disk) (from to : ℕ) (e : BuildFault) → IsOwnRefusal limit d from to e →
+        IsFirstFault limit d from to e }
+    ensures good { (limit : ℕ) (d : Disk) (from to : ℕ) (e : BuildFault) → AreGood limit d from to →
+        IsOwnRefusal limit d from to e → e.cause ≡ OutOfMemory }
+    ensures whole { (limit : ℕ) (d : Disk) (from to k : ℕ) (e : BuildFault) → k ≤ to + 1 - from →
+        IsDecided limit d from to k e → IsFirstFault limit d from to e }
 {}
 
 /// An image is as long as the sizes of its items, behind the 256 bytes of the system's cells.
@@ -58,27 +65,34 @@ pub fn cells_law()
 /// In an image's memory the chain of each class of a vocabulary is exactly the names of that vocabulary and class, newest
 /// first.
 pub fn chain_law()
-    ensures { (t : Items) (voc class : ℕ) → MakeImage t → IsVocabulary t voc → class < 4 → chain_of (memory_of t) voc class ≡ links_of voc class (names t) }
+    ensures { (t : Items) (voc class : ℕ) → MakeImage t → IsVocabulary t voc → class < 4 →
+        chain_of (memory_of t) voc class ≡ links_of voc class (names t) }
 {}
 
 /// The header of each item that makes one stands where the items before it end. Its view cell is the screen of the name, its
 /// link the newest earlier name of its vocabulary and class, 0 where there is none; and it isn't hidden.
 pub fn header_law()
-    ensures { (t before : Items) (p : Place) → MakeImage t → IsTitled t before p → Says (memory_of t) (end_of before + 2) p.screen (link_of before p) p.name }
+    ensures { (t before : Items) (p : Place) → MakeImage t → IsTitled t before p →
+        Says (memory_of t) (end_of before + 2) p.screen (link_of before p) p.name }
 {}
 
 /// A search of an image's memory comes to the newest name of a vocabulary that is spelled so, and to none where there is
 /// none: in one vocabulary alone, and the machine's own, in the last current vocabulary and then in FORTH. So each header
 /// is found by its name unless a later one of its vocabulary has it.
 pub fn search_law()
-    ensures alone { (t : Items) (voc : ℕ) (name : List ℕ) → MakeImage t → IsVocabulary t voc → sought_in (memory_of t) voc name ≡ sought_name (within voc name (names t)) }
-    ensures machine { (t : Items) (name : List ℕ) → MakeImage t → 0 < length name → sought (memory_of t) name ≡ sought_name (found (current t) name (names t)) }
-    ensures each { (t : Items) (n : Name) → MakeImage t → IsLatest n (names t) → sought_in (memory_of t) n.vocabulary n.name ≡ Found n.link }
+    ensures alone { (t : Items) (voc : ℕ) (name : List ℕ) → MakeImage t → IsVocabulary t voc →
+        sought_in (memory_of t) voc name ≡ sought_name (within voc name (names t)) }
+    ensures machine { (t : Items) (name : List ℕ) → MakeImage t → 0 < length name →
+        sought (memory_of t) name ≡ sought_name (found (current t) name (names t)) }
+    ensures each { (t : Items) (n : Name) → MakeImage t → IsLatest n (names t) →
+        sought_in (memory_of t) n.vocabulary n.name ≡ Found n.link }
 {}
 
 /// What the machine's search finds in an image's memory has the screen of its name in its view cell, that is of the newest
 /// item spelled so in the last current vocabulary, else in FORTH; where no item is, nothing is found.
 pub fn view_law()
-    ensures there { (t : Items) (name : List ℕ) (p : Place) → MakeImage t → 0 < length name → titled name t ≡ Some p → HasView (memory_of t) name p.screen }
-    ensures nowhere { (t : Items) (name : List ℕ) → MakeImage t → 0 < length name → titled name t ≡ None → sought (memory_of t) name ≡ Nowhere }
+    ensures there { (t : Items) (name : List ℕ) (p : Place) → MakeImage t → 0 < length name → titled name t ≡ Some p →
+        HasView (memory_of t) name p.screen }
+    ensures nowhere { (t : Items) (name : List ℕ) → MakeImage t → 0 < length name → titled name t ≡ None →
+        sought (memory_of t) name ≡ Nowhere }
 {}

@@ -23,7 +23,8 @@ use colon_bodies::lay_cell;
 pub fn make_create(b: &mut Build, p: Spot) -> Result<(), Cause>
     requires building { Building b.old }
     requires short { length p.name.now < 32 }
-    ensures built { (limit : ℕ) (t : Items) (ws : List Place) → Built limit b.old t → AreSound limit t → OnOk result (Built limit b.new (Then t ws (Header (place p.entry) k.Create))) }
+    ensures built { (limit : ℕ) (t : Items) (ws : List Place) → Built limit b.old t → AreSound limit t →
+        OnOk result (Built limit b.new (Then t ws (Header (place p.entry) k.Create))) }
     ensures kept { OnOk result (b.new.draft ≡ b.old.draft) }
     ensures memory { IfErr result (λ e. e ≡ OutOfMemory) }
 {
@@ -35,7 +36,8 @@ pub fn make_create(b: &mut Build, p: Spot) -> Result<(), Cause>
 pub fn make_variable(b: &mut Build, p: Spot) -> Result<(), Cause>
     requires building { Building b.old }
     requires short { length p.name.now < 32 }
-    ensures built { (limit : ℕ) (t : Items) (ws : List Place) → Built limit b.old t → AreSound limit t → OnOk result (Built limit b.new (Then t ws (Header (place p.entry) k.Variable))) }
+    ensures built { (limit : ℕ) (t : Items) (ws : List Place) → Built limit b.old t → AreSound limit t →
+        OnOk result (Built limit b.new (Then t ws (Header (place p.entry) k.Variable))) }
     ensures kept { OnOk result (b.new.draft ≡ b.old.draft) }
     ensures memory { IfErr result (λ e. e ≡ OutOfMemory) }
 {
@@ -48,7 +50,8 @@ pub fn make_variable(b: &mut Build, p: Spot) -> Result<(), Cause>
 pub fn make_constant(b: &mut Build, p: Spot, n: u16) -> Result<(), Cause>
     requires building { Building b.old }
     requires short { length p.name.now < 32 }
-    ensures built { (limit : ℕ) (t : Items) (ws : List Place) → Built limit b.old t → AreSound limit t → OnOk result (Built limit b.new (Then t ws (Header (place p.entry) (k.Constant n)))) }
+    ensures built { (limit : ℕ) (t : Items) (ws : List Place) → Built limit b.old t → AreSound limit t →
+        OnOk result (Built limit b.new (Then t ws (Header (place p.entry) (k.Constant n)))) }
     ensures kept { OnOk result (b.new.draft ≡ b.old.draft) }
     ensures memory { IfErr result (λ e. e ≡ OutOfMemory) }
 {
@@ -62,7 +65,8 @@ pub fn make_primitive(b: &mut Build, p: Spot, n: u16) -> Result<(), Cause>
     requires building { Building b.old }
     requires short { length p.name.now < 32 }
     requires number { n < 256 }
-    ensures built { (limit : ℕ) (t : Items) (ws : List Place) → Built limit b.old t → AreSound limit t → OnOk result (Built limit b.new (Then t ws (Header (place p.entry) (k.Primitive n)))) }
+    ensures built { (limit : ℕ) (t : Items) (ws : List Place) → Built limit b.old t → AreSound limit t →
+        OnOk result (Built limit b.new (Then t ws (Header (place p.entry) (k.Primitive n)))) }
     ensures kept { OnOk result (b.new.draft ≡ b.old.draft) }
     ensures memory { IfErr result (λ e. e ≡ OutOfMemory) }
 {
@@ -86,7 +90,8 @@ pub fn lay_record(image: &mut Vec<u8>, older: u16) -> Result<(), Cause>
 pub fn make_vocabulary(b: &mut Build, p: Spot) -> Result<(), Cause>
     requires building { Building b.old }
     requires short { length p.name.now < 32 }
-    ensures built { (limit : ℕ) (t : Items) (ws : List Place) → Built limit b.old t → AreSound limit t → OnOk result (Built limit b.new (Then t ws (Header (place p.entry) k.Vocabulary))) }
+    ensures built { (limit : ℕ) (t : Items) (ws : List Place) → Built limit b.old t → AreSound limit t →
+        OnOk result (Built limit b.new (Then t ws (Header (place p.entry) k.Vocabulary))) }
     ensures kept { OnOk result (b.new.draft ≡ b.old.draft) }
     ensures memory { IfErr result (λ e. e ≡ OutOfMemory) }
 {
@@ -99,7 +104,8 @@ pub fn make_vocabulary(b: &mut Build, p: Spot) -> Result<(), Cause>
 
 /// `,` lays a cell.
 pub fn comma(b: &mut Build, n: u16) -> Result<(), Cause>
-    ensures built { (limit : ℕ) (t : Items) (ws : List Place) → Built limit b.old t → OnOk result (Built limit b.new (Then t ws (Cell n))) }
+    ensures built { (limit : ℕ) (t : Items) (ws : List Place) → Built limit b.old t →
+        OnOk result (Built limit b.new (Then t ws (Cell n))) }
     ensures kept { OnOk result (b.new.draft ≡ b.old.draft) }
     ensures memory { IfErr result (λ e. e ≡ OutOfMemory) }
 {
@@ -109,7 +115,8 @@ pub fn comma(b: &mut Build, n: u16) -> Result<(), Cause>
 
 /// `C,` lays the low byte.
 pub fn char_comma(b: &mut Build, n: u16) -> Result<(), Cause>
-    ensures built { (limit : ℕ) (t : Items) (ws : List Place) → Built limit b.old t → OnOk result (Built limit b.new (Then t ws (Byte n))) }
+    ensures built { (limit : ℕ) (t : Items) (ws : List Place) → Built limit b.old t →
+        OnOk result (Built limit b.new (Then t ws (Byte n))) }
     ensures kept { OnOk result (b.new.draft ≡ b.old.draft) }
     ensures memory { IfErr result (λ e. e ≡ OutOfMemory) }
 {
@@ -130,7 +137,8 @@ pub fn lay_zeros(image: &mut Vec<u8>, n: u16) -> Result<(), Cause>
 
 /// ALLOT lays zero bytes.
 pub fn allot(b: &mut Build, n: u16) -> Result<(), Cause>
-    ensures built { (limit : ℕ) (t : Items) (ws : List Place) → Built limit b.old t → OnOk result (Built limit b.new (Then t ws (Allot n))) }
+    ensures built { (limit : ℕ) (t : Items) (ws : List Place) → Built limit b.old t →
+        OnOk result (Built limit b.new (Then t ws (Allot n))) }
     ensures kept { OnOk result (b.new.draft ≡ b.old.draft) }
     ensures memory { IfErr result (λ e. e ≡ OutOfMemory) }
 {
@@ -140,7 +148,8 @@ pub fn allot(b: &mut Build, n: u16) -> Result<(), Cause>
 
 /// DEFINITIONS sends later headers to a vocabulary.
 pub fn set_definitions(b: &mut Build, vocabulary: u16)
-    ensures built { (limit : ℕ) (t : Items) (ws : List Place) → Built limit b.old t → Built limit b.new (Then t ws (Definitions vocabulary)) }
+    ensures built { (limit : ℕ) (t : Items) (ws : List Place) → Built limit b.old t →
+        Built limit b.new (Then t ws (Definitions vocabulary)) }
     ensures kept { b.new.draft ≡ b.old.draft }
 {
     b.current = vocabulary;
@@ -148,7 +157,8 @@ pub fn set_definitions(b: &mut Build, vocabulary: u16)
 
 /// BOOT sets the entry.
 pub fn set_boot(b: &mut Build, w: u16)
-    ensures built { (limit : ℕ) (t : Items) (ws : List Place) → Built limit b.old t → Built limit b.new (Then t ws (Boot w)) }
+    ensures built { (limit : ℕ) (t : Items) (ws : List Place) → Built limit b.old t →
+        Built limit b.new (Then t ws (Boot w)) }
     ensures kept { b.new.draft ≡ b.old.draft }
 {
     b.boot = Some(w);
@@ -175,7 +185,8 @@ fn mark_newest(names: &mut Vec<Named>)
 pub fn set_immediate(b: &mut Build)
     requires building { Building b.old }
     requires named { 0 < length b.old.names.items }
-    ensures built { (limit : ℕ) (t : Items) (ws : List Place) → Built limit b.old t → Built limit b.new (Then t ws Immediate) }
+    ensures built { (limit : ℕ) (t : Items) (ws : List Place) → Built limit b.old t →
+        Built limit b.new (Then t ws Immediate) }
     ensures kept { b.new.draft ≡ b.old.draft }
 {
     let e = newest(b.names.as_slice());
@@ -187,7 +198,10 @@ pub fn set_immediate(b: &mut Build)
 pub fn make_colon(b: &mut Build, p: &Title, bytes: &[u8]) -> Result<(), Cause>
     requires building { Building b.old }
     requires short { length p.now.name.items < 32 }
-    ensures built { (limit : ℕ) (t : Items) (ws : List Place) (body : Definition) (q : Place) → IsTitle p.now.screen p.now.name.items q → Built limit b.old t → AreSound limit t → bytes.now ≡ thread (controls t) body (end_of t + head_size q) → OnOk result (Built limit b.new (Then t ws (Colon q body))) }
+    ensures built { (limit : ℕ) (t : Items) (ws : List Place) (body : Definition) (q : Place) →
+        IsTitle p.now.screen p.now.name.items q → Built limit b.old t → AreSound limit t →
+        bytes.now ≡ thread (controls t) body (end_of t + head_size q) →
+        OnOk result (Built limit b.new (Then t ws (Colon q body))) }
     ensures kept { OnOk result (b.new.draft ≡ b.old.draft) }
     ensures memory { IfErr result (λ e. e ≡ OutOfMemory) }
 {

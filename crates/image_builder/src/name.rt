@@ -28,7 +28,8 @@ fn make(b: &mut Build, kind: Kind, p: Spot) -> Result<(), Cause>
     requires building { Building b.old }
     requires short { length p.name.now < 32 }
     requires number { IsByte kind }
-    ensures built { (t : Items) (ws : List Place) → Built b.old.limit b.old t → AreSound b.old.limit t → OnOk result (Built b.old.limit b.new (Then t ws (Header (place p.entry) kind))) }
+    ensures built { (t : Items) (ws : List Place) → Built b.old.limit b.old t → AreSound b.old.limit t →
+        OnOk result (Built b.old.limit b.new (Then t ws (Header (place p.entry) kind))) }
     ensures kept { OnOk result (b.new.draft ≡ b.old.draft) }
     ensures memory { IfErr result (λ e. e ≡ OutOfMemory) }
 {
@@ -64,7 +65,8 @@ fn is_long(name: &[u8]) -> bool
 pub fn take_made(b: &mut Build, kind: Kind, w: Spot) -> Result<Begun, Cause>
     requires building { Building b.old }
     requires number { IsByte kind }
-    ensures { (t : Items) (ws after : List Place) → IsState b.old.limit b.old t ws (Due (Makes kind)) → Taken b.old.limit t ws (Due (Makes kind)) (place w.entry) after result b.new }
+    ensures { (t : Items) (ws after : List Place) → IsState b.old.limit b.old t ws (Due (Makes kind)) →
+        Taken b.old.limit t ws (Due (Makes kind)) (place w.entry) after result b.new }
 {
     if is_long(w.name) {
         return Err(Cause::BadName);
@@ -79,7 +81,8 @@ pub fn take_made(b: &mut Build, kind: Kind, w: Spot) -> Result<Begun, Cause>
 /// The name of a definition.
 pub fn take_colon(b: &mut Build, w: Spot) -> Result<Begun, Cause>
     requires building { Building b.old }
-    ensures { (t : Items) (ws after : List Place) → IsState b.old.limit b.old t ws (Due Defines) → Taken b.old.limit t ws (Due Defines) (place w.entry) after result b.new }
+    ensures { (t : Items) (ws after : List Place) → IsState b.old.limit b.old t ws (Due Defines) →
+        Taken b.old.limit t ws (Due Defines) (place w.entry) after result b.new }
 {
     if is_long(w.name) {
         return Err(Cause::BadName);
@@ -97,7 +100,9 @@ pub fn take_colon(b: &mut Build, w: Spot) -> Result<Begun, Cause>
 /// The compilation address of a name.
 fn address_of_name(b: &Build, w: Spot) -> Option<u16>
     requires building { Building b.now }
-    ensures { (t : Items) → Built b.now.limit b.now t → MatchOption result (look t (place w.entry) ≡ None) (λ a. (n : Name) × (Some n ≡ look t (place w.entry)) × (a ≡ address n)) }
+    ensures { (t : Items) → Built b.now.limit b.now t →
+        MatchOption result (look t (place w.entry) ≡ None)
+        (λ a. (n : Name) × (Some n ≡ look t (place w.entry)) × (a ≡ address n)) }
 {
     match find_name(b.names.as_slice(), b.current, w.name) {
         Some(e) => Some(e.link + 3 + e.name.len() as u16),
@@ -108,7 +113,8 @@ fn address_of_name(b: &Build, w: Spot) -> Option<u16>
 /// The name to begin with.
 pub fn take_boot(b: &mut Build, w: Spot) -> Result<Begun, Cause>
     requires building { Building b.old }
-    ensures { (t : Items) (ws after : List Place) → IsState b.old.limit b.old t ws (Due Starts) → Taken b.old.limit t ws (Due Starts) (place w.entry) after result b.new }
+    ensures { (t : Items) (ws after : List Place) → IsState b.old.limit b.old t ws (Due Starts) →
+        Taken b.old.limit t ws (Due Starts) (place w.entry) after result b.new }
 {
     match address_of_name(b, w) {
         Some(a) => {
@@ -126,7 +132,8 @@ pub fn take_boot(b: &mut Build, w: Spot) -> Result<Begun, Cause>
 pub fn take_name(b: &mut Build, lead: Lead, w: Spot) -> Result<Begun, Cause>
     requires building { Building b.old }
     requires number { (k : Kind) → lead ≡ Makes k → IsByte k }
-    ensures { (t : Items) (ws after : List Place) → IsState b.old.limit b.old t ws (Due lead) → Taken b.old.limit t ws (Due lead) (place w.entry) after result b.new }
+    ensures { (t : Items) (ws after : List Place) → IsState b.old.limit b.old t ws (Due lead) →
+        Taken b.old.limit t ws (Due lead) (place w.entry) after result b.new }
 {
     match lead {
         Lead::Makes(kind) => take_made(b, kind, w),

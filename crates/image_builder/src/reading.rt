@@ -76,7 +76,8 @@ impl Compilation {
     /// Takes one more word.
     fn take(&mut self, word: Word<'_>) -> Result<(), BuildFault>
         requires { IsHeld self.old.build.limit self.old }
-        ensures { (limit : ℕ) (front : List SourceWord) → Holds limit self.old front → Takes limit front (source_word word.entry) result self.new }
+        ensures { (limit : ℕ) (front : List SourceWord) → Holds limit self.old front →
+            Takes limit front (source_word word.entry) result self.new }
     {
         let begun = mem::replace(&mut self.begun, Begun::Whole);
         self.begun = take(&mut self.build, begun, spot_of(word))?;
@@ -93,7 +94,8 @@ fn take_words(
 ) -> Result<Mode, Stop>
     requires short { length text.now < 65536 }
     requires held { IsHeld compilation.old.build.limit compilation.old }
-    ensures { (limit : ℕ) (front : List SourceWord) → Holds limit compilation.old front → TakesAll limit mode front (screen_words mode screen text.now) result compilation.new }
+    ensures { (limit : ℕ) (front : List SourceWord) → Holds limit compilation.old front →
+        TakesAll limit mode front (screen_words mode screen text.now) result compilation.new }
 {
     let mut scanner = Scanner::new(text, screen, mode);
     while let Some(word) = scanner.next() {
@@ -111,7 +113,10 @@ fn take_screen<D: Device>(
     mode: Mode,
 ) -> Result<Mode, Stop>
     requires { IsHeld compilation.old.build.limit compilation.old }
-    ensures taken { (d : Disk) → D.disk device.old ≡ Some d → (limit : ℕ) (front : List SourceWord) → Holds limit compilation.old front → TakesScreen limit d screen mode front result compilation.old compilation.new (done_of (D.disk device.new) (D.calls device.old) (D.calls device.new)) }
+    ensures taken { (d : Disk) → D.disk device.old ≡ Some d → (limit : ℕ) (front : List SourceWord) →
+        Holds limit compilation.old front →
+        TakesScreen limit d screen mode front result compilation.old compilation.new
+        (done_of (D.disk device.new) (D.calls device.old) (D.calls device.new)) }
     ensures held { OnOk result (IsHeld compilation.old.build.limit compilation.new) }
 {
     let count = device.count();
@@ -132,7 +137,9 @@ pub fn take_screens<D: Device>(
     to: u16,
 ) -> Result<(), Stop>
     requires { Holds compilation.old.build.limit compilation.old [] }
-    ensures taken { (d : Disk) → D.disk device.old ≡ Some d → TakesScreens compilation.old.build.limit d from to result compilation.new (done_of (D.disk device.new) (D.calls device.old) (D.calls device.new)) }
+    ensures taken { (d : Disk) → D.disk device.old ≡ Some d →
+        TakesScreens compilation.old.build.limit d from to result compilation.new
+        (done_of (D.disk device.new) (D.calls device.old) (D.calls device.new)) }
     ensures held { OnOk result (IsHeld compilation.old.build.limit compilation.new) }
 {
     let mut page = [b' '; BLOCK_SIZE];

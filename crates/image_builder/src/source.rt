@@ -103,7 +103,8 @@ fn at(w: Spot, taken: Result<Begun, Cause>) -> Result<Begun, BuildFault>
 /// A word behind a number.
 fn take_number(b: &mut Build, n: u16, a: Site, w: Spot) -> Result<Begun, BuildFault>
     requires building { Building b.old }
-    ensures { (t : Items) (ws after : List Place) → IsState b.old.limit b.old t ws (Counted n) → IsAtSite a ws → TakenAt b.old.limit t ws (Counted n) (place w.entry) after result b.new }
+    ensures { (t : Items) (ws after : List Place) → IsState b.old.limit b.old t ws (Counted n) → IsAtSite a ws →
+        TakenAt b.old.limit t ws (Counted n) (place w.entry) after result b.new }
 {
     match fault_of_number(b, n, w.sort) {
         Some(cause) => Err(BuildFault {
@@ -118,7 +119,8 @@ fn take_number(b: &mut Build, n: u16, a: Site, w: Spot) -> Result<Begun, BuildFa
 /// Takes one more word.
 pub fn take(b: &mut Build, begun: Begun, w: Spot) -> Result<Begun, BuildFault>
     requires { IsBegun b.old begun }
-    ensures { (t : Items) (ws after : List Place) (stage : Stage) → Shows begun ws stage → IsState b.old.limit b.old t ws stage → TakenAt b.old.limit t ws stage (place w.entry) after result b.new }
+    ensures { (t : Items) (ws after : List Place) (stage : Stage) → Shows begun ws stage →
+        IsState b.old.limit b.old t ws stage → TakenAt b.old.limit t ws stage (place w.entry) after result b.new }
 {
     match begun {
         Begun::Whole => at(w, take_item(b, w)),

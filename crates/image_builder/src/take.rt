@@ -32,7 +32,9 @@ pub fn is_over(b: &Build, more: usize) -> bool
 /// A word behind a number.
 pub fn take_counted(b: &mut Build, n: u16, w: Spot) -> Result<Begun, Cause>
     requires building { Building b.old }
-    ensures { (t : Items) (ws after : List Place) → IsState b.old.limit b.old t ws (Counted n) → (w.entry.sort ≡ s.Prim → IsPrimitive t n) → (w.entry.sort ≡ s.Allot → n < 32768) → Taken b.old.limit t ws (Counted n) (place w.entry) after result b.new }
+    ensures { (t : Items) (ws after : List Place) → IsState b.old.limit b.old t ws (Counted n) →
+        (w.entry.sort ≡ s.Prim → IsPrimitive t n) → (w.entry.sort ≡ s.Allot → n < 32768) →
+        Taken b.old.limit t ws (Counted n) (place w.entry) after result b.new }
 {
     match w.sort {
         Sort::Prim => Ok(Begun::Due(Lead::Makes(Kind::Primitive(n)))),
@@ -99,7 +101,8 @@ fn is_named(b: &Build, w: Spot) -> bool
 fn take_vocabulary(b: &Build, w: Spot) -> Result<Begun, Cause>
     requires building { Building b.now }
     requires other { w.sort ≡ s.Other }
-    ensures { (t : Items) (ws after : List Place) → IsState b.now.limit b.now t ws Whole → Taken b.now.limit t ws Whole (place w.entry) after result b.now }
+    ensures { (t : Items) (ws after : List Place) → IsState b.now.limit b.now t ws Whole →
+        Taken b.now.limit t ws Whole (place w.entry) after result b.now }
 {
     match record_of_name(b, w) {
         Some(v) => Ok(Begun::Chosen(v)),
@@ -133,7 +136,8 @@ fn site_of(w: Spot) -> Site
 /// A word where an item begins.
 pub fn take_item(b: &mut Build, w: Spot) -> Result<Begun, Cause>
     requires building { Building b.old }
-    ensures { (t : Items) (ws after : List Place) → IsState b.old.limit b.old t ws Whole → Taken b.old.limit t ws Whole (place w.entry) after result b.new }
+    ensures { (t : Items) (ws after : List Place) → IsState b.old.limit b.old t ws Whole →
+        Taken b.old.limit t ws Whole (place w.entry) after result b.new }
 {
     match w.sort {
         Sort::Number(n) => Ok(Begun::Counted(n, site_of(w))),
@@ -160,7 +164,8 @@ pub fn take_item(b: &mut Build, w: Spot) -> Result<Begun, Cause>
 
 /// A word behind a vocabulary's name.
 pub fn take_definitions(b: &mut Build, v: u16, w: Spot) -> Result<Begun, Cause>
-    ensures { (t : Items) (ws after : List Place) → IsState b.old.limit b.old t ws (Chosen v) → Taken b.old.limit t ws (Chosen v) (place w.entry) after result b.new }
+    ensures { (t : Items) (ws after : List Place) → IsState b.old.limit b.old t ws (Chosen v) →
+        Taken b.old.limit t ws (Chosen v) (place w.entry) after result b.new }
 {
     match w.sort {
         Sort::Definitions => {

@@ -23,14 +23,24 @@ fn load_and_run<R: Input, W: Output, D: Device>(
     device: &mut D,
     limit: u64,
 ) -> Result<Stop, OutOfMemory>
-    ensures whole { IfOk result (λ stop. R.failed reader.new ≡ false → W.failed writer.new ≡ false → OfImage image.now (R.unread reader.old) (D.disk device.old) (W.sent writer.old) limit (λ w. EndsFrom w (R.unread reader.new) (D.disk device.new) (W.sent writer.new) stop)) }
-    ensures output { IfOk result (λ stop. W.failed writer.old ≡ false → (stop ≡ Stop.OutputFault) ↔ (W.failed writer.new ≡ true)) }
-    ensures cut { IfOk result (λ _. W.failed writer.old ≡ false → W.failed writer.new ≡ true → OfImage image.now (R.unread reader.old) (D.disk device.old) (W.sent writer.old) limit (λ w. EndsCutFrom w (R.unread reader.new) (D.disk device.new) (W.sent writer.new))) }
-    ensures input { IfOk result (λ stop. R.failed reader.old ≡ false → R.failed reader.new ≡ true → stop ≡ Stop.InputFault) }
-    ensures faulted { IfOk result (λ _. R.failed reader.old ≡ false → R.failed reader.new ≡ true → OfImage image.now (R.unread reader.old) (D.disk device.old) (W.sent writer.old) limit (λ w. EndsFaultedFrom w (R.unread reader.new) (D.disk device.new) (W.sent writer.new))) }
-    ensures one { IfOk result (λ _. R.failed reader.old ≡ false → R.failed reader.new ≡ true → W.failed writer.new ≡ W.failed writer.old) }
+    ensures whole { IfOk result (λ stop. R.failed reader.new ≡ false → W.failed writer.new ≡ false →
+        OfImage image.now (R.unread reader.old) (D.disk device.old) (W.sent writer.old) limit
+        (λ w. EndsFrom w (R.unread reader.new) (D.disk device.new) (W.sent writer.new) stop)) }
+    ensures output { IfOk result (λ stop. W.failed writer.old ≡ false →
+        (stop ≡ Stop.OutputFault) ↔ (W.failed writer.new ≡ true)) }
+    ensures cut { IfOk result (λ _. W.failed writer.old ≡ false → W.failed writer.new ≡ true →
+        OfImage image.now (R.unread reader.old) (D.disk device.old) (W.sent writer.old) limit
+        (λ w. EndsCutFrom w (R.unread reader.new) (D.disk device.new) (W.sent writer.new))) }
+    ensures input { IfOk result (λ stop. R.failed reader.old ≡ false → R.failed reader.new ≡ true →
+        stop ≡ Stop.InputFault) }
+    ensures faulted { IfOk result (λ _. R.failed reader.old ≡ false → R.failed reader.new ≡ true →
+        OfImage image.now (R.unread reader.old) (D.disk device.old) (W.sent writer.old) limit
+        (λ w. EndsFaultedFrom w (R.unread reader.new) (D.disk device.new) (W.sent writer.new))) }
+    ensures one { IfOk result (λ _. R.failed reader.old ≡ false → R.failed reader.new ≡ true →
+        W.failed writer.new ≡ W.failed writer.old) }
     ensures told { IfOk result (λ stop. R.failed reader.new ≡ false → stop ≢ Stop.InputFault) }
-    ensures moved { IfOk result (λ stop. HasRunFrom image.now (D.block_count device.old) (D.calls device.old) (D.calls device.new) limit (R.failed reader.new) (W.failed writer.new) stop) }
+    ensures moved { IfOk result (λ stop. HasRunFrom image.now (D.block_count device.old) (D.calls device.old)
+        (D.calls device.new) limit (R.failed reader.new) (W.failed writer.new) stop) }
     ensures untraced { IfOk result (λ stop. stop ≢ Stop.TraceFault) }
     ensures reader { OnErr result (reader.new ≡ reader.old) }
     ensures writer { OnErr result (writer.new ≡ writer.old) }
@@ -53,29 +63,41 @@ pub fn run_file<R: Input, W: Output, D: Device>(
 ) -> Result<Stop, ImageFault>
     // Where no end fails, and all tell their bytes, the output, the unread bytes, the blocks and the stop are those of the
     // written rounds from the image that the file spells: its bytes in memory, zeros behind them, its entry pending.
-    ensures whole { IfOk result (λ stop. R.failed reader.new ≡ false → W.failed writer.new ≡ false → OfFile bytes.now (R.unread reader.old) (D.disk device.old) (W.sent writer.old) limit (λ w. EndsFrom w (R.unread reader.new) (D.disk device.new) (W.sent writer.new) stop)) }
+    ensures whole { IfOk result (λ stop. R.failed reader.new ≡ false → W.failed writer.new ≡ false →
+        OfFile bytes.now (R.unread reader.old) (D.disk device.old) (W.sent writer.old) limit
+        (λ w. EndsFrom w (R.unread reader.new) (D.disk device.new) (W.sent writer.new) stop)) }
 
     // It stops for the writer exactly where the writer fails, and then some first rounds were made.
-    ensures output { IfOk result (λ stop. W.failed writer.old ≡ false → (stop ≡ Stop.OutputFault) ↔ (W.failed writer.new ≡ true)) }
-    ensures cut { IfOk result (λ _. W.failed writer.old ≡ false → W.failed writer.new ≡ true → OfFile bytes.now (R.unread reader.old) (D.disk device.old) (W.sent writer.old) limit (λ w. EndsCutFrom w (R.unread reader.new) (D.disk device.new) (W.sent writer.new))) }
+    ensures output { IfOk result (λ stop. W.failed writer.old ≡ false →
+        (stop ≡ Stop.OutputFault) ↔ (W.failed writer.new ≡ true)) }
+    ensures cut { IfOk result (λ _. W.failed writer.old ≡ false → W.failed writer.new ≡ true →
+        OfFile bytes.now (R.unread reader.old) (D.disk device.old) (W.sent writer.old) limit
+        (λ w. EndsCutFrom w (R.unread reader.new) (D.disk device.new) (W.sent writer.new))) }
 
     // Where the reader fails, and only there, it stops for the reader: some first rounds were made, and then the machine was
     // told so. Both can't fail in one run.
-    ensures input { IfOk result (λ stop. R.failed reader.old ≡ false → R.failed reader.new ≡ true → stop ≡ Stop.InputFault) }
-    ensures faulted { IfOk result (λ _. R.failed reader.old ≡ false → R.failed reader.new ≡ true → OfFile bytes.now (R.unread reader.old) (D.disk device.old) (W.sent writer.old) limit (λ w. EndsFaultedFrom w (R.unread reader.new) (D.disk device.new) (W.sent writer.new))) }
-    ensures one { IfOk result (λ _. R.failed reader.old ≡ false → R.failed reader.new ≡ true → W.failed writer.new ≡ W.failed writer.old) }
+    ensures input { IfOk result (λ stop. R.failed reader.old ≡ false → R.failed reader.new ≡ true →
+        stop ≡ Stop.InputFault) }
+    ensures faulted { IfOk result (λ _. R.failed reader.old ≡ false → R.failed reader.new ≡ true →
+        OfFile bytes.now (R.unread reader.old) (D.disk device.old) (W.sent writer.old) limit
+        (λ w. EndsFaultedFrom w (R.unread reader.new) (D.disk device.new) (W.sent writer.new))) }
+    ensures one { IfOk result (λ _. R.failed reader.old ≡ false → R.failed reader.new ≡ true →
+        W.failed writer.new ≡ W.failed writer.old) }
     ensures told { IfOk result (λ stop. R.failed reader.new ≡ false → stop ≢ Stop.InputFault) }
 
     // Whatever the ends are: the machine that was loaded moved by ticks and answers alone, at most `limit` and one more; and
     // it was told of a device fault just where the very call of its device failed.
-    ensures moved { IfOk result (λ stop. (image : Contents) → IsFile bytes.now image → HasRunFrom image (D.block_count device.old) (D.calls device.old) (D.calls device.new) limit (R.failed reader.new) (W.failed writer.new) stop) }
+    ensures moved { IfOk result (λ stop. (image : Contents) → IsFile bytes.now image →
+        HasRunFrom image (D.block_count device.old) (D.calls device.old) (D.calls device.new) limit
+        (R.failed reader.new) (W.failed writer.new) stop) }
 
     // It is no traced run.
     ensures untraced { IfOk result (λ stop. stop ≢ Stop.TraceFault) }
 
     // What is run is a file, and each file is run unless memory runs out.
     ensures found { IfOk result (λ _. (image : Contents) × IsFile bytes.now image) }
-    ensures accepted { (image : Contents) → IsFile bytes.now image → IfErr result (λ fault. fault ≡ ImageFault.OutOfMemory) }
+    ensures accepted { (image : Contents) → IsFile bytes.now image →
+        IfErr result (λ fault. fault ≡ ImageFault.OutOfMemory) }
 
     // Other bytes are refused by the first field that fits no file.
     ensures truncated { IsErrOf result ImageFault.Truncated ↔ IsCutShort bytes.now }

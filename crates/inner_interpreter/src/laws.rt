@@ -20,7 +20,8 @@ pub fn end_law()
 
 /// A run has one end.
 pub fn one_end_law()
-    ensures { (w : World) (n m : ℕ) (s t : Stop) → stops (rounds n w) ≡ Some s → stops (rounds m w) ≡ Some t → rounds n w ≡ rounds m w }
+    ensures { (w : World) (n m : ℕ) (s t : Stop) → stops (rounds n w) ≡ Some s → stops (rounds m w) ≡ Some t →
+        rounds n w ≡ rounds m w }
 {}
 
 /// Where no reader fails, a run stops with `InputFault` only where the machine had halted so before.
@@ -38,11 +39,13 @@ pub fn orderly_law()
 /// A token whose code field is below the buffers asks its device, where each request is answered Ok, at most twice for
 /// each block that its row needs; BUFFER once; SAVE-BUFFERS and FLUSH once for each updated buffer.
 pub fn requests_law()
-    ensures { (s : State) (pages : List (List ℕ)) → OfNextCode s (λ code. All IsPage pages → AreAsked s pages → length pages ≤ most_requests code s.parts) }
+    ensures { (s : State) (pages : List (List ℕ)) →
+        OfNextCode s (λ code. All IsPage pages → AreAsked s pages → length pages ≤ most_requests code s.parts) }
 {}
 
 /// What a host sees of a machine is what the written moves leave: whatever calls it makes of `tick`, `answer` and
 /// `ticks`, in any order and with any answers, from a loaded image on.
 pub fn history_law()
-    ensures { (image : Contents) (block_count : ℕ) (calls : List Call) (seen : Made) → IsHistory (start image block_count) calls seen → seen ≡ made (start image block_count) (moves_made calls) }
+    ensures { (image : Contents) (block_count : ℕ) (calls : List Call) (seen : Made) →
+        IsHistory (start image block_count) calls seen → seen ≡ made (start image block_count) (moves_made calls) }
 {}

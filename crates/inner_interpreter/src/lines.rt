@@ -18,8 +18,10 @@ fn is_return(byte: u8) -> bool
 /// Takes a line of at most `n` bytes, and answers whether a return ended it.
 pub fn take_line<R: Input>(line: &mut Vec<u8>, reader: &mut R, n: u16) -> Result<bool, EndFault>
     requires { 65535 ≤ vec_capacity line.old }
-    ensures told { (typed : List ℕ) → R.unread reader.old ≡ Some typed → IfOk result (λ returned. IsLine n typed line.new.items returned (R.unread reader.new)) }
-    ensures begun { (typed : List ℕ) → R.unread reader.old ≡ Some typed → IfErr result (λ _. IsBegun n typed (R.unread reader.new)) }
+    ensures told { (typed : List ℕ) → R.unread reader.old ≡ Some typed →
+        IfOk result (λ returned. IsLine n typed line.new.items returned (R.unread reader.new)) }
+    ensures begun { (typed : List ℕ) → R.unread reader.old ≡ Some typed →
+        IfErr result (λ _. IsBegun n typed (R.unread reader.new)) }
     ensures typed { list_all is_typed line.new.items ≡ true }
     ensures fewer { IfOk result (λ returned. returned ≡ true → vec_len line.new < n) }
     ensures bound { vec_len line.new ≤ n }

@@ -18,8 +18,11 @@ use plain_rows::parts::Request;
 pub fn answer_key<R: Input>(machine: &mut Machine, reader: &mut R) -> Result<Act, EndFault>
     requires waits { asked_by machine.old.wait ≡ Some Request.Key }
     requires goes { machine.old.halt ≡ None }
-    ensures told { (typed : List ℕ) → R.unread reader.old ≡ Some typed → (disk : Disk) → IfOk result (λ act. Serves machine.old Request.Key typed disk machine.new (R.unread reader.new) (Some disk) act) }
-    ensures left { (typed : List ℕ) → R.unread reader.old ≡ Some typed → IfErr result (λ _. R.unread reader.new ≡ Some typed) }
+    ensures told { (typed : List ℕ) → R.unread reader.old ≡ Some typed → (disk : Disk) →
+        IfOk result (λ act. Serves machine.old Request.Key typed disk machine.new (R.unread reader.new)
+        (Some disk) act) }
+    ensures left { (typed : List ℕ) → R.unread reader.old ≡ Some typed →
+        IfErr result (λ _. R.unread reader.new ≡ Some typed) }
     ensures answered { (calls : List Bool) → HasAnswered machine.old machine.new calls calls }
     ensures settled { machine.new.wait ≡ None }
     ensures read { OnOk result (HasNotFailed machine.new) }
@@ -47,8 +50,11 @@ pub fn answer_line<R: Input>(
     requires waits { asked_by machine.old.wait ≡ Some (Request.Line n) }
     requires goes { machine.old.halt ≡ None }
     requires room { 65535 ≤ vec_capacity line.old }
-    ensures told { (typed : List ℕ) → R.unread reader.old ≡ Some typed → (disk : Disk) → IfOk result (λ act. Serves machine.old (Request.Line n) typed disk machine.new (R.unread reader.new) (Some disk) act) }
-    ensures begun { (typed : List ℕ) → R.unread reader.old ≡ Some typed → IfErr result (λ _. IsBegun n typed (R.unread reader.new)) }
+    ensures told { (typed : List ℕ) → R.unread reader.old ≡ Some typed → (disk : Disk) →
+        IfOk result (λ act. Serves machine.old (Request.Line n) typed disk machine.new (R.unread reader.new)
+        (Some disk) act) }
+    ensures begun { (typed : List ℕ) → R.unread reader.old ≡ Some typed →
+        IfErr result (λ _. IsBegun n typed (R.unread reader.new)) }
     ensures answered { (calls : List Bool) → HasAnswered machine.old machine.new calls calls }
     ensures settled { machine.new.wait ≡ None }
     ensures room { 65535 ≤ vec_capacity line.new }
@@ -75,7 +81,8 @@ pub fn answer_line<R: Input>(
 pub fn answer_read<D: Device>(machine: &mut Machine, device: &mut D, block: u16) -> Act
     requires waits { asked_by machine.old.wait ≡ Some (Request.Read block) }
     requires goes { machine.old.halt ≡ None }
-    ensures told { (disk : Disk) → D.disk device.old ≡ Some disk → (typed : List ℕ) → Serves machine.old (Request.Read block) typed disk machine.new (Some typed) (D.disk device.new) result }
+    ensures told { (disk : Disk) → D.disk device.old ≡ Some disk → (typed : List ℕ) →
+        Serves machine.old (Request.Read block) typed disk machine.new (Some typed) (D.disk device.new) result }
     ensures answered { HasActed machine.old machine.new (D.calls device.old) (D.calls device.new) result }
     ensures settled { machine.new.wait ≡ None }
     ensures read { HasNotFailed machine.new }
@@ -91,7 +98,8 @@ pub fn answer_read<D: Device>(machine: &mut Machine, device: &mut D, block: u16)
 pub fn answer_write<D: Device>(machine: &mut Machine, device: &mut D, block: u16) -> Act
     requires waits { asked_by machine.old.wait ≡ Some (Request.Write block) }
     requires goes { machine.old.halt ≡ None }
-    ensures told { (disk : Disk) → D.disk device.old ≡ Some disk → (typed : List ℕ) → Serves machine.old (Request.Write block) typed disk machine.new (Some typed) (D.disk device.new) result }
+    ensures told { (disk : Disk) → D.disk device.old ≡ Some disk → (typed : List ℕ) →
+        Serves machine.old (Request.Write block) typed disk machine.new (Some typed) (D.disk device.new) result }
     ensures answered { HasActed machine.old machine.new (D.calls device.old) (D.calls device.new) result }
     ensures settled { machine.new.wait ≡ None }
     ensures read { HasNotFailed machine.new }
@@ -116,13 +124,17 @@ pub fn settle<R: Input, D: Device>(
     requires waits { asked_by machine.old.wait ≡ Some request }
     requires goes { machine.old.halt ≡ None }
     requires room { 65535 ≤ vec_capacity line.old }
-    ensures told { (typed : List ℕ) → R.unread reader.old ≡ Some typed → (disk : Disk) → D.disk device.old ≡ Some disk → IfOk result (λ act. Serves machine.old request typed disk machine.new (R.unread reader.new) (D.disk device.new) act) }
+    ensures told { (typed : List ℕ) → R.unread reader.old ≡ Some typed → (disk : Disk) →
+        D.disk device.old ≡ Some disk →
+        IfOk result (λ act. Serves machine.old request typed disk machine.new (R.unread reader.new)
+        (D.disk device.new) act) }
     ensures answered { HasAnswered machine.old machine.new (D.calls device.old) (D.calls device.new) }
     ensures settled { machine.new.wait ≡ None }
     ensures room { 65535 ≤ vec_capacity line.new }
     ensures read { OnOk result (HasNotFailed machine.new) }
     ensures fault { IfErr result (λ _. Faults machine.old machine.new) }
-    ensures left { (typed : List ℕ) → R.unread reader.old ≡ Some typed → IfErr result (λ _. IsLeft (Some request) typed (R.unread reader.new)) }
+    ensures left { (typed : List ℕ) → R.unread reader.old ≡ Some typed →
+        IfErr result (λ _. IsLeft (Some request) typed (R.unread reader.new)) }
     ensures device { IfErr result (λ _. D.disk device.new ≡ D.disk device.old) }
     ensures mark { Marks (R.failed reader.old) (R.failed reader.new) result }
 {

@@ -44,8 +44,12 @@ fn make_stretch<W: Output>(
     ensures fewer { left.new < left.old }
     ensures unmet { AreUnmet extent (left.old - left.new - 1) (ticked machine.old.parts).0.parts }
     ensures read { HasNotFailed machine.new }
-    ensures ok { OnOk result (Appends (W.sent writer.old) (W.sent writer.new) (shown_bytes (stretch (left.old - left.new) machine.old).1.parts.memory (stretch (left.old - left.new) machine.old).2.shown)) }
-    ensures err { OnErr result (AppendsPart (W.sent writer.old) (W.sent writer.new) (shown_bytes (stretch (left.old - left.new) machine.old).1.parts.memory (stretch (left.old - left.new) machine.old).2.shown)) }
+    ensures ok { OnOk result (Appends (W.sent writer.old) (W.sent writer.new)
+        (shown_bytes (stretch (left.old - left.new) machine.old).1.parts.memory
+        (stretch (left.old - left.new) machine.old).2.shown)) }
+    ensures err { OnErr result (AppendsPart (W.sent writer.old) (W.sent writer.new)
+        (shown_bytes (stretch (left.old - left.new) machine.old).1.parts.memory
+        (stretch (left.old - left.new) machine.old).2.shown)) }
     ensures mark { Marks (W.failed writer.old) (W.failed writer.new) result }
 {
     let (count, act) = machine.ticks_onward(*left, extent);
@@ -68,12 +72,23 @@ fn make_answer<R: Input, W: Output, D: Device>(
     ensures settled { machine.new.wait ≡ None }
     ensures room { 65535 ≤ vec_capacity line.new }
     ensures answered { HasAnswered machine.old machine.new (D.calls device.old) (D.calls device.new) }
-    ensures ok { OnOk result ((typed : List ℕ) → R.unread reader.old ≡ Some typed → (disk : Disk) → D.disk device.old ≡ Some disk → Answered machine.old request typed disk machine.new (R.unread reader.new) (D.disk device.new) × Appends (W.sent writer.old) (W.sent writer.new) (served_move machine.old request typed disk).bytes) }
-    ensures cut { IsErrOf result Failed.Writer → (typed : List ℕ) → R.unread reader.old ≡ Some typed → (disk : Disk) → D.disk device.old ≡ Some disk → Answered machine.old request typed disk machine.new (R.unread reader.new) (D.disk device.new) × AppendsPart (W.sent writer.old) (W.sent writer.new) (served_move machine.old request typed disk).bytes }
-    ensures left { IsErrOf result Failed.Reader → (typed : List ℕ) → R.unread reader.old ≡ Some typed → IsLeft (Some request) typed (R.unread reader.new) }
-    ensures faulted { IsErrOf result Failed.Reader → Faults machine.old machine.new × (D.disk device.new ≡ D.disk device.old) × (W.sent writer.new ≡ W.sent writer.old) }
-    ensures reader { IsErrOf result Failed.Reader → (R.failed reader.new ≡ true) × (W.failed writer.new ≡ W.failed writer.old) }
-    ensures writer { IsErrOf result Failed.Writer → (W.failed writer.new ≡ true) × (R.failed reader.new ≡ R.failed reader.old) }
+    ensures ok { OnOk result ((typed : List ℕ) → R.unread reader.old ≡ Some typed → (disk : Disk) →
+        D.disk device.old ≡ Some disk → Answered machine.old request typed disk machine.new (R.unread reader.new)
+        (D.disk device.new) × Appends (W.sent writer.old) (W.sent writer.new)
+        (served_move machine.old request typed disk).bytes) }
+    ensures cut { IsErrOf result Failed.Writer → (typed : List ℕ) → R.unread reader.old ≡ Some typed → (disk : Disk) →
+        D.disk device.old ≡ Some disk → Answered machine.old request typed disk machine.new (R.unread reader.new)
+        (D.disk device.new) × AppendsPart (W.sent writer.old) (W.sent writer.new)
+        (served_move machine.old request typed disk).bytes }
+    ensures left { IsErrOf result Failed.Reader → (typed : List ℕ) → R.unread reader.old ≡ Some typed →
+        IsLeft (Some request) typed (R.unread reader.new) }
+    ensures faulted { IsErrOf result Failed.Reader →
+        Faults machine.old machine.new × (D.disk device.new ≡ D.disk device.old) ×
+        (W.sent writer.new ≡ W.sent writer.old) }
+    ensures reader { IsErrOf result Failed.Reader →
+        (R.failed reader.new ≡ true) × (W.failed writer.new ≡ W.failed writer.old) }
+    ensures writer { IsErrOf result Failed.Writer →
+        (W.failed writer.new ≡ true) × (R.failed reader.new ≡ R.failed reader.old) }
     ensures good { OnOk result ((R.failed reader.new ≡ R.failed reader.old) × (W.failed writer.new ≡ W.failed writer.old)) }
     ensures read { OnOk result (HasNotFailed machine.new) }
 {
@@ -117,11 +132,19 @@ pub fn make_rounds<R: Input, W: Output, D: Device>(
     ensures moved { HasMoved machine.old machine.new (D.calls device.old) (D.calls device.new) (left.old - left.new) }
     ensures left { left.new ≤ left.old }
     ensures read { OnOk result (HasNotFailed machine.new) }
-    ensures ok { OnOk result ((w : World) → IsAt w machine.old (R.unread reader.old) (D.disk device.old) (W.sent writer.old) left.old → Reached extent w machine.new (R.unread reader.new) (D.disk device.new) (W.sent writer.new) left.new) }
-    ensures cut { IsErrOf result Failed.Writer → (w : World) → IsAt w machine.old (R.unread reader.old) (D.disk device.old) (W.sent writer.old) left.old → ReachedCut extent w machine.new (R.unread reader.new) (D.disk device.new) (W.sent writer.new) }
-    ensures faulted { IsErrOf result Failed.Reader → (w : World) → IsAt w machine.old (R.unread reader.old) (D.disk device.old) (W.sent writer.old) left.old → IsFaulted w machine.new (R.unread reader.new) (D.disk device.new) (W.sent writer.new) }
-    ensures reader { IsErrOf result Failed.Reader → (R.failed reader.new ≡ true) × (W.failed writer.new ≡ W.failed writer.old) }
-    ensures writer { IsErrOf result Failed.Writer → (W.failed writer.new ≡ true) × (R.failed reader.new ≡ R.failed reader.old) }
+    ensures ok { OnOk result ((w : World) → IsAt w machine.old (R.unread reader.old) (D.disk device.old)
+        (W.sent writer.old) left.old → Reached extent w machine.new (R.unread reader.new) (D.disk device.new)
+        (W.sent writer.new) left.new) }
+    ensures cut { IsErrOf result Failed.Writer → (w : World) →
+        IsAt w machine.old (R.unread reader.old) (D.disk device.old) (W.sent writer.old) left.old →
+        ReachedCut extent w machine.new (R.unread reader.new) (D.disk device.new) (W.sent writer.new) }
+    ensures faulted { IsErrOf result Failed.Reader → (w : World) →
+        IsAt w machine.old (R.unread reader.old) (D.disk device.old) (W.sent writer.old) left.old →
+        IsFaulted w machine.new (R.unread reader.new) (D.disk device.new) (W.sent writer.new) }
+    ensures reader { IsErrOf result Failed.Reader →
+        (R.failed reader.new ≡ true) × (W.failed writer.new ≡ W.failed writer.old) }
+    ensures writer { IsErrOf result Failed.Writer →
+        (W.failed writer.new ≡ true) × (R.failed reader.new ≡ R.failed reader.old) }
     ensures good { OnOk result ((R.failed reader.new ≡ R.failed reader.old) × (W.failed writer.new ≡ W.failed writer.old)) }
 {
     match machine.asked() {

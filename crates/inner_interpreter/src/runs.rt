@@ -38,7 +38,8 @@ fn stop_by_cause(cause: Cause) -> Stop
 fn finish<W: Output, T: Output>(writer: &mut W, trace: &mut T, stop: Stop) -> Stop
     ensures bytes { Keeps (W.sent writer.old) (W.sent writer.new) }
     ensures lines { Keeps (T.sent trace.old) (T.sent trace.new) }
-    ensures done { Finishes result stop (W.failed writer.old) (W.failed writer.new) (T.failed trace.old) (T.failed trace.new) }
+    ensures done { Finishes result stop (W.failed writer.old) (W.failed writer.new) (T.failed trace.old)
+        (T.failed trace.new) }
 {
     if writer.flush().is_err() {
         return Stop::OutputFault;
@@ -55,8 +56,10 @@ fn send_line<N: Tracer, T: Output>(
     tracer: &N,
     trace: &mut T,
 ) -> Result<(), EndFault>
-    ensures ok { OnOk result (Appends (T.sent trace.old) (T.sent trace.new) (line_next (N.extent tracer.now) (N.line tracer.now) machine.now)) }
-    ensures err { OnErr result (AppendsPart (T.sent trace.old) (T.sent trace.new) (line_next (N.extent tracer.now) (N.line tracer.now) machine.now)) }
+    ensures ok { OnOk result (Appends (T.sent trace.old) (T.sent trace.new)
+        (line_next (N.extent tracer.now) (N.line tracer.now) machine.now)) }
+    ensures err { OnErr result (AppendsPart (T.sent trace.old) (T.sent trace.new)
+        (line_next (N.extent tracer.now) (N.line tracer.now) machine.now)) }
     ensures due { OnErr result (IsDue (N.extent tracer.now) machine.now) }
     ensures mark { Marks (T.failed trace.old) (T.failed trace.new) result }
 {
@@ -78,16 +81,30 @@ fn run_with<R: Input, W: Output, D: Device, N: Tracer, T: Output>(
     limit: u64,
 ) -> Stop
     requires room { 65535 ≤ vec_capacity line.old }
-    ensures whole { R.failed reader.new ≡ false → W.failed writer.new ≡ false → T.failed trace.new ≡ false → (w : World) → IsAt w machine.old (R.unread reader.old) (D.disk device.old) (W.sent writer.old) limit → EndsTraced (N.extent tracer.now) (N.line tracer.now) w machine.new (R.unread reader.new) (D.disk device.new) (W.sent writer.new) (T.sent trace.old) (T.sent trace.new) result }
-    ensures ended { R.failed reader.new ≡ false → W.failed writer.new ≡ false → T.failed trace.new ≡ false → stop_by machine.new.halt 0 ≡ Some result }
+    ensures whole { R.failed reader.new ≡ false → W.failed writer.new ≡ false → T.failed trace.new ≡ false →
+        (w : World) → IsAt w machine.old (R.unread reader.old) (D.disk device.old) (W.sent writer.old) limit →
+        EndsTraced (N.extent tracer.now) (N.line tracer.now) w machine.new (R.unread reader.new) (D.disk device.new)
+        (W.sent writer.new) (T.sent trace.old) (T.sent trace.new) result }
+    ensures ended { R.failed reader.new ≡ false → W.failed writer.new ≡ false → T.failed trace.new ≡ false →
+        stop_by machine.new.halt 0 ≡ Some result }
     ensures output { W.failed writer.old ≡ false → (result ≡ Stop.OutputFault) ↔ (W.failed writer.new ≡ true) }
-    ensures cut { W.failed writer.old ≡ false → W.failed writer.new ≡ true → (w : World) → IsAt w machine.old (R.unread reader.old) (D.disk device.old) (W.sent writer.old) limit → EndsCutTraced (N.extent tracer.now) (N.line tracer.now) w machine.new (R.unread reader.new) (D.disk device.new) (W.sent writer.new) (T.sent trace.old) (T.sent trace.new) }
+    ensures cut { W.failed writer.old ≡ false → W.failed writer.new ≡ true → (w : World) →
+        IsAt w machine.old (R.unread reader.old) (D.disk device.old) (W.sent writer.old) limit →
+        EndsCutTraced (N.extent tracer.now) (N.line tracer.now) w machine.new (R.unread reader.new) (D.disk device.new)
+        (W.sent writer.new) (T.sent trace.old) (T.sent trace.new) }
     ensures input { R.failed reader.old ≡ false → R.failed reader.new ≡ true → result ≡ Stop.InputFault }
-    ensures faulted { R.failed reader.old ≡ false → R.failed reader.new ≡ true → (w : World) → IsAt w machine.old (R.unread reader.old) (D.disk device.old) (W.sent writer.old) limit → EndsFaultedTraced (N.extent tracer.now) (N.line tracer.now) w machine.new (R.unread reader.new) (D.disk device.new) (W.sent writer.new) (T.sent trace.old) (T.sent trace.new) }
-    ensures one { R.failed reader.old ≡ false → R.failed reader.new ≡ true → W.failed writer.new ≡ W.failed writer.old }
+    ensures faulted { R.failed reader.old ≡ false → R.failed reader.new ≡ true → (w : World) →
+        IsAt w machine.old (R.unread reader.old) (D.disk device.old) (W.sent writer.old) limit →
+        EndsFaultedTraced (N.extent tracer.now) (N.line tracer.now) w machine.new (R.unread reader.new)
+        (D.disk device.new) (W.sent writer.new) (T.sent trace.old) (T.sent trace.new) }
+    ensures one { R.failed reader.old ≡ false → R.failed reader.new ≡ true →
+        W.failed writer.new ≡ W.failed writer.old }
     ensures told { HasNotFailed machine.old → R.failed reader.new ≡ false → result ≢ Stop.InputFault }
     ensures trace { T.failed trace.old ≡ false → (result ≡ Stop.TraceFault) ↔ (T.failed trace.new ≡ true) }
-    ensures untraced { T.failed trace.old ≡ false → T.failed trace.new ≡ true → (w : World) → IsAt w machine.old (R.unread reader.old) (D.disk device.old) (W.sent writer.old) limit → EndsUntraced (N.extent tracer.now) (N.line tracer.now) w machine.new (R.unread reader.new) (D.disk device.new) (W.sent writer.new) (T.sent trace.old) (T.sent trace.new) }
+    ensures untraced { T.failed trace.old ≡ false → T.failed trace.new ≡ true → (w : World) →
+        IsAt w machine.old (R.unread reader.old) (D.disk device.old) (W.sent writer.old) limit →
+        EndsUntraced (N.extent tracer.now) (N.line tracer.now) w machine.new (R.unread reader.new) (D.disk device.new)
+        (W.sent writer.new) (T.sent trace.old) (T.sent trace.new) }
     ensures moved { HasRun machine.old machine.new (D.calls device.old) (D.calls device.new) limit result }
 {
     let mut left = limit;
@@ -125,30 +142,50 @@ pub fn run_traced<R: Input, W: Output, D: Device, N: Tracer, T: Output>(
 ) -> Result<Stop, OutOfMemory>
     // Where no end fails, and all but the trace tell their bytes, the run ends as the written rounds do, and the trace is
     // that of these rounds.
-    ensures whole { IfOk result (λ stop. R.failed reader.new ≡ false → W.failed writer.new ≡ false → T.failed trace.new ≡ false → (w : World) → IsAt w machine.old (R.unread reader.old) (D.disk device.old) (W.sent writer.old) limit → EndsTraced (N.extent tracer.now) (N.line tracer.now) w machine.new (R.unread reader.new) (D.disk device.new) (W.sent writer.new) (T.sent trace.old) (T.sent trace.new) stop) }
+    ensures whole { IfOk result (λ stop. R.failed reader.new ≡ false → W.failed writer.new ≡ false →
+        T.failed trace.new ≡ false → (w : World) →
+        IsAt w machine.old (R.unread reader.old) (D.disk device.old) (W.sent writer.old) limit →
+        EndsTraced (N.extent tracer.now) (N.line tracer.now) w machine.new (R.unread reader.new) (D.disk device.new)
+        (W.sent writer.new) (T.sent trace.old) (T.sent trace.new) stop) }
 
     // Where no end fails, it stops for what the machine halted, and else for want of ticks.
-    ensures ended { IfOk result (λ stop. R.failed reader.new ≡ false → W.failed writer.new ≡ false → T.failed trace.new ≡ false → stop_by machine.new.halt 0 ≡ Some stop) }
+    ensures ended { IfOk result (λ stop. R.failed reader.new ≡ false → W.failed writer.new ≡ false →
+        T.failed trace.new ≡ false → stop_by machine.new.halt 0 ≡ Some stop) }
 
     // It stops for the writer exactly where the writer fails, and then some first rounds were made and traced.
-    ensures output { IfOk result (λ stop. W.failed writer.old ≡ false → (stop ≡ Stop.OutputFault) ↔ (W.failed writer.new ≡ true)) }
-    ensures cut { IfOk result (λ stop. W.failed writer.old ≡ false → W.failed writer.new ≡ true → (w : World) → IsAt w machine.old (R.unread reader.old) (D.disk device.old) (W.sent writer.old) limit → EndsCutTraced (N.extent tracer.now) (N.line tracer.now) w machine.new (R.unread reader.new) (D.disk device.new) (W.sent writer.new) (T.sent trace.old) (T.sent trace.new)) }
+    ensures output { IfOk result (λ stop. W.failed writer.old ≡ false →
+        (stop ≡ Stop.OutputFault) ↔ (W.failed writer.new ≡ true)) }
+    ensures cut { IfOk result (λ stop. W.failed writer.old ≡ false → W.failed writer.new ≡ true → (w : World) →
+        IsAt w machine.old (R.unread reader.old) (D.disk device.old) (W.sent writer.old) limit →
+        EndsCutTraced (N.extent tracer.now) (N.line tracer.now) w machine.new (R.unread reader.new) (D.disk device.new)
+        (W.sent writer.new) (T.sent trace.old) (T.sent trace.new)) }
 
     // Where the reader fails, it stops for the reader: some first rounds were made and traced, and then the machine was told
     // so. Of a machine that hadn't halted so before, it stops for the reader only there.
-    ensures input { IfOk result (λ stop. R.failed reader.old ≡ false → R.failed reader.new ≡ true → stop ≡ Stop.InputFault) }
-    ensures faulted { IfOk result (λ stop. R.failed reader.old ≡ false → R.failed reader.new ≡ true → (w : World) → IsAt w machine.old (R.unread reader.old) (D.disk device.old) (W.sent writer.old) limit → EndsFaultedTraced (N.extent tracer.now) (N.line tracer.now) w machine.new (R.unread reader.new) (D.disk device.new) (W.sent writer.new) (T.sent trace.old) (T.sent trace.new)) }
-    ensures one { IfOk result (λ stop. R.failed reader.old ≡ false → R.failed reader.new ≡ true → W.failed writer.new ≡ W.failed writer.old) }
-    ensures told { IfOk result (λ stop. HasNotFailed machine.old → R.failed reader.new ≡ false → stop ≢ Stop.InputFault) }
+    ensures input { IfOk result (λ stop. R.failed reader.old ≡ false → R.failed reader.new ≡ true →
+        stop ≡ Stop.InputFault) }
+    ensures faulted { IfOk result (λ stop. R.failed reader.old ≡ false → R.failed reader.new ≡ true → (w : World) →
+        IsAt w machine.old (R.unread reader.old) (D.disk device.old) (W.sent writer.old) limit →
+        EndsFaultedTraced (N.extent tracer.now) (N.line tracer.now) w machine.new (R.unread reader.new)
+        (D.disk device.new) (W.sent writer.new) (T.sent trace.old) (T.sent trace.new)) }
+    ensures one { IfOk result (λ stop. R.failed reader.old ≡ false → R.failed reader.new ≡ true →
+        W.failed writer.new ≡ W.failed writer.old) }
+    ensures told { IfOk result (λ stop. HasNotFailed machine.old → R.failed reader.new ≡ false →
+        stop ≢ Stop.InputFault) }
 
     // It stops for the trace exactly where the trace's writer fails: some first rounds were made, and the line of the tick
     // that comes next was cut.
-    ensures trace { IfOk result (λ stop. T.failed trace.old ≡ false → (stop ≡ Stop.TraceFault) ↔ (T.failed trace.new ≡ true)) }
-    ensures untraced { IfOk result (λ stop. T.failed trace.old ≡ false → T.failed trace.new ≡ true → (w : World) → IsAt w machine.old (R.unread reader.old) (D.disk device.old) (W.sent writer.old) limit → EndsUntraced (N.extent tracer.now) (N.line tracer.now) w machine.new (R.unread reader.new) (D.disk device.new) (W.sent writer.new) (T.sent trace.old) (T.sent trace.new)) }
+    ensures trace { IfOk result (λ stop. T.failed trace.old ≡ false →
+        (stop ≡ Stop.TraceFault) ↔ (T.failed trace.new ≡ true)) }
+    ensures untraced { IfOk result (λ stop. T.failed trace.old ≡ false → T.failed trace.new ≡ true → (w : World) →
+        IsAt w machine.old (R.unread reader.old) (D.disk device.old) (W.sent writer.old) limit →
+        EndsUntraced (N.extent tracer.now) (N.line tracer.now) w machine.new (R.unread reader.new) (D.disk device.new)
+        (W.sent writer.new) (T.sent trace.old) (T.sent trace.new)) }
 
     // Whatever the ends are: the machine moved by ticks and answers alone, at most `limit` and one more; and it was told
     // of a device fault just where the very call of its device failed.
-    ensures moved { IfOk result (λ stop. HasRun machine.old machine.new (D.calls device.old) (D.calls device.new) limit stop) }
+    ensures moved { IfOk result (λ stop.
+        HasRun machine.old machine.new (D.calls device.old) (D.calls device.new) limit stop) }
 
     // On want of memory nothing was done.
     ensures machine { OnErr result (machine.new ≡ machine.old) }
@@ -181,25 +218,37 @@ pub fn run<R: Input, W: Output, D: Device>(
     limit: u64,
 ) -> Result<Stop, OutOfMemory>
     // Where no end fails, and all tell their bytes, the run ends as the written rounds do.
-    ensures whole { IfOk result (λ stop. R.failed reader.new ≡ false → W.failed writer.new ≡ false → (w : World) → IsAt w machine.old (R.unread reader.old) (D.disk device.old) (W.sent writer.old) limit → Ends w machine.new (R.unread reader.new) (D.disk device.new) (W.sent writer.new) stop) }
+    ensures whole { IfOk result (λ stop. R.failed reader.new ≡ false → W.failed writer.new ≡ false → (w : World) →
+        IsAt w machine.old (R.unread reader.old) (D.disk device.old) (W.sent writer.old) limit →
+        Ends w machine.new (R.unread reader.new) (D.disk device.new) (W.sent writer.new) stop) }
 
     // Where no end fails, it stops for what the machine halted, and else for want of ticks.
-    ensures ended { IfOk result (λ stop. R.failed reader.new ≡ false → W.failed writer.new ≡ false → stop_by machine.new.halt 0 ≡ Some stop) }
+    ensures ended { IfOk result (λ stop. R.failed reader.new ≡ false → W.failed writer.new ≡ false →
+        stop_by machine.new.halt 0 ≡ Some stop) }
 
     // It stops for the writer exactly where the writer fails, and then some first rounds were made.
-    ensures output { IfOk result (λ stop. W.failed writer.old ≡ false → (stop ≡ Stop.OutputFault) ↔ (W.failed writer.new ≡ true)) }
-    ensures cut { IfOk result (λ stop. W.failed writer.old ≡ false → W.failed writer.new ≡ true → (w : World) → IsAt w machine.old (R.unread reader.old) (D.disk device.old) (W.sent writer.old) limit → EndsCut w machine.new (R.unread reader.new) (D.disk device.new) (W.sent writer.new)) }
+    ensures output { IfOk result (λ stop. W.failed writer.old ≡ false →
+        (stop ≡ Stop.OutputFault) ↔ (W.failed writer.new ≡ true)) }
+    ensures cut { IfOk result (λ stop. W.failed writer.old ≡ false → W.failed writer.new ≡ true → (w : World) →
+        IsAt w machine.old (R.unread reader.old) (D.disk device.old) (W.sent writer.old) limit →
+        EndsCut w machine.new (R.unread reader.new) (D.disk device.new) (W.sent writer.new)) }
 
     // Where the reader fails, it stops for the reader: some first rounds were made, and then the machine was told so.
     // Both can't fail in one run. Of a machine that hadn't halted so before, it stops for the reader only there.
-    ensures input { IfOk result (λ stop. R.failed reader.old ≡ false → R.failed reader.new ≡ true → stop ≡ Stop.InputFault) }
-    ensures faulted { IfOk result (λ stop. R.failed reader.old ≡ false → R.failed reader.new ≡ true → (w : World) → IsAt w machine.old (R.unread reader.old) (D.disk device.old) (W.sent writer.old) limit → EndsFaulted w machine.new (R.unread reader.new) (D.disk device.new) (W.sent writer.new)) }
-    ensures one { IfOk result (λ stop. R.failed reader.old ≡ false → R.failed reader.new ≡ true → W.failed writer.new ≡ W.failed writer.old) }
-    ensures told { IfOk result (λ stop. HasNotFailed machine.old → R.failed reader.new ≡ false → stop ≢ Stop.InputFault) }
+    ensures input { IfOk result (λ stop. R.failed reader.old ≡ false → R.failed reader.new ≡ true →
+        stop ≡ Stop.InputFault) }
+    ensures faulted { IfOk result (λ stop. R.failed reader.old ≡ false → R.failed reader.new ≡ true → (w : World) →
+        IsAt w machine.old (R.unread reader.old) (D.disk device.old) (W.sent writer.old) limit →
+        EndsFaulted w machine.new (R.unread reader.new) (D.disk device.new) (W.sent writer.new)) }
+    ensures one { IfOk result (λ stop. R.failed reader.old ≡ false → R.failed reader.new ≡ true →
+        W.failed writer.new ≡ W.failed writer.old) }
+    ensures told { IfOk result (λ stop. HasNotFailed machine.old → R.failed reader.new ≡ false →
+        stop ≢ Stop.InputFault) }
 
     // Whatever the ends are: the machine moved by ticks and answers alone, at most `limit` and one more; and it was told
     // of a device fault just where the very call of its device failed.
-    ensures moved { IfOk result (λ stop. HasRun machine.old machine.new (D.calls device.old) (D.calls device.new) limit stop) }
+    ensures moved { IfOk result (λ stop.
+        HasRun machine.old machine.new (D.calls device.old) (D.calls device.new) limit stop) }
 
     // It is no traced run.
     ensures untraced { IfOk result (λ stop. stop ≢ Stop.TraceFault) }

@@ -31,8 +31,10 @@ pub fn send_all<W: Output>(writer: &mut W, bytes: &[u8]) -> Result<(), EndFault>
 /// Sends bytes of memory.
 #[tactic(auto, using(crate::proofs::Sending::part_second, crate::proofs::Sending::part_first, crate::proofs::Sending::appends_both))]
 fn send_span<W: Output>(machine: &Machine, writer: &mut W, span: Span) -> Result<(), EndFault>
-    ensures ok { OnOk result (Appends (W.sent writer.old) (W.sent writer.new) (bytes machine.now.parts.memory span.at span.len)) }
-    ensures err { OnErr result (AppendsPart (W.sent writer.old) (W.sent writer.new) (bytes machine.now.parts.memory span.at span.len)) }
+    ensures ok { OnOk result (Appends (W.sent writer.old) (W.sent writer.new)
+        (bytes machine.now.parts.memory span.at span.len)) }
+    ensures err { OnErr result (AppendsPart (W.sent writer.old) (W.sent writer.new)
+        (bytes machine.now.parts.memory span.at span.len)) }
     ensures mark { Marks (W.failed writer.old) (W.failed writer.new) result }
 {
     let (front, back) = machine.shown(span);
@@ -46,7 +48,8 @@ fn send_span<W: Output>(machine: &Machine, writer: &mut W, span: Span) -> Result
 #[tactic(auto, using(crate::proofs::Sending::part_second, crate::proofs::Sending::part_first, crate::proofs::Sending::appends_both), unfolding(crate::specs::Moves::shown_bytes))]
 pub fn show<W: Output>(machine: &Machine, writer: &mut W, shown: Shown) -> Result<(), EndFault>
     ensures ok { OnOk result (Appends (W.sent writer.old) (W.sent writer.new) (shown_bytes machine.now.parts.memory shown)) }
-    ensures err { OnErr result (AppendsPart (W.sent writer.old) (W.sent writer.new) (shown_bytes machine.now.parts.memory shown)) }
+    ensures err { OnErr result (AppendsPart (W.sent writer.old) (W.sent writer.new)
+        (shown_bytes machine.now.parts.memory shown)) }
     ensures mark { Marks (W.failed writer.old) (W.failed writer.new) result }
 {
     match shown {

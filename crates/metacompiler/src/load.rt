@@ -71,8 +71,12 @@ fn load_screen<D: Device>(
     screen: u16,
     left: &mut u64,
 ) -> Stop
-    ensures told { (d : Disk) → D.disk device.old ≡ Some d → Runs machine.old → StopsAt (rounds left.old (entered machine.old.parts interpret screen) d) machine.new (D.disk device.new) left.new result }
-    ensures moved { Runs machine.old → IsLed (at_screen interpret screen (stage machine.old (D.calls device.old) left.old)) (stage machine.new (D.calls device.new) left.new) (Some result) }
+    ensures told { (d : Disk) → D.disk device.old ≡ Some d → Runs machine.old →
+        StopsAt (rounds left.old (entered machine.old.parts interpret screen) d) machine.new
+        (D.disk device.new) left.new result }
+    ensures moved { Runs machine.old →
+        IsLed (at_screen interpret screen (stage machine.old (D.calls device.old) left.old))
+        (stage machine.new (D.calls device.new) left.new) (Some result) }
 {
     machine.set_cell(BLK, screen);
     machine.set_cell(TO_IN, 0);
@@ -91,8 +95,11 @@ fn load_screens<D: Device>(
     to: u16,
     left: &mut u64,
 ) -> Stop
-    ensures told { (d : Disk) → D.disk device.old ≡ Some d → Runs machine.old → StopsAt (screens interpret (to + 1 - from) from left.old machine.old.parts d) machine.new (D.disk device.new) left.new result }
-    ensures moved { Runs machine.old → AreRead interpret (to + 1 - from) from (stage machine.old (D.calls device.old) left.old) (stage machine.new (D.calls device.new) left.new) result }
+    ensures told { (d : Disk) → D.disk device.old ≡ Some d → Runs machine.old →
+        StopsAt (screens interpret (to + 1 - from) from left.old machine.old.parts d) machine.new
+        (D.disk device.new) left.new result }
+    ensures moved { Runs machine.old → AreRead interpret (to + 1 - from) from
+        (stage machine.old (D.calls device.old) left.old) (stage machine.new (D.calls device.new) left.new) result }
 {
     for screen in from..=to {
         let stop = load_screen(machine, device, interpret, screen, left);
@@ -124,7 +131,10 @@ fn save(
     blk: u16,
     to_in: u16,
 ) -> Result<Image, LoadFault>
-    ensures { IsSaved (ended entry (record machine.old.parts { memory = put_cell (put_cell machine.old.parts.memory BLK blk) TO_IN to_in })) result }
+    ensures { IsSaved
+        (ended entry
+        (record machine.old.parts { memory = put_cell (put_cell machine.old.parts.memory BLK blk) TO_IN to_in }))
+        result }
 {
     machine.set_cell(BLK, blk);
     machine.set_cell(TO_IN, to_in);
@@ -150,9 +160,12 @@ pub fn load_on<D: Device>(
     to: u16,
     limit: u64,
 ) -> Result<Image, LoadFault>
-    ensures told { (d : Disk) → D.disk device.old ≡ Some d → Runs machine.old → IsLoaded (loaded_on entry machine.old.parts d from to limit) result (D.disk device.new) }
+    ensures told { (d : Disk) → D.disk device.old ≡ Some d → Runs machine.old →
+        IsLoaded (loaded_on entry machine.old.parts d from to limit) result (D.disk device.new) }
     ensures refused { IfErr (word_on machine.old from to) (λ c. (result ≡ Err c) × (device.new ≡ device.old)) }
-    ensures moved { Runs machine.old → IfOk (word_on machine.old from to) (λ word. HasRead word entry from to (stage machine.old (D.calls device.old) limit) (D.calls device.new) result) }
+    ensures moved { Runs machine.old → IfOk (word_on machine.old from to)
+        (λ word. HasRead word entry from to (stage machine.old (D.calls device.old) limit)
+        (D.calls device.new) result) }
 {
     let interpret = match interpret_in(machine) {
         Ok(interpret) => interpret,
@@ -183,13 +196,16 @@ pub fn load_by_machine<D: Device>(
     to: u16,
     limit: u64,
 ) -> Result<Image, LoadFault>
-    ensures told { (d : Disk) → D.disk device.old ≡ Some d → IsLoaded (loaded_by_machine image.now d from to limit) result (D.disk device.new) }
+    ensures told { (d : Disk) → D.disk device.old ≡ Some d →
+        IsLoaded (loaded_by_machine image.now d from to limit) result (D.disk device.new) }
     ensures compiled { (d : Disk) → D.disk device.old ≡ Some d → Compiles image.now d from to result }
 
     // Whatever the device is: where no INTERPRET is found or the first screen is 0, this is answered, and the device is as
     // it was; else the screens are read by moves of the machine, up to the first that doesn't end.
     ensures refused { IfErr (word_of image.now from to) (λ c. IsSaved (Err c) result × (device.new ≡ device.old)) }
-    ensures moved { IfOk (word_of image.now from to) (λ word. HasLoaded word image.now (D.block_count device.old) from to limit (D.calls device.old) (D.calls device.new) result) }
+    ensures moved { IfOk (word_of image.now from to)
+        (λ word. HasLoaded word image.now (D.block_count device.old) from to limit (D.calls device.old)
+        (D.calls device.new) result) }
 {
     let count = device.count();
     match Machine::load(alloc, image, count) {

@@ -75,8 +75,10 @@ fn settle<D: Device>(
 ) -> Option<Stop>
     requires waits { asked_by machine.old.wait ≡ Some request }
     requires goes { machine.old.halt ≡ None }
-    ensures told { (d : Disk) → D.disk device.old ≡ Some d → IsSettled left machine.old d request machine.new (D.disk device.new) result }
-    ensures moved { IsSettledBy request (stage machine.old (D.calls device.old) left) (stage machine.new (D.calls device.new) left) result }
+    ensures told { (d : Disk) → D.disk device.old ≡ Some d →
+        IsSettled left machine.old d request machine.new (D.disk device.new) result }
+    ensures moved { IsSettledBy request (stage machine.old (D.calls device.old) left)
+        (stage machine.new (D.calls device.new) left) result }
 {
     match request {
         Request::Read { block } => {
@@ -100,8 +102,10 @@ fn settle<D: Device>(
 /// A tick, and the answer to what it asks of the device.
 #[tactic(auto, using(crate::proofs::Making::asked_waits, crate::proofs::Making::round_asked, crate::proofs::Making::round_made))]
 fn make_round<D: Device>(machine: &mut Machine, device: &mut D, left: u64) -> Option<Stop>
-    ensures told { (d : Disk) → D.disk device.old ≡ Some d → Runs machine.old → IsRound left machine.old.parts d machine.new (D.disk device.new) result }
-    ensures moved { Runs machine.old → IsLed (stage machine.old (D.calls device.old) (left + 1)) (stage machine.new (D.calls device.new) left) result }
+    ensures told { (d : Disk) → D.disk device.old ≡ Some d → Runs machine.old →
+        IsRound left machine.old.parts d machine.new (D.disk device.new) result }
+    ensures moved { Runs machine.old → IsLed (stage machine.old (D.calls device.old) (left + 1))
+        (stage machine.new (D.calls device.new) left) result }
 {
     match machine.tick() {
         Ok(act) => match act.event {
@@ -117,8 +121,10 @@ fn make_round<D: Device>(machine: &mut Machine, device: &mut D, left: u64) -> Op
 /// Ticks up to the screen's end, with what is asked of the device between them.
 #[tactic(auto, using(crate::proofs::Making::none_so_far, crate::proofs::Making::more_so_far, crate::proofs::Making::stops_so_far, crate::proofs::Making::all_so_far))]
 pub fn make_rounds<D: Device>(machine: &mut Machine, device: &mut D, left: &mut u64) -> Stop
-    ensures told { (d : Disk) → D.disk device.old ≡ Some d → Runs machine.old → StopsAt (rounds left.old machine.old.parts d) machine.new (D.disk device.new) left.new result }
-    ensures moved { Runs machine.old → IsLed (stage machine.old (D.calls device.old) left.old) (stage machine.new (D.calls device.new) left.new) (Some result) }
+    ensures told { (d : Disk) → D.disk device.old ≡ Some d → Runs machine.old →
+        StopsAt (rounds left.old machine.old.parts d) machine.new (D.disk device.new) left.new result }
+    ensures moved { Runs machine.old → IsLed (stage machine.old (D.calls device.old) left.old)
+        (stage machine.new (D.calls device.new) left.new) (Some result) }
 {
     while *left > 0 {
         *left -= 1;

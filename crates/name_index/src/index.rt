@@ -58,7 +58,8 @@ impl NameIndex {
     pub fn floor(&self) -> u16
         ensures value { result ≡ floor_of self.now }
         ensures least { 16 ≤ result }
-        ensures holds { (limit : ℕ) (m other : List ℕ) → AgreeBelow result m other → Holds limit self.now m → Holds limit self.now other }
+        ensures holds { (limit : ℕ) (m other : List ℕ) → AgreeBelow result m other → Holds limit self.now m →
+            Holds limit self.now other }
     {
         if self.top > DICTIONARY {
             self.top
@@ -89,7 +90,8 @@ impl NameIndex {
         requires more { top_of self.old ≤ reach }
         ensures places { reach ≤ limit → self.new.places ≡ slice_set self.old.places place found }
         ensures top { reach ≤ limit → top_of self.new ≡ reach }
-        ensures holds { (m : List ℕ) → (reach < 65536 → Keeps reach m found) → Holds limit self.old m → Holds limit self.new m }
+        ensures holds { (m : List ℕ) → (reach < 65536 → Keeps reach m found) → Holds limit self.old m →
+            Holds limit self.new m }
     {
         if reach <= u32::from(limit) {
             self.places[usize::from(place)] = found;

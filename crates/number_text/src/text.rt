@@ -73,7 +73,8 @@ pub fn number(text: &[u8], base: u16) -> Option<Number>
 /// The law of numbers: a text of an optional `-`, one or more digits and an optional `.` is a number of their value,
 /// and every text is put together so from the parts that it is tested by.
 pub fn number_law()
-    ensures read { (base : ℕ) (ds : List ℕ) (minus dot : Bool) → base < 65536 → 0 < length ds → are_digits base ds ≡ true →
+    ensures read { (base : ℕ) (ds : List ℕ) (minus dot : Bool) → base < 65536 → 0 < length ds →
+        are_digits base ds ≡ true →
         IsSpelling base (spelled minus ds dot) minus ds dot }
     ensures parts { (text : List ℕ) → text ≡ spelled (is_minus text) (digit_part text) (is_double text) }
 {}

@@ -63,7 +63,8 @@ impl Parts {
     /// Writes the 1,024 bytes of the buffer in a slot, on which no search rests that the index keeps.
     pub fn set_page(&mut self, slot: usize, page: &[u8; 1024])
         requires { slot < length self.old.buffers }
-        ensures { self.new ≡ (record self.old { memory = with_page self.old.memory (address_of self.old.buffers slot) page.now }) }
+        ensures { self.new ≡ (record self.old
+            { memory = with_page self.old.memory (address_of self.old.buffers slot) page.now }) }
     {
         let at = self.buffers.address_of(slot);
         let _ = self.memory.len();

@@ -87,7 +87,8 @@ pub fn create_with(
 ) -> Outcome
     requires extra { length extra.now ≤ 2 }
     requires taken { taken ≤ length parts.old.values }
-    ensures { (parts.new, result) ≡ creates parts.old (name_word parts.old.memory stream) (name_in parts.old.memory stream) false code extra.now [] (drop taken parts.old.values) }
+    ensures { (parts.new, result) ≡ creates parts.old (name_word parts.old.memory stream)
+        (name_in parts.old.memory stream) false code extra.now [] (drop taken parts.old.values) }
 {
     let word = next_word(&parts.memory, stream, b' ');
     if word.len == 0 || word.len > 31 {

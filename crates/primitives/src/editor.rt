@@ -70,7 +70,8 @@ fn delete_in(parts: &mut Parts, slot: usize, n: u16)
 /// Wipes the screen in a slot.
 fn wipe_in(parts: &mut Parts, slot: usize)
     requires { slot < length parts.old.buffers }
-    ensures { parts.new ≡ (record parts.old { memory = with_page parts.old.memory (address_of parts.old.buffers slot) blank_screen }) }
+    ensures { parts.new ≡ (record parts.old
+        { memory = with_page parts.old.memory (address_of parts.old.buffers slot) blank_screen }) }
 {
     let at = parts.buffers.address_of(slot);
     let mut screen = *parts.memory.page(at);

@@ -66,7 +66,8 @@ pub fn sought_at(parts: &mut Parts, a: u16) -> Result<Option<u16>, ChainTooLong>
 /// The number that a word of the stream spells.
 #[tactic(auto, using(crate::proofs::Pieces::all_in_front), unfolding(input_source::specs::Words::bytes_in))]
 pub fn number_in(memory: &Memory, stream: Stream, word: Word, base: u16) -> Option<Number>
-    ensures { MatchOption result (IsNoNumber base (bytes_in memory.now stream word)) (IsNumber base (bytes_in memory.now stream word)) }
+    ensures { MatchOption result (IsNoNumber base (bytes_in memory.now stream word))
+        (IsNumber base (bytes_in memory.now stream word)) }
 {
     let (head, tail) = memory.span(stream.at.wrapping_add(word.at), word.len);
     if tail.is_empty() {

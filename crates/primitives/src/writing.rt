@@ -48,7 +48,8 @@ pub fn write_header(
 )
     requires name { length name.now ≤ 31 }
     requires size { header_size name.now extra.now ≤ 65535 }
-    ensures { parts.new ≡ (record parts.old { memory = with_header_at site parts.old.memory name.now code extra.now hidden }) }
+    ensures { parts.new ≡ (record parts.old
+        { memory = with_header_at site parts.old.memory name.now code extra.now hidden }) }
 {
     site.write(&mut parts.memory, name, code, extra, hidden);
     let size = FIXED_SIZE + name.len() as u16 + extra.len() as u16;

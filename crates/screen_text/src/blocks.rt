@@ -28,7 +28,8 @@ fn put_at(bytes: &mut [u8], start: usize, part: &[u8])
 /// Writes a screen into a block file, which grows with blanks where it must.
 fn put_screen(file: &mut Vec<u8>, number: u16, bytes: &[u8]) -> Result<(), AllocError>
     requires { length bytes.now ≡ 1024 }
-    ensures { OnOk result (file.new.items ≡ with_screen file.old.items (record { number = number; bytes = bytes.now })) }
+    ensures { OnOk result
+        (file.new.items ≡ with_screen file.old.items (record { number = number; bytes = bytes.now })) }
 {
     let start = SCREEN * usize::from(number);
     pad(file, start + SCREEN)?;
@@ -39,7 +40,9 @@ fn put_screen(file: &mut Vec<u8>, number: u16, bytes: &[u8]) -> Result<(), Alloc
 /// A block file with the screens of a text written into it.
 pub fn put_screens(file: Vec<u8>, screens: &Screens) -> Result<Vec<u8>, AllocError>
     requires { length screens.now.bytes.items ≡ 1024 * length screens.now.numbers.items }
-    ensures { IfOk result (λ written. written.items ≡ with_screens file.items (screens_of screens.now.numbers.items screens.now.bytes.items)) }
+    ensures { IfOk result
+        (λ written. written.items ≡ with_screens file.items
+        (screens_of screens.now.numbers.items screens.now.bytes.items)) }
 {
     let mut written = file;
     for (index, number) in screens.numbers.iter().enumerate() {

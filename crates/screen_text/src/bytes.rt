@@ -84,7 +84,9 @@ pub fn spread(alloc: Global, line: &[u8]) -> Result<Vec<u8>, AllocError>
 /// Adds a byte of a line, or blanks for a tab.
 #[tactic(auto, using(crate::proofs::Blanks::spread_tab, crate::proofs::Blanks::spread_other))]
 fn push_spread(plain: &mut Vec<u8>, byte: u8) -> Result<(), AllocError>
-    ensures { OnOk result ((rest : List ℕ) → plain.new.items ++ spread (length plain.new.items) rest ≡ plain.old.items ++ spread (length plain.old.items) (byte ∷ rest)) }
+    ensures { OnOk result ((rest : List ℕ) →
+        plain.new.items ++ spread (length plain.new.items) rest ≡ plain.old.items ++ spread (length plain.old.items)
+        (byte ∷ rest)) }
 {
     if byte != b'\t' {
         plain.push(byte)?;

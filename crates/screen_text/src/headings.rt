@@ -55,7 +55,9 @@ pub fn behind(line: &[u8], count: usize) -> &[u8]
 /// The number of the screen that a heading names. `None`: the line is no heading.
 #[tactic(auto, unfolding(crate::specs::Reading::is_heading))]
 pub fn named(alloc: Global, line: &[u8]) -> Result<Option<u16>, AllocError>
-    ensures { IfOk result (λ r. MatchOption r (is_heading line.now ≡ false) (λ n. (is_heading line.now ≡ true) × (n ≡ number_of (drop 9 line.now)))) }
+    ensures { IfOk result
+        (λ r. MatchOption r (is_heading line.now ≡ false)
+        (λ n. (is_heading line.now ≡ true) × (n ≡ number_of (drop 9 line.now)))) }
 {
     let number = number_of(behind(line, BEFORE_NUMBER));
     let Ok(number) = u16::try_from(number) else {

@@ -8,7 +8,8 @@ ghost use Rattle.see.specs.PlainWords.{IsAlone};
 fn is_shared(runtime: &[u16], i: usize, j: usize) -> bool
     requires controls { 28 ≤ length runtime.now }
     requires within { (i < 28) × (j < 28) }
-    ensures { IsTrue result ↔ ((slice_index runtime.now i ≢ 0) × (slice_index runtime.now i ≡ slice_index runtime.now j)) }
+    ensures { IsTrue result ↔
+        ((slice_index runtime.now i ≢ 0) × (slice_index runtime.now i ≡ slice_index runtime.now j)) }
 {
     runtime[i] != 0 && runtime[i] == runtime[j]
 }

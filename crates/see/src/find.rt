@@ -21,7 +21,9 @@ use std::alloc::{AllocError, Global};
 
 /// A word.
 fn take_call(words: &mut Vec<BodyWord>, w: u16) -> Result<bool, AllocError>
-    ensures { (at here : ℕ) (begins : List ℕ) (f g : Frames) (c d : Body) (frames : List Frame) → Seen at f c here (map token words.old.items) begins frames → step f c here (ICall w) ≡ Some (In g d) → IfOk result (λ ok. (ok ≡ true) × Seen at g d (here + 2) (map token words.new.items) begins frames) }
+    ensures { (at here : ℕ) (begins : List ℕ) (f g : Frames) (c d : Body) (frames : List Frame) →
+        Seen at f c here (map token words.old.items) begins frames → step f c here (ICall w) ≡ Some (In g d) →
+        IfOk result (λ ok. (ok ≡ true) × Seen at g d (here + 2) (map token words.new.items) begins frames) }
 {
     words.push(BodyWord::Name(w))?;
     Ok(true)
@@ -29,7 +31,9 @@ fn take_call(words: &mut Vec<BodyWord>, w: u16) -> Result<bool, AllocError>
 
 /// A number.
 fn take_number(words: &mut Vec<BodyWord>, n: u16) -> Result<bool, AllocError>
-    ensures { (at here : ℕ) (begins : List ℕ) (f g : Frames) (c d : Body) (frames : List Frame) → Seen at f c here (map token words.old.items) begins frames → step f c here (INum n) ≡ Some (In g d) → IfOk result (λ ok. (ok ≡ true) × Seen at g d (here + 4) (map token words.new.items) begins frames) }
+    ensures { (at here : ℕ) (begins : List ℕ) (f g : Frames) (c d : Body) (frames : List Frame) →
+        Seen at f c here (map token words.old.items) begins frames → step f c here (INum n) ≡ Some (In g d) →
+        IfOk result (λ ok. (ok ≡ true) × Seen at g d (here + 4) (map token words.new.items) begins frames) }
 {
     words.push(BodyWord::Number(n))?;
     Ok(true)
@@ -37,7 +41,9 @@ fn take_number(words: &mut Vec<BodyWord>, n: u16) -> Result<bool, AllocError>
 
 /// COMPILE and a word.
 fn take_pair(words: &mut Vec<BodyWord>, w: u16) -> Result<bool, AllocError>
-    ensures { (at here : ℕ) (begins : List ℕ) (f g : Frames) (c d : Body) (frames : List Frame) → Seen at f c here (map token words.old.items) begins frames → step f c here (ICompile w) ≡ Some (In g d) → IfOk result (λ ok. (ok ≡ true) × Seen at g d (here + 4) (map token words.new.items) begins frames) }
+    ensures { (at here : ℕ) (begins : List ℕ) (f g : Frames) (c d : Body) (frames : List Frame) →
+        Seen at f c here (map token words.old.items) begins frames → step f c here (ICompile w) ≡ Some (In g d) →
+        IfOk result (λ ok. (ok ≡ true) × Seen at g d (here + 4) (map token words.new.items) begins frames) }
 {
     words.push(BodyWord::Compile)?;
     words.push(BodyWord::Name(w))?;
@@ -50,7 +56,11 @@ fn take_text<'a>(
     aborts: bool,
     text: &'a [u8],
 ) -> Result<bool, AllocError>
-    ensures { (at here : ℕ) (begins : List ℕ) (f g : Frames) (c d : Body) (frames : List Frame) → Seen at f c here (map token words.old.items) begins frames → step f c here (IText aborts text.now) ≡ Some (In g d) → IfOk result (λ ok. (ok ≡ true) × Seen at g d (here + (3 + length text.now)) (map token words.new.items) begins frames) }
+    ensures { (at here : ℕ) (begins : List ℕ) (f g : Frames) (c d : Body) (frames : List Frame) →
+        Seen at f c here (map token words.old.items) begins frames →
+        step f c here (IText aborts text.now) ≡ Some (In g d) →
+        IfOk result (λ ok. (ok ≡ true) × Seen at g d (here + (3 + length text.now))
+        (map token words.new.items) begins frames) }
 {
     words.push(BodyWord::Text(aborts, text))?;
     Ok(true)
@@ -77,7 +87,10 @@ fn take<'a>(
     flat: Instruction<'a>,
 ) -> Result<bool, AllocError>
     requires { here + len (instr flat) < 2 ^ 64 }
-    ensures { (f g : Frames) (c d : Body) → Seen at f c here (map token words.old.items) begins.old frames.old.items → here < at + length begins.old → step f c here (instr flat.entry) ≡ Some (In g d) → IfOk result (λ ok. (ok ≡ true) × Seen at g d (here + len (instr flat.entry)) (map token words.new.items) begins.new frames.new.items) }
+    ensures { (f g : Frames) (c d : Body) → Seen at f c here (map token words.old.items) begins.old frames.old.items →
+        here < at + length begins.old → step f c here (instr flat.entry) ≡ Some (In g d) →
+        IfOk result (λ ok. (ok ≡ true) × Seen at g d (here + len (instr flat.entry))
+        (map token words.new.items) begins.new frames.new.items) }
 {
     match flat {
         Instruction::Call(w) => take_call(words, w),
@@ -109,7 +122,8 @@ pub fn find<'a>(
 ) -> Result<Option<Vec<BodyWord<'a>>>, AllocError>
     requires controls { 28 ≤ length runtime.now }
     requires room { at + length bytes.now < 2 ^ 32 }
-    ensures { (t : Definition) → found (slice_index runtime.now) bytes.now at ≡ Some t → IfOk result (λ o. IsSome o × IfSome o (λ ws. map token ws.items ≡ all_words t ++ SEMI ∷ [])) }
+    ensures { (t : Definition) → found (slice_index runtime.now) bytes.now at ≡ Some t →
+        IfOk result (λ o. IsSome o × IfSome o (λ ws. map token ws.items ≡ all_words t ++ SEMI ∷ [])) }
 {
     let mut words = Vec::new(alloc);
     let mut begins = no_begins(alloc, bytes.len())?;

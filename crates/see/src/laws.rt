@@ -11,13 +11,16 @@ ghost use Rattle.see.specs.Seeing.{IsAgain, IsDefined};
 /// Nothing is wrong with the words of a definition just where it is readable.
 #[tactic(auto, using(crate::proofs::Answered::readable, crate::proofs::Answered::faultless))]
 pub fn readable_law()
-    ensures readable { (m : List ℕ) (l : ℕ) (name : List ℕ) (ws : List Token) → first_fault m l name ws ≡ None → IsReadable m l name ws }
-    ensures faultless { (m : List ℕ) (l : ℕ) (name : List ℕ) (ws : List Token) → IsReadable m l name ws → first_fault m l name ws ≡ None }
+    ensures readable { (m : List ℕ) (l : ℕ) (name : List ℕ) (ws : List Token) → first_fault m l name ws ≡ None →
+        IsReadable m l name ws }
+    ensures faultless { (m : List ℕ) (l : ℕ) (name : List ℕ) (ws : List Token) → IsReadable m l name ws →
+        first_fault m l name ws ≡ None }
 {}
 
 /// The text of a readable definition, read as a source is, with the names and the runtime cells of the same memory, is a
 /// definition within a source's bounds that is laid as the word's thread. The word itself counts as hidden.
 #[tactic(auto, using(crate::proofs::Whole::read_again))]
 pub fn reading_law()
-    ensures { (m name : List ℕ) (l : ℕ) (d : Definition) → IsDefined m name l d → IsReadable m l name (its_words d) → AreCells (its_words d) → (e : Definition) × IsAgain m l name (text m l name d) e }
+    ensures { (m name : List ℕ) (l : ℕ) (d : Definition) → IsDefined m name l d → IsReadable m l name (its_words d) →
+        AreCells (its_words d) → (e : Definition) × IsAgain m l name (text m l name d) e }
 {}

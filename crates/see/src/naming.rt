@@ -64,7 +64,8 @@ pub fn is_quotable(text: &[u8]) -> bool
 /// address.
 #[tactic(auto, unfolding(crate::specs::Naming::is_meant))]
 pub fn meant(memory: &Memory, hidden: u16, name: &[u8], w: u16) -> Option<u16>
-    ensures { MatchOption result (is_meant memory.now hidden name.now w ≡ false) (λ k. (is_meant memory.now hidden name.now w ≡ true) × (sought_hiding memory.now name.now hidden ≡ Found k)) }
+    ensures { MatchOption result (is_meant memory.now hidden name.now w ≡ false)
+        (λ k. (is_meant memory.now hidden name.now w ≡ true) × (sought_hiding memory.now name.now hidden ≡ Found k)) }
 {
     match search_hiding(memory, name, hidden) {
         Ok(Some(k)) => {

@@ -34,7 +34,8 @@ pub fn no_begins(alloc: Global, places: usize) -> Result<Vec<usize>, AllocError>
 
 /// Counts one more BEGIN at `to`, in a thread that stands at `at`. False where it has no such place.
 pub fn count_begin(begins: &mut [usize], at: usize, to: usize) -> bool
-    ensures { (place : ℕ) → to ≡ at + place → place < length begins.old → slice_index begins.old place + 1 < 2 ^ 64 → (result ≡ true) × (begins.new ≡ slice_set begins.old place (slice_index begins.old place + 1)) }
+    ensures { (place : ℕ) → to ≡ at + place → place < length begins.old → slice_index begins.old place + 1 < 2 ^ 64 →
+        (result ≡ true) × (begins.new ≡ slice_set begins.old place (slice_index begins.old place + 1)) }
 {
     if to < at {
         return false;
@@ -84,7 +85,8 @@ pub fn with_begins<'a>(
     words: &[BodyWord<'a>],
     begins: &[usize],
 ) -> Result<Vec<BodyWord<'a>>, AllocError>
-    ensures { (whole : List Token) → IsSketch whole (map token words.now) begins.now → AreLed whole → IfOk result (λ ws. map token ws.items ≡ whole) }
+    ensures { (whole : List Token) → IsSketch whole (map token words.now) begins.now → AreLed whole →
+        IfOk result (λ ws. map token ws.items ≡ whole) }
 {
     let mut whole = Vec::new(alloc);
     let mut left = begins;

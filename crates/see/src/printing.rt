@@ -65,7 +65,8 @@ fn write_word(out: &mut Vec<u8>, name: &[u8]) -> Result<(), AllocError>
 /// Writes a word and its text.
 #[tactic(auto, unfolding(source_words::specs::Spaced::spaced_behind, source_words::specs::Spaced::quoted))]
 fn write_text(out: &mut Vec<u8>, name: &[u8], text: &[u8]) -> Result<(), AllocError>
-    ensures { IfOk result (λ _. out.new.items ≡ out.old.items ++ spaced_behind (record { name = name.now; text = Some text.now } ∷ [])) }
+    ensures { IfOk result
+        (λ _. out.new.items ≡ out.old.items ++ spaced_behind (record { name = name.now; text = Some text.now } ∷ [])) }
 {
     out.push(b' ')?;
     out.extend_from_slice(name)?;
@@ -96,7 +97,9 @@ fn write_called(out: &mut Vec<u8>, forced: bool, name: &[u8]) -> Result<(), Allo
 
 /// Writes a name that means the header at `k`, behind [COMPILE] where that is immediate or the name is spelled as a keyword.
 fn write_meant(out: &mut Vec<u8>, memory: &Memory, k: u16, name: &[u8]) -> Result<(), AllocError>
-    ensures { IfOk result (λ _. out.new.items ≡ out.old.items ++ spaced_behind (called (is_immediate memory.now k || is_keyword name.now) name.now)) }
+    ensures { IfOk result
+        (λ _. out.new.items ≡ out.old.items ++ spaced_behind
+        (called (is_immediate memory.now k || is_keyword name.now) name.now)) }
 {
     let forced = is_immediate(memory, k) || is_keyword(name);
     write_called(out, forced, name)

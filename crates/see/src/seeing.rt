@@ -97,7 +97,8 @@ fn see_named(alloc: Global, memory: &Memory, name: &[u8]) -> Result<Vec<u8>, See
 pub fn see(alloc: Global, memory: &Memory, name: &[u8]) -> Result<Vec<u8>, SeeRefused>
     ensures seen { IsSeen memory.now name.now result }
     ensures read { IfOk result (λ v. IsReadBack memory.now name.now v.items) }
-    ensures complete { (l : ℕ) (d : Definition) → IsDefined memory.now name.now l d → IsReadable memory.now l name.now (its_words d) → IfErr result (λ e. e ≡ OutOfMemory) }
+    ensures complete { (l : ℕ) (d : Definition) → IsDefined memory.now name.now l d →
+        IsReadable memory.now l name.now (its_words d) → IfErr result (λ e. e ≡ OutOfMemory) }
 {
     see_named(alloc, memory, name)
 }

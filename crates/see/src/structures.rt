@@ -35,7 +35,10 @@ pub fn take_query(
     to: usize,
 ) -> Result<bool, AllocError>
     requires { here + 4 < 2 ^ 64 }
-    ensures { (f g : Frames) (c d : Body) → Seen at f c here (map token words.old.items) begins.old frames.old.items → here < at + length begins.old → step f c here (IQuery to) ≡ Some (In g d) → IfOk result (λ ok. (ok ≡ true) × Seen at g d (here + 4) (map token words.new.items) begins.new frames.new.items) }
+    ensures { (f g : Frames) (c d : Body) → Seen at f c here (map token words.old.items) begins.old frames.old.items →
+        here < at + length begins.old → step f c here (IQuery to) ≡ Some (In g d) →
+        IfOk result (λ ok. (ok ≡ true) × Seen at g d (here + 4)
+        (map token words.new.items) begins.new frames.new.items) }
 {
     if here < to {
         frames.push(Frame::If(words.len(), to, here + 4))?;
@@ -51,7 +54,8 @@ pub fn take_query(
 
 /// Takes off the innermost open structure.
 fn pop_frame(frames: &mut Vec<Frame>) -> Option<Frame>
-    ensures top { (at : ℕ) (f : Frames) → frames.old.items ≡ frames_of at f → (result ≡ top_frame at f) × (frames.new.items ≡ frames_of at (beneath f)) }
+    ensures top { (at : ℕ) (f : Frames) → frames.old.items ≡ frames_of at f →
+        (result ≡ top_frame at f) × (frames.new.items ≡ frames_of at (beneath f)) }
     ensures shorter { IsSome result → length frames.new.items + 1 ≡ length frames.old.items }
     ensures some { 0 < length frames.old.items → IsSome result }
 {
@@ -66,7 +70,9 @@ fn take_else(
     to: usize,
 ) -> Result<bool, AllocError>
     requires { here + 4 < 2 ^ 64 }
-    ensures { (at : ℕ) (begins : List ℕ) (f g : Frames) (c d : Body) → Seen at f c here (map token words.old.items) begins frames.old.items → else_at f c to ≡ Some (In g d) → IfOk result (λ ok. (ok ≡ true) × Seen at g d (here + 4) (map token words.new.items) begins frames.new.items) }
+    ensures { (at : ℕ) (begins : List ℕ) (f g : Frames) (c d : Body) →
+        Seen at f c here (map token words.old.items) begins frames.old.items → else_at f c to ≡ Some (In g d) →
+        IfOk result (λ ok. (ok ≡ true) × Seen at g d (here + 4) (map token words.new.items) begins frames.new.items) }
 {
     match pop_frame(frames) {
         Some(Frame::If(_, _, _)) => {
@@ -88,7 +94,10 @@ fn take_again(
 ) -> Result<bool, AllocError>
     requires room { here + 4 < 2 ^ 64 }
     requires back { to ≤ here }
-    ensures { (f g : Frames) (c d : Body) (frames : List Frame) → Seen at f c here (map token words.old.items) begins.old frames → here < at + length begins.old → again_at f (split c (here - to)) ≡ Some (In g d) → IfOk result (λ ok. (ok ≡ true) × Seen at g d (here + 4) (map token words.new.items) begins.new frames) }
+    ensures { (f g : Frames) (c d : Body) (frames : List Frame) →
+        Seen at f c here (map token words.old.items) begins.old frames → here < at + length begins.old →
+        again_at f (split c (here - to)) ≡ Some (In g d) →
+        IfOk result (λ ok. (ok ≡ true) × Seen at g d (here + 4) (map token words.new.items) begins.new frames) }
 {
     if !count_begin(begins, at, to) {
         return Ok(false);
@@ -106,7 +115,11 @@ fn take_repeat(
     at: usize,
     to: usize,
 ) -> Result<bool, AllocError>
-    ensures { (here : ℕ) (f g : Frames) (c d : Body) → Seen at f c here (map token words.old.items) begins.old frames.old.items → here < at + length begins.old → here + 4 < 2 ^ 64 → to < start at f → repeat_at f c here to ≡ Some (In g d) → IfOk result (λ ok. (ok ≡ true) × Seen at g d (here + 4) (map token words.new.items) begins.new frames.new.items) }
+    ensures { (here : ℕ) (f g : Frames) (c d : Body) →
+        Seen at f c here (map token words.old.items) begins.old frames.old.items → here < at + length begins.old →
+        here + 4 < 2 ^ 64 → to < start at f → repeat_at f c here to ≡ Some (In g d) →
+        IfOk result (λ ok. (ok ≡ true) × Seen at g d (here + 4)
+        (map token words.new.items) begins.new frames.new.items) }
 {
     match pop_frame(frames) {
         Some(Frame::If(index, _, start)) => {
@@ -131,7 +144,9 @@ pub fn take_do(
     here: usize,
 ) -> Result<bool, AllocError>
     requires { here + 4 < 2 ^ 64 }
-    ensures { (at to : ℕ) (begins : List ℕ) (f g : Frames) (c d : Body) → Seen at f c here (map token words.old.items) begins frames.old.items → step f c here (IDo to) ≡ Some (In g d) → IfOk result (λ ok. (ok ≡ true) × Seen at g d (here + 4) (map token words.new.items) begins frames.new.items) }
+    ensures { (at to : ℕ) (begins : List ℕ) (f g : Frames) (c d : Body) →
+        Seen at f c here (map token words.old.items) begins frames.old.items → step f c here (IDo to) ≡ Some (In g d) →
+        IfOk result (λ ok. (ok ≡ true) × Seen at g d (here + 4) (map token words.new.items) begins frames.new.items) }
 {
     frames.push(Frame::Do(here + 4))?;
     words.push(BodyWord::Do)?;
@@ -144,7 +159,10 @@ pub fn take_loop(
     frames: &mut Vec<Frame>,
     plus: bool,
 ) -> Result<bool, AllocError>
-    ensures { (at here to : ℕ) (begins : List ℕ) (f g : Frames) (c d : Body) → Seen at f c here (map token words.old.items) begins frames.old.items → step f c here (ILoop plus to) ≡ Some (In g d) → IfOk result (λ ok. (ok ≡ true) × Seen at g d (here + 4) (map token words.new.items) begins frames.new.items) }
+    ensures { (at here to : ℕ) (begins : List ℕ) (f g : Frames) (c d : Body) →
+        Seen at f c here (map token words.old.items) begins frames.old.items →
+        step f c here (ILoop plus to) ≡ Some (In g d) →
+        IfOk result (λ ok. (ok ≡ true) × Seen at g d (here + 4) (map token words.new.items) begins frames.new.items) }
 {
     match pop_frame(frames) {
         Some(Frame::Do(_)) => {
@@ -162,7 +180,9 @@ pub fn take_does(
     here: usize,
 ) -> Result<bool, AllocError>
     requires { here + 2 < 2 ^ 64 }
-    ensures { (at : ℕ) (begins : List ℕ) (f g : Frames) (c d : Body) → Seen at f c here (map token words.old.items) begins frames.old.items → step f c here IDoes ≡ Some (In g d) → IfOk result (λ ok. (ok ≡ true) × Seen at g d (here + 2) (map token words.new.items) begins frames.new.items) }
+    ensures { (at : ℕ) (begins : List ℕ) (f g : Frames) (c d : Body) →
+        Seen at f c here (map token words.old.items) begins frames.old.items → step f c here IDoes ≡ Some (In g d) →
+        IfOk result (λ ok. (ok ≡ true) × Seen at g d (here + 2) (map token words.new.items) begins frames.new.items) }
 {
     frames.push(Frame::Past(here + 2))?;
     words.push(BodyWord::Does)?;
@@ -206,7 +226,10 @@ pub fn take_branch(
     to: usize,
 ) -> Result<bool, AllocError>
     requires { here + 4 < 2 ^ 64 }
-    ensures { (f g : Frames) (c d : Body) → Seen at f c here (map token words.old.items) begins.old frames.old.items → here < at + length begins.old → step f c here (IBranch to) ≡ Some (In g d) → IfOk result (λ ok. (ok ≡ true) × Seen at g d (here + 4) (map token words.new.items) begins.new frames.new.items) }
+    ensures { (f g : Frames) (c d : Body) → Seen at f c here (map token words.old.items) begins.old frames.old.items →
+        here < at + length begins.old → step f c here (IBranch to) ≡ Some (In g d) →
+        IfOk result (λ ok. (ok ≡ true) × Seen at g d (here + 4)
+        (map token words.new.items) begins.new frames.new.items) }
 {
     if here < to {
         return take_else(words, frames, here, to);
@@ -235,7 +258,9 @@ pub fn close_here(
     frames: &mut Vec<Frame>,
     here: usize,
 ) -> Result<(), AllocError>
-    ensures { (at : ℕ) (begins : List ℕ) (f g : Frames) (c d : Body) → Seen at f c here (map token words.old.items) begins frames.old.items → shut f c here ≡ In g d → OnOk result (Seen at g d here (map token words.new.items) begins frames.new.items) }
+    ensures { (at : ℕ) (begins : List ℕ) (f g : Frames) (c d : Body) →
+        Seen at f c here (map token words.old.items) begins frames.old.items → shut f c here ≡ In g d →
+        OnOk result (Seen at g d here (map token words.new.items) begins frames.new.items) }
 {
     while ends_here(frames, here) {
         let _ = pop_frame(frames);

@@ -56,8 +56,11 @@ fn makes(
 ) -> Result<bool, AllocError>
     requires room { at + length bytes.now < 2 ^ 16 }
     requires controls { 28 ≤ length runtime.now }
-    ensures yes { IfOk result (λ made. made ≡ true → Makes (slice_index runtime.now) at bytes.now (map token words.now)) }
-    ensures no { (d : Definition) → Compiles (slice_index runtime.now) at 65535 d → map token words.now ≡ all_words d ++ SEMI ∷ [] → thread (slice_index runtime.now) d at ≡ bytes.now → IfOk result (λ made. made ≡ true) }
+    ensures yes { IfOk result (λ made.
+        made ≡ true → Makes (slice_index runtime.now) at bytes.now (map token words.now)) }
+    ensures no { (d : Definition) → Compiles (slice_index runtime.now) at 65535 d →
+        map token words.now ≡ all_words d ++ SEMI ∷ [] → thread (slice_index runtime.now) d at ≡ bytes.now →
+        IfOk result (λ made. made ≡ true) }
 {
     if !fits(words, bytes.len()) {
         return Ok(false);
@@ -89,8 +92,12 @@ pub fn thread_words<'a>(
 ) -> Result<Option<Vec<BodyWord<'a>>>, AllocError>
     requires room { at + length bytes.now < 2 ^ 16 }
     requires controls { 28 ≤ length runtime.now }
-    ensures sound { IfOk result (λ o. IfSome o (λ ws. AreApart (slice_index runtime.now) × Shown (slice_index runtime.now) at bytes.now (map token ws.items))) }
-    ensures complete { OfThread (slice_index runtime.now) at bytes.now (λ d. IfOk result (λ o. IsSome o × IfSome o (λ ws. map token ws.items ≡ its_words d))) }
+    ensures sound { IfOk result
+        (λ o.
+        IfSome o (λ ws. AreApart (slice_index runtime.now) × Shown (slice_index runtime.now) at bytes.now
+        (map token ws.items))) }
+    ensures complete { OfThread (slice_index runtime.now) at bytes.now
+        (λ d. IfOk result (λ o. IsSome o × IfSome o (λ ws. map token ws.items ≡ its_words d))) }
 {
     if !are_apart(runtime) {
         return Ok(None);

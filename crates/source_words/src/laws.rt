@@ -21,9 +21,12 @@ pub fn standing_law()
 #[tactic(auto, using(crate::proofs::Places::none_at, crate::proofs::Places::blank_at, crate::proofs::Places::comment_at, crate::proofs::Places::word_at))]
 pub fn reading_law()
     ensures end { (m : Mode) (screen p : ℕ) (s : List ℕ) → length s ≤ p → words_at m screen p s ≡ [] }
-    ensures blank { (m : Mode) (screen p : ℕ) (s : List ℕ) → p < length s → slice_index s p ≡ 32 → words_at m screen p s ≡ words_at m screen (p + 1) s }
-    ensures comment { (m : Mode) (screen p : ℕ) (s : List ℕ) → IsWordAt s p → is_comment m (drop p s) ≡ true → words_at m screen p s ≡ words_at m screen (p + enclosing 41 (drop p s)) s }
-    ensures word { (m : Mode) (screen p : ℕ) (s : List ℕ) → IsWordAt s p → is_comment m (drop p s) ≡ false → words_at m screen p s ≡ word_of m screen p (drop p s) ∷ words_behind m screen p s }
+    ensures blank { (m : Mode) (screen p : ℕ) (s : List ℕ) → p < length s → slice_index s p ≡ 32 →
+        words_at m screen p s ≡ words_at m screen (p + 1) s }
+    ensures comment { (m : Mode) (screen p : ℕ) (s : List ℕ) → IsWordAt s p → is_comment m (drop p s) ≡ true →
+        words_at m screen p s ≡ words_at m screen (p + enclosing 41 (drop p s)) s }
+    ensures word { (m : Mode) (screen p : ℕ) (s : List ℕ) → IsWordAt s p → is_comment m (drop p s) ≡ false →
+        words_at m screen p s ≡ word_of m screen p (drop p s) ∷ words_behind m screen p s }
 {}
 
 /// Words that are written out with single blanks between them are read as they were.
@@ -35,17 +38,24 @@ pub fn rereading_law()
 /// A colon definition that is written out is read as it was. Its body goes in steps: a word that asks for nothing more, one
 /// that takes any name and that name, or a word with its text.
 pub fn colon_law()
-    ensures colon { (screen : ℕ) (name : List ℕ) (steps : List (List Spelling)) → IsWhole name → AreSteps steps → read_again Outside screen (colon_words name steps) ≡ colon_words name steps }
+    ensures colon { (screen : ℕ) (name : List ℕ) (steps : List (List Spelling)) → IsWhole name → AreSteps steps →
+        read_again Outside screen (colon_words name steps) ≡ colon_words name steps }
     ensures plain { (name : List ℕ) → IsWhole name → StandsAlone name → IsStep (bare name ∷ []) }
     ensures test { (name : List ℕ) → is_plain_word name ≡ true → IsStep (bare name ∷ []) }
     ensures keywords { list_all is_plain_word structure_keywords ≡ true }
-    ensures led { (lead name : List ℕ) → IsWhole lead → TakesName lead → IsWhole name → IsStep (bare lead ∷ bare name ∷ []) }
-    ensures text { (name text : List ℕ) → IsWhole name → TakesText name → All (λ b. b ≢ 34) text → IsStep (record { name = name; text = Some text } ∷ []) }
+    ensures led { (lead name : List ℕ) → IsWhole lead → TakesName lead → IsWhole name →
+        IsStep (bare lead ∷ bare name ∷ []) }
+    ensures text { (name text : List ℕ) → IsWhole name → TakesText name → All (λ b. b ≢ 34) text →
+        IsStep (record { name = name; text = Some text } ∷ []) }
 {}
 
 /// The words of screens that follow one another are those of the first, then those of the others, read as the words before
 /// them say.
 pub fn joining_law()
-    ensures screens { (m : Mode) (n : ℕ) (xs ys : List (List ℕ)) → words_of_screens m n (xs ++ ys) ≡ words_of_screens m n xs ++ words_of_screens (after_screens m n xs) (n + length xs) ys }
-    ensures last { (m : Mode) (n : ℕ) (xs : List (List ℕ)) (s : List ℕ) → words_of_screens m n (xs ++ s ∷ []) ≡ words_of_screens m n xs ++ screen_words (after_screens m n xs) (n + length xs) s }
+    ensures screens { (m : Mode) (n : ℕ) (xs ys : List (List ℕ)) →
+        words_of_screens m n (xs ++ ys) ≡ words_of_screens m n xs ++ words_of_screens (after_screens m n xs)
+        (n + length xs) ys }
+    ensures last { (m : Mode) (n : ℕ) (xs : List (List ℕ)) (s : List ℕ) →
+        words_of_screens m n (xs ++ s ∷ []) ≡ words_of_screens m n xs ++ screen_words (after_screens m n xs)
+        (n + length xs) s }
 {}

@@ -15,7 +15,8 @@ pub fn word_at(text: &[u8], screen: u16, start: usize, mode: Mode) -> (Word<'_>,
     requires within { start < length text.now }
     requires begins { slice_index text.now start ≢ 32 }
     requires plain { is_comment mode (drop start text.now) ≡ false }
-    ensures left { words_at mode screen start text.now ≡ source_word result.0 ∷ words_at (after mode result.0.name.now) screen result.1 text.now }
+    ensures left { words_at mode screen start text.now ≡ source_word result.0 ∷ words_at
+        (after mode result.0.name.now) screen result.1 text.now }
     ensures at { (result.0.offset ≡ start) × (result.0.screen ≡ screen) }
     ensures further { (start < result.1) × (result.1 ≤ length text.now) }
 {

@@ -47,10 +47,13 @@ impl<'a> Scanner<'a> {
 
     /// The next word.
     pub fn next(&mut self) -> Option<Word<'a>>
-        ensures left { MatchOption result (words_left self.old ≡ []) (λ w. words_left self.old ≡ source_word w ∷ words_left self.new) }
-        ensures mode { MatchOption result (self.new.mode ≡ self.old.mode) (λ w. self.new.mode ≡ after self.old.mode w.name.now) }
+        ensures left { MatchOption result (words_left self.old ≡ [])
+            (λ w. words_left self.old ≡ source_word w ∷ words_left self.new) }
+        ensures mode { MatchOption result (self.new.mode ≡ self.old.mode)
+            (λ w. self.new.mode ≡ after self.old.mode w.name.now) }
         ensures text { self.new.text ≡ self.old.text }
-        ensures at { IfSome result (λ w. (self.old.at ≤ w.offset) × (w.offset < self.new.at) × (w.screen ≡ self.old.screen)) }
+        ensures at { IfSome result (λ w.
+            (self.old.at ≤ w.offset) × (w.offset < self.new.at) × (w.screen ≡ self.old.screen)) }
     {
         let text = self.text;
         let start = pass_comments(text, self.at, self.mode);

@@ -40,7 +40,8 @@ pub fn enclosed(text: &[u8], start: usize, end: usize, c: u8) -> (&[u8], usize)
     requires begins { start ≤ length text.now }
     requires ends { end ≡ start + before 32 (drop start text.now) }
     ensures bytes { result.0.now ≡ enclosed c (drop start text.now) }
-    ensures next { (m : Mode) (screen : ℕ) → words_at m screen (start + enclosing c (drop start text.now)) text.now ≡ words_at m screen result.1 text.now }
+    ensures next { (m : Mode) (screen : ℕ) →
+        words_at m screen (start + enclosing c (drop start text.now)) text.now ≡ words_at m screen result.1 text.now }
     ensures within { (end ≤ result.1) × (result.1 ≤ length text.now) }
 {
     if end >= text.len() {
@@ -60,7 +61,8 @@ pub fn enclosed(text: &[u8], start: usize, end: usize, c: u8) -> (&[u8], usize)
 fn comment_end(text: &[u8], at: usize, mode: Mode) -> Option<usize>
     requires within { at < length text.now }
     requires begins { slice_index text.now at ≢ 32 }
-    ensures same { IfSome result (λ next. (screen : ℕ) → words_at mode screen at text.now ≡ words_at mode screen next text.now) }
+    ensures same { IfSome result (λ next. (screen : ℕ) →
+        words_at mode screen at text.now ≡ words_at mode screen next text.now) }
     ensures further { IfSome result (λ next. (at < next) × (next ≤ length text.now)) }
     ensures none { IfNone result (is_comment mode (drop at text.now) ≡ false) }
 {
@@ -81,7 +83,8 @@ pub fn pass_comments(text: &[u8], from: usize, mode: Mode) -> usize
     requires { from ≤ length text.now }
     ensures same { (screen : ℕ) → words_at mode screen from text.now ≡ words_at mode screen result text.now }
     ensures within { (from ≤ result) × (result ≤ length text.now) }
-    ensures found { result < length text.now → (slice_index text.now result ≢ 32) × (is_comment mode (drop result text.now) ≡ false) }
+    ensures found { result < length text.now → (slice_index text.now result ≢ 32) ×
+        (is_comment mode (drop result text.now) ≡ false) }
 {
     let mut at = pass_blanks(text, from);
     while at < text.len() {

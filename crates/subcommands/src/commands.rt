@@ -65,7 +65,8 @@ pub fn status_of(stop: Stop) -> u8
 
 /// Prints a line, and ends with the status, or with 5 where the line can't be written.
 pub fn print<W: Output>(writer: &mut W, line: &[u8], status: u8) -> Ended
-    ensures printed { W.failed writer.new ≡ false → Prints line.now status result.status (W.sent writer.old) (W.sent writer.new) }
+    ensures printed { W.failed writer.new ≡ false →
+        Prints line.now status result.status (W.sent writer.old) (W.sent writer.new) }
     ensures cut { W.failed writer.old ≡ false → W.failed writer.new ≡ true → result.status ≡ 5 }
     ensures status { 0 < status → 0 < result.status }
     ensures file { IsNone result.file }
@@ -78,7 +79,8 @@ pub fn print<W: Output>(writer: &mut W, line: &[u8], status: u8) -> Ended
 
 /// Prints a line, and answers whether all of it was written.
 pub fn is_printed<W: Output>(writer: &mut W, line: &[u8]) -> bool
-    ensures printed { W.failed writer.new ≡ false → (result ≡ true) × Appends (W.sent writer.old) (W.sent writer.new) line.now }
+    ensures printed { W.failed writer.new ≡ false →
+        (result ≡ true) × Appends (W.sent writer.old) (W.sent writer.new) line.now }
     ensures cut { W.failed writer.old ≡ false → W.failed writer.new ≡ true → result ≡ false }
 {
     print(writer, line, 0).status == 0
@@ -86,7 +88,8 @@ pub fn is_printed<W: Output>(writer: &mut W, line: &[u8]) -> bool
 
 /// Prints that memory ran out.
 pub fn print_out_of_memory<W: Output>(writer: &mut W) -> Ended
-    ensures printed { W.failed writer.new ≡ false → PrintsOutOfMemory result.status (W.sent writer.old) (W.sent writer.new) }
+    ensures printed { W.failed writer.new ≡ false →
+        PrintsOutOfMemory result.status (W.sent writer.old) (W.sent writer.new) }
     ensures cut { W.failed writer.old ≡ false → W.failed writer.new ≡ true → result.status ≡ 5 }
     ensures status { 0 < result.status }
     ensures file { IsNone result.file }
@@ -108,7 +111,8 @@ pub fn refuse<C: Reason + Drop, W: Output>(
     why: C,
     writer: &mut W,
 ) -> Ended
-    ensures printed { W.failed writer.new ≡ false → PrintsRefusal what.now (C.spelling why) result.status (W.sent writer.old) (W.sent writer.new) }
+    ensures printed { W.failed writer.new ≡ false →
+        PrintsRefusal what.now (C.spelling why) result.status (W.sent writer.old) (W.sent writer.new) }
     ensures cut { W.failed writer.old ≡ false → W.failed writer.new ≡ true → result.status ≡ 5 }
     ensures status { 0 < result.status }
     ensures file { IsNone result.file }
@@ -124,8 +128,10 @@ pub fn refuse<C: Reason + Drop, W: Output>(
 
 /// Prints why bytes are no image.
 pub fn refuse_image<W: Output>(alloc: Global, fault: ImageFault, writer: &mut W) -> Ended
-    ensures printed { W.failed writer.new ≡ false → PrintsRefusal (codes "image") (image_cause fault) result.status (W.sent writer.old) (W.sent writer.new) }
-    ensures out_of_memory { W.failed writer.new ≡ false → fault ≡ ImageFault.OutOfMemory → PrintsOutOfMemory result.status (W.sent writer.old) (W.sent writer.new) }
+    ensures printed { W.failed writer.new ≡ false →
+        PrintsRefusal (codes "image") (image_cause fault) result.status (W.sent writer.old) (W.sent writer.new) }
+    ensures out_of_memory { W.failed writer.new ≡ false → fault ≡ ImageFault.OutOfMemory →
+        PrintsOutOfMemory result.status (W.sent writer.old) (W.sent writer.new) }
     ensures cut { W.failed writer.old ≡ false → W.failed writer.new ≡ true → result.status ≡ 5 }
     ensures status { 0 < result.status }
     ensures file { IsNone result.file }
@@ -139,9 +145,11 @@ pub fn refuse_image<W: Output>(alloc: Global, fault: ImageFault, writer: &mut W)
 /// Prints a line of an image, and ends with the image's file.
 pub fn end_with_image<W: Output>(alloc: Global, image: &Image, line: &str, writer: &mut W) -> Ended
     ensures status { MatchOption result.file (0 < result.status) (λ _. result.status ≡ 0) }
-    ensures told { W.failed writer.new ≡ false → IfSome result.file (λ file. IsFileOf image.now line.now file.items (W.sent writer.old) (W.sent writer.new)) }
+    ensures told { W.failed writer.new ≡ false →
+        IfSome result.file (λ file. IsFileOf image.now line.now file.items (W.sent writer.old) (W.sent writer.new)) }
     ensures file { IfSome result.file (λ file. IsWritten file.items image.now) }
-    ensures wanting { W.failed writer.new ≡ false → IsNone result.file → PrintsOutOfMemory result.status (W.sent writer.old) (W.sent writer.new) }
+    ensures wanting { W.failed writer.new ≡ false → IsNone result.file →
+        PrintsOutOfMemory result.status (W.sent writer.old) (W.sent writer.new) }
     ensures cut { W.failed writer.old ≡ false → W.failed writer.new ≡ true → (result.status ≡ 5) × IsNone result.file }
 {
     let Ok(file) = image_loader::write(alloc, image) else {
@@ -156,10 +164,12 @@ pub fn end_with_image<W: Output>(alloc: Global, image: &Image, line: &str, write
 /// Makes the block file with the kernel's sources, of 64 blocks. Status 0; without a file 1, where memory ran out, or 5,
 /// where that can't be printed.
 pub fn do_kernel<W: Output>(alloc: Global, writer: &mut W) -> Ended
-    ensures file { MatchOption result.file (0 < result.status) (λ file. (result.status ≡ 0) × (file.items ≡ filled 65536 (blocks_of TEXT.now))) }
+    ensures file { MatchOption result.file (0 < result.status)
+        (λ file. (result.status ≡ 0) × (file.items ≡ filled 65536 (blocks_of TEXT.now))) }
     // Beside the file nothing is printed; where there is none, that memory ran out.
     ensures silent { IsSome result.file → writer.new ≡ writer.old }
-    ensures wanting { W.failed writer.new ≡ false → IsNone result.file → PrintsOutOfMemory result.status (W.sent writer.old) (W.sent writer.new) }
+    ensures wanting { W.failed writer.new ≡ false → IsNone result.file →
+        PrintsOutOfMemory result.status (W.sent writer.old) (W.sent writer.new) }
     ensures cut { W.failed writer.old ≡ false → W.failed writer.new ≡ true → (result.status ≡ 5) × IsNone result.file }
 {
     match kernel_file(alloc) {
@@ -177,7 +187,8 @@ fn fault_line(alloc: Global, screen: u16, offset: u16, cause: &str) -> Result<St
 
 /// Prints where and why a source is refused.
 fn refuse_source<W: Output>(alloc: Global, fault: BuildFault, writer: &mut W) -> Ended
-    ensures printed { W.failed writer.new ≡ false → PrintsFault fault.screen fault.offset fault.cause result.status (W.sent writer.old) (W.sent writer.new) }
+    ensures printed { W.failed writer.new ≡ false →
+        PrintsFault fault.screen fault.offset fault.cause result.status (W.sent writer.old) (W.sent writer.new) }
     ensures cut { W.failed writer.old ≡ false → W.failed writer.new ≡ true → result.status ≡ 5 }
     ensures status { 0 < result.status }
     ensures file { IsNone result.file }
@@ -206,9 +217,12 @@ fn report(alloc: Global, image: &Image) -> Result<String, AllocError>
 /// Prints `size S entry E`, and ends with the file of an image that was made.
 pub fn end_with_made<W: Output>(alloc: Global, image: &Image, writer: &mut W) -> Ended
     ensures status { MatchOption result.file (0 < result.status) (λ _. result.status ≡ 0) }
-    ensures told { W.failed writer.new ≡ false → IfSome result.file (λ file. IsFileOf image.now (image_line image.now) file.items (W.sent writer.old) (W.sent writer.new)) }
+    ensures told { W.failed writer.new ≡ false →
+        IfSome result.file
+        (λ file. IsFileOf image.now (image_line image.now) file.items (W.sent writer.old) (W.sent writer.new)) }
     ensures file { IfSome result.file (λ file. IsWritten file.items image.now) }
-    ensures wanting { W.failed writer.new ≡ false → IsNone result.file → PrintsOutOfMemory result.status (W.sent writer.old) (W.sent writer.new) }
+    ensures wanting { W.failed writer.new ≡ false → IsNone result.file →
+        PrintsOutOfMemory result.status (W.sent writer.old) (W.sent writer.new) }
     ensures cut { W.failed writer.old ≡ false → W.failed writer.new ≡ true → (result.status ≡ 5) × IsNone result.file }
 {
     match report(alloc, image) {
@@ -230,10 +244,15 @@ pub fn do_build<W: Output, D: Device>(
 ) -> Ended
     requires { IsCount buffers }
     ensures status { MatchOption result.file (0 < result.status) (λ _. result.status ≡ 0) }
-    ensures file { (d : Disk) → D.disk device.old ≡ Some d → IfSome result.file (IsBuiltFile buffers d from to (done_of (D.disk device.new) (D.calls device.old) (D.calls device.new))) }
+    ensures file { (d : Disk) → D.disk device.old ≡ Some d →
+        IfSome result.file
+        (IsBuiltFile buffers d from to (done_of (D.disk device.new) (D.calls device.old) (D.calls device.new))) }
     // Where there is a file, its line is printed; where there is none, it is printed why.
-    ensures told { W.failed writer.new ≡ false → IfSome result.file (λ file. IsTold file.items (W.sent writer.old) (W.sent writer.new)) }
-    ensures refused { W.failed writer.new ≡ false → IsNone result.file → (d : Disk) → D.disk device.old ≡ Some d → EndsUnbuilt buffers d from to (done_of (D.disk device.new) (D.calls device.old) (D.calls device.new)) result.status (W.sent writer.old) (W.sent writer.new) }
+    ensures told { W.failed writer.new ≡ false →
+        IfSome result.file (λ file. IsTold file.items (W.sent writer.old) (W.sent writer.new)) }
+    ensures refused { W.failed writer.new ≡ false → IsNone result.file → (d : Disk) → D.disk device.old ≡ Some d →
+        EndsUnbuilt buffers d from to (done_of (D.disk device.new) (D.calls device.old) (D.calls device.new))
+        result.status (W.sent writer.old) (W.sent writer.new) }
     // Where a line can't be printed, there is no file.
     ensures cut { W.failed writer.old ≡ false → W.failed writer.new ≡ true → (result.status ≡ 5) × IsNone result.file }
 {
@@ -245,7 +264,8 @@ pub fn do_build<W: Output, D: Device>(
 
 /// Prints a number on a line.
 fn print_number<W: Output>(alloc: Global, number: u16, writer: &mut W) -> Ended
-    ensures printed { W.failed writer.new ≡ false → PrintsOn (decimal number) result.status (W.sent writer.old) (W.sent writer.new) }
+    ensures printed { W.failed writer.new ≡ false →
+        PrintsOn (decimal number) result.status (W.sent writer.old) (W.sent writer.new) }
     ensures cut { W.failed writer.old ≡ false → W.failed writer.new ≡ true → result.status ≡ 5 }
     ensures file { IsNone result.file }
 {
@@ -259,9 +279,12 @@ fn print_number<W: Output>(alloc: Global, number: u16, writer: &mut W) -> Ended
 /// printed), the name isn't found (`NAME: CAUSE`) or memory ran out; 5: the line can't be printed.
 pub fn do_view<W: Output>(alloc: Global, image: &[u8], name: &str, writer: &mut W) -> Ended
     // Where the bytes are an image's file, the word's screen is printed, or why there is none.
-    ensures viewed { W.failed writer.new ≡ false → OfImageFile image.now (λ file. EndsViewed file name.now result.status (W.sent writer.old) (W.sent writer.new)) }
+    ensures viewed { W.failed writer.new ≡ false →
+        OfImageFile image.now
+        (λ file. EndsViewed file name.now result.status (W.sent writer.old) (W.sent writer.new)) }
     // Where they are none, it is printed why.
-    ensures refused { W.failed writer.new ≡ false → PrintsNoImage image.now result.status (W.sent writer.old) (W.sent writer.new) }
+    ensures refused { W.failed writer.new ≡ false →
+        PrintsNoImage image.now result.status (W.sent writer.old) (W.sent writer.new) }
     ensures cut { W.failed writer.old ≡ false → W.failed writer.new ≡ true → result.status ≡ 5 }
     ensures file { IsNone result.file }
 {
@@ -290,12 +313,18 @@ pub fn do_run<R: Input, W: Output, D: Device>(
 ) -> Ended
     // Where the bytes are an image's file, memory is found and no end fails, the status, the output, the unread bytes and
     // the blocks are those of the written rounds.
-    ensures ran { result.status ≢ 1 → R.failed reader.new ≡ false → W.failed writer.new ≡ false → OfFile image.now (R.unread reader.old) (D.disk device.old) (W.sent writer.old) limit (λ w. EndsWith result.status w (R.unread reader.new) (D.disk device.new) (W.sent writer.new)) }
+    ensures ran { result.status ≢ 1 → R.failed reader.new ≡ false → W.failed writer.new ≡ false →
+        OfFile image.now (R.unread reader.old) (D.disk device.old) (W.sent writer.old) limit
+        (λ w. EndsWith result.status w (R.unread reader.new) (D.disk device.new) (W.sent writer.new)) }
     // Where they are none, that is printed, and no other end is touched.
-    ensures refused { W.failed writer.new ≡ false → PrintsNoImage image.now result.status (W.sent writer.old) (W.sent writer.new) }
-    ensures unrun { (fault : ImageFault) → IsNoFile image.now fault → (reader.new ≡ reader.old) × (device.new ≡ device.old) }
+    ensures refused { W.failed writer.new ≡ false →
+        PrintsNoImage image.now result.status (W.sent writer.old) (W.sent writer.new) }
+    ensures unrun { (fault : ImageFault) → IsNoFile image.now fault →
+        (reader.new ≡ reader.old) × (device.new ≡ device.old) }
     // Status 1 over an image's file is want of memory, which is printed; with status 1 nothing was run.
-    ensures wanting { W.failed writer.new ≡ false → OfImageFile image.now (λ _. result.status ≡ 1 → PrintsOutOfMemory result.status (W.sent writer.old) (W.sent writer.new)) }
+    ensures wanting { W.failed writer.new ≡ false →
+        OfImageFile image.now (λ _. result.status ≡ 1 →
+        PrintsOutOfMemory result.status (W.sent writer.old) (W.sent writer.new)) }
     ensures untouched { result.status ≡ 1 → (reader.new ≡ reader.old) × (device.new ≡ device.old) }
     // An end that fails gives status 5.
     ensures cut { W.failed writer.old ≡ false → W.failed writer.new ≡ true → result.status ≡ 5 }

@@ -20,7 +20,8 @@ use std::alloc::Global;
 
 /// Prints why a word isn't traced. Its name is printed as it was typed.
 fn refuse_debug<W: Output>(alloc: Global, name: &str, why: DebugFault, writer: &mut W) -> Ended
-    ensures printed { W.failed writer.new ≡ false → PrintsUntraced name.now why result.status (W.sent writer.old) (W.sent writer.new) }
+    ensures printed { W.failed writer.new ≡ false →
+        PrintsUntraced name.now why result.status (W.sent writer.old) (W.sent writer.new) }
     ensures cut { W.failed writer.old ≡ false → W.failed writer.new ≡ true → result.status ≡ 5 }
     ensures status { W.failed writer.new ≡ false → result.status ≡ 1 }
     ensures file { IsNone result.file }
@@ -42,12 +43,20 @@ fn load_and_debug<R: Input, W: Output, D: Device, T: Output>(
     trace: &mut T,
     limit: u64,
 ) -> Result<Stop, DebugFault>
-    ensures ran { IfOk result (λ stop. R.failed reader.new ≡ false → W.failed writer.new ≡ false → T.failed trace.new ≡ false → OfImage image.now (R.unread reader.old) (D.disk device.old) (W.sent writer.old) limit (λ w. EndsDebugged w name.now (R.unread reader.new) (D.disk device.new) (W.sent writer.new) (T.sent trace.old) (T.sent trace.new) stop)) }
+    ensures ran { IfOk result (λ stop. R.failed reader.new ≡ false → W.failed writer.new ≡ false →
+        T.failed trace.new ≡ false → OfImage image.now (R.unread reader.old) (D.disk device.old)
+        (W.sent writer.old) limit
+        (λ w. EndsDebugged w name.now (R.unread reader.new) (D.disk device.new) (W.sent writer.new) (T.sent trace.old)
+        (T.sent trace.new) stop)) }
     ensures found { IfOk result (λ _. IsOk (debugged (memory_of image.now) name.now)) }
-    ensures refused { IfErr result (λ fault. (debugged (memory_of image.now) name.now ≡ Err fault) ⊎ (fault ≡ DebugFault.OutOfMemory)) }
-    ensures output { IfOk result (λ stop. W.failed writer.old ≡ false → W.failed writer.new ≡ true → stop ≡ Stop.OutputFault) }
-    ensures input { IfOk result (λ stop. R.failed reader.old ≡ false → R.failed reader.new ≡ true → stop ≡ Stop.InputFault) }
-    ensures traces { IfOk result (λ stop. T.failed trace.old ≡ false → T.failed trace.new ≡ true → stop ≡ Stop.TraceFault) }
+    ensures refused { IfErr result (λ fault. (debugged (memory_of image.now) name.now ≡ Err fault) ⊎
+        (fault ≡ DebugFault.OutOfMemory)) }
+    ensures output { IfOk result (λ stop.
+        W.failed writer.old ≡ false → W.failed writer.new ≡ true → stop ≡ Stop.OutputFault) }
+    ensures input { IfOk result (λ stop. R.failed reader.old ≡ false → R.failed reader.new ≡ true →
+        stop ≡ Stop.InputFault) }
+    ensures traces { IfOk result (λ stop.
+        T.failed trace.old ≡ false → T.failed trace.new ≡ true → stop ≡ Stop.TraceFault) }
     ensures reader { OnErr result (reader.new ≡ reader.old) }
     ensures writer { OnErr result (writer.new ≡ writer.old) }
     ensures device { OnErr result (device.new ≡ device.old) }
@@ -83,15 +92,26 @@ pub fn do_debug<R: Input, W: Output, D: Device, T: Output>(
 ) -> Ended
     // Where the bytes are an image's file, the word can be traced, memory is found and no end fails, the status, the output,
     // the unread bytes and the blocks are those of the written rounds, and the trace is that of these rounds.
-    ensures ran { result.status ≢ 1 → R.failed reader.new ≡ false → W.failed writer.new ≡ false → T.failed trace.new ≡ false → OfFile image.now (R.unread reader.old) (D.disk device.old) (W.sent writer.old) limit (λ w. EndsTracedWith result.status w name.now (R.unread reader.new) (D.disk device.new) (W.sent writer.new) (T.sent trace.old) (T.sent trace.new)) }
+    ensures ran { result.status ≢ 1 → R.failed reader.new ≡ false → W.failed writer.new ≡ false →
+        T.failed trace.new ≡ false → OfFile image.now (R.unread reader.old) (D.disk device.old)
+        (W.sent writer.old) limit
+        (λ w. EndsTracedWith result.status w name.now (R.unread reader.new) (D.disk device.new) (W.sent writer.new)
+        (T.sent trace.old) (T.sent trace.new)) }
     // Where the word can't be traced, it is printed why.
-    ensures untraced { W.failed writer.new ≡ false → OfUntraced image.now name.now (λ why. PrintsRefusal name.now (debug_cause why) result.status (W.sent writer.old) (W.sent writer.new)) }
-    ensures unmarked { OfUntraced image.now name.now (λ _. AreKept reader.old reader.new device.old device.new trace.old trace.new) }
+    ensures untraced { W.failed writer.new ≡ false →
+        OfUntraced image.now name.now
+        (λ why. PrintsRefusal name.now (debug_cause why) result.status (W.sent writer.old) (W.sent writer.new)) }
+    ensures unmarked { OfUntraced image.now name.now
+        (λ _. AreKept reader.old reader.new device.old device.new trace.old trace.new) }
     // Where the bytes are no image's file, that is printed.
-    ensures refused { W.failed writer.new ≡ false → PrintsNoImage image.now result.status (W.sent writer.old) (W.sent writer.new) }
-    ensures unrun { (fault : ImageFault) → IsNoFile image.now fault → AreKept reader.old reader.new device.old device.new trace.old trace.new }
+    ensures refused { W.failed writer.new ≡ false →
+        PrintsNoImage image.now result.status (W.sent writer.old) (W.sent writer.new) }
+    ensures unrun { (fault : ImageFault) → IsNoFile image.now fault →
+        AreKept reader.old reader.new device.old device.new trace.old trace.new }
     // Status 1 where a word could be traced is want of memory, which is printed; with status 1 nothing was run.
-    ensures wanting { W.failed writer.new ≡ false → OfTraced image.now name.now (result.status ≡ 1 → PrintsOutOfMemory result.status (W.sent writer.old) (W.sent writer.new)) }
+    ensures wanting { W.failed writer.new ≡ false →
+        OfTraced image.now name.now (result.status ≡ 1 →
+        PrintsOutOfMemory result.status (W.sent writer.old) (W.sent writer.new)) }
     ensures untouched { result.status ≡ 1 → AreKept reader.old reader.new device.old device.new trace.old trace.new }
     // An end that fails gives status 5.
     ensures cut { W.failed writer.old ≡ false → W.failed writer.new ≡ true → result.status ≡ 5 }

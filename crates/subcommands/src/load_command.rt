@@ -15,7 +15,8 @@ use std::alloc::Global;
 
 /// Prints why screens aren't loaded.
 fn refuse_load<W: Output>(alloc: Global, why: LoadFault, writer: &mut W) -> Ended
-    ensures printed { W.failed writer.new ≡ false → PrintsUnloaded why result.status (W.sent writer.old) (W.sent writer.new) }
+    ensures printed { W.failed writer.new ≡ false →
+        PrintsUnloaded why result.status (W.sent writer.old) (W.sent writer.new) }
     ensures cut { W.failed writer.old ≡ false → W.failed writer.new ≡ true → result.status ≡ 5 }
     ensures status { 0 < result.status }
     ensures file { IsNone result.file }
@@ -41,11 +42,17 @@ pub fn do_load<W: Output, D: Device>(
 ) -> Ended
     ensures status { MatchOption result.file (0 < result.status) (λ _. result.status ≡ 0) }
     // Where the bytes are an image's file, and the device tells its blocks, the new image is that of the written rounds.
-    ensures loaded { W.failed writer.new ≡ false → OfLoad image.now (D.disk device.old) from to limit (λ o. EndsLoaded o (D.disk device.new) result (W.sent writer.old) (W.sent writer.new)) }
+    ensures loaded { W.failed writer.new ≡ false →
+        OfLoad image.now (D.disk device.old) from to limit
+        (λ o. EndsLoaded o (D.disk device.new) result (W.sent writer.old) (W.sent writer.new)) }
     // Whatever the device is, it is what the moves of a machine come to that was given the device's answers.
-    ensures moved { W.failed writer.new ≡ false → OfImageFile image.now (λ old. EndsMoved old (D.block_count device.old) from to limit (D.calls device.old) (D.calls device.new) result (W.sent writer.old) (W.sent writer.new)) }
+    ensures moved { W.failed writer.new ≡ false →
+        OfImageFile image.now
+        (λ old. EndsMoved old (D.block_count device.old) from to limit (D.calls device.old) (D.calls device.new) result
+        (W.sent writer.old) (W.sent writer.new)) }
     // Where they are none, that is printed, and the device isn't touched.
-    ensures refused { W.failed writer.new ≡ false → PrintsNoImage image.now result.status (W.sent writer.old) (W.sent writer.new) }
+    ensures refused { W.failed writer.new ≡ false →
+        PrintsNoImage image.now result.status (W.sent writer.old) (W.sent writer.new) }
     ensures untouched { (fault : ImageFault) → IsNoFile image.now fault → device.new ≡ device.old }
     ensures cut { W.failed writer.old ≡ false → W.failed writer.new ≡ true → (result.status ≡ 5) × IsNone result.file }
 {

@@ -11,7 +11,8 @@ use std::alloc::Global;
 
 /// Prints why a word isn't shown. Its name is printed as it was typed.
 fn refuse_see<W: Output>(alloc: Global, name: &str, why: SeeRefused, writer: &mut W) -> Ended
-    ensures printed { W.failed writer.new ≡ false → PrintsSeen name.now (Err why) result.status (W.sent writer.old) (W.sent writer.new) }
+    ensures printed { W.failed writer.new ≡ false →
+        PrintsSeen name.now (Err why) result.status (W.sent writer.old) (W.sent writer.new) }
     ensures cut { W.failed writer.old ≡ false → W.failed writer.new ≡ true → result.status ≡ 5 }
     ensures file { IsNone result.file }
 {
@@ -23,7 +24,8 @@ fn refuse_see<W: Output>(alloc: Global, name: &str, why: SeeRefused, writer: &mu
 
 /// Prints a definition on a line.
 fn print_definition<W: Output>(mut text: Vec<u8>, writer: &mut W) -> Ended
-    ensures printed { W.failed writer.new ≡ false → PrintsOn text.items result.status (W.sent writer.old) (W.sent writer.new) }
+    ensures printed { W.failed writer.new ≡ false →
+        PrintsOn text.items result.status (W.sent writer.old) (W.sent writer.new) }
     ensures cut { W.failed writer.old ≡ false → W.failed writer.new ≡ true → result.status ≡ 5 }
     ensures file { IsNone result.file }
 {
@@ -37,9 +39,11 @@ fn print_definition<W: Output>(mut text: Vec<u8>, writer: &mut W) -> Ended
 /// (`image: CAUSE` is printed), the word isn't shown (`NAME: CAUSE`) or memory ran out; 5: the line can't be printed.
 pub fn do_see<W: Output>(alloc: Global, image: &[u8], name: &str, writer: &mut W) -> Ended
     // Where the bytes are an image's file, the word's text is printed, or why there is none.
-    ensures seen { W.failed writer.new ≡ false → OfImageFile image.now (λ file. EndsSeen file name.now result.status (W.sent writer.old) (W.sent writer.new)) }
+    ensures seen { W.failed writer.new ≡ false →
+        OfImageFile image.now (λ file. EndsSeen file name.now result.status (W.sent writer.old) (W.sent writer.new)) }
     // Where they are none, it is printed why.
-    ensures refused { W.failed writer.new ≡ false → PrintsNoImage image.now result.status (W.sent writer.old) (W.sent writer.new) }
+    ensures refused { W.failed writer.new ≡ false →
+        PrintsNoImage image.now result.status (W.sent writer.old) (W.sent writer.new) }
     ensures cut { W.failed writer.old ≡ false → W.failed writer.new ≡ true → result.status ≡ 5 }
     ensures file { IsNone result.file }
 {

@@ -55,8 +55,11 @@ fn page_line(alloc: Global, screen: u16, line: usize, cause: &str) -> Result<Str
 
 /// Prints where and why screens aren't printed.
 fn refuse_page<W: Output>(alloc: Global, why: Unprinted, writer: &mut W) -> Ended
-    ensures printed { W.failed writer.new ≡ false → PrintsLine (screen_line why.screen why.line (page_cause why.cause)) result.status (W.sent writer.old) (W.sent writer.new) }
-    ensures wanting { W.failed writer.new ≡ false → why.cause ≡ PageCause.OutOfMemory → PrintsOutOfMemory result.status (W.sent writer.old) (W.sent writer.new) }
+    ensures printed { W.failed writer.new ≡ false →
+        PrintsLine (screen_line why.screen why.line (page_cause why.cause)) result.status (W.sent writer.old)
+        (W.sent writer.new) }
+    ensures wanting { W.failed writer.new ≡ false → why.cause ≡ PageCause.OutOfMemory →
+        PrintsOutOfMemory result.status (W.sent writer.old) (W.sent writer.new) }
     ensures cut { W.failed writer.old ≡ false → W.failed writer.new ≡ true → result.status ≡ 5 }
     ensures status { 0 < result.status }
     ensures file { IsNone result.file }
@@ -82,7 +85,8 @@ pub fn do_text<W: Output, D: Device>(
     to: u16,
     writer: &mut W,
 ) -> Ended
-    ensures printed { W.failed writer.new ≡ false → (d : Disk) → D.disk device.old ≡ Some d → EndsText d from to result.status (W.sent writer.old) (W.sent writer.new) }
+    ensures printed { W.failed writer.new ≡ false → (d : Disk) → D.disk device.old ≡ Some d →
+        EndsText d from to result.status (W.sent writer.old) (W.sent writer.new) }
     ensures cut { W.failed writer.old ≡ false → W.failed writer.new ≡ true → result.status ≡ 5 }
     ensures file { IsNone result.file }
 {
@@ -101,8 +105,11 @@ fn text_line(alloc: Global, line: usize, cause: &str) -> Result<String, AllocErr
 
 /// Prints where and why a text isn't written.
 fn refuse_text<W: Output>(alloc: Global, fault: TextFault, writer: &mut W) -> Ended
-    ensures printed { W.failed writer.new ≡ false → PrintsLine (numbered_line fault.line (text_cause fault.cause)) result.status (W.sent writer.old) (W.sent writer.new) }
-    ensures wanting { W.failed writer.new ≡ false → fault.cause ≡ Cause.OutOfMemory → PrintsOutOfMemory result.status (W.sent writer.old) (W.sent writer.new) }
+    ensures printed { W.failed writer.new ≡ false →
+        PrintsLine (numbered_line fault.line (text_cause fault.cause)) result.status (W.sent writer.old)
+        (W.sent writer.new) }
+    ensures wanting { W.failed writer.new ≡ false → fault.cause ≡ Cause.OutOfMemory →
+        PrintsOutOfMemory result.status (W.sent writer.old) (W.sent writer.new) }
     ensures cut { W.failed writer.old ≡ false → W.failed writer.new ≡ true → result.status ≡ 5 }
     ensures status { 0 < result.status }
     ensures file { IsNone result.file }
@@ -123,10 +130,12 @@ fn refuse_text<W: Output>(alloc: Global, fault: TextFault, writer: &mut W) -> En
 /// blanks where it must. Status 0, with the bytes of the new file. Without a file 1: the text is refused (`line L: CAUSE` is
 /// printed) or memory ran out; 5: that can't be printed.
 pub fn do_screens<W: Output>(alloc: Global, blocks: Vec<u8>, text: &[u8], writer: &mut W) -> Ended
-    ensures file { MatchOption result.file (0 < result.status) (λ file. (result.status ≡ 0) × HasScreens (read text.now) blocks.items file.items) }
+    ensures file { MatchOption result.file (0 < result.status)
+        (λ file. (result.status ≡ 0) × HasScreens (read text.now) blocks.items file.items) }
     // Beside the file nothing is printed; where there is none, it is printed why.
     ensures silent { IsSome result.file → writer.new ≡ writer.old }
-    ensures refused { W.failed writer.new ≡ false → IsNone result.file → EndsUnwritten (read text.now) result.status (W.sent writer.old) (W.sent writer.new) }
+    ensures refused { W.failed writer.new ≡ false → IsNone result.file →
+        EndsUnwritten (read text.now) result.status (W.sent writer.old) (W.sent writer.new) }
     ensures cut { W.failed writer.old ≡ false → W.failed writer.new ≡ true → (result.status ≡ 5) × IsNone result.file }
 {
     let screens = match read_text(alloc, text) {
@@ -152,10 +161,12 @@ fn blank_blocks(alloc: Global, count: u32) -> Result<Vec<u8>, AllocError>
 /// printed.
 pub fn do_new<W: Output>(alloc: Global, count: u32, writer: &mut W) -> Ended
     requires { count ≤ 65536 }
-    ensures file { MatchOption result.file (0 < result.status) (λ file. (result.status ≡ 0) × (file.items ≡ blanks (1024 * count))) }
+    ensures file { MatchOption result.file (0 < result.status)
+        (λ file. (result.status ≡ 0) × (file.items ≡ blanks (1024 * count))) }
     // Beside the file nothing is printed; where there is none, that memory ran out.
     ensures silent { IsSome result.file → writer.new ≡ writer.old }
-    ensures wanting { W.failed writer.new ≡ false → IsNone result.file → PrintsOutOfMemory result.status (W.sent writer.old) (W.sent writer.new) }
+    ensures wanting { W.failed writer.new ≡ false → IsNone result.file →
+        PrintsOutOfMemory result.status (W.sent writer.old) (W.sent writer.new) }
     ensures cut { W.failed writer.old ≡ false → W.failed writer.new ≡ true → (result.status ≡ 5) × IsNone result.file }
 {
     match blank_blocks(alloc, count) {

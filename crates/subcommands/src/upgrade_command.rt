@@ -20,8 +20,10 @@ fn report(alloc: Global, image: &Image) -> Result<String, AllocError>
 
 /// Prints why there is no image for so many buffers.
 fn refuse_upgrade<W: Output>(alloc: Global, fault: UpgradeFault, writer: &mut W) -> Ended
-    ensures too_large { W.failed writer.new ≡ false → fault ≡ UpgradeFault.TooLarge → PrintsTooLarge result.status (W.sent writer.old) (W.sent writer.new) }
-    ensures out_of_memory { W.failed writer.new ≡ false → fault ≡ UpgradeFault.OutOfMemory → PrintsOutOfMemory result.status (W.sent writer.old) (W.sent writer.new) }
+    ensures too_large { W.failed writer.new ≡ false → fault ≡ UpgradeFault.TooLarge →
+        PrintsTooLarge result.status (W.sent writer.old) (W.sent writer.new) }
+    ensures out_of_memory { W.failed writer.new ≡ false → fault ≡ UpgradeFault.OutOfMemory →
+        PrintsOutOfMemory result.status (W.sent writer.old) (W.sent writer.new) }
     ensures cut { W.failed writer.old ≡ false → W.failed writer.new ≡ true → result.status ≡ 5 }
     ensures status { 0 < result.status }
     ensures file { IsNone result.file }
@@ -35,8 +37,10 @@ fn refuse_upgrade<W: Output>(alloc: Global, fault: UpgradeFault, writer: &mut W)
 /// Prints `size S buffers N`, and ends with the file of an image.
 fn end_with_upgraded<W: Output>(alloc: Global, image: &Image, writer: &mut W) -> Ended
     ensures status { MatchOption result.file (0 < result.status) (λ _. result.status ≡ 0) }
-    ensures told { W.failed writer.new ≡ false → IfSome result.file (λ file. IsUpgraded file.items image.now (W.sent writer.old) (W.sent writer.new)) }
-    ensures wanting { W.failed writer.new ≡ false → IsNone result.file → PrintsOutOfMemory result.status (W.sent writer.old) (W.sent writer.new) }
+    ensures told { W.failed writer.new ≡ false →
+        IfSome result.file (λ file. IsUpgraded file.items image.now (W.sent writer.old) (W.sent writer.new)) }
+    ensures wanting { W.failed writer.new ≡ false → IsNone result.file →
+        PrintsOutOfMemory result.status (W.sent writer.old) (W.sent writer.new) }
     ensures cut { W.failed writer.old ≡ false → W.failed writer.new ≡ true → (result.status ≡ 5) × IsNone result.file }
 {
     match report(alloc, image) {
@@ -59,11 +63,20 @@ pub fn do_upgrade<W: Output>(
     ensures status { MatchOption result.file (0 < result.status) (λ _. result.status ≡ 0) }
     // Where the bytes are an image's file, the new one is that of the same entry and bytes; where these reach too far, that
     // is printed, and else that memory ran out.
-    ensures upgraded { W.failed writer.new ≡ false → OfImageFile image.now (λ old. IfSome result.file (λ file. IsUpgraded file.items (upgraded old buffers) (W.sent writer.old) (W.sent writer.new))) }
-    ensures too_large { W.failed writer.new ≡ false → OfImageFile image.now (λ old. IsTooLarge old buffers → PrintsTooLarge result.status (W.sent writer.old) (W.sent writer.new)) }
-    ensures wanting { W.failed writer.new ≡ false → IsNone result.file → OfImageFile image.now (λ old. HasRoom old buffers → PrintsOutOfMemory result.status (W.sent writer.old) (W.sent writer.new)) }
+    ensures upgraded { W.failed writer.new ≡ false →
+        OfImageFile image.now
+        (λ old.
+        IfSome result.file
+        (λ file. IsUpgraded file.items (upgraded old buffers) (W.sent writer.old) (W.sent writer.new))) }
+    ensures too_large { W.failed writer.new ≡ false →
+        OfImageFile image.now (λ old. IsTooLarge old buffers →
+        PrintsTooLarge result.status (W.sent writer.old) (W.sent writer.new)) }
+    ensures wanting { W.failed writer.new ≡ false → IsNone result.file →
+        OfImageFile image.now (λ old. HasRoom old buffers →
+        PrintsOutOfMemory result.status (W.sent writer.old) (W.sent writer.new)) }
     // Where they are none, it is printed why.
-    ensures refused { W.failed writer.new ≡ false → PrintsNoImage image.now result.status (W.sent writer.old) (W.sent writer.new) }
+    ensures refused { W.failed writer.new ≡ false →
+        PrintsNoImage image.now result.status (W.sent writer.old) (W.sent writer.new) }
     ensures cut { W.failed writer.old ≡ false → W.failed writer.new ≡ true → (result.status ≡ 5) × IsNone result.file }
 {
     let image = match image_loader::read(alloc, image) {

@@ -174,8 +174,10 @@ impl Input for FailingReader {
     ghost failed = { λ r. r.has_failed };
 
     fn byte(&mut self) -> Result<Option<u8>, EndFault>
-        ensures bytes { TakesByte (⟦<FailingReader as Input>⟧.unread self.old) (⟦<FailingReader as Input>⟧.unread self.new) result }
-        ensures mark { Marks (⟦<FailingReader as Input>⟧.failed self.old) (⟦<FailingReader as Input>⟧.failed self.new) result }
+        ensures bytes { TakesByte (⟦<FailingReader as Input>⟧.unread self.old)
+            (⟦<FailingReader as Input>⟧.unread self.new) result }
+        ensures mark { Marks (⟦<FailingReader as Input>⟧.failed self.old)
+            (⟦<FailingReader as Input>⟧.failed self.new) result }
         ensures gives { IsOk result ↔ (⟦<FailingReader as Input>⟧.unread self.old ≢ Some []) }
     {
         match self.first.take() {

@@ -70,7 +70,9 @@ impl Machine {
     #[tactic(auto, unfolding(crate::specs::Answer::answered))]
     fn answer_key(&mut self, _token: u16, answer: Answer<'_>) -> Result<Act, Refused>
         requires { self.old.halt ≡ None }
-        ensures done { fits_request Request.Key (seen answer.entry) ≡ true → IsOkAnd result (λ act. (self.new, act) ≡ answered self.old.parts (Request.Key, _token) (seen answer.entry)) }
+        ensures done { fits_request Request.Key (seen answer.entry) ≡ true →
+            IsOkAnd result (λ act. (self.new, act) ≡ answered self.old.parts (Request.Key, _token)
+            (seen answer.entry)) }
         ensures spelled { OnOk result (IsSpelled (seen answer.entry)) }
         ensures settled { OnOk result (self.new.wait ≡ None) }
         ensures not_asked { fits_request Request.Key (seen answer.entry) ≡ false → IsErrOf result Refused.NotAsked }
@@ -102,10 +104,13 @@ impl Machine {
     #[tactic(auto, unfolding(crate::specs::Answer::answered))]
     fn answer_line(&mut self, n: u16, _token: u16, answer: Answer<'_>) -> Result<Act, Refused>
         requires { self.old.halt ≡ None }
-        ensures done { fits_request (Request.Line n) (seen answer.entry) ≡ true → IsOkAnd result (λ act. (self.new, act) ≡ answered self.old.parts (Request.Line n, _token) (seen answer.entry)) }
+        ensures done { fits_request (Request.Line n) (seen answer.entry) ≡ true →
+            IsOkAnd result (λ act. (self.new, act) ≡ answered self.old.parts (Request.Line n, _token)
+            (seen answer.entry)) }
         ensures spelled { OnOk result (IsSpelled (seen answer.entry)) }
         ensures settled { OnOk result (self.new.wait ≡ None) }
-        ensures not_asked { fits_request (Request.Line n) (seen answer.entry) ≡ false → IsErrOf result Refused.NotAsked }
+        ensures not_asked { fits_request (Request.Line n) (seen answer.entry) ≡ false →
+            IsErrOf result Refused.NotAsked }
         ensures stays { OnErr result (self.new ≡ self.old) }
     {
         match answer {
@@ -147,10 +152,13 @@ impl Machine {
     #[tactic(auto, unfolding(crate::specs::Answer::answered))]
     fn answer_read(&mut self, block: u16, token: u16, answer: Answer<'_>) -> Result<Act, Refused>
         requires { self.old.halt ≡ None }
-        ensures done { fits_request (Request.Read block) (seen answer.entry) ≡ true → IsOkAnd result (λ act. (self.new, act) ≡ answered self.old.parts (Request.Read block, token) (seen answer.entry)) }
+        ensures done { fits_request (Request.Read block) (seen answer.entry) ≡ true →
+            IsOkAnd result (λ act. (self.new, act) ≡ answered self.old.parts (Request.Read block, token)
+            (seen answer.entry)) }
         ensures spelled { OnOk result (IsSpelled (seen answer.entry)) }
         ensures settled { OnOk result (self.new.wait ≡ None) }
-        ensures not_asked { fits_request (Request.Read block) (seen answer.entry) ≡ false → IsErrOf result Refused.NotAsked }
+        ensures not_asked { fits_request (Request.Read block) (seen answer.entry) ≡ false →
+            IsErrOf result Refused.NotAsked }
         ensures stays { OnErr result (self.new ≡ self.old) }
     {
         match answer {
@@ -182,10 +190,13 @@ impl Machine {
     #[tactic(auto, unfolding(crate::specs::Answer::answered, crate::specs::Answer::write_answered))]
     fn answer_write(&mut self, block: u16, token: u16, answer: Answer<'_>) -> Result<Act, Refused>
         requires { self.old.halt ≡ None }
-        ensures done { fits_request (Request.Write block) (seen answer.entry) ≡ true → IsOkAnd result (λ act. (self.new, act) ≡ answered self.old.parts (Request.Write block, token) (seen answer.entry)) }
+        ensures done { fits_request (Request.Write block) (seen answer.entry) ≡ true →
+            IsOkAnd result (λ act. (self.new, act) ≡ answered self.old.parts (Request.Write block, token)
+            (seen answer.entry)) }
         ensures spelled { OnOk result (IsSpelled (seen answer.entry)) }
         ensures settled { OnOk result (self.new.wait ≡ None) }
-        ensures not_asked { fits_request (Request.Write block) (seen answer.entry) ≡ false → IsErrOf result Refused.NotAsked }
+        ensures not_asked { fits_request (Request.Write block) (seen answer.entry) ≡ false →
+            IsErrOf result Refused.NotAsked }
         ensures stays { OnErr result (self.new ≡ self.old) }
     {
         match answer {
