@@ -1,5 +1,5 @@
 //! A block as a screen: sixteen lines of 64 bytes (Forth-83 Standard, Definitions of Terms, "screen").
-ghost use Rattle.std.specs.Prelude.{◌≡◌, ◌<◌, ◌≤◌, ◌+◌, length};
+ghost use Rattle.std.specs.Prelude.{◌≡◌, ◌≤◌, ◌+◌, length};
 ghost use Rattle.block_buffers.specs.Screens.{line_start, line_at, with_line, line_inserted, line_deleted, blank_screen};
 
 use crate::devices::BLOCK_SIZE;

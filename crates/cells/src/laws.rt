@@ -1,6 +1,6 @@
 //! Laws of division.
 
-ghost use Rattle.std.specs.Prelude.{◌≡◌, ◌≢◌, ℕ, ℤ, pos, ◌*ℤ◌, ◌+ℤ◌, ◌<◌};
+ghost use Rattle.std.specs.Prelude.{◌≡◌, ◌≢◌, ℤ, pos, ◌*ℤ◌, ◌+ℤ◌};
 ghost use Rattle.cells.specs.Cell.{floor_quotient, floor_remainder, IsBetween};
 
 /// A number is its quotient by `m` times `m`, and the remainder.

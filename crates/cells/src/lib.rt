@@ -3,7 +3,7 @@
 
 pub mod laws;
 
-ghost use Rattle.std.specs.Prelude.{◌≡◌, ◌≢◌, ◌*◌, ◌<◌, ◌^◌, ◌≤ℤ◌, pos, unsigned_abs, MatchOption, IsFalse};
+ghost use Rattle.std.specs.Prelude.{◌≡◌, ◌≢◌, ◌*◌, ◌<◌, ◌^◌, pos, unsigned_abs, MatchOption, IsFalse};
 ghost use Rattle.cells.specs.Cell.{can_divide, um_can_divide, IsDivided, IsUmDivided, floor_quotient, floor_remainder, crosses};
 
 /// The quotient, rounded to the floor.

@@ -1,6 +1,6 @@
 //! The bytes that are laid, and the marks.
 
-ghost use Rattle.std.specs.Prelude.{◌≡◌, ℕ, ◌+◌, ◌<◌, ◌≤◌, ◌^◌, List, [], ◌∷◌, ◌++◌, length, OnOk, OnErr, IfErr};
+ghost use Rattle.std.specs.Prelude.{◌≡◌, ℕ, ◌+◌, ◌<◌, ◌^◌, ◌++◌, length, OnOk, OnErr, IfErr};
 ghost use Rattle.memory.specs.Bytes.{cell_bytes};
 ghost use Rattle.colon_bodies.specs.Open.{Outer};
 ghost use Rattle.colon_bodies.specs.Draft.{marks_of, top_mark, outside, Patches};

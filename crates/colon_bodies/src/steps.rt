@@ -1,11 +1,10 @@
 //! What each word lays.
 
-ghost use Rattle.std.specs.Prelude.{◌≡◌, ◌≢◌, Bool, true, ℕ, ◌+◌, ◌<◌, ◌≤◌, ◌^◌, List, [], ◌∷◌, ◌++◌, length};
+ghost use Rattle.std.specs.Prelude.{◌≡◌, Bool, ℕ, ◌+◌, ◌<◌, ◌^◌, List, length};
 ghost use Rattle.colon_bodies.specs.Tree.{Body};
-ghost use Rattle.colon_bodies.specs.Tokens.{NAME, NUMBER, TEXT, IF, ELSE, THEN, BEGIN, UNTIL, AGAIN, WHILE, REPEAT, DO, LOOP, DOUBLE, TICK, FORCE, COMPILE, DOES, text_control, loop_control};
+ghost use Rattle.colon_bodies.specs.Tokens.{NAME, NUMBER, TEXT, IF, ELSE, THEN, BEGIN, UNTIL, AGAIN, WHILE, REPEAT, DO, LOOP, DOUBLE, TICK, COMPILE, DOES, text_control, loop_control};
 ghost use Rattle.colon_bodies.specs.Open.{Outer, read, past};
-ghost use Rattle.colon_bodies.specs.Rules.{suits};
-ghost use Rattle.colon_bodies.specs.Draft.{token, After, Drafted, Drafting};
+ghost use Rattle.colon_bodies.specs.Draft.{After, Drafted, Drafting};
 ghost use Rattle.colon_bodies.specs.declared.words.Half.{Half};
 ghost use Rattle.colon_bodies.specs.declared.words.Half.TheVariants.{Free};
 ghost use Rattle.colon_bodies.specs.declared.draft.Mark.{Mark};

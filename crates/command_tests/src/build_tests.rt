@@ -1,7 +1,5 @@
 //! `build` over blocks: what it prints, its status, and the image's file.
 
-ghost use Rattle.std.specs.Prelude.{◌≤◌, vec_len};
-
 use crate::assertions::assert_equal;
 use block_buffers::MemoryDevice;
 use inner_interpreter::Writing;

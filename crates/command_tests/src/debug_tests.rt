@@ -1,7 +1,5 @@
 //! `debug` over images that are built: the trace, what else is printed, and the status.
 
-ghost use Rattle.std.specs.Prelude.{◌≤◌, vec_len};
-
 use crate::assertions::assert_equal;
 use crate::see_tests::{CHOICE, built};
 use block_buffers::MemoryDevice;

@@ -1,8 +1,7 @@
 //! Texts typed at the kernel's image, over blocks: what is shown, and what is asked of the blocks. Each expected text is
 //! worked out by hand from the machine's table.
 
-ghost use Rattle.std.specs.Prelude.{◌≡◌, ◌≤◌, vec_len, false, None};
-ghost use Rattle.block_buffers.specs.Calls.{Logs};
+ghost use Rattle.std.specs.Prelude.{false, None};
 
 use crate::assertions::assert_equal;
 use block_buffers::{Device, DeviceFault, MemoryDevice};

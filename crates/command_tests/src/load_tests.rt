@@ -1,8 +1,6 @@
 //! Screens that the kernel's image compiles itself: by how many bytes the new image is greater, or why there is none. Each
 //! answer is worked out by hand from the machine's table.
 
-ghost use Rattle.std.specs.Prelude.{◌≤◌, vec_len};
-
 use crate::assertions::assert_equal;
 use crate::kernel_runs::kernel_image;
 use block_buffers::MemoryDevice;

@@ -1,7 +1,5 @@
 //! The kernel is built again from what `see` shows: each colon definition of its sources is replaced by the text of its word.
 
-ghost use Rattle.std.specs.Prelude.{◌≤◌, vec_len};
-
 use crate::assertions::assert_equal;
 use block_buffers::MemoryDevice;
 use dictionary::headers_in_order;

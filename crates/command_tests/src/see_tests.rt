@@ -1,7 +1,5 @@
 //! `see` over images that are built: what it prints, and its status.
 
-ghost use Rattle.std.specs.Prelude.{◌≤◌, vec_len};
-
 use crate::assertions::assert_equal;
 use block_buffers::MemoryDevice;
 use inner_interpreter::Writing;

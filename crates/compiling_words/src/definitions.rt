@@ -1,6 +1,5 @@
 //! How a colon definition begins and ends.
 
-ghost use Rattle.std.specs.Prelude.{◌≡◌};
 ghost use Rattle.compiling_words.specs.Definitions.{IsBegun, IsEnded};
 
 use crate::control::{Control, runtime};

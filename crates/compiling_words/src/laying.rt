@@ -1,6 +1,6 @@
 //! Bytes at HERE.
 
-ghost use Rattle.std.specs.Prelude.{◌≡◌, ◌%◌, [], ◌∷◌, IfOk};
+ghost use Rattle.std.specs.Prelude.{◌≡◌, [], ◌∷◌, IfOk};
 ghost use Rattle.memory.specs.Bytes.{cell, cell_bytes};
 ghost use Rattle.compiling_words.specs.Code.{literal_code};
 ghost use Rattle.compiling_words.specs.Laying.{IsLaid, IsAllotted, can_allot};

@@ -1,7 +1,6 @@
 //! The ends of a run: blocks whose calls are noted, and a reader and a writer that may fail.
 
-ghost use Rattle.std.specs.Prelude.{◌≡◌, ◌≤◌, vec_len, false, None};
-ghost use Rattle.block_buffers.specs.Calls.{Logs};
+ghost use Rattle.std.specs.Prelude.{false, None};
 
 use crate::numbers::{byte, number};
 use anyhow::{Context, Result, bail};

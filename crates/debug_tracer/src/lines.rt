@@ -1,11 +1,11 @@
 //! Sending the lines of a trace.
 
-ghost use Rattle.std.specs.Prelude.{◌≡◌, ◌∷◌, ◌++◌, OnOk, OnErr};
+ghost use Rattle.std.specs.Prelude.{◌++◌, OnOk, OnErr};
 ghost use Rattle.std.specs.Io.KnownBytes.{Appends};
 ghost use Rattle.dictionary.specs.Header.{name_of};
 ghost use Rattle.inner_interpreter.specs.Ends.{Marks};
 ghost use Rattle.inner_interpreter.specs.Sent.{AppendsPart};
-ghost use Rattle.debug_tracer.specs.Lines.{blank, bar, line_end, name_if, name_at, place_text, signed_text, unsigned_text, values_text, returns_text, line};
+ghost use Rattle.debug_tracer.specs.Lines.{blank, bar, line_end, name_if, name_at, place_text, values_text, returns_text, line};
 
 use dictionary::{header, header_at};
 use inner_interpreter::{EndFault, Machine, Output, send_all};

@@ -1,6 +1,6 @@
 //! The bits of a header's count byte.
 
-ghost use Rattle.std.specs.Prelude.{⊤, ◌≡◌, ◌==◌, [], ◌∷◌, codes};
+ghost use Rattle.std.specs.Prelude.{⊤, ◌≡◌, [], ◌∷◌, codes};
 ghost use Rattle.dictionary.specs.Header.{count_byte};
 
 use bitflags::{Flag, Flags, bitflag_items};

@@ -1,7 +1,7 @@
 //! A word of a body.
 
-ghost use Rattle.std.specs.Prelude.{◌≡◌, ◌≢◌, ℕ, ◌+◌, ◌<◌, ◌≤◌, ◌++◌, List, length, Result, Ok, Err, slice_index};
-ghost use Rattle.colon_bodies.specs.Tree.{Body, Definition};
+ghost use Rattle.std.specs.Prelude.{◌≡◌, ◌≢◌, ◌+◌, ◌<◌, ◌≤◌, List, length, Result, Ok, Err, slice_index};
+ghost use Rattle.colon_bodies.specs.Tree.{Body};
 ghost use Rattle.colon_bodies.specs.Tokens.{Token, SEMI};
 ghost use Rattle.colon_bodies.specs.declared.words.Half.{Half};
 ghost use Rattle.colon_bodies.specs.Open.{Outer, open_depth};

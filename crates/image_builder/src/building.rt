@@ -1,6 +1,6 @@
 //! A source built to an image.
 
-ghost use Rattle.std.specs.Prelude.{◌≡◌, ℕ, ◌≤◌, ◌⊎◌, [], List, Some, IfOk, IfErr, length, vec_len};
+ghost use Rattle.std.specs.Prelude.{◌≡◌, ℕ, ◌≤◌, ◌⊎◌, [], List, Some, IfOk, IfErr, vec_len};
 ghost use Rattle.block_buffers.specs.Disks.{Disk};
 ghost use Rattle.memory.specs.Bytes.{IsCount, limit_of};
 ghost use Rattle.image_builder.specs.Places.{Place};

@@ -1,14 +1,12 @@
 //! The bytes of the image.
 
-ghost use Rattle.std.specs.Prelude.{◌≡◌, ◌≢◌, ℕ, ◌+◌, ◌*◌, ◌/◌, ◌<◌, ◌≤◌, ◌++◌, List, [], length, map, OnOk, IfOk, IfErr};
+ghost use Rattle.std.specs.Prelude.{◌≡◌, ℕ, ◌+◌, ◌*◌, ◌/◌, ◌<◌, ◌++◌, OnOk, IfOk, IfErr};
 ghost use Rattle.colon_bodies.specs.Draft.{IsBlank};
-ghost use Rattle.image_builder.specs.Places.{Place, place};
 ghost use Rattle.image_builder.specs.Names.{newest_first};
 ghost use Rattle.image_builder.specs.Items.{Items, Nothing, controls, zeros, image, low, system, last_link};
-ghost use Rattle.image_builder.specs.Faults.{IsFault};
 ghost use Rattle.image_builder.specs.Grammar.{IsLimit};
 ghost use Rattle.image_builder.specs.Built.{Built, Building};
-ghost use Rattle.image_builder.specs.State.{IsRead, IsBuilt, all_cells, tells_whole};
+ghost use Rattle.image_builder.specs.State.{all_cells};
 ghost use Rattle.image_builder.specs.declared.cause.Cause.TheVariants.{OutOfMemory};
 
 use crate::cause::Cause;

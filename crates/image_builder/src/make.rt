@@ -1,6 +1,6 @@
 //! What each item lays.
 
-ghost use Rattle.std.specs.Prelude.{◌≡◌, ◌≢◌, ℕ, ◌+◌, ◌-◌, ◌<◌, ◌≤◌, ◌++◌, List, ◌∷◌, take, length, OnOk, IfErr};
+ghost use Rattle.std.specs.Prelude.{◌≡◌, ℕ, ◌+◌, ◌-◌, ◌<◌, ◌++◌, List, ◌∷◌, take, length, OnOk, IfErr};
 ghost use Rattle.colon_bodies.specs.Tree.{Definition};
 ghost use Rattle.memory.specs.Bytes.{cell_bytes};
 ghost use Rattle.colon_bodies.specs.Code.{thread};

@@ -1,6 +1,6 @@
 //! A word that is due as a name.
 
-ghost use Rattle.std.specs.Prelude.{◌≡◌, ◌≢◌, ℕ, ◌↔◌, ◌+◌, ◌<◌, ◌≤◌, ◌++◌, List, [], length, IsTrue, OnOk, IfErr, MatchOption, Some, None};
+ghost use Rattle.std.specs.Prelude.{◌≡◌, ◌↔◌, ◌+◌, ◌<◌, ◌≤◌, List, length, IsTrue, OnOk, IfErr, MatchOption, Some, None};
 ghost use Rattle.image_builder.specs.Places.{Place, place};
 ghost use Rattle.image_builder.specs.Names.{Name, address};
 ghost use Rattle.image_builder.specs.Meanings.{look};

@@ -1,6 +1,6 @@
 //! The screens of a source, read one at a time, and their words taken one by one.
 
-ghost use Rattle.std.specs.Prelude.{◌≡◌, ℕ, ◌<◌, ◌++◌, [], ◌∷◌, List, Some, length, OnOk};
+ghost use Rattle.std.specs.Prelude.{◌≡◌, ℕ, ◌<◌, [], List, Some, length, OnOk};
 ghost use Rattle.block_buffers.specs.Disks.{Disk};
 ghost use Rattle.source_words.specs.Words.{SourceWord, screen_words};
 ghost use Rattle.source_words.specs.Scanned.{source_word};

@@ -1,12 +1,12 @@
 //! The words of a source, one by one.
 
-ghost use Rattle.std.specs.Prelude.{◌≡◌, ◌≢◌, ℕ, ◌↔◌, ◌+◌, ◌<◌, ◌≤◌, ◌++◌, ◌∷◌, List, [], length, IsTrue, OnOk, IfErr, Some, None, false, slice_index};
+ghost use Rattle.std.specs.Prelude.{◌≡◌, ◌↔◌, ◌<◌, List, length, IsTrue, Some, None, slice_index};
 ghost use Rattle.image_builder.specs.Places.{Place, place};
 ghost use Rattle.image_builder.specs.Items.{Items, controls};
 ghost use Rattle.image_builder.specs.Stages.{Stage, Whole, Counted, Due, Chosen, Inside};
 ghost use Rattle.image_builder.specs.Grammar.{IsPrimitive, is_gap};
 ghost use Rattle.image_builder.specs.Built.{Built, Building};
-ghost use Rattle.image_builder.specs.State.{IsState, IsBegun, Shows, Taken, TakenAt, OfNumber, IsAtSite, located};
+ghost use Rattle.image_builder.specs.State.{IsState, IsBegun, Shows, TakenAt, OfNumber, IsAtSite, located};
 ghost use Rattle.image_builder.specs.declared.spot.Sort.TheVariants as s;
 
 use crate::body::take_body;

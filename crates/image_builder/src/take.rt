@@ -1,10 +1,10 @@
 //! One more word.
 
-ghost use Rattle.std.specs.Prelude.{◌≡◌, ◌≢◌, ℕ, ◌↔◌, ◌+◌, ◌<◌, ◌≤◌, ◌++◌, List, [], length, IsTrue, OnOk, IfErr, IsSome, codes, Some, None, false};
+ghost use Rattle.std.specs.Prelude.{◌≡◌, ◌≢◌, ◌↔◌, ◌+◌, ◌<◌, List, length, IsTrue, codes, Some, None, false};
 ghost use Rattle.image_builder.specs.Places.{Place, place};
 ghost use Rattle.image_builder.specs.Items.{Items};
 ghost use Rattle.std.specs.Str.{bytes_eq};
-ghost use Rattle.image_builder.specs.Stages.{Whole, Counted, Due, Chosen, Inside};
+ghost use Rattle.image_builder.specs.Stages.{Whole, Counted, Due, Chosen};
 ghost use Rattle.image_builder.specs.Grammar.{IsPrimitive};
 ghost use Rattle.image_builder.specs.Meanings.{look, record_named};
 ghost use Rattle.image_builder.specs.declared.entry.Lead.{Lead};

@@ -1,5 +1,5 @@
 -- A list of moves; and what a machine's host sees that makes them by calls.
-use Rattle.std.specs.Prelude.{◌≡◌, ℕ, List, [], ◌∷◌, ◌++◌, Bool, None, is_none, ◌&&◌, OnErr, Result, Ok, Err, true, false, replicate, if◌then◌else◌}
+use Rattle.std.specs.Prelude.{◌≡◌, ℕ, List, [], ◌∷◌, ◌++◌, Bool, is_none, ◌&&◌, OnErr, Result, Ok, Err, replicate, if◌then◌else◌}
 use Rattle.inner_interpreter.specs.declared.act.Act.{Act}
 use Rattle.inner_interpreter.specs.declared.act.Event.{Event}
 use Rattle.inner_interpreter.specs.declared.act.Event.TheVariants.{Went}

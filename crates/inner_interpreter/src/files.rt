@@ -1,6 +1,6 @@
 //! From the bytes of an image's file to the bytes of output.
 
-ghost use Rattle.std.specs.Prelude.{◌≡◌, ◌≢◌, ◌↔◌, false, true, IfOk, IfErr, IsErrOf, MatchResult, OnErr};
+ghost use Rattle.std.specs.Prelude.{◌≡◌, ◌≢◌, ◌↔◌, false, true, IfOk, IfErr, IsErrOf, OnErr};
 ghost use Rattle.image_loader.specs.Files.{Contents, IsFile, IsCutShort, IsFollowed, HasBadMagic, HasBadVersion, HasBadBuffers, HasBadSize};
 ghost use Rattle.inner_interpreter.specs.Files.{HasRunFrom};
 ghost use Rattle.inner_interpreter.specs.Worlds.{OfImage, OfFile, EndsFrom, EndsCutFrom, EndsFaultedFrom};

@@ -12,7 +12,7 @@ ghost use Rattle.inner_interpreter.specs.Sent.{AppendsPart};
 ghost use Rattle.inner_interpreter.specs.Served.{Answered, served_move, Faults, HasAnswered, HasNotFailed};
 ghost use Rattle.inner_interpreter.specs.Tick.{Runs, ticked};
 ghost use Rattle.inner_interpreter.specs.Tracing.{AreUnmet, Reached, ReachedCut};
-ghost use Rattle.inner_interpreter.specs.Worlds.{IsAt, IsCut, IsFaulted, rounds_left, stretch};
+ghost use Rattle.inner_interpreter.specs.Worlds.{IsAt, IsFaulted, rounds_left, stretch};
 
 use crate::ends::{EndFault, Input, Output};
 use crate::machine::Machine;

@@ -1,6 +1,6 @@
 //! Laws of memory.
 
-ghost use Rattle.std.specs.Prelude.{◌≡◌, ℕ, ◌+◌, ◌*◌, ◌≤◌};
+ghost use Rattle.std.specs.Prelude.{◌≡◌, ℕ, ◌+◌, ◌*◌};
 ghost use Rattle.memory.specs.Bytes.{IsCount, limit_of};
 ghost use Rattle.memory.specs.declared.limit.TheConstants.{GREATEST_LIMIT};
 ghost use Rattle.memory.specs.declared.mirrored.TheConstants.{MIRRORED};

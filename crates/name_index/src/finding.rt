@@ -1,6 +1,5 @@
 //! The search by the index.
 
-ghost use Rattle.std.specs.Prelude.{◌≡◌};
 ghost use Rattle.dictionary.specs.Search.{sought, IsSought};
 ghost use Rattle.name_index.specs.Index.{Holds};
 

@@ -14,7 +14,7 @@ pub struct NameIndex {
 }
 
 impl NameIndex {
-    ghost use Rattle.std.specs.Prelude.{ℕ, ◌≡◌, ◌<◌, ◌≤◌, ◌+◌, List, true, false, slice_index, slice_set};
+    ghost use Rattle.std.specs.Prelude.{ℕ, ◌≡◌, ◌<◌, ◌≤◌, ◌+◌, List, true, slice_index, slice_set};
     ghost use Rattle.name_index.specs.Watch.{is_watched, IsUnwatched, AgreeBelow, AgreeBeside};
     ghost use Rattle.name_index.specs.Index.{Keeps, Holds, top_of, emptied, floor_of};
     ghost use Rattle.cells.specs.Cell.{wrap};

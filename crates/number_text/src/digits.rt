@@ -1,6 +1,6 @@
 //! Digits, and the bytes that show them.
 
-ghost use Rattle.std.specs.Prelude.{◌≡◌, ◌<◌, ◌≤◌, ◌%◌, ℕ, MatchOption};
+ghost use Rattle.std.specs.Prelude.{◌≡◌, ◌<◌, ◌%◌, ℕ, MatchOption};
 ghost use Rattle.number_text.specs.Digits.{byte_of, digit, IsDigit, IsNoDigit, IsContinued, AreNoDigits};
 
 /// The digit that a byte shows: `0` to `9` show 0 to 9, the bytes from `A` on 10 and more.

@@ -1,5 +1,5 @@
-use Rattle.std.specs.Prelude.{ℕ, ◌+◌, List, [], ◌∷◌, ◌++◌, length, Bool, false, not, ◌==◌, nat_le, if◌then◌else◌}
-use Rattle.cells.specs.Cell.{wrap, difference}
+use Rattle.std.specs.Prelude.{ℕ, ◌+◌, List, [], ◌∷◌, ◌++◌, length, Bool, false, not, if◌then◌else◌}
+use Rattle.cells.specs.Cell.{wrap}
 use Rattle.dictionary.specs.Adding.{site_of, header_writes, new_count, record_bytes}
 use Rattle.dictionary.specs.Forgetting.{target, cuts}
 use Rattle.dictionary.specs.Header.{compilation_address, is_immediate}
@@ -7,11 +7,10 @@ use Rattle.dictionary.specs.Newest.{with_immediate}
 use Rattle.dictionary.specs.Search.{sought}
 use Rattle.input_source.specs.declared.words.Word.{Word}
 use Rattle.memory.specs.Bytes.{cell, put_cell, Write, PutCell, written}
-use Rattle.memory.specs.declared.system.TheConstants.{TO_IN, DP, CONTEXT, CURRENT, VOC_LINK, FENCE}
+use Rattle.memory.specs.declared.system.TheConstants.{TO_IN, DP, CONTEXT, CURRENT, VOC_LINK}
 use Rattle.number_text.specs.Picture.{pad}
 use Rattle.plain_rows.specs.Whole.{Whole}
-use Rattle.plain_rows.specs.Row.{After, done, fault, takes1, needs, leaves, room}
-use Rattle.plain_rows.specs.declared.faults.TheConstants.{CHAIN_TOO_LONG, NOT_FOUND, BAD_LENGTH}
+use Rattle.plain_rows.specs.Row.{After, done, takes1, leaves, room}
 use Rattle.primitives.specs.Names.{counted_string, reads_name, searches, finds_word, forgets, admits_header}
 use Rattle.stacks.specs.Cells.{◌▸◌}
 

@@ -4,7 +4,7 @@
 
 ghost use Rattle.std.specs.Prelude.{◌≡◌, ◌≤◌, [], ◌++◌, length, drop, false};
 ghost use Rattle.primitives.specs.DictionaryRows.{find, leaves_past, tick, creates, create, immediate, forget, to_body, here, pad_row, vocabulary, definitions};
-ghost use Rattle.primitives.specs.Names.{name_word, name_in, counted_string};
+ghost use Rattle.primitives.specs.Names.{name_word, name_in};
 
 use crate::names::{sought, sought_at, target_in};
 use crate::streams::{open, pass};

@@ -1,6 +1,6 @@
 //! Names that rows take, looked up where they stand in memory: a copy is made only of one that goes on at address 0.
 
-ghost use Rattle.std.specs.Prelude.{◌≡◌, ◌<◌, ◌≤◌, ◌+◌, ◌++◌, length, MatchOption, IsTrue};
+ghost use Rattle.std.specs.Prelude.{◌≡◌, ◌<◌, ◌≤◌, ◌+◌, ◌++◌, length, MatchOption};
 ghost use Rattle.dictionary.specs.Forgetting.{target};
 ghost use Rattle.input_source.specs.Words.{bytes_in};
 ghost use Rattle.memory.specs.Bytes.{bytes};

@@ -1,7 +1,7 @@
 //! Headings of screens.
 
 ghost use Rattle.std.specs.Prelude.{◌≡◌, ◌≤◌, IfOk, MatchOption, Some, None, drop, string_bytes, true, false};
-ghost use Rattle.screen_text.specs.Screens.{has_mark, heading, marked};
+ghost use Rattle.screen_text.specs.Screens.{has_mark, heading};
 ghost use Rattle.screen_text.specs.Reading.{is_heading, number_of};
 
 use std::alloc::{AllocError, Global};

@@ -1,6 +1,6 @@
 //! Screens written as text.
 
-ghost use Rattle.std.specs.Prelude.{◌≡◌, ◌⊎◌, ◌<◌, ◌/◌, ◌++◌, true, false, length, codes, flat_map, IfOk, MatchResult, OnOk};
+ghost use Rattle.std.specs.Prelude.{◌≡◌, ◌<◌, ◌/◌, ◌++◌, true, flat_map, IfOk, MatchResult, OnOk};
 ghost use Rattle.std.specs.List.{list_all};
 ghost use Rattle.screen_text.specs.Bytes.{is_text};
 ghost use Rattle.screen_text.specs.Screens.{line_text, screen_lines, screen_text};

@@ -1,6 +1,6 @@
 //! Whether no two runtime cells are equal.
 
-ghost use Rattle.std.specs.Prelude.{◌≡◌, ◌≢◌, ◌↔◌, ◌≤◌, ◌<◌, ℕ, IsTrue, length, slice_index};
+ghost use Rattle.std.specs.Prelude.{◌≡◌, ◌≢◌, ◌↔◌, ◌≤◌, ◌<◌, IsTrue, length, slice_index};
 ghost use Rattle.colon_bodies.specs.Plain.{AreApart};
 ghost use Rattle.see.specs.PlainWords.{IsAlone};
 

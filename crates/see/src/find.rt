@@ -1,6 +1,6 @@
 //! The words of a thread.
 
-ghost use Rattle.std.specs.Prelude.{◌≡◌, ◌↔◌, IsTrue, ◌≢◌, ◌≤◌, ◌<◌, ◌^◌, ◌+◌, true, ℕ, List, ◌∷◌, [], ◌++◌, OnOk, IfOk, IfSome, IsSome, length, map, Some, slice_index};
+ghost use Rattle.std.specs.Prelude.{◌≡◌, ◌↔◌, IsTrue, ◌≤◌, ◌<◌, ◌^◌, ◌+◌, true, ℕ, List, ◌∷◌, [], ◌++◌, IfOk, IfSome, IsSome, length, map, Some, slice_index};
 ghost use Rattle.colon_bodies.specs.Tree.{Body, Definition, all_words};
 ghost use Rattle.colon_bodies.specs.Tokens.{SEMI};
 ghost use Rattle.colon_bodies.specs.Draft.{token};

@@ -2,7 +2,7 @@
 
 ghost use Rattle.std.specs.Prelude.{◌≡◌, ◌≤◌, ◌+◌, ◌<◌, ℕ, length, take, drop, IfSome, slice_index, All};
 ghost use Rattle.colon_bodies.specs.Instructions.{len};
-ghost use Rattle.colon_bodies.specs.Found.{is_cell, pick, controls, of_control, chosen, first, peel, with_text};
+ghost use Rattle.colon_bodies.specs.Found.{is_cell, pick, controls, of_control, first, peel, with_text};
 ghost use Rattle.see.specs.Apart.{instr, front, peeled};
 
 /// An instruction: a cell and what stands behind it.

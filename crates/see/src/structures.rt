@@ -3,7 +3,7 @@
 ghost use Rattle.std.specs.Prelude.{◌≡◌, ◌↔◌, IsTrue, IsSome, OnOk, true, ◌≤◌, ◌<◌, ◌^◌, ◌+◌, ◌-◌, ℕ, List, IfOk, length, map, Some};
 ghost use Rattle.colon_bodies.specs.Tree.{Body};
 ghost use Rattle.colon_bodies.specs.Draft.{token};
-ghost use Rattle.colon_bodies.specs.Structures.{Frames, In, step, else_at, again_at, repeat_at, loop_at, split, shut};
+ghost use Rattle.colon_bodies.specs.Structures.{Frames, In, step, else_at, again_at, repeat_at, split, shut};
 ghost use Rattle.colon_bodies.specs.Instructions.{IQuery, IBranch, IDo, ILoop, IDoes};
 ghost use Rattle.see.specs.Seen.{Seen, frames_of, top_frame, beneath, start, begins_at, EndsHere};
 ghost use Rattle.see.specs.declared.structures.Frame.{Frame};

@@ -1,6 +1,6 @@
 //! The words of a thread, if they are those of a definition.
 
-ghost use Rattle.std.specs.Prelude.{◌≡◌, ◌↔◌, IsTrue, true, ◌≤◌, ◌<◌, ◌^◌, ◌+◌, ℕ, List, ◌∷◌, [], ◌++◌, IfOk, IfSome, IsSome, length, map, slice_index};
+ghost use Rattle.std.specs.Prelude.{◌≡◌, ◌↔◌, IsTrue, true, ◌≤◌, ◌<◌, ◌^◌, ◌+◌, ◌∷◌, [], ◌++◌, IfOk, IfSome, IsSome, length, map, slice_index};
 ghost use Rattle.colon_bodies.specs.Tree.{Definition, all_words};
 ghost use Rattle.colon_bodies.specs.Tokens.{SEMI, laid};
 ghost use Rattle.colon_bodies.specs.Code.{thread};

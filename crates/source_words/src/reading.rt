@@ -1,6 +1,6 @@
 //! One word and its text.
 
-ghost use Rattle.std.specs.Prelude.{◌≡◌, ◌≢◌, ◌+◌, ◌<◌, ◌≤◌, ◌∷◌, ℕ, drop, length, false, slice_index};
+ghost use Rattle.std.specs.Prelude.{◌≡◌, ◌≢◌, ◌<◌, ◌≤◌, ◌∷◌, drop, length, false, slice_index};
 ghost use Rattle.source_words.specs.Words.{is_comment, words_at};
 ghost use Rattle.source_words.specs.Modes.{after};
 ghost use Rattle.source_words.specs.Scanned.{source_word};

@@ -9,7 +9,7 @@ ghost use Rattle.subcommands.specs.Images.{IsBuiltFile};
 ghost use Rattle.subcommands.specs.Causes.{IsNoFile, image_cause};
 ghost use Rattle.subcommands.specs.Lines.{EndsUnbuilt, EndsViewed, IsFileOf, IsTold, OfImageFile, Prints, PrintsNoImage, PrintsOn, PrintsFault, PrintsOutOfMemory, PrintsRefusal, fault_line, image_line, line};
 ghost use Rattle.subcommands.specs.Statuses.{status_of, EndsWith};
-ghost use Rattle.image_loader.specs.Files.{Contents, IsFile, IsWritten};
+ghost use Rattle.image_loader.specs.Files.{IsWritten};
 ghost use Rattle.image_loader.specs.declared.fault.ImageFault.{ImageFault};
 ghost use Rattle.inner_interpreter.specs.Worlds.{OfFile};
 ghost use Rattle.memory.specs.Bytes.{IsCount};

@@ -1,13 +1,12 @@
 //! The subcommand that runs an image and traces one word.
 
-ghost use Rattle.std.specs.Prelude.{◌≡◌, ◌≢◌, ◌⊎◌, codes, false, true, Err, IsNone, IsOk, IfOk, IfErr, OnErr};
+ghost use Rattle.std.specs.Prelude.{◌≡◌, ◌≢◌, ◌⊎◌, false, true, Err, IsNone, IsOk, IfOk, IfErr, OnErr};
 ghost use Rattle.debug_tracer.specs.Debugged.{EndsDebugged, debugged};
 ghost use Rattle.debug_tracer.specs.declared.fault.DebugFault.{DebugFault};
 ghost use Rattle.subcommands.specs.Causes.{IsNoFile, debug_cause};
 ghost use Rattle.subcommands.specs.Lines.{OfTraced, OfUntraced, PrintsNoImage, PrintsOutOfMemory, PrintsRefusal, PrintsUntraced, memory_of};
 ghost use Rattle.subcommands.specs.Ends.{AreKept};
 ghost use Rattle.subcommands.specs.Statuses.{EndsTracedWith};
-ghost use Rattle.image_loader.specs.Files.{Contents, IsFile};
 ghost use Rattle.image_loader.specs.declared.fault.ImageFault.{ImageFault};
 ghost use Rattle.inner_interpreter.specs.Worlds.{OfFile, OfImage};
 

@@ -1,6 +1,6 @@
 //! A device over a file.
 
-ghost use Rattle.std.specs.Prelude.{◌≤◌, ◌≡◌, None};
+ghost use Rattle.std.specs.Prelude.{◌≤◌, None};
 ghost use Rattle.subcommands.specs.Streams.{IsApart};
 
 use crate::files::open_apart;

@@ -1,10 +1,9 @@
 //! `load`.
 
-ghost use Rattle.std.specs.Prelude.{◌≡◌, ◌<◌, codes, false, true, IsNone, MatchOption};
-ghost use Rattle.image_loader.specs.Files.{Contents, IsFile};
+ghost use Rattle.std.specs.Prelude.{◌≡◌, ◌<◌, false, true, IsNone, MatchOption};
 ghost use Rattle.image_loader.specs.declared.fault.ImageFault.{ImageFault};
 ghost use Rattle.subcommands.specs.Causes.{IsNoFile};
-ghost use Rattle.subcommands.specs.Lines.{OfImageFile, PrintsNoImage, PrintsRefusal};
+ghost use Rattle.subcommands.specs.Lines.{OfImageFile, PrintsNoImage};
 ghost use Rattle.subcommands.specs.Loads.{EndsLoaded, EndsMoved, OfLoad, PrintsUnloaded};
 
 use crate::commands::{Ended, end_with_made, print_out_of_memory, refuse, refuse_image};

@@ -1,7 +1,7 @@
 //! The subcommand that shows a word's definition.
 
-ghost use Rattle.std.specs.Prelude.{◌≡◌, codes, false, true, IsNone, Err};
-ghost use Rattle.subcommands.specs.Lines.{EndsSeen, OfImageFile, PrintsNoImage, PrintsOn, PrintsOutOfMemory, PrintsRefusal, PrintsSeen};
+ghost use Rattle.std.specs.Prelude.{◌≡◌, false, true, IsNone, Err};
+ghost use Rattle.subcommands.specs.Lines.{EndsSeen, OfImageFile, PrintsNoImage, PrintsOn, PrintsSeen};
 
 use crate::commands::{Ended, print, print_out_of_memory, refuse, refuse_image};
 use inner_interpreter::Output;

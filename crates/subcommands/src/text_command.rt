@@ -1,6 +1,6 @@
 //! The subcommands that print screens as text, and write a text into a block file.
 
-ghost use Rattle.std.specs.Prelude.{◌≡◌, ◌⊎◌, ◌<◌, ◌≤◌, ◌*◌, IfOk, IsNone, IsSome, MatchOption, Some, false, string_bytes, true};
+ghost use Rattle.std.specs.Prelude.{◌≡◌, ◌<◌, ◌≤◌, ◌*◌, IfOk, IsNone, IsSome, MatchOption, Some, false, string_bytes, true};
 ghost use Rattle.block_buffers.specs.Disks.{Disk};
 ghost use Rattle.device_text.specs.declared.pages.PageCause.{PageCause};
 ghost use Rattle.screen_text.specs.Reading.{read};

@@ -1,6 +1,6 @@
 //! `upgrade`.
 
-ghost use Rattle.std.specs.Prelude.{◌≡◌, ◌<◌, false, true, IsNone, IsSome, IfOk, IfSome, MatchOption, string_bytes};
+ghost use Rattle.std.specs.Prelude.{◌≡◌, ◌<◌, false, true, IsNone, IfOk, IfSome, MatchOption, string_bytes};
 ghost use Rattle.memory.specs.Bytes.{IsCount};
 ghost use Rattle.subcommands.specs.Lines.{HasRoom, IsTooLarge, IsUpgraded, OfImageFile, PrintsNoImage, PrintsOutOfMemory, PrintsTooLarge, upgrade_line, upgraded};
 

@@ -1,6 +1,6 @@
 //! Answers to what a machine asks.
 
-ghost use Rattle.std.specs.Prelude.{◌≡◌, ℕ, None, Some, true, false, IsTrue, IsOkAnd, IsErrOf, OnOk, OnErr, ◌≤◌, ◌<◌, All, length};
+ghost use Rattle.std.specs.Prelude.{◌≡◌, None, Some, true, false, IsTrue, IsOkAnd, IsErrOf, OnOk, OnErr, ◌≤◌, ◌<◌, All, length};
 ghost use Rattle.std.specs.List.{list_all};
 ghost use Rattle.inner_interpreter.specs.Answer.{fits_request, seen, IsSpelled, answered, is_line, TakesFit, RefusesHalted, RefusesUnfit, line_shown, key_answered, line_answered, read_answered, write_answered, input_stopped, is_typed};
 
