@@ -1,13 +1,15 @@
 #!/usr/bin/env bash
 # The Forth over a file of blocks; `./forth --help` tells how. At a terminal it has the workbench's tools, and takes lines by KEY;
-# into pipes and files it is the kernel alone, so that its output is what the machine shows.
+# into pipes and files it is the kernel alone, so that its output is what the machine shows. Where the program isn't proved yet it
+# runs the same one without its proofs, and has the proof made meanwhile.
 set -uo pipefail
 here=$(cd "$(dirname "$(readlink -f "${BASH_SOURCE[0]}")")" && pwd)
-forth83=$here/forth83
+forth83=$here/crates/forth83/out/forth83
 kept=$here/workbench/out
 saved=
 child=
 killed=
+wanted=
 unproved=
 
 say() {
@@ -18,7 +20,9 @@ usage() {
   cat >&2 << 'END'
 usage: ./forth [BLOCKS]                      works on the file BLOCKS, forth.blk where none is named, and makes it where it isn't there
        ./forth --kernel-of SOURCES [BLOCKS]  does so with a kernel built of screens 1 to 20 of SOURCES
-       ./forth --unproved [BLOCKS]           does so by a slow program of which nothing is proved, ready in a minute
+       ./forth --proved [BLOCKS]             waits for the proved program, where it isn't there yet
+       ./forth --unproved [BLOCKS]           runs the program without proofs, and has nothing proved
+       ./forth --status                      says which program is there, and how far its proof is
 A name that begins with - is written as ./-NAME.
 END
   exit "$1"
@@ -34,7 +38,7 @@ refuse() {
 is_made() {
   local from
   [ -f "$1" ] || return 1
-  for from in "$here/forth83" "$here/crates/forth83/out/forth83" "$here"/workbench/{make,*.txt}; do
+  for from in "$forth83" "$here"/workbench/{make,*.txt}; do
     if [ "$from" -nt "$1" ]; then
       return 1
     fi
@@ -66,15 +70,61 @@ make_images() {
   mv -f -- "$2/plain.new" "$2/plain.img" && mv -f -- "$2/tools.new" "$2/tools.img"
 }
 
-# The program as `rt try` makes it, kept beside the tools' images, or in ROOM where nothing can be kept there.
+# show_seconds PID: a line that moves until the process has ended, where standard error is a terminal.
+show_seconds() {
+  local seconds=0
+  while kill -0 "$1" 2> /dev/null; do
+    [ ! -t 2 ] || printf '\rforth: %d seconds so far\033[K' "$seconds" >&2
+    sleep 1
+    seconds=$((seconds + 1))
+  done
+  [ ! -t 2 ] || printf '\r\033[K' >&2
+}
+
+# The program without proofs, kept beside the tools' images, or in ROOM where nothing can be kept there.
 find_unproved() {
+  unproved=1
   forth83=$kept/unproved
-  if [ -x "$forth83" ] && [ -z "$(find "$here/crates.txt" "$here"/crates/*/src -newer "$forth83" -type f -print -quit 2> /dev/null)" ]; then
-    return
-  fi
   mkdir -p "$kept" 2> /dev/null && [ -w "$kept" ] || forth83=$room/unproved
-  say "making the program without its proofs takes a minute or so"
-  "$here/workbench/unproved" "$forth83" || exit 1
+  "$here/workbench/unproved" "$forth83" 2> "$room/said" &
+  child=$!
+  sleep 0.5
+  if kill -0 "$child" 2> /dev/null; then
+    say "making the program without its proofs takes about a minute"
+    show_seconds "$child"
+  fi
+  wait "$child" || { cat "$room/said" >&2; exit 1; }
+  child=
+  cat "$room/said" >&2
+}
+
+# Has the proof made in the background, behind this session.
+begin_proof() {
+  if "$here/workbench/prove" --meanwhile < /dev/null > /dev/null 2> "$room/said"; then
+    : > "$kept/awaited"
+    say "this program isn't proved yet. Its proof is being made meanwhile; ./forth --status tells how far it is."
+  else
+    cat "$room/said" >&2
+    say "this program isn't proved."
+  fi
+}
+
+# The program that runs: the proved one, or, where it isn't there and isn't waited for, that without proofs.
+find_program() {
+  if [ "$wanted" = unproved ]; then
+    find_unproved
+    say "UNPROVED: nothing is proved of this program; ./forth --proved proves and builds it first."
+  elif "$here/workbench/is-proved" || { [ "$wanted" = proved ] && "$here/workbench/prove" < /dev/null; }; then
+    if [ -e "$kept/awaited" ]; then
+      rm -f -- "$kept/awaited"
+      say "this program is proved now; ./forth --status tells more."
+    fi
+  elif [ "$wanted" = proved ]; then
+    exit 1
+  else
+    find_unproved
+    begin_proof
+  fi
 }
 
 # The images of the program's own kernel, kept beside the tools' texts, or in ROOM where nothing can be kept there. What an
@@ -174,11 +224,12 @@ run_at_terminal() {
   echo
 }
 
+sources=
 case ${1:-} in
   -h | --help) usage 0 ;;
-  --unproved) unproved=1 sources=; shift ;;
+  --status) [ $# -eq 1 ] || usage 2; exec "$here/workbench/prove" --status ;;
+  --proved | --unproved) wanted=${1#--}; shift ;;
   --kernel-of) [ $# -ge 2 ] && [ $# -le 3 ] || usage 2; sources=$2; shift 2; set -- "${1:-$sources}" ;;
-  *) sources= ;;
 esac
 [ $# -le 1 ] || usage 2
 case "${1:-} $sources" in -* | *' -'*) usage 2 ;; esac
@@ -186,9 +237,7 @@ blocks=${1-forth.blk}
 [ -n "$blocks" ] || usage 2
 room=$(mktemp -d) || exit 1
 trap leave EXIT
-if [ -n "$unproved" ]; then
-  find_unproved
-fi
+find_program
 "$forth83" --version > /dev/null || exit 1
 if [ -n "$sources" ]; then
   [ -f "$sources" ] && [ -r "$sources" ] || refuse "$sources isn't there, or can't be read"
@@ -198,9 +247,6 @@ else
   find_images
 fi
 open_blocks
-if [ -n "$unproved" ]; then
-  say "UNPROVED: nothing is proved of this program, and it is slow; ./forth without --unproved proves and builds it."
-fi
 status=0
 if [ -t 0 ] && [ -t 1 ]; then
   run_at_terminal
