@@ -9,6 +9,9 @@ kept=$here/workbench/out
 saved=
 child=
 killed=
+broken=
+keyed=
+interrupt_key=
 wanted=
 unproved=
 
@@ -143,33 +146,102 @@ find_images() {
   images=$room
 }
 
-# Makes the block file where it isn't there; refuses one that can't be used, with the reason and what to do.
-open_blocks() {
+# Makes the block file where it isn't there.
+make_blocks() {
   local folder
   folder=$(dirname -- "$blocks")
-  if [ ! -e "$blocks" ]; then
-    [ -d "$folder" ] || refuse "$blocks can't be made: there is no folder $folder"
-    [ -w "$folder" ] || refuse "$blocks can't be made: the folder $folder can't be written; name a file elsewhere, as ./forth ~/my.blk"
-    "$forth83" kernel "$room/new.blk" > "$room/said" || refuse "$blocks can't be made: $(cat "$room/said")"
-    { cp -- "$room/new.blk" "$blocks.$$" && mv -n -- "$blocks.$$" "$blocks"; } 2> "$room/said" || {
-      rm -f -- "$blocks.$$"
-      refuse "$blocks can't be made: $(cat "$room/said")"
-    }
+  [ -d "$folder" ] || refuse "$blocks can't be made: there is no folder $folder"
+  [ -w "$folder" ] || refuse "$blocks can't be made: the folder $folder can't be written; name a file elsewhere, as ./forth ~/my.blk"
+  "$forth83" kernel "$room/new.blk" > "$room/said" || refuse "$blocks can't be made: $(cat "$room/said")"
+  { cp -- "$room/new.blk" "$blocks.$$" && mv -n -- "$blocks.$$" "$blocks"; } 2> "$room/said" || {
     rm -f -- "$blocks.$$"
-  fi
+    refuse "$blocks can't be made: $(cat "$room/said")"
+  }
+  rm -f -- "$blocks.$$"
+  say "$blocks is new"
+}
+
+# The process that has a lock on the block file, where the system tells it.
+holder() {
+  local inode pid
+  inode=$(stat -L -c %i -- "$blocks")
+  pid=$(awk -v at=":$inode" '$2 == "FLOCK" && substr($6, length($6) - length(at) + 1) == at { print $5; exit }' /proc/locks 2> /dev/null)
+  [ -z "$pid" ] || echo " (process $pid)"
+}
+
+# Refuses a block file that can't be used, with the reason and what to do. The file stays open for the session, so that it's found
+# again where another takes its place meanwhile.
+open_blocks() {
+  [ -e "$blocks" ] || make_blocks
   [ ! -d "$blocks" ] || refuse "$blocks is a folder; name a file of blocks"
   [ -f "$blocks" ] || refuse "$blocks is no file of blocks"
   [ -r "$blocks" ] || refuse "$blocks can't be read: its permissions don't allow it; chmod u+r $blocks"
   [ -w "$blocks" ] || refuse "$blocks can't be written: it is read-only; chmod u+w $blocks, or work on a copy: cp $blocks my.blk && chmod u+w my.blk"
+  [ "$(head -c 8 -- "$blocks" | tr -d '\0')" != FTH83IMG ] || refuse "$blocks is an image, and no file of blocks; ./forth83 run $blocks runs it"
+  [ "$(stat -L -c %s -- "$blocks")" -ge 1024 ] || say "$blocks has no screen; ./forth83 new NAME 64 makes a file of 64 blank ones"
   exec 9<> "$blocks"
-  if command -v flock > /dev/null && ! flock -n 9; then
-    refuse "$blocks is in use by another run; leave that by BYE, or work on a copy"
+  if command -v flock > /dev/null; then
+    flock -n 9 || refuse "$blocks is in use by another run$(holder); leave that by BYE, or work on a copy"
+    flock -u 9
+  fi
+}
+
+# Where another file has taken the place of the blocks meanwhile, what the session wrote is kept beside it.
+keep_session() {
+  local kept=$blocks.session count=1
+  [ "$(stat -L -c %d:%i -- "$blocks" 2> /dev/null)" != "$(stat -L -c %d:%i /dev/fd/9)" ] || return 0
+  while [ -e "$kept" ]; do
+    count=$((count + 1))
+    kept=$blocks.session$count
+  done
+  if cp -- /dev/fd/9 "$kept" 2> "$room/said"; then
+    say "another file took the place of $blocks meanwhile; what this session wrote is in $kept"
+  else
+    say "another file took the place of $blocks meanwhile, and what this session wrote can't be kept: $(cat "$room/said")"
   fi
 }
 
 # The terminal as the tools need it: it neither echoes nor edits.
 by_key() {
   stty -icanon -echo min 1 time 0
+  keyed=
+}
+
+# Whether the program waits for a key: it is in the system's call `read` of its standard input.
+is_waiting() {
+  local call=
+  { read -r call < "/proc/$child/syscall"; } 2> /dev/null
+  [ "${call:0:6}" = '0 0x0 ' ]
+}
+
+# While the program waits for a key, ^C is a key, which the tools take as the end of a line or of what asks; a wish to break off
+# that came late is taken back. While the program computes, ^C is a signal to the launcher.
+watch_keys() {
+  local now
+  exec 7<> <(:)
+  while kill -0 "$child" 2> /dev/null; do
+    if is_waiting; then
+      now=undef
+      [ ! -e "$room/break" ] || rm -f "$room/break"
+    else
+      now=$interrupt_key
+    fi
+    if [ "$now" != "$keyed" ]; then
+      stty intr "$now"
+      keyed=$now
+    fi
+    read -r -t 0.05 -u 7
+  done
+}
+
+# ^C while the program computes: it is asked to break off; where it hasn't by the next one, it ends.
+interrupt() {
+  if [ -e "$room/break" ]; then
+    broken=1
+    kill "$child" 2> /dev/null
+  else
+    : > "$room/break"
+  fi
 }
 
 # ^Z: the terminal is as before while the run is stopped. The program stops first: until then it would read what the shell is typed.
@@ -197,29 +269,33 @@ ended() {
     status=0
     wait "$child" || status=$?
   done
+  [ -z "$broken" ] || status=130
   [ -z "$killed" ] || status=143
 }
 
-# Runs the tools' image at the terminal. The program is a child that is waited for, so that signals are seen meanwhile; where the
-# system's `env` can't give it back its ^C, it is simply called.
+# Runs the tools' image at the terminal. The program is a child that is watched, so that signals are seen meanwhile; it takes no
+# notice of ^C. Where the system's `env` can't give it back its other signals, it is simply called.
 run_at_terminal() {
-  local run=("$forth83" run -- "$images/tools.img" "$blocks")
   saved=$(stty -g)
+  interrupt_key=$(stty -a | sed -n 's/.*intr = \([^;]*\);.*/\1/p')
+  case $interrupt_key in '' | '<'*) interrupt_key=undef ;; esac
   trap : INT QUIT
   by_key
-  say "$blocks, $(($(stat -L -c %s -- "$blocks") / 1024)) screens. Words are in capitals; WORDS and HELP tell more."
-  say "BYE or ^D saves changed screens and leaves; ^C loses what isn't SAVEd."
+  say "$blocks, $(($(stat -L -c %s -- "$blocks") / 1024)) screens. WORDS and HELP tell more."
+  say "BYE or ^D saves changed screens and leaves; ^C breaks off what goes on."
   if env --default-signal=INT,QUIT,TSTP true 2> /dev/null; then
+    trap interrupt INT
     trap stop TSTP
     trap by_key CONT
     trap 'killed=1; [ -z "$child" ] || kill "$child"' TERM HUP
-    env --default-signal=INT,QUIT,TSTP "${run[@]}" <&0 &
+    env --ignore-signal=INT --default-signal=QUIT,TSTP "$forth83" run --break "$room/break" -- "$images/tools.img" "$blocks" <&0 9>&- &
     child=$!
     [ -z "$killed" ] || kill "$child"
+    watch_keys
     ended
   else
     stty susp undef
-    "${run[@]}" || status=$?
+    "$forth83" run -- "$images/tools.img" "$blocks" 9>&- || status=$?
   fi
   echo
 }
@@ -251,8 +327,9 @@ status=0
 if [ -t 0 ] && [ -t 1 ]; then
   run_at_terminal
 else
-  "$forth83" run -- "$images/plain.img" "$blocks" || status=$?
+  "$forth83" run -- "$images/plain.img" "$blocks" 9>&- || status=$?
 fi
+keep_session
 case $status in
   3) say "a fault ended it, that no fault thread handles" ;;
   4) say "the limit of ticks ended it" ;;
