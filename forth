@@ -14,6 +14,7 @@ keyed=
 interrupt_key=
 wanted=
 unproved=
+is_new=
 
 say() {
   echo "forth: $1" >&2
@@ -158,7 +159,7 @@ make_blocks() {
     refuse "$blocks can't be made: $(cat "$room/said")"
   }
   rm -f -- "$blocks.$$"
-  say "$blocks is new"
+  is_new=', a new file'
 }
 
 # The process that has a lock on the block file, where the system tells it.
@@ -281,7 +282,7 @@ run_at_terminal() {
   case $interrupt_key in '' | '<'*) interrupt_key=undef ;; esac
   trap : INT QUIT
   by_key
-  say "$blocks, $(($(stat -L -c %s -- "$blocks") / 1024)) screens. WORDS and HELP tell more."
+  say "$blocks, $(($(stat -L -c %s -- "$blocks") / 1024)) screens$is_new. WORDS and HELP tell more."
   say "BYE or ^D saves changed screens and leaves; ^C breaks off what goes on."
   if env --default-signal=INT,QUIT,TSTP true 2> /dev/null; then
     trap interrupt INT
@@ -327,6 +328,7 @@ status=0
 if [ -t 0 ] && [ -t 1 ]; then
   run_at_terminal
 else
+  [ -z "$is_new" ] || say "$blocks is a new file"
   "$forth83" run -- "$images/plain.img" "$blocks" 9>&- || status=$?
 fi
 keep_session

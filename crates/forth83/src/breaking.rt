@@ -7,8 +7,8 @@ use inner_interpreter::{Input, Machine, Output, Stop, run};
 use std::fs;
 use subcommands::{Ended, refuse_image, status_of};
 
-/// How many ticks a slice has: some hundredths of a second.
-const SLICE: u64 = 10_000_000;
+/// How many ticks a slice has: less than a thousandth of a second, and where each shows a byte at a terminal, less than one.
+const SLICE: u64 = 250_000;
 
 /// The word that a run goes on with where it is broken off.
 const BREAK: &[u8] = b"BREAK";
