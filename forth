@@ -1,14 +1,20 @@
 #!/usr/bin/env bash
 # The Forth over a file of blocks; `./forth --help` tells how. At a terminal it has the workbench's tools, and takes lines by KEY;
-# into pipes and files it is the kernel alone, so that its output is what the machine shows.
+# into pipes and files it is the kernel alone, so that its output is what the machine shows. Where the program isn't proved yet it
+# runs the same one without its proofs, and has the proof made meanwhile.
 set -uo pipefail
 here=$(cd "$(dirname "$(readlink -f "${BASH_SOURCE[0]}")")" && pwd)
-forth83=$here/forth83
+forth83=$here/crates/forth83/out/forth83
 kept=$here/workbench/out
 saved=
 child=
 killed=
+broken=
+keyed=
+interrupt_key=
+wanted=
 unproved=
+is_new=
 
 say() {
   echo "forth: $1" >&2
@@ -18,7 +24,9 @@ usage() {
   cat >&2 << 'END'
 usage: ./forth [BLOCKS]                      works on the file BLOCKS, forth.blk where none is named, and makes it where it isn't there
        ./forth --kernel-of SOURCES [BLOCKS]  does so with a kernel built of screens 1 to 20 of SOURCES
-       ./forth --unproved [BLOCKS]           does so by a slow program of which nothing is proved, ready in a minute
+       ./forth --proved [BLOCKS]             waits for the proved program, where it isn't there yet
+       ./forth --unproved [BLOCKS]           runs the program without proofs, and has nothing proved
+       ./forth --status                      says which program is there, and how far its proof is
 A name that begins with - is written as ./-NAME.
 END
   exit "$1"
@@ -34,7 +42,7 @@ refuse() {
 is_made() {
   local from
   [ -f "$1" ] || return 1
-  for from in "$here/forth83" "$here/crates/forth83/out/forth83" "$here"/workbench/{make,*.txt}; do
+  for from in "$forth83" "$here"/workbench/{make,*.txt}; do
     if [ "$from" -nt "$1" ]; then
       return 1
     fi
@@ -66,15 +74,61 @@ make_images() {
   mv -f -- "$2/plain.new" "$2/plain.img" && mv -f -- "$2/tools.new" "$2/tools.img"
 }
 
-# The program as `rt try` makes it, kept beside the tools' images, or in ROOM where nothing can be kept there.
+# show_seconds PID: a line that moves until the process has ended, where standard error is a terminal.
+show_seconds() {
+  local seconds=0
+  while kill -0 "$1" 2> /dev/null; do
+    [ ! -t 2 ] || printf '\rforth: %d seconds so far\033[K' "$seconds" >&2
+    sleep 1
+    seconds=$((seconds + 1))
+  done
+  [ ! -t 2 ] || printf '\r\033[K' >&2
+}
+
+# The program without proofs, kept beside the tools' images, or in ROOM where nothing can be kept there.
 find_unproved() {
+  unproved=1
   forth83=$kept/unproved
-  if [ -x "$forth83" ] && [ -z "$(find "$here/crates.txt" "$here"/crates/*/src -newer "$forth83" -type f -print -quit 2> /dev/null)" ]; then
-    return
-  fi
   mkdir -p "$kept" 2> /dev/null && [ -w "$kept" ] || forth83=$room/unproved
-  say "making the program without its proofs takes a minute or so"
-  "$here/workbench/unproved" "$forth83" || exit 1
+  "$here/workbench/unproved" "$forth83" 2> "$room/said" &
+  child=$!
+  sleep 0.5
+  if kill -0 "$child" 2> /dev/null; then
+    say "making the program without its proofs takes about a minute"
+    show_seconds "$child"
+  fi
+  wait "$child" || { cat "$room/said" >&2; exit 1; }
+  child=
+  cat "$room/said" >&2
+}
+
+# Has the proof made in the background, behind this session.
+begin_proof() {
+  if "$here/workbench/prove" --meanwhile < /dev/null > /dev/null 2> "$room/said"; then
+    : > "$kept/awaited"
+    say "this program isn't proved yet. Its proof is being made meanwhile; ./forth --status tells how far it is."
+  else
+    cat "$room/said" >&2
+    say "this program isn't proved."
+  fi
+}
+
+# The program that runs: the proved one, or, where it isn't there and isn't waited for, that without proofs.
+find_program() {
+  if [ "$wanted" = unproved ]; then
+    find_unproved
+    say "UNPROVED: nothing is proved of this program; ./forth --proved proves and builds it first."
+  elif "$here/workbench/is-proved" || { [ "$wanted" = proved ] && "$here/workbench/prove" < /dev/null; }; then
+    if [ -e "$kept/awaited" ]; then
+      rm -f -- "$kept/awaited"
+      say "this program is proved now; ./forth --status tells more."
+    fi
+  elif [ "$wanted" = proved ]; then
+    exit 1
+  else
+    find_unproved
+    begin_proof
+  fi
 }
 
 # The images of the program's own kernel, kept beside the tools' texts, or in ROOM where nothing can be kept there. What an
@@ -93,33 +147,102 @@ find_images() {
   images=$room
 }
 
-# Makes the block file where it isn't there; refuses one that can't be used, with the reason and what to do.
-open_blocks() {
+# Makes the block file where it isn't there.
+make_blocks() {
   local folder
   folder=$(dirname -- "$blocks")
-  if [ ! -e "$blocks" ]; then
-    [ -d "$folder" ] || refuse "$blocks can't be made: there is no folder $folder"
-    [ -w "$folder" ] || refuse "$blocks can't be made: the folder $folder can't be written; name a file elsewhere, as ./forth ~/my.blk"
-    "$forth83" kernel "$room/new.blk" > "$room/said" || refuse "$blocks can't be made: $(cat "$room/said")"
-    { cp -- "$room/new.blk" "$blocks.$$" && mv -n -- "$blocks.$$" "$blocks"; } 2> "$room/said" || {
-      rm -f -- "$blocks.$$"
-      refuse "$blocks can't be made: $(cat "$room/said")"
-    }
+  [ -d "$folder" ] || refuse "$blocks can't be made: there is no folder $folder"
+  [ -w "$folder" ] || refuse "$blocks can't be made: the folder $folder can't be written; name a file elsewhere, as ./forth ~/my.blk"
+  "$forth83" kernel "$room/new.blk" > "$room/said" || refuse "$blocks can't be made: $(cat "$room/said")"
+  { cp -- "$room/new.blk" "$blocks.$$" && mv -n -- "$blocks.$$" "$blocks"; } 2> "$room/said" || {
     rm -f -- "$blocks.$$"
-  fi
+    refuse "$blocks can't be made: $(cat "$room/said")"
+  }
+  rm -f -- "$blocks.$$"
+  is_new=', a new file'
+}
+
+# The process that has a lock on the block file, where the system tells it.
+holder() {
+  local inode pid
+  inode=$(stat -L -c %i -- "$blocks")
+  pid=$(awk -v at=":$inode" '$2 == "FLOCK" && substr($6, length($6) - length(at) + 1) == at { print $5; exit }' /proc/locks 2> /dev/null)
+  [ -z "$pid" ] || echo " (process $pid)"
+}
+
+# Refuses a block file that can't be used, with the reason and what to do. The file stays open for the session, so that it's found
+# again where another takes its place meanwhile.
+open_blocks() {
+  [ -e "$blocks" ] || make_blocks
   [ ! -d "$blocks" ] || refuse "$blocks is a folder; name a file of blocks"
   [ -f "$blocks" ] || refuse "$blocks is no file of blocks"
   [ -r "$blocks" ] || refuse "$blocks can't be read: its permissions don't allow it; chmod u+r $blocks"
   [ -w "$blocks" ] || refuse "$blocks can't be written: it is read-only; chmod u+w $blocks, or work on a copy: cp $blocks my.blk && chmod u+w my.blk"
+  [ "$(head -c 8 -- "$blocks" | tr -d '\0')" != FTH83IMG ] || refuse "$blocks is an image, and no file of blocks; ./forth83 run $blocks runs it"
+  [ "$(stat -L -c %s -- "$blocks")" -ge 1024 ] || say "$blocks has no screen; ./forth83 new NAME 64 makes a file of 64 blank ones"
   exec 9<> "$blocks"
-  if command -v flock > /dev/null && ! flock -n 9; then
-    refuse "$blocks is in use by another run; leave that by BYE, or work on a copy"
+  if command -v flock > /dev/null; then
+    flock -n 9 || refuse "$blocks is in use by another run$(holder); leave that by BYE, or work on a copy"
+    flock -u 9
+  fi
+}
+
+# Where another file has taken the place of the blocks meanwhile, what the session wrote is kept beside it.
+keep_session() {
+  local kept=$blocks.session count=1
+  [ "$(stat -L -c %d:%i -- "$blocks" 2> /dev/null)" != "$(stat -L -c %d:%i /dev/fd/9)" ] || return 0
+  while [ -e "$kept" ]; do
+    count=$((count + 1))
+    kept=$blocks.session$count
+  done
+  if cp -- /dev/fd/9 "$kept" 2> "$room/said"; then
+    say "another file took the place of $blocks meanwhile; what this session wrote is in $kept"
+  else
+    say "another file took the place of $blocks meanwhile, and what this session wrote can't be kept: $(cat "$room/said")"
   fi
 }
 
 # The terminal as the tools need it: it neither echoes nor edits.
 by_key() {
   stty -icanon -echo min 1 time 0
+  keyed=
+}
+
+# Whether the program waits for a key: it is in the system's call `read` of its standard input.
+is_waiting() {
+  local call=
+  { read -r call < "/proc/$child/syscall"; } 2> /dev/null
+  [ "${call:0:6}" = '0 0x0 ' ]
+}
+
+# While the program waits for a key, ^C is a key, which the tools take as the end of a line or of what asks; a wish to break off
+# that came late is taken back. While the program computes, ^C is a signal to the launcher.
+watch_keys() {
+  local now
+  exec 7<> <(:)
+  while kill -0 "$child" 2> /dev/null; do
+    if is_waiting; then
+      now=undef
+      [ ! -e "$room/break" ] || rm -f "$room/break"
+    else
+      now=$interrupt_key
+    fi
+    if [ "$now" != "$keyed" ]; then
+      stty intr "$now"
+      keyed=$now
+    fi
+    read -r -t 0.05 -u 7
+  done
+}
+
+# ^C while the program computes: it is asked to break off; where it hasn't by the next one, it ends.
+interrupt() {
+  if [ -e "$room/break" ]; then
+    broken=1
+    kill "$child" 2> /dev/null
+  else
+    : > "$room/break"
+  fi
 }
 
 # ^Z: the terminal is as before while the run is stopped. The program stops first: until then it would read what the shell is typed.
@@ -147,38 +270,43 @@ ended() {
     status=0
     wait "$child" || status=$?
   done
+  [ -z "$broken" ] || status=130
   [ -z "$killed" ] || status=143
 }
 
-# Runs the tools' image at the terminal. The program is a child that is waited for, so that signals are seen meanwhile; where the
-# system's `env` can't give it back its ^C, it is simply called.
+# Runs the tools' image at the terminal. The program is a child that is watched, so that signals are seen meanwhile; it takes no
+# notice of ^C. Where the system's `env` can't give it back its other signals, it is simply called.
 run_at_terminal() {
-  local run=("$forth83" run -- "$images/tools.img" "$blocks")
   saved=$(stty -g)
+  interrupt_key=$(stty -a | sed -n 's/.*intr = \([^;]*\);.*/\1/p')
+  case $interrupt_key in '' | '<'*) interrupt_key=undef ;; esac
   trap : INT QUIT
   by_key
-  say "$blocks, $(($(stat -L -c %s -- "$blocks") / 1024)) screens. Words are in capitals; WORDS and HELP tell more."
-  say "BYE or ^D saves changed screens and leaves; ^C loses what isn't SAVEd."
+  say "$blocks, $(($(stat -L -c %s -- "$blocks") / 1024)) screens$is_new. WORDS and HELP tell more."
+  say "BYE or ^D saves changed screens and leaves; ^C breaks off what goes on."
   if env --default-signal=INT,QUIT,TSTP true 2> /dev/null; then
+    trap interrupt INT
     trap stop TSTP
     trap by_key CONT
     trap 'killed=1; [ -z "$child" ] || kill "$child"' TERM HUP
-    env --default-signal=INT,QUIT,TSTP "${run[@]}" <&0 &
+    env --ignore-signal=INT --default-signal=QUIT,TSTP "$forth83" run --break "$room/break" -- "$images/tools.img" "$blocks" <&0 9>&- &
     child=$!
     [ -z "$killed" ] || kill "$child"
+    watch_keys
     ended
   else
     stty susp undef
-    "${run[@]}" || status=$?
+    "$forth83" run -- "$images/tools.img" "$blocks" 9>&- || status=$?
   fi
   echo
 }
 
+sources=
 case ${1:-} in
   -h | --help) usage 0 ;;
-  --unproved) unproved=1 sources=; shift ;;
+  --status) [ $# -eq 1 ] || usage 2; exec "$here/workbench/prove" --status ;;
+  --proved | --unproved) wanted=${1#--}; shift ;;
   --kernel-of) [ $# -ge 2 ] && [ $# -le 3 ] || usage 2; sources=$2; shift 2; set -- "${1:-$sources}" ;;
-  *) sources= ;;
 esac
 [ $# -le 1 ] || usage 2
 case "${1:-} $sources" in -* | *' -'*) usage 2 ;; esac
@@ -186,9 +314,7 @@ blocks=${1-forth.blk}
 [ -n "$blocks" ] || usage 2
 room=$(mktemp -d) || exit 1
 trap leave EXIT
-if [ -n "$unproved" ]; then
-  find_unproved
-fi
+find_program
 "$forth83" --version > /dev/null || exit 1
 if [ -n "$sources" ]; then
   [ -f "$sources" ] && [ -r "$sources" ] || refuse "$sources isn't there, or can't be read"
@@ -198,15 +324,14 @@ else
   find_images
 fi
 open_blocks
-if [ -n "$unproved" ]; then
-  say "UNPROVED: nothing is proved of this program, and it is slow; ./forth without --unproved proves and builds it."
-fi
 status=0
 if [ -t 0 ] && [ -t 1 ]; then
   run_at_terminal
 else
-  "$forth83" run -- "$images/plain.img" "$blocks" || status=$?
+  [ -z "$is_new" ] || say "$blocks is a new file"
+  "$forth83" run -- "$images/plain.img" "$blocks" 9>&- || status=$?
 fi
+keep_session
 case $status in
   3) say "a fault ended it, that no fault thread handles" ;;
   4) say "the limit of ticks ended it" ;;

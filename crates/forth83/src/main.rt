@@ -1,26 +1,26 @@
 //! A Forth-83 system with block storage.
 #![tactic(auto)]
 
+mod breaking;
 mod places;
-mod words;
 
 ghost use Rattle.std.specs.Prelude.{◌≡◌, ◌↔◌, true};
 ghost use Rattle.memory.specs.Bytes.{IsCount};
 
 use block_buffers::{Device, MemoryDevice};
+use breaking::run_slices;
+use command_words::{BuildWords, LoadWords, Parsed, ScreenRange, Words};
 use inner_interpreter::{Reading, Writing};
 use places::{blocks_of, show_place, show_stop};
-use std::fs::File;
 use std::io::{BufReader, BufWriter, ErrorKind, IsTerminal, Stdin, Stdout};
 use std::os::fd::AsFd;
 use std::process::ExitCode;
 use std::{fs, io};
 use subcommands::{
-    Ended, FileDevice, create_file, do_build, do_debug, do_kernel, do_load, do_new, do_run,
-    do_screens, do_see, do_text, do_upgrade, do_view, open_device, open_to_read, read_blocks,
-    read_file, read_image, write_file,
+    Ended, FileDevice, Holding, TraceFile, Unopened, do_build, do_debug, do_kernel, do_load,
+    do_new, do_run, do_screens, do_see, do_text, do_upgrade, do_view, hold, holding, open_device,
+    open_to_read, read_blocks, read_file, read_image, write_file,
 };
-use words::{BuildWords, LoadWords, Parsed, ScreenRange, Words};
 
 /// Prints a line of the program's own, and answers the status: 5 where it can't be written.
 fn say<R: Print>(rt: &R, text: &str, name: &str, status: u8) -> u8 {
@@ -77,9 +77,68 @@ fn image_bytes(rt: &HostRuntime, image: &str) -> Result<Vec<u8>, u8> {
     }
 }
 
+/// Prints why a file isn't used as it is named, and answers the status.
+fn refuse_use(rt: &HostRuntime, name: &str, why: &str) -> u8 {
+    match println!(rt; "error: {name} {why}") {
+        Ok(()) => 2,
+        Err(_) => 5,
+    }
+}
+
+/// Sees to it that an image isn't taken for a file of blocks. Where it would be that is printed, and the status is the error.
+fn keep_blocks(rt: &HostRuntime, blocks: &str) -> Result<(), u8> {
+    match holding(rt, blocks) {
+        Holding::Image => Err(refuse_use(rt, blocks, "is an image, and no file of blocks")),
+        Holding::Blocks | Holding::Other => Ok(()),
+    }
+}
+
+/// Sees to it that an image isn't written over blocks. Where it would be that is printed, and the status is the error.
+fn keep_image(rt: &HostRuntime, image: &str) -> Result<(), u8> {
+    match holding(rt, image) {
+        Holding::Blocks => Err(refuse_use(rt, image, "is there already, and is no image")),
+        Holding::Image | Holding::Other => Ok(()),
+    }
+}
+
+/// Sees to it that a trace isn't written over blocks or an image. Where it would be that is printed, and the status is the
+/// error.
+fn keep_trace(rt: &HostRuntime, trace: &str) -> Result<(), u8> {
+    match holding(rt, trace) {
+        Holding::Blocks | Holding::Image => Err(refuse_use(
+            rt,
+            trace,
+            "is there already, and is no trace",
+        )),
+        Holding::Other => Ok(()),
+    }
+}
+
+/// Prints why a file of blocks isn't opened, and answers the status.
+fn refuse_blocks(rt: &HostRuntime, blocks: &str, why: Unopened) -> u8 {
+    match why {
+        Unopened::CannotOpen => cannot_open(rt, blocks),
+        Unopened::InUse => refuse_use(
+            rt,
+            blocks,
+            "is in use by another run; end that first, or take a copy",
+        ),
+    }
+}
+
 /// The file of blocks of a run. Where it can't be opened that is printed, and the status is the error.
 fn run_blocks(rt: &HostRuntime, blocks: &str) -> Result<FileDevice, u8> {
+    keep_blocks(rt, blocks)?;
     match open_device(rt, blocks) {
+        Ok(device) => Ok(device),
+        Err(why) => Err(refuse_blocks(rt, blocks, why)),
+    }
+}
+
+/// The file of blocks that is only read. Where it can't be opened that is printed, and the status is the error.
+fn read_alone(rt: &HostRuntime, blocks: &str) -> Result<FileDevice, u8> {
+    keep_blocks(rt, blocks)?;
+    match open_to_read(rt, blocks) {
         Some(device) => Ok(device),
         None => Err(cannot_open(rt, blocks)),
     }
@@ -138,6 +197,7 @@ fn keep_apart(rt: &HostRuntime, read: &str, written: &str, files: &str) -> Resul
 
 /// Writes the new file that `kernel` names.
 fn write_kernel(rt: &HostRuntime, blocks: &str) -> Result<u8, u8> {
+    let _held = hold(rt, blocks).map_err(|why| refuse_blocks(rt, blocks, why))?;
     let mut writer = standard_output(rt)?;
     let ended = do_kernel(rt.alloc(), &mut writer);
     Ok(finish(rt, ended, blocks))
@@ -160,9 +220,8 @@ fn build_image(rt: &HostRuntime, words: &BuildWords) -> Result<u8, u8> {
     let blocks = words.screens.blocks.as_str();
     let image = words.image.as_str();
     keep_apart(rt, blocks, image, "the blocks and the image")?;
-    let Some(mut device) = open_to_read(rt, blocks) else {
-        return Err(cannot_open(rt, blocks));
-    };
+    keep_image(rt, image)?;
+    let mut device = read_alone(rt, blocks)?;
     let mut writer = standard_output(rt)?;
     let ended = do_build(rt.alloc(), &mut device, from, to, buffers, &mut writer);
     if ended.status == 1 && (words.shows_place || rt.stderr().is_terminal()) {
@@ -177,6 +236,7 @@ fn load_screens(rt: &HostRuntime, words: &LoadWords) -> Result<u8, u8> {
     let blocks = words.screens.blocks.as_str();
     let (out, limit) = (words.out.as_str(), words.limit);
     keep_apart(rt, blocks, out, "the blocks and the new image")?;
+    keep_image(rt, out)?;
     let bytes = image_bytes(rt, words.image.as_str())?;
     let bytes = bytes.as_slice();
     let mut device = run_blocks(rt, blocks)?;
@@ -200,6 +260,7 @@ fn upgrade_image(rt: &HostRuntime, image: &str, out: &str, buffers: Option<u16>)
             return Err(2);
         }
     }
+    keep_image(rt, out)?;
     let bytes = image_bytes(rt, image)?;
     let mut writer = standard_output(rt)?;
     let ended = do_upgrade(rt.alloc(), bytes.as_slice(), buffers, &mut writer);
@@ -213,9 +274,7 @@ const MOST_BLOCKS: u32 = 65536;
 fn print_text(rt: &HostRuntime, words: &ScreenRange) -> Result<u8, u8> {
     let ScreenRange { from, to, .. } = *words;
     let blocks = words.blocks.as_str();
-    let Some(mut device) = open_to_read(rt, blocks) else {
-        return Err(cannot_open(rt, blocks));
-    };
+    let mut device = read_alone(rt, blocks)?;
     let mut writer = standard_output(rt)?;
     Ok(do_text(rt.alloc(), &mut device, from, to, &mut writer).status)
 }
@@ -227,6 +286,8 @@ fn write_screens(rt: &HostRuntime, text: &str, blocks: &str) -> Result<u8, u8> {
         Ok(bytes) => bytes,
         Err(error) => return Err(refuse_file(rt, &error, text)),
     };
+    keep_blocks(rt, blocks)?;
+    let _held = hold(rt, blocks).map_err(|why| refuse_blocks(rt, blocks, why))?;
     let old = match read_blocks(rt, blocks) {
         Ok(old) => old,
         Err(error) => return Err(refuse_file(rt, &error, blocks)),
@@ -273,39 +334,49 @@ fn see_word(rt: &HostRuntime, image: &str, name: &str) -> Result<u8, u8> {
     Ok(do_see(rt.alloc(), bytes.as_slice(), name, &mut writer).status)
 }
 
-/// Runs an image over this device, and standard input and output.
+/// Runs an image over this device, and standard input and output; where a file is named that breaks it off, in slices.
 fn run_over<D: Device>(
     rt: &HostRuntime,
     image: &[u8],
     device: &mut D,
     limit: u64,
+    break_file: Option<&str>,
 ) -> Result<u8, u8> {
     let mut reader = standard_input(rt)?;
     let mut writer = standard_output(rt)?;
-    let ended = do_run(rt.alloc(), image, device, limit, &mut reader, &mut writer);
+    let ended = match break_file {
+        None => do_run(rt.alloc(), image, device, limit, &mut reader, &mut writer),
+        Some(file) => run_slices(rt, image, device, limit, file, &mut reader, &mut writer),
+    };
     Ok(ended.status)
 }
 
 /// Opens what `run` names, and runs the image.
-fn run_image(rt: &HostRuntime, image: &str, blocks: Option<&str>, limit: u64) -> Result<u8, u8> {
+fn run_image(
+    rt: &HostRuntime,
+    image: &str,
+    blocks: Option<&str>,
+    limit: u64,
+    break_file: Option<&str>,
+) -> Result<u8, u8> {
     let bytes = image_bytes(rt, image)?;
     let bytes = bytes.as_slice();
     match blocks {
         None => {
             let mut device = no_blocks(rt);
-            run_over(rt, bytes, &mut device, limit)
+            run_over(rt, bytes, &mut device, limit, break_file)
         }
         Some(name) => {
             let mut device = run_blocks(rt, name)?;
-            run_over(rt, bytes, &mut device, limit)
+            run_over(rt, bytes, &mut device, limit, break_file)
         }
     }
 }
 
-/// The file of a trace, made anew. What a terminal is shown is written at once. Where the file can't be opened that is
-/// printed, and the status is the error.
-fn trace_file(rt: &HostRuntime, name: &str) -> Result<Writing<BufWriter<File>>, u8> {
-    let Ok(file) = create_file(rt, name) else {
+/// The file of a trace, which is emptied where the run begins. What a terminal is shown is written at once. Where the file
+/// can't be opened that is printed, and the status is the error.
+fn trace_file(rt: &HostRuntime, name: &str) -> Result<Writing<BufWriter<TraceFile>>, u8> {
+    let Ok(file) = TraceFile::open(rt, name) else {
         return Err(cannot_open(rt, name));
     };
     let gathered = if file.is_terminal() {
@@ -319,7 +390,7 @@ fn trace_file(rt: &HostRuntime, name: &str) -> Result<Writing<BufWriter<File>>, 
     }
 }
 
-/// Opens the trace that `debug` names, and runs the image over this device.
+/// Opens the trace that `debug` names, and runs the image over this device. Where nothing is run, no new trace is left.
 fn debug_over<D: Device>(
     rt: &HostRuntime,
     image: &[u8],
@@ -328,6 +399,7 @@ fn debug_over<D: Device>(
     device: &mut D,
     limit: u64,
 ) -> Result<u8, u8> {
+    let is_new = matches!(fs::exists(rt, trace), Ok(false));
     let mut lines = trace_file(rt, trace)?;
     let mut reader = standard_input(rt)?;
     let mut writer = standard_output(rt)?;
@@ -341,6 +413,9 @@ fn debug_over<D: Device>(
         &mut writer,
         &mut lines,
     );
+    if is_new && ended.status == 1 {
+        let _gone = fs::remove_file(rt, trace);
+    }
     Ok(ended.status)
 }
 
@@ -357,6 +432,7 @@ fn debug_word(
     if let Some(file) = blocks {
         keep_apart(rt, file, trace, "the blocks and the trace")?;
     }
+    keep_trace(rt, trace)?;
     let bytes = image_bytes(rt, image)?;
     let bytes = bytes.as_slice();
     match blocks {
@@ -390,7 +466,14 @@ fn obey(rt: &HostRuntime, words: Words) -> Result<u8, u8> {
             image,
             blocks,
             limit,
-        } => run_image(rt, image.as_str(), blocks.as_deref(), limit),
+            break_file,
+        } => run_image(
+            rt,
+            image.as_str(),
+            blocks.as_deref(),
+            limit,
+            break_file.as_deref(),
+        ),
         Words::Debug {
             image,
             name,
@@ -411,7 +494,7 @@ fn obey(rt: &HostRuntime, words: Words) -> Result<u8, u8> {
 }
 
 fn main(rt: HostRuntime) -> ExitCode {
-    let status = match words::parse(&rt) {
+    let status = match command_words::parse(&rt) {
         Parsed::Exit(status) => status,
         Parsed::OutOfMemory => out_of_memory(&rt),
         Parsed::Words(words) => match obey(&rt, words) {

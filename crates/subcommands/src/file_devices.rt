@@ -4,6 +4,7 @@ ghost use Rattle.std.specs.Prelude.{◌≤◌, None};
 ghost use Rattle.subcommands.specs.Streams.{IsApart};
 
 use crate::files::open_apart;
+use crate::guards::{Unopened, is_in_use};
 use block_buffers::{CallLog, Device, DeviceFault};
 use std::fs::{File, OpenOptions};
 use std::io;
@@ -19,9 +20,18 @@ pub struct FileDevice {
     ghost apart: { IsApart file },
 }
 
-/// Opens a file of blocks for reading and writing. `None`: it can't be opened.
-pub fn open_device(rt: &HostRuntime, name: &str) -> Option<FileDevice> {
-    open_blocks(rt, OpenOptions::new().read(true).write(true), name)
+/// Opens a file of blocks for reading and writing, and holds it against other runs. `CannotOpen`: the system refuses it;
+/// `InUse`: another run has it.
+pub fn open_device(rt: &HostRuntime, name: &str) -> Result<FileDevice, Unopened> {
+    match open_blocks(rt, OpenOptions::new().read(true).write(true), name) {
+        Some(device) => {
+            if is_in_use(&device.file) {
+                return Err(Unopened::InUse);
+            }
+            Ok(device)
+        }
+        None => Err(Unopened::CannotOpen),
+    }
 }
 
 /// Opens a file of blocks for reading alone: each write fails. `None`: it can't be opened.

@@ -63,14 +63,3 @@ pub fn read_image(rt: &HostRuntime, name: &str) -> Result<Option<Vec<u8>>, Alloc
     };
     read_bytes(rt.alloc(), file)
 }
-
-/// Makes a file anew, which stands in for no standard stream. An error: it can't be opened.
-pub fn create_file(rt: &HostRuntime, name: &str) -> io::Result<File>
-    ensures { IfOk result IsApart }
-{
-    open_apart(
-        rt,
-        OpenOptions::new().write(true).create(true).truncate(true),
-        name,
-    )
-}

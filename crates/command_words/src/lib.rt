@@ -1,4 +1,5 @@
-//! The command line.
+//! The words that the program is started with: its subcommands, their arguments and options.
+#![tactic(auto)]
 
 use clap::error::ErrorKind;
 use clap::{Arg, ArgAction, ArgMatches, Command, value_parser};
@@ -41,6 +42,8 @@ pub enum Words {
         image: String,
         blocks: Option<String>,
         limit: u64,
+        /// The file that asks for the run to be broken off.
+        break_file: Option<String>,
     },
     Debug {
         image: String,
@@ -213,7 +216,13 @@ fn run_command<'a>(alloc: Global) -> Result<Command<'a>, AllocError> {
         .about("Run an image over standard input and output")
         .arg(word(alloc, "IMAGE", "The image file"))?
         .arg(Arg::new(alloc, "BLOCKS").help("A file of blocks of 1,024 bytes"))?
-        .arg(limit(alloc))
+        .arg(limit(alloc))?
+        .arg(
+            Arg::new(alloc, "break")
+                .long("break")
+                .value_name("FILE")
+                .help("Remove FILE as soon as it is there, and go on with the word BREAK"),
+        )
 }
 
 fn debug_command<'a>(alloc: Global) -> Result<Command<'a>, AllocError> {
@@ -368,10 +377,12 @@ fn run_words(alloc: Global, inner: &ArgMatches<'_>) -> Result<Option<Words>, All
     };
     let blocks = copied(alloc, inner, "BLOCKS")?;
     let limit = inner.get_one::<u64>("limit").unwrap_or(DEFAULT_LIMIT);
+    let break_file = copied(alloc, inner, "break")?;
     Ok(Some(Words::Run {
         image,
         blocks,
         limit,
+        break_file,
     }))
 }
 
