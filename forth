@@ -289,14 +289,14 @@ run_at_terminal() {
     trap stop TSTP
     trap by_key CONT
     trap 'killed=1; [ -z "$child" ] || kill "$child"' TERM HUP
-    env --ignore-signal=INT --default-signal=QUIT,TSTP "$forth83" run --break "$room/break" -- "$images/tools.img" "$blocks" <&0 9>&- &
+    env --ignore-signal=INT --default-signal=QUIT,TSTP "$forth83" run --save --break "$room/break" -- "$images/tools.img" "$blocks" <&0 9>&- &
     child=$!
     [ -z "$killed" ] || kill "$child"
     watch_keys
     ended
   else
     stty susp undef
-    "$forth83" run -- "$images/tools.img" "$blocks" 9>&- || status=$?
+    "$forth83" run --save -- "$images/tools.img" "$blocks" 9>&- || status=$?
   fi
   echo
 }
@@ -329,7 +329,7 @@ if [ -t 0 ] && [ -t 1 ]; then
   run_at_terminal
 else
   [ -z "$is_new" ] || say "$blocks is a new file"
-  "$forth83" run -- "$images/plain.img" "$blocks" 9>&- || status=$?
+  "$forth83" run --save -- "$images/plain.img" "$blocks" 9>&- || status=$?
 fi
 keep_session
 case $status in

@@ -38,13 +38,7 @@ pub enum Words {
         blocks: String,
         count: u32,
     },
-    Run {
-        image: String,
-        blocks: Option<String>,
-        limit: u64,
-        /// The file that asks for the run to be broken off.
-        break_file: Option<String>,
-    },
+    Run(RunWords),
     Debug {
         image: String,
         name: String,
@@ -90,6 +84,18 @@ pub struct LoadWords {
     pub limit: u64,
     /// Whether it is shown where the screens stopped, also if standard error is no terminal.
     pub shows_place: bool,
+}
+
+/// The words of `run`.
+#[derive(Drop)]
+pub struct RunWords {
+    pub image: String,
+    pub blocks: Option<String>,
+    pub limit: u64,
+    /// The file that asks for the run to be broken off.
+    pub break_file: Option<String>,
+    /// Whether changed blocks are written where the run ends.
+    pub saves: bool,
 }
 
 /// What became of the command line.
@@ -222,6 +228,12 @@ fn run_command<'a>(alloc: Global) -> Result<Command<'a>, AllocError> {
                 .long("break")
                 .value_name("FILE")
                 .help("Remove FILE as soon as it is there, and go on with the word BREAK"),
+        )?
+        .arg(
+            Arg::new(alloc, "save")
+                .long("save")
+                .action(ArgAction::SetTrue)
+                .help("Write changed blocks at BYE and at the end of input"),
         )
 }
 
@@ -378,12 +390,13 @@ fn run_words(alloc: Global, inner: &ArgMatches<'_>) -> Result<Option<Words>, All
     let blocks = copied(alloc, inner, "BLOCKS")?;
     let limit = inner.get_one::<u64>("limit").unwrap_or(DEFAULT_LIMIT);
     let break_file = copied(alloc, inner, "break")?;
-    Ok(Some(Words::Run {
+    Ok(Some(Words::Run(RunWords {
         image,
         blocks,
         limit,
         break_file,
-    }))
+        saves: inner.get_flag("save"),
+    })))
 }
 
 fn debug_words(alloc: Global, inner: &ArgMatches<'_>) -> Result<Option<Words>, AllocError> {

@@ -1,17 +1,17 @@
 //! A Forth-83 system with block storage.
 #![tactic(auto)]
 
-mod breaking;
 mod places;
+mod sessions;
 
 ghost use Rattle.std.specs.Prelude.{◌≡◌, ◌↔◌, true};
 ghost use Rattle.memory.specs.Bytes.{IsCount};
 
 use block_buffers::{Device, MemoryDevice};
-use breaking::run_slices;
-use command_words::{BuildWords, LoadWords, Parsed, ScreenRange, Words};
+use command_words::{BuildWords, LoadWords, Parsed, RunWords, ScreenRange, Words};
 use inner_interpreter::{Reading, Writing};
 use places::{blocks_of, show_place, show_stop};
+use sessions::{Session, run_session};
 use std::io::{BufReader, BufWriter, ErrorKind, IsTerminal, Stdin, Stdout};
 use std::os::fd::AsFd;
 use std::process::ExitCode;
@@ -334,41 +334,40 @@ fn see_word(rt: &HostRuntime, image: &str, name: &str) -> Result<u8, u8> {
     Ok(do_see(rt.alloc(), bytes.as_slice(), name, &mut writer).status)
 }
 
-/// Runs an image over this device, and standard input and output; where a file is named that breaks it off, in slices.
+/// Runs an image over this device, and standard input and output; with what a session wants beside, if it wants anything.
 fn run_over<D: Device>(
     rt: &HostRuntime,
     image: &[u8],
     device: &mut D,
     limit: u64,
-    break_file: Option<&str>,
+    session: Session<'_>,
 ) -> Result<u8, u8> {
     let mut reader = standard_input(rt)?;
     let mut writer = standard_output(rt)?;
-    let ended = match break_file {
-        None => do_run(rt.alloc(), image, device, limit, &mut reader, &mut writer),
-        Some(file) => run_slices(rt, image, device, limit, file, &mut reader, &mut writer),
+    let ended = if session.saves || session.break_file.is_some() {
+        run_session(rt, image, device, limit, session, &mut reader, &mut writer)
+    } else {
+        do_run(rt.alloc(), image, device, limit, &mut reader, &mut writer)
     };
     Ok(ended.status)
 }
 
 /// Opens what `run` names, and runs the image.
-fn run_image(
-    rt: &HostRuntime,
-    image: &str,
-    blocks: Option<&str>,
-    limit: u64,
-    break_file: Option<&str>,
-) -> Result<u8, u8> {
-    let bytes = image_bytes(rt, image)?;
+fn run_image(rt: &HostRuntime, words: &RunWords) -> Result<u8, u8> {
+    let bytes = image_bytes(rt, words.image.as_str())?;
     let bytes = bytes.as_slice();
-    match blocks {
+    let session = Session {
+        break_file: words.break_file.as_deref(),
+        saves: words.saves,
+    };
+    match words.blocks.as_deref() {
         None => {
             let mut device = no_blocks(rt);
-            run_over(rt, bytes, &mut device, limit, break_file)
+            run_over(rt, bytes, &mut device, words.limit, session)
         }
         Some(name) => {
             let mut device = run_blocks(rt, name)?;
-            run_over(rt, bytes, &mut device, limit, break_file)
+            run_over(rt, bytes, &mut device, words.limit, session)
         }
     }
 }
@@ -462,18 +461,7 @@ fn obey(rt: &HostRuntime, words: Words) -> Result<u8, u8> {
         Words::Text(words) => print_text(rt, &words),
         Words::Screens { text, blocks } => write_screens(rt, text.as_str(), blocks.as_str()),
         Words::New { blocks, count } => write_new(rt, blocks.as_str(), count),
-        Words::Run {
-            image,
-            blocks,
-            limit,
-            break_file,
-        } => run_image(
-            rt,
-            image.as_str(),
-            blocks.as_deref(),
-            limit,
-            break_file.as_deref(),
-        ),
+        Words::Run(words) => run_image(rt, &words),
         Words::Debug {
             image,
             name,
