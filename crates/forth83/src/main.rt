@@ -18,7 +18,7 @@ use std::process::ExitCode;
 use std::{fs, io};
 use subcommands::{
     Ended, FileDevice, Holding, TraceFile, Unopened, do_build, do_debug, do_kernel, do_load,
-    do_new, do_run, do_screens, do_see, do_text, do_upgrade, do_view, hold, holding, open_device,
+    do_new, do_run, do_screens, do_see, do_text, do_upgrade, do_view, hold, look_into, open_device,
     open_to_read, read_blocks, read_file, read_image, write_file,
 };
 
@@ -87,7 +87,7 @@ fn refuse_use(rt: &HostRuntime, name: &str, why: &str) -> u8 {
 
 /// Sees to it that an image isn't taken for a file of blocks. Where it would be that is printed, and the status is the error.
 fn keep_blocks(rt: &HostRuntime, blocks: &str) -> Result<(), u8> {
-    match holding(rt, blocks) {
+    match look_into(rt, blocks) {
         Holding::Image => Err(refuse_use(rt, blocks, "is an image, and no file of blocks")),
         Holding::Blocks | Holding::Other => Ok(()),
     }
@@ -95,7 +95,7 @@ fn keep_blocks(rt: &HostRuntime, blocks: &str) -> Result<(), u8> {
 
 /// Sees to it that an image isn't written over blocks. Where it would be that is printed, and the status is the error.
 fn keep_image(rt: &HostRuntime, image: &str) -> Result<(), u8> {
-    match holding(rt, image) {
+    match look_into(rt, image) {
         Holding::Blocks => Err(refuse_use(rt, image, "is there already, and is no image")),
         Holding::Image | Holding::Other => Ok(()),
     }
@@ -104,7 +104,7 @@ fn keep_image(rt: &HostRuntime, image: &str) -> Result<(), u8> {
 /// Sees to it that a trace isn't written over blocks or an image. Where it would be that is printed, and the status is the
 /// error.
 fn keep_trace(rt: &HostRuntime, trace: &str) -> Result<(), u8> {
-    match holding(rt, trace) {
+    match look_into(rt, trace) {
         Holding::Blocks | Holding::Image => Err(refuse_use(
             rt,
             trace,

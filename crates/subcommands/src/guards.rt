@@ -39,7 +39,7 @@ fn begins_as_image(file: File) -> bool {
 }
 
 /// What the file of this name holds.
-pub fn holding(rt: &HostRuntime, name: &str) -> Holding {
+pub fn look_into(rt: &HostRuntime, name: &str) -> Holding {
     let Ok(metadata) = fs::metadata(rt, name) else {
         return Holding::Other;
     };

@@ -21,7 +21,7 @@ pub use commands::{Ended, do_build, do_kernel, do_run, do_view, refuse_image, st
 pub use debug_command::do_debug;
 pub use file_devices::{FileDevice, open_device, open_to_read};
 pub use files::read_image;
-pub use guards::{Holding, Unopened, hold, holding};
+pub use guards::{Holding, Unopened, hold, look_into};
 pub use kernel_text::TEXT;
 pub use load_command::do_load;
 pub use see_command::do_see;
