@@ -70,7 +70,7 @@ class Folder:
         pathlib.Path(room, "crates.txt").write_text("forth83:\n", encoding="utf-8")
         built = pathlib.Path(room, "crates/forth83/out")
         built.mkdir(parents=True)
-        shutil.copy(program, built)
+        shutil.copy(program, built / "forth83")
         self.run(["./forth83", "kernel", "kernel"])
         self.run(["workbench/make", "./forth83", "kernel", "tools"])
 
