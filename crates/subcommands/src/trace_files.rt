@@ -1,5 +1,6 @@
 //! The file of a trace, which keeps what it had until the run begins.
 
+ghost use Rattle.std.specs.Io.{WritesAtMost};
 ghost use Rattle.subcommands.specs.Streams.{IsApart};
 
 use crate::files::open_apart;
@@ -42,7 +43,9 @@ impl TraceFile {
     }
 }
 
-fn write_some(mut file: &File, bytes: &[u8]) -> io::Result<usize> {
+fn write_some(mut file: &File, bytes: &[u8]) -> io::Result<usize>
+    ensures { WritesAtMost result bytes.now }
+{
     file.write(bytes)
 }
 
