@@ -94,7 +94,7 @@ find_unproved() {
   child=$!
   sleep 0.5
   if kill -0 "$child" 2> /dev/null; then
-    say "making the program without its proofs; this takes $(awk '$1 == "unproved" { printf "%d minute%s on %d processors", $3, $3 > 1 ? "s" : "", $2; exit }' "$here/workbench/times")"
+    say "making the program without its proofs; this takes $(awk '$1 == "unproved" { printf("%d minute%s on %d processors", $3, ($3 > 1 ? "s" : ""), $2); exit }' "$here/workbench/times")"
     show_seconds "$child"
   fi
   wait "$child" || { cat "$room/said" >&2; exit 1; }
