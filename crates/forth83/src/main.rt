@@ -85,9 +85,17 @@ fn refuse_use(rt: &HostRuntime, name: &str, why: &str) -> u8 {
     }
 }
 
+/// What a file holds. Want of memory is printed, and the status is the error.
+fn found_in(rt: &HostRuntime, name: &str) -> Result<Holding, u8> {
+    match look_into(rt, name) {
+        Ok(holding) => Ok(holding),
+        Err(_) => Err(out_of_memory(rt)),
+    }
+}
+
 /// Sees to it that an image isn't taken for a file of blocks. Where it would be that is printed, and the status is the error.
 fn keep_blocks(rt: &HostRuntime, blocks: &str) -> Result<(), u8> {
-    match look_into(rt, blocks) {
+    match found_in(rt, blocks)? {
         Holding::Image => Err(refuse_use(rt, blocks, "is an image, and no file of blocks")),
         Holding::Blocks | Holding::Other => Ok(()),
     }
@@ -95,7 +103,7 @@ fn keep_blocks(rt: &HostRuntime, blocks: &str) -> Result<(), u8> {
 
 /// Sees to it that an image isn't written over blocks. Where it would be that is printed, and the status is the error.
 fn keep_image(rt: &HostRuntime, image: &str) -> Result<(), u8> {
-    match look_into(rt, image) {
+    match found_in(rt, image)? {
         Holding::Blocks => Err(refuse_use(rt, image, "is there already, and is no image")),
         Holding::Image | Holding::Other => Ok(()),
     }
@@ -104,7 +112,7 @@ fn keep_image(rt: &HostRuntime, image: &str) -> Result<(), u8> {
 /// Sees to it that a trace isn't written over blocks or an image. Where it would be that is printed, and the status is the
 /// error.
 fn keep_trace(rt: &HostRuntime, trace: &str) -> Result<(), u8> {
-    match look_into(rt, trace) {
+    match found_in(rt, trace)? {
         Holding::Blocks | Holding::Image => Err(refuse_use(
             rt,
             trace,
@@ -118,6 +126,7 @@ fn keep_trace(rt: &HostRuntime, trace: &str) -> Result<(), u8> {
 fn refuse_blocks(rt: &HostRuntime, blocks: &str, why: Unopened) -> u8 {
     match why {
         Unopened::CannotOpen => cannot_open(rt, blocks),
+        Unopened::OutOfMemory => out_of_memory(rt),
         Unopened::InUse => refuse_use(
             rt,
             blocks,

@@ -1,9 +1,9 @@
 //! Files that are there and are to be used or written over: what they hold, and whether another run has them.
 
 use crate::files::open_apart;
-use std::fs;
 use std::fs::{File, OpenOptions, TryLockError};
-use std::io::Read;
+use std::io::{ErrorKind, Read};
+use std::{fs, io};
 
 /// What a file that is there holds, as far as it matters before it is written over.
 #[derive(Clone, Copy, Debug, PartialEq, Eq)]
@@ -23,6 +23,7 @@ pub enum Unopened {
     CannotOpen,
     /// Another run has it.
     InUse,
+    OutOfMemory,
 }
 
 /// How many bytes an image's file begins with, whatever its version is.
@@ -38,26 +39,36 @@ fn begins_as_image(file: File) -> bool {
     file.read_exact(&mut start).is_ok() && start == MAGIC
 }
 
-/// What the file of this name holds.
-pub fn look_into(rt: &HostRuntime, name: &str) -> Holding {
-    let Ok(metadata) = fs::metadata(rt, name) else {
-        return Holding::Other;
+/// What is held where the system refuses to tell; want of memory stays the error.
+fn untold(error: io::Error) -> io::Result<Holding> {
+    if error.kind() == ErrorKind::OutOfMemory {
+        return Err(error);
+    }
+    Ok(Holding::Other)
+}
+
+/// What the file of this name holds. An error: memory ran out.
+pub fn look_into(rt: &HostRuntime, name: &str) -> io::Result<Holding> {
+    let metadata = match fs::metadata(rt, name) {
+        Ok(metadata) => metadata,
+        Err(error) => return untold(error),
     };
     if !metadata.is_file() {
-        return Holding::Other;
+        return Ok(Holding::Other);
     }
     let length = metadata.len();
-    let Ok(file) = open_apart(rt, OpenOptions::new().read(true), name) else {
-        return Holding::Other;
+    let file = match open_apart(rt, OpenOptions::new().read(true), name) {
+        Ok(file) => file,
+        Err(error) => return untold(error),
     };
     if begins_as_image(file) {
-        return Holding::Image;
+        return Ok(Holding::Image);
     }
-    if length > 0 && length % 1024 == 0 {
+    Ok(if length > 0 && length % 1024 == 0 {
         Holding::Blocks
     } else {
         Holding::Other
-    }
+    })
 }
 
 /// Whether another run has this file; if not, this one has it for as long as the file is open. What is no plain file, or lies
@@ -73,11 +84,18 @@ pub fn is_in_use(file: &File) -> bool {
 /// The file of this name, held against other runs for as long as it is open; none where it isn't there, or can't be read and
 /// written. `InUse`: another run has it.
 pub fn hold(rt: &HostRuntime, name: &str) -> Result<Option<File>, Unopened> {
-    let Ok(file) = open_apart(rt, OpenOptions::new().read(true).write(true), name) else {
-        return Ok(None);
-    };
-    if is_in_use(&file) {
-        return Err(Unopened::InUse);
+    match open_apart(rt, OpenOptions::new().read(true).write(true), name) {
+        Ok(file) => {
+            if is_in_use(&file) {
+                return Err(Unopened::InUse);
+            }
+            Ok(Some(file))
+        }
+        Err(error) => {
+            if error.kind() == ErrorKind::OutOfMemory {
+                return Err(Unopened::OutOfMemory);
+            }
+            Ok(None)
+        }
     }
-    Ok(Some(file))
 }
