@@ -7,6 +7,7 @@ here=$(cd "$(dirname "$(readlink -f "${BASH_SOURCE[0]}")")" && pwd)
 forth83=$here/crates/forth83/out/forth83
 kept=$here/workbench/out
 saved=
+building=
 child=
 killed=
 broken=
@@ -90,15 +91,18 @@ find_unproved() {
   unproved=1
   forth83=$kept/unproved
   mkdir -p "$kept" 2> /dev/null && [ -w "$kept" ] || forth83=$room/unproved
-  "$here/workbench/unproved" "$forth83" 2> "$room/said" &
-  child=$!
+  # In a process group of its own, which is ended whole where this start is.
+  set -m
+  "$here/workbench/unproved" "$forth83" < /dev/null 2> "$room/said" &
+  building=$!
+  set +m
   sleep 0.5
-  if kill -0 "$child" 2> /dev/null; then
+  if kill -0 "$building" 2> /dev/null; then
     say "making the program without its proofs; this takes $(awk '$1 == "unproved" { printf("%d minute%s on %d processors", $3, ($3 > 1 ? "s" : ""), $2); exit }' "$here/workbench/times")"
-    show_seconds "$child"
+    show_seconds "$building"
   fi
-  wait "$child" || { cat "$room/said" >&2; exit 1; }
-  child=
+  wait "$building" || { cat "$room/said" >&2; exit 1; }
+  building=
   cat "$room/said" >&2
 }
 
@@ -208,11 +212,16 @@ by_key() {
   keyed=
 }
 
-# Whether the program waits for a key: it is in the system's call `read` of its standard input.
+# Whether the program waits for a key: it is in the system's call `read` of its standard input; where the system doesn't tell
+# calls, whether it sleeps.
 is_waiting() {
   local call=
-  { read -r call < "/proc/$child/syscall"; } 2> /dev/null
-  [ "${call:0:6}" = '0 0x0 ' ]
+  if { read -r call < "/proc/$child/syscall"; } 2> /dev/null && [ -n "$call" ]; then
+    [ "${call:0:6}" = '0 0x0 ' ]
+  else
+    { read -r call < "/proc/$child/stat"; } 2> /dev/null
+    [[ $call == *') S '* ]]
+  fi
 }
 
 # While the program waits for a key, ^C is a key, which the tools take as the end of a line or of what asks; a wish to break off
@@ -258,6 +267,7 @@ stop() {
 }
 
 leave() {
+  [ -z "$building" ] || kill -- "-$building" 2> /dev/null
   [ -z "$saved" ] || stty "$saved" 2> /dev/null
   rm -rf "$room"
 }
