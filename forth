@@ -90,7 +90,10 @@ show_seconds() {
 find_unproved() {
   unproved=1
   forth83=$kept/unproved
-  mkdir -p "$kept" 2> /dev/null && [ -w "$kept" ] || forth83=$room/unproved
+  if ! { mkdir -p "$kept" 2> /dev/null && [ -w "$kept" ]; } &&
+    [ "$(cat "$forth83.sum" 2> /dev/null)" != "$("$here/workbench/sources" sum)" ]; then
+    forth83=$room/unproved
+  fi
   # In a process group of its own, which is ended whole where this start is.
   set -m
   "$here/workbench/unproved" "$forth83" < /dev/null 2> "$room/said" &
@@ -98,7 +101,7 @@ find_unproved() {
   set +m
   sleep 0.5
   if kill -0 "$building" 2> /dev/null; then
-    say "making the program without its proofs; this takes $(awk '$1 == "unproved" { printf("%d minute%s on %d processors", $3, ($3 > 1 ? "s" : ""), $2); exit }' "$here/workbench/times")"
+    say "making the program without its proofs, $(awk '$1 == "unproved" { printf("%d minute%s on %d processors", $3, ($3 > 1 ? "s" : ""), $2); exit }' "$here/workbench/times")"
     show_seconds "$building"
   fi
   wait "$building" || { cat "$room/said" >&2; exit 1; }
@@ -123,8 +126,7 @@ find_program() {
     find_unproved
     say "UNPROVED: nothing is proved of this program; ./forth --proved proves and builds it first."
   elif "$here/workbench/is-proved" || { [ "$wanted" = proved ] && "$here/workbench/prove" < /dev/null; }; then
-    if [ -e "$kept/awaited" ]; then
-      rm -f -- "$kept/awaited"
+    if [ -e "$kept/awaited" ] && rm -f -- "$kept/awaited" 2> /dev/null; then
       say "this program is proved now; ./forth --status tells more."
     fi
   elif [ "$wanted" = proved ]; then
@@ -184,6 +186,8 @@ open_blocks() {
   [ -w "$blocks" ] || refuse "$blocks can't be written: it is read-only; chmod u+w $blocks, or work on a copy: cp $blocks my.blk && chmod u+w my.blk"
   [ "$(head -c 8 -- "$blocks" | tr -d '\0')" != FTH83IMG ] || refuse "$blocks is an image, and no file of blocks; ./forth83 run $blocks runs it"
   [ "$(stat -L -c %s -- "$blocks")" -ge 1024 ] || say "$blocks has no screen; ./forth83 new NAME 64 makes a file of 64 blank ones"
+  [ $(($(stat -L -c %s -- "$blocks") % 1024)) -eq 0 ] ||
+    refuse "$blocks has $(stat -L -c %s -- "$blocks") bytes, which are no whole blocks; a text becomes blocks by ./forth83 screens $blocks NEW"
   exec 9<> "$blocks"
   if command -v flock > /dev/null; then
     flock -n 9 || refuse "$blocks is in use by another run$(holder); leave that by BYE, or work on a copy"
@@ -193,22 +197,23 @@ open_blocks() {
 
 # Where another file has taken the place of the blocks meanwhile, what the session wrote is kept beside it.
 keep_session() {
-  local kept=$blocks.session count=1
+  local kept=$blocks.session count=1 what="another file took the place of $blocks meanwhile"
   [ "$(stat -L -c %d:%i -- "$blocks" 2> /dev/null)" != "$(stat -L -c %d:%i /dev/fd/9)" ] || return 0
+  [ -e "$blocks" ] || what="$blocks was moved or removed meanwhile"
   while [ -e "$kept" ]; do
     count=$((count + 1))
     kept=$blocks.session$count
   done
   if cp -- /dev/fd/9 "$kept" 2> "$room/said"; then
-    say "another file took the place of $blocks meanwhile; what this session wrote is in $kept"
+    say "$what; what this session wrote is in $kept"
   else
-    say "another file took the place of $blocks meanwhile, and what this session wrote can't be kept: $(cat "$room/said")"
+    say "$what, and what this session wrote can't be kept: $(cat "$room/said")"
   fi
 }
 
-# The terminal as the tools need it: it neither echoes nor edits.
+# The terminal as the tools need it: it neither echoes nor edits, and ^S doesn't stop it.
 by_key() {
-  stty -icanon -echo min 1 time 0
+  stty -icanon -echo -ixon min 1 time 0
   keyed=
 }
 
@@ -267,6 +272,7 @@ stop() {
 }
 
 leave() {
+  trap '' HUP INT TERM
   [ -z "$building" ] || kill -- "-$building" 2> /dev/null
   [ -z "$saved" ] || stty "$saved" 2> /dev/null
   rm -rf "$room"
@@ -347,5 +353,8 @@ case $status in
   4) say "the limit of ticks ended it" ;;
   5) say "standard input or output failed" ;;
   130) say "broken off" ;;
+esac
+case $status in
+  3 | 4 | 130 | 131 | 143) say "screens that were changed since the last SAVE may not be in $blocks" ;;
 esac
 exit "$status"

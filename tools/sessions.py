@@ -1,7 +1,7 @@
 """Runs the sessions of a page by the built program, and tells where one shows another thing than the page says.
 
-They stand between lines of three backquotes, and are done one after another in a folder of their own, which has the
-repository's `forth`, `forth83`, `workbench` and `examples`, and the program, built.
+They stand between lines of three backquotes, and are done one after another in a folder of their own, as `tools/lay-built`
+makes it of the program.
 
 - A line behind `$` is done by the shell. `$ ./forth [BLOCKS]` starts the Forth with the workbench's tools.
 - A line behind `>` is typed there. One behind `>>` is typed, too, as the answer to a question; behind `>>>` stand keys
@@ -63,14 +63,7 @@ class Folder:
 
     def __init__(self, room, program):
         self.room = room
-        for name in ("forth", "forth83"):
-            shutil.copy(ROOT / name, room)
-        for name in ("workbench", "examples"):
-            shutil.copytree(ROOT / name, f"{room}/{name}", ignore=shutil.ignore_patterns("out"))
-        pathlib.Path(room, "crates.txt").write_text("forth83:\n", encoding="utf-8")
-        built = pathlib.Path(room, "crates/forth83/out")
-        built.mkdir(parents=True)
-        shutil.copy(program, built / "forth83")
+        subprocess.run([ROOT / "tools/lay-built", program, room], check=True)
         self.run(["./forth83", "kernel", "kernel"])
         self.run(["workbench/make", "./forth83", "kernel", "tools"])
 
