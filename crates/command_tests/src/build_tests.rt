@@ -5,7 +5,7 @@ use block_buffers::MemoryDevice;
 use inner_interpreter::Writing;
 use std::alloc::Global;
 use std::test::Fail;
-use subcommands::{Ended, do_build, do_view};
+use subcommands::{Ended, do_build, do_upgrade, do_view};
 
 /// A file of six blocks. Screen 1 is a whole source, screens 2 and 3 are blank, screens 4 and 5 hold a source with a fault.
 fn device(alloc: Global) -> Result<MemoryDevice, Fail> {
@@ -169,5 +169,48 @@ fn the_screen_of_a_word(rt: HostRuntime) -> Result<(), Fail> {
         writer.into_inner().as_slice(),
         b"image: BadMagic\n".as_slice(),
     );
+    Ok(())
+}
+
+/// The file of version 1 of the image in screen 1, upgraded for two buffers.
+#[test]
+fn an_image_is_upgraded(rt: HostRuntime) -> Result<(), Fail> {
+    let mut old = [0u8; 304];
+    old[..14].copy_from_slice(b"FTH83IMG\x01\x00\x1C\x01\x22\x01");
+    for (at, cell) in CELLS {
+        assert!(rt; at < 255, "no cell at {at}");
+        old[14 + at] = (cell % 256) as u8;
+        old[15 + at] = (cell / 256) as u8;
+    }
+    old[270..].copy_from_slice(&WORDS);
+    let mut writer = Writing::new(Vec::new(rt.alloc()));
+    let Ended { status, file } = do_upgrade(rt.alloc(), &old, Some(2), &mut writer);
+    assert_equal(&rt, status, 0);
+    let line = writer.into_inner();
+    assert_equal(&rt, line.as_slice(), b"size 290 buffers 2\n".as_slice());
+    let file = file.expect(&rt, "a file");
+    let head = b"FTH83IMG\x02\x00\x02\x00\x1C\x01\x22\x01".as_slice();
+    assert!(rt; file.len() == 306);
+    assert_equal(&rt, &file[..16], head);
+    assert_equal(&rt, &file[16..], &old[14..]);
+    Ok(())
+}
+
+/// An image of version 1 that reaches up to where four buffers begin has no room for five.
+#[test]
+fn an_image_is_too_large(rt: HostRuntime) -> Result<(), Fail> {
+    let mut old = Vec::new(rt.alloc());
+    old.extend_from_slice(b"FTH83IMG\x01\x00\x00\x01\x00\xF0")?;
+    old.resize(61454, 0)?;
+    for (count, wanted, line) in [
+        (5, 1, b"image: TooLarge\n".as_slice()),
+        (4, 0, b"size 61440 buffers 4\n".as_slice()),
+    ] {
+        let mut writer = Writing::new(Vec::new(rt.alloc()));
+        let ended = do_upgrade(rt.alloc(), old.as_slice(), Some(count), &mut writer);
+        assert_equal(&rt, (count, ended.status), (count, wanted));
+        assert_equal(&rt, writer.into_inner().as_slice(), line);
+        assert!(rt; ended.file.is_some() == (wanted == 0));
+    }
     Ok(())
 }

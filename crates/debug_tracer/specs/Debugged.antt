@@ -11,7 +11,7 @@ use Rattle.plain_rows.specs.Whole.{Whole}
 use Rattle.inner_interpreter.specs.declared.stop.Stop.{Stop}
 use Rattle.inner_interpreter.specs.State.{State}
 use Rattle.inner_interpreter.specs.Runs.{World}
-use Rattle.inner_interpreter.specs.Tracing.{EndsTraced}
+use Rattle.inner_interpreter.specs.Tracing.{EndsTraced, EndsCutTraced, EndsFaultedTraced, EndsUntraced}
 use Rattle.inner_interpreter.specs.declared.tracing.Extent.{Extent}
 use Rattle.debug_tracer.specs.declared.fault.DebugFault.{DebugFault}
 use Rattle.debug_tracer.specs.declared.fault.DebugFault.TheVariants as f
@@ -46,3 +46,21 @@ abbrev pub EndsDebugged : World → List ℕ → Option (List ℕ) → Option Di
 EndsDebugged w name unread disk sent old new stop =
     (thread : Extent) → debugged w.state.parts.memory name ≡ Ok thread
     → (state : State) × EndsTraced thread (line_from w.state.parts.memory) w state unread disk sent old new stop
+
+-- the writer failed in this run, and the trace of the word of this name was sent up to there
+abbrev pub EndsCutDebugged : World → List ℕ → Option (List ℕ) → Option Disk → Option (List ℕ) → Option (List ℕ) → Option (List ℕ) → Type 0
+EndsCutDebugged w name unread disk sent old new =
+    (thread : Extent) → debugged w.state.parts.memory name ≡ Ok thread
+    → (state : State) × EndsCutTraced thread (line_from w.state.parts.memory) w state unread disk sent old new
+
+-- the reader failed in it
+abbrev pub EndsFaultedDebugged : World → List ℕ → Option (List ℕ) → Option Disk → Option (List ℕ) → Option (List ℕ) → Option (List ℕ) → Type 0
+EndsFaultedDebugged w name unread disk sent old new =
+    (thread : Extent) → debugged w.state.parts.memory name ≡ Ok thread
+    → (state : State) × EndsFaultedTraced thread (line_from w.state.parts.memory) w state unread disk sent old new
+
+-- the trace's writer failed in it
+abbrev pub EndsUntracedDebugged : World → List ℕ → Option (List ℕ) → Option Disk → Option (List ℕ) → Option (List ℕ) → Option (List ℕ) → Type 0
+EndsUntracedDebugged w name unread disk sent old new =
+    (thread : Extent) → debugged w.state.parts.memory name ≡ Ok thread
+    → (state : State) × EndsUntraced thread (line_from w.state.parts.memory) w state unread disk sent old new

@@ -1,9 +1,9 @@
 -- The text of screens of a disk.
-use Rattle.std.specs.Prelude.{◌≡◌, ◌⊎◌, ℕ, zero, suc, ◌+◌, ◌/◌, List, [], ◌++◌, Result, Ok, Err, if◌then◌else◌}
+use Rattle.std.specs.Prelude.{All, ◌≡◌, ◌⊎◌, ℕ, zero, suc, ◌+◌, ◌/◌, List, [], ◌∷◌, ◌++◌, length, Result, Ok, Err, if◌then◌else◌}
 use Rattle.std.specs.List.{list_all}
 use Rattle.block_buffers.specs.Disks.{Disk, succeeds, block_at, called}
 use Rattle.screen_text.specs.Bytes.{is_text}
-use Rattle.screen_text.specs.Screens.{screen_text}
+use Rattle.screen_text.specs.Screens.{Screen, screen_text}
 use Rattle.screen_text.specs.Writing.{first_bad}
 use Rattle.device_text.specs.declared.pages.PageCause.TheVariants.{BadByte, Device, OutOfMemory}
 use Rattle.device_text.specs.declared.pages.Unprinted.{Unprinted}
@@ -29,6 +29,15 @@ joined (Ok text) (Ok rest) = Ok (text ++ rest)
 unfoldable pub pages : Disk → (screen n : ℕ) → Result (List ℕ) Unprinted
 pages d screen zero = Ok []
 pages d screen (suc n) = joined (page d screen) (pages (called d) (screen + 1) n)
+
+-- so many screens of a device's blocks, from one on
+unfoldable pub screens_at : (blocks : List (List ℕ)) → (screen n : ℕ) → List Screen
+screens_at blocks screen zero = []
+screens_at blocks screen (suc n) = record { number = screen; bytes = block_at blocks screen } ∷ screens_at blocks (screen + 1) n
+
+-- each block of the disk has 1,024 bytes
+abbrev pub AreBlocks : List (List ℕ) → Type 0
+AreBlocks blocks = All (λ b. length b ≡ 1024) blocks
 
 -- this is why they aren't printed, or memory ran out
 abbrev pub IsWhy : Result (List ℕ) Unprinted → Unprinted → Type 0

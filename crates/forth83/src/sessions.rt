@@ -90,15 +90,15 @@ pub fn run_session<R: Input, W: Output, D: Device>(
     let alloc = rt.alloc();
     let image = match image_loader::read(alloc, image) {
         Ok(image) => image,
-        Err(fault) => return refuse_image(alloc, fault, writer),
+        Err(fault) => return refuse_image(fault, writer),
     };
     let Ok(mut machine) = Machine::load(alloc, &image, device.count()) else {
-        return refuse_image(alloc, ImageFault::OutOfMemory, writer);
+        return refuse_image(ImageFault::OutOfMemory, writer);
     };
     let word = find(machine.memory(), BREAK).ok().flatten();
     let asked = session.break_file.zip(word);
     let Some(stop) = run_by_slices(rt, &mut machine, reader, writer, device, limit, asked) else {
-        return refuse_image(alloc, ImageFault::OutOfMemory, writer);
+        return refuse_image(ImageFault::OutOfMemory, writer);
     };
     let is_over = matches!(stop, Stop::Bye | Stop::InputEnded);
     let is_kept = !(session.saves && is_over) || save_blocks(rt, &machine, device);

@@ -17,7 +17,7 @@ use Rattle.inner_interpreter.specs.Sent.{AppendsPart}
 use Rattle.inner_interpreter.specs.Served.{is_input_fault}
 use Rattle.inner_interpreter.specs.Tracing.{is_met, AddsLine, IsDue, Reached, ReachedCut, MadeTraced, EndsTraced, EndsCutTraced, EndsFaultedTraced, EndsUntraced, Finishes, line_next, traced_line, trace}
 use Rattle.inner_interpreter.specs.Worlds.{IsAt, IsFaulted}
-use Rattle.inner_interpreter.proofs.Running.{kept_at, kept_cut}
+use Rattle.inner_interpreter.proofs.Running.{cut_behind, kept_at}
 use Rattle.inner_interpreter.proofs.Sending.{appends_both}
 use Rattle.inner_interpreter.proofs.Stretches.{rounds_add, runs_on, trace_add}
 
@@ -102,11 +102,20 @@ made_limit e line w s unread disk sent sent' left t0 t1 t2 h none k l made =
       trace_is = appends_kept t0 t1 t2 (trace e line made.0 w) made.2 l;
     }
 
-pub made_cut : (e : Extent) (line : Whole → List ℕ) (w : World) (s : State) (unread : Option (List ℕ)) (disk : Option Disk) (sent sent' : Option (List ℕ)) (left : ℕ) (t0 t1 t2 : Option (List ℕ))
-    → Keeps sent sent' → Keeps t1 t2 → MadeTraced e line w s unread disk sent left t0 t1 → EndsCutTraced e line w s unread disk sent' t0 t2
-made_cut e line w s unread disk sent sent' left t0 t1 t2 k l made = record {
-  cut = record { count = made.0; cut = kept_cut (rounds made.0 w) s unread disk sent sent' left k made.1 };
-  trace_is = appends_kept t0 t1 t2 (trace e line made.0 w) made.2 l;
+-- the writer failed at last
+pub made_cut : (e : Extent) (line : Whole → List ℕ) (w : World) (s : State) (unread : Option (List ℕ)) (disk : Option Disk) (sent : Option (List ℕ)) (t0 t2 : Option (List ℕ)) (r : Stop)
+    → EndsTraced e line w s unread disk sent t0 t2 r → EndsCutTraced e line w s unread disk sent t0 t2
+made_cut e line w s unread disk sent t0 t2 r ended = record {
+  cut = record {
+    count = ended.ends.count;
+    cut = record {
+      state_is = ended.ends.at.state_is;
+      unread_is = ended.ends.at.unread_is;
+      disk_is = ended.ends.at.disk_is;
+      sent_is = inr (record { sent_is = ended.ends.at.sent_is; due = inr (subst IsSome (sym ended.ends.stops_so) refl) });
+    };
+  };
+  trace_is = ended.trace_is;
 }
 
 -- the trace's writer failed at last
@@ -167,7 +176,7 @@ rounds_cut e line w s s' unread unread' disk disk' sent sent' left t0 t1 t2 halt
     let more = step v made.1 in
     let goes = runs_at v s unread disk sent left halt some made.1 in
     record {
-      cut = record { count = more.0 + made.0; cut = rw (rounds_add more.0 made.0 w) (more.2) };
+      cut = record { count = more.0 + made.0; cut = cut_behind more.0 made.0 w _ _ _ _ more.2 };
       trace_is = more_trace e line w made.0 more.0 (line_next e line s) t0 t1 t2 more.1 (line_goes e line v s made.1.state_is goes) made.2 told;
     }
 

@@ -1,5 +1,6 @@
 -- Rounds of a run, by what its ends tell.
-use Rattle.std.proofs.Common.{◌≡◌, ℕ, ◌-◌, ◌<◌, ◌≤◌, List, [], ◌++◌, Option, None, Some, refl, sym, ap, ◌∙◌, subst, append-nil, arith, Result, Ok, Err, OnOk, is_none, if◌then◌else◌}
+use Rattle.std.proofs.Common.{◌≡◌, ◌⊎◌, ℕ, suc, ◌+◌, ◌-◌, ◌<◌, ◌≤◌, true, List, [], ◌++◌, Option, None, Some, refl, sym, ap, ◌∙◌, inl, inr, subst, arith, Result, Ok, Err, OnOk, is_none, if◌then◌else◌}
+use Rattle.std.specs.Prelude.{IsSome}
 use Rattle.std.specs.Io.KnownBytes.{Appends, Keeps}
 use Rattle.block_buffers.specs.Disks.{Disk}
 use Rattle.plain_rows.specs.declared.parts.Request.{Request}
@@ -7,17 +8,17 @@ use Rattle.inner_interpreter.specs.State.{State}
 use Rattle.plain_rows.specs.Whole.{Whole}
 use Rattle.inner_interpreter.specs.declared.stop.Stop.{Stop}
 use Rattle.inner_interpreter.specs.declared.tracing.Extent.{Extent}
-use Rattle.inner_interpreter.specs.Tick.{running, ticked}
+use Rattle.inner_interpreter.specs.Tick.{ran, running, ticked}
 use Rattle.inner_interpreter.specs.Tracing.{AreUnmet, Reached, ReachedCut, line_next, traced_line, trace}
 use Rattle.inner_interpreter.specs.Answer.{answer_of, asked_by, is_answer, InputFault}
 use Rattle.inner_interpreter.specs.Lines.{IsLeft}
 use Rattle.inner_interpreter.specs.Moves.{shown_bytes}
 use Rattle.inner_interpreter.specs.Served.{Answered, served_move, Faults}
-use Rattle.inner_interpreter.specs.Sent.{AppendsPart, IsFront}
+use Rattle.inner_interpreter.specs.Sent.{AppendsPart}
 use Rattle.inner_interpreter.specs.Runs.{World, round, round_by, rounds, stops, answer_round, served}
-use Rattle.inner_interpreter.specs.Worlds.{IsAt, IsCut, IsFaulted, stretch}
-use Rattle.inner_interpreter.proofs.Sending.{front_of}
-use Rattle.inner_interpreter.proofs.Stretches.{one_round, runs_on, stretched, behind, adds_line, adds_one}
+use Rattle.inner_interpreter.specs.Worlds.{IsAt, IsBrokenOff, IsCut, IsFaulted, IsHeldUp, stretch}
+use Rattle.inner_interpreter.proofs.Sending.{SentPart, part_of}
+use Rattle.inner_interpreter.proofs.Stretches.{one_round, rounds_add, runs_on, stretched, behind, adds_line, adds_one, silent_before}
 
 pub asked_none : (wait : Option (Request × ℕ)) → asked_by wait ≡ None → wait ≡ None
 asked_none None e = refl
@@ -70,17 +71,28 @@ stretch_cut e w s s' unread disk sent sent' left m halt wait state all some most
     let made = stretched m 0 w s.parts same fits in
     let r = stretch m s in
     let count : made.0 ≡ m = omega (arith, made.1, all) in
-    let f : IsFront sent' (w.shown ++ shown_bytes r.1.parts.memory r.2.shown) = front_of sent sent' w.shown _ at.sent_is more in
-    let there : IsCut (behind w made.0 r.1 r.2) s' unread disk sent' = record {
-      state_is = state;
-      unread_is = at.unread_is;
-      disk_is = at.disk_is;
-      front = f.0;
-      back = f.1;
-      shown_is = f.2;
-      sent_is = f.3;
-    } in
-    (made.0, rw count (adds_line e m w s.parts same fits some all unmet), rw (made.2) there)
+    let p : SentPart sent' w.shown (shown_bytes r.1.parts.memory r.2.shown) = part_of sent sent' w.shown _ at.sent_is more in
+    let one : m ≡ suc (m - 1) = omega (arith, some) in
+    let each : (ran 0 (suc (m - 1)) s.parts).0 ≡ 0 + suc (m - 1) = ap (λ i. (ran 0 i s.parts).0) (sym one) ∙ all ∙ one ∙ omega arith in
+    let silent : (rounds (m - 1) w).shown ≡ w.shown = silent_before (m - 1) 0 w s.parts same (omega (arith, fits, some)) each in
+    let there : rounds m w ≡ behind w made.0 r.1 r.2 = ap (λ i. rounds i w) (sym count) ∙ made.2 in (
+      m,
+      adds_line e m w s.parts same fits some all unmet,
+      record {
+        state_is = state ∙ ap (λ (v : World). v.state) (sym there);
+        unread_is = at.unread_is ∙ ap (λ (v : World). Some v.typed) (sym there);
+        disk_is = at.disk_is ∙ ap (λ (v : World). Some v.disk) (sym there);
+        sent_is = inl (record {
+          before = m - 1;
+          count_is = one;
+          part = p.part;
+          rest = p.rest;
+          some = p.some;
+          shown_is = ap (λ (v : World). v.shown) there ∙ ap (λ bs. w.shown ++ bs) p.is ∙ ap (λ bs. bs ++ (p.part ++ p.rest)) (sym silent);
+          sent_is = p.sent_is ∙ ap (λ bs. Some (bs ++ p.part)) (sym silent);
+        });
+      },
+    )
 
 -- what an answer told of each known start
 abbrev pub Tells : State → Request → Option (List ℕ) → Option Disk → State → Option (List ℕ) → Option Disk → (List ℕ → Type 0) → Type 0
@@ -109,33 +121,70 @@ answer_at e w s s' r unread unread' disk disk' sent sent' left halt some asks to
 
 pub answer_cut : (e : Extent) (w : World) (s s' : State) (r : Request) (unread unread' : Option (List ℕ)) (disk disk' : Option Disk) (sent sent' : Option (List ℕ)) (left : ℕ)
     → s.halt ≡ None → 0 < left → asked_by s.wait ≡ Some r → Tells s r unread disk s' unread' disk' (AppendsPart sent sent') → IsAt w s unread disk sent left → ReachedCut e w s' unread' disk' sent'
+unfolding rounds
 answer_cut e w s s' r unread unread' disk disk' sent sent' left halt some asks told at =
     let same : s ≡ w.state = at.state_is in
     let q : asked_by w.state.wait ≡ Some r = ap (λ (v : State). asked_by v.wait) (sym same) ∙ asks in
     let t = told w.typed at.unread_is w.disk at.disk_is in
-    let f : IsFront sent' (w.shown ++ (served_move s r w.typed w.disk).bytes) = front_of sent sent' w.shown _ at.sent_is t.1 in
-    let made : IsCut (answer_round w r) s' unread' disk' sent' = record {
-      state_is = t.0.state_is ∙ ap (λ v. (served_move v r w.typed w.disk).state) same;
-      unread_is = t.0.unread_is ∙ ap (λ v. Some (served v r w.typed w.disk).typed) same;
-      disk_is = t.0.disk_is ∙ ap (λ v. Some (served v r w.typed w.disk).disk) same;
-      front = f.0;
-      back = f.1;
-      shown_is = ap (λ v. w.shown ++ (served_move v r w.typed w.disk).bytes) (sym same) ∙ f.2;
-      sent_is = f.3;
-    } in
-    (1, adds_one e w, rw (goes_at w s unread disk sent left halt some at ∙ round_answer w r q) made)
+    let p : SentPart sent' w.shown (served_move s r w.typed w.disk).bytes = part_of sent sent' w.shown _ at.sent_is t.1 in
+    let there : rounds 1 w ≡ answer_round w r = goes_at w s unread disk sent left halt some at ∙ round_answer w r q in (
+      1,
+      adds_one e w,
+      record {
+        state_is = t.0.state_is ∙ ap (λ v. (served_move v r w.typed w.disk).state) same ∙ ap (λ (v : World). v.state) (sym there);
+        unread_is = t.0.unread_is ∙ ap (λ v. Some (served v r w.typed w.disk).typed) same ∙ ap (λ (v : World). Some v.typed) (sym there);
+        disk_is = t.0.disk_is ∙ ap (λ v. Some (served v r w.typed w.disk).disk) same ∙ ap (λ (v : World). Some v.disk) (sym there);
+        sent_is = inl (record {
+          before = 0;
+          count_is = refl;
+          part = p.part;
+          rest = p.rest;
+          some = p.some;
+          shown_is = ap (λ (v : World). v.shown) there ∙ ap (λ v. w.shown ++ (served_move v r w.typed w.disk).bytes) (sym same) ∙ ap (λ bs. w.shown ++ bs) p.is;
+          sent_is = p.sent_is;
+        });
+      },
+    )
 
-pub kept_cut : (w : World) (s : State) (unread : Option (List ℕ)) (disk : Option Disk) (sent sent' : Option (List ℕ)) (left : ℕ)
-    → Keeps sent sent' → IsAt w s unread disk sent left → IsCut w s unread disk sent'
-kept_cut w s unread disk sent sent' left k at = record {
+-- all was sent, and is to be passed on
+pub kept_cut : (n : ℕ) (w : World) (s : State) (unread : Option (List ℕ)) (disk : Option Disk) (sent sent' : Option (List ℕ)) (left : ℕ)
+    → Keeps sent sent' → (is_answer (asked_by (rounds n w).state.wait) InputFault ≡ true) ⊎ IsSome (stops (rounds n w)) → IsAt (rounds n w) s unread disk sent left
+    → IsCut n w s unread disk sent'
+kept_cut n w s unread disk sent sent' left k due at = record {
   state_is = at.state_is;
   unread_is = at.unread_is;
   disk_is = at.disk_is;
-  front = w.shown;
-  back = [];
-  shown_is = sym (append-nil w.shown);
-  sent_is = sent_kept sent sent' w.shown at.sent_is k;
+  sent_is = inr (record { sent_is = sent_kept sent sent' (rounds n w).shown at.sent_is k; due = due });
 }
+
+-- some rounds behind others are rounds of the whole run
+pub cut_behind : (n k : ℕ) (w : World) (s : State) (unread : Option (List ℕ)) (disk : Option Disk) (sent : Option (List ℕ))
+    → IsCut n (rounds k w) s unread disk sent → IsCut (n + k) w s unread disk sent
+cut_behind n k w s unread disk sent c = record {
+  state_is = c.state_is ∙ ap (λ (v : World). v.state) all;
+  unread_is = c.unread_is ∙ ap (λ (v : World). Some v.typed) all;
+  disk_is = c.disk_is ∙ ap (λ (v : World). Some v.disk) all;
+  sent_is = by_sent c.sent_is;
+} where
+  all : rounds n (rounds k w) ≡ rounds (n + k) w
+  all = sym (rounds_add n k w)
+
+  by_sent : IsBrokenOff n (rounds k w) sent ⊎ IsHeldUp n (rounds k w) sent → IsBrokenOff (n + k) w sent ⊎ IsHeldUp (n + k) w sent
+  by_sent (inl b) =
+      let before : rounds b.before (rounds k w) ≡ rounds (b.before + k) w = sym (rounds_add b.before k w) in
+      inl (record {
+        before = b.before + k;
+        count_is = omega (arith, b.count_is);
+        part = b.part;
+        rest = b.rest;
+        some = b.some;
+        shown_is = ap (λ (v : World). v.shown) (sym all) ∙ b.shown_is ∙ ap (λ (v : World). v.shown ++ (b.part ++ b.rest)) before;
+        sent_is = b.sent_is ∙ ap (λ (v : World). Some (v.shown ++ b.part)) before;
+      })
+  by_sent (inr h) = inr (record {
+    sent_is = h.sent_is ∙ ap (λ (v : World). Some v.shown) all;
+    due = subst (λ (v : World). (is_answer (asked_by v.state.wait) InputFault ≡ true) ⊎ IsSome (stops v)) all h.due;
+  })
 
 -- nothing is traced where a request stands
 line_asked : (e : Extent) (line : Whole → List ℕ) (w : World) (r : Request) → asked_by w.state.wait ≡ Some r → traced_line e line w ≡ []
@@ -147,11 +196,11 @@ line_asked e line w r q = by_stop (stops w) where
 
 -- no round was made, and the writer failed in passing on
 pub flush_cut : (e : Extent) (w : World) (s : State) (unread : Option (List ℕ)) (disk : Option Disk) (sent sent' : Option (List ℕ)) (left : ℕ)
-    → (r : Request) → asked_by s.wait ≡ Some r → Keeps sent sent' → IsAt w s unread disk sent left → ReachedCut e w s unread disk sent'
+    → (r : Request) → asked_by s.wait ≡ Some r → is_answer (Some r) InputFault ≡ true → Keeps sent sent' → IsAt w s unread disk sent left → ReachedCut e w s unread disk sent'
 unfolding rounds trace
-flush_cut e w s unread disk sent sent' left r asks k at =
+flush_cut e w s unread disk sent sent' left r asks typed k at =
     let q : asked_by w.state.wait ≡ Some r = ap (λ (v : State). asked_by v.wait) (sym at.state_is) ∙ asks in
-    (0, (λ line. sym (line_asked e line w r q)), kept_cut w s unread disk sent sent' left k at)
+    (0, (λ line. sym (line_asked e line w r q)), kept_cut 0 w s unread disk sent sent' left k (inl (ap (λ o. is_answer o InputFault) q ∙ typed)) at)
 
 pub kept_at : (w : World) (s : State) (unread : Option (List ℕ)) (disk : Option Disk) (sent sent' : Option (List ℕ)) (left : ℕ)
     → Keeps sent sent' → IsAt w s unread disk sent left → IsAt w s unread disk sent' left

@@ -94,6 +94,35 @@ unfolding ran rounds
 stretched zero k w s e h = (0, omega arith, no_tick w s e)
 stretched (suc n) k w s e h = by_tick n k w s e h (stretched n (k + 1) (behind w 1 (ticked s).0 (ticked s).1) (ticked s).0.parts) (is_quiet (ticked s).1) refl
 
+-- but for its last tick a stretch shows nothing
+silent_by : (j k : ℕ) (w : World) (s : Whole) → w.state ≡ running s → suc (suc j) ≤ w.left → (ran k (suc (suc j)) s).0 ≡ k + suc (suc j)
+    → ((ticked s).0 ≡ running (ticked s).0.parts → (ran (k + 1) (suc j) (ticked s).0.parts).0 ≡ k + 1 + suc j
+    → (rounds j (behind w 1 (ticked s).0 (ticked s).1)).shown ≡ (behind w 1 (ticked s).0 (ticked s).1).shown)
+    → (b : Bool) → is_quiet (ticked s).1 ≡ b → (rounds (suc j) w).shown ≡ w.shown
+silent_by j k w s same left all rest true q =
+    let one : suc j ≡ j + 1 = omega arith in
+    let less : suc (suc j) - 1 ≡ suc j = omega arith in
+    let on : ran k (suc (suc j)) s ≡ ran (k + 1) (suc j) (ticked s).0.parts =
+    ran_quiet k (suc (suc j)) s (omega arith) q ∙ ap (λ i. ran (k + 1) i (ticked s).0.parts) less in
+    let count : (ran (k + 1) (suc j) (ticked s).0.parts).0 ≡ k + 1 + suc j =
+    ap (λ (r : ℕ × State × Act). r.0) (sym on) ∙ all ∙ omega arith in
+    let first : rounds (suc j) w ≡ rounds j (behind w 1 (ticked s).0 (ticked s).1) =
+    ap (λ i. rounds i w) one ∙ rounds_add j 1 w ∙ ap (rounds j) (first_tick w s same (omega (arith, left))) in
+    let nothing : w.shown ++ shown_bytes (ticked s).0.parts.memory (ticked s).1.shown ≡ w.shown =
+    ap (λ bs. w.shown ++ bs) (quiet_shows (ticked s).0.parts.memory (ticked s).1 q) ∙ append-nil w.shown in
+    ap (λ (v : World). v.shown) first ∙ rest (ticked_runs s q) count ∙ nothing
+silent_by j k w s same left all rest false q =
+    let last : k + 1 ≡ k + suc (suc j) = ap (λ (r : ℕ × State × Act). r.0) (sym (ran_loud k (suc (suc j)) s (omega arith) q)) ∙ all in
+    absurd (omega (arith, last))
+
+pub silent_before : (j k : ℕ) (w : World) (s : Whole) → w.state ≡ running s → suc j ≤ w.left → (ran k (suc j) s).0 ≡ k + suc j → (rounds j w).shown ≡ w.shown
+unfolding rounds
+silent_before zero k w s same left all = refl
+silent_before (suc j) k w s same left all =
+    silent_by j k w s same left all
+    (λ runs count. silent_before j (k + 1) (behind w 1 (ticked s).0 (ticked s).1) (ticked s).0.parts runs (omega (arith, left)) count)
+    (is_quiet (ticked s).1) refl
+
 pub trace_add : (e : Extent) (line : Whole → List ℕ) (n m : ℕ) (w : World) → trace e line (n + m) w ≡ trace e line m w ++ trace e line n (rounds m w)
 unfolding trace
 trace_add e line zero m w = let none : 0 + m ≡ m = omega arith in ap (λ k. trace e line k w) none ∙ sym (append-nil (trace e line m w))

@@ -42,9 +42,9 @@ AddsLine extent n w = (line : Whole → List ℕ) → trace extent line n w ≡ 
 abbrev pub Reached : Extent → World → State → Option (List ℕ) → Option Disk → Option (List ℕ) → ℕ → Type 0
 Reached extent w s unread disk sent left = (n : ℕ) × AddsLine extent n w × IsAt (rounds n w) s unread disk sent left
 
--- the same, and of what they show a front was sent
+-- the same, and behind them the writer failed
 abbrev pub ReachedCut : Extent → World → State → Option (List ℕ) → Option Disk → Option (List ℕ) → Type 0
-ReachedCut extent w s unread disk sent = (n : ℕ) × AddsLine extent n w × IsCut (rounds n w) s unread disk sent
+ReachedCut extent w s unread disk sent = (n : ℕ) × AddsLine extent n w × IsCut n w s unread disk sent
 
 -- the run stops here after some rounds, and its trace was sent
 pub record EndsTraced (extent : Extent) (line : Whole → List ℕ) (w : World) (state : State) (unread : Option (List ℕ)) (disk : Option Disk) (sent : Option (List ℕ)) (old new : Option (List ℕ)) (stop : Stop) : Type 0 where

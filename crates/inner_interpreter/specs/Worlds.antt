@@ -1,5 +1,5 @@
 -- Where a run is, by what its machine and its ends tell.
-use Rattle.std.specs.Prelude.{◌≡◌, ℕ, length, ◌+◌, ◌*◌, true, List, ◌++◌, Option, None, Some}
+use Rattle.std.specs.Prelude.{◌≡◌, ◌<◌, ◌⊎◌, ℕ, suc, length, ◌+◌, ◌*◌, true, List, ◌++◌, Option, None, Some, IsSome}
 use Rattle.block_buffers.specs.Disks.{Disk}
 use Rattle.plain_rows.specs.declared.parts.Request.{Request}
 use Rattle.inner_interpreter.specs.declared.act.Act.{Act}
@@ -18,16 +18,6 @@ pub record IsAt (w : World) (state : State) (unread : Option (List ℕ)) (disk :
   pub disk_is : disk ≡ Some w.disk
   pub sent_is : sent ≡ Some w.shown
   pub left_is : left ≡ w.left
-
--- the same, but that a front of what is shown was sent
-pub record IsCut (w : World) (state : State) (unread : Option (List ℕ)) (disk : Option Disk) (sent : Option (List ℕ)) : Type 0 where
-  pub state_is : state ≡ w.state
-  pub unread_is : unread ≡ Some w.typed
-  pub disk_is : disk ≡ Some w.disk
-  pub front : List ℕ
-  pub back : List ℕ
-  pub shown_is : w.shown ≡ front ++ back
-  pub sent_is : sent ≡ Some front
 
 -- the same, but that the run went on there, the reader failed where a key or a line was asked, and the machine was told so;
 -- bytes of that line may be gone
@@ -77,10 +67,34 @@ OfImage image unread disk sent limit P =
 abbrev pub OfFile : List ℕ → Option (List ℕ) → Option Disk → Option (List ℕ) → ℕ → (World → Type 0) → Type 0
 OfFile bytes unread disk sent limit P = (image : Contents) → IsFile bytes image → OfImage image unread disk sent limit P
 
--- a writer failed in this run: a front of what some first rounds show was sent
+-- the last of so many rounds shows more than was sent: what was sent is all that those before it show, and a part of its own
+-- bytes
+pub record IsBrokenOff (count : ℕ) (w : World) (sent : Option (List ℕ)) : Type 0 where
+  pub before : ℕ
+  pub count_is : count ≡ suc before
+  pub part : List ℕ
+  pub rest : List ℕ
+  pub some : 0 < length rest
+  pub shown_is : (rounds count w).shown ≡ (rounds before w).shown ++ (part ++ rest)
+  pub sent_is : sent ≡ Some ((rounds before w).shown ++ part)
+
+-- all that they show was sent, and is to be passed on there: a key or a line is asked, or the run stops
+pub record IsHeldUp (count : ℕ) (w : World) (sent : Option (List ℕ)) : Type 0 where
+  pub sent_is : sent ≡ Some (rounds count w).shown
+  pub due : (is_answer (asked_by (rounds count w).state.wait) InputFault ≡ true) ⊎ IsSome (stops (rounds count w))
+
+-- so many rounds were made, and behind them the writer failed
+pub record IsCut (count : ℕ) (w : World) (state : State) (unread : Option (List ℕ)) (disk : Option Disk) (sent : Option (List ℕ)) : Type 0 where
+  pub state_is : state ≡ (rounds count w).state
+  pub unread_is : unread ≡ Some (rounds count w).typed
+  pub disk_is : disk ≡ Some (rounds count w).disk
+  pub sent_is : IsBrokenOff count w sent ⊎ IsHeldUp count w sent
+
+-- a writer failed in this run: some first rounds were made, up to the first that shows more than was sent, or to one behind
+-- which what was sent is to be passed on
 pub record EndsCut (w : World) (state : State) (unread : Option (List ℕ)) (disk : Option Disk) (sent : Option (List ℕ)) : Type 0 where
   pub count : ℕ
-  pub cut : IsCut (rounds count w) state unread disk sent
+  pub cut : IsCut count w state unread disk sent
 
 -- a reader failed in this run, after some first rounds
 pub record EndsFaulted (w : World) (state : State) (unread : Option (List ℕ)) (disk : Option Disk) (sent : Option (List ℕ)) : Type 0 where

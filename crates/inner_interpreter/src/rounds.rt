@@ -3,7 +3,7 @@
 ghost use Rattle.std.specs.Prelude.{◌≡◌, ◌≤◌, ◌<◌, ◌-◌, ℕ, List, Some, None, true, vec_capacity, OnOk, OnErr, IsErrOf};
 ghost use Rattle.std.specs.Io.KnownBytes.{Appends, Keeps};
 ghost use Rattle.block_buffers.specs.Disks.{Disk};
-ghost use Rattle.inner_interpreter.specs.Answer.{asked_by};
+ghost use Rattle.inner_interpreter.specs.Answer.{InputFault, asked_by, is_answer};
 ghost use Rattle.inner_interpreter.specs.Ends.{Marks};
 ghost use Rattle.inner_interpreter.specs.Lines.{IsLeft};
 ghost use Rattle.inner_interpreter.specs.Moves.{HasMoved, shown_bytes};
@@ -104,6 +104,7 @@ fn make_answer<R: Input, W: Output, D: Device>(
 /// What is shown so far stands before the program waits for typed bytes.
 fn flush_before<W: Output>(writer: &mut W, request: Request) -> Result<(), EndFault>
     ensures bytes { Keeps (W.sent writer.old) (W.sent writer.new) }
+    ensures asked { OnErr result (is_answer (Some request) InputFault ≡ true) }
     ensures mark { Marks (W.failed writer.old) (W.failed writer.new) result }
 {
     match request {

@@ -224,7 +224,7 @@ enough image d from to ws a es x = by (cases_lt to from)
         )
 
 -- what is answered
-pub compiles_by : (image : Contents) (d : Disk) (from to ticks : ℕ) (r : Result Contents LoadFault) (disk : Option Disk) → IsLoaded (loaded_by_machine image d from to ticks) r disk → Compiles image d from to r
+pub compiles_by : (image : Contents) (d : Disk) (from to ticks : ℕ) (r : Result Contents LoadFault) (disk : Option Disk) → IsLoaded d (loaded_by_machine image d from to ticks) r disk → Compiles image d from to r
 compiles_by image d from to ticks (Err OutOfMemory) disk h = λ ws a es x. tt
 compiles_by image d from to ticks (Ok i) disk h = λ ws a es x. subst (λ v. IsLaidOr image (laid_all (memory_of image d) es) (context_behind (memory_of image d) es) v) (sym h.0) (agree image d from to ticks ws a es x)
 compiles_by image d from to ticks (Err NotFound) disk h = λ ws a es x. subst (λ v. IsLaidOr image (laid_all (memory_of image d) es) (context_behind (memory_of image d) es) v) (sym h.0) (agree image d from to ticks ws a es x)

@@ -32,3 +32,4 @@ pub mod Moving
 pub mod Answering
 pub mod Residence
 pub mod Chaining
+pub mod Sampling

@@ -3,6 +3,7 @@ pub mod Rounds
 pub mod Reading
 pub mod Meaning
 pub mod Sources
+pub mod Sample
 pub mod Orderly
 pub mod Seen
 pub mod Turning

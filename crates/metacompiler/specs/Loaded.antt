@@ -1,5 +1,5 @@
 -- What loading screens on an image answers, for every image, device, screens and ticks.
-use Rattle.std.specs.Prelude.{◌≡◌, ◌≢◌, ◌<◌, ◌/◌, ℕ, ◌+◌, ◌-◌, ◌==◌, ◌&&◌, nat_le, if◌then◌else◌, List, length, codes, Option, Some, Result, Ok, Err}
+use Rattle.std.specs.Prelude.{◌≡◌, ◌≢◌, ◌⊎◌, ◌<◌, ◌/◌, ℕ, ◌+◌, ◌-◌, ◌==◌, ◌&&◌, nat_le, if◌then◌else◌, List, length, codes, Option, Some, Result, Ok, Err}
 use Rattle.block_buffers.specs.Disks.{Disk}
 use Rattle.dictionary.specs.Search.{Sought, Found, Nowhere, TooLong, sought, by_address}
 use Rattle.image_loader.specs.Files.{Contents}
@@ -78,10 +78,10 @@ abbrev pub IsSaved : Result Contents LoadFault → Result Contents LoadFault →
 IsSaved answer (Err OutOfMemory) = Unit {0}
 IsSaved answer result = result ≡ answer
 
--- the same, and the device is then so
-abbrev pub IsLoaded : Loaded → Result Contents LoadFault → Option Disk → Type 0
-IsLoaded o (Err OutOfMemory) disk = Unit {0}
-IsLoaded o result disk = (result ≡ o.answer) × (disk ≡ Some o.disk)
+-- the same of loading from this device, which is then as the rounds leave it; where memory was not found, it is as it was, or so
+abbrev pub IsLoaded : Disk → Loaded → Result Contents LoadFault → Option Disk → Type 0
+IsLoaded d o (Err OutOfMemory) disk = (disk ≡ Some d) ⊎ (disk ≡ Some o.disk)
+IsLoaded d o result disk = (result ≡ o.answer) × (disk ≡ Some o.disk)
 
 -- the image has the memory n up to HERE, but that another vocabulary may be searched first; else it is as the old one
 pub record IsLaidAs (old : Contents) (n : List ℕ) (context : ℕ) (image : Contents) : Type 0 where

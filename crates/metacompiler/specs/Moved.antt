@@ -1,5 +1,5 @@
 -- What loading screens on an image answers, whatever the device is: by the moves that the machine made.
-use Rattle.std.specs.Prelude.{◌≡◌, ◌<◌, ℕ, zero, suc, ◌+◌, ◌-◌, ◌==◌, ◌&&◌, ◌⊎◌, nat_le, if◌then◌else◌, Bool, IsFalse, List, [], ◌∷◌, ◌++◌, Option, None, MatchOption, Result, Ok, Err}
+use Rattle.std.specs.Prelude.{◌≡◌, ◌<◌, ℕ, zero, suc, ◌+◌, ◌-◌, ◌==◌, ◌&&◌, ◌⊎◌, nat_le, if◌then◌else◌, Bool, true, false, IsFalse, List, [], ◌∷◌, ◌++◌, Option, None, MatchOption, Result, Ok, Err}
 use Rattle.image_loader.specs.Files.{Contents}
 use Rattle.memory.specs.Bytes.{front_put, zeros}
 use Rattle.plain_rows.specs.declared.faults.TheConstants.{BLOCK_ZERO}
@@ -11,7 +11,8 @@ use Rattle.inner_interpreter.specs.Tick.{running, ticked}
 use Rattle.inner_interpreter.specs.Answer.{answer_of}
 use Rattle.inner_interpreter.specs.Moves.{Turn, Tick, Answer, turned, Accepts, device_call}
 use Rattle.metacompiler.specs.Rounds.{Stop, Ended, Limit, is_end, stop_by, entered}
-use Rattle.metacompiler.specs.Loaded.{LoadFault, Fault, OutOfMemory, interpret_in, answered, IsSaved}
+use Rattle.metacompiler.specs.Loaded as loaded
+use Rattle.metacompiler.specs.Loaded.{LoadFault, Asked, Fault, Halted, OutOfMemory, interpret_in, answered, fault_of, IsSaved}
 
 -- how far loading has come: the machine, the calls that its device was given, each with whether it failed, and how many
 -- ticks are left
@@ -83,6 +84,20 @@ pub record HasRead (word entry from to : ℕ) (p : Stage) (calls : List Bool) (r
   pub stop : Stop
   pub read : AreRead word (to + 1 - from) from p (stage machine calls left) stop
   pub answer : IsSaved (answered entry p.machine.parts.memory machine.parts stop) result
+
+-- whether the rounds of a screen stopped before its end
+abbrev pub is_stopped : Result Contents LoadFault → Bool
+is_stopped (Err (Fault f)) = true
+is_stopped (Err Halted) = true
+is_stopped (Err Asked) = true
+is_stopped (Err loaded.Limit) = true
+is_stopped _ = false
+
+-- where screens that are read by this word stop before the end of one, the machine is as its rounds left it
+unfoldable pub HasStopped : (word from to : ℕ) → (p : Stage) → State → (calls : List Bool) → Result Contents LoadFault → Type 0
+HasStopped word from to p machine calls result =
+    is_stopped result ≡ true → (left : ℕ) × (stop : Stop)
+    × AreRead word (to + 1 - from) from p (stage machine calls left) stop × IsFalse (is_end stop) × (result ≡ Err (fault_of stop))
 
 -- so it is on an image, with at most so many ticks; or memory for the machine was not found, and no call was made
 abbrev pub HasLoaded : (word : ℕ) → Contents → (count from to ticks : ℕ) → (calls calls' : List Bool) → Result Contents LoadFault → Type 0

@@ -1,7 +1,13 @@
 //! Laws of screens that a running image compiles.
 
+ghost use Rattle.std.specs.Prelude.{◌≤◌, ◌+◌, ◌∷◌, [], ℕ, List, codes};
+ghost use Rattle.memory.specs.Bytes.{cell};
+ghost use Rattle.memory.specs.declared.system.TheConstants.{DP};
+ghost use Rattle.source_words.specs.Words.{source_words};
 ghost use Rattle.metacompiler.specs.Compiled.{Agree, Enough};
 ghost use Rattle.metacompiler.specs.Rounds.{StopsForWant};
+ghost use Rattle.metacompiler.specs.Sample.{IsCalled, square, square_screen};
+ghost use Rattle.metacompiler.specs.Sources.{AreDefined};
 ghost use Rattle.metacompiler.specs.Turns.{CompiledIn6, ExecutedIn8, EndedIn4};
 
 /// Screens that hold colon definitions alone, loaded on an image whose memory is resident: the new image has the memory
@@ -23,4 +29,11 @@ pub fn turn_law()
     ensures compiled { CompiledIn6 }
     ensures executed { ExecutedIn8 }
     ensures last { EndedIn4 }
+{}
+
+/// A screen with the definition of SQ is such a source, in each memory that has room for it, and in which DUP and * are found.
+pub fn sample_law()
+    ensures { (limit screen : ℕ) (m : List ℕ) (dup times : ℕ) → IsCalled m (codes "DUP") dup → IsCalled m (codes "*") times →
+        cell m DP + 15 ≤ limit →
+        AreDefined limit m (source_words screen (square_screen ∷ [])) (square screen dup times ∷ []) }
 {}

@@ -6,7 +6,7 @@ ghost use Rattle.memory.specs.Bytes.{put_cell};
 ghost use Rattle.inner_interpreter.specs.Tick.{Runs};
 ghost use Rattle.metacompiler.specs.Rounds.{entered, rounds, screens};
 ghost use Rattle.metacompiler.specs.Loaded.{interpret_in, ended, fault_of, loaded_on, loaded_by_machine, IsLoaded, IsSaved};
-ghost use Rattle.metacompiler.specs.Moved.{stage, at_screen, AreRead, word_on, word_of, HasRead, HasLoaded};
+ghost use Rattle.metacompiler.specs.Moved.{stage, at_screen, AreRead, word_on, word_of, HasRead, HasLoaded, HasStopped};
 ghost use Rattle.metacompiler.specs.Compiled.{Compiles};
 ghost use Rattle.metacompiler.specs.Making.{IsLed, StopsAt};
 
@@ -149,8 +149,8 @@ fn save(
 }
 
 /// The screens from one to another are loaded by a machine that runs, to which an image with this entry was loaded, as
-/// `load_by_machine` does. Where they aren't, its BLK and >IN tell where it stopped, but behind the last screen.
-#[tactic(auto, using(crate::proofs::Answering::refused_loaded, crate::proofs::Answering::stopped_loaded, crate::proofs::Answering::saved_loaded))]
+/// `load_by_machine` does. Where a screen's rounds stop before its end, its BLK and >IN tell where that was.
+#[tactic(auto, using(crate::proofs::Answering::refused_loaded, crate::proofs::Answering::stopped_loaded, crate::proofs::Answering::saved_loaded, crate::proofs::Answering::stopped_there, crate::proofs::Answering::saved_there))]
 pub fn load_on<D: Device>(
     machine: &mut Machine,
     alloc: Global,
@@ -161,10 +161,15 @@ pub fn load_on<D: Device>(
     limit: u64,
 ) -> Result<Image, LoadFault>
     ensures told { (d : Disk) → D.disk device.old ≡ Some d → Runs machine.old →
-        IsLoaded (loaded_on entry machine.old.parts d from to limit) result (D.disk device.new) }
+        IsLoaded d (loaded_on entry machine.old.parts d from to limit) result (D.disk device.new) }
     ensures refused { IfErr (word_on machine.old from to) (λ c. (result ≡ Err c) × (device.new ≡ device.old)) }
     ensures moved { Runs machine.old → IfOk (word_on machine.old from to)
         (λ word. HasRead word entry from to (stage machine.old (D.calls device.old) limit)
+        (D.calls device.new) result) }
+
+    // Where a screen's rounds stop before its end, the machine is as they left it: its BLK and >IN tell where that was.
+    ensures stopped { Runs machine.old → IfOk (word_on machine.old from to)
+        (λ word. HasStopped word from to (stage machine.old (D.calls device.old) limit) machine.new
         (D.calls device.new) result) }
 {
     let interpret = match interpret_in(machine) {
@@ -197,7 +202,7 @@ pub fn load_by_machine<D: Device>(
     limit: u64,
 ) -> Result<Image, LoadFault>
     ensures told { (d : Disk) → D.disk device.old ≡ Some d →
-        IsLoaded (loaded_by_machine image.now d from to limit) result (D.disk device.new) }
+        IsLoaded d (loaded_by_machine image.now d from to limit) result (D.disk device.new) }
     ensures compiled { (d : Disk) → D.disk device.old ≡ Some d → Compiles image.now d from to result }
 
     // Whatever the device is: where no INTERPRET is found or the first screen is 0, this is answered, and the device is as

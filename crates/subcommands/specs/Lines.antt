@@ -32,10 +32,13 @@ Prints bytes wanted status old new = (status ≡ wanted) × Appends old new byte
 abbrev pub PrintsOutOfMemory : (status : ℕ) → (old new : Option (List ℕ)) → Type 0
 PrintsOutOfMemory status old new = Prints (line (codes "out of memory")) 1 status old new
 
--- status 1, and `WHAT: CAUSE` was printed, or that memory ran out
+-- `WHAT: CAUSE`
+abbrev pub refusal : (what cause : List ℕ) → List ℕ
+refusal what cause = what ++ (codes ": " ++ line cause)
+
+-- status 1, and `WHAT: CAUSE` was printed
 abbrev pub PrintsRefusal : (what cause : List ℕ) → (status : ℕ) → (old new : Option (List ℕ)) → Type 0
-PrintsRefusal what cause status old new =
-    (status ≡ 1) × (Appends old new (what ++ (codes ": " ++ line cause)) ⊎ Appends old new (line (codes "out of memory")))
+PrintsRefusal what cause status old new = Prints (refusal what cause) 1 status old new
 
 -- where the bytes are no image's file, it was printed why
 abbrev pub PrintsNoImage : List ℕ → (status : ℕ) → (old new : Option (List ℕ)) → Type 0
@@ -63,11 +66,10 @@ OfTraced bytes name Of = (image : Contents) → IsFile bytes image → IsOk (deb
 abbrev pub fault_line : (screen offset : ℕ) → List ℕ → List ℕ
 fault_line screen offset cause = codes "screen " ++ (decimal screen ++ (codes " offset " ++ (decimal offset ++ (codes ": " ++ line cause))))
 
--- status 1, and where and why a source is refused was printed, or that memory ran out
+-- status 1, and where and why a source is refused was printed
 abbrev pub PrintsFault : (screen offset : ℕ) → Cause → (status : ℕ) → (old new : Option (List ℕ)) → Type 0
 PrintsFault screen offset build.OutOfMemory status old new = PrintsOutOfMemory status old new
-PrintsFault screen offset cause status old new =
-    (status ≡ 1) × (Appends old new (fault_line screen offset (build_cause cause)) ⊎ Appends old new (line (codes "out of memory")))
+PrintsFault screen offset cause status old new = Prints (fault_line screen offset (build_cause cause)) 1 status old new
 
 -- the screens from..to are refused for a fault, as an image for so many buffers, and that was printed
 pub record EndsRefused (count : ℕ) (d : Disk) (from to : ℕ) (done : Done) (status : ℕ) (old new : Option (List ℕ)) : Type 0 where
@@ -114,17 +116,13 @@ HasRoom image given = length image.bytes ≤ limit_of (new_buffers image given)
 abbrev pub upgraded : Contents → Option ℕ → Contents
 upgraded image given = record image { buffers = new_buffers image given }
 
--- that an image is too large was printed, or that memory ran out
+-- that an image is too large was printed
 abbrev pub PrintsTooLarge : (status : ℕ) → (old new : Option (List ℕ)) → Type 0
 PrintsTooLarge status old new = PrintsRefusal (codes "image") (codes "TooLarge") status old new
 
 -- these bytes are the file that is written of this image, and its line was printed
 abbrev pub IsUpgraded : List ℕ → Contents → (old new : Option (List ℕ)) → Type 0
 IsUpgraded bytes image old new = IsFileOf image (upgrade_line image) bytes old new
-
--- a text was printed on a line, or that memory ran out
-abbrev pub PrintsOn : List ℕ → (status : ℕ) → (old new : Option (List ℕ)) → Type 0
-PrintsOn text status old new = Prints (line text) 0 status old new ⊎ PrintsOutOfMemory status old new
 
 -- the number of a screen was printed, or why there is none
 abbrev pub PrintsViewed : (name : List ℕ) → Result ℕ ViewRefused → (status : ℕ) → (old new : Option (List ℕ)) → Type 0

@@ -1,5 +1,5 @@
 -- What `load` prints, and the file that it makes.
-use Rattle.std.specs.Prelude.{◌≡◌, ℕ, Bool, List, ◌++◌, Option, Some, Result, Ok, Err, IfErr, IfOk, IsNone, MatchOption, codes, decimal}
+use Rattle.std.specs.Prelude.{◌≡◌, ℕ, Bool, false, List, ◌++◌, Option, Some, Result, Ok, Err, IfErr, IfOk, IsNone, MatchOption, codes, decimal}
 use Rattle.block_buffers.specs.Disks.{Disk}
 use Rattle.image_loader.specs.Files.{Contents, IsFile}
 use Rattle.metacompiler.specs.Loaded.{Loaded, IsLoaded, IsSaved, loaded_by_machine}
@@ -33,21 +33,21 @@ EndsAnswered (Ok image) ended old new =
     (λ file. IsFileOf image (image_line image) file.items old new)
 EndsAnswered (Err why) ended old new = IsNone ended.file × PrintsUnloaded why ended.status old new
 
--- what loading comes to is answered, or that memory ran out
-pub record EndsLoaded (o : Loaded) (disk : Option Disk) (ended : Ended) (old new : Option (List ℕ)) : Type 0 where
+-- what loading comes to over this device is answered, or that memory ran out; where the writer doesn't fail, it is printed
+pub record EndsLoaded (d : Disk) (o : Loaded) (disk : Option Disk) (ended : Ended) (failed : Bool) (old new : Option (List ℕ)) : Type 0 where
   pub answer : Result Contents LoadFault
-  pub is_loaded : IsLoaded o answer disk
-  pub ends : EndsAnswered answer ended old new
+  pub is_loaded : IsLoaded d o answer disk
+  pub ends : failed ≡ false → EndsAnswered answer ended old new
 
 -- what follows from the moves that the machine made is answered, whatever the device is
-pub record EndsMoved (image : Contents) (count from to limit : ℕ) (calls calls' : List Bool) (ended : Ended)
+pub record EndsMoved (image : Contents) (count from to limit : ℕ) (calls calls' : List Bool) (ended : Ended) (failed : Bool)
     (old new : Option (List ℕ)) : Type 0 where
   pub answer : Result Contents LoadFault
   pub unread : IfErr (word_of image from to) (λ why. IsSaved (Err why) answer × (calls' ≡ calls))
   pub read : IfOk (word_of image from to) (λ word. HasLoaded word image count from to limit calls calls' answer)
-  pub ends : EndsAnswered answer ended old new
+  pub ends : failed ≡ false → EndsAnswered answer ended old new
 
 -- where the bytes are an image's file and the device tells its blocks: of what loading the screens comes to
-abbrev pub OfLoad : List ℕ → Option Disk → (from to limit : ℕ) → (Loaded → Type 0) → Type 0
+abbrev pub OfLoad : List ℕ → Option Disk → (from to limit : ℕ) → (Disk → Loaded → Type 0) → Type 0
 OfLoad bytes disk from to limit Of =
-    (old : Contents) → IsFile bytes old → (d : Disk) → disk ≡ Some d → Of (loaded_by_machine old d from to limit)
+    (old : Contents) → IsFile bytes old → (d : Disk) → disk ≡ Some d → Of d (loaded_by_machine old d from to limit)

@@ -1,6 +1,5 @@
 -- Screens printed as text, and texts written into a block file.
-use Rattle.std.specs.Prelude.{◌≡◌, ◌⊎◌, ℕ, ◌+◌, ◌-◌, List, ◌++◌, Option, Result, Ok, Err, codes, decimal}
-use Rattle.std.specs.Io.KnownBytes.{Appends}
+use Rattle.std.specs.Prelude.{◌≡◌, ◌⊎◌, ℕ, ◌+◌, ◌-◌, List, ◌++◌, flat_map, Option, Result, Ok, Err, codes, decimal}
 use Rattle.block_buffers.specs.Disks.{Disk}
 use Rattle.device_text.specs.Pages.{pages}
 use Rattle.device_text.specs.declared.pages.PageCause.{PageCause}
@@ -33,14 +32,10 @@ text_cause text.OutOfMemory = codes "out of memory"
 abbrev pub screen_line : (screen place : ℕ) → List ℕ → List ℕ
 screen_line screen place cause = codes "screen " ++ (decimal screen ++ (codes " line " ++ (decimal place ++ (codes ": " ++ line cause))))
 
--- status 1, and this line was printed, or that memory ran out
-abbrev pub PrintsLine : List ℕ → (status : ℕ) → (old new : Option (List ℕ)) → Type 0
-PrintsLine bytes status old new = (status ≡ 1) × (Appends old new bytes ⊎ Appends old new (line (codes "out of memory")))
-
 -- the text was printed, or why there is none
 abbrev pub PrintsText : Result (List ℕ) Unprinted → (status : ℕ) → (old new : Option (List ℕ)) → Type 0
 PrintsText (Ok text) status old new = Prints text 0 status old new
-PrintsText (Err why) status old new = PrintsLine (screen_line why.screen why.line (page_cause why.cause)) status old new
+PrintsText (Err why) status old new = Prints (screen_line why.screen why.line (page_cause why.cause)) 1 status old new
 
 -- what `text` prints of the screens from..to, or that memory ran out
 abbrev pub EndsText : Disk → (from to : ℕ) → (status : ℕ) → (old new : Option (List ℕ)) → Type 0
@@ -51,6 +46,10 @@ abbrev pub HasScreens : Result State TextFault → (old new : List ℕ) → Type
 HasScreens (Ok s) old new = new ≡ with_screens old (screens_of s.numbers (whole s))
 HasScreens (Err fault) old new = ⊥
 
+-- the bytes of a block file
+unfoldable pub file_of : (blocks : List (List ℕ)) → List ℕ
+file_of blocks = flat_map (λ b. b) blocks
+
 -- `line L: CAUSE`
 abbrev pub numbered_line : (place : ℕ) → List ℕ → List ℕ
 numbered_line place cause = codes "line " ++ (decimal place ++ (codes ": " ++ line cause))
@@ -58,7 +57,7 @@ numbered_line place cause = codes "line " ++ (decimal place ++ (codes ": " ++ li
 -- why a text isn't written was printed
 abbrev pub PrintsUnwritten : Result State TextFault → (status : ℕ) → (old new : Option (List ℕ)) → Type 0
 PrintsUnwritten (Ok s) status old new = PrintsOutOfMemory status old new
-PrintsUnwritten (Err fault) status old new = PrintsLine (numbered_line fault.line (text_cause fault.cause)) status old new
+PrintsUnwritten (Err fault) status old new = Prints (numbered_line fault.line (text_cause fault.cause)) 1 status old new
 
 -- the same, or that memory ran out
 abbrev pub EndsUnwritten : Result State TextFault → (status : ℕ) → (old new : Option (List ℕ)) → Type 0

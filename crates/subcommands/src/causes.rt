@@ -1,38 +1,42 @@
 //! How refusals are spelled where they are printed. What a derived `Display` writes is known to no clause, so the program spells
-//! them itself, and clauses know what it prints.
+//! them itself, and clauses know what it prints. No memory is wanted for it.
 
-ghost use Rattle.std.specs.Prelude.{◌≡◌, ℕ, List, IfOk, string_bytes};
+ghost use Rattle.std.specs.Prelude.{ℕ, List, OnOk};
+ghost use Rattle.std.specs.Io.KnownBytes.{Appends};
+ghost use Rattle.inner_interpreter.specs.Ends.{Marks};
 ghost use Rattle.subcommands.specs.Causes.{image_cause, build_cause, view_cause, see_cause, debug_cause, upgrade_cause};
 ghost use Rattle.subcommands.specs.Loads.{load_cause};
 
+use crate::sends::send_numbered;
 use debug_tracer::DebugFault;
 use image_loader::{ImageFault, UpgradeFault};
+use inner_interpreter::{EndFault, Output, send_all};
 use metacompiler::{Cause, LoadFault};
 use see::{SeeRefused, ViewRefused};
-use std::alloc::{AllocError, Global};
 
 /// Why something is refused.
 pub trait Reason {
     /// How the cause is spelled.
     ghost spelling: { Self → List ℕ };
 
-    /// The cause as text.
-    fn spelled(&self, alloc: Global) -> Result<String, AllocError>
-        ensures { IfOk result (λ s. string_bytes s ≡ spelling self.now) };
+    /// Sends the cause as text.
+    fn send<W: Output>(&self, writer: &mut W) -> Result<(), EndFault>
+        ensures sent { OnOk result (Appends (W.sent writer.old) (W.sent writer.new) (spelling self.now)) }
+        ensures mark { Marks (W.failed writer.old) (W.failed writer.new) result };
 }
 
 impl Reason for ImageFault {
     ghost spelling = { λ f. image_cause f };
 
-    fn spelled(&self, alloc: Global) -> Result<String, AllocError> {
+    fn send<W: Output>(&self, writer: &mut W) -> Result<(), EndFault> {
         match *self {
-            ImageFault::Truncated => "Truncated".to_string(alloc),
-            ImageFault::BadMagic => "BadMagic".to_string(alloc),
-            ImageFault::BadVersion => "BadVersion".to_string(alloc),
-            ImageFault::BadBuffers => "BadBuffers".to_string(alloc),
-            ImageFault::BadSize => "BadSize".to_string(alloc),
-            ImageFault::TrailingBytes => "TrailingBytes".to_string(alloc),
-            ImageFault::OutOfMemory => "OutOfMemory".to_string(alloc),
+            ImageFault::Truncated => send_all(writer, b"Truncated"),
+            ImageFault::BadMagic => send_all(writer, b"BadMagic"),
+            ImageFault::BadVersion => send_all(writer, b"BadVersion"),
+            ImageFault::BadBuffers => send_all(writer, b"BadBuffers"),
+            ImageFault::BadSize => send_all(writer, b"BadSize"),
+            ImageFault::TrailingBytes => send_all(writer, b"TrailingBytes"),
+            ImageFault::OutOfMemory => send_all(writer, b"OutOfMemory"),
         }
     }
 }
@@ -40,10 +44,10 @@ impl Reason for ImageFault {
 impl Reason for UpgradeFault {
     ghost spelling = { λ f. upgrade_cause f };
 
-    fn spelled(&self, alloc: Global) -> Result<String, AllocError> {
+    fn send<W: Output>(&self, writer: &mut W) -> Result<(), EndFault> {
         match *self {
-            UpgradeFault::TooLarge => "TooLarge".to_string(alloc),
-            UpgradeFault::OutOfMemory => "OutOfMemory".to_string(alloc),
+            UpgradeFault::TooLarge => send_all(writer, b"TooLarge"),
+            UpgradeFault::OutOfMemory => send_all(writer, b"OutOfMemory"),
         }
     }
 }
@@ -51,19 +55,19 @@ impl Reason for UpgradeFault {
 impl Reason for Cause {
     ghost spelling = { λ c. build_cause c };
 
-    fn spelled(&self, alloc: Global) -> Result<String, AllocError> {
+    fn send<W: Output>(&self, writer: &mut W) -> Result<(), EndFault> {
         match *self {
-            Cause::OutOfMemory => "out of memory".to_string(alloc),
-            Cause::EndsInside => "EndsInside".to_string(alloc),
-            Cause::BadNumber => "BadNumber".to_string(alloc),
-            Cause::BadPrimitive => "BadPrimitive".to_string(alloc),
-            Cause::Misplaced => "Misplaced".to_string(alloc),
-            Cause::Unbalanced => "Unbalanced".to_string(alloc),
-            Cause::Unknown => "Unknown".to_string(alloc),
-            Cause::BadName => "BadName".to_string(alloc),
-            Cause::Full => "Full".to_string(alloc),
-            Cause::NoBoot => "NoBoot".to_string(alloc),
-            Cause::Device => "Device".to_string(alloc),
+            Cause::OutOfMemory => send_all(writer, b"out of memory"),
+            Cause::EndsInside => send_all(writer, b"EndsInside"),
+            Cause::BadNumber => send_all(writer, b"BadNumber"),
+            Cause::BadPrimitive => send_all(writer, b"BadPrimitive"),
+            Cause::Misplaced => send_all(writer, b"Misplaced"),
+            Cause::Unbalanced => send_all(writer, b"Unbalanced"),
+            Cause::Unknown => send_all(writer, b"Unknown"),
+            Cause::BadName => send_all(writer, b"BadName"),
+            Cause::Full => send_all(writer, b"Full"),
+            Cause::NoBoot => send_all(writer, b"NoBoot"),
+            Cause::Device => send_all(writer, b"Device"),
         }
     }
 }
@@ -71,17 +75,17 @@ impl Reason for Cause {
 impl Reason for LoadFault {
     ghost spelling = { λ c. load_cause c };
 
-    fn spelled(&self, alloc: Global) -> Result<String, AllocError> {
+    fn send<W: Output>(&self, writer: &mut W) -> Result<(), EndFault> {
         match *self {
-            LoadFault::NotFound => "NotFound".to_string(alloc),
-            LoadFault::ChainTooLong => "ChainTooLong".to_string(alloc),
-            LoadFault::Fault(number) => format!(in alloc; "Fault {number}"),
-            LoadFault::Halted => "Halted".to_string(alloc),
-            LoadFault::Asked => "Asked".to_string(alloc),
-            LoadFault::Limit => "Limit".to_string(alloc),
-            LoadFault::Unfinished => "Unfinished".to_string(alloc),
-            LoadFault::BadSize => "BadSize".to_string(alloc),
-            LoadFault::OutOfMemory => "out of memory".to_string(alloc),
+            LoadFault::NotFound => send_all(writer, b"NotFound"),
+            LoadFault::ChainTooLong => send_all(writer, b"ChainTooLong"),
+            LoadFault::Fault(number) => send_numbered(writer, b"Fault ", number),
+            LoadFault::Halted => send_all(writer, b"Halted"),
+            LoadFault::Asked => send_all(writer, b"Asked"),
+            LoadFault::Limit => send_all(writer, b"Limit"),
+            LoadFault::Unfinished => send_all(writer, b"Unfinished"),
+            LoadFault::BadSize => send_all(writer, b"BadSize"),
+            LoadFault::OutOfMemory => send_all(writer, b"out of memory"),
         }
     }
 }
@@ -89,10 +93,10 @@ impl Reason for LoadFault {
 impl Reason for ViewRefused {
     ghost spelling = { λ r. view_cause r };
 
-    fn spelled(&self, alloc: Global) -> Result<String, AllocError> {
+    fn send<W: Output>(&self, writer: &mut W) -> Result<(), EndFault> {
         match *self {
-            ViewRefused::NotFound => "NotFound".to_string(alloc),
-            ViewRefused::ChainTooLong => "ChainTooLong".to_string(alloc),
+            ViewRefused::NotFound => send_all(writer, b"NotFound"),
+            ViewRefused::ChainTooLong => send_all(writer, b"ChainTooLong"),
         }
     }
 }
@@ -100,16 +104,16 @@ impl Reason for ViewRefused {
 impl Reason for SeeRefused {
     ghost spelling = { λ r. see_cause r };
 
-    fn spelled(&self, alloc: Global) -> Result<String, AllocError> {
+    fn send<W: Output>(&self, writer: &mut W) -> Result<(), EndFault> {
         match *self {
-            SeeRefused::NotFound => "NotFound".to_string(alloc),
-            SeeRefused::ChainTooLong => "ChainTooLong".to_string(alloc),
-            SeeRefused::NotColon => "NotColon".to_string(alloc),
-            SeeRefused::NotStructured => "NotStructured".to_string(alloc),
-            SeeRefused::Nameless(cell) => format!(in alloc; "Nameless {cell}"),
-            SeeRefused::Shadowed => "Shadowed".to_string(alloc),
-            SeeRefused::BadText => "BadText".to_string(alloc),
-            SeeRefused::OutOfMemory => "OutOfMemory".to_string(alloc),
+            SeeRefused::NotFound => send_all(writer, b"NotFound"),
+            SeeRefused::ChainTooLong => send_all(writer, b"ChainTooLong"),
+            SeeRefused::NotColon => send_all(writer, b"NotColon"),
+            SeeRefused::NotStructured => send_all(writer, b"NotStructured"),
+            SeeRefused::Nameless(cell) => send_numbered(writer, b"Nameless ", cell),
+            SeeRefused::Shadowed => send_all(writer, b"Shadowed"),
+            SeeRefused::BadText => send_all(writer, b"BadText"),
+            SeeRefused::OutOfMemory => send_all(writer, b"OutOfMemory"),
         }
     }
 }
@@ -117,12 +121,12 @@ impl Reason for SeeRefused {
 impl Reason for DebugFault {
     ghost spelling = { λ f. debug_cause f };
 
-    fn spelled(&self, alloc: Global) -> Result<String, AllocError> {
+    fn send<W: Output>(&self, writer: &mut W) -> Result<(), EndFault> {
         match *self {
-            DebugFault::NotFound => "NotFound".to_string(alloc),
-            DebugFault::ChainTooLong => "ChainTooLong".to_string(alloc),
-            DebugFault::NotColon => "NotColon".to_string(alloc),
-            DebugFault::OutOfMemory => "OutOfMemory".to_string(alloc),
+            DebugFault::NotFound => send_all(writer, b"NotFound"),
+            DebugFault::ChainTooLong => send_all(writer, b"ChainTooLong"),
+            DebugFault::NotColon => send_all(writer, b"NotColon"),
+            DebugFault::OutOfMemory => send_all(writer, b"OutOfMemory"),
         }
     }
 }

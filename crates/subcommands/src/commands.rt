@@ -1,29 +1,32 @@
 //! The subcommands, over values.
 
-ghost use Rattle.std.specs.Prelude.{◌≡◌, ◌≢◌, ◌<◌, codes, decimal, false, true, Some, IsNone, IsSome, IfOk, IfSome, MatchOption, string_bytes, ◌++◌};
+ghost use Rattle.std.specs.Prelude.{◌≡◌, ◌≢◌, ◌⊎◌, ◌<◌, codes, decimal, false, true, Some, IsNone, IsSome, IfSome, MatchOption, OnOk};
 ghost use Rattle.std.specs.Io.KnownBytes.{Appends};
 ghost use Rattle.image_builder.specs.Sources.{done_of};
 ghost use Rattle.block_buffers.specs.Disks.{Disk};
 ghost use Rattle.subcommands.specs.Kernel.{filled, blocks_of};
-ghost use Rattle.subcommands.specs.Images.{IsBuiltFile};
-ghost use Rattle.subcommands.specs.Causes.{IsNoFile, image_cause};
-ghost use Rattle.subcommands.specs.Lines.{EndsUnbuilt, EndsViewed, IsFileOf, IsTold, OfImageFile, Prints, PrintsNoImage, PrintsOn, PrintsFault, PrintsOutOfMemory, PrintsRefusal, fault_line, image_line, line};
-ghost use Rattle.subcommands.specs.Statuses.{status_of, EndsWith};
+ghost use Rattle.subcommands.specs.Images.{IsBuilding, IsBuiltFile};
+ghost use Rattle.subcommands.specs.Causes.{IsNoFile, build_cause, image_cause};
+ghost use Rattle.subcommands.specs.Ends.{IsRefusal, IsUnrun};
+ghost use Rattle.subcommands.specs.Lines.{EndsUnbuilt, EndsViewed, IsFileOf, IsTold, OfImageFile, Prints, PrintsNoImage, PrintsFault, PrintsOutOfMemory, PrintsRefusal, fault_line, image_line, line};
+ghost use Rattle.subcommands.specs.Statuses.{status_of, EndsWith, HasRunWith};
 ghost use Rattle.image_loader.specs.Files.{IsWritten};
 ghost use Rattle.image_loader.specs.declared.fault.ImageFault.{ImageFault};
-ghost use Rattle.inner_interpreter.specs.Worlds.{OfFile};
+ghost use Rattle.inner_interpreter.specs.Ends.{Marks};
+ghost use Rattle.inner_interpreter.specs.Worlds.{EndsCutFrom, EndsFaultedFrom, OfFile};
 ghost use Rattle.memory.specs.Bytes.{IsCount};
 
 use crate::causes::Reason;
 use crate::kernel::kernel_file;
 use crate::kernel_text::TEXT;
+use crate::sends::{end_line, ended, send_decimal, send_numbered, send_refusal};
 use block_buffers::Device;
 use image_loader::{Image, ImageFault};
-use inner_interpreter::{Input, Output, Stop, run_file, send_all};
+use inner_interpreter::{EndFault, Input, Output, Stop, run_file, send_all};
 use memory::{Memory, OutOfMemory};
 use metacompiler::{BuildFault, Cause, build};
 use see::view;
-use std::alloc::{AllocError, Global};
+use std::alloc::Global;
 
 /// How a subcommand ended: the program's status, and the bytes of the file that it makes, if it makes one.
 #[derive(Drop)]
@@ -63,27 +66,18 @@ pub fn status_of(stop: Stop) -> u8
     }
 }
 
-/// Prints a line, and ends with the status, or with 5 where the line can't be written.
-pub fn print<W: Output>(writer: &mut W, line: &[u8], status: u8) -> Ended
+/// Prints a text, and ends with the status, or with 5 where the text can't be written.
+pub fn print<W: Output>(writer: &mut W, text: &[u8], status: u8) -> Ended
     ensures printed { W.failed writer.new ≡ false →
-        Prints line.now status result.status (W.sent writer.old) (W.sent writer.new) }
+        Prints text.now status result.status (W.sent writer.old) (W.sent writer.new) }
     ensures cut { W.failed writer.old ≡ false → W.failed writer.new ≡ true → result.status ≡ 5 }
-    ensures status { 0 < status → 0 < result.status }
+    ensures status { (result.status ≡ status) ⊎ ((result.status ≡ 5) × (W.failed writer.new ≡ true)) }
     ensures file { IsNone result.file }
 {
-    if send_all(writer, line).is_err() || writer.flush().is_err() {
+    if send_all(writer, text).is_err() || writer.flush().is_err() {
         return end_with(5);
     }
     end_with(status)
-}
-
-/// Prints a line, and answers whether all of it was written.
-pub fn is_printed<W: Output>(writer: &mut W, line: &[u8]) -> bool
-    ensures printed { W.failed writer.new ≡ false →
-        (result ≡ true) × Appends (W.sent writer.old) (W.sent writer.new) line.now }
-    ensures cut { W.failed writer.old ≡ false → W.failed writer.new ≡ true → result ≡ false }
-{
-    print(writer, line, 0).status == 0
 }
 
 /// Prints that memory ran out.
@@ -91,74 +85,38 @@ pub fn print_out_of_memory<W: Output>(writer: &mut W) -> Ended
     ensures printed { W.failed writer.new ≡ false →
         PrintsOutOfMemory result.status (W.sent writer.old) (W.sent writer.new) }
     ensures cut { W.failed writer.old ≡ false → W.failed writer.new ≡ true → result.status ≡ 5 }
-    ensures status { 0 < result.status }
+    ensures status { IsRefusal result.status (W.failed writer.new) }
     ensures file { IsNone result.file }
 {
     print(writer, b"out of memory\n", 1)
 }
 
-/// The line that tells why something is refused.
-fn refusal(alloc: Global, what: &str, cause: &str) -> Result<String, AllocError>
-    ensures { IfOk result (λ s. string_bytes s ≡ what.now ++ (codes ": " ++ line cause.now)) }
-{
-    format!(in alloc; "{what}: {cause}\n")
-}
-
 /// Prints why something is refused: `WHAT: CAUSE`.
-pub fn refuse<C: Reason + Drop, W: Output>(
-    alloc: Global,
-    what: &str,
-    why: C,
-    writer: &mut W,
-) -> Ended
+pub fn refuse<C: Reason + Drop, W: Output>(what: &str, why: C, writer: &mut W) -> Ended
     ensures printed { W.failed writer.new ≡ false →
         PrintsRefusal what.now (C.spelling why) result.status (W.sent writer.old) (W.sent writer.new) }
     ensures cut { W.failed writer.old ≡ false → W.failed writer.new ≡ true → result.status ≡ 5 }
-    ensures status { 0 < result.status }
+    ensures status { IsRefusal result.status (W.failed writer.new) }
     ensures file { IsNone result.file }
 {
-    let Ok(cause) = why.spelled(alloc) else {
-        return print_out_of_memory(writer);
-    };
-    match refusal(alloc, what, cause.as_str()) {
-        Ok(line) => print(writer, line.as_str().as_bytes(), 1),
-        Err(_) => print_out_of_memory(writer),
-    }
+    let sent = send_refusal(writer, what, &why);
+    ended(sent, 1)
 }
 
 /// Prints why bytes are no image.
-pub fn refuse_image<W: Output>(alloc: Global, fault: ImageFault, writer: &mut W) -> Ended
-    ensures printed { W.failed writer.new ≡ false →
+pub fn refuse_image<W: Output>(fault: ImageFault, writer: &mut W) -> Ended
+    ensures printed { W.failed writer.new ≡ false → fault ≢ ImageFault.OutOfMemory →
         PrintsRefusal (codes "image") (image_cause fault) result.status (W.sent writer.old) (W.sent writer.new) }
     ensures out_of_memory { W.failed writer.new ≡ false → fault ≡ ImageFault.OutOfMemory →
         PrintsOutOfMemory result.status (W.sent writer.old) (W.sent writer.new) }
     ensures cut { W.failed writer.old ≡ false → W.failed writer.new ≡ true → result.status ≡ 5 }
-    ensures status { 0 < result.status }
+    ensures status { IsRefusal result.status (W.failed writer.new) }
     ensures file { IsNone result.file }
 {
     if fault == ImageFault::OutOfMemory {
         return print_out_of_memory(writer);
     }
-    refuse(alloc, "image", fault, writer)
-}
-
-/// Prints a line of an image, and ends with the image's file.
-pub fn end_with_image<W: Output>(alloc: Global, image: &Image, line: &str, writer: &mut W) -> Ended
-    ensures status { MatchOption result.file (0 < result.status) (λ _. result.status ≡ 0) }
-    ensures told { W.failed writer.new ≡ false →
-        IfSome result.file (λ file. IsFileOf image.now line.now file.items (W.sent writer.old) (W.sent writer.new)) }
-    ensures file { IfSome result.file (λ file. IsWritten file.items image.now) }
-    ensures wanting { W.failed writer.new ≡ false → IsNone result.file →
-        PrintsOutOfMemory result.status (W.sent writer.old) (W.sent writer.new) }
-    ensures cut { W.failed writer.old ≡ false → W.failed writer.new ≡ true → (result.status ≡ 5) × IsNone result.file }
-{
-    let Ok(file) = image_loader::write(alloc, image) else {
-        return print_out_of_memory(writer);
-    };
-    if is_printed(writer, line.as_bytes()) {
-        return end_with_file(file);
-    }
-    end_with(5)
+    refuse("image", fault, writer)
 }
 
 /// Makes the block file with the kernel's sources, of 64 blocks. Status 0; without a file 1, where memory ran out, or 5,
@@ -178,40 +136,45 @@ pub fn do_kernel<W: Output>(alloc: Global, writer: &mut W) -> Ended
     }
 }
 
-/// The line that tells where and why a source is refused.
-fn fault_line(alloc: Global, screen: u16, offset: u16, cause: &str) -> Result<String, AllocError>
-    ensures { IfOk result (λ s. string_bytes s ≡ fault_line screen offset cause.now) }
+/// Sends where and why a source is refused: `screen S offset O: CAUSE`.
+#[tactic(auto, using(inner_interpreter::proofs::Sending::appends_both))]
+fn send_fault<W: Output>(writer: &mut W, fault: &BuildFault) -> Result<(), EndFault>
+    ensures sent { OnOk result (Appends (W.sent writer.old) (W.sent writer.new)
+        (fault_line fault.now.screen fault.now.offset (build_cause fault.now.cause))) }
+    ensures mark { Marks (W.failed writer.old) (W.failed writer.new) result }
 {
-    format!(in alloc; "screen {screen} offset {offset}: {cause}\n")
+    send_numbered(writer, b"screen ", fault.screen)?;
+    send_numbered(writer, b" offset ", fault.offset)?;
+    send_all(writer, b": ")?;
+    fault.cause.send(writer)?;
+    end_line(writer)
 }
 
 /// Prints where and why a source is refused.
-fn refuse_source<W: Output>(alloc: Global, fault: BuildFault, writer: &mut W) -> Ended
+fn refuse_source<W: Output>(fault: BuildFault, writer: &mut W) -> Ended
     ensures printed { W.failed writer.new ≡ false →
         PrintsFault fault.screen fault.offset fault.cause result.status (W.sent writer.old) (W.sent writer.new) }
     ensures cut { W.failed writer.old ≡ false → W.failed writer.new ≡ true → result.status ≡ 5 }
-    ensures status { 0 < result.status }
+    ensures status { IsRefusal result.status (W.failed writer.new) }
     ensures file { IsNone result.file }
 {
     if fault.cause == Cause::OutOfMemory {
         return print_out_of_memory(writer);
     }
-    let Ok(cause) = fault.cause.spelled(alloc) else {
-        return print_out_of_memory(writer);
-    };
-    match fault_line(alloc, fault.screen, fault.offset, cause.as_str()) {
-        Ok(line) => print(writer, line.as_str().as_bytes(), 1),
-        Err(_) => print_out_of_memory(writer),
-    }
+    let sent = send_fault(writer, &fault);
+    ended(sent, 1)
 }
 
-/// The line that tells of an image which was made.
-fn report(alloc: Global, image: &Image) -> Result<String, AllocError>
-    ensures { IfOk result (λ s. string_bytes s ≡ image_line image.now) }
+/// Sends what is told of an image that was made: `size S entry E`.
+#[tactic(auto, using(inner_interpreter::proofs::Sending::appends_both))]
+fn send_made<W: Output>(writer: &mut W, image: &Image) -> Result<(), EndFault>
+    ensures sent { OnOk result (Appends (W.sent writer.old) (W.sent writer.new) (image_line image.now)) }
+    ensures mark { Marks (W.failed writer.old) (W.failed writer.new) result }
 {
-    let size = image.bytes().len();
-    let entry = image.entry();
-    format!(in alloc; "size {size} entry {entry}\n")
+    send_all(writer, b"size ")?;
+    send_decimal(writer, image.bytes().len())?;
+    send_numbered(writer, b" entry ", image.entry())?;
+    end_line(writer)
 }
 
 /// Prints `size S entry E`, and ends with the file of an image that was made.
@@ -225,9 +188,12 @@ pub fn end_with_made<W: Output>(alloc: Global, image: &Image, writer: &mut W) ->
         PrintsOutOfMemory result.status (W.sent writer.old) (W.sent writer.new) }
     ensures cut { W.failed writer.old ≡ false → W.failed writer.new ≡ true → (result.status ≡ 5) × IsNone result.file }
 {
-    match report(alloc, image) {
-        Ok(line) => end_with_image(alloc, image, line.as_str(), writer),
-        Err(_) => print_out_of_memory(writer),
+    let Ok(file) = image_loader::write(alloc, image) else {
+        return print_out_of_memory(writer);
+    };
+    match send_made(writer, image) {
+        Ok(()) => end_with_file(file),
+        Err(_) => end_with(5),
     }
 }
 
@@ -247,6 +213,9 @@ pub fn do_build<W: Output, D: Device>(
     ensures file { (d : Disk) → D.disk device.old ≡ Some d →
         IfSome result.file
         (IsBuiltFile buffers d from to (done_of (D.disk device.new) (D.calls device.old) (D.calls device.new))) }
+    // Whether a line can be printed or not, the device is as building the screens, or refusing them, leaves it.
+    ensures device { (d : Disk) → D.disk device.old ≡ Some d →
+        IsBuilding buffers d from to (done_of (D.disk device.new) (D.calls device.old) (D.calls device.new)) }
     // Where there is a file, its line is printed; where there is none, it is printed why.
     ensures told { W.failed writer.new ≡ false →
         IfSome result.file (λ file. IsTold file.items (W.sent writer.old) (W.sent writer.new)) }
@@ -258,21 +227,29 @@ pub fn do_build<W: Output, D: Device>(
 {
     match build(alloc, device, from, to, buffers) {
         Ok(image) => end_with_made(alloc, &image, writer),
-        Err(fault) => refuse_source(alloc, fault, writer),
+        Err(fault) => refuse_source(fault, writer),
     }
 }
 
+/// Sends a number on a line.
+#[tactic(auto, using(inner_interpreter::proofs::Sending::appends_both))]
+fn send_number<W: Output>(writer: &mut W, number: u16) -> Result<(), EndFault>
+    ensures sent { OnOk result (Appends (W.sent writer.old) (W.sent writer.new) (line (decimal number))) }
+    ensures mark { Marks (W.failed writer.old) (W.failed writer.new) result }
+{
+    send_decimal(writer, number)?;
+    end_line(writer)
+}
+
 /// Prints a number on a line.
-fn print_number<W: Output>(alloc: Global, number: u16, writer: &mut W) -> Ended
+fn print_number<W: Output>(number: u16, writer: &mut W) -> Ended
     ensures printed { W.failed writer.new ≡ false →
-        PrintsOn (decimal number) result.status (W.sent writer.old) (W.sent writer.new) }
+        Prints (line (decimal number)) 0 result.status (W.sent writer.old) (W.sent writer.new) }
     ensures cut { W.failed writer.old ≡ false → W.failed writer.new ≡ true → result.status ≡ 5 }
     ensures file { IsNone result.file }
 {
-    match format!(in alloc; "{number}\n") {
-        Ok(line) => print(writer, line.as_str().as_bytes(), 0),
-        Err(_) => print_out_of_memory(writer),
-    }
+    let sent = send_number(writer, number);
+    ended(sent, 0)
 }
 
 /// Prints the number of the screen in which an image's word was made. Status 0; 1: the bytes are no image (`image: CAUSE` is
@@ -290,14 +267,14 @@ pub fn do_view<W: Output>(alloc: Global, image: &[u8], name: &str, writer: &mut 
 {
     let image = match image_loader::read(alloc, image) {
         Ok(image) => image,
-        Err(fault) => return refuse_image(alloc, fault, writer),
+        Err(fault) => return refuse_image(fault, writer),
     };
     let Ok(memory) = Memory::with_front(alloc, image.bytes()) else {
         return print_out_of_memory(writer);
     };
     match view(&memory, name.as_bytes()) {
-        Ok(screen) => print_number(alloc, screen, writer),
-        Err(why) => refuse(alloc, name, why, writer),
+        Ok(screen) => print_number(screen, writer),
+        Err(why) => refuse(name, why, writer),
     }
 }
 
@@ -326,13 +303,32 @@ pub fn do_run<R: Input, W: Output, D: Device>(
         OfImageFile image.now (λ _. result.status ≡ 1 →
         PrintsOutOfMemory result.status (W.sent writer.old) (W.sent writer.new)) }
     ensures untouched { result.status ≡ 1 → (reader.new ≡ reader.old) × (device.new ≡ device.old) }
-    // An end that fails gives status 5.
-    ensures cut { W.failed writer.old ≡ false → W.failed writer.new ≡ true → result.status ≡ 5 }
+    // An end that fails gives status 5, and nothing else does; both can't fail in one run.
+    ensures output { W.failed writer.old ≡ false → W.failed writer.new ≡ true → result.status ≡ 5 }
     ensures input { R.failed reader.old ≡ false → R.failed reader.new ≡ true → result.status ≡ 5 }
+    ensures told { W.failed writer.old ≡ false → W.failed writer.new ≡ false → R.failed reader.new ≡ false →
+        result.status ≢ 5 }
+    ensures one { R.failed reader.old ≡ false → R.failed reader.new ≡ true →
+        W.failed writer.new ≡ W.failed writer.old }
+    // Where the writer fails, some first rounds were made, up to the first that shows more than was sent; or memory ran out,
+    // and nothing was run.
+    ensures cut { W.failed writer.old ≡ false → W.failed writer.new ≡ true →
+        OfFile image.now (R.unread reader.old) (D.disk device.old) (W.sent writer.old) limit
+        (λ w. EndsCutFrom w (R.unread reader.new) (D.disk device.new) (W.sent writer.new) ⊎
+        IsUnrun result.status true reader.old reader.new device.old device.new) }
+    // Where the reader fails, some first rounds were made, and then the machine was told so.
+    ensures faulted { R.failed reader.old ≡ false → R.failed reader.new ≡ true →
+        OfFile image.now (R.unread reader.old) (D.disk device.old) (W.sent writer.old) limit
+        (λ w. EndsFaultedFrom w (R.unread reader.new) (D.disk device.new) (W.sent writer.new)) }
+    // Whatever the ends are, the machine that was loaded moved by ticks and answers alone; or memory ran out.
+    ensures moved { OfImageFile image.now
+        (λ file. HasRunWith result.status file (D.block_count device.old) (D.calls device.old) (D.calls device.new)
+        limit (R.failed reader.new) (W.failed writer.new) ⊎
+        IsUnrun result.status (W.failed writer.new) reader.old reader.new device.old device.new) }
     ensures file { IsNone result.file }
 {
     match run_file(alloc, image, reader, writer, device, limit) {
         Ok(stop) => end_with(status_of(stop)),
-        Err(fault) => refuse_image(alloc, fault, writer),
+        Err(fault) => refuse_image(fault, writer),
     }
 }

@@ -12,6 +12,7 @@ mod kernel_text;
 pub mod laws;
 mod load_command;
 mod see_command;
+mod sends;
 mod text_command;
 mod trace_files;
 mod upgrade_command;

@@ -3,6 +3,7 @@
 ghost use Rattle.std.specs.Prelude.{◌≡◌, ◌<◌, false, true, IsNone, MatchOption};
 ghost use Rattle.image_loader.specs.declared.fault.ImageFault.{ImageFault};
 ghost use Rattle.subcommands.specs.Causes.{IsNoFile};
+ghost use Rattle.subcommands.specs.Ends.{IsRefusal};
 ghost use Rattle.subcommands.specs.Lines.{OfImageFile, PrintsNoImage};
 ghost use Rattle.subcommands.specs.Loads.{EndsLoaded, EndsMoved, OfLoad, PrintsUnloaded};
 
@@ -13,17 +14,17 @@ use metacompiler::{LoadFault, load_by_machine};
 use std::alloc::Global;
 
 /// Prints why screens aren't loaded.
-fn refuse_load<W: Output>(alloc: Global, why: LoadFault, writer: &mut W) -> Ended
+fn refuse_load<W: Output>(why: LoadFault, writer: &mut W) -> Ended
     ensures printed { W.failed writer.new ≡ false →
         PrintsUnloaded why result.status (W.sent writer.old) (W.sent writer.new) }
     ensures cut { W.failed writer.old ≡ false → W.failed writer.new ≡ true → result.status ≡ 5 }
-    ensures status { 0 < result.status }
+    ensures status { IsRefusal result.status (W.failed writer.new) }
     ensures file { IsNone result.file }
 {
     if why == LoadFault::OutOfMemory {
         return print_out_of_memory(writer);
     }
-    refuse(alloc, "load", why, writer)
+    refuse("load", why, writer)
 }
 
 /// Loads the screens from `from` to `to` on an image, whose own INTERPRET compiles them in at most `limit` ticks, and prints
@@ -40,15 +41,15 @@ pub fn do_load<W: Output, D: Device>(
     writer: &mut W,
 ) -> Ended
     ensures status { MatchOption result.file (0 < result.status) (λ _. result.status ≡ 0) }
-    // Where the bytes are an image's file, and the device tells its blocks, the new image is that of the written rounds.
-    ensures loaded { W.failed writer.new ≡ false →
-        OfLoad image.now (D.disk device.old) from to limit
-        (λ o. EndsLoaded o (D.disk device.new) result (W.sent writer.old) (W.sent writer.new)) }
+    // Where the bytes are an image's file, and the device tells its blocks, the new image is that of the written rounds,
+    // and the device is as these leave it, whether its line can be printed or not.
+    ensures loaded { OfLoad image.now (D.disk device.old) from to limit
+        (λ d o. EndsLoaded d o (D.disk device.new) result (W.failed writer.new) (W.sent writer.old)
+        (W.sent writer.new)) }
     // Whatever the device is, it is what the moves of a machine come to that was given the device's answers.
-    ensures moved { W.failed writer.new ≡ false →
-        OfImageFile image.now
+    ensures moved { OfImageFile image.now
         (λ old. EndsMoved old (D.block_count device.old) from to limit (D.calls device.old) (D.calls device.new) result
-        (W.sent writer.old) (W.sent writer.new)) }
+        (W.failed writer.new) (W.sent writer.old) (W.sent writer.new)) }
     // Where they are none, that is printed, and the device isn't touched.
     ensures refused { W.failed writer.new ≡ false →
         PrintsNoImage image.now result.status (W.sent writer.old) (W.sent writer.new) }
@@ -57,10 +58,10 @@ pub fn do_load<W: Output, D: Device>(
 {
     let image = match image_loader::read(alloc, image) {
         Ok(image) => image,
-        Err(fault) => return refuse_image(alloc, fault, writer),
+        Err(fault) => return refuse_image(fault, writer),
     };
     match load_by_machine(alloc, &image, device, from, to, limit) {
         Ok(image) => end_with_made(alloc, &image, writer),
-        Err(why) => refuse_load(alloc, why, writer),
+        Err(why) => refuse_load(why, writer),
     }
 }

@@ -1,30 +1,35 @@
 //! The subcommands that print screens as text, and write a text into a block file.
 
-ghost use Rattle.std.specs.Prelude.{◌≡◌, ◌<◌, ◌≤◌, ◌*◌, IfOk, IsNone, IsSome, MatchOption, Some, false, string_bytes, true};
+ghost use Rattle.std.specs.Prelude.{◌≡◌, ◌≢◌, ◌<◌, ◌≤◌, ◌*◌, IfOk, IsNone, IsSome, MatchOption, OnOk, Some, false, true};
+ghost use Rattle.std.specs.Io.KnownBytes.{Appends};
+ghost use Rattle.block_buffers.specs.Calls.{KeepsBlocks};
 ghost use Rattle.block_buffers.specs.Disks.{Disk};
 ghost use Rattle.device_text.specs.declared.pages.PageCause.{PageCause};
 ghost use Rattle.screen_text.specs.Reading.{read};
 ghost use Rattle.subcommands.specs.Kernel.{blanks};
 ghost use Rattle.screen_text.specs.declared.cause.Cause.{Cause};
-ghost use Rattle.subcommands.specs.Lines.{PrintsOutOfMemory};
-ghost use Rattle.subcommands.specs.Texts.{EndsText, EndsUnwritten, HasScreens, PrintsLine, numbered_line, page_cause, screen_line, text_cause};
+ghost use Rattle.inner_interpreter.specs.Ends.{Marks};
+ghost use Rattle.subcommands.specs.Ends.{IsRefusal};
+ghost use Rattle.subcommands.specs.Lines.{Prints, PrintsOutOfMemory};
+ghost use Rattle.subcommands.specs.Texts.{EndsText, EndsUnwritten, HasScreens, numbered_line, page_cause, screen_line, text_cause};
 
 use crate::causes::Reason;
 use crate::commands::{Ended, end_with_file, print, print_out_of_memory};
+use crate::sends::{end_line, ended, send_decimal, send_numbered};
 use block_buffers::{BLOCK_SIZE, Device};
 use device_text::{PageCause, Unprinted, pages_text};
-use inner_interpreter::Output;
+use inner_interpreter::{EndFault, Output, send_all};
 use screen_text::{Cause, TextFault, put_screens, read_text};
 use std::alloc::{AllocError, Global};
 
 impl Reason for PageCause {
     ghost spelling = { λ c. page_cause c };
 
-    fn spelled(&self, alloc: Global) -> Result<String, AllocError> {
+    fn send<W: Output>(&self, writer: &mut W) -> Result<(), EndFault> {
         match *self {
-            PageCause::BadByte => "BadByte".to_string(alloc),
-            PageCause::Device => "Device".to_string(alloc),
-            PageCause::OutOfMemory => "out of memory".to_string(alloc),
+            PageCause::BadByte => send_all(writer, b"BadByte"),
+            PageCause::Device => send_all(writer, b"Device"),
+            PageCause::OutOfMemory => send_all(writer, b"out of memory"),
         }
     }
 }
@@ -32,48 +37,51 @@ impl Reason for PageCause {
 impl Reason for Cause {
     ghost spelling = { λ c. text_cause c };
 
-    fn spelled(&self, alloc: Global) -> Result<String, AllocError> {
+    fn send<W: Output>(&self, writer: &mut W) -> Result<(), EndFault> {
         match *self {
-            Cause::BadByte => "BadByte".to_string(alloc),
-            Cause::LongLine => "LongLine".to_string(alloc),
-            Cause::FullScreen => "FullScreen".to_string(alloc),
-            Cause::BadHeading => "BadHeading".to_string(alloc),
-            Cause::LateHeading => "LateHeading".to_string(alloc),
-            Cause::NamedTwice => "NamedTwice".to_string(alloc),
-            Cause::NoScreen => "NoScreen".to_string(alloc),
-            Cause::OutOfMemory => "out of memory".to_string(alloc),
+            Cause::BadByte => send_all(writer, b"BadByte"),
+            Cause::LongLine => send_all(writer, b"LongLine"),
+            Cause::FullScreen => send_all(writer, b"FullScreen"),
+            Cause::BadHeading => send_all(writer, b"BadHeading"),
+            Cause::LateHeading => send_all(writer, b"LateHeading"),
+            Cause::NamedTwice => send_all(writer, b"NamedTwice"),
+            Cause::NoScreen => send_all(writer, b"NoScreen"),
+            Cause::OutOfMemory => send_all(writer, b"out of memory"),
         }
     }
 }
 
-/// The line that tells where and why screens aren't printed.
-fn page_line(alloc: Global, screen: u16, line: usize, cause: &str) -> Result<String, AllocError>
-    ensures { IfOk result (λ s. string_bytes s ≡ screen_line screen line cause.now) }
+/// Sends where and why screens aren't printed: `screen S line L: CAUSE`.
+#[tactic(auto, using(inner_interpreter::proofs::Sending::appends_both))]
+fn send_unprinted<W: Output>(writer: &mut W, why: &Unprinted) -> Result<(), EndFault>
+    ensures sent { OnOk result (Appends (W.sent writer.old) (W.sent writer.new)
+        (screen_line why.now.screen why.now.line (page_cause why.now.cause))) }
+    ensures mark { Marks (W.failed writer.old) (W.failed writer.new) result }
 {
-    format!(in alloc; "screen {screen} line {line}: {cause}\n")
+    send_numbered(writer, b"screen ", why.screen)?;
+    send_all(writer, b" line ")?;
+    send_decimal(writer, why.line)?;
+    send_all(writer, b": ")?;
+    why.cause.send(writer)?;
+    end_line(writer)
 }
 
 /// Prints where and why screens aren't printed.
-fn refuse_page<W: Output>(alloc: Global, why: Unprinted, writer: &mut W) -> Ended
-    ensures printed { W.failed writer.new ≡ false →
-        PrintsLine (screen_line why.screen why.line (page_cause why.cause)) result.status (W.sent writer.old)
+fn refuse_page<W: Output>(why: Unprinted, writer: &mut W) -> Ended
+    ensures printed { W.failed writer.new ≡ false → why.cause ≢ PageCause.OutOfMemory →
+        Prints (screen_line why.screen why.line (page_cause why.cause)) 1 result.status (W.sent writer.old)
         (W.sent writer.new) }
     ensures wanting { W.failed writer.new ≡ false → why.cause ≡ PageCause.OutOfMemory →
         PrintsOutOfMemory result.status (W.sent writer.old) (W.sent writer.new) }
     ensures cut { W.failed writer.old ≡ false → W.failed writer.new ≡ true → result.status ≡ 5 }
-    ensures status { 0 < result.status }
+    ensures status { IsRefusal result.status (W.failed writer.new) }
     ensures file { IsNone result.file }
 {
     if why.cause == PageCause::OutOfMemory {
         return print_out_of_memory(writer);
     }
-    let Ok(cause) = why.cause.spelled(alloc) else {
-        return print_out_of_memory(writer);
-    };
-    match page_line(alloc, why.screen, why.line, cause.as_str()) {
-        Ok(line) => print(writer, line.as_str().as_bytes(), 1),
-        Err(_) => print_out_of_memory(writer),
-    }
+    let sent = send_unprinted(writer, &why);
+    ended(sent, 1)
 }
 
 /// Prints the screens from `from` to `to` as text. Status 0; 1: a screen can't be read, or has a byte that no text can carry
@@ -88,42 +96,46 @@ pub fn do_text<W: Output, D: Device>(
     ensures printed { W.failed writer.new ≡ false → (d : Disk) → D.disk device.old ≡ Some d →
         EndsText d from to result.status (W.sent writer.old) (W.sent writer.new) }
     ensures cut { W.failed writer.old ≡ false → W.failed writer.new ≡ true → result.status ≡ 5 }
+    // The device's blocks stay as they were.
+    ensures kept { KeepsBlocks (D.disk device.old) (D.disk device.new) }
     ensures file { IsNone result.file }
 {
     match pages_text(alloc, device, from, to) {
         Ok(text) => print(writer, text.as_slice(), 0),
-        Err(why) => refuse_page(alloc, why, writer),
+        Err(why) => refuse_page(why, writer),
     }
 }
 
-/// The line that tells where and why a text isn't written.
-fn text_line(alloc: Global, line: usize, cause: &str) -> Result<String, AllocError>
-    ensures { IfOk result (λ s. string_bytes s ≡ numbered_line line cause.now) }
+/// Sends where and why a text isn't written: `line L: CAUSE`.
+#[tactic(auto, using(inner_interpreter::proofs::Sending::appends_both))]
+fn send_unwritten<W: Output>(writer: &mut W, fault: &TextFault) -> Result<(), EndFault>
+    ensures sent { OnOk result (Appends (W.sent writer.old) (W.sent writer.new)
+        (numbered_line fault.now.line (text_cause fault.now.cause))) }
+    ensures mark { Marks (W.failed writer.old) (W.failed writer.new) result }
 {
-    format!(in alloc; "line {line}: {cause}\n")
+    send_all(writer, b"line ")?;
+    send_decimal(writer, fault.line)?;
+    send_all(writer, b": ")?;
+    fault.cause.send(writer)?;
+    end_line(writer)
 }
 
 /// Prints where and why a text isn't written.
-fn refuse_text<W: Output>(alloc: Global, fault: TextFault, writer: &mut W) -> Ended
-    ensures printed { W.failed writer.new ≡ false →
-        PrintsLine (numbered_line fault.line (text_cause fault.cause)) result.status (W.sent writer.old)
+fn refuse_text<W: Output>(fault: TextFault, writer: &mut W) -> Ended
+    ensures printed { W.failed writer.new ≡ false → fault.cause ≢ Cause.OutOfMemory →
+        Prints (numbered_line fault.line (text_cause fault.cause)) 1 result.status (W.sent writer.old)
         (W.sent writer.new) }
     ensures wanting { W.failed writer.new ≡ false → fault.cause ≡ Cause.OutOfMemory →
         PrintsOutOfMemory result.status (W.sent writer.old) (W.sent writer.new) }
     ensures cut { W.failed writer.old ≡ false → W.failed writer.new ≡ true → result.status ≡ 5 }
-    ensures status { 0 < result.status }
+    ensures status { IsRefusal result.status (W.failed writer.new) }
     ensures file { IsNone result.file }
 {
     if fault.cause == Cause::OutOfMemory {
         return print_out_of_memory(writer);
     }
-    let Ok(cause) = fault.cause.spelled(alloc) else {
-        return print_out_of_memory(writer);
-    };
-    match text_line(alloc, fault.line, cause.as_str()) {
-        Ok(line) => print(writer, line.as_str().as_bytes(), 1),
-        Err(_) => print_out_of_memory(writer),
-    }
+    let sent = send_unwritten(writer, &fault);
+    ended(sent, 1)
 }
 
 /// Writes the screens of a text into the bytes of a block file: those that the text names, and no other; it grows with
@@ -140,7 +152,7 @@ pub fn do_screens<W: Output>(alloc: Global, blocks: Vec<u8>, text: &[u8], writer
 {
     let screens = match read_text(alloc, text) {
         Ok(screens) => screens,
-        Err(fault) => return refuse_text(alloc, fault, writer),
+        Err(fault) => return refuse_text(fault, writer),
     };
     match put_screens(blocks, &screens) {
         Ok(file) => end_with_file(file),

@@ -1,36 +1,45 @@
 //! `upgrade`.
 
-ghost use Rattle.std.specs.Prelude.{◌≡◌, ◌<◌, false, true, IsNone, IfOk, IfSome, MatchOption, string_bytes};
+ghost use Rattle.std.specs.Prelude.{◌≡◌, ◌<◌, ◌⊎◌, false, true, IsNone, IfSome, MatchOption, OnOk};
+ghost use Rattle.std.specs.Io.KnownBytes.{Appends};
+ghost use Rattle.inner_interpreter.specs.Ends.{Marks};
 ghost use Rattle.memory.specs.Bytes.{IsCount};
+ghost use Rattle.subcommands.specs.Ends.{IsRefusal};
 ghost use Rattle.subcommands.specs.Lines.{HasRoom, IsTooLarge, IsUpgraded, OfImageFile, PrintsNoImage, PrintsOutOfMemory, PrintsTooLarge, upgrade_line, upgraded};
 
-use crate::commands::{Ended, end_with_image, print_out_of_memory, refuse, refuse_image};
+use crate::commands::{
+    Ended, end_with, end_with_file, print_out_of_memory, refuse, refuse_image,
+};
+use crate::sends::{end_line, send_decimal, send_numbered};
 use image_loader::{Image, UpgradeFault, upgrade};
-use inner_interpreter::Output;
-use std::alloc::{AllocError, Global};
+use inner_interpreter::{EndFault, Output, send_all};
+use std::alloc::Global;
 
-/// The line that tells of an image which was upgraded.
-fn report(alloc: Global, image: &Image) -> Result<String, AllocError>
-    ensures { IfOk result (λ s. string_bytes s ≡ upgrade_line image.now) }
+/// Sends what is told of an image that was upgraded: `size S buffers N`.
+#[tactic(auto, using(inner_interpreter::proofs::Sending::appends_both))]
+fn send_upgraded<W: Output>(writer: &mut W, image: &Image) -> Result<(), EndFault>
+    ensures sent { OnOk result (Appends (W.sent writer.old) (W.sent writer.new) (upgrade_line image.now)) }
+    ensures mark { Marks (W.failed writer.old) (W.failed writer.new) result }
 {
-    let size = image.bytes().len();
-    let buffers = image.buffers();
-    format!(in alloc; "size {size} buffers {buffers}\n")
+    send_all(writer, b"size ")?;
+    send_decimal(writer, image.bytes().len())?;
+    send_numbered(writer, b" buffers ", image.buffers())?;
+    end_line(writer)
 }
 
 /// Prints why there is no image for so many buffers.
-fn refuse_upgrade<W: Output>(alloc: Global, fault: UpgradeFault, writer: &mut W) -> Ended
+fn refuse_upgrade<W: Output>(fault: UpgradeFault, writer: &mut W) -> Ended
     ensures too_large { W.failed writer.new ≡ false → fault ≡ UpgradeFault.TooLarge →
         PrintsTooLarge result.status (W.sent writer.old) (W.sent writer.new) }
     ensures out_of_memory { W.failed writer.new ≡ false → fault ≡ UpgradeFault.OutOfMemory →
         PrintsOutOfMemory result.status (W.sent writer.old) (W.sent writer.new) }
     ensures cut { W.failed writer.old ≡ false → W.failed writer.new ≡ true → result.status ≡ 5 }
-    ensures status { 0 < result.status }
+    ensures status { IsRefusal result.status (W.failed writer.new) }
     ensures file { IsNone result.file }
 {
     match fault {
         UpgradeFault::OutOfMemory => print_out_of_memory(writer),
-        UpgradeFault::TooLarge => refuse(alloc, "image", UpgradeFault::TooLarge, writer),
+        UpgradeFault::TooLarge => refuse("image", UpgradeFault::TooLarge, writer),
     }
 }
 
@@ -43,9 +52,12 @@ fn end_with_upgraded<W: Output>(alloc: Global, image: &Image, writer: &mut W) ->
         PrintsOutOfMemory result.status (W.sent writer.old) (W.sent writer.new) }
     ensures cut { W.failed writer.old ≡ false → W.failed writer.new ≡ true → (result.status ≡ 5) × IsNone result.file }
 {
-    match report(alloc, image) {
-        Ok(line) => end_with_image(alloc, image, line.as_str(), writer),
-        Err(_) => print_out_of_memory(writer),
+    let Ok(file) = image_loader::write(alloc, image) else {
+        return print_out_of_memory(writer);
+    };
+    match send_upgraded(writer, image) {
+        Ok(()) => end_with_file(file),
+        Err(_) => end_with(5),
     }
 }
 
@@ -62,7 +74,7 @@ pub fn do_upgrade<W: Output>(
     requires { IfSome buffers (λ count. IsCount count) }
     ensures status { MatchOption result.file (0 < result.status) (λ _. result.status ≡ 0) }
     // Where the bytes are an image's file, the new one is that of the same entry and bytes; where these reach too far, that
-    // is printed, and else that memory ran out.
+    // is printed, or that there is no memory to read it; and else that memory ran out.
     ensures upgraded { W.failed writer.new ≡ false →
         OfImageFile image.now
         (λ old.
@@ -70,7 +82,8 @@ pub fn do_upgrade<W: Output>(
         (λ file. IsUpgraded file.items (upgraded old buffers) (W.sent writer.old) (W.sent writer.new))) }
     ensures too_large { W.failed writer.new ≡ false →
         OfImageFile image.now (λ old. IsTooLarge old buffers →
-        PrintsTooLarge result.status (W.sent writer.old) (W.sent writer.new)) }
+        PrintsTooLarge result.status (W.sent writer.old) (W.sent writer.new) ⊎
+        PrintsOutOfMemory result.status (W.sent writer.old) (W.sent writer.new)) }
     ensures wanting { W.failed writer.new ≡ false → IsNone result.file →
         OfImageFile image.now (λ old. HasRoom old buffers →
         PrintsOutOfMemory result.status (W.sent writer.old) (W.sent writer.new)) }
@@ -81,11 +94,11 @@ pub fn do_upgrade<W: Output>(
 {
     let image = match image_loader::read(alloc, image) {
         Ok(image) => image,
-        Err(fault) => return refuse_image(alloc, fault, writer),
+        Err(fault) => return refuse_image(fault, writer),
     };
     let count = buffers.unwrap_or(image.buffers());
     match upgrade(alloc, &image, count) {
         Ok(image) => end_with_upgraded(alloc, &image, writer),
-        Err(fault) => refuse_upgrade(alloc, fault, writer),
+        Err(fault) => refuse_upgrade(fault, writer),
     }
 }

@@ -47,4 +47,4 @@ pub returns-in-Err-flush_before-clause-moved : goal.returns-in-Err-flush_before-
 returns-in-Err-flush_before-clause-moved g c = moved_still _ _ _ _ _ (moved_none _ _)
 
 pub returns-in-Err-flush_before-clause-cut : goal.returns-in-Err-flush_before-clause-cut
-returns-in-Err-flush_before-clause-cut g c = λ failed w at. flush_cut _ w _ _ _ _ _ _ c.in-Some.request (search rules) c.in-Err-flush_before.ensures.bytes at
+returns-in-Err-flush_before-clause-cut g c = λ failed w at. flush_cut _ w _ _ _ _ _ _ c.in-Some.request (search rules) c.in-Err-flush_before.ensures.asked c.in-Err-flush_before.ensures.bytes at

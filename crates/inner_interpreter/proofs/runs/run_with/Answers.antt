@@ -26,7 +26,9 @@ returns-in-Some-clause-whole g c = λ fine good kept w at.
     c.finish.ensures.done good kept (rw c.stop_by_cause.ensures ends)
 
 pub returns-in-Some-clause-cut : goal.returns-in-Some-clause-cut
-returns-in-Some-clause-cut g c = λ fine failed w at. made_cut _ _ w _ _ _ _ _ _ _ _ _ c.finish.ensures.bytes c.finish.ensures.lines (c.loop-cause.invariant.made w at)
+returns-in-Some-clause-cut g c = λ fine failed w at.
+    let halts : c.loop-cause.machine.halt ≡ Some c.in-Some.cause = search rules in
+    made_cut _ _ w _ _ _ _ _ _ _ (made_cause _ _ w _ _ _ _ _ _ _ _ _ c.in-Some.cause halts c.finish.ensures.bytes c.finish.ensures.lines (c.loop-cause.invariant.made w at))
 
 pub returns-in-Some-clause-untraced : goal.returns-in-Some-clause-untraced
 returns-in-Some-clause-untraced g c = λ fine failed w at.
@@ -42,7 +44,9 @@ returns-then-left-eq0-clause-whole g c = λ fine good kept w at.
     c.finish-then-left-eq0.ensures.done good kept ends
 
 pub returns-then-left-eq0-clause-cut : goal.returns-then-left-eq0-clause-cut
-returns-then-left-eq0-clause-cut g c = λ fine failed w at. made_cut _ _ w _ _ _ _ _ _ _ _ _ c.finish-then-left-eq0.ensures.bytes c.finish-then-left-eq0.ensures.lines (c.loop-cause.invariant.made w at)
+returns-then-left-eq0-clause-cut g c = λ fine failed w at.
+    let goes : c.loop-cause.machine.halt ≡ None = search rules in
+    made_cut _ _ w _ _ _ _ _ _ _ (made_limit _ _ w _ _ _ _ _ _ _ _ _ goes c.if-left-eq0.true c.finish-then-left-eq0.ensures.bytes c.finish-then-left-eq0.ensures.lines (c.loop-cause.invariant.made w at))
 
 pub returns-then-left-eq0-clause-untraced : goal.returns-then-left-eq0-clause-untraced
 returns-then-left-eq0-clause-untraced g c = λ fine failed w at.

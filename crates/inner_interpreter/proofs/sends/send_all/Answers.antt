@@ -10,4 +10,4 @@ loop-sent-preserved g c = record {
 }
 
 pub returns-in-Err-clause-err : goal.returns-in-Err-clause-err
-returns-in-Err-clause-err g c = part_kept _ _ _ c.loop-sent.sent _ c.loop-sent.invariant.told c.in-Err.ensures.bytes
+returns-in-Err-clause-err g c = part_kept _ _ _ c.loop-sent.sent _ (omega arith) c.loop-sent.invariant.told c.in-Err.ensures.bytes

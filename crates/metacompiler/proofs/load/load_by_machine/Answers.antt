@@ -24,13 +24,13 @@ returns-in-Ok g c = record {
     started : c.in-Ok.machine ≡ start c.args.image.now (g.D.Device.block_count c.args.device.now)
     started = c.in-Ok.ensures ∙ ap (λ n. start c.args.image.now n) c.count-count.ensures.value
 
-    told : (d : Disk) → g.D.Device.disk c.args.device.now ≡ Some d → IsLoaded (loaded_by_machine c.args.image.now d c.args.from c.args.to c.args.limit) c.load_on.result (g.D.Device.disk c.load_on.new.device)
+    told : (d : Disk) → g.D.Device.disk c.args.device.now ≡ Some d → IsLoaded d (loaded_by_machine c.args.image.now d c.args.from c.args.to c.args.limit) c.load_on.result (g.D.Device.disk c.load_on.new.device)
     told d q =
         let count : c.count-count.result ≡ length d.blocks = rw q at c.count-count.ensures.told in
         let m : c.in-Ok.machine ≡ start c.args.image.now (length d.blocks) = c.in-Ok.ensures ∙ ap (λ n. start c.args.image.now n) count in
         let runs : Runs c.in-Ok.machine = rw m (refl, refl) in
-        subst (λ (s : State). IsLoaded (by_interpret c.args.image.now.entry s.parts d c.args.from c.args.to c.args.limit (interpret_in s.parts.memory)) c.load_on.result (g.D.Device.disk c.load_on.new.device)) m
-        (subst (λ e. IsLoaded (by_interpret e c.in-Ok.machine.parts d c.args.from c.args.to c.args.limit (interpret_in c.in-Ok.machine.parts.memory)) c.load_on.result (g.D.Device.disk c.load_on.new.device)) c.entry.ensures
+        subst (λ (s : State). IsLoaded d (by_interpret c.args.image.now.entry s.parts d c.args.from c.args.to c.args.limit (interpret_in s.parts.memory)) c.load_on.result (g.D.Device.disk c.load_on.new.device)) m
+        (subst (λ e. IsLoaded d (by_interpret e c.in-Ok.machine.parts d c.args.from c.args.to c.args.limit (interpret_in c.in-Ok.machine.parts.memory)) c.load_on.result (g.D.Device.disk c.load_on.new.device)) c.entry.ensures
         (c.load_on.ensures.told d q runs))
 
 pub returns-in-Err-clause-refused : goal.returns-in-Err-clause-refused
