@@ -36,13 +36,19 @@ printed d screen text e = by_call (succeeds d screen) refl e where
   bytes : List ℕ
   bytes = block_at d.blocks screen
 
+  bad : Unprinted
+  bad = record { screen = screen; line = first_bad bytes / 64; cause = BadByte }
+
+  missing : Unprinted
+  missing = record { screen = screen; line = 0; cause = Device }
+
   by_bytes : screen < length d.blocks → (b : Bool) → list_all is_text bytes ≡ b
-      → (if b then Ok (screen_text screen bytes) else Err (record { screen = screen; line = first_bad bytes / 64; cause = BadByte })) ≡ Ok text → IsPrinted d screen text
+      → (if b then Ok (screen_text screen bytes) else Err bad) ≡ Ok text → IsPrinted d screen text
   by_bytes there true q h = record { there = there; carried = q; is = cc }
   by_bytes there false q h = cc
 
   by_call : (b : Bool) → succeeds d screen ≡ b
-      → (if b then written screen bytes else Err (record { screen = screen; line = 0; cause = Device })) ≡ Ok text → IsPrinted d screen text
+      → (if b then written screen bytes else Err missing) ≡ Ok text → IsPrinted d screen text
   by_call true q h =
       let test : (nat_lt screen (length d.blocks) && not (next_fails d.coming)) ≡ true = q in
       by_bytes (grind arith) (list_all is_text bytes) refl h
@@ -73,7 +79,7 @@ above zero blocks x screen less = tt
 above (suc n) blocks x screen less = (grind arith, above n blocks x (screen + 1) (omega arith))
 
 distinct : (n : ℕ) (blocks : List (List ℕ)) (screen : ℕ) → IsDistinct eqb (numbers_of (screens_at blocks screen n))
-unfolding numbers_of screens_at
+unfolding numbers_of screens_at IsDistinct
 distinct zero blocks screen = tt
 distinct (suc n) blocks screen = (above n blocks screen (screen + 1) (omega arith), distinct n blocks (screen + 1))
 

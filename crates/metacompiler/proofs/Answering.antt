@@ -1,6 +1,6 @@
 -- What loading answers, by where its rounds stop.
 use Rattle.std.proofs.Common.{◌≡◌, ◌≢◌, ℕ, List, Option, Some, false, true, inr, refl, ap, sym, ◌∙◌, ◌==◌, Bool}
-use Rattle.std.specs.Prelude.{◌+◌, ◌-◌, IsFalse, Result, Ok, Err, if◌then◌else◌}
+use Rattle.std.specs.Prelude.{◌+◌, ◌-◌, IfOk, IsFalse, Result, Ok, Err, if◌then◌else◌}
 use Rattle.block_buffers.specs.Disks.{Disk}
 use Rattle.image_loader.specs.Files.{Contents}
 use Rattle.inner_interpreter.specs.State.{State}
@@ -94,3 +94,8 @@ pub saved_there : (word from to entry : ℕ) (s : Whole) (p : Stage) (machine : 
     → IsSaved (ended entry s) r → HasStopped word from to p machine calls r
 unfolding HasStopped
 saved_there word from to entry s p machine calls r is = λ q. absurd (saved_goes entry s r is q)
+
+pub saved_stays : (word : Result ℕ LoadFault) (from to entry : ℕ) (s : Whole) (p : Stage) (machine : State) (calls : List Bool) (r : Result Contents LoadFault)
+    → IsSaved (ended entry s) r → IfOk word (λ w. HasStopped w from to p machine calls r)
+saved_stays (Ok w) from to entry s p machine calls r is = saved_there w from to entry s p machine calls r is
+saved_stays (Err c) from to entry s p machine calls r is = tt

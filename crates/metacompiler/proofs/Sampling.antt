@@ -1,14 +1,19 @@
 -- The words of a screen with one definition.
-use Rattle.std.proofs.Common.{◌≡◌, ◌≤◌, ◌<◌, ◌+◌, ℕ, List, [], ◌∷◌, ◌++◌, codes, replicate, length, Option, Some, None, refl, ap, arith, false}
+use Rattle.std.proofs.Common.{◌≡◌, ◌≤◌, ◌<◌, ◌+◌, ℕ, List, [], ◌∷◌, ◌++◌, codes, replicate, length, Option, Some, None, refl, ap, ◌∙◌, arith, Bool, true, false, if◌then◌else◌}
 use Rattle.memory.specs.Bytes.{cell}
 use Rattle.memory.specs.declared.system.TheConstants.{CURRENT, DP}
 use Rattle.dictionary.specs.Header.{is_immediate, compilation_address}
 use Rattle.dictionary.specs.Search.{Found, sought_from}
 use Rattle.colon_bodies.specs.Tokens.{Token, NAME, SEMI}
 use Rattle.colon_bodies.specs.declared.words.Half.TheVariants.{Free}
-use Rattle.source_words.specs.Words.{SourceWord, source_words}
-use Rattle.image_builder.specs.Spelled.{sense_of_word, text_of}
-use Rattle.metacompiler.specs.Meaning.{Means, token_of}
+use Rattle.source_words.specs.Modes.{begins_body, begins_comment, ends_body, names_in_body, names_outside, takes_text}
+use Rattle.source_words.specs.Words.{SourceWord, source_words, words_of_screens, screen_words, words_from, is_comment, has_text, size_of, word_of, name_of, before}
+use Rattle.std.specs.List.{position_or_len}
+use Rattle.std.specs.Str.{bytes_eq}
+use Rattle.image_builder.specs.Places.{Plain, Figure, Wide}
+use Rattle.image_builder.specs.Spelled.{choosing, counting, ending, figure_of, keyword, naming, repeating, saying, sense_of_word, text_of}
+use Rattle.number_text.specs.Numbers.{is_double, is_number}
+use Rattle.metacompiler.specs.Meaning.{Means, named_token, token_as, token_of}
 use Rattle.metacompiler.specs.Sample.{IsCalled, square, square_screen}
 use Rattle.metacompiler.specs.Sources.{AreDefined, Defines, IsFree}
 
@@ -18,4 +23,65 @@ plain screen offset name = record { screen = screen; offset = offset; name = nam
 -- the screen's words
 read : (screen : ℕ) → source_words screen (square_screen ∷ []) ≡
     plain screen 0 (codes ":") ∷ plain screen 2 (codes "SQ") ∷ plain screen 5 (codes "DUP") ∷ plain screen 9 (codes "*") ∷ plain screen 11 (codes ";") ∷ []
+unfolding plain square_screen words_of_screens screen_words words_from is_comment has_text size_of word_of name_of before begins_body begins_comment ends_body names_in_body names_outside takes_text
 read screen = refl
+
+-- a word that is no keyword is what its name is found as
+found_as : (m : List ℕ) (l x y : ℕ) (number double : Bool) → token_as m Free (Found l) (if number then (if double then Wide x else Figure y) else Plain) ≡ named_token m Free l
+found_as m l x y true true = refl
+found_as m l x y true false = refl
+found_as m l x y false double = refl
+
+called : (m : List ℕ) (screen offset : ℕ) (name : List ℕ) (address : ℕ) → begins_comment name ≡ false → keyword name [] ≡ None → IsCalled m name address
+    → token_of m (cell m CURRENT) Free (plain screen offset name) ≡ Some (NAME address)
+unfolding plain sense_of_word figure_of
+called m screen offset name address remark none c =
+    let sense : sense_of_word name [] ≡ figure_of name = rw (remark, none) refl in
+    ap (λ s. token_as m Free (sought_from m (cell m CURRENT) name) s) sense
+    ∙ ap (λ s. token_as m Free s (figure_of name)) c.found
+    ∙ found_as m c.link _ _ (is_number 10 name) (is_double name)
+    ∙ ap (λ (b : Bool). if b then None else Some (NAME (compilation_address m c.link))) c.plain
+    ∙ ap (λ a. Some (NAME a)) c.address_is
+
+none_of : (text : List ℕ) → keyword (codes "SQ") text ≡ None
+unfolding keyword naming choosing repeating counting saying ending
+none_of text = refl
+
+dup_none : keyword (codes "DUP") [] ≡ None
+unfolding keyword naming choosing repeating counting saying ending
+dup_none = refl
+
+times_none : keyword (codes "*") [] ≡ None
+unfolding keyword naming choosing repeating counting saying ending
+times_none = refl
+
+ends_so : (m : List ℕ) (voc screen : ℕ) → token_of m voc Free (plain screen 11 (codes ";")) ≡ Some SEMI
+unfolding plain sense_of_word begins_comment keyword naming choosing repeating counting saying ending
+ends_so m voc screen = refl
+
+pub sample : (limit screen : ℕ) (m : List ℕ) (dup times : ℕ) → IsCalled m (codes "DUP") dup → IsCalled m (codes "*") times → cell m DP + 15 ≤ limit
+    → AreDefined limit m (source_words screen (square_screen ∷ [])) (square screen dup times ∷ [])
+unfolding plain begins_body begins_comment
+sample limit screen m dup times d t room = (
+  [],
+  record {
+    colon = plain screen 0 (codes ":");
+    name = plain screen 2 (codes "SQ");
+    inner = plain screen 5 (codes "DUP") ∷ plain screen 9 (codes "*") ∷ plain screen 11 (codes ";") ∷ [];
+    is = read screen;
+    begins = refl;
+    beside = refl;
+    screen = refl;
+    title = refl;
+    short = omega arith;
+    free = record { colon = refl; comment = refl; keyword_none = none_of };
+    means = (
+      called m screen 5 (codes "DUP") dup refl dup_none d, tt,
+      (called m screen 9 (codes "*") times refl times_none t, tt, (ends_so m (cell m CURRENT) screen, tt, refl)),
+    );
+    shallow = omega arith;
+    texts = (tt, (tt, tt));
+    room = omega (arith, room);
+  },
+  refl,
+)

@@ -1,5 +1,5 @@
 -- What `build` and `load` end with, by what building and loading answer.
-use Rattle.std.proofs.Common.{◌≡◌, ℕ, Bool, List, Option, Some, None, Result, Ok, Err, Vec, inr, refl, subst}
+use Rattle.std.proofs.Common.{◌≡◌, ℕ, Bool, false, List, Option, Some, None, Result, Ok, Err, Vec, inr, refl, subst}
 use Rattle.std.specs.Prelude.{IfErr, IfOk, IfSome, IsNone, MatchOption}
 use Rattle.std.specs.declared.alloc.Global.{Global}
 use Rattle.block_buffers.specs.Disks.{Disk}
@@ -31,10 +31,10 @@ told_file image None sent sent' is = tt
 told_file image (Some f) sent sent' is = record { image = image; told = is }
 
 pub loaded_so : (read old : Contents) (d : Disk) (from to limit : ℕ) (answer : Result Contents LoadFault) (disk : Option Disk)
-    (ended : Ended) (sent sent' : Option (List ℕ)) → read ≡ old → IsLoaded (loaded_by_machine read d from to limit) answer disk
-    → EndsAnswered answer ended sent sent' → EndsLoaded (loaded_by_machine old d from to limit) disk ended sent sent'
-loaded_so read old d from to limit answer disk ended sent sent' same is ends =
-    record { answer = answer; is_loaded = subst (λ i. IsLoaded (loaded_by_machine i d from to limit) answer disk) same is; ends = ends }
+    (ended : Ended) (failed : Bool) (sent sent' : Option (List ℕ)) → read ≡ old → IsLoaded d (loaded_by_machine read d from to limit) answer disk
+    → (failed ≡ false → EndsAnswered answer ended sent sent') → EndsLoaded d (loaded_by_machine old d from to limit) disk ended failed sent sent'
+loaded_so read old d from to limit answer disk ended failed sent sent' same is ends =
+    record { answer = answer; is_loaded = subst (λ i. IsLoaded d (loaded_by_machine i d from to limit) answer disk) same is; ends = ends }
 
 -- for want of memory nothing was read, and no call made
 pub none_unread : (word : Result ℕ LoadFault) (calls : List Bool) → IfErr word (λ why. IsSaved (Err why) (Err OutOfMemory) × (calls ≡ calls))

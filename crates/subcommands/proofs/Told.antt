@@ -1,9 +1,9 @@
 -- What is printed of the memory that an image is loaded to.
-use Rattle.std.proofs.Common.{◌≡◌, ◌↔◌, ◌⊎◌, ◌∙◌, ℕ, List, Option, Result, Ok, Err, IsErrOf, Vec, ap, subst, codes}
+use Rattle.std.proofs.Common.{◌≡◌, ◌≢◌, ◌↔◌, ◌⊎◌, ◌∙◌, ℕ, List, Option, Result, Ok, Err, IsErrOf, Vec, ap, subst, sym, codes}
 use Rattle.std.specs.declared.alloc.Global.{Global}
 use Rattle.dictionary.specs.Search.{sought}
 use Rattle.subcommands.specs.Causes.{IsNoFile, image_cause}
-use Rattle.subcommands.specs.Lines.{memory_of, EndsSeen, EndsViewed, PrintsOutOfMemory, PrintsRefusal, PrintsSeen, PrintsViewed}
+use Rattle.subcommands.specs.Lines.{memory_of, line, EndsSeen, EndsViewed, Prints, PrintsOutOfMemory, PrintsRefusal, PrintsSeen, PrintsViewed}
 use Rattle.image_loader.specs.Files.{Contents, IsCutShort, IsFollowed, HasBadMagic, HasBadVersion, HasBadBuffers, HasBadSize}
 use Rattle.image_loader.specs.declared.fault.ImageFault.{ImageFault}
 use Rattle.image_loader.specs.declared.fault.ImageFault.TheVariants as fault
@@ -26,6 +26,10 @@ seen file m name typed answer status old new same spelled is printed =
 -- SEE may answer that memory ran out
 pub seen_none : (file : Contents) (name : List ℕ) (status : ℕ) (old new : Option (List ℕ)) → PrintsOutOfMemory status old new → EndsSeen file name status old new
 seen_none file name status old new printed = record { answer = Err OutOfMemory; is_seen = tt; printed = printed }
+
+-- the text that SEE answered was printed on a line
+pub said : (text : Vec ℕ Global) (bytes name : List ℕ) (status : ℕ) (old new : Option (List ℕ)) → bytes ≡ text.items → Prints (line bytes) 0 status old new → PrintsSeen name (Ok text) status old new
+said text bytes name status old new same printed = subst (λ (b : List ℕ). Prints (line b) 0 status old new) same printed
 
 pub told : (file : Contents) (m name typed : List ℕ) (answer : Result ℕ ViewRefused) (status : ℕ) (old new : Option (List ℕ))
     → m ≡ memory_of file → typed ≡ name → answer ≡ viewed m (sought m typed) → PrintsViewed name answer status old new ⊎ PrintsOutOfMemory status old new
@@ -51,7 +55,18 @@ answered r bytes fault.OutOfMemory t l m v b s h = absurd h
 pub not_read : {T : Type 0} (x : T) (f : ImageFault) → Ok x ≡ Err f → ⊥
 not_read x f e = cc
 
-pub refused_so : {T : Type 0} (r : Result T ImageFault) (found f : ImageFault) (status : ℕ) (old new : Option (List ℕ)) → r ≡ Err found → r ≡ Err f
-    → PrintsRefusal (codes "image") (image_cause found) status old new → PrintsRefusal (codes "image") (image_cause f) status old new
-refused_so r found f status old new is e printed =
-    let same : found ≡ f = cc in subst (λ x. PrintsRefusal (codes "image") (image_cause x) status old new) same printed
+-- want of memory is no reason why bytes are no image's file
+no_want : (bytes : List ℕ) (f : ImageFault) → IsNoFile bytes f → f ≡ fault.OutOfMemory → ⊥
+no_want bytes fault.Truncated h q = cc
+no_want bytes fault.TrailingBytes h q = cc
+no_want bytes fault.BadMagic h q = cc
+no_want bytes fault.BadVersion h q = cc
+no_want bytes fault.BadBuffers h q = cc
+no_want bytes fault.BadSize h q = cc
+no_want bytes fault.OutOfMemory h q = h
+
+pub refused_so : {T : Type 0} (r : Result T ImageFault) (bytes : List ℕ) (found f : ImageFault) (status : ℕ) (old new : Option (List ℕ)) → r ≡ Err found → r ≡ Err f → IsNoFile bytes f
+    → (found ≢ fault.OutOfMemory → PrintsRefusal (codes "image") (image_cause found) status old new) → PrintsRefusal (codes "image") (image_cause f) status old new
+refused_so r bytes found f status old new is e why printed =
+    let same : found ≡ f = cc in
+    subst (λ x. PrintsRefusal (codes "image") (image_cause x) status old new) same (printed (λ q. no_want bytes f why (sym same ∙ q)))

@@ -1,3 +1,4 @@
+use Rattle.std.proofs.Common.{inl}
 use Rattle.subcommands.proofs.Loading.{built_file, told_file}
 use Rattle.subcommands.proofs.commands.do_build.Goals as goal
 
@@ -6,3 +7,6 @@ returns-in-Ok-clause-file g c = λ d e. built_file _ c.in-Ok.image d _ _ _ _ (c.
 
 pub returns-in-Ok-clause-told : goal.returns-in-Ok-clause-told
 returns-in-Ok-clause-told g c = λ fine. told_file c.in-Ok.image _ _ _ (c.end_with_made.ensures.told fine)
+
+pub returns-in-Ok-clause-device : goal.returns-in-Ok-clause-device
+returns-in-Ok-clause-device g c = λ d e. inl (c.in-Ok.image, c.in-Ok.ensures.built d e)

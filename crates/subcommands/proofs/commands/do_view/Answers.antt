@@ -5,7 +5,7 @@ use Rattle.subcommands.proofs.commands.do_view.Goals as goal
 pub returns-in-Err-clause-refused : goal.returns-in-Err-clause-refused
 returns-in-Err-clause-refused g c = λ fine f is.
     let h = c.in-Err.ensures in
-    refused_so (Err c.in-Err.fault) c.in-Err.fault f _ _ _ refl (answered (Err c.in-Err.fault) c.args.image.now f h.truncated h.trailing h.bad_magic h.bad_version h.bad_buffers h.bad_size is) (c.refuse_image.ensures.printed fine)
+    refused_so (Err c.in-Err.fault) c.args.image.now c.in-Err.fault f _ _ _ refl (answered (Err c.in-Err.fault) c.args.image.now f h.truncated h.trailing h.bad_magic h.bad_version h.bad_buffers h.bad_size is) is (c.refuse_image.ensures.printed fine)
 
 pub returns-in-Ok-view-clause-refused : goal.returns-in-Ok-view-clause-refused
 returns-in-Ok-view-clause-refused g c = λ fine f is.
