@@ -430,7 +430,7 @@ make_own() {
     cat "$room/place" >&2
     exit 1
   }
-  why=$(tail -n 1 "$room/shown" | sed -n 's/^at \(.*\) of screen .*/\1/p')
+  why=$(tail -n 1 "$room/shown" | sed -n 's/^in \(.*\) of screen .*/\1/p')
   if [ -n "$why" ]; then
     say "$own starts with $why"
   else
