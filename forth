@@ -486,6 +486,9 @@ elif [ "$door" = quiet ]; then
 elif [ -t 0 ] && [ -t 1 ]; then
   door=terminal
   run_at_terminal
+elif [ -t 0 ]; then
+  door=terminal
+  run_in_pipe "$images/tools.img"
 else
   door=pipe
   run_in_pipe "$images/piped.img"
