@@ -1,18 +1,22 @@
 #!/usr/bin/env bash
-# The Forth over a file of blocks; `./forth --help` tells how. At a terminal it has the workbench's tools, and takes lines by KEY;
-# into pipes and files it is the kernel alone, so that its output is what the machine shows. Where the program isn't proved yet it
-# runs the same one without its proofs, and has the proof made meanwhile.
+# The Forth over a file of blocks; `./forth --help` tells how. It has the workbench's tools, at a terminal, where it takes lines by
+# KEY, and in pipes, and makes images of programs with them. Where the program isn't proved yet it runs the same one without its
+# proofs, and has the proof made meanwhile.
 set -uo pipefail
 here=$(cd "$(dirname "$(readlink -f "${BASH_SOURCE[0]}")")" && pwd)
 forth83=$here/crates/forth83/out/forth83
 kept=$here/workbench/out
+names=(plain tools piped quiet)
 saved=
 building=
 child=
 killed=
+hung_up=
 broken=
 keyed=
 interrupt_key=
+feeder=
+door=
 wanted=
 unproved=
 is_new=
@@ -24,6 +28,9 @@ say() {
 usage() {
   cat >&2 << 'END'
 usage: ./forth [BLOCKS]                      works on the file BLOCKS, forth.blk where none is named, and makes it where it isn't there
+       ./forth --quiet [BLOCKS]              shows what a script shows that it is given as input, without its lines and ok
+       ./forth --image OWN FROM TO [BLOCKS]  makes of the screens FROM to TO the image OWN, which starts with their program
+       ./forth --kernel [BLOCKS]             runs the kernel alone, whose output is exactly what the machine shows
        ./forth --kernel-of SOURCES [BLOCKS]  does so with a kernel built of screens 1 to 20 of SOURCES
        ./forth --proved [BLOCKS]             waits for the proved program, where it isn't there yet
        ./forth --unproved [BLOCKS]           runs the program without proofs, and has nothing proved
@@ -39,14 +46,25 @@ refuse() {
   exit 1
 }
 
-# is_made IMAGE: the image is there, and nothing that it is made of is newer.
-is_made() {
-  local from
-  [ -f "$1" ] || return 1
-  for from in "$forth83" "$here"/workbench/{make,*.txt}; do
-    if [ "$from" -nt "$1" ]; then
-      return 1
-    fi
+# are_kept: the images are there, and nothing that they are made of is newer.
+are_kept() {
+  local name from
+  for name in "${names[@]}"; do
+    [ -f "$kept/$name.img" ] || return 1
+    for from in "$forth83" "$here"/workbench/{make,*.txt}; do
+      if [ "$from" -nt "$kept/$name.img" ]; then
+        return 1
+      fi
+    done
+  done
+}
+
+# keep_images: those in ROOM are kept from now on.
+keep_images() {
+  local name
+  mkdir -p "$kept" 2> /dev/null && [ -w "$kept" ] || return 1
+  for name in "${names[@]}"; do
+    cp -- "$room/$name.img" "$kept/$name.$$" && mv -f -- "$kept/$name.$$" "$kept/$name.img" || return 1
   done
 }
 
@@ -57,9 +75,9 @@ tell_kernel() {
   say "then: dd if=new.blk of=$1 bs=1024 skip=1 seek=1 count=20 conv=notrunc"
 }
 
-# make_images SOURCES FOLDER: the image of the screens 1 to 20 alone, and that with the tools.
+# make_images SOURCES FOLDER: the image of the screens 1 to 20 alone, and those with the tools.
 make_images() {
-  local said
+  local said name
   said=$("$forth83" build --where -- "$1" 1 20 "$2/plain.new" 9>&-) || {
     case $said in
       screen*) tell_kernel "$1" ;;
@@ -67,12 +85,14 @@ make_images() {
     esac
     return 1
   }
-  said=$("$here/workbench/make" "$forth83" "$1" "$2/tools.new" 9>&- 2>&1) || {
+  said=$("$here/workbench/make" --doors "$forth83" "$1" "$2"/{tools,piped,quiet}.new 9>&- 2>&1) || {
     say "the workbench's tools can't be built over the screens 1 to 20 of $1:"
     echo "$said" >&2
     return 1
   }
-  mv -f -- "$2/plain.new" "$2/plain.img" && mv -f -- "$2/tools.new" "$2/tools.img"
+  for name in "${names[@]}"; do
+    mv -f -- "$2/$name.new" "$2/$name.img" || return 1
+  done
 }
 
 # show_seconds PID: a line that moves until the process has ended, where standard error is a terminal.
@@ -141,21 +161,26 @@ find_program() {
 # unproved program makes isn't kept.
 find_images() {
   images=$kept
-  if [ -z "$unproved" ] && is_made "$kept/plain.img" && is_made "$kept/tools.img"; then
+  if [ -z "$unproved" ] && are_kept; then
     return
   fi
   "$forth83" kernel "$room/kernel.blk" > "$room/said" || refuse "the program can't make its kernel: $(cat "$room/said")"
   make_images "$room/kernel.blk" "$room" || exit 1
-  if [ -z "$unproved" ] && mkdir -p "$kept" 2> /dev/null && [ -w "$kept" ]; then
-    cp -- "$room/plain.img" "$kept/plain.$$" && mv -f -- "$kept/plain.$$" "$kept/plain.img" &&
-      cp -- "$room/tools.img" "$kept/tools.$$" && mv -f -- "$kept/tools.$$" "$kept/tools.img" && return
+  if [ -n "$unproved" ] || ! keep_images; then
+    images=$room
   fi
-  images=$room
+}
+
+# Refuses a name that no new file can have.
+look_at_name() {
+  local name=${1##*/} LC_ALL=C
+  [ ${#name} -le 240 ] || refuse "the name ${name:0:16}.. has ${#name} bytes, which are too many for a new file"
 }
 
 # Makes the block file where it isn't there.
 make_blocks() {
   local folder
+  look_at_name "$blocks"
   folder=$(dirname -- "$blocks")
   [ -d "$folder" ] || refuse "$blocks can't be made: there is no folder $folder"
   [ -w "$folder" ] || refuse "$blocks can't be made: the folder $folder can't be written; name a file elsewhere, as ./forth ~/my.blk"
@@ -245,8 +270,19 @@ watch_keys() {
       stty intr "$now"
       keyed=$now
     fi
+    if [ -n "$hung_up" ] && [ $((SECONDS - hung_up)) -ge 3 ]; then
+      killed=1
+      kill "$child" 2> /dev/null
+    fi
     read -r -t 0.05 -u 7
   done
+}
+
+# The terminal is gone: the program finds that out where it reads or shows, and keeps what was changed. What computes is broken off
+# for that; what hasn't ended some seconds later is killed.
+hang_up() {
+  hung_up=${hung_up:-$SECONDS}
+  : > "$room/break"
 }
 
 # ^C while the program computes: it is asked to break off; where it hasn't by the next one, it ends.
@@ -274,6 +310,7 @@ stop() {
 leave() {
   trap '' HUP INT TERM
   [ -z "$building" ] || kill -- "-$building" 2> /dev/null
+  [ -z "$feeder" ] || kill -PIPE -- "-$feeder" 2> /dev/null
   [ -z "$saved" ] || stty "$saved" 2> /dev/null
   rm -rf "$room"
 }
@@ -291,7 +328,7 @@ ended() {
 }
 
 # Runs the tools' image at the terminal. The program is a child that is watched, so that signals are seen meanwhile; it takes no
-# notice of ^C. Where the system's `env` can't give it back its other signals, it is simply called.
+# notice of ^C, nor of a terminal that is closed but by its reads. Where the system's `env` can't give it back its other signals, it is simply called.
 run_at_terminal() {
   saved=$(stty -g)
   interrupt_key=$(stty -a | sed -n 's/.*intr = \([^;]*\);.*/\1/p')
@@ -304,8 +341,9 @@ run_at_terminal() {
     trap interrupt INT
     trap stop TSTP
     trap by_key CONT
-    trap 'killed=1; [ -z "$child" ] || kill "$child"' TERM HUP
-    env --ignore-signal=INT --default-signal=QUIT,TSTP "$forth83" run --save --break "$room/break" -- "$images/tools.img" "$blocks" <&0 9>&- &
+    trap 'killed=1; [ -z "$child" ] || kill "$child"' TERM
+    trap hang_up HUP
+    env --ignore-signal=INT,HUP --default-signal=QUIT,TSTP "$forth83" run --save --break "$room/break" -- "$images/tools.img" "$blocks" <&0 9>&- &
     child=$!
     [ -z "$killed" ] || kill "$child"
     watch_keys
@@ -317,16 +355,111 @@ run_at_terminal() {
   echo
 }
 
+# Passes standard input on to descriptor 8, with a return behind a last line that has none: a quiet pipe takes lines by KEY.
+feed() {
+  local last
+  last=$(tee /dev/fd/7 7>&1 >&8 | tail -c 1 | od -A n -t u1)
+  case $last in '' | *' 10') ;; *) echo >&8 ;; esac
+}
+
+# Whether the input has a return at its end, or can't be known to want one.
+is_ended() {
+  if [ -f /dev/stdin ]; then
+    [ -z "$(tail -c 1 /dev/stdin 2> /dev/null | tr -d '\0')" ]
+  else
+    [ ! -p /dev/stdin ] && [ ! -S /dev/stdin ]
+  fi
+}
+
+# run_in_pipe IMAGE: runs it over standard input and output, as they are.
+run_in_pipe() {
+  [ -z "$is_new" ] || say "$blocks is a new file"
+  if [ "$door" = kernel ] || is_ended; then
+    "$forth83" run --save -- "$1" "$blocks" 9>&- || status=$?
+    return
+  fi
+  mkfifo "$room/lines"
+  # In a process group of its own, which is ended whole where the run ends before its input.
+  set -m
+  feed <&0 8> "$room/lines" 9>&- &
+  feeder=$!
+  set +m
+  "$forth83" run --save -- "$1" "$blocks" < "$room/lines" 9>&- || status=$?
+}
+
+# Refuses an image's name that can't be one, or that is in the way.
+look_at_own() {
+  local name
+  look_at_name "$own"
+  [ ! -d "$own" ] || refuse "$own is a folder; name an image"
+  [ -d "$(dirname -- "$own")" ] || refuse "$own can't be made: there is no folder $(dirname -- "$own")"
+  [ ! -f "$own" ] || [ ! -s "$own" ] || [ "$(head -c 8 -- "$own" | tr -d '\0')" = FTH83IMG ] || refuse "$own is there already, and is no image"
+  for name in "${names[@]}"; do
+    [ ! "$own" -ef "$kept/$name.img" ] || refuse "$own is an image of the launcher's own; name another"
+  done
+  [ "$from" -le "$to" ] || refuse "there are no screens from $from to $to"
+}
+
+# Tries the screens on a copy of their blocks, as a script would load them: a fault is told then by word and place. The last line
+# of what is shown else says with which word the image starts, if BOOT named one.
+try_own() {
+  cp -- "$blocks" "$room/copy.blk" || exit 1
+  printf 'TOOLS 0 AT-LINE ! FORTH %d %d THRU [ CR TOOLS .BOOTED\n' "$from" "$to" |
+    "$forth83" run -- "$images/quiet.img" "$room/copy.blk" > "$room/shown" 9>&-
+}
+
+# Makes the image of one's own, by `load` over the tools.
+make_own() {
+  local said why
+  look_at_own
+  try_own || {
+    say "$own isn't made:"
+    cat "$room/shown" >&2
+    exit 1
+  }
+  said=$("$forth83" load --where -- "$images/piped.img" "$blocks" "$from" "$to" "$own" 2> "$room/place" 9>&-) || {
+    case $said in
+      'load: Unfinished') why='a definition has no ;' ;;
+      'load: Asked') why="a screen asks for a key or a line" ;;
+      'load: Halted') why='a screen leaves the Forth' ;;
+      'load: Limit') why='the screens come to no end' ;;
+      'load: BadSize') why='HERE is where no image can end' ;;
+      *) why=${said#error: } ;;
+    esac
+    say "$own isn't made: $why"
+    cat "$room/place" >&2
+    exit 1
+  }
+  why=$(tail -n 1 "$room/shown" | sed -n 's/^in \(.*\) of screen .*/\1/p')
+  if [ -n "$why" ]; then
+    say "$own starts with $why"
+  else
+    say "$own starts with the Forth; BOOT NAME in a screen has it start with NAME"
+  fi
+}
+
 sources=
-case ${1:-} in
-  -h | --help) usage 0 ;;
-  --status) [ $# -eq 1 ] || usage 2; exec "$here/workbench/prove" --status ;;
-  --proved | --unproved) wanted=${1#--}; shift ;;
-  --kernel-of) [ $# -ge 2 ] && [ $# -le 3 ] || usage 2; sources=$2; shift 2; set -- "${1:-$sources}" ;;
-esac
+own=
+while [ $# -gt 0 ]; do
+  case $1 in
+    -h | --help) usage 0 ;;
+    --status) [ $# -eq 1 ] || usage 2; exec "$here/workbench/prove" --status ;;
+    --proved | --unproved) wanted=${1#--}; shift ;;
+    --quiet | --kernel) door=${1#--}; shift ;;
+    --image) [ $# -ge 4 ] || usage 2; own=$2 from=$3 to=$4; [ -n "$own" ] || usage 2; shift 4 ;;
+    --kernel-of) [ $# -ge 2 ] || usage 2; sources=$2; [ -n "$sources" ] || usage 2; shift 2 ;;
+    -*) usage 2 ;;
+    *) break ;;
+  esac
+done
 [ $# -le 1 ] || usage 2
-case "${1:-} $sources" in -* | *' -'*) usage 2 ;; esac
-blocks=${1-forth.blk}
+case "$own $sources" in -* | *' -'*) usage 2 ;; esac
+if [ -n "$own" ]; then
+  [[ $from =~ ^[0-9]{1,5}$ && $to =~ ^[0-9]{1,5}$ ]] || usage 2
+  from=$((10#$from)) to=$((10#$to))
+  [ "$to" -le 65535 ] || usage 2
+fi
+blocks=${1-${sources:-forth.blk}}
 [ -n "$blocks" ] || usage 2
 room=$(mktemp -d) || exit 1
 trap leave EXIT
@@ -339,22 +472,36 @@ if [ -n "$sources" ]; then
 else
   find_images
 fi
+[ -z "$own" ] || [ -e "$blocks" ] || refuse "there is no $blocks of which an image can be made"
 open_blocks
+if [ -n "$own" ]; then
+  make_own
+  exit
+fi
 status=0
-if [ -t 0 ] && [ -t 1 ]; then
+if [ "$door" = kernel ]; then
+  run_in_pipe "$images/plain.img"
+elif [ "$door" = quiet ]; then
+  run_in_pipe "$images/quiet.img"
+elif [ -t 0 ] && [ -t 1 ]; then
+  door=terminal
   run_at_terminal
+elif [ -t 0 ]; then
+  door=terminal
+  run_in_pipe "$images/tools.img"
 else
-  [ -z "$is_new" ] || say "$blocks is a new file"
-  "$forth83" run --save -- "$images/plain.img" "$blocks" 9>&- || status=$?
+  door=pipe
+  run_in_pipe "$images/piped.img"
 fi
 keep_session
-case $status in
-  3) say "a fault ended it, that no fault thread handles" ;;
-  4) say "the limit of ticks ended it" ;;
-  5) say "standard input or output failed" ;;
-  130) say "broken off" ;;
+case $door:$status in
+  pipe:3 | quiet:3) say "a fault ended it" ;;
+  *:3) say "a fault ended it, that no fault thread handles" ;;
+  *:4) say "the limit of ticks ended it" ;;
+  *:5) say "standard input or output failed" ;;
+  *:130) say "broken off" ;;
 esac
-case $status in
-  3 | 4 | 130 | 131 | 143) say "screens that were changed since the last SAVE may not be in $blocks" ;;
+case $door:$status in
+  kernel:3 | terminal:3 | *:4 | *:130 | *:131 | *:143) say "screens that were changed since the last SAVE may not be in $blocks" ;;
 esac
 exit "$status"

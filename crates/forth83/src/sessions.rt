@@ -20,7 +20,8 @@ const BREAK: &[u8] = b"BREAK";
 pub struct Session<'a> {
     /// The file that asks for the run to be broken off.
     pub break_file: Option<&'a str>,
-    /// Whether changed blocks are written where the run ends by BYE or the end of input.
+    /// Whether changed blocks are written where the run ends by BYE, at the end of input, or because input or output failed, as
+    /// when a terminal is closed.
     pub saves: bool,
 }
 
@@ -100,7 +101,10 @@ pub fn run_session<R: Input, W: Output, D: Device>(
     let Some(stop) = run_by_slices(rt, &mut machine, reader, writer, device, limit, asked) else {
         return refuse_image(ImageFault::OutOfMemory, writer);
     };
-    let is_over = matches!(stop, Stop::Bye | Stop::InputEnded);
+    let is_over = matches!(
+        stop,
+        Stop::Bye | Stop::InputEnded | Stop::InputFault | Stop::OutputFault
+    );
     let is_kept = !(session.saves && is_over) || save_blocks(rt, &machine, device);
     Ended {
         status: if is_kept { status_of(stop) } else { 1 },
