@@ -12,7 +12,7 @@ import texts
 
 HERE = pathlib.Path(__file__).resolve().parent
 MARK = "<!-- a map of ./forth map -->"
-BYTE, ROW, GUTTER, LINE, LETTER = 13, 24, 56, 17, 7.3
+BYTE, ROW, GUTTER, LINE, LETTER, TITLE_LETTER = 13, 24, 56, 17, 7.3, 8.1
 
 
 class Canvas:
@@ -26,7 +26,7 @@ class Canvas:
 
     def line(self, text, kind="told", x=8):
         """A line of text, cut into as many as the width needs."""
-        most = max(12, int((self.width - x) / LETTER))
+        most = max(12, int((self.width - x) / (TITLE_LETTER if kind == "title" else LETTER)))
         while text:
             cut = len(text) if len(text) <= most else (text.rfind(" ", 1, most) if " " in text[1:most] else most)
             self.y += LINE
@@ -45,7 +45,7 @@ class Grid:
         self.first = images.DICTIONARY // wide
 
     def rows(self):
-        return max(1, -(-self.one.here // self.wide) - self.first)
+        return max(1, -(-self.one.top // self.wide) - self.first)
 
     def spot(self, address):
         """The left upper corner of a byte."""
@@ -73,7 +73,7 @@ class Grid:
         return "".join(drawn)
 
     def contains(self, address):
-        return images.DICTIONARY <= address < max(self.one.here, images.DICTIONARY + 1)
+        return images.DICTIONARY <= address < self.one.top
 
     def arc(self, header):
         """The link from a word to the one before it in its chain."""
@@ -81,10 +81,13 @@ class Grid:
             return ""
         x, y = self.spot(header.link_field)
         to_x, to_y = self.spot(header.link - 2)
-        x, to_x, y, to_y = x + BYTE, to_x + BYTE / 2, y + 4, to_y + ROW - 6
-        bend = (y + to_y) / 2
-        return (f'<path class="link c{header.chain()}" data-from="{header.link_field}" '
-                f'd="M{x} {y}C{x} {bend} {to_x} {bend} {to_x} {to_y}"/>')
+        x, to_x = x + BYTE, to_x + BYTE / 2
+        if y == to_y:
+            way = f"M{x} {y + ROW - 5}v3H{to_x}v-3"
+        else:
+            bend = (y + to_y + ROW) / 2
+            way = f"M{x} {y + 4}C{x} {bend} {to_x} {bend} {to_x} {to_y + ROW - 5}"
+        return f'<path class="link c{header.chain()}" data-from="{header.link_field}" d="{way}"/>'
 
 
 def told_of(one, header):
@@ -133,8 +136,10 @@ def draw_grid(canvas, grid, runs):
                    for header in grid.one.words)
     canvas.add(f'<g class="links">{arcs}</g>')
     canvas.add("".join(grid.boxes(begins, end, "changed") for begins, end in runs))
-    x, y = grid.spot(grid.one.here)
-    canvas.add(f'<path class="here" d="M{x} {y}v{ROW - 2}"/><text class="told" x="{x + 4}" y="{y + 15}">HERE {grid.one.here}</text></g>')
+    if images.DICTIONARY <= grid.one.here <= grid.one.top:
+        x, y = grid.spot(grid.one.here)
+        canvas.add(f'<path class="here" d="M{x} {y}v{ROW - 2}"/><text class="told" x="{x + 4}" y="{y + 15}">HERE {grid.one.here}</text>')
+    canvas.add("</g>")
 
 
 def draw_strip(canvas, one):
@@ -156,7 +161,7 @@ def draw_strip(canvas, one):
 def draw_cells(canvas, one):
     memory = one.image.memory
     canvas.line("System cells", "heading")
-    canvas.line("   ".join(f"{name} {memory.cell(address)}" for address, name in images.CELLS.items()))
+    canvas.line(", ".join(f"{name} {memory.cell(address)}" for address, name in images.CELLS.items()))
     found = one.at_link_field()
     canvas.line("Vocabularies, and the newest word of each chain", "heading")
     for name, record, heads in one.vocabularies():
@@ -194,7 +199,7 @@ def draw_one(one, wide):
     grid = Grid(one, 0, canvas.y, wide)
     draw_grid(canvas, grid, [])
     canvas.room((grid.rows() + 1) * ROW)
-    canvas.line(f"Behind HERE {max(0, one.limit - one.here)} bytes are free, up to {one.limit}; they aren't drawn.")
+    canvas.line(f"Behind it {one.limit - one.top} bytes are free, up to {one.limit}; they aren't drawn.")
     canvas.room(80)
     return canvas
 
@@ -219,10 +224,10 @@ def draw_two(first, second, wide):
     draw_changes(canvas, changes)
     draw_key(canvas)
     canvas.room(8)
-    runs = changes.runs(images.DICTIONARY, max(first.here, second.here))
+    runs = changes.runs(images.DICTIONARY, max(first.top, second.top))
     grids = [Grid(first, 0, canvas.y, wide), Grid(second, canvas.width // 2, canvas.y, wide)]
     for grid in grids:
-        draw_grid(canvas, grid, [(begins, min(end, grid.one.here)) for begins, end in runs if begins < grid.one.here])
+        draw_grid(canvas, grid, [(begins, min(end, grid.one.top)) for begins, end in runs if begins < grid.one.top])
     canvas.room((max(grid.rows() for grid in grids) + 1) * ROW + 80)
     return canvas
 

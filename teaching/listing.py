@@ -54,7 +54,7 @@ def words(one):
     yield f" {HEADING}"
     for header in one.words:
         yield word(one, header)
-    yield f" {one.here:6}             HERE; {max(0, one.limit - one.here)} bytes are free up to {one.limit}"
+    yield f" {one.here:6}             HERE; {one.limit - one.top} bytes are free up to {one.limit}"
 
 
 def listing(one):

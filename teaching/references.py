@@ -49,6 +49,7 @@ class References:
         self.defining, self.open, self.before = set(DEFINING), None, ""
         self.wants_name = False
         for number in numbers:
+            self.wants_name = False
             for word, line in words(read.lines.get(number, [])):
                 self.take(word, (number, line))
                 self.before = word.upper()

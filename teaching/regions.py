@@ -22,13 +22,13 @@ class Map:
     def __init__(self, name, image):
         self.name, self.image, self.dictionary = name, image, images.Dictionary(image.memory)
         self.here, self.limit = image.memory.cell(images.DP), image.limit()
+        self.top = max(image.size, min(self.here, self.limit))
         self.words = [header for header in self.dictionary.headers if images.DICTIONARY <= header.begins < self.limit]
 
     def outline(self):
         """All of memory in few regions, each with what it is."""
-        here = max(images.DICTIONARY, min(self.here, self.limit))
         rows = [(0, images.TIB, "system", "system cells"), (images.TIB, images.TIB_END, "tib", "TIB, the line that is typed"),
-                (images.DICTIONARY, here, "words", "the dictionary, up to HERE"), (here, self.limit, "free", "free room")]
+                (images.DICTIONARY, self.top, "words", "the dictionary"), (self.top, self.limit, "free", "free room")]
         for slot in range(self.image.buffers):
             begins = self.limit + images.PAGE * slot
             rows.append((begins, begins + images.PAGE, "buffer", f"block buffer {slot}"))
@@ -43,8 +43,8 @@ class Map:
             if header.begins >= at:
                 found += parts_of(header)
                 at = max(header.end, header.body)
-        if self.here > at:
-            found.append(Region(at, self.here, "other"))
+        if self.top > at:
+            found.append(Region(at, self.top, "other"))
         return [region for region in found if region.size() > 0]
 
     def vocabularies(self):
