@@ -70,12 +70,9 @@ def defines(line, name):
     return any(one == ":" and other == name for one, other in zip(words, words[1:]))
 
 
-def screen_of(screens, name):
-    """The first screen with a colon definition of that name, or None."""
-    for number in sorted(screens.lines):
-        if any(defines(line, name) for line in screens.lines[number]):
-            return number
-    return None
+def screens_of(screens, name):
+    """The screens with a colon definition of that name."""
+    return [number for number in sorted(screens.lines) if any(defines(line, name) for line in screens.lines[number])]
 
 
 def definition(lines, name):
