@@ -98,7 +98,8 @@ def told_of(one, header):
     signs = [sign for sign, is_so in (("immediate", header.is_immediate), ("hidden", header.is_hidden)) if is_so]
     view = f", screen {header.view}" if header.view else ""
     return [", ".join([texts.shown(header.name), regions.what(header), *signs]) + view,
-            f"header {header.begins} to {header.body - 1}, behind it {size} bytes", f"chain {header.chain()}, the word before: {before}"]
+            f"header {header.begins} to {header.body - 1}, behind it {size} bytes",
+            f"chain {header.chain()}, the word before: {before}"]
 
 
 def word(grid, header):
@@ -106,9 +107,9 @@ def word(grid, header):
     lines = told_of(grid.one, header)
     drawn = "".join(grid.boxes(region.begins, region.end, region.kind) for region in regions.parts_of(header))
     link = grid.boxes(header.link_field, header.link_field + 2, f"cell c{header.chain()}")
-    return (f'<g class="word" tabindex="0" data-at="{header.link_field}" data-link="{header.link}" '
-            f'data-told="{escape("|".join(line.replace("|", "¦") for line in lines))}"><title>{escape(chr(10).join(lines))}</title>'
-            f'{drawn}{link}{grid.letters(header)}</g>')
+    told = escape("|".join(line.replace("|", "¦") for line in lines))
+    return (f'<g class="word" tabindex="0" data-at="{header.link_field}" data-link="{header.link}" data-told="{told}">'
+            f'<title>{escape(chr(10).join(lines))}</title>{drawn}{link}{grid.letters(header)}</g>')
 
 
 def newest_chain(one):
@@ -138,7 +139,8 @@ def draw_grid(canvas, grid, runs):
     canvas.add("".join(grid.boxes(begins, end, "changed") for begins, end in runs))
     if images.DICTIONARY <= grid.one.here <= grid.one.top:
         x, y = grid.spot(grid.one.here)
-        canvas.add(f'<path class="here" d="M{x} {y}v{ROW - 2}"/><text class="told" x="{x + 4}" y="{y + 15}">HERE {grid.one.here}</text>')
+        canvas.add(f'<path class="here" d="M{x} {y}v{ROW - 2}"/>')
+        canvas.add(f'<text class="told" x="{x + 4}" y="{y + 15}">HERE {grid.one.here}</text>')
     canvas.add("</g>")
 
 
@@ -146,7 +148,8 @@ def draw_strip(canvas, one):
     """All of memory to scale, and what its parts are."""
     scale, y = (canvas.width - 24) / images.MEMORY, canvas.y + 6
     for begins, end, kind, told in one.outline():
-        canvas.add(f'<rect class="{kind}" x="{8 + begins * scale:.2f}" y="{y}" width="{max(1, (end - begins) * scale):.2f}" height="26">'
+        x, width = 8 + begins * scale, max(1, (end - begins) * scale)
+        canvas.add(f'<rect class="{kind}" x="{x:.2f}" y="{y}" width="{width:.2f}" height="26">'
                    f'<title>{escape(told)}: {begins} to {end - 1}</title></rect>')
     canvas.room(34)
     for begins, end, kind, told in one.outline():
@@ -169,20 +172,28 @@ def draw_cells(canvas, one):
         canvas.line(f"{name} at {record}: {', '.join(f'{number} {text}' for number, text in enumerate(newest))}")
 
 
+COLOURS = (
+    ("header", "header with its name"), ("cell c0", "its link cell, by chain: 0"), ("cell c1", "1"), ("cell c2", "2"),
+    ("cell c3", "3"), ("code", "code field"), ("thread", "thread"), ("data", "data"), ("record", "vocabulary"),
+    ("other", "bytes of no word"),
+)
+ADVICE = ("The line is the chain of the newest word. Tab and the arrows go from word to word, "
+          "Enter to the word before in its chain.")
+
+
 def draw_key(canvas):
     """What the colours are."""
     canvas.line("The dictionary, each byte a column", "heading")
-    kinds = [("header", "header with its name"), ("cell c0", "its link cell, by chain: 0"), ("cell c1", "1"), ("cell c2", "2"), ("cell c3", "3"),
-             ("code", "code field"), ("thread", "thread"), ("data", "data"), ("record", "vocabulary"), ("other", "bytes of no word")]
     x, y = 8, canvas.y + 4
-    for kind, told in kinds:
+    for kind, told in COLOURS:
         width = 20 + (len(told) + 2) * LETTER
         if x + width > canvas.width:
             x, y = 8, y + LINE
-        canvas.add(f'<rect class="{kind}" x="{x}" y="{y}" width="12" height="12"/><text class="told" x="{x + 17}" y="{y + 11}">{told}</text>')
+        canvas.add(f'<rect class="{kind}" x="{x}" y="{y}" width="12" height="12"/>')
+        canvas.add(f'<text class="told" x="{x + 17}" y="{y + 11}">{told}</text>')
         x += width
     canvas.y = y + LINE + 4
-    canvas.line("The line is the chain of the newest word. Tab and the arrows go from word to word, Enter to the word before in its chain.")
+    canvas.line(ADVICE)
 
 
 def title(one):

@@ -97,7 +97,8 @@ function showStack(place, cells, before, labels, lowest) {
 // What cells of the return stack are: addresses to go back to, and what a counted loop keeps there.
 function returnLabels(step) {
   const labels = new Map(chain(step[1]).map((one) => [frames[one][2], `back to ${frames[one][4]}`]));
-  for (const base of film.loops[step[5]]) ["end of loop", "limit", "index"].forEach((text, number) => labels.set(base + number, text));
+  const kept = ["end of loop", "limit", "index"];
+  for (const base of film.loops[step[5]]) kept.forEach((text, number) => labels.set(base + number, text));
   return labels;
 }
 
@@ -106,8 +107,8 @@ function showThread(step) {
   const told = film.words[current] || { name: "?", source: "", from: "" };
   part("name").textContent = told.from ? `${told.name} (${told.from})` : told.name;
   part("source").textContent = told.source;
-  const rows = film.places.map((place, number) => [place, number]).filter(([place, number]) => place[1] === current || number === here);
-  const made = rows.map(([place, number]) => {
+  const rows = [...film.places.entries()].filter(([number, place]) => place[1] === current || number === here);
+  const made = rows.map(([number, place]) => {
     const row = element("li", undefined, number === here ? "here" : "");
     row.append(element("i", String(place[0])), element("span", place[3] ? `${place[2]} ${place[3]}` : place[2]));
     if (number === here) row.setAttribute("aria-current", "step");
@@ -127,7 +128,9 @@ function showNext(number) {
   const place = film.places[step[0]], [effect, says] = film.told[place[4]];
   const parts = [document.createTextNode("next: "), element("b", place[3] ? `${place[2]} ${place[3]}` : place[2])];
   parts.push(document.createTextNode(` ${effect}`), element("small", says || " "));
-  if (child[number] >= 0) parts.push(element("small", open[child[number]] ? "a call, unfolded" : "a call, folded: the arrow down unfolds it"));
+  if (child[number] >= 0) {
+    parts.push(element("small", open[child[number]] ? "a call, unfolded" : "a call, folded: the arrow down unfolds it"));
+  }
   if (number === steps.length - 1 && endings.size) parts.push(element("small", endings.get(chain(step[1])[0]) || ""));
   box.replaceChildren(...parts);
 }
@@ -211,7 +214,9 @@ function table(isBlank, kind) {
     const line = element("tr"), indent = "  ".repeat(chain(step[1]).length - 1);
     line.append(element("td", String(row + 1)));
     line.append(element("td", indent + (place ? `${place[2]} ${place[3]}` : `end of ${wordName(step[1])}`)));
-    for (const cells of [data, returns]) line.append(element("td", isBlank && row ? "" : cells.slice(-12).map((one) => cell(one)).join(" "), "room"));
+    for (const cells of [data, returns]) {
+      line.append(element("td", isBlank && row ? "" : cells.slice(-12).map(cell).join(" "), "room"));
+    }
     line.append(element("td", film.is_laid && !isBlank ? text(film.begins, step[4]) : ""));
     body.append(line);
   });
@@ -247,7 +252,10 @@ document.addEventListener("keydown", (event) => {
 });
 part("slider").addEventListener("input", () => go(Number(part("slider").value)));
 part("blank").addEventListener("change", fillSheet);
-const buttons = { first: "Home", back: "ArrowLeft", forth: "ArrowRight", last: "End", into: "ArrowDown", out: "ArrowUp", all: "a", base: "x", paper: "p" };
+const buttons = {
+  first: "Home", back: "ArrowLeft", forth: "ArrowRight", last: "End", into: "ArrowDown", out: "ArrowUp", all: "a", base: "x",
+  paper: "p",
+};
 for (const [id, key] of Object.entries(buttons)) part(id).addEventListener("click", () => keys[key]());
 takeSnapshots();
 seeSteps(0);

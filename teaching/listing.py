@@ -12,7 +12,8 @@ def bar(size, most):
 
 
 def outline(one):
-    yield f"{one.name}: version {one.image.version}, {one.image.size} bytes, {one.image.buffers} block buffers, begins with {entry(one)}"
+    image = one.image
+    yield f"{one.name}: version {image.version}, {image.size} bytes, {image.buffers} block buffers, begins with {entry(one)}"
     yield ""
     for begins, end, _, told in one.outline():
         yield f"{begins:6}  {end - begins:6}  {told:28} {bar(end - begins, images.MEMORY)}"
@@ -42,8 +43,8 @@ def word(one, header, mark=" "):
     found = one.at_link_field()
     before = texts.shown(found[header.link].name) if header.link in found else "-"
     signs = "".join(sign for sign, is_so in (("i", header.is_immediate), ("h", header.is_hidden)) if is_so)
-    sizes = f"{header.body - header.begins:4} {max(0, header.end - header.body):5}"
-    return f"{mark}{header.begins:6} {sizes}  {texts.shown(header.name):31} {signs:2} {regions.what(header):26} {header.chain()} {before}"
+    sizes = f"{header.begins:6} {header.body - header.begins:4} {max(0, header.end - header.body):5}"
+    return f"{mark}{sizes}  {texts.shown(header.name):31} {signs:2} {regions.what(header):26} {header.chain()} {before}"
 
 
 HEADING = "begins head  body  name                               what                       chain, and the word before in it"

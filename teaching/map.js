@@ -20,8 +20,10 @@ function drawChain(word) {
 }
 
 function tell(word) {
-  const box = word.getBBox(), lines = word.dataset.told.split("|"), width = 7.4 * Math.max(...lines.map((line) => line.length)) + 14;
-  const group = word.closest(".wide, .narrow").querySelector(".tell"), limit = document.documentElement.getBoundingClientRect().width;
+  const box = word.getBBox(), lines = word.dataset.told.split("|");
+  const width = 7.4 * Math.max(...lines.map((line) => line.length)) + 14;
+  const group = word.closest(".wide, .narrow").querySelector(".tell");
+  const limit = document.documentElement.getBoundingClientRect().width;
   const x = Math.max(2, Math.min(box.x, limit - width - 4)), y = box.y + box.height + 4;
   group.replaceChildren(made("rect", { x, y, width, height: 17 * lines.length + 8, rx: 4 }),
     ...lines.map((line, number) => made("text", { x: x + 7, y: y + 17 * (number + 1) - 1 }, line)));
@@ -63,5 +65,9 @@ document.addEventListener("keydown", (event) => {
   event.preventDefault();
   if (word) act(word); else first().focus();
 });
-document.addEventListener("focusin", (event) => { if (event.target.closest(".word")) choose(event.target.closest(".word")); });
-document.addEventListener("mouseover", (event) => { if (event.target.closest && event.target.closest(".word")) choose(event.target.closest(".word")); });
+for (const kind of ["focusin", "mouseover"]) {
+  document.addEventListener(kind, (event) => {
+    const word = event.target.closest ? event.target.closest(".word") : null;
+    if (word) choose(word);
+  });
+}

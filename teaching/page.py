@@ -125,14 +125,15 @@ def packed_steps(film, words, loops):
         place = -1 if step.address is None else words.place_of[step.address]
         shown = film.marks[number] if film.marks else 0
         row = None if step.address is None else words.row_at(step.address)
-        rows.append([place, step.frame, changes(data, step.data), changes(returns, step.returns), shown, loops.at(row, len(step.returns))])
+        rows.append([place, step.frame, changes(data, step.data), changes(returns, step.returns), shown,
+                     loops.at(row, len(step.returns))])
         data, returns = step.data, step.returns
     return rows
 
 
 def frames_of(film, words, fence):
-    """Each call with that in which it was made, its word, the return stack's depth before it, whether it is unfolded at first (those
-    of the system's words aren't), and the name of the word that it goes back to."""
+    """Each call with that in which it was made, its word, the return stack's depth before it, whether it is unfolded at first,
+    as those of the system's words aren't, and the name of the word that it goes back to."""
     first = {}
     for step in film.calls.steps:
         first.setdefault(step.frame, step)

@@ -33,7 +33,8 @@ def pages(read, numbers, shadow, name):
     for page in range(count):
         some = numbers[page * A_PAGE:(page + 1) * A_PAGE]
         rows = "".join(row(read, number, shadow) for number in some)
-        yield f'<section class="page"><h2>{escape(name)}: screens {some[0]} to {some[-1]} <small>page {page + 1} of {count}</small></h2>{rows}</section>'
+        title = f"{escape(name)}: screens {some[0]} to {some[-1]} <small>page {page + 1} of {count}</small>"
+        yield f'<section class="page"><h2>{title}</h2>{rows}</section>'
 
 
 def first_line(read, number):
@@ -69,16 +70,19 @@ def missing(references, known):
     if not found:
         return ""
     rows = "".join(f"<tr><td>{escape(name)}</td><td>{told_places(found[name])}</td></tr>" for name in sorted(found))
-    told = "<p>Neither defined in these screens nor words of this Forth, or no words at all, as what a word like TEXT reads behind it.</p>"
+    told = ("<p>Neither defined in these screens nor words of this Forth, or no words at all, as what a word like TEXT reads "
+            "behind it.</p>")
     head = "<thead><tr><th>word</th><th>used</th></tr></thead>"
     return f"<section><h2>Words that aren't known</h2>{told}<table>{head}<tbody>{rows}</tbody></table></section>"
 
 
 def document(name, parts, is_wide):
     """The whole of it; wide pages have shadows."""
-    style = (HERE / "print.css").read_text(encoding="utf-8") + (HERE / ("wide.css" if is_wide else "tall.css")).read_text(encoding="utf-8")
+    style = "".join((HERE / file).read_text(encoding="utf-8") for file in ("print.css", "wide.css" if is_wide else "tall.css"))
     allowed = "sha256-" + base64.b64encode(hashlib.sha256(style.encode()).digest()).decode()
     policy = f"default-src 'none'; style-src '{allowed}'"
-    head = (f'<!DOCTYPE html>\n{MARK}\n<html lang="en"><head><meta charset="utf-8"><meta http-equiv="Content-Security-Policy" content="{policy}">'
-            f'<meta name="viewport" content="width=device-width, initial-scale=1"><title>{escape(name)}</title><style>{style}</style></head>')
+    head = (f'<!DOCTYPE html>\n{MARK}\n<html lang="en"><head><meta charset="utf-8">'
+            f'<meta http-equiv="Content-Security-Policy" content="{policy}">'
+            f'<meta name="viewport" content="width=device-width, initial-scale=1">'
+            f"<title>{escape(name)}</title><style>{style}</style></head>")
     return f"{head}\n<body>\n" + "\n".join(parts) + "\n</body></html>\n"

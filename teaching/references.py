@@ -1,7 +1,7 @@
 """Where the words of screens are defined and used: the words are read as the Forth reads them, and nothing is executed.
 
-A comment goes up to its `)`, a text up to its quote, `\\` to the end of its line. A word defines the next one where it is `:`, one
-of the Forth's defining words outside a definition, or a word of these screens in whose definition such a word stands.
+A comment goes up to its `)`, a text up to its quote, `\\` to the end of its line. A word defines the next one where it is `:`,
+one of the Forth's defining words outside a definition, or a word of these screens in whose definition such a word stands.
 """
 import re
 

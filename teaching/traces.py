@@ -106,7 +106,7 @@ class Digest:
 
 
 def is_same(setting, image, header, digest, output, status):
-    """Whether `debug` of that word, over the image as it is, writes the lines of this digest, and the run shows and ends the same."""
+    """Whether `debug` of that word over the image as it is writes the lines of this digest, and shows and ends the same."""
     run, own = Run(setting, image, header.name.decode()), Digest()
     for line in run.lines():
         own.sum.update(line)

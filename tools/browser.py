@@ -10,6 +10,8 @@ import shutil
 import subprocess
 import tempfile
 
+OPTIONS = ("--headless", "--no-sandbox", "--disable-gpu", "--hide-scrollbars", "--remote-debugging-pipe",
+           "--disable-background-networking")
 NAMES = ("chromium", "chromium-browser", "google-chrome")
 CODES = {"ArrowLeft": 37, "ArrowUp": 38, "ArrowRight": 39, "ArrowDown": 40, "PageUp": 33, "PageDown": 34, "End": 35, "Home": 36,
          "Tab": 9, "Enter": 13}
@@ -29,11 +31,10 @@ class Browser:
         self.back, to_write = os.pipe()
         os.set_inheritable(to_read, True)
         os.set_inheritable(to_write, True)
-        words = [chromium(), "--headless", "--no-sandbox", "--disable-gpu", "--hide-scrollbars", "--remote-debugging-pipe",
-                 "--disable-background-networking", f"--user-data-dir={self.room.name}", f"--window-size={width},{height}", "about:blank"]
+        words = [chromium(), *OPTIONS, f"--user-data-dir={self.room.name}", f"--window-size={width},{height}", "about:blank"]
         command = ["bash", "-c", f'exec "$@" 3<&{to_read} 4>&{to_write}', "browser", *words]
-        self.running = subprocess.Popen(command, pass_fds=(to_read, to_write), stdin=subprocess.DEVNULL, stdout=subprocess.DEVNULL,
-                                        stderr=subprocess.DEVNULL)
+        nowhere = {"stdin": subprocess.DEVNULL, "stdout": subprocess.DEVNULL, "stderr": subprocess.DEVNULL}
+        self.running = subprocess.Popen(command, pass_fds=(to_read, to_write), **nowhere)
         os.close(to_read)
         os.close(to_write)
         self.rest, self.number, self.session, self.errors, self.asked, self.events = b"", 0, None, [], [], []

@@ -47,7 +47,8 @@ def cause(data):
 def image_file(version, buffers, size, content):
     """An image's file, field by field, as docs/MACHINE.md has it."""
     second = buffers.to_bytes(2, "little") if version == 2 else b""
-    return b"FTH83IMG" + version.to_bytes(2, "little") + second + (264).to_bytes(2, "little") + size.to_bytes(2, "little") + content
+    fields = [version.to_bytes(2, "little"), second, (264).to_bytes(2, "little"), size.to_bytes(2, "little")]
+    return b"FTH83IMG" + b"".join(fields) + content
 
 
 def check_images(cases):
@@ -61,10 +62,14 @@ def check_images(cases):
         cases.same("beginnings of an image", {"Truncated"}, {cause(data[:size]) for size in range(len(data))})
         cases.same("a byte behind an image", "TrailingBytes", cause(data + b"x"))
     for what, data, wanted in (
-            ("another magic", b"FTH83IMh" + bytes(300), "BadMagic"), ("version 3", image_file(3, 4, 300, content), "BadVersion"),
-            ("one buffer", image_file(2, 1, 300, content), "BadBuffers"), ("17 buffers", image_file(2, 17, 300, content), "BadBuffers"),
-            ("a small size", image_file(2, 4, 255, content), "BadSize"), ("a size past the limit", image_file(2, 16, 49153, content), "BadSize"),
-            ("a text", b"hello", "BadMagic"), ("version 3, cut", b"FTH83IMG\3", "BadVersion")):
+            ("another magic", b"FTH83IMh" + bytes(300), "BadMagic"),
+            ("a text", b"hello", "BadMagic"),
+            ("version 3", image_file(3, 4, 300, content), "BadVersion"),
+            ("version 3, cut", b"FTH83IMG\3", "BadVersion"),
+            ("one buffer", image_file(2, 1, 300, content), "BadBuffers"),
+            ("17 buffers", image_file(2, 17, 300, content), "BadBuffers"),
+            ("a small size", image_file(2, 4, 255, content), "BadSize"),
+            ("a size past the limit", image_file(2, 16, 49153, content), "BadSize")):
         cases.same(what, wanted, cause(data))
 
 
@@ -116,7 +121,10 @@ def check_lines(cases):
     """Lines of a trace, and those that are none."""
     lines = b"3068 DUP | 5 -1 | 2954 2768\n3070 A|B | | 1\n"
     cases.same("lines", [(3068, b"DUP", (5, -1), (2954, 2768)), (3070, b"A|B", (), (1,))], list(traces.parsed(lines)))
-    for what, bad, number in (("a cut line", lines[:-3], 2), ("a text", b"hello\n", 1), ("a cell that is none", b"1 A | x | \n", 1)):
+    for what, bad, number in (
+            ("a cut line", lines[:-3], 2),
+            ("a text", b"hello\n", 1),
+            ("a cell that is none", b"1 A | x | \n", 1)):
         cases.same(what, f"line {number} is no whole line of a trace", caught(lambda bad=bad: list(traces.parsed(bad))))
 
 
@@ -129,13 +137,15 @@ def check_calls(cases):
             (1002, end, (9,), (1, 502)), (502, other, (9,), (1,))):
         taken.take(address, effect, data, returns, (0, 0))
     taken.finish()
-    cases.same("frames", [(None, 1000, 1), (0, 2000, 2), (1, 2000, 3)], [(one.parent, one.begins, one.base) for one in taken.frames])
+    cases.same("frames", [(None, 1000, 1), (0, 2000, 2), (1, 2000, 3)],
+               [(one.parent, one.begins, one.base) for one in taken.frames])
     cases.same("steps of calls", [(1000, 0), (2000, 1), (2000, 2), (2002, 2), (2002, 1), (1002, 0), (None, 0)],
                [(step.address, step.frame) for step in taken.steps])
     cases.same("how it ended", [(0, calls.RETURNED)], taken.ends)
     taken = calls.Calls(1000, 1)
-    for address, effect, data, returns in ((500, (calls.CALL, 1000), (), (1,)), (1000, other, (), (1, 502)), (1002, other, (), (1, 502)),
-                                           (600, other, (1,), ())):
+    for address, effect, data, returns in (
+            (500, (calls.CALL, 1000), (), (1,)), (1000, other, (), (1, 502)), (1002, other, (), (1, 502)),
+            (600, other, (1,), ())):
         taken.take(address, effect, data, returns, (0, 0))
     cases.same("a fault, and what is cut", ([(0, calls.FAULTED)], 1, 2), (taken.ends, len(taken.steps), taken.met))
 
@@ -145,8 +155,9 @@ def check_shown(cases):
     memory = images.Memory(bytes(300))
     memory.bytes[282:285] = b"\2Hi"
     counter = shown.Shown(memory, b"ab\ncd")
-    for row, data, at in ((shown.EMIT, (65,), 0), (shown.EMIT, (), 1), (shown.TYPE, (9, 3), 1), (shown.TEXT, (), 4), (shown.EXPECT, (128, 80), 6),
-                          (shown.KEY, (), 9), (shown.EXPECT, (128, 80), 9), (shown.REFUSAL, (0,), 10), (shown.REFUSAL, (-1,), 10)):
+    for row, data, at in (
+            (shown.EMIT, (65,), 0), (shown.EMIT, (), 1), (shown.TYPE, (9, 3), 1), (shown.TEXT, (), 4),
+            (shown.EXPECT, (128, 80), 6), (shown.KEY, (), 9), (shown.EXPECT, (128, 80), 9), (shown.REFUSAL, (0,), 10), (shown.REFUSAL, (-1,), 10)):
         cases.same(f"bytes before row {row}", (at, 0), counter.mark())
         counter.meet(280, row, data)
     cases.same("what is shown in all", (12, 0), counter.mark())
@@ -154,17 +165,20 @@ def check_shown(cases):
     cases.same("a run that showed another byte", False, counter.is_right(b"Bxyz" b"Hi" b"ab " b"d" b"Hi"))
     cases.same("a run that showed more", False, counter.is_right(b"AxyzHiab dHi!"))
     counter.meet(280, shown.PARSED, ())
-    cases.same("a text whose length is what is left over", (True, 15), (counter.is_right(b"AxyzHiab dHi?!."), counter.place(counter.mark())))
+    cases.same("a run with a text whose length is what is left over", True, counter.is_right(b"AxyzHiab dHi?!."))
+    cases.same("where it ends", 15, counter.place(counter.mark()))
 
 
 def check_references(cases):
     """Two screens; words of comments and texts aren't counted, and TABLE defines what stands behind it."""
     read = screens.Screens()
-    read.lines[1] = ["( ROW isn't used here )", ": TABLE ( n -- ) CREATE ALLOT ;", "10 TABLE ROW", ': HI ." TABLE" ROW ;', "\\ ROW"]
+    read.lines[1] = ["( ROW isn't used here )", ": TABLE ( n -- ) CREATE ALLOT ;", "10 TABLE ROW", ': HI ." TABLE" ROW ;']
+    read.lines[1].append("\\ ROW")
     read.lines[2] = ["hi HI 0FF FOO", " " * 60 + ": A-", "B ROW ;"]
     found = references.References(read, [1, 2])
     cases.same("defined", {"TABLE": [(1, 1)], "ROW": [(1, 2)], "HI": [(1, 3)], "A-B": [(2, 1)]}, found.defined)
-    cases.same("used", {"TABLE": [(1, 2)], "ROW": [(1, 3), (2, 2)], "HI": [(2, 0)]}, {name: found.uses(name) for name in ("TABLE", "ROW", "HI")})
+    for name, places in (("TABLE", [(1, 2)]), ("ROW", [(1, 3), (2, 2)]), ("HI", [(2, 0)])):
+        cases.same(f"where {name} is used", places, found.uses(name))
     cases.same("not known", {"FOO": [(2, 0)]}, found.missing({"CREATE", "ALLOT", ":", ";", "(", '."', "\\"}))
 
 
@@ -191,5 +205,6 @@ def check_language(cases):
 
 
 def check(cases):
-    for act in (check_images, check_headers, check_lines, check_calls, check_shown, check_references, check_texts, check_language):
+    for act in (check_images, check_headers, check_lines, check_calls, check_shown, check_references, check_texts,
+                check_language):
         act(cases)

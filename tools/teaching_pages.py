@@ -10,14 +10,20 @@ def check_keys(tree, one):
     tree.film("SQUARES", "5 SQUARES")
     one.open(tree.room / "film.html")
     for keys, count, text in (
-            ([], "step 1 of 39", "next: (LIT) 0"), (["ArrowRight"], "step 2 of 39", "next: (DO)"), (["ArrowLeft"], "step 1 of 39", "next: (LIT) 0"),
-            (["End"], "step 39 of 39", "SQUARES is done."), (["ArrowRight"], "step 39 of 39", "SQUARES is done."), (["Home"], "step 1 of 39", "(LIT)"),
-            (["PageDown"], "step 11 of 39", "next: SQUARE ( n -- n*n )"), (["ArrowDown"], "step 12 of 39", "next: DUP"),
-            (["ArrowUp"], "step 11 of 36", "next: SQUARE"), (["a"], None, "next: SQUARE"), (["a"], "step 8 of 24", "next: SQUARE"),
-            (["Home", "PageDown", "PageUp"], "step 1 of 24", "(LIT) 0")):
+            ([], "1 of 39", "next: (LIT) 0"),
+            (["ArrowRight"], "2 of 39", "next: (DO)"),
+            (["ArrowLeft"], "1 of 39", "next: (LIT) 0"),
+            (["End"], "39 of 39", "SQUARES is done."),
+            (["ArrowRight"], "39 of 39", "SQUARES is done."),
+            (["Home"], "1 of 39", "next: (LIT) 0"),
+            (["PageDown"], "11 of 39", "next: SQUARE ( n -- n*n )"),
+            (["ArrowDown"], "12 of 39", "next: DUP"),
+            (["ArrowUp"], "11 of 36", "next: SQUARE"),
+            (["a"], "25 of 109", "next: SQUARE"),
+            (["a"], "8 of 24", "next: SQUARE"),
+            (["Home", "PageDown", "PageUp"], "1 of 24", "next: (LIT) 0")):
         one.press(*keys)
-        if count:
-            tree.cases.same(f"steps behind {keys}", count, one.value(COUNT))
+        tree.cases.same(f"steps behind {keys}", f"step {count}", one.value(COUNT))
         tree.cases.holds(f"what comes next behind {keys}", text, one.value(NEXT))
     one.press("End")
     tree.cases.same("the output at the end", "0 1 4 9 16 ", one.value('document.getElementById("output").textContent'))
@@ -29,13 +35,15 @@ def check_narrow(tree, one):
         one.size(width, height)
         for name in ("film.html", "hostile.html", "bytes.html", "long.html", "life.html"):
             one.open(tree.room / name)
-            tree.cases.same(f"the width of {name} at {width}", True, one.value("document.documentElement.scrollWidth <= innerWidth"))
+            fits = one.value("document.documentElement.scrollWidth <= innerWidth")
+            tree.cases.same(f"whether {name} fits in {width} columns of a window", True, fits)
 
 
 def check_hostile(tree, one):
     one.open(tree.room / "hostile.html")
     tree.cases.same("the name as a text", "</script><img/src=x>", one.value('document.querySelector("h1").textContent'))
-    tree.cases.same("elements of hostile texts", 0, one.value('document.querySelectorAll("img, i > *, h1 > *, #output i").length'))
+    made = one.value('document.querySelectorAll("img, i > *, h1 > *, #output i").length')
+    tree.cases.same("elements of hostile texts", 0, made)
     one.press("a", "End")
     tree.cases.same("hostile output", "<i>", one.value('document.getElementById("output").textContent'))
     one.open(tree.room / "bytes.html")
@@ -56,7 +64,8 @@ def check_paper(tree, one):
     one.open(tree.room / "film.html")
     one.value('document.getElementById("blank").click()')
     rows = 'Array.from(document.querySelectorAll("#sheet table"), (table) => table.rows[{}].cells[2].textContent)'
-    tree.cases.same("the data stack on paper, at step 1 and 5", (["5", "5"], ["", "0"]), (one.value(rows.format(1)), one.value(rows.format(5))))
+    tree.cases.same("the data stack on paper at step 1", ["5", "5"], one.value(rows.format(1)))
+    tree.cases.same("the data stack on paper at step 5", ["", "0"], one.value(rows.format(5)))
     one.paper(tree.room / "film.pdf")
     tree.cases.same("a film on paper", b"%PDF", (tree.room / "film.pdf").read_bytes()[:4])
     one.open(tree.room / "life.html")
@@ -68,16 +77,16 @@ def check_paper(tree, one):
 def check_map(tree, one):
     """A map by keys: the newest word, the one before it in its chain."""
     told = 'document.activeElement.dataset.told'
-    for name, words in (("map1-kernel.svg", 1), ("map2-two.svg", 2)):
+    for name, newest, before in (("map1-kernel.svg", "COLD", "?"), ("map2-two.svg", "SECOND", "COLD")):
         for width in (360, 1300):
             one.size(width, 800)
             one.open(tree.room / name)
             one.press("Home", "End")
-            tree.cases.holds(f"the newest word of {name}", "COLD" if words == 1 else "SECOND", one.value(told))
+            tree.cases.same(f"the newest word of {name}", newest, one.value(told).split(",")[0])
             one.press("Enter")
-            tree.cases.holds("the word before it in its chain", "SPACES" if words == 1 else "COLD", one.value(told) + " COLD SPACES")
+            tree.cases.same(f"the word before it in its chain in {name}", before, one.value(told).split(",")[0])
             chained = one.value('document.activeElement.parentNode.querySelectorAll(".link.on").length')
-            tree.cases.same(f"links of a chain in {name}", True, chained > 10)
+            tree.cases.same(f"whether a chain of {name} has links", True, chained > 10)
 
 
 def check(tree):

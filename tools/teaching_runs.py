@@ -108,8 +108,8 @@ def check_traces(tree):
         got = [step[:4] for step in steps if step[0] in own]
         under = [line for line in trace_of(tree, name, "5 SQUARES") if line[3][:len(steps[0][3])] == steps[0][3]]
         tree.cases.same(f"steps of {name}", under, got)
-    tree.cases.same("the end of a film", (None, None, (), steps[0][3][:-1], True, 0),
-                    (*steps[-1][:4], base64.b64decode(data["output"])[data["begins"]:steps[-1][4]] == b"0 1 4 9 16 ", steps[-1][5]))
+    tree.cases.same("the end of a film", (None, None, (), steps[0][3][:-1]), steps[-1][:4])
+    tree.cases.same("what is shown then", b"0 1 4 9 16 ", base64.b64decode(data["output"])[data["begins"]:steps[-1][4]])
 
 
 def interleaved(tree, name, line):
@@ -147,8 +147,9 @@ def places_by_terminal(tree, name, line):
 
 def check_output(tree):
     """What is shown at each step is what a terminal has seen by then."""
-    for name, line in (("SQUARES", "5 SQUARES"), ("TICKED", "TICKED"), ("ASKS", "ASKS\nxhello there"), ("DOWN", "3 DOWN .( a text)"),
-                       ("BYTES", "1 . BYTES 2 . BYTES"), ("LEAVES", "LEAVES"), ("CALLS", "CALLS")):
+    for name, line in (
+            ("SQUARES", "5 SQUARES"), ("TICKED", "TICKED"), ("ASKS", "ASKS\nxhello there"), ("DOWN", "3 DOWN .( a text)"),
+            ("BYTES", "1 . BYTES 2 . BYTES"), ("LEAVES", "LEAVES"), ("CALLS", "CALLS")):
         data, _, _ = tree.film(name, line)
         word = [one["name"] for one in data["words"]].index(name)
         own = {place[0] for place in data["places"] if place[1] == word}
@@ -179,7 +180,7 @@ def check_doubts(tree):
     data, page, _ = tree.film("PEEKS", "PEEKS")
     tree.cases.same("steps of a word that sees it", trace_of(tree, "PEEKS", "PEEKS"), [step[:4] for step in expanded(data)])
     tree.cases.same("its output", False, data["is_laid"])
-    tree.cases.holds("its page", "the run of all words was another one", page)
+    tree.cases.holds("its page", "for the steps of all words, told other lines", page)
     _, page, _ = tree.film("SQUARES", "5 SQUARES")
     tree.cases.holds("a page of four words", "debug was asked for 4 of the 4 words, SQUARES first", page)
 
@@ -217,8 +218,40 @@ def check_hostile(tree):
     tree.cases.holds("a word that isn't compared", "Not compared so", page)
 
 
+# The status, a part of what is said, and the words, with a bar between them where a word has blanks.
+REFUSALS = (
+    (1, "there is no word GONE", "film GONE"),
+    (1, "DUP has no thread", "film DUP"),
+    (1, "SQUARES wasn't done by: 5 .", "film SQUARES|5 ."),
+    (1, "gone.blk isn't there", "film SQUARES --blocks gone.blk"),
+    (1, "no whole blocks", "film SQUARES --blocks odd.bytes"),
+    (1, "Fault 13: the word over the mark isn't known", "film TALL --screens 22 22"),
+    (1, "cut.img is no image: Truncated", "film SQUARES --image cut.img"),
+    (1, "gone.img can't be read", "film SQUARES --image gone.img"),
+    (1, "cut.txt: line 2 is no whole line of a trace", "film SQUARES --image own.img --trace cut.txt"),
+    (1, "gone.txt can't be read", "film SQUARES --image own.img --trace gone.txt"),
+    (1, "notes.html is there already, and is no film", "film SQUARES|5 SQUARES|-o|notes.html"),
+    (1, "folder is a folder", "film SQUARES -o folder"),
+    (1, "there is no folder none", "film SQUARES -o none/x.html"),
+    (1, "/proc/film.html can't be", "film SQUARES|5 SQUARES|-o|/proc/film.html"),
+    (2, "usage", "film"),
+    (2, "usage", "film SQUARES --trace x"),
+    (2, "at least 1", "film SQUARES --steps 0"),
+    (1, "cut.img is no image that can be drawn: Truncated", "map cut.img"),
+    (1, "gone.img can't be read", "map gone.img"),
+    (1, "notes.html is there already, and is no map", "map own.img -o notes.html"),
+    (1, "/proc/map.svg can't be", "map own.img -o /proc/map.svg"),
+    (2, "usage", "map"),
+    (1, "gone.blk isn't there", "print gone.blk"),
+    (1, "has screens 0 to 63", "print forth.blk 3 99"),
+    (1, "notes.html is there already, and is no page of screens", "print forth.blk -o notes.html"),
+    (2, "two numbers", "print forth.blk 3"),
+)
+
+
 def listing(folder):
-    return {path.name: (path.stat().st_size, path.stat().st_mtime_ns) for path in folder.iterdir() if path.name not in ("workbench", "__pycache__")}
+    kept = [path for path in folder.iterdir() if path.name != "workbench"]
+    return {path.name: (path.stat().st_size, path.stat().st_mtime_ns) for path in kept}
 
 
 def check_refusals(tree):
@@ -230,20 +263,7 @@ def check_refusals(tree):
     (room / "odd.bytes").write_bytes(b"x" * 1000)
     (room / "folder").mkdir()
     before = listing(room)
-    for status, said, words in (
-            (1, "there is no word GONE", "film GONE"),
-            (1, "DUP has no thread", "film DUP"), (1, "SQUARES wasn't done by: 5 .", "film SQUARES|5 ."),
-            (1, "gone.blk isn't there", "film SQUARES --blocks gone.blk"), (1, "no whole blocks", "film SQUARES --blocks odd.bytes"),
-            (1, "Fault 13: the word over the mark isn't known", "film TALL --screens 22 22"), (1, "cut.img is no image: Truncated", "film SQUARES --image cut.img"),
-            (1, "gone.img can't be read", "film SQUARES --image gone.img"),
-            (1, "cut.txt: line 2 is no whole line of a trace", "film SQUARES --image own.img --trace cut.txt"),
-            (1, "notes.html is there already, and is no film", "film SQUARES|5 SQUARES|-o|notes.html"),
-            (1, "folder is a folder", "film SQUARES -o folder"), (1, "there is no folder none", "film SQUARES -o none/x.html"),
-            (1, "can't be", "film SQUARES|5 SQUARES|-o|/proc/film.html"), (2, "usage", "film"), (2, "usage", "film SQUARES --trace x"),
-            (2, "at least 1", "film SQUARES --steps 0"), (1, "cut.img is no image that can be drawn: Truncated", "map cut.img"),
-            (1, "gone.img can't be read", "map gone.img"), (1, "notes.html is there already", "map own.img -o notes.html"), (2, "usage", "map"),
-            (1, "can't be", "map own.img -o /proc/map.svg"), (1, "gone.blk isn't there", "print gone.blk"), (2, "two numbers", "print forth.blk 3"),
-            (1, "has screens 0 to 63", "print forth.blk 3 99"), (1, "notes.html is there already", "print forth.blk -o notes.html")):
+    for status, said, words in REFUSALS:
         name, *rest = words.split(" ", 1)
         got, text = tree.tool(name, *(rest[0].split("|" if "|" in rest[0] else " ") if rest else []))
         tree.cases.same(f"the status of {words}", status, got)
@@ -270,7 +290,8 @@ def check_maps(tree):
     for words in (["screens", "two.txt", "forth.blk"], ["load", "kernel.img", "forth.blk", "30", "30", "two.img"]):
         tree.forth(*words)
     status, text = tree.tool("map", "kernel.img", "two.img", "--text")
-    tree.cases.same("the words that came", ["FIRST", "SECOND"], [line.split()[4] for line in text.splitlines() if line.startswith("+")])
+    came = [line.split()[4] for line in text.splitlines() if line.startswith("+")]
+    tree.cases.same("the words that came", ["FIRST", "SECOND"], came)
     tree.cases.holds("what changed", "HERE went from 3055 to 3092", text)
     for words in (["kernel.img"], ["kernel.img", "two.img"], ["own.img"], [str(ROOT / "examples/hi.img")]):
         status, said = tree.tool("map", *words, "-o", "map.svg")
@@ -332,8 +353,9 @@ def check_pages(tree):
         wanted.append("\n".join(f"{number:2} {line}".rstrip() for number, line in enumerate(lines[:16])))
     tree.cases.same("the screens on pages", wanted, texts_of(tree.room / "life.html", "pre"))
     cells = texts_of(tree.room / "life.html", "td")
-    for name, defined, used in (("ALIVE", "1.11", "3.3"), ("POPULATION", "2.14", "nowhere here"), ("CELL", "1.7", "1.11.14, 2.3.7.12"),
-                                ("WIDE", "1.2", "1.4.5.7.9, 2.6.8.11.14")):
+    for name, defined, used in (
+            ("ALIVE", "1.11", "3.3"), ("POPULATION", "2.14", "nowhere here"), ("CELL", "1.7", "1.11.14, 2.3.7.12"),
+            ("WIDE", "1.2", "1.4.5.7.9, 2.6.8.11.14")):
         tree.cases.same(f"where {name} is", [defined, used], cells[cells.index(name) + 1:cells.index(name) + 3])
     check_shadows(tree)
 
@@ -377,23 +399,21 @@ def checked(tree, blocks, number):
 
 def check_course(tree):
     """Each solution is right, each blank screen and each wrong answer is told; what is typed behind it is shown."""
-    course, solutions = ROOT / "teaching/course.txt", ROOT / "teaching/solutions.txt"
     for number in range(1, 13):
-        for name, text in (("blank", None), ("solved", solutions), ("wrong", WRONG[number][0])):
-            (tree.room / "c.blk").unlink(missing_ok=True)
-            if isinstance(text, str):
-                (tree.room / "wrong.txt").write_text(text + "\n", encoding="ascii")
-                text = "wrong.txt"
-            for words in (["new", "c.blk", "64"], ["screens", str(course), "c.blk"], *([["screens", str(text), "c.blk"]] if text else [])):
-                tree.forth(*words)
-            said = checked(tree, "c.blk", number)
-            wanted = {"blank": "leaves nothing" if number == 1 else "isn't there yet", "solved": f"Lesson {number} is right.",
-                      "wrong": WRONG[number][1]}[name]
-            tree.cases.holds(f"lesson {number}, {name}", wanted, said)
+        wanted = {"blank": "leaves nothing" if number == 1 else "isn't there yet", "solved": f"Lesson {number} is right.",
+                  "wrong": WRONG[number][1]}
+        (tree.room / "wrong.txt").write_text(WRONG[number][0] + "\n", encoding="ascii")
+        for name, text in (("blank", None), ("solved", str(ROOT / "teaching/solutions.txt")), ("wrong", "wrong.txt")):
+            (tree.room / f"{name}.blk").unlink(missing_ok=True)
+            tree.forth("new", f"{name}.blk", "64")
+            for screens in filter(None, (str(ROOT / "teaching/course.txt"), text)):
+                tree.forth("screens", screens, f"{name}.blk")
+            said = checked(tree, f"{name}.blk", number)
+            tree.cases.holds(f"lesson {number}, {name}", wanted[name], said)
             tree.cases.holds(f"lesson {number}, behind {name}", "1 2 + . 3  ok", said)
 
 
 def check(tree):
-    for act in (check_traces, check_output, check_ends, check_doubts, check_cuts, check_hostile, check_refusals, check_maps, check_pages,
-                check_course):
+    for act in (check_traces, check_output, check_ends, check_doubts, check_cuts, check_hostile, check_refusals, check_maps,
+                check_pages, check_course):
         act(tree)
