@@ -35,7 +35,10 @@ usage: ./forth [BLOCKS]                      works on the file BLOCKS, forth.blk
        ./forth --proved [BLOCKS]             waits for the proved program, where it isn't there yet
        ./forth --unproved [BLOCKS]           runs the program without proofs, and has nothing proved
        ./forth --status                      says which program is there, and how far its proof is
-A name that begins with - is written as ./-NAME.
+       ./forth film NAME [LINE]              makes a page that shows each step of the word NAME; film --help tells more
+       ./forth map IMAGE [OTHER]             makes a map of an image's memory
+       ./forth print [BLOCKS] [FROM TO]      makes pages of screens, to be printed
+A name that begins with - is written as ./-NAME, a block file that is called film, map or print as ./film.
 END
   exit "$1"
 }
@@ -439,6 +442,9 @@ make_own() {
 }
 
 sources=
+case ${1:-} in
+  film | map | print) command -v python3 > /dev/null || refuse "$1 needs python3, which isn't there"; exec python3 -B "$here/teaching/$1" "${@:2}" ;;
+esac
 own=
 while [ $# -gt 0 ]; do
   case $1 in

@@ -1,0 +1,95 @@
+"""The steps of a word's calls, and of what it calls, among the lines of a run.
+
+A call begins behind a step whose token is a colon word, or one that DOES> made; it ends behind EXIT, when the return stack is
+no deeper than before the call. A fault empties the return stack and ends all of them.
+"""
+import images
+
+CALL, END, CLEAR, OTHER = "call", "end", "clear", "other"
+EXIT, EXECUTE, DOES, RCLEAR = 5, 15, 18, 24
+RETURNED, FAULTED, LEFT, CUT = "returned", "faulted", "left", "cut"
+
+
+class Frame:
+    """A call: that in which it was made or None, the address where it began, and the return stack's depth before it."""
+
+    def __init__(self, parent, begins, base):
+        self.parent, self.begins, self.base = parent, begins, base
+
+
+class Step:
+    """What stands before a step: the place of its token or None behind the last one, the call that it belongs to, the stacks,
+    and the mark of what was shown."""
+
+    def __init__(self, address, frame, data, returns, mark):
+        self.address, self.frame, self.data, self.returns, self.mark = address, frame, data, returns, mark
+
+
+def effect_of(memory, code_field):
+    """What a step does to calls, and where a call goes on. A code of 256 or more is a thread behind DOES>."""
+    row = memory.cell(code_field)
+    if row == images.COLON:
+        return CALL, (code_field + 2) & 0xFFFF
+    if row >= 256:
+        return CALL, row
+    return {EXIT: END, DOES: END, RCLEAR: CLEAR}.get(row, OTHER), None
+
+
+class Calls:
+    """Keeps at most so many steps of the calls of the word that begins at an address."""
+
+    def __init__(self, begins, most):
+        self.begins, self.most = begins, most
+        self.frames, self.steps, self.ends = [], [], []
+        self.open, self.last, self.target, self.met = [], OTHER, None, 0
+
+    def take(self, address, effect, data, returns, mark):
+        """A line of the run, in its order, and what its step does to calls."""
+        self.follow(address, data, returns, mark)
+        if self.open:
+            self.keep(address, data, returns, mark)
+        self.last, self.target = effect
+
+    def follow(self, address, data, returns, mark):
+        """What the step before did to the calls."""
+        if self.open:
+            if not returns and len(data) == 1 and self.frames[self.open[0]].base > 0 and self.last not in (END, CLEAR):
+                self.leave(data, returns, mark, FAULTED)
+            elif self.last == CLEAR:
+                self.leave(data, returns, mark, LEFT)
+            elif self.last == END:
+                self.end(data, returns, mark)
+        if self.last == CALL and address == self.target and (self.open or address == self.begins):
+            self.begin(address, len(returns) - 1)
+
+    def begin(self, address, base):
+        self.frames.append(Frame(self.open[-1] if self.open else None, address, base))
+        self.open.append(len(self.frames) - 1)
+
+    def end(self, data, returns, mark):
+        root = self.open[0]
+        while self.open and self.frames[self.open[-1]].base >= len(returns):
+            self.open.pop()
+        if not self.open:
+            self.close(root, data, returns, mark, RETURNED)
+
+    def leave(self, data, returns, mark, how):
+        root = self.open[0]
+        self.open = []
+        self.close(root, data, returns, mark, how)
+
+    def close(self, root, data, returns, mark, how):
+        """The state behind a call of the word, which no step follows."""
+        if self.steps and self.steps[-1].frame >= root and self.met <= self.most:
+            self.steps.append(Step(None, root, data, returns, mark))
+        self.ends.append((root, how))
+
+    def keep(self, address, data, returns, mark):
+        self.met += 1
+        if self.met <= self.most:
+            self.steps.append(Step(address, self.open[-1], data, returns, mark))
+
+    def finish(self):
+        """The run is over. A call that is open then was cut, or the machine halted in it."""
+        if self.open:
+            self.ends.append((self.open[0], CUT))

@@ -1,0 +1,268 @@
+"""An image's map as SVG: memory in rows of as many bytes as are wide, each byte a column; a name's letters stand on its bytes.
+
+Each map is drawn twice into one file, for wide and for narrow windows, and the style shows the one that fits.
+"""
+import pathlib
+from html import escape
+
+import images
+import listing
+import regions
+import texts
+
+HERE = pathlib.Path(__file__).resolve().parent
+MARK = "<!-- a map of ./forth map -->"
+BYTE, ROW, GUTTER, LINE, LETTER, TITLE_LETTER = 13, 24, 56, 17, 7.3, 8.1
+
+
+class Canvas:
+    """What is drawn, and how far down it reaches."""
+
+    def __init__(self, width):
+        self.width, self.y, self.parts = width, 8, []
+
+    def add(self, text):
+        self.parts.append(text)
+
+    def line(self, text, kind="told", x=8):
+        """A line of text, cut into as many as the width needs."""
+        most = max(12, int((self.width - x) / (TITLE_LETTER if kind == "title" else LETTER)))
+        while text:
+            cut = len(text) if len(text) <= most else (text.rfind(" ", 1, most) if " " in text[1:most] else most)
+            self.y += LINE
+            self.add(f'<text class="{kind}" x="{x}" y="{self.y - 4}">{escape(text[:cut])}</text>')
+            text = text[cut:].lstrip()
+
+    def room(self, height):
+        self.y += height
+
+
+class Grid:
+    """Where the bytes of one image's dictionary stand: so many a row, from an x and a y on."""
+
+    def __init__(self, one, x, y, wide):
+        self.one, self.x, self.y, self.wide = one, x, y, wide
+        self.first = images.DICTIONARY // wide
+
+    def rows(self):
+        return max(1, -(-self.one.top // self.wide) - self.first)
+
+    def spot(self, address):
+        """The left upper corner of a byte."""
+        return self.x + GUTTER + address % self.wide * BYTE, self.y + (address // self.wide - self.first) * ROW
+
+    def pieces(self, begins, end):
+        """The pieces of a region, one a row: x, y, how many bytes."""
+        while begins < end:
+            count = min(end - begins, self.wide - begins % self.wide)
+            yield (*self.spot(begins), count)
+            begins += count
+
+    def boxes(self, begins, end, kind):
+        return "".join(f'<rect class="{kind}" x="{x}" y="{y + 2}" width="{count * BYTE}" height="{ROW - 6}"/>'
+                       for x, y, count in self.pieces(begins, end))
+
+    def letters(self, header):
+        """The name, each letter on its byte."""
+        drawn, at = [], header.link_field + 3
+        for byte in header.name:
+            x, y = self.spot(at)
+            letter = chr(byte) if 32 < byte < 127 else "·"
+            drawn.append(f'<text class="letter" x="{x + BYTE / 2}" y="{y + 15}">{escape(letter)}</text>')
+            at += 1
+        return "".join(drawn)
+
+    def contains(self, address):
+        return images.DICTIONARY <= address < self.one.top
+
+    def arc(self, header):
+        """The link from a word to the one before it in its chain."""
+        if not header.link or not self.contains(header.link - 2):
+            return ""
+        x, y = self.spot(header.link_field)
+        to_x, to_y = self.spot(header.link - 2)
+        x, to_x = x + BYTE, to_x + BYTE / 2
+        if y == to_y:
+            way = f"M{x} {y + ROW - 5}v3H{to_x}v-3"
+        else:
+            bend = (y + to_y + ROW) / 2
+            way = f"M{x} {y + 4}C{x} {bend} {to_x} {bend} {to_x} {to_y + ROW - 5}"
+        return f'<path class="link c{header.chain()}" data-from="{header.link_field}" d="{way}"/>'
+
+
+def told_of(one, header):
+    """What is told of a word, in lines."""
+    found = one.at_link_field()
+    before = texts.shown(found[header.link].name) if header.link in found else "none"
+    size = max(0, header.end - header.body)
+    signs = [sign for sign, is_so in (("immediate", header.is_immediate), ("hidden", header.is_hidden)) if is_so]
+    view = f", screen {header.view}" if header.view else ""
+    return [", ".join([texts.shown(header.name), regions.what(header), *signs]) + view,
+            f"header {header.begins} to {header.body - 1}, behind it {size} bytes",
+            f"chain {header.chain()}, the word before: {before}"]
+
+
+def word(grid, header):
+    """A word as a group that keys reach."""
+    lines = told_of(grid.one, header)
+    drawn = "".join(grid.boxes(region.begins, region.end, region.kind) for region in regions.parts_of(header))
+    link = grid.boxes(header.link_field, header.link_field + 2, f"cell c{header.chain()}")
+    told = escape("|".join(line.replace("|", "¦") for line in lines))
+    return (f'<g class="word" tabindex="0" data-at="{header.link_field}" data-link="{header.link}" data-told="{told}">'
+            f'<title>{escape(chr(10).join(lines))}</title>{drawn}{link}{grid.letters(header)}</g>')
+
+
+def newest_chain(one):
+    """The link fields of the chain in which the newest word is."""
+    newest = one.at_link_field().get(one.image.memory.cell(images.LAST)) or (one.words[-1] if one.words else None)
+    found, all_headers = [], one.at_link_field()
+    while newest and newest.link_field not in found:
+        found.append(newest.link_field)
+        newest = all_headers.get(newest.link)
+    return found
+
+
+def draw_grid(canvas, grid, runs):
+    """The dictionary's rows with their addresses, words, links, and what changed."""
+    canvas.add('<g class="half">')
+    for row in range(grid.rows()):
+        address = (grid.first + row) * grid.wide
+        canvas.add(f'<text class="address" x="{grid.x + GUTTER - 6}" y="{grid.y + row * ROW + 15}">{address}</text>')
+    for region in grid.one.regions():
+        if region.header is None:
+            canvas.add(grid.boxes(region.begins, region.end, region.kind))
+    canvas.add("".join(word(grid, header) for header in grid.one.words))
+    marked = set(newest_chain(grid.one))
+    arcs = "".join(grid.arc(header).replace('class="link', 'class="link on' if header.link_field in marked else 'class="link')
+                   for header in grid.one.words)
+    canvas.add(f'<g class="links">{arcs}</g>')
+    canvas.add("".join(grid.boxes(begins, end, "changed") for begins, end in runs))
+    if images.DICTIONARY <= grid.one.here <= grid.one.top:
+        x, y = grid.spot(grid.one.here)
+        canvas.add(f'<path class="here" d="M{x} {y}v{ROW - 2}"/>')
+        canvas.add(f'<text class="told" x="{x + 4}" y="{y + 15}">HERE {grid.one.here}</text>')
+    canvas.add("</g>")
+
+
+def draw_strip(canvas, one):
+    """All of memory to scale, and what its parts are."""
+    scale, y = (canvas.width - 24) / images.MEMORY, canvas.y + 6
+    for begins, end, kind, told in one.outline():
+        x, width = 8 + begins * scale, max(1, (end - begins) * scale)
+        canvas.add(f'<rect class="{kind}" x="{x:.2f}" y="{y}" width="{width:.2f}" height="26">'
+                   f'<title>{escape(told)}: {begins} to {end - 1}</title></rect>')
+    canvas.room(34)
+    for begins, end, kind, told in one.outline():
+        if kind == "buffer" and begins > one.limit:
+            continue
+        canvas.add(f'<rect class="{kind}" x="8" y="{canvas.y + 3}" width="12" height="12"/>')
+        if kind == "buffer":
+            told, end = f"{one.image.buffers} block buffers", images.MEMORY
+        canvas.line(f"{begins} to {end - 1}: {told}, {end - begins} bytes", x=28)
+
+
+def draw_cells(canvas, one):
+    memory = one.image.memory
+    canvas.line("System cells", "heading")
+    canvas.line(", ".join(f"{name} {memory.cell(address)}" for address, name in images.CELLS.items()))
+    found = one.at_link_field()
+    canvas.line("Vocabularies, and the newest word of each chain", "heading")
+    for name, record, heads in one.vocabularies():
+        newest = [texts.shown(found[head].name) if head in found else "none" for head in heads]
+        canvas.line(f"{name} at {record}: {', '.join(f'{number} {text}' for number, text in enumerate(newest))}")
+
+
+COLOURS = (
+    ("header", "header with its name"), ("cell c0", "its link cell, by chain: 0"), ("cell c1", "1"), ("cell c2", "2"),
+    ("cell c3", "3"), ("code", "code field"), ("thread", "thread"), ("data", "data"), ("record", "vocabulary"),
+    ("other", "bytes of no word"),
+)
+ADVICE = ("The line is the chain of the newest word. Tab and the arrows go from word to word, "
+          "Enter to the word before in its chain.")
+
+
+def draw_key(canvas):
+    """What the colours are."""
+    canvas.line("The dictionary, each byte a column", "heading")
+    x, y = 8, canvas.y + 4
+    for kind, told in COLOURS:
+        width = 20 + (len(told) + 2) * LETTER
+        if x + width > canvas.width:
+            x, y = 8, y + LINE
+        canvas.add(f'<rect class="{kind}" x="{x}" y="{y}" width="12" height="12"/>')
+        canvas.add(f'<text class="told" x="{x + 17}" y="{y + 11}">{told}</text>')
+        x += width
+    canvas.y = y + LINE + 4
+    canvas.line(ADVICE)
+
+
+def title(one):
+    return f"{one.name}: an image of version {one.image.version}, {one.image.size} bytes, begins with {listing.entry(one)}"
+
+
+def draw_one(one, wide):
+    canvas = Canvas(GUTTER + wide * BYTE + 24)
+    canvas.line(title(one), "title")
+    draw_strip(canvas, one)
+    draw_cells(canvas, one)
+    draw_key(canvas)
+    canvas.room(8)
+    grid = Grid(one, 0, canvas.y, wide)
+    draw_grid(canvas, grid, [])
+    canvas.room((grid.rows() + 1) * ROW)
+    canvas.line(f"Behind it {one.limit - one.top} bytes are free, up to {one.limit}; they aren't drawn.")
+    canvas.room(80)
+    return canvas
+
+
+def draw_changes(canvas, changes):
+    canvas.line("What changed from the first to the second", "heading")
+    for told, headers in (("Words that came", changes.came), ("Words that went", changes.went),
+                          ("Words with other bytes", [header for _, header in changes.changed])):
+        names = " ".join(texts.shown(header.name) for header in headers[:200])
+        canvas.line(f"{told}: {len(headers)}. {names}{' ..' if len(headers) > 200 else ''}")
+    for name, before, behind in changes.cells():
+        canvas.line(f"{name}: {before}, then {behind}", x=28)
+    canvas.line(f"{changes.bytes()} of 65536 bytes differ. What differs in the dictionary has a frame.")
+
+
+def draw_two(first, second, wide):
+    changes = regions.Changes(first, second)
+    canvas = Canvas(2 * (GUTTER + wide * BYTE + 24))
+    for one in (first, second):
+        canvas.line(title(one), "title")
+        draw_strip(canvas, one)
+    draw_changes(canvas, changes)
+    draw_key(canvas)
+    canvas.room(8)
+    runs = changes.runs(images.DICTIONARY, max(first.top, second.top))
+    grids = [Grid(first, 0, canvas.y, wide), Grid(second, canvas.width // 2, canvas.y, wide)]
+    for grid in grids:
+        draw_grid(canvas, grid, [(begins, min(end, grid.one.top)) for begins, end in runs if begins < grid.one.top])
+    canvas.room((max(grid.rows() for grid in grids) + 1) * ROW + 80)
+    return canvas
+
+
+def group(canvas, kind):
+    return f'<g class="{kind}">{"".join(canvas.parts)}<g class="tell"></g></g>'
+
+
+def svg(wide, narrow, text):
+    """One file of both drawings."""
+    style = (HERE / "map.css").read_text(encoding="utf-8")
+    script = (HERE / "map.js").read_text(encoding="utf-8")
+    sizes = (f".narrow {{ display: none; }} svg {{ width: {wide.width}px; height: {wide.y}px; }}\n"
+             f"@media (max-width: {wide.width}px) {{ .wide {{ display: none; }} .narrow {{ display: inline; }} "
+             f"svg {{ width: {narrow.width}px; height: {narrow.y}px; }} }}\n")
+    return (f'<?xml version="1.0" encoding="UTF-8"?>\n{MARK}\n<svg xmlns="http://www.w3.org/2000/svg" width="{wide.width}" '
+            f'height="{wide.y}">\n<title>{escape(text)}</title>\n<style>\n{style}{sizes}</style>\n'
+            f'<rect class="paper" width="100%" height="100%"/>\n{group(wide, "wide")}\n{group(narrow, "narrow")}\n'
+            f'<script><![CDATA[\n{script}]]></script>\n</svg>\n')
+
+
+def map_of(one):
+    return svg(draw_one(one, 64), draw_one(one, 24), title(one))
+
+
+def map_of_two(first, second):
+    return svg(draw_two(first, second, 40), draw_two(first, second, 10), f"{first.name} and {second.name}")

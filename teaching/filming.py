@@ -1,0 +1,145 @@
+"""A word's film: the steps of its calls in one run, and what is known of them.
+
+The steps come from one run of all words' lines (traces.py). They count where `debug` of the word itself, over the image as it
+is, tells the same lines, and shows the same. Else the film is made of the word's own lines alone.
+"""
+import shown
+import traces
+from calls import Calls, effect_of
+
+EVERY = 20000
+
+
+class Place:
+    """A place of memory where a token stands: as a line says it, and what its step does."""
+
+    def __init__(self, memory, dictionary, digests, address):
+        code_field = memory.cell(address)
+        self.address, self.row = address, memory.cell(code_field)
+        self.shows = self.row in shown.SHOWING
+        self.effect = effect_of(memory, code_field)
+        self.line = b"%d %s" % (address, dictionary.name_of(code_field))
+        self.digest = digests[address]
+
+
+class Film:
+    """The calls of a word that were met, and the run's output; `exact` has the words whose lines were compared."""
+
+    def __init__(self, calls, output, status):
+        self.calls, self.output, self.status = calls, output, status
+        self.marks = None
+        self.exact, self.others = [], []
+        self.is_whole = True
+
+
+def digests_of(dictionary):
+    """A digest for each colon word, by the addresses of its thread; the others of memory have one together."""
+    found, digests = {}, [traces.Digest()] * 65536
+    for header in dictionary.headers:
+        if header.is_colon():
+            found[header.begins] = traces.Digest()
+            digests[header.body:header.end] = [found[header.begins]] * max(0, header.end - header.body)
+    return found, digests
+
+
+class Whole:
+    """Reads the lines of a run of all words."""
+
+    def __init__(self, image, dictionary, calls, typed):
+        self.memory, self.dictionary, self.calls = image.memory, dictionary, calls
+        self.by_word, self.digests = digests_of(dictionary)
+        self.counter, self.places = shown.Shown(image.memory, typed), {}
+
+    def place(self, where):
+        place = self.places[where] = Place(self.memory, self.dictionary, self.digests, int(where))
+        return place
+
+    def take(self, line):
+        """A line `3068 ? | 5 5 | 2954 2768`."""
+        blank = line.index(b" ")
+        place = self.places.get(line[:blank]) or self.place(line[:blank])
+        rest = line[blank + 2:]
+        place.digest.take(place.line + rest)
+        if place.shows or self.calls.open or place.address == self.calls.begins:
+            self.step(place, rest)
+        else:
+            self.calls.last, self.calls.target = place.effect
+
+    def step(self, place, rest):
+        """A line that tells more than where the run is."""
+        _, data, returns = rest.split(b"|")
+        data, returns = tuple(map(int, data.split())), tuple(map(int, returns.split()))
+        mark, row, effect, stack = self.counter.mark(), place.row, place.effect, data
+        while row == shown.EXECUTE and stack:
+            code_field, stack = stack[-1] & 0xFFFF, stack[:-1]
+            row, effect = self.memory.cell(code_field), effect_of(self.memory, code_field)
+        self.calls.take(place.address, effect, data, returns, mark)
+        self.counter.meet(place.address, row, stack)
+
+
+def whole_film(setting, image, dictionary, header, most, progress):
+    """The film of one run of all words, before it is compared with anything."""
+    path = setting.room / "whole.img"
+    traces.without_headers(image, path)
+    reader = Whole(image, dictionary, Calls(header.body, most), setting.typed)
+    run = traces.Run(setting, path, traces.lowest_colon(dictionary).name.decode())
+    for number, line in enumerate(run.lines()):
+        reader.take(line)
+        if number % EVERY == 0:
+            progress.tell(f"{number:,} steps of the run so far")
+    reader.calls.finish()
+    film = Film(reader.calls, run.output, run.status)
+    if reader.counter.is_right(run.output):
+        film.marks = [reader.counter.place(step.mark) for step in film.calls.steps]
+    return film, reader.by_word
+
+
+def words_of(film, dictionary):
+    """The colon words whose threads the film's steps stand in, each once, in the order of the film."""
+    owner, found = {}, []
+    for header in dictionary.headers:
+        if header.is_colon():
+            owner.update((address, header) for address in range(header.body, header.end))
+    for step in film.calls.steps:
+        header = owner.get(step.address)
+        if header and header not in found:
+            found.append(header)
+    return found
+
+
+def compare(setting, image_path, film, dictionary, header, by_word, progress):
+    """Compares the film's words with `debug` of each; whether the word itself is the same."""
+    words = words_of(film, dictionary)
+    for number, word in enumerate([header] + [other for other in words if other is not header]):
+        progress.tell(f"comparing {number + 1} of {len(words)} words with debug")
+        is_found = traces.is_nameable(word) and dictionary.find(word.name) is word
+        if is_found and traces.is_same(setting, image_path, word, by_word[word.begins], film.output, film.status):
+            film.exact.append(word)
+        elif word is header:
+            return False
+        else:
+            film.others.append(word)
+    return True
+
+
+def single_film(lines, begins, most, output, status):
+    """The film of a word's own lines: its calls of others are single steps."""
+    calls = Calls(begins, most)
+    calls.begin(begins, 0)
+    for where, _, data, returns in traces.parsed(lines):
+        calls.keep(where, data, returns, (0, 0))
+    film = Film(calls, output, status)
+    film.is_whole = False
+    return film
+
+
+def filmed(setting, image_path, image, dictionary, header, most, progress):
+    """The film of a word: of the whole run, or where that isn't what `debug` of the word tells, of the word's own lines."""
+    film, by_word = whole_film(setting, image, dictionary, header, most, progress)
+    if compare(setting, image_path, film, dictionary, header, by_word, progress):
+        return film
+    run = traces.Run(setting, image_path, header.name.decode())
+    lines = b"".join(run.lines())
+    film = single_film(lines, header.body, most, run.output, run.status)
+    film.exact.append(header)
+    return film

@@ -1,0 +1,33 @@
+"""What docs/WORDS.md says of each word: its stack effect and a sentence."""
+import re
+
+import program
+
+ROW = re.compile(r"^\| `(\S+)` \| `([^`]*)` \| (?:yes)? ?\| (.+) \|$", re.M)
+
+
+def entries():
+    """The rows of each name, in the order of the page: the kernel's, then the tools'."""
+    found = {}
+    page = program.ROOT / "docs/WORDS.md"
+    if page.is_file():
+        for name, effect, says in ROW.findall(page.read_text(encoding="utf-8")):
+            found.setdefault(name.encode(), []).append((effect, says.replace("`", "")))
+    return found
+
+
+class Manual:
+    """The manual, beside the headers of an image: the second header of a name is the tools' word of that name."""
+
+    def __init__(self, dictionary, fence):
+        self.rows, self.places, self.fence = entries(), {}, fence
+        for header in dictionary.headers:
+            if header.begins < fence:
+                self.places.setdefault(header.name, []).append(header.begins)
+
+    def of(self, header):
+        """The effect and the sentence of a word of the system, or two empty texts."""
+        if header is None or header.begins >= self.fence or header.name not in self.rows:
+            return "", ""
+        rows = self.rows[header.name]
+        return rows[min(self.places[header.name].index(header.begins), len(rows) - 1)]

@@ -1,0 +1,198 @@
+"""A film as one page of HTML: what its script needs as JSON, and the page around it."""
+import base64
+import hashlib
+import html
+import json
+import pathlib
+
+import calls
+import screens
+import texts
+import threads
+
+HERE = pathlib.Path(__file__).resolve().parent
+MARK = "<!-- a film of ./forth film -->"
+DO = 9
+POLICY = "default-src 'none'; script-src '{}'; style-src '{}'; img-src data:"
+
+
+def source_of(header, fence, sources, forth83, image_path):
+    """The lines of a word that isn't the system's in its screen, or what SEE makes of its thread."""
+    name = texts.shown(header.name)
+    if sources and header.begins >= fence and header.view in sources.lines:
+        lines = screens.definition(sources.lines[header.view], name)
+        if lines:
+            return "\n".join(lines), f"screen {header.view}"
+    try:
+        done = forth83.run(["see", "--", image_path, header.name.decode()])
+    except (UnicodeDecodeError, ValueError):
+        return "", ""
+    if done.returncode:
+        return "", ""
+    return done.stdout.decode("utf-8", "replace").strip(), "SEE"
+
+
+class Words:
+    """The words of a film, by their threads' addresses, as the page has them."""
+
+    def __init__(self, film, dictionary, manual, source):
+        self.dictionary, self.manual, self.source = dictionary, manual, source
+        self.words, self.place_of, self.entries = [], {}, []
+        self.told, self.owner = {}, {}
+        for header in self.headers(film):
+            self.add(header)
+        for step in film.calls.steps:
+            if step.address is not None and step.address not in self.place_of:
+                self.add_place(None, threads.token_at(dictionary, step.address))
+
+    def headers(self, film):
+        """The colon words in whose threads the steps stand, in the order of the film."""
+        for header in self.dictionary.headers:
+            if header.is_colon():
+                self.owner.update((address, header) for address in range(header.body, header.end))
+        found = [self.owner.get(frame.begins) for frame in film.calls.frames]
+        found += [self.owner.get(step.address) for step in film.calls.steps]
+        return list(dict.fromkeys(header for header in found if header))
+
+    def row_at(self, address):
+        return self.dictionary.memory.cell(self.dictionary.memory.cell(address))
+
+    def name_at(self, address):
+        """The name of the word in whose thread an address lies."""
+        return texts.shown(self.owner[address].name) if address in self.owner else "?"
+
+    def word_at(self, address):
+        """The number of the word in whose thread an address lies, -1 where it is none of the film's."""
+        word = self.entries[self.place_of[address]][1] if address in self.place_of else None
+        return -1 if word is None else word
+
+    def add(self, header):
+        text, where = self.source(header)
+        effect, says = self.manual.of(header)
+        self.words.append({"name": texts.shown(header.name), "source": text, "from": where, "effect": effect, "says": says})
+        for token in threads.thread(self.dictionary, header):
+            self.add_place(len(self.words) - 1, token)
+
+    def add_place(self, word, token):
+        header = self.dictionary.by_code_field.get(token.code_field)
+        self.place_of[token.address] = len(self.entries)
+        self.entries.append([token.address, word, texts.shown(self.dictionary.name_of(token.code_field)),
+                             texts.shown(token.taken), self.say(header)])
+
+    def say(self, header):
+        """The number of what is said of a token's word."""
+        text = list(self.manual.of(header))
+        if header and not text[0]:
+            text = self.of_source(header)
+        key = tuple(text)
+        return self.told.setdefault(key, len(self.told))
+
+    def of_source(self, header):
+        """The first comment of its definition: its stack effect, if its author wrote one."""
+        text, _ = self.source(header) if header.is_colon() else ("", "")
+        begin = text.find("( ")
+        return [text[begin:text.find(")", begin) + 1], ""] if begin >= 0 else ["", ""]
+
+
+def changes(before, after):
+    """A stack as how many cells it keeps from below, and those above."""
+    same = 0
+    while same < len(before) and same < len(after) and before[same] == after[same]:
+        same += 1
+    return [same, *after[same:]]
+
+
+class Loops:
+    """Where the return stack has what counted loops keep: three cells from each of these depths on."""
+
+    def __init__(self):
+        self.open, self.begun, self.seen = (), None, {(): 0}
+
+    def at(self, row, depth):
+        """The number of the depths before a step of this row, when the return stack has this depth."""
+        if self.begun is not None and depth >= self.begun + 3:
+            self.open += (self.begun,)
+        while self.open and depth < self.open[-1] + 3:
+            self.open = self.open[:-1]
+        self.begun = depth if row == DO else None
+        return self.seen.setdefault(self.open, len(self.seen))
+
+
+def packed_steps(film, words, loops):
+    """For each step its place (-1 behind a call), its frame, the changes of both stacks, what is shown, and its loops."""
+    rows, data, returns = [], (), ()
+    for number, step in enumerate(film.calls.steps):
+        place = -1 if step.address is None else words.place_of[step.address]
+        shown = film.marks[number] if film.marks else 0
+        row = None if step.address is None else words.row_at(step.address)
+        rows.append([place, step.frame, changes(data, step.data), changes(returns, step.returns), shown,
+                     loops.at(row, len(step.returns))])
+        data, returns = step.data, step.returns
+    return rows
+
+
+def frames_of(film, words, fence):
+    """Each call with that in which it was made, its word, the return stack's depth before it, whether it is unfolded at first,
+    as those of the system's words aren't, and the name of the word that it goes back to."""
+    first = {}
+    for step in film.calls.steps:
+        first.setdefault(step.frame, step)
+    rows = []
+    for number, frame in enumerate(film.calls.frames):
+        is_open = int(frame.parent is None or frame.begins >= fence)
+        returns = first[number].returns if number in first else ()
+        back = words.name_at(returns[frame.base]) if frame.base < len(returns) else "?"
+        rows.append([-1 if frame.parent is None else frame.parent, words.word_at(frame.begins), frame.base, is_open, back])
+    return rows
+
+
+def ending(film, how, root, name):
+    """How a call of the word ended, in a sentence."""
+    last = [step for step in film.calls.steps if step.frame == root and step.address is None]
+    if how == calls.RETURNED:
+        return f"{name} is done."
+    if how == calls.FAULTED:
+        number = last[-1].data[-1] if last else "?"
+        return f"Fault {number} came, and ended {name}: both stacks were emptied, and the fault's number was put."
+    if how == calls.LEFT:
+        return f"{name} was left: the return stack was emptied."
+    if film.status == 4:
+        return f"The run was cut here, at its limit, within {name}."
+    return f"The program ended here, within {name}."
+
+
+def data_of(film, words, fence, name):
+    """All that the page's script needs."""
+    output = base64.b64encode(film.output).decode() if film.marks or not film.is_whole else ""
+    loops = Loops()
+    steps = packed_steps(film, words, loops)
+    return {
+        "name": name, "words": words.words, "places": words.entries, "told": list(words.told),
+        "frames": frames_of(film, words, fence), "steps": steps, "output": output,
+        "loops": [list(depths) for depths in loops.seen],
+        "begins": film.marks[0] if film.marks else 0, "is_laid": bool(film.marks),
+        "ends": [[root, ending(film, how, root, name)] for root, how in film.calls.ends],
+    }
+
+
+def as_json(data):
+    """JSON that ends no element of HTML, whatever its texts are."""
+    text = json.dumps(data, ensure_ascii=True, separators=(",", ":"))
+    return text.replace("&", "\\u0026").replace("<", "\\u003c").replace(">", "\\u003e")
+
+
+def hashed(text):
+    return "sha256-" + base64.b64encode(hashlib.sha256(text.encode()).digest()).decode()
+
+
+def page(title, line, sentences, data):
+    """The page. Its script and its style are named by their sums, so that no other is done."""
+    script, style = (HERE / "film.js").read_text(encoding="utf-8"), (HERE / "film.css").read_text(encoding="utf-8")
+    told = "".join(f"<p>{html.escape(sentence)}</p>\n" for sentence in sentences)
+    template = (HERE / "film.html").read_text(encoding="utf-8")
+    parts = {
+        "MARK": MARK, "POLICY": POLICY.format(hashed(script), hashed(style)), "TITLE": html.escape(title),
+        "LINE": html.escape(line), "TOLD": told, "STYLE": style, "SCRIPT": script, "DATA": as_json(data),
+    }
+    first, *rest = template.split("{{")
+    return first + "".join(parts[name] + text for name, text in (part.split("}}", 1) for part in rest))

@@ -1,0 +1,88 @@
+"""Screens as pages of HTML that print well: three a page, with their shadows beside them, an index and a cross reference."""
+import base64
+import hashlib
+import pathlib
+from html import escape
+
+import screens
+
+HERE = pathlib.Path(__file__).resolve().parent
+MARK = "<!-- screens of ./forth print -->"
+A_PAGE = 3
+
+
+def figure(read, number):
+    """A screen with its number and its lines."""
+    if number in read.refused:
+        told = f"<p>This screen isn't printed: it has bytes that are no text ({escape(read.refused[number])}).</p>"
+        return f"<figure><figcaption>Screen {number}</figcaption>{told}</figure>"
+    lines = read.lines.get(number, []) + [""] * screens.LINES
+    text = "\n".join(f"{at:2} {line}".rstrip() for at, line in enumerate(lines[:screens.LINES]))
+    return f"<figure><figcaption>Screen {number}</figcaption><pre>{escape(text)}</pre></figure>"
+
+
+def row(read, number, shadow):
+    """A screen, and beside it its shadow, if there is one that isn't blank."""
+    beside = number + shadow if shadow else None
+    has_one = beside is not None and beside in read.numbers() and not read.is_blank(beside)
+    return f'<div class="row">{figure(read, number)}{figure(read, beside) if has_one else ""}</div>'
+
+
+def pages(read, numbers, shadow, name):
+    count = -(-len(numbers) // A_PAGE)
+    for page in range(count):
+        some = numbers[page * A_PAGE:(page + 1) * A_PAGE]
+        rows = "".join(row(read, number, shadow) for number in some)
+        title = f"{escape(name)}: screens {some[0]} to {some[-1]} <small>page {page + 1} of {count}</small>"
+        yield f'<section class="page"><h2>{title}</h2>{rows}</section>'
+
+
+def first_line(read, number):
+    return read.lines[number][0] if read.lines.get(number) else ("no text" if number in read.refused else "")
+
+
+def index(read, numbers):
+    rows = "".join(f"<tr><td>{number}</td><td>{escape(first_line(read, number))}</td></tr>" for number in numbers)
+    return f'<section><h2>Index</h2><table class="index"><tbody>{rows}</tbody></table></section>'
+
+
+def told_places(places):
+    """Places in short: 21.3 is screen 21, line 3; lines of one screen stand behind one another."""
+    found = {}
+    for number, line in places:
+        found.setdefault(number, []).append(str(line))
+    return ", ".join(f"{number}.{'.'.join(lines)}" for number, lines in found.items())
+
+
+def entry(name, defined, used):
+    return f"<tr><td>{escape(name)}</td><td>{told_places(defined)}</td><td>{told_places(used) or 'nowhere here'}</td></tr>"
+
+
+def cross_reference(references):
+    rows = "".join(entry(name, references.defined[name], references.uses(name)) for name in sorted(references.defined))
+    told = "<p>21.3 is screen 21, line 3, and 21.3.5 its lines 3 and 5. Names in comments and in texts aren't counted.</p>"
+    head = "<thead><tr><th>word</th><th>defined</th><th>used</th></tr></thead>"
+    return f"<section><h2>Words: where defined, where used</h2>{told}<table>{head}<tbody>{rows}</tbody></table></section>"
+
+
+def missing(references, known):
+    found = references.missing(known)
+    if not found:
+        return ""
+    rows = "".join(f"<tr><td>{escape(name)}</td><td>{told_places(found[name])}</td></tr>" for name in sorted(found))
+    told = ("<p>Neither defined in these screens nor words of this Forth, or no words at all, as what a word like TEXT reads "
+            "behind it.</p>")
+    head = "<thead><tr><th>word</th><th>used</th></tr></thead>"
+    return f"<section><h2>Words that aren't known</h2>{told}<table>{head}<tbody>{rows}</tbody></table></section>"
+
+
+def document(name, parts, is_wide):
+    """The whole of it; wide pages have shadows."""
+    style = "".join((HERE / file).read_text(encoding="utf-8") for file in ("print.css", "wide.css" if is_wide else "tall.css"))
+    allowed = "sha256-" + base64.b64encode(hashlib.sha256(style.encode()).digest()).decode()
+    policy = f"default-src 'none'; style-src '{allowed}'"
+    head = (f'<!DOCTYPE html>\n{MARK}\n<html lang="en"><head><meta charset="utf-8">'
+            f'<meta http-equiv="Content-Security-Policy" content="{policy}">'
+            f'<meta name="viewport" content="width=device-width, initial-scale=1">'
+            f"<title>{escape(name)}</title><style>{style}</style></head>")
+    return f"{head}\n<body>\n" + "\n".join(parts) + "\n</body></html>\n"

@@ -1,0 +1,86 @@
+"""The program forth83: which one runs, and what it says."""
+import os
+import pathlib
+import subprocess
+import sys
+
+ROOT = pathlib.Path(__file__).resolve().parent.parent
+KEPT = ROOT / "workbench/out"
+
+
+class Refusal(Exception):
+    """Why nothing is made, in a sentence; it ends with this status."""
+
+    def __init__(self, text, status=1):
+        super().__init__(text)
+        self.status = status
+
+
+def say(tool, text):
+    print(f"{tool}: {text}", file=sys.stderr)
+
+
+class Progress:
+    """A line on standard error that is written anew, where that is a terminal."""
+
+    def __init__(self, tool):
+        self.tool, self.is_shown = tool, sys.stderr.isatty()
+
+    def tell(self, text):
+        if self.is_shown:
+            print(f"\r{self.tool}: {text}\x1b[K", end="", file=sys.stderr, flush=True)
+
+    def end(self):
+        if self.is_shown:
+            print("\r\x1b[K", end="", file=sys.stderr, flush=True)
+
+
+class Program:
+    """The proved program where it is there, else that without proofs, as ./forth takes them."""
+
+    def __init__(self):
+        proved, unproved = ROOT / "crates/forth83/out/forth83", KEPT / "unproved"
+        self.is_proved = subprocess.run([ROOT / "workbench/is-proved"], check=False, stderr=subprocess.DEVNULL).returncode == 0
+        if not self.is_proved and not os.access(unproved, os.X_OK):
+            raise Refusal("there is no program yet; ./forth makes one")
+        self.path = proved if self.is_proved else unproved
+
+    def version(self):
+        name = self.text(["--version"]).strip()
+        return f"{name}, proved" if self.is_proved else name
+
+    def run(self, words, **ends):
+        """Runs the program; all that it says is taken as bytes."""
+        return subprocess.run([self.path, *words], stdout=subprocess.PIPE, stderr=subprocess.PIPE, check=False, **ends)
+
+    def text(self, words):
+        """What it says; a refusal where it refuses."""
+        done = self.run(words, stdin=subprocess.DEVNULL)
+        if done.returncode:
+            raise Refusal(said_by(done))
+        return done.stdout.decode("utf-8", "replace")
+
+
+def said_by(done):
+    """What a run of the program told, in one piece."""
+    said = (done.stdout + done.stderr).decode("utf-8", "replace").strip()
+    return said or f"the program ended with status {done.returncode}"
+
+
+def is_made(image, program):
+    """Whether an image of the tools is there, and nothing that it is made of is newer."""
+    sources = [program.path, ROOT / "workbench/make", *(ROOT / "workbench").glob("*.txt")]
+    return image.is_file() and all(source.stat().st_mtime <= image.stat().st_mtime for source in sources)
+
+
+def tools_image(program, room):
+    """The image that ./forth starts with at a terminal: the kept one, or one that is made in the room."""
+    kept, made, blocks = KEPT / "tools.img", room / "tools.img", room / "kernel.blk"
+    if program.is_proved and is_made(kept, program):
+        return kept
+    program.text(["kernel", blocks])
+    done = subprocess.run([ROOT / "workbench/make", program.path, blocks, made], stdout=subprocess.PIPE,
+                          stderr=subprocess.PIPE, check=False)
+    if done.returncode:
+        raise Refusal(f"the image of the tools can't be made: {said_by(done)}")
+    return made

@@ -1,0 +1,96 @@
+"""Where the words of screens are defined and used: the words are read as the Forth reads them, and nothing is executed.
+
+A comment goes up to its `)`, a text up to its quote, `\\` to the end of its line. A word defines the next one where it is `:`,
+one of the Forth's defining words outside a definition, or a word of these screens in whose definition such a word stands.
+"""
+import re
+
+import screens
+
+ENDS = {"(": ")", ".(": ")", '."': '"', 'ABORT"': '"'}
+DEFINING = {"VARIABLE", "CONSTANT", "CREATE", "2VARIABLE", "2CONSTANT", "VOCABULARY", "PRIM", "FRESH"}
+QUOTING = {"[COMPILE]", "COMPILE", "[']", "'"}
+
+
+def flat(lines):
+    """A screen as its 1,024 bytes: a word at the end of a line goes on in the next."""
+    padded = [line.ljust(screens.WIDTH)[:screens.WIDTH] for line in lines]
+    return "".join(padded).ljust(screens.BYTES)
+
+
+def words(lines):
+    """The words of a screen, each with its line; what comments and texts have is passed over."""
+    text, at = flat(lines), 0
+    while at < len(text):
+        if text[at] == " ":
+            at += 1
+            continue
+        end = text.find(" ", at)
+        end = len(text) if end < 0 else end
+        word, line = text[at:end], at // screens.WIDTH
+        yield word, line
+        at = end + 1
+        if word == "\\":
+            at = (line + 1) * screens.WIDTH
+        elif word.upper() in ENDS:
+            closed = text.find(ENDS[word.upper()], at)
+            at = len(text) if closed < 0 else closed + 1
+
+
+def is_number(word, has_hex):
+    return bool(re.fullmatch(r"-?[0-9][0-9A-Z]*\.?", word) or has_hex and re.fullmatch(r"-?[0-9A-F]+\.?", word))
+
+
+class References:
+    """The places of each word: where it is defined, and where it is used. A place is a screen and a line."""
+
+    def __init__(self, read, numbers):
+        self.defined, self.used = {}, {}
+        self.defining, self.open, self.before = set(DEFINING), None, ""
+        self.wants_name = False
+        for number in numbers:
+            self.wants_name = False
+            for word, line in words(read.lines.get(number, [])):
+                self.take(word, (number, line))
+                self.before = word.upper()
+
+    def take(self, word, place):
+        if self.wants_name:
+            self.define(word, place)
+            return
+        name = word.upper()
+        self.used.setdefault(word, []).append(place)
+        if name == ":" and self.open is None:
+            self.wants_name, self.open = True, ""
+        elif name == ";":
+            self.open = None
+        elif name in self.defining and self.before not in QUOTING:
+            self.meet_defining()
+
+    def meet_defining(self):
+        """A defining word: outside a definition a name follows; within one the word that is defined is a defining word, too."""
+        if self.open is None:
+            self.wants_name = True
+        else:
+            self.defining.add(self.open.upper())
+
+    def define(self, word, place):
+        self.defined.setdefault(word, []).append(place)
+        self.wants_name = False
+        if self.open == "":
+            self.open = word
+
+    def uses(self, name):
+        """Where a word that is defined here is used, also in small letters."""
+        places = list(self.used.get(name, []))
+        if name.upper() == name and name.lower() != name:
+            places += [place for word, found in self.used.items() if word != name and word.upper() == name for place in found
+                       if word not in self.defined]
+        return sorted(set(places))
+
+    def missing(self, known):
+        """Words that are used, and are defined neither here nor among the known ones, with their places."""
+        names = {name.upper() for name in self.defined} | {name.upper() for name in known}
+        has_hex = any(word.upper() == "HEX" for word in self.used)
+        return {word: sorted(set(places)) for word, places in self.used.items()
+                if word.upper() not in names and not is_number(word.upper(), has_hex)}

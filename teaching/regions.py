@@ -1,0 +1,110 @@
+"""What stands where in an image's memory, as regions one behind another, and what two images differ in."""
+import images
+import texts
+
+KINDS = {images.COLON: "thread", images.VARIABLE: "data", images.CONSTANT: "data", images.VOCABULARY: "record"}
+WHAT = {images.COLON: "colon word", images.VARIABLE: "variable", images.CONSTANT: "constant", images.VOCABULARY: "vocabulary"}
+
+
+class Region:
+    """Bytes from an address up to another, of one kind."""
+
+    def __init__(self, begins, end, kind, header=None):
+        self.begins, self.end, self.kind, self.header = begins, end, kind, header
+
+    def size(self):
+        return self.end - self.begins
+
+
+class Map:
+    """An image with its dictionary, and the regions of its memory."""
+
+    def __init__(self, name, image):
+        self.name, self.image, self.dictionary = name, image, images.Dictionary(image.memory)
+        self.here, self.limit = image.memory.cell(images.DP), image.limit()
+        self.top = max(image.size, min(self.here, self.limit))
+        self.words = [header for header in self.dictionary.headers if images.DICTIONARY <= header.begins < self.limit]
+
+    def outline(self):
+        """All of memory in few regions, each with what it is."""
+        rows = [(0, images.TIB, "system", "system cells"), (images.TIB, images.TIB_END, "tib", "TIB, the line that is typed"),
+                (images.DICTIONARY, self.top, "words", "the dictionary"), (self.top, self.limit, "free", "free room")]
+        for slot in range(self.image.buffers):
+            begins = self.limit + images.PAGE * slot
+            rows.append((begins, begins + images.PAGE, "buffer", f"block buffer {slot}"))
+        return rows
+
+    def regions(self):
+        """The dictionary's regions: of each word its header, its code field and what is behind; what belongs to none between."""
+        found, at = [], images.DICTIONARY
+        for header in self.words:
+            if header.begins > at:
+                found.append(Region(at, header.begins, "other"))
+            if header.begins >= at:
+                found += parts_of(header)
+                at = max(header.end, header.body)
+        if self.top > at:
+            found.append(Region(at, self.top, "other"))
+        return [region for region in found if region.size() > 0]
+
+    def vocabularies(self):
+        """Each vocabulary's name, record, and the link field that begins each of its four chains."""
+        memory = self.image.memory
+        return [(texts.shown(self.dictionary.vocabulary_name(record)), record,
+                 [memory.cell(record + 2 * number) for number in range(4)]) for record in self.dictionary.records]
+
+    def at_link_field(self):
+        return {header.link_field: header for header in self.dictionary.headers}
+
+
+def parts_of(header):
+    kind = KINDS.get(header.code, "data")
+    return [Region(header.begins, header.code_field, "header", header), Region(header.code_field, header.body, "code", header),
+            Region(header.body, header.end, kind, header)]
+
+
+def what(header):
+    """What a word is, in a few words."""
+    if header.code in WHAT:
+        return WHAT[header.code]
+    return f"primitive {header.code}" if header.code < 256 else "made by a word with DOES>"
+
+
+class Changes:
+    """What is otherwise in the second of two images."""
+
+    def __init__(self, first, second):
+        self.first, self.second = first, second
+        old = {(header.begins, header.name): header for header in first.words}
+        new = {(header.begins, header.name): header for header in second.words}
+        self.came = [header for key, header in new.items() if key not in old]
+        self.went = [header for key, header in old.items() if key not in new]
+        self.changed = [(old[key], header) for key, header in new.items() if key in old and self.differs(old[key], header)]
+
+    def differs(self, one, other):
+        size = max(one.end, other.end) - one.begins
+        return self.first.image.memory.span(one.begins, size) != self.second.image.memory.span(one.begins, size)
+
+    def cells(self):
+        """The system's cells that hold another value: name, before, behind."""
+        old, new = self.first.image.memory, self.second.image.memory
+        names = dict(images.CELLS)
+        names.update({42 + 2 * number: f"FORTH-VOC, chain {number}" for number in range(4)})
+        return [(names[at], old.cell(at), new.cell(at)) for at in sorted(names) if old.cell(at) != new.cell(at)]
+
+    def runs(self, begins, end):
+        """The pieces between two addresses whose bytes differ."""
+        old, new = self.first.image.memory.bytes, self.second.image.memory.bytes
+        found, at = [], begins
+        while at < end:
+            start = at
+            while at < end and old[at] != new[at]:
+                at += 1
+            if at > start:
+                found.append((start, at))
+            at += 1
+        return found
+
+    def bytes(self):
+        """How many bytes of memory differ."""
+        return sum(end - begins for begins, end in self.runs(0, images.MEMORY))

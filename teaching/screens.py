@@ -1,0 +1,86 @@
+"""Screens of a block file as lines, by `forth83 text`."""
+import pathlib
+import re
+
+import program
+
+LINES, WIDTH, BYTES = 16, 64, 1024
+REFUSED = re.compile(r"screen (\d+) line (\d+): (\w+)")
+
+
+class Screens:
+    """The screens of a file: the lines of each number, or why it has none."""
+
+    def __init__(self):
+        self.lines, self.refused = {}, {}
+
+    def numbers(self):
+        return sorted([*self.lines, *self.refused])
+
+    def is_blank(self, number):
+        return number not in self.refused and not any(self.lines.get(number, []))
+
+
+def count(path):
+    """How many screens a file of blocks has."""
+    path = pathlib.Path(path)
+    if not path.is_file():
+        raise program.Refusal(f"{path} isn't there, or is no file of blocks")
+    size = path.stat().st_size
+    if size % BYTES or size == 0:
+        raise program.Refusal(f"{path} has {size} bytes, which are no whole blocks")
+    return size // BYTES
+
+
+def take(screens, text):
+    """Takes the screens that `text` printed; a line that begins with two `%` begins with one."""
+    number = None
+    for line in text.splitlines():
+        heading = re.fullmatch(r"% screen (\d+)", line)
+        if heading:
+            number = int(heading[1])
+            screens.lines[number] = []
+        else:
+            screens.lines[number].append(line[1:] if line.startswith("%%") else line)
+
+
+def read(forth83, path, first, last):
+    """The screens from `first` to `last`. One that is refused is kept with the cause, and the others are read."""
+    screens = Screens()
+    while first <= last:
+        done = forth83.run(["text", "--", str(path), str(first), str(last)])
+        said = done.stdout.decode("ascii", "replace")
+        if done.returncode == 0:
+            take(screens, said)
+            return screens
+        match = REFUSED.match(said)
+        if not match:
+            raise program.Refusal(program.said_by(done))
+        number = int(match[1])
+        screens.refused[number] = f"line {match[2]}: {match[3]}"
+        if number > first:
+            take(screens, forth83.text(["text", "--", str(path), str(first), str(number - 1)]))
+        first = number + 1
+    return screens
+
+
+def defines(line, name):
+    """Whether a line has `: NAME` or the like."""
+    words = line.split()
+    return any(one == ":" and other == name for one, other in zip(words, words[1:]))
+
+
+def screens_of(screens, name):
+    """The screens with a colon definition of that name."""
+    return [number for number in sorted(screens.lines) if any(defines(line, name) for line in screens.lines[number])]
+
+
+def definition(lines, name):
+    """The lines of a colon definition, from `: NAME` to the line that has its `;`."""
+    found = []
+    for line in lines:
+        if found or defines(line, name):
+            found.append(line)
+            if ";" in line.split():
+                break
+    return found

@@ -1,0 +1,64 @@
+"""How many bytes each step of a run has shown, by the rows that show any, and whether that is what the run showed."""
+
+EXECUTE, TEXT, REFUSAL = 15, 16, 17
+PARSED, KEY, EXPECT, EMIT, TYPE = 146, 118, 119, 120, 121
+SHOWING = {EXECUTE, TEXT, REFUSAL, PARSED, KEY, EXPECT, EMIT, TYPE}
+
+
+class Shown:
+    """Counts what is shown. `.(` shows what a trace doesn't tell: one such text in a run is what is left over."""
+
+    def __init__(self, memory, typed):
+        self.memory, self.typed, self.read = memory, typed, 0
+        self.count, self.gaps, self.gap = 0, 0, 0
+        self.known = []
+
+    def mark(self):
+        """Where the output is now: bytes counted, and texts whose length isn't known."""
+        return self.count, self.gaps
+
+    def show(self, text):
+        self.known.append((self.count, self.gaps, text))
+        self.count += len(text)
+
+    def counted(self, address):
+        return self.memory.span(address + 1, self.memory.byte(address))
+
+    def meet(self, address, row, data):
+        """A step of such a row, whose token stands at an address, with this data stack before it."""
+        if row == EMIT and data:
+            self.show(bytes([data[-1] & 255]))
+        elif row == TYPE and len(data) > 1:
+            self.count += data[-1] & 0xFFFF
+        elif row == TEXT or (row == REFUSAL and data and data[-1]):
+            self.show(self.counted(address + 2))
+        elif row == PARSED:
+            self.gaps += 1
+        elif row == KEY and len(data) < 256:
+            self.read += 1
+        elif row == EXPECT and len(data) > 1:
+            self.expect(data[-1] & 0xFFFF)
+
+    def expect(self, most):
+        """A line of at most so many bytes is shown, and a blank behind it where a return ended it."""
+        line = bytearray()
+        while len(line) < most and self.read < len(self.typed):
+            byte = self.typed[self.read]
+            self.read += 1
+            if byte in b"\r\n":
+                line += b" "
+                break
+            line.append(byte)
+        self.show(bytes(line))
+
+    def is_right(self, output):
+        """Whether the run showed so many bytes, and where they are known, these."""
+        if self.gaps > 1 or self.count > len(output) or (not self.gaps and self.count < len(output)):
+            return False
+        self.gap = len(output) - self.count
+        return all(output.startswith(text, self.place((count, gaps))) for count, gaps, text in self.known)
+
+    def place(self, mark):
+        """How many bytes of the output are shown at a mark."""
+        count, gaps = mark
+        return count + gaps * self.gap

@@ -1,0 +1,53 @@
+"""Bytes of a Forth as texts, and files that are made whole or not at all."""
+import os
+import pathlib
+
+import program
+
+
+def shown(name):
+    """A name as a text: bytes that are no text and control bytes as `\\x07`."""
+    text = name.decode("utf-8", "backslashreplace")
+    return "".join(letter if letter.isprintable() else letter.encode("unicode_escape").decode() for letter in text)
+
+
+def file_name(name, suffix):
+    """A name as a part of a file's name: what isn't a letter, a digit or a `-` within is `_` and its number."""
+    parts = [chr(byte) if chr(byte).isalnum() and byte < 128 or byte == 45 and place else "_%02X" % byte
+             for place, byte in enumerate(name)]
+    return "".join(parts) + suffix
+
+
+def is_ours(path, mark):
+    """Whether a file is one that the tool made: the mark stands in its first bytes."""
+    with open(path, "rb") as file:
+        return mark.encode() in file.read(400)
+
+
+def check_target(path, mark, what):
+    """Refuses a place where the tool can't write, or where something else is."""
+    path = pathlib.Path(path)
+    folder = path.parent
+    if path.is_dir():
+        raise program.Refusal(f"{path} is a folder; name a file by -o")
+    if not folder.is_dir():
+        raise program.Refusal(f"{path} can't be made: there is no folder {folder}")
+    if path.exists() and not (path.is_file() and os.access(path, os.R_OK) and is_ours(path, mark)):
+        raise program.Refusal(f"{path} is there already, and is no {what}; name another file by -o")
+    if not os.access(folder, os.W_OK):
+        raise program.Refusal(f"{path} can't be made: the folder {folder} can't be written; name a file elsewhere by -o")
+
+
+def write_whole(path, text):
+    """Writes a file beside its place, and puts it there when it is whole."""
+    path = pathlib.Path(path)
+    beside = path.with_name(f"{path.name}.{os.getpid()}")
+    try:
+        with open(beside, "w", encoding="utf-8", newline="\n") as file:
+            file.write(text)
+        os.replace(beside, path)
+    except OSError as error:
+        raise program.Refusal(f"{path} can't be written: {error.strerror}") from error
+    finally:
+        if beside.exists():
+            beside.unlink()

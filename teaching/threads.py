@@ -1,0 +1,48 @@
+"""Threads, token by token, as they stand in an image's memory."""
+
+LITERAL, TEXT, REFUSAL, COMPILE, EXIT = 6, 16, 17, 19, 5
+BRANCHES = (7, 8, 9, 10, 11)
+LEADS_ON = (8, 9, 10, 11)
+
+
+class Token:
+    """A token of a thread: where it stands, what it is, and what it takes from behind it, as a text."""
+
+    def __init__(self, address, code_field, row, length, taken, target=None):
+        self.address, self.code_field, self.row = address, code_field, row
+        self.length, self.taken, self.target = length, taken, target
+
+
+def signed(cell):
+    return cell - 65536 if cell > 32767 else cell
+
+
+def token_at(dictionary, address):
+    memory = dictionary.memory
+    code_field = memory.cell(address)
+    row = memory.cell(code_field) if code_field in dictionary.by_code_field else None
+    behind = memory.cell(address + 2)
+    if row == LITERAL:
+        return Token(address, code_field, row, 4, str(signed(behind)).encode())
+    if row in BRANCHES:
+        return Token(address, code_field, row, 4, b"to %d" % behind, behind)
+    if row == COMPILE:
+        return Token(address, code_field, row, 4, dictionary.name_of(behind))
+    if row in (TEXT, REFUSAL):
+        count = memory.byte(address + 2)
+        return Token(address, code_field, row, 3 + count, memory.span(address + 3, count) + b'"')
+    return Token(address, code_field, row, 2, b"")
+
+
+def thread(dictionary, header):
+    """The tokens of a colon word up to its last EXIT: the one behind which no branch leads."""
+    tokens, at, farthest = [], header.body, 0
+    while at < header.end:
+        token = token_at(dictionary, at)
+        tokens.append(token)
+        if token.target is not None and header.body <= token.target < header.end:
+            farthest = max(farthest, token.target)
+        at += token.length
+        if token.row == EXIT and farthest < at:
+            break
+    return tokens

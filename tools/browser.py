@@ -1,0 +1,121 @@
+"""A headless Chromium for trials of pages: it opens a file, presses keys, evaluates and takes pictures.
+
+It is spoken to through two pipes (`--remote-debugging-pipe`), so that no port is open. A page of ours may load nothing: what it
+asks of the network is kept in `asked`.
+"""
+import base64
+import json
+import os
+import shutil
+import subprocess
+import tempfile
+
+OPTIONS = ("--headless", "--no-sandbox", "--disable-gpu", "--hide-scrollbars", "--remote-debugging-pipe",
+           "--disable-background-networking")
+NAMES = ("chromium", "chromium-browser", "google-chrome")
+CODES = {"ArrowLeft": 37, "ArrowUp": 38, "ArrowRight": 39, "ArrowDown": 40, "PageUp": 33, "PageDown": 34, "End": 35, "Home": 36,
+         "Tab": 9, "Enter": 13}
+
+
+def chromium():
+    """The browser's path, or None."""
+    return next((path for path in map(shutil.which, NAMES) if path), None)
+
+
+class Browser:
+    """A browser with one page."""
+
+    def __init__(self, width=1280, height=900):
+        self.room = tempfile.TemporaryDirectory()
+        to_read, self.out = os.pipe()
+        self.back, to_write = os.pipe()
+        os.set_inheritable(to_read, True)
+        os.set_inheritable(to_write, True)
+        words = [chromium(), *OPTIONS, f"--user-data-dir={self.room.name}", f"--window-size={width},{height}", "about:blank"]
+        command = ["bash", "-c", f'exec "$@" 3<&{to_read} 4>&{to_write}', "browser", *words]
+        nowhere = {"stdin": subprocess.DEVNULL, "stdout": subprocess.DEVNULL, "stderr": subprocess.DEVNULL}
+        self.running = subprocess.Popen(command, pass_fds=(to_read, to_write), **nowhere)
+        os.close(to_read)
+        os.close(to_write)
+        self.rest, self.number, self.session, self.errors, self.asked, self.events = b"", 0, None, [], [], []
+        target = next(one for one in self.call("Target.getTargets")["targetInfos"] if one["type"] == "page")
+        self.session = self.call("Target.attachToTarget", targetId=target["targetId"], flatten=True)["sessionId"]
+        for domain in ("Page", "Runtime", "Network", "Log"):
+            self.call(f"{domain}.enable")
+
+    def __enter__(self):
+        return self
+
+    def __exit__(self, *_):
+        self.running.kill()
+        self.running.wait()
+        os.close(self.out)
+        os.close(self.back)
+        self.room.cleanup()
+
+    def receive(self):
+        while b"\0" not in self.rest:
+            piece = os.read(self.back, 1 << 16)
+            if not piece:
+                raise RuntimeError("the browser ended")
+            self.rest += piece
+        message, _, self.rest = self.rest.partition(b"\0")
+        return json.loads(message)
+
+    def note(self, event):
+        """Keeps what went wrong in the page, and what it asked of the network."""
+        method, values = event.get("method"), event.get("params", {})
+        self.events.append(method)
+        if method == "Runtime.exceptionThrown":
+            self.errors.append(values["exceptionDetails"].get("exception", {}).get("description", "an exception"))
+        elif method == "Log.entryAdded" and values["entry"]["level"] == "error":
+            self.errors.append(values["entry"]["text"])
+        elif method == "Network.requestWillBeSent" and not values["request"]["url"].startswith(("file:", "data:", "about:")):
+            self.asked.append(values["request"]["url"])
+
+    def call(self, method, **values):
+        self.number += 1
+        message = {"id": self.number, "method": method, "params": values}
+        if self.session:
+            message["sessionId"] = self.session
+        os.write(self.out, json.dumps(message).encode() + b"\0")
+        while True:
+            answer = self.receive()
+            if answer.get("id") == self.number:
+                if "error" in answer:
+                    raise RuntimeError(f"{method}: {answer['error']['message']}")
+                return answer["result"]
+            self.note(answer)
+
+    def open(self, path, mark=""):
+        """Opens a file, and waits until it is there."""
+        self.events.clear()
+        self.call("Page.navigate", url=f"file://{os.path.abspath(path)}{mark}")
+        while "Page.loadEventFired" not in self.events:
+            self.note(self.receive())
+
+    def size(self, width, height):
+        self.call("Emulation.setDeviceMetricsOverride", width=width, height=height, deviceScaleFactor=1, mobile=False)
+
+    def press(self, *names):
+        for name in names:
+            one = {"key": name, "windowsVirtualKeyCode": CODES.get(name, ord(name[0].upper()))}
+            if len(name) == 1:
+                one["text"] = name
+            self.call("Input.dispatchKeyEvent", type="keyDown", **one)
+            self.call("Input.dispatchKeyEvent", type="keyUp", **one)
+
+    def value(self, expression):
+        done = self.call("Runtime.evaluate", expression=expression, returnByValue=True)
+        if "exceptionDetails" in done:
+            raise RuntimeError(str(done["exceptionDetails"]))
+        return done["result"].get("value")
+
+    def picture(self, path):
+        with open(path, "wb") as file:
+            file.write(base64.b64decode(self.call("Page.captureScreenshot")["data"]))
+
+    def paper(self, path):
+        done = self.call("Page.printToPDF", preferCSSPageSize=True)
+        with open(path, "wb") as file:
+            file.write(base64.b64decode(done["data"]))

@@ -1,0 +1,97 @@
+"""Films, maps and pages of screens in a browser: by keys alone, on wide and on narrow windows."""
+import browser
+
+COUNT = 'document.getElementById("count").textContent'
+NEXT = 'document.getElementById("next").textContent'
+
+
+def check_keys(tree, one):
+    """A film from step to step by keys; what is seen is what the film's data say."""
+    tree.film("SQUARES", "5 SQUARES")
+    one.open(tree.room / "film.html")
+    for keys, count, text in (
+            ([], "1 of 39", "next: (LIT) 0"),
+            (["ArrowRight"], "2 of 39", "next: (DO)"),
+            (["ArrowLeft"], "1 of 39", "next: (LIT) 0"),
+            (["End"], "39 of 39", "SQUARES is done."),
+            (["ArrowRight"], "39 of 39", "SQUARES is done."),
+            (["Home"], "1 of 39", "next: (LIT) 0"),
+            (["PageDown"], "11 of 39", "next: SQUARE ( n -- n*n )"),
+            (["ArrowDown"], "12 of 39", "next: DUP"),
+            (["ArrowUp"], "11 of 36", "next: SQUARE"),
+            (["a"], "25 of 109", "next: SQUARE"),
+            (["a"], "8 of 24", "next: SQUARE"),
+            (["Home", "PageDown", "PageUp"], "1 of 24", "next: (LIT) 0")):
+        one.press(*keys)
+        tree.cases.same(f"steps behind {keys}", f"step {count}", one.value(COUNT))
+        tree.cases.holds(f"what comes next behind {keys}", text, one.value(NEXT))
+    one.press("End")
+    tree.cases.same("the output at the end", "0 1 4 9 16 ", one.value('document.getElementById("output").textContent'))
+
+
+def check_narrow(tree, one):
+    """On a narrow window nothing of a film stands beside it."""
+    for width, height in ((360, 640), (1300, 900)):
+        one.size(width, height)
+        for name in ("film.html", "hostile.html", "bytes.html", "long.html", "life.html"):
+            one.open(tree.room / name)
+            fits = one.value("document.documentElement.scrollWidth <= innerWidth")
+            tree.cases.same(f"whether {name} fits in {width} columns of a window", True, fits)
+
+
+def check_hostile(tree, one):
+    one.open(tree.room / "hostile.html")
+    tree.cases.same("the name as a text", "</script><img/src=x>", one.value('document.querySelector("h1").textContent'))
+    made = one.value('document.querySelectorAll("img, i > *, h1 > *, #output i").length')
+    tree.cases.same("elements of hostile texts", 0, made)
+    one.press("a", "End")
+    tree.cases.same("hostile output", "<i>", one.value('document.getElementById("output").textContent'))
+    one.open(tree.room / "bytes.html")
+    one.press("End")
+    tree.cases.same("bytes that are shown", "··é<b>&\n", one.value('document.getElementById("output").textContent'))
+
+
+def check_long(tree, one):
+    one.open(tree.room / "long.html")
+    one.press("End")
+    tree.cases.same("the end of a long film", "step 120004 of 120004", one.value(COUNT))
+    one.press("ArrowLeft", "ArrowLeft")
+    tree.cases.holds("what comes at the end of a long film", "(LOOP)", one.value(NEXT))
+
+
+def check_paper(tree, one):
+    """The page of exercises has the stacks blank but at the first step, and the answers behind it."""
+    one.open(tree.room / "film.html")
+    one.value('document.getElementById("blank").click()')
+    rows = 'Array.from(document.querySelectorAll("#sheet table"), (table) => table.rows[{}].cells[2].textContent)'
+    tree.cases.same("the data stack on paper at step 1", ["5", "5"], one.value(rows.format(1)))
+    tree.cases.same("the data stack on paper at step 5", ["", "0"], one.value(rows.format(5)))
+    one.paper(tree.room / "film.pdf")
+    tree.cases.same("a film on paper", b"%PDF", (tree.room / "film.pdf").read_bytes()[:4])
+    one.open(tree.room / "life.html")
+    one.paper(tree.room / "life.pdf")
+    tree.cases.same("pages of life: two of screens, one of shadows' width, index and words", True,
+                    (tree.room / "life.pdf").read_bytes().count(b"/Type /Page\n") >= 4)
+
+
+def check_map(tree, one):
+    """A map by keys: the newest word, the one before it in its chain."""
+    told = 'document.activeElement.dataset.told'
+    for name, newest, before in (("map1-kernel.svg", "COLD", "?"), ("map2-two.svg", "SECOND", "COLD")):
+        for width in (360, 1300):
+            one.size(width, 800)
+            one.open(tree.room / name)
+            one.press("Home", "End")
+            tree.cases.same(f"the newest word of {name}", newest, one.value(told).split(",")[0])
+            one.press("Enter")
+            tree.cases.same(f"the word before it in its chain in {name}", before, one.value(told).split(",")[0])
+            chained = one.value('document.activeElement.parentNode.querySelectorAll(".link.on").length')
+            tree.cases.same(f"whether a chain of {name} has links", True, chained > 10)
+
+
+def check(tree):
+    with browser.Browser() as one:
+        for act in (check_keys, check_narrow, check_hostile, check_long, check_paper, check_map):
+            act(tree, one)
+        tree.cases.same("errors in the browser", [], one.errors)
+        tree.cases.same("what pages asked of the network", [], one.asked)

@@ -1,0 +1,419 @@
+"""Films, maps, pages of screens and the course, made by the built program in a tree of their own."""
+import base64
+import html.parser
+import json
+import os
+import pathlib
+import re
+import subprocess
+import tty
+import xml.etree.ElementTree
+
+ROOT = pathlib.Path(__file__).resolve().parent.parent
+SVG = "{http://www.w3.org/2000/svg}"
+WORDS = r"""% screen 21
+( Words for films )
+: SQUARE ( n -- n*n ) DUP * ;
+: SQUARES ( n -- ) 0 DO I SQUARE . LOOP ;
+: ONE ( -- ) ;
+: ROUND ( n -- ) 0 DO I DROP LOOP ;
+: FOREVER ( -- ) BEGIN 1 DROP AGAIN ;
+: WRECKED ( -- ) 1 0 / ;
+: CALLS ( -- ) ONE WRECKED ;
+: DOWN ( n -- ) DUP IF DUP . 1- RECURSE ELSE DROP THEN ;
+: LEAVES ( -- ) 5 . BYE ;
+: ASKS ( -- ) KEY EMIT PAD 5 EXPECT PAD SPAN @ TYPE ;
+: TICKED ( -- ) 3 ['] SQUARES EXECUTE 33 ['] EMIT EXECUTE ;
+: UNIT ( n -- ) CREATE , DOES> @ * ;
+% screen 22
+( More of them )
+10 UNIT CM
+: TALL ( -- ) 7 CM . 250 0 DO I LOOP 250 0 DO DROP LOOP ;
+: PEEKS ( -- ) 52 @ 0= IF ." no link" ELSE ." a link" THEN ;
+: BYTES ( -- ) 27 EMIT 7 EMIT 195 EMIT 169 EMIT
+  ." <b>&" 10 EMIT ;
+: <b>&"' ( -- ) ." <i>" ;
+: </script><img/src=x> ( -- ) <b>&"' ;
+: DIVIDES 7 2 / ABORT" oh" ;
+"""
+
+
+class Tree:
+    """A tree with the built program, with a block file of words for films, and the images of the tools and of these words."""
+
+    def __init__(self, cases, room, program):
+        self.cases, self.room, self.forth83 = cases, room, program
+        subprocess.run([ROOT / "tools/lay-built", program, room], check=True)
+        (room / "words.txt").write_text(WORDS, encoding="ascii")
+        for words in (["kernel", "kernel.blk"], ["build", "kernel.blk", "1", "20", "kernel.img"], ["kernel", "forth.blk"],
+                      ["screens", "words.txt", "forth.blk"]):
+            self.forth(*words)
+        self.run(["workbench/make", self.forth83, "kernel.blk", "tools.img"])
+        self.forth("load", "tools.img", "forth.blk", "21", "22", "own.img")
+
+    def forth(self, *words):
+        """A subcommand, which must not be refused."""
+        status, said = self.run([self.forth83, *words])
+        self.cases.same(f"the status of {words}, which said {said}", 0, status)
+
+    def run(self, words, typed=None):
+        """The status, and what was said, standard error behind it."""
+        done = subprocess.run(words, cwd=self.room, input=typed, stdout=subprocess.PIPE, stderr=subprocess.PIPE, check=False)
+        return done.returncode, done.stdout + done.stderr
+
+    def tool(self, *words):
+        status, said = self.run(["./forth", *words])
+        return status, said.decode("utf-8", "replace")
+
+    def film(self, name, line, *more):
+        """The film's data, its page, and what was said."""
+        out = self.room / "film.html"
+        status, said = self.tool("film", "--screens", "21", "22", "-o", "film.html", *more, "--", name, line)
+        self.cases.same(f"the status of a film of {name}, which said {said}", 0, status)
+        if status:
+            return None, "", said
+        text = out.read_text(encoding="utf-8")
+        return json.loads(re.search(r'id="film">(.*?)</script>', text, re.S)[1]), text, said
+
+
+def expanded(data):
+    """The film's steps as lines of a trace are: place, name, both stacks; and what is shown, the frame."""
+    stacks, found = ([], []), []
+    for place, frame, *changes, shown, _ in data["steps"]:
+        for cells, change in zip(stacks, changes):
+            cells[change[0]:] = change[1:]
+        address, name = data["places"][place][::2][:2] if place >= 0 else (None, None)
+        found.append((address, name, tuple(stacks[0]), tuple(stacks[1]), shown, frame))
+    return found
+
+
+def trace_of(tree, name, line):
+    """The lines of `debug` of a word over the image as it is, as tuples."""
+    tree.run([tree.forth83, "debug", "own.img", name, "trace.txt", "forth.blk"], line.encode() + b"\n")
+    found = []
+    for one in (tree.room / "trace.txt").read_text(encoding="utf-8").splitlines():
+        place, data, returns = one.split(" |")
+        address, token = place.split(" ")
+        found.append((int(address), token, tuple(map(int, data.split())), tuple(map(int, returns.split()))))
+    return found
+
+
+def check_traces(tree):
+    """The steps of a film are those that `debug` tells of each of its words alone."""
+    data, _, _ = tree.film("SQUARES", "5 SQUARES")
+    steps = expanded(data)
+    for name in ("SQUARES", "SQUARE", ".", "SPACE"):
+        word = [one["name"] for one in data["words"]].index(name)
+        own = {place[0] for place in data["places"] if place[1] == word}
+        got = [step[:4] for step in steps if step[0] in own]
+        under = [line for line in trace_of(tree, name, "5 SQUARES") if line[3][:len(steps[0][3])] == steps[0][3]]
+        tree.cases.same(f"steps of {name}", under, got)
+    tree.cases.same("the end of a film", (None, None, (), steps[0][3][:-1]), steps[-1][:4])
+    tree.cases.same("what is shown then", b"0 1 4 9 16 ", base64.b64decode(data["output"])[data["begins"]:steps[-1][4]])
+
+
+def interleaved(tree, name, line):
+    """What is shown, and the lines of the word's trace, in the order in which they were written: both go to one terminal."""
+    master, slave = os.openpty()
+    tty.setraw(slave)
+    (tree.room / "typed").write_text(line + "\n", encoding="ascii")
+    with open(tree.room / "typed", "rb") as typed:
+        words = [tree.forth83, "debug", "own.img", name, os.ttyname(slave), "forth.blk"]
+        running = subprocess.Popen(words, cwd=tree.room, stdin=typed, stdout=slave, stderr=subprocess.DEVNULL)
+    os.close(slave)
+    written = b""
+    try:
+        while True:
+            written += os.read(master, 65536)
+    except OSError:
+        pass
+    running.wait()
+    os.close(master)
+    return written
+
+
+def places_by_terminal(tree, name, line):
+    """How many bytes were shown before each line of the word's trace, as a terminal saw it."""
+    trace_of(tree, name, line)
+    lines = (tree.room / "trace.txt").read_bytes().splitlines(keepends=True)
+    written, at, shown, found = interleaved(tree, name, line), 0, 0, []
+    for one in lines:
+        begins = written.index(one, at)
+        shown += begins - at
+        found.append(shown)
+        at = begins + len(one)
+    return found
+
+
+def check_output(tree):
+    """What is shown at each step is what a terminal has seen by then."""
+    for name, line in (
+            ("SQUARES", "5 SQUARES"), ("TICKED", "TICKED"), ("ASKS", "ASKS\nxhello there"), ("DOWN", "3 DOWN .( a text)"),
+            ("BYTES", "1 . BYTES 2 . BYTES"), ("LEAVES", "LEAVES"), ("CALLS", "CALLS")):
+        data, _, _ = tree.film(name, line)
+        word = [one["name"] for one in data["words"]].index(name)
+        own = {place[0] for place in data["places"] if place[1] == word}
+        got = [step[4] for step in expanded(data) if step[0] in own]
+        tree.cases.same(f"what {name} shows, step by step", places_by_terminal(tree, name, line), got)
+
+
+def check_ends(tree):
+    """How words end, and what of them is a call."""
+    for name, line, frames, ending in (
+            ("ONE", "ONE", 1, "ONE is done."), ("CALLS", "CALLS", 3, "Fault 5 came, and ended CALLS: both stacks were emptied"),
+            ("LEAVES", "LEAVES", None, "The program ended here, within LEAVES."), ("DOWN", "2 DOWN", None, "DOWN is done."),
+            ("TALL", "TALL", None, "TALL is done."), ("DIVIDES", "DIVIDES", 1, "Fault 17 came, and ended DIVIDES"),
+            ("FOREVER", "FOREVER", 1, "The run was cut here, at its limit, within FOREVER.")):
+        data, _, _ = tree.film(name, line, "--limit", "150000")
+        tree.cases.holds(f"how {name} ends", ending, data["ends"][-1][1])
+        if frames:
+            tree.cases.same(f"calls of {name}", frames, len(data["frames"]))
+    data, _, _ = tree.film("ONE", "ONE ONE")
+    tree.cases.same("two calls of a word of one step", [-1, -1], [frame[0] for frame in data["frames"]])
+    tree.cases.same("their steps", 4, len(data["steps"]))
+    data, _, _ = tree.film("squares", "2 squares")
+    tree.cases.same("a name in small letters", "SQUARES", data["name"])
+
+
+def check_doubts(tree):
+    """A program that sees the copy's other cell gets a film of its own lines alone, and what it shows isn't laid beside them."""
+    data, page, _ = tree.film("PEEKS", "PEEKS")
+    tree.cases.same("steps of a word that sees it", trace_of(tree, "PEEKS", "PEEKS"), [step[:4] for step in expanded(data)])
+    tree.cases.same("its output", False, data["is_laid"])
+    tree.cases.holds("its page", "for the steps of all words, told other lines", page)
+    _, page, _ = tree.film("SQUARES", "5 SQUARES")
+    tree.cases.holds("a page of four words", "debug was asked for 4 of the 4 words, SQUARES first", page)
+
+
+def check_cuts(tree):
+    """Long traces are cut, and told; 100,000 lines are taken."""
+    data, page, said = tree.film("ROUND", "40000 ROUND", "--steps", "500")
+    tree.cases.same("steps that are kept", 500, len(data["steps"]))
+    for text in (page, said):
+        tree.cases.holds("a cut film", "it has the first 500 of 120,003 steps", text)
+    data, _, said = tree.film("ROUND", "40000 ROUND", "--steps", "200000")
+    tree.cases.same("steps of a long film", 120004, len(data["steps"]))
+    (tree.room / "film.html").rename(tree.room / "long.html")
+    _, page, said = tree.film("FOREVER", "FOREVER", "--limit", "150000")
+    for text in (page, said):
+        tree.cases.holds("a word without an end", "The run was cut at 150,000 ticks", text)
+
+
+def check_hostile(tree):
+    """Names and output with what HTML takes for its own: nothing of it stands in the page as an element."""
+    data, page, _ = tree.film("</script><img/src=x>", "</script><img/src=x>")
+    (tree.room / "film.html").rename(tree.room / "hostile.html")
+    tree.cases.same("the hostile name", "</script><img/src=x>", data["name"])
+    tree.cases.same("elements of a hostile page", (0, 2), (page.count("<img"), page.count("</script>")))
+    tree.film("BYTES", "BYTES")
+    (tree.room / "film.html").rename(tree.room / "bytes.html")
+    screens = bytearray((tree.room / "forth.blk").read_bytes())
+    line = b": \xff\x07\x80 ( -- ) 65 EMIT ; : RINGS ( -- ) \xff\x07\x80 ;"
+    screens[23 * 1024:23 * 1024 + len(line)] = line
+    (tree.room / "odd.blk").write_bytes(screens)
+    status, said = tree.tool("film", "RINGS", "--blocks", "odd.blk", "--screens", "23", "23", "-o", "odd.html")
+    tree.cases.same(f"a film with bytes that are no text: {said}", 0, status)
+    page = (tree.room / "odd.html").read_text(encoding="utf-8")
+    tree.cases.holds("a name that is no text", "\\\\xff\\\\x07\\\\x80", page)
+    tree.cases.holds("a word that isn't compared", "Not compared so", page)
+
+
+# The status, a part of what is said, and the words, with a bar between them where a word has blanks.
+REFUSALS = (
+    (1, "there is no word GONE", "film GONE"),
+    (1, "DUP has no thread", "film DUP"),
+    (1, "SQUARES wasn't done by: 5 .", "film SQUARES|5 ."),
+    (1, "gone.blk isn't there", "film SQUARES --blocks gone.blk"),
+    (1, "no whole blocks", "film SQUARES --blocks odd.bytes"),
+    (1, "Fault 13: the word over the mark isn't known", "film TALL --screens 22 22"),
+    (1, "cut.img is no image: Truncated", "film SQUARES --image cut.img"),
+    (1, "gone.img can't be read", "film SQUARES --image gone.img"),
+    (1, "cut.txt: line 2 is no whole line of a trace", "film SQUARES --image own.img --trace cut.txt"),
+    (1, "gone.txt can't be read", "film SQUARES --image own.img --trace gone.txt"),
+    (1, "notes.html is there already, and is no film", "film SQUARES|5 SQUARES|-o|notes.html"),
+    (1, "folder is a folder", "film SQUARES -o folder"),
+    (1, "there is no folder none", "film SQUARES -o none/x.html"),
+    (1, "/proc/film.html can't be", "film SQUARES|5 SQUARES|-o|/proc/film.html"),
+    (2, "usage", "film"),
+    (2, "usage", "film SQUARES --trace x"),
+    (2, "at least 1", "film SQUARES --steps 0"),
+    (1, "cut.img is no image that can be drawn: Truncated", "map cut.img"),
+    (1, "gone.img can't be read", "map gone.img"),
+    (1, "notes.html is there already, and is no map", "map own.img -o notes.html"),
+    (1, "/proc/map.svg can't be", "map own.img -o /proc/map.svg"),
+    (2, "usage", "map"),
+    (1, "gone.blk isn't there", "print gone.blk"),
+    (1, "has screens 0 to 63", "print forth.blk 3 99"),
+    (1, "notes.html is there already, and is no page of screens", "print forth.blk -o notes.html"),
+    (2, "two numbers", "print forth.blk 3"),
+)
+
+
+def listing(folder):
+    kept = [path for path in folder.iterdir() if path.name != "workbench"]
+    return {path.name: (path.stat().st_size, path.stat().st_mtime_ns) for path in kept}
+
+
+def check_refusals(tree):
+    """What isn't done is told with what and why; nothing is left behind, and nothing is changed."""
+    room = tree.room
+    (room / "notes.html").write_text("<p>mine</p>", encoding="utf-8")
+    (room / "cut.img").write_bytes((room / "own.img").read_bytes()[:-1])
+    (room / "cut.txt").write_text("3068 DUP | 5 | 2954 2768\n3070 * | 5 5 | 2954", encoding="ascii")
+    (room / "odd.bytes").write_bytes(b"x" * 1000)
+    (room / "folder").mkdir()
+    before = listing(room)
+    for status, said, words in REFUSALS:
+        name, *rest = words.split(" ", 1)
+        got, text = tree.tool(name, *(rest[0].split("|" if "|" in rest[0] else " ") if rest else []))
+        tree.cases.same(f"the status of {words}", status, got)
+        tree.cases.holds(words, said, text)
+    tree.cases.same("what is there behind refusals", before, listing(room))
+    status, text = tree.run(["bash", "-c", "ulimit -f 64; exec ./forth map kernel.img"])
+    tree.cases.same(f"a disk that is full: {text}", (1, before), (status, listing(room)))
+
+
+def kernel_words():
+    """The names of the kernel's words, as docs/WORDS.md has them."""
+    page = (ROOT / "docs/WORDS.md").read_text(encoding="utf-8")
+    part = page[page.index("\n## The kernel\n"):page.index("\n## The tools\n")]
+    return sorted(re.findall(r"^\| `(\S+)` \| `", part, re.M))
+
+
+def check_maps(tree):
+    """The words of a map are the kernel's; its letters stand on the bytes; two images tell what changed."""
+    status, text = tree.tool("map", "kernel.img", "--text")
+    rows = [line.split() for line in text.splitlines() if re.match(r"^  +\d+ +\d+ +\d+  \S", line) and " words" not in line]
+    names = sorted(row[3] for row in rows if len(row) > 5 and row[0].isdigit())
+    tree.cases.same("the kernel's words", kernel_words(), names)
+    tree.run(["bash", "-c", "printf '%% screen 30\\n: FIRST 1 ; : SECOND 2 ;' > two.txt"])
+    for words in (["screens", "two.txt", "forth.blk"], ["load", "kernel.img", "forth.blk", "30", "30", "two.img"]):
+        tree.forth(*words)
+    status, text = tree.tool("map", "kernel.img", "two.img", "--text")
+    came = [line.split()[4] for line in text.splitlines() if line.startswith("+")]
+    tree.cases.same("the words that came", ["FIRST", "SECOND"], came)
+    tree.cases.holds("what changed", "HERE went from 3055 to 3092", text)
+    for words in (["kernel.img"], ["kernel.img", "two.img"], ["own.img"], [str(ROOT / "examples/hi.img")]):
+        status, said = tree.tool("map", *words, "-o", "map.svg")
+        tree.cases.same(f"a map of {words}, which said {said}", 0, status)
+        drawn = xml.etree.ElementTree.parse(tree.room / "map.svg").getroot()
+        tree.cases.same(f"scripts in a map of {words}", 1, len(list(drawn.iter(f"{SVG}script"))))
+        if words == ["kernel.img"]:
+            check_letters(tree, drawn)
+        (tree.room / "map.svg").rename(tree.room / f"map{len(words)}-{pathlib.Path(words[-1]).stem}.svg")
+
+
+def check_letters(tree, drawn):
+    """SQUARE of the map: the letters of DUP are three columns apart at 13, on the row of its address."""
+    for word in drawn.iter(f"{SVG}g"):
+        if word.get("class") == "word" and word.get("data-told", "").startswith("SPACES, colon word"):
+            letters = [(one.text, float(one.get("x"))) for one in word.iter(f"{SVG}text")]
+            tree.cases.same("the letters of SPACES", ["S", "P", "A", "C", "E", "S"], [letter for letter, _ in letters])
+            tree.cases.same("their columns", [13.0] * 5, [b - a for (_, a), (_, b) in zip(letters, letters[1:])])
+            return
+    tree.cases.same("a map with SPACES", True, False)
+
+
+class Texts(html.parser.HTMLParser):
+    """The texts of a page's elements of a kind, in their order."""
+
+    def __init__(self, kind):
+        super().__init__()
+        self.kind, self.found, self.is_in = kind, [], False
+
+    def handle_starttag(self, tag, attrs):
+        if tag == self.kind:
+            self.is_in = True
+            self.found.append("")
+
+    def handle_endtag(self, tag):
+        if tag == self.kind:
+            self.is_in = False
+
+    def handle_data(self, data):
+        if self.is_in:
+            self.found[-1] += data
+
+
+def texts_of(path, kind):
+    reader = Texts(kind)
+    reader.feed(path.read_text(encoding="utf-8"))
+    return reader.found
+
+
+def check_pages(tree):
+    """Each screen stands on its page as it is in its source; the cross reference is that which was made by hand."""
+    for words in (["new", "life.blk", "64"], ["screens", str(ROOT / "examples/life.txt"), "life.blk"]):
+        tree.forth(*words)
+    status, said = tree.tool("print", "life.blk")
+    tree.cases.same(f"pages, which said {said}", 0, status)
+    wanted, source = [], (ROOT / "examples/life.txt").read_text(encoding="ascii")
+    for part in re.split(r"^% screen \d+\n", source, flags=re.M)[1:]:
+        lines = part.splitlines() + [""] * 16
+        wanted.append("\n".join(f"{number:2} {line}".rstrip() for number, line in enumerate(lines[:16])))
+    tree.cases.same("the screens on pages", wanted, texts_of(tree.room / "life.html", "pre"))
+    cells = texts_of(tree.room / "life.html", "td")
+    for name, defined, used in (
+            ("ALIVE", "1.11", "3.3"), ("POPULATION", "2.14", "nowhere here"), ("CELL", "1.7", "1.11.14, 2.3.7.12"),
+            ("WIDE", "1.2", "1.4.5.7.9, 2.6.8.11.14")):
+        tree.cases.same(f"where {name} is", [defined, used], cells[cells.index(name) + 1:cells.index(name) + 3])
+    check_shadows(tree)
+
+
+def check_shadows(tree):
+    """Shadows stand beside their screens, and a screen that is no text is told."""
+    (tree.room / "shadow.txt").write_text("% screen 33\n<b>& the shadow\n% screen 5\n32 SHADOW !\n", encoding="ascii")
+    tree.forth("screens", "shadow.txt", "life.blk")
+    data = bytearray((tree.room / "life.blk").read_bytes())
+    data[6 * 1024 + 70] = 200
+    (tree.room / "life.blk").write_bytes(data)
+    status, _ = tree.tool("print", "life.blk", "1", "6")
+    tree.cases.same("pages with shadows", 0, status)
+    captions = texts_of(tree.room / "life.html", "figcaption")
+    tree.cases.same("screens and shadows", ["Screen 1", "Screen 33", *[f"Screen {number}" for number in range(2, 7)]], captions)
+    tree.cases.same("a shadow", " 0 <b>& the shadow", texts_of(tree.room / "life.html", "pre")[1].splitlines()[0])
+    tree.cases.holds("a screen that is no text", "(line 1: BadByte)", "".join(texts_of(tree.room / "life.html", "p")))
+
+
+WRONG = {
+    1: ("% screen 21\n1 2 3", "21 LOAD leaves 1 2 3 but 10080 56 2 is wanted."),
+    2: ("% screen 22\n: MINUTES 60 * ; : FAHRENHEIT 32 + ;", "100 FAHRENHEIT leaves 132 but 212 is wanted."),
+    3: ("% screen 23\n: CUBE * * ;", "3 CUBE takes more from the stack than it is given."),
+    4: ('% screen 24\n: PRICE . ." euro" ;', "305 PRICE shows  305 euro  but  3 euro 5 cent  is wanted"),
+    5: ("% screen 25\n: SIGNUM DUP 0< ;", "-7 SIGNUM leaves -7 -1 but -1 is wanted."),
+    6: ("% screen 26\n: SUM-TO 0 SWAP 1 ?DO I + LOOP ;", "4 SUM-TO leaves 6 but 10 is wanted."),
+    7: ("% screen 27\n: DIGITS DROP ;", "4096 DIGITS leaves nothing but 4 is wanted."),
+    8: ("% screen 28\nVARIABLE BANK : PAY BANK ! ;", "0 BANK ! 50 PAY 30 PAY BANK @ leaves 30 but 80 is wanted."),
+    9: ("% screen 29\n: VOWELS SWAP DROP ;", "S| AUDIO| VOWELS leaves 5 but 4 is wanted."),
+    10: ("% screen 30\n: PERCENT * 100 / ;", "30000 15 PERCENT leaves -88 but 4500 is wanted."),
+    11: ("% screen 31\n: COUNTER CREATE 0 , DOES> @ 1+ ;", "TALLY TALLY TALLY leaves 1 1 1 but 1 2 3 is wanted."),
+    12: ("% screen 32\n: HOME ; : WHERE 0 0 ; : FORWARD DROP ;", "HOME 3 FORWARD WHERE leaves 0 0 but 0 3 is wanted."),
+}
+
+
+def checked(tree, blocks, number):
+    """What CHECK says of a lesson."""
+    _, said = tree.run([tree.forth83, "run", "tools.img", blocks], f"1 LOAD\n{number} CHECK\n1 2 + .\n".encode())
+    return re.sub(r"\x1b\[[0-9;?]*[A-Za-z]", "", said.decode("ascii", "replace"))
+
+
+def check_course(tree):
+    """Each solution is right, each blank screen and each wrong answer is told; what is typed behind it is shown."""
+    for number in range(1, 13):
+        wanted = {"blank": "leaves nothing" if number == 1 else "isn't there yet", "solved": f"Lesson {number} is right.",
+                  "wrong": WRONG[number][1]}
+        (tree.room / "wrong.txt").write_text(WRONG[number][0] + "\n", encoding="ascii")
+        for name, text in (("blank", None), ("solved", str(ROOT / "teaching/solutions.txt")), ("wrong", "wrong.txt")):
+            (tree.room / f"{name}.blk").unlink(missing_ok=True)
+            tree.forth("new", f"{name}.blk", "64")
+            for screens in filter(None, (str(ROOT / "teaching/course.txt"), text)):
+                tree.forth("screens", screens, f"{name}.blk")
+            said = checked(tree, f"{name}.blk", number)
+            tree.cases.holds(f"lesson {number}, {name}", wanted[name], said)
+            tree.cases.holds(f"lesson {number}, behind {name}", "1 2 + . 3  ok", said)
+
+
+def check(tree):
+    for act in (check_traces, check_output, check_ends, check_doubts, check_cuts, check_hostile, check_refusals, check_maps,
+                check_pages, check_course):
+        act(tree)
