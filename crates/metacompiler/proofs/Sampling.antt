@@ -76,7 +76,8 @@ sample limit screen m dup times d t room = (
     short = omega arith;
     free = record { colon = refl; comment = refl; keyword_none = none_of };
     means = (
-      called m screen 5 (codes "DUP") dup refl dup_none d, tt,
+      called m screen 5 (codes "DUP") dup refl dup_none d,
+      tt,
       (called m screen 9 (codes "*") times refl times_none t, tt, (ends_so m (cell m CURRENT) screen, tt, refl)),
     );
     shallow = omega arith;

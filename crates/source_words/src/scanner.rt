@@ -1,6 +1,6 @@
 //! Words one at a time, lent out of the bytes that they stand in.
 
-ghost use Rattle.std.specs.Prelude.{◌≡◌, ◌<◌, ◌≤◌, [], ◌∷◌, length, MatchOption, IfSome};
+ghost use Rattle.std.specs.Prelude.{◌≡◌, ◌<◌, ◌≤◌, [], ◌∷◌, length, IsNone, MatchOption, IfSome};
 ghost use Rattle.source_words.specs.Words.{screen_words};
 ghost use Rattle.source_words.specs.Modes.{after};
 
@@ -45,10 +45,11 @@ impl<'a> Scanner<'a> {
         self.mode
     }
 
-    /// The next word.
+    /// The next word; behind the last there is none, and no more comes.
     pub fn next(&mut self) -> Option<Word<'a>>
         ensures left { MatchOption result (words_left self.old ≡ [])
             (λ w. words_left self.old ≡ source_word w ∷ words_left self.new) }
+        ensures end { IsNone result → words_left self.new ≡ [] }
         ensures mode { MatchOption result (self.new.mode ≡ self.old.mode)
             (λ w. self.new.mode ≡ after self.old.mode w.name.now) }
         ensures text { self.new.text ≡ self.old.text }

@@ -7,9 +7,7 @@ ghost use Rattle.memory.specs.Bytes.{IsCount};
 ghost use Rattle.subcommands.specs.Ends.{IsRefusal};
 ghost use Rattle.subcommands.specs.Lines.{HasRoom, IsTooLarge, IsUpgraded, OfImageFile, PrintsNoImage, PrintsOutOfMemory, PrintsTooLarge, upgrade_line, upgraded};
 
-use crate::commands::{
-    Ended, end_with, end_with_file, print_out_of_memory, refuse, refuse_image,
-};
+use crate::commands::{Ended, end_with, end_with_file, print_out_of_memory, refuse, refuse_image};
 use crate::sends::{end_line, send_decimal, send_numbered};
 use image_loader::{Image, UpgradeFault, upgrade};
 use inner_interpreter::{EndFault, Output, send_all};
