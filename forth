@@ -414,7 +414,7 @@ make_own() {
   look_at_own
   try_own || {
     say "$own isn't made:"
-    cat "$room/shown" >&2
+    sed '1{/^$/d}' "$room/shown" >&2
     exit 1
   }
   said=$("$forth83" load --where -- "$images/piped.img" "$blocks" "$from" "$to" "$own" 2> "$room/place" 9>&-) || {
