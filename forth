@@ -28,10 +28,10 @@ say() {
 usage() {
   cat >&2 << 'END'
 usage: ./forth [BLOCKS]                      works on the file BLOCKS, forth.blk where none is named, and makes it where it isn't there
-       ./forth --quiet [BLOCKS]              shows what a script shows that it is given as input, without its lines and ok
-       ./forth --image OWN FROM TO [BLOCKS]  makes of the screens FROM to TO the image OWN, which starts with their program
-       ./forth --kernel [BLOCKS]             runs the kernel alone, whose output is exactly what the machine shows
        ./forth --kernel-of SOURCES [BLOCKS]  does so with a kernel built of screens 1 to 20 of SOURCES
+       ./forth --kernel [BLOCKS]             does so with the kernel alone, whose output is exactly what the machine shows
+       ./forth --quiet [BLOCKS]              does the lines of its input, and shows only what they show
+       ./forth --image OWN FROM TO [BLOCKS]  makes of the screens FROM to TO the image OWN, which starts with their program
        ./forth --proved [BLOCKS]             waits for the proved program, where it isn't there yet
        ./forth --unproved [BLOCKS]           runs the program without proofs, and has nothing proved
        ./forth --status                      says which program is there, and how far its proof is
