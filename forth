@@ -210,9 +210,9 @@ open_blocks() {
   [ -r "$blocks" ] || refuse "$blocks can't be read: its permissions don't allow it; chmod u+r $blocks"
   [ -w "$blocks" ] || refuse "$blocks can't be written: it is read-only; chmod u+w $blocks, or work on a copy: cp $blocks my.blk && chmod u+w my.blk"
   [ "$(head -c 8 -- "$blocks" | tr -d '\0')" != FTH83IMG ] || refuse "$blocks is an image, and no file of blocks; ./forth83 run $blocks runs it"
-  [ "$(stat -L -c %s -- "$blocks")" -ge 1024 ] || say "$blocks has no screen; ./forth83 new NAME 64 makes a file of 64 blank ones"
   [ $(($(stat -L -c %s -- "$blocks") % 1024)) -eq 0 ] ||
     refuse "$blocks has $(stat -L -c %s -- "$blocks") bytes, which are no whole blocks; ./forth < $blocks does the lines of a script, ./forth83 screens $blocks NEW makes blocks of a text"
+  [ "$(stat -L -c %s -- "$blocks")" -ge 1024 ] || say "$blocks has no screen; ./forth83 new NAME 64 makes a file of 64 blank ones"
   exec 9<> "$blocks"
   if command -v flock > /dev/null; then
     flock -n 9 || refuse "$blocks is in use by another run$(holder); leave that by BYE, or work on a copy"
