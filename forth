@@ -28,10 +28,10 @@ say() {
 usage() {
   cat >&2 << 'END'
 usage: ./forth [BLOCKS]                      works on the file BLOCKS, forth.blk where none is named, and makes it where it isn't there
-       ./forth --quiet [BLOCKS]              shows what a script shows that it is given as input, without its lines and ok
-       ./forth --image OWN FROM TO [BLOCKS]  makes of the screens FROM to TO the image OWN, which starts with their program
-       ./forth --kernel [BLOCKS]             runs the kernel alone, whose output is exactly what the machine shows
        ./forth --kernel-of SOURCES [BLOCKS]  does so with a kernel built of screens 1 to 20 of SOURCES
+       ./forth --kernel [BLOCKS]             does so with the kernel alone, whose output is exactly what the machine shows
+       ./forth --quiet [BLOCKS]              does the lines of its input, and shows only what they show; it has no blocks but BLOCKS
+       ./forth --image OWN FROM TO [BLOCKS]  makes of the screens FROM to TO the image OWN, which starts with their program
        ./forth --proved [BLOCKS]             waits for the proved program, where it isn't there yet
        ./forth --unproved [BLOCKS]           runs the program without proofs, and has nothing proved
        ./forth --status                      says which program is there, and how far its proof is
@@ -213,9 +213,9 @@ open_blocks() {
   [ -r "$blocks" ] || refuse "$blocks can't be read: its permissions don't allow it; chmod u+r $blocks"
   [ -w "$blocks" ] || refuse "$blocks can't be written: it is read-only; chmod u+w $blocks, or work on a copy: cp $blocks my.blk && chmod u+w my.blk"
   [ "$(head -c 8 -- "$blocks" | tr -d '\0')" != FTH83IMG ] || refuse "$blocks is an image, and no file of blocks; ./forth83 run $blocks runs it"
-  [ "$(stat -L -c %s -- "$blocks")" -ge 1024 ] || say "$blocks has no screen; ./forth83 new NAME 64 makes a file of 64 blank ones"
   [ $(($(stat -L -c %s -- "$blocks") % 1024)) -eq 0 ] ||
-    refuse "$blocks has $(stat -L -c %s -- "$blocks") bytes, which are no whole blocks; a text becomes blocks by ./forth83 screens $blocks NEW"
+    refuse "$blocks has $(stat -L -c %s -- "$blocks") bytes, which are no whole blocks; ./forth < $blocks does the lines of a script, ./forth83 screens $blocks NEW makes blocks of a text"
+  [ "$(stat -L -c %s -- "$blocks")" -ge 1024 ] || say "$blocks has no screen; ./forth83 new NAME 64 makes a file of 64 blank ones"
   exec 9<> "$blocks"
   if command -v flock > /dev/null; then
     flock -n 9 || refuse "$blocks is in use by another run$(holder); leave that by BYE, or work on a copy"
@@ -378,7 +378,7 @@ is_ended() {
 run_in_pipe() {
   [ -z "$is_new" ] || say "$blocks is a new file"
   if [ "$door" = kernel ] || is_ended; then
-    "$forth83" run --save -- "$1" "$blocks" 9>&- || status=$?
+    "$forth83" run --save -- "$1" ${blocks:+"$blocks"} 9>&- || status=$?
     return
   fi
   mkfifo "$room/lines"
@@ -387,7 +387,7 @@ run_in_pipe() {
   feed <&0 8> "$room/lines" 9>&- &
   feeder=$!
   set +m
-  "$forth83" run --save -- "$1" "$blocks" < "$room/lines" 9>&- || status=$?
+  "$forth83" run --save -- "$1" ${blocks:+"$blocks"} < "$room/lines" 9>&- || status=$?
 }
 
 # Refuses an image's name that can't be one, or that is in the way.
@@ -417,7 +417,7 @@ make_own() {
   look_at_own
   try_own || {
     say "$own isn't made:"
-    cat "$room/shown" >&2
+    sed '1{/^$/d}' "$room/shown" >&2
     exit 1
   }
   said=$("$forth83" load --where -- "$images/piped.img" "$blocks" "$from" "$to" "$own" 2> "$room/place" 9>&-) || {
@@ -465,8 +465,11 @@ if [ -n "$own" ]; then
   from=$((10#$from)) to=$((10#$to))
   [ "$to" -le 65535 ] || usage 2
 fi
-blocks=${1-${sources:-forth.blk}}
-[ -n "$blocks" ] || usage 2
+[ $# -eq 0 ] || [ -n "$1" ] || usage 2
+blocks=${1:-$sources}
+if [ -z "$blocks" ] && { [ "$door" != quiet ] || [ -n "$own" ]; }; then
+  blocks=forth.blk
+fi
 room=$(mktemp -d) || exit 1
 trap leave EXIT
 find_program
@@ -479,7 +482,7 @@ else
   find_images
 fi
 [ -z "$own" ] || [ -e "$blocks" ] || refuse "there is no $blocks of which an image can be made"
-open_blocks
+[ -z "$blocks" ] || open_blocks
 if [ -n "$own" ]; then
   make_own
   exit
@@ -499,7 +502,6 @@ else
   door=pipe
   run_in_pipe "$images/piped.img"
 fi
-keep_session
 case $door:$status in
   pipe:3 | quiet:3) say "a fault ended it" ;;
   *:3) say "a fault ended it, that no fault thread handles" ;;
@@ -507,6 +509,8 @@ case $door:$status in
   *:5) say "standard input or output failed" ;;
   *:130) say "broken off" ;;
 esac
+[ -n "$blocks" ] || exit "$status"
+keep_session
 case $door:$status in
   kernel:3 | terminal:3 | *:4 | *:130 | *:131 | *:143) say "screens that were changed since the last SAVE may not be in $blocks" ;;
 esac
