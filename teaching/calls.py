@@ -1,11 +1,12 @@
 """The steps of a word's calls, and of what it calls, among the lines of a run.
 
 A call begins behind a step whose token is a colon word, or one that DOES> made; it ends behind EXIT, when the return stack is
-no deeper than before the call. A fault empties the return stack and ends all of them.
+no deeper than before the call. A fault empties the return stack and ends all of them. Where EXECUTE does a word that was made
+in the run, its code isn't known: it is a call where the return stack grew.
 """
 import images
 
-CALL, END, CLEAR, OTHER = "call", "end", "clear", "other"
+CALL, MAYBE, END, CLEAR, OTHER = "call", "maybe", "end", "clear", "other"
 EXIT, EXECUTE, DOES, RCLEAR = 5, 15, 18, 24
 RETURNED, FAULTED, LEFT, CUT = "returned", "faulted", "left", "cut"
 
@@ -36,19 +37,27 @@ def effect_of(memory, code_field):
 
 
 class Calls:
-    """Keeps at most so many steps of the calls of the word that begins at an address."""
+    """Keeps at most so many steps of the calls of the word whose thread lies from an address up to another."""
 
-    def __init__(self, begins, most):
-        self.begins, self.most = begins, most
+    def __init__(self, begins, end, most):
+        self.begins, self.behind, self.most = begins, end, most
         self.frames, self.steps, self.ends = [], [], []
-        self.open, self.last, self.target, self.met = [], OTHER, None, 0
+        self.open, self.last, self.target, self.depth, self.met = [], OTHER, None, 0, 0
 
     def take(self, address, effect, data, returns, mark):
         """A line of the run, in its order, and what its step does to calls."""
         self.follow(address, data, returns, mark)
         if self.open:
             self.keep(address, data, returns, mark)
-        self.last, self.target = effect
+        self.pass_by(effect, len(returns))
+
+    def pass_by(self, effect, depth=0):
+        """A step of this effect comes, when the return stack has this depth."""
+        (self.last, self.target), self.depth = effect, depth
+
+    def is_begun(self, address, depth):
+        """Whether the step before was a call that goes on at this address."""
+        return self.last == CALL and address == self.target or self.last == MAYBE and depth > self.depth
 
     def follow(self, address, data, returns, mark):
         """What the step before did to the calls."""
@@ -59,7 +68,7 @@ class Calls:
                 self.leave(data, returns, mark, LEFT)
             elif self.last == END:
                 self.end(data, returns, mark)
-        if self.last == CALL and address == self.target and (self.open or address == self.begins):
+        if self.is_begun(address, len(returns)) and (self.open or self.begins <= address < self.behind):
             self.begin(address, len(returns) - 1)
 
     def begin(self, address, base):

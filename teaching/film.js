@@ -170,6 +170,7 @@ function show() {
   part("into").disabled = child[number] < 0;
   part("out").disabled = frames[step[1]][0] < 0;
   part("all").textContent = open.every((one) => one) ? "fold all" : "unfold all";
+  part("all").disabled = frames.every((frame) => frame[0] < 0);
   part("base").textContent = hex ? "base 10" : "base 16";
 }
 
@@ -214,7 +215,8 @@ function table(isBlank, kind) {
     const line = element("tr"), indent = "  ".repeat(chain(step[1]).length - 1);
     line.append(element("td", String(row + 1)));
     line.append(element("td", indent + (place ? `${place[2]} ${place[3]}` : `end of ${wordName(step[1])}`)));
-    for (const cells of [data, returns]) {
+    const own = returns.slice(frames[chain(step[1])[0]][2]);
+    for (const cells of [data, own]) {
       line.append(element("td", isBlank && row ? "" : cells.slice(-12).map(cell).join(" "), "room"));
     }
     line.append(element("td", film.is_laid && !isBlank ? text(film.begins, step[4]) : ""));
@@ -225,7 +227,9 @@ function table(isBlank, kind) {
 }
 
 function fillSheet() {
-  const sheet = part("sheet"), isBlank = part("blank").checked, made = [];
+  const sheet = part("sheet"), isBlank = part("blank").checked;
+  const seen = new Set(visible.map((number) => frames[steps[number][1]][1]).filter((number) => number >= 0));
+  const made = [...seen].map((number) => element("pre", film.words[number].source));
   if (isBlank) made.push(element("p", "What is on the stacks before each step?"), table(true, ""));
   made.push(table(false, isBlank ? "answers" : ""));
   if (visible.length > MOST_ROWS) made.push(element("p", `The first ${MOST_ROWS} of ${visible.length} steps.`));

@@ -5,7 +5,8 @@ is, tells the same lines, and shows the same. Else the film is made of the word'
 """
 import shown
 import traces
-from calls import Calls, effect_of
+import images
+from calls import MAYBE, Calls, effect_of
 
 EVERY = 20000
 
@@ -47,6 +48,7 @@ class Whole:
 
     def __init__(self, image, dictionary, calls, typed):
         self.memory, self.dictionary, self.calls = image.memory, dictionary, calls
+        self.here = image.memory.cell(images.DP)
         self.by_word, self.digests = digests_of(dictionary)
         self.counter, self.places = shown.Shown(image.memory, typed), {}
 
@@ -60,10 +62,10 @@ class Whole:
         place = self.places.get(line[:blank]) or self.place(line[:blank])
         rest = line[blank + 2:]
         place.digest.take(place.line + rest)
-        if place.shows or self.calls.open or place.address == self.calls.begins:
+        if place.shows or self.calls.open or self.calls.begins <= place.address < self.calls.behind:
             self.step(place, rest)
         else:
-            self.calls.last, self.calls.target = place.effect
+            self.calls.pass_by(place.effect)
 
     def step(self, place, rest):
         """A line that tells more than where the run is."""
@@ -73,6 +75,7 @@ class Whole:
         while row == shown.EXECUTE and stack:
             code_field, stack = stack[-1] & 0xFFFF, stack[:-1]
             row, effect = self.memory.cell(code_field), effect_of(self.memory, code_field)
+            effect = (MAYBE, None) if code_field >= self.here else effect
         self.calls.take(place.address, effect, data, returns, mark)
         self.counter.meet(place.address, row, stack)
 
@@ -81,7 +84,7 @@ def whole_film(setting, image, dictionary, header, most, progress):
     """The film of one run of all words, before it is compared with anything."""
     path = setting.room / "whole.img"
     traces.without_headers(image, path)
-    reader = Whole(image, dictionary, Calls(header.body, most), setting.typed)
+    reader = Whole(image, dictionary, Calls(header.body, header.end, most), setting.typed)
     run = traces.Run(setting, path, traces.lowest_colon(dictionary).name.decode())
     for number, line in enumerate(run.lines()):
         reader.take(line)
@@ -122,10 +125,10 @@ def compare(setting, image_path, film, dictionary, header, by_word, progress):
     return True
 
 
-def single_film(lines, begins, most, output, status):
+def single_film(lines, header, most, output, status):
     """The film of a word's own lines: its calls of others are single steps."""
-    calls = Calls(begins, most)
-    calls.begin(begins, 0)
+    calls = Calls(header.body, header.end, most)
+    calls.begin(header.body, 0)
     for where, _, data, returns in traces.parsed(lines):
         calls.keep(where, data, returns, (0, 0))
     film = Film(calls, output, status)
@@ -140,6 +143,6 @@ def filmed(setting, image_path, image, dictionary, header, most, progress):
         return film
     run = traces.Run(setting, image_path, header.name.decode())
     lines = b"".join(run.lines())
-    film = single_film(lines, header.body, most, run.output, run.status)
+    film = single_film(lines, header, most, run.output, run.status)
     film.exact.append(header)
     return film

@@ -5,6 +5,7 @@ import re
 import program
 
 LINES, WIDTH, BYTES = 16, 64, 1024
+KERNEL = "(  1  Control: threads and loops )"
 REFUSED = re.compile(r"screen (\d+) line (\d+): (\w+)")
 
 
@@ -16,6 +17,10 @@ class Screens:
 
     def numbers(self):
         return sorted([*self.lines, *self.refused])
+
+    def first(self):
+        """The first screen that isn't the kernel's: 21 behind a kernel, else 0."""
+        return 21 if self.lines.get(1, [""])[:1] == [KERNEL] else 0
 
     def is_blank(self, number):
         return number not in self.refused and not any(self.lines.get(number, []))
@@ -71,8 +76,9 @@ def defines(line, name):
 
 
 def screens_of(screens, name):
-    """The screens with a colon definition of that name."""
-    return [number for number in sorted(screens.lines) if any(defines(line, name) for line in screens.lines[number])]
+    """The screens with a colon definition of that name, but the kernel's."""
+    own = [number for number in sorted(screens.lines) if number >= screens.first()]
+    return [number for number in own if any(defines(line, name) for line in screens.lines[number])]
 
 
 def definition(lines, name):

@@ -88,11 +88,12 @@ class Browser:
             self.note(answer)
 
     def open(self, path, mark=""):
-        """Opens a file, and waits until it is there."""
-        self.events.clear()
-        self.call("Page.navigate", url=f"file://{os.path.abspath(path)}{mark}")
-        while "Page.loadEventFired" not in self.events:
-            self.note(self.receive())
+        """Opens a file, and waits until it is there; from a blank page, as a page isn't loaded anew for a mark alone."""
+        for url in ("about:blank", f"file://{os.path.abspath(path)}{mark}"):
+            self.events.clear()
+            self.call("Page.navigate", url=url)
+            while "Page.loadEventFired" not in self.events:
+                self.note(self.receive())
 
     def size(self, width, height):
         self.call("Emulation.setDeviceMetricsOverride", width=width, height=height, deviceScaleFactor=1, mobile=False)

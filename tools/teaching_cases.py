@@ -130,7 +130,7 @@ def check_lines(cases):
 
 def check_calls(cases):
     """A word at 1000 that calls one at 2000, which calls itself once; and one that a fault ends."""
-    taken, call, end, other = calls.Calls(1000, 99), (calls.CALL, 2000), (calls.END, None), (calls.OTHER, None)
+    taken, call, end, other = calls.Calls(1000, 1004, 99), (calls.CALL, 2000), (calls.END, None), (calls.OTHER, None)
     for address, effect, data, returns in (
             (500, (calls.CALL, 1000), (7,), (1,)), (1000, call, (7,), (1, 502)), (2000, call, (7,), (1, 502, 1002)),
             (2000, other, (8,), (1, 502, 1002, 2002)), (2002, end, (9,), (1, 502, 1002, 2002)), (2002, end, (9,), (1, 502, 1002)),
@@ -142,12 +142,23 @@ def check_calls(cases):
     cases.same("steps of calls", [(1000, 0), (2000, 1), (2000, 2), (2002, 2), (2002, 1), (1002, 0), (None, 0)],
                [(step.address, step.frame) for step in taken.steps])
     cases.same("how it ended", [(0, calls.RETURNED)], taken.ends)
-    taken = calls.Calls(1000, 1)
+    taken = calls.Calls(1000, 1004, 1)
     for address, effect, data, returns in (
             (500, (calls.CALL, 1000), (), (1,)), (1000, other, (), (1, 502)), (1002, other, (), (1, 502)),
             (600, other, (1,), ())):
         taken.take(address, effect, data, returns, (0, 0))
     cases.same("a fault, and what is cut", ([(0, calls.FAULTED)], 1, 2), (taken.ends, len(taken.steps), taken.met))
+
+
+def check_made_words(cases):
+    """Words of the run whose codes aren't known: one that goes on in the thread at 1002, and one that only pushes a number."""
+    taken, maybe, other = calls.Calls(1000, 1006, 99), (calls.MAYBE, None), (calls.OTHER, None)
+    for address, effect, data, returns in (
+            (500, maybe, (7, 3000), (1,)), (502, maybe, (7, 3010), (1,)), (1002, other, (7, 3012), (1, 504)),
+            (1004, (calls.END, None), (7, 9), (1, 504)), (504, other, (7, 9), (1,))):
+        taken.take(address, effect, data, returns, (0, 0))
+    cases.same("the call of a word that was made", [(1002, 0), (1004, 0), (None, 0)],
+               [(step.address, step.frame) for step in taken.steps])
 
 
 def check_shown(cases):
@@ -157,7 +168,8 @@ def check_shown(cases):
     counter = shown.Shown(memory, b"ab\ncd")
     for row, data, at in (
             (shown.EMIT, (65,), 0), (shown.EMIT, (), 1), (shown.TYPE, (9, 3), 1), (shown.TEXT, (), 4),
-            (shown.EXPECT, (128, 80), 6), (shown.KEY, (), 9), (shown.EXPECT, (128, 80), 9), (shown.REFUSAL, (0,), 10), (shown.REFUSAL, (-1,), 10)):
+            (shown.EXPECT, (128, 80), 6), (shown.KEY, (), 9), (shown.EXPECT, (128, 80), 9), (shown.REFUSAL, (0,), 10),
+            (shown.REFUSAL, (-1,), 10)):
         cases.same(f"bytes before row {row}", (at, 0), counter.mark())
         counter.meet(280, row, data)
     cases.same("what is shown in all", (12, 0), counter.mark())
@@ -205,6 +217,6 @@ def check_language(cases):
 
 
 def check(cases):
-    for act in (check_images, check_headers, check_lines, check_calls, check_shown, check_references, check_texts,
-                check_language):
+    for act in (check_images, check_headers, check_lines, check_calls, check_made_words, check_shown, check_references,
+                check_texts, check_language):
         act(cases)

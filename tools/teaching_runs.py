@@ -87,6 +87,13 @@ def expanded(data):
     return found
 
 
+def steps_of(data, name):
+    """The steps that stand in the thread of a word, as `expanded` has them."""
+    word = [one["name"] for one in data["words"]].index(name)
+    own = {place[0] for place in data["places"] if place[1] == word}
+    return [step for step in expanded(data) if step[0] in own]
+
+
 def trace_of(tree, name, line):
     """The lines of `debug` of a word over the image as it is, as tuples."""
     tree.run([tree.forth83, "debug", "own.img", name, "trace.txt", "forth.blk"], line.encode() + b"\n")
@@ -103,9 +110,7 @@ def check_traces(tree):
     data, _, _ = tree.film("SQUARES", "5 SQUARES")
     steps = expanded(data)
     for name in ("SQUARES", "SQUARE", ".", "SPACE"):
-        word = [one["name"] for one in data["words"]].index(name)
-        own = {place[0] for place in data["places"] if place[1] == word}
-        got = [step[:4] for step in steps if step[0] in own]
+        got = [step[:4] for step in steps_of(data, name)]
         under = [line for line in trace_of(tree, name, "5 SQUARES") if line[3][:len(steps[0][3])] == steps[0][3]]
         tree.cases.same(f"steps of {name}", under, got)
     tree.cases.same("the end of a film", (None, None, (), steps[0][3][:-1]), steps[-1][:4])
@@ -151,9 +156,7 @@ def check_output(tree):
             ("SQUARES", "5 SQUARES"), ("TICKED", "TICKED"), ("ASKS", "ASKS\nxhello there"), ("DOWN", "3 DOWN .( a text)"),
             ("BYTES", "1 . BYTES 2 . BYTES"), ("LEAVES", "LEAVES"), ("CALLS", "CALLS")):
         data, _, _ = tree.film(name, line)
-        word = [one["name"] for one in data["words"]].index(name)
-        own = {place[0] for place in data["places"] if place[1] == word}
-        got = [step[4] for step in expanded(data) if step[0] in own]
+        got = [step[4] for step in steps_of(data, name)]
         tree.cases.same(f"what {name} shows, step by step", places_by_terminal(tree, name, line), got)
 
 
@@ -168,9 +171,15 @@ def check_ends(tree):
         tree.cases.holds(f"how {name} ends", ending, data["ends"][-1][1])
         if frames:
             tree.cases.same(f"calls of {name}", frames, len(data["frames"]))
+    data, _, _ = tree.film("UNIT", "10 UNIT MM 3 CM 4 MM")
+    tree.cases.same("a defining word, and what the words do that it made", trace_of(tree, "UNIT", "10 UNIT MM 3 CM 4 MM"),
+                    [step[:4] for step in steps_of(data, "UNIT")])
+    tree.cases.same("its calls", 3, len([frame for frame in data["frames"] if frame[0] < 0]))
     data, _, _ = tree.film("ONE", "ONE ONE")
     tree.cases.same("two calls of a word of one step", [-1, -1], [frame[0] for frame in data["frames"]])
     tree.cases.same("their steps", 4, len(data["steps"]))
+    status, said = tree.tool("film", "SPACES", "2 SPACES", "-o", "film.html")
+    tree.cases.same("a film of a word of the kernel, no screen of which is loaded", (0, False), (status, "screens" in said))
     data, _, _ = tree.film("squares", "2 squares")
     tree.cases.same("a name in small letters", "SQUARES", data["name"])
 
