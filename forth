@@ -374,11 +374,10 @@ is_ended() {
 # run_in_pipe IMAGE: runs it over standard input and output, as they are.
 run_in_pipe() {
   [ -z "$is_new" ] || say "$blocks is a new file"
-  if [ "$door" = kernel ] || is_ended; then
+  if [ "$door" = kernel ] || is_ended || ! mkfifo "$room/lines" 2> /dev/null; then
     "$forth83" run --save -- "$1" ${blocks:+"$blocks"} 9>&- || status=$?
     return
   fi
-  mkfifo "$room/lines"
   # In a process group of its own, which is ended whole where the run ends before its input.
   set -m
   feed <&0 8> "$room/lines" 9>&- &
