@@ -355,7 +355,7 @@ run_at_terminal() {
   echo
 }
 
-# Passes standard input on to descriptor 8, with a return behind a last line that has none: a quiet pipe takes lines by KEY.
+# Passes standard input on to descriptor 8, with a return behind a last line that has none: lines of a pipe come by KEY.
 feed() {
   local last
   last=$(tee /dev/fd/7 7>&1 >&8 | tail -c 1 | od -A n -t u1)
@@ -380,7 +380,7 @@ run_in_pipe() {
   fi
   # In a process group of its own, which is ended whole where the run ends before its input.
   set -m
-  feed <&0 8> "$room/lines" 9>&- &
+  feed <&0 8> "$room/lines" 9>&- 2> /dev/null &
   feeder=$!
   set +m
   "$forth83" run --save -- "$1" ${blocks:+"$blocks"} < "$room/lines" 9>&- || status=$?
