@@ -358,7 +358,7 @@ run_at_terminal() {
   echo
 }
 
-# Passes standard input on to descriptor 8, with a return behind a last line that has none: a quiet pipe takes lines by KEY.
+# Passes standard input on to descriptor 8, with a return behind a last line that has none: lines of a pipe come by KEY.
 feed() {
   local last
   last=$(tee /dev/fd/7 7>&1 >&8 | tail -c 1 | od -A n -t u1)
@@ -377,14 +377,13 @@ is_ended() {
 # run_in_pipe IMAGE: runs it over standard input and output, as they are.
 run_in_pipe() {
   [ -z "$is_new" ] || say "$blocks is a new file"
-  if [ "$door" = kernel ] || is_ended; then
+  if [ "$door" = kernel ] || is_ended || ! mkfifo "$room/lines" 2> /dev/null; then
     "$forth83" run --save -- "$1" ${blocks:+"$blocks"} 9>&- || status=$?
     return
   fi
-  mkfifo "$room/lines"
   # In a process group of its own, which is ended whole where the run ends before its input.
   set -m
-  feed <&0 8> "$room/lines" 9>&- &
+  feed <&0 8> "$room/lines" 9>&- 2> /dev/null &
   feeder=$!
   set +m
   "$forth83" run --save -- "$1" ${blocks:+"$blocks"} < "$room/lines" 9>&- || status=$?
