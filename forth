@@ -474,7 +474,7 @@ trap leave EXIT
 find_program
 "$forth83" --version > /dev/null || exit 1
 if [ -n "$sources" ]; then
-  [ -f "$sources" ] && [ -r "$sources" ] || refuse "$sources isn't there, or can't be read"
+  { [ -f "$sources" ] && [ -r "$sources" ]; } || refuse "$sources isn't there, or can't be read"
   images=$room
   make_images "$sources" "$room" || exit 1
 else
