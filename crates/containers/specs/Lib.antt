@@ -1,2 +1,3 @@
 pub mod Layouts
 pub mod Containers
+pub mod Formats

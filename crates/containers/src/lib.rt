@@ -2,6 +2,7 @@
 #![tactic(auto)]
 
 mod cause;
+mod formats;
 pub mod laws;
 mod layout;
 mod order;
@@ -9,6 +10,7 @@ mod reading;
 mod writing;
 
 pub use cause::Cause;
+pub use formats::{FORMATS, Format, named};
 pub use layout::Layout;
 pub use reading::read_screens;
 pub use writing::{new_container, write_screens};

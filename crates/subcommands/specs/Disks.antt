@@ -1,0 +1,28 @@
+-- Screens read of containers, and written into them.
+use Rattle.std.specs.Prelude.{◌≡◌, ◌⊎◌, ℕ, List, ◌++◌, Option, None, Some, codes, decimal}
+use Rattle.containers.specs.declared.cause.Cause.{Cause}
+use Rattle.containers.specs.declared.cause.Cause.TheVariants as container
+use Rattle.subcommands.specs.Lines.{PrintsOutOfMemory, PrintsRefusal}
+
+abbrev pub container_cause : Cause → List ℕ
+container_cause container.BadSector = codes "BadSector"
+container_cause container.BadSkew = codes "BadSkew"
+container_cause container.CutShort = codes "CutShort"
+container_cause container.TooLarge = codes "TooLarge"
+container_cause (container.NoEnding at) = codes "NoEnding " ++ decimal at
+container_cause container.CutBlock = codes "CutBlock"
+container_cause container.NoRoom = codes "NoRoom"
+container_cause container.OutOfMemory = codes "out of memory"
+
+-- `container: CAUSE` was printed, or that memory ran out
+abbrev pub PrintsCause : Cause → (status : ℕ) → (old new : Option (List ℕ)) → Type 0
+PrintsCause container.OutOfMemory status old new = PrintsOutOfMemory status old new
+PrintsCause cause status old new = PrintsRefusal (codes "container") (container_cause cause) status old new
+
+-- the same for why it isn't done, if there is a reason
+abbrev pub PrintsUnread : Option Cause → (status : ℕ) → (old new : Option (List ℕ)) → Type 0
+PrintsUnread None status old new = PrintsOutOfMemory status old new
+PrintsUnread (Some cause) status old new = PrintsCause cause status old new
+
+abbrev pub EndsUnread : Option Cause → (status : ℕ) → (old new : Option (List ℕ)) → Type 0
+EndsUnread why status old new = PrintsUnread why status old new ⊎ PrintsOutOfMemory status old new

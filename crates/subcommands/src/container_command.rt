@@ -1,0 +1,89 @@
+//! The subcommands that read the screens of a container, and write screens into one.
+
+ghost use Rattle.std.specs.Prelude.{◌≡◌, ◌<◌, ◌≤◌, IfOk, IsNone, IsSome, MatchOption, Option, Some, false, length, string_bytes, true};
+ghost use Rattle.containers.specs.Containers.{IsRead, IsWritten, new_container, unread, unwritten};
+ghost use Rattle.containers.specs.declared.cause.Cause.{Cause};
+ghost use Rattle.subcommands.specs.Disks.{EndsUnread, PrintsCause, container_cause};
+ghost use Rattle.subcommands.specs.Lines.{PrintsOutOfMemory};
+
+use crate::causes::Reason;
+use crate::commands::{Ended, end_with_file, print_out_of_memory, refuse};
+use containers::{Cause, Layout, new_container, read_screens, write_screens};
+use inner_interpreter::Output;
+use std::alloc::{AllocError, Global};
+
+impl Reason for Cause {
+    ghost spelling = { λ c. container_cause c };
+
+    fn spelled(&self, alloc: Global) -> Result<String, AllocError> {
+        match *self {
+            Cause::BadSector => "BadSector".to_string(alloc),
+            Cause::BadSkew => "BadSkew".to_string(alloc),
+            Cause::CutShort => "CutShort".to_string(alloc),
+            Cause::TooLarge => "TooLarge".to_string(alloc),
+            Cause::NoEnding(at) => format!(in alloc; "NoEnding {at}"),
+            Cause::CutBlock => "CutBlock".to_string(alloc),
+            Cause::NoRoom => "NoRoom".to_string(alloc),
+            Cause::OutOfMemory => "out of memory".to_string(alloc),
+        }
+    }
+}
+
+/// Prints why a container isn't read or written: `container: CAUSE`.
+pub fn refuse_container<W: Output>(alloc: Global, why: Cause, writer: &mut W) -> Ended
+    ensures printed { W.failed writer.new ≡ false →
+        PrintsCause why result.status (W.sent writer.old) (W.sent writer.new) }
+    ensures cut { W.failed writer.old ≡ false → W.failed writer.new ≡ true → result.status ≡ 5 }
+    ensures status { 0 < result.status }
+    ensures file { IsNone result.file }
+{
+    match why {
+        Cause::OutOfMemory => print_out_of_memory(writer),
+        other => refuse(alloc, "container", other, writer),
+    }
+}
+
+/// Reads the screens of a container as the bytes of a file of blocks. Status 0, with these bytes. Without a file 1: the
+/// container isn't read (`container: CAUSE` is printed) or memory ran out; 5: that can't be printed.
+pub fn do_import<W: Output>(
+    alloc: Global,
+    layout: &Layout,
+    container: &[u8],
+    writer: &mut W,
+) -> Ended
+    ensures file { MatchOption result.file (0 < result.status)
+        (λ file. (result.status ≡ 0) × IsRead layout.now container.now file.items) }
+    // Beside the file nothing is printed; where there is none, it is printed why.
+    ensures silent { IsSome result.file → writer.new ≡ writer.old }
+    ensures refused { W.failed writer.new ≡ false → IsNone result.file →
+        EndsUnread (unread layout.now container.now) result.status (W.sent writer.old) (W.sent writer.new) }
+    ensures cut { W.failed writer.old ≡ false → W.failed writer.new ≡ true → (result.status ≡ 5) × IsNone result.file }
+{
+    match read_screens(alloc, layout, container) {
+        Ok(screens) => end_with_file(screens),
+        Err(why) => refuse_container(alloc, why, writer),
+    }
+}
+
+/// Writes the bytes of a file of blocks into those of a container, where all else stays. Status 0, with the bytes of the
+/// container. Without a file 1: they aren't written (`container: CAUSE` is printed); 5: that can't be printed.
+pub fn do_export<W: Output>(
+    alloc: Global,
+    layout: &Layout,
+    screens: &[u8],
+    container: Vec<u8>,
+    writer: &mut W,
+) -> Ended
+    ensures file { MatchOption result.file (0 < result.status)
+        (λ file. (result.status ≡ 0) × IsWritten layout.now screens.now container.items file.items) }
+    // Beside the file nothing is printed; where there is none, it is printed why.
+    ensures silent { IsSome result.file → writer.new ≡ writer.old }
+    ensures refused { W.failed writer.new ≡ false → IsNone result.file →
+        EndsUnread (unwritten layout.now screens.now container.items) result.status (W.sent writer.old) (W.sent writer.new) }
+    ensures cut { W.failed writer.old ≡ false → W.failed writer.new ≡ true → (result.status ≡ 5) × IsNone result.file }
+{
+    match write_screens(layout, screens, container) {
+        Ok(written) => end_with_file(written),
+        Err(why) => refuse_container(alloc, why, writer),
+    }
+}
