@@ -1,7 +1,7 @@
 //! The words of `import` and `export`.
 
 use crate::{Words, copied, word};
-use clap::{Arg, ArgMatches, Command, value_parser};
+use clap::{Arg, ArgAction, ArgMatches, Command, value_parser};
 use std::alloc::{AllocError, Global};
 
 /// A container, a file of blocks, and how screens lie in the container.
@@ -15,6 +15,8 @@ pub struct ContainerWords {
     pub offset: Option<u32>,
     pub sector: Option<u16>,
     pub skew: Vec<usize>,
+    /// Whether what is read is made text.
+    pub cleans: bool,
 }
 
 /// How screens lie in a container.
@@ -56,7 +58,13 @@ pub fn import_command<'a>(alloc: Global) -> Result<Command<'a>, AllocError> {
     let command = Command::new(alloc, "import")
         .about("Write a new file of blocks with the screens of a container")
         .arg(word(alloc, "CONTAINER", "A disk or a file of another system"))?
-        .arg(word(alloc, "BLOCKS", "The new file"))?;
+        .arg(word(alloc, "BLOCKS", "The new file"))?
+        .arg(
+            Arg::new(alloc, "clean")
+                .long("clean")
+                .action(ArgAction::SetTrue)
+                .help("Without high bits, and blanks for tabs, NULs and other bytes that are no text"),
+        )?;
     with_layout(alloc, command)
 }
 
@@ -89,6 +97,7 @@ fn skew(alloc: Global, inner: &ArgMatches<'_>) -> Result<Vec<usize>, AllocError>
 fn container_words(
     alloc: Global,
     inner: &ArgMatches<'_>,
+    cleans: bool,
 ) -> Result<Option<ContainerWords>, AllocError> {
     let Some(container) = copied(alloc, inner, "CONTAINER")? else {
         return Ok(None);
@@ -106,12 +115,13 @@ fn container_words(
         offset: inner.get_one::<u32>("offset"),
         sector: inner.get_one::<u16>("sector"),
         skew: skew(alloc, inner)?,
+        cleans,
     }))
 }
 
 /// The words of `import`.
 pub fn import_words(alloc: Global, inner: &ArgMatches<'_>) -> Result<Option<Words>, AllocError> {
-    match container_words(alloc, inner)? {
+    match container_words(alloc, inner, inner.get_flag("clean"))? {
         Some(words) => Ok(Some(Words::Import(words))),
         None => Ok(None),
     }
@@ -119,7 +129,7 @@ pub fn import_words(alloc: Global, inner: &ArgMatches<'_>) -> Result<Option<Word
 
 /// The words of `export`.
 pub fn export_words(alloc: Global, inner: &ArgMatches<'_>) -> Result<Option<Words>, AllocError> {
-    match container_words(alloc, inner)? {
+    match container_words(alloc, inner, false)? {
         Some(words) => Ok(Some(Words::Export(words))),
         None => Ok(None),
     }

@@ -1,6 +1,8 @@
 //! Laws of reading and writing containers.
 
-ghost use Rattle.std.specs.Prelude.{◌≡◌, ◌≤◌, ℕ, List, ◌++◌, drop, length, slice_index};
+ghost use Rattle.std.specs.Prelude.{◌≡◌, ◌≤◌, true, ℕ, List, ◌++◌, drop, length, slice_index};
+ghost use Rattle.std.specs.List.{list_all};
+ghost use Rattle.containers.specs.Cleaning.{cleaned, is_text};
 ghost use Rattle.containers.specs.Layouts.{IsLayout, Layout};
 ghost use Rattle.containers.specs.Containers.{IsBeside, IsRead, IsWritten};
 
@@ -18,4 +20,10 @@ pub fn rereading_law()
     ensures { (l : Layout) (container old screens written again : List ℕ) → IsLayout l → IsRead l container old →
         length screens ≤ length old → IsWritten l screens container written → IsRead l written again →
         again ≡ screens ++ drop (length screens) old }
+{}
+
+/// What is cleaned is text, and what is text stays as it is.
+pub fn cleaning_law()
+    ensures text { (bytes : List ℕ) → list_all is_text (cleaned bytes) ≡ true }
+    ensures kept { (bytes : List ℕ) → list_all is_text bytes ≡ true → cleaned bytes ≡ bytes }
 {}

@@ -2,6 +2,7 @@
 #![tactic(auto)]
 
 mod cause;
+mod cleaning;
 mod formats;
 pub mod laws;
 mod layout;
@@ -10,6 +11,7 @@ mod reading;
 mod writing;
 
 pub use cause::Cause;
+pub use cleaning::clean;
 pub use formats::{FORMATS, Format, named};
 pub use layout::Layout;
 pub use reading::read_screens;

@@ -1,5 +1,8 @@
 -- Screens read of containers, and written into them.
-use Rattle.std.specs.Prelude.{◌≡◌, ◌⊎◌, ℕ, List, ◌++◌, Option, None, Some, codes, decimal}
+use Rattle.std.specs.Prelude.{◌≡◌, ◌⊎◌, ℕ, List, ◌++◌, Bool, Option, None, Some, codes, decimal, if◌then◌else◌}
+use Rattle.containers.specs.Cleaning.{cleaned}
+use Rattle.containers.specs.Containers.{IsRead}
+use Rattle.containers.specs.Layouts.{Layout}
 use Rattle.containers.specs.declared.cause.Cause.{Cause}
 use Rattle.containers.specs.declared.cause.Cause.TheVariants as container
 use Rattle.subcommands.specs.Lines.{PrintsOutOfMemory, PrintsRefusal}
@@ -26,3 +29,9 @@ PrintsUnread (Some cause) status old new = PrintsCause cause status old new
 
 abbrev pub EndsUnread : Option Cause → (status : ℕ) → (old new : Option (List ℕ)) → Type 0
 EndsUnread why status old new = PrintsUnread why status old new ⊎ PrintsOutOfMemory status old new
+
+-- these bytes are the screens that lie in the container, made text where that is wanted
+pub record IsImported (l : Layout) (container : List ℕ) (cleans : Bool) (bytes : List ℕ) : Type 0 where
+  pub screens : List ℕ
+  pub read : IsRead l container screens
+  pub made : bytes ≡ (if cleans then cleaned screens else screens)

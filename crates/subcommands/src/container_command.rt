@@ -1,14 +1,14 @@
 //! The subcommands that read the screens of a container, and write screens into one.
 
-ghost use Rattle.std.specs.Prelude.{◌≡◌, ◌<◌, ◌≤◌, IfOk, IsNone, IsSome, MatchOption, Option, Some, false, length, string_bytes, true};
-ghost use Rattle.containers.specs.Containers.{IsRead, IsWritten, new_container, unread, unwritten};
+ghost use Rattle.std.specs.Prelude.{◌≡◌, ◌<◌, IfErr, IfOk, IsNone, IsSome, MatchOption, false, true};
+ghost use Rattle.containers.specs.Containers.{IsWhy, IsWritten, unread, unwritten};
 ghost use Rattle.containers.specs.declared.cause.Cause.{Cause};
-ghost use Rattle.subcommands.specs.Disks.{EndsUnread, PrintsCause, container_cause};
+ghost use Rattle.subcommands.specs.Disks.{EndsUnread, IsImported, PrintsCause, container_cause};
 ghost use Rattle.subcommands.specs.Lines.{PrintsOutOfMemory};
 
 use crate::causes::Reason;
 use crate::commands::{Ended, end_with_file, print_out_of_memory, refuse};
-use containers::{Cause, Layout, new_container, read_screens, write_screens};
+use containers::{Cause, Layout, clean, read_screens, write_screens};
 use inner_interpreter::Output;
 use std::alloc::{AllocError, Global};
 
@@ -43,23 +43,41 @@ pub fn refuse_container<W: Output>(alloc: Global, why: Cause, writer: &mut W) ->
     }
 }
 
-/// Reads the screens of a container as the bytes of a file of blocks. Status 0, with these bytes. Without a file 1: the
+/// The screens of a container, made text where that is wanted.
+fn imported(
+    alloc: Global,
+    layout: &Layout,
+    container: &[u8],
+    cleans: bool,
+) -> Result<Vec<u8>, Cause>
+    ensures screens { IfOk result (λ v. IsImported layout.now container.now cleans v.items) }
+    ensures cause { IfErr result (IsWhy (unread layout.now container.now)) }
+{
+    let mut screens = read_screens(alloc, layout, container)?;
+    if cleans {
+        clean(screens.as_mut_slice());
+    }
+    Ok(screens)
+}
+
+/// Reads the screens of a container as the bytes of a file of blocks, made text where that is wanted. Status 0, with these bytes. Without a file 1: the
 /// container isn't read (`container: CAUSE` is printed) or memory ran out; 5: that can't be printed.
 pub fn do_import<W: Output>(
     alloc: Global,
     layout: &Layout,
     container: &[u8],
+    cleans: bool,
     writer: &mut W,
 ) -> Ended
     ensures file { MatchOption result.file (0 < result.status)
-        (λ file. (result.status ≡ 0) × IsRead layout.now container.now file.items) }
+        (λ file. (result.status ≡ 0) × IsImported layout.now container.now cleans file.items) }
     // Beside the file nothing is printed; where there is none, it is printed why.
     ensures silent { IsSome result.file → writer.new ≡ writer.old }
     ensures refused { W.failed writer.new ≡ false → IsNone result.file →
         EndsUnread (unread layout.now container.now) result.status (W.sent writer.old) (W.sent writer.new) }
     ensures cut { W.failed writer.old ≡ false → W.failed writer.new ≡ true → (result.status ≡ 5) × IsNone result.file }
 {
-    match read_screens(alloc, layout, container) {
+    match imported(alloc, layout, container, cleans) {
         Ok(screens) => end_with_file(screens),
         Err(why) => refuse_container(alloc, why, writer),
     }
