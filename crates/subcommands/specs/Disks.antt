@@ -17,16 +17,12 @@ container_cause container.CutBlock = codes "CutBlock"
 container_cause container.NoRoom = codes "NoRoom"
 container_cause container.OutOfMemory = codes "out of memory"
 
--- `container: CAUSE` was printed, or that memory ran out
-abbrev pub PrintsCause : Cause → (status : ℕ) → (old new : Option (List ℕ)) → Type 0
-PrintsCause container.OutOfMemory status old new = PrintsOutOfMemory status old new
-PrintsCause cause status old new = PrintsRefusal (codes "container") (container_cause cause) status old new
-
--- the same for why it isn't done, if there is a reason
+-- why it isn't done was printed, as `container: CAUSE`
 abbrev pub PrintsUnread : Option Cause → (status : ℕ) → (old new : Option (List ℕ)) → Type 0
 PrintsUnread None status old new = PrintsOutOfMemory status old new
-PrintsUnread (Some cause) status old new = PrintsCause cause status old new
+PrintsUnread (Some cause) status old new = PrintsRefusal (codes "container") (container_cause cause) status old new
 
+-- the same, or that memory ran out
 abbrev pub EndsUnread : Option Cause → (status : ℕ) → (old new : Option (List ℕ)) → Type 0
 EndsUnread why status old new = PrintsUnread why status old new ⊎ PrintsOutOfMemory status old new
 

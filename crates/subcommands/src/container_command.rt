@@ -1,10 +1,10 @@
 //! The subcommands that read the screens of a container, and write screens into one.
 
-ghost use Rattle.std.specs.Prelude.{◌≡◌, ◌<◌, IfErr, IfOk, IsNone, IsSome, MatchOption, false, true};
+ghost use Rattle.std.specs.Prelude.{◌≡◌, ◌<◌, codes, IfErr, IfOk, IsNone, IsSome, MatchOption, false, true};
 ghost use Rattle.containers.specs.Containers.{IsWhy, IsWritten, unread, unwritten};
 ghost use Rattle.containers.specs.declared.cause.Cause.{Cause};
-ghost use Rattle.subcommands.specs.Disks.{EndsUnread, IsImported, PrintsCause, container_cause};
-ghost use Rattle.subcommands.specs.Lines.{PrintsOutOfMemory};
+ghost use Rattle.subcommands.specs.Disks.{EndsUnread, IsImported, container_cause};
+ghost use Rattle.subcommands.specs.Lines.{PrintsOutOfMemory, PrintsRefusal};
 
 use crate::causes::Reason;
 use crate::commands::{Ended, end_with_file, print_out_of_memory, refuse};
@@ -32,15 +32,17 @@ impl Reason for Cause {
 /// Prints why a container isn't read or written: `container: CAUSE`.
 pub fn refuse_container<W: Output>(alloc: Global, why: Cause, writer: &mut W) -> Ended
     ensures printed { W.failed writer.new ≡ false →
-        PrintsCause why result.status (W.sent writer.old) (W.sent writer.new) }
+        PrintsRefusal (codes "container") (container_cause why) result.status (W.sent writer.old) (W.sent writer.new) }
+    ensures wanting { W.failed writer.new ≡ false → why ≡ Cause.OutOfMemory →
+        PrintsOutOfMemory result.status (W.sent writer.old) (W.sent writer.new) }
     ensures cut { W.failed writer.old ≡ false → W.failed writer.new ≡ true → result.status ≡ 5 }
     ensures status { 0 < result.status }
     ensures file { IsNone result.file }
 {
-    match why {
-        Cause::OutOfMemory => print_out_of_memory(writer),
-        other => refuse(alloc, "container", other, writer),
+    if why == Cause::OutOfMemory {
+        return print_out_of_memory(writer);
     }
+    refuse(alloc, "container", why, writer)
 }
 
 /// The screens of a container, made text where that is wanted.
