@@ -63,7 +63,9 @@ pub fn import_command<'a>(alloc: Global) -> Result<Command<'a>, AllocError> {
             Arg::new(alloc, "clean")
                 .long("clean")
                 .action(ArgAction::SetTrue)
-                .help("Without high bits, and blanks for tabs, NULs and other bytes that are no text"),
+                .help(
+                    "Without high bits, and blanks for tabs, NULs and other bytes that are no text",
+                ),
         )?;
     with_layout(alloc, command)
 }

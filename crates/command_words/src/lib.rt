@@ -3,13 +3,12 @@
 
 mod containers;
 
-use containers::{export_command, export_words, import_command, import_words};
 use clap::error::ErrorKind;
 use clap::{Arg, ArgAction, ArgMatches, Command, value_parser};
+pub use containers::ContainerWords;
+use containers::{export_command, export_words, import_command, import_words};
 use std::alloc::{AllocError, Global};
 use std::{env, io};
-
-pub use containers::ContainerWords;
 
 /// How many ticks a run may take where no limit is given.
 const DEFAULT_LIMIT: u64 = 1_000_000_000_000;

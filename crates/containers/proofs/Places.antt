@@ -41,7 +41,13 @@ sizes_of l h =
     let p : 0 < l.sector + length l.ending = omega (arith, s.0) in
     let e : length l.ending ≤ 2 = h.ending in
     record {
-      sector = s.0; small_sector = s.1; count = t.some; small_count = t.few; pitch_is = refl; some_pitch = p; small_pitch = omega (arith, s.1);
+      sector = s.0;
+      small_sector = s.1;
+      count = t.some;
+      small_count = t.few;
+      pitch_is = refl;
+      some_pitch = p;
+      small_pitch = omega (arith, s.1);
       track_is = refl;
       some_track = (let k : 0 < length l.order = t.some in omega (arith, mul-le 1 1 (l.sector + length l.ending) (length l.order) (omega arith) (omega arith)));
     }
