@@ -1,23 +1,14 @@
 -- The text of screens of a disk.
-use Rattle.std.specs.Prelude.{◌≡◌, ◌⊎◌, ℕ, zero, suc, ◌+◌, ◌/◌, List, [], ◌++◌, Result, Ok, Err, if◌then◌else◌}
-use Rattle.std.specs.List.{list_all}
+use Rattle.std.specs.Prelude.{◌≡◌, ◌⊎◌, ℕ, zero, suc, ◌+◌, List, [], ◌++◌, Result, Ok, Err, if◌then◌else◌}
 use Rattle.block_buffers.specs.Disks.{Disk, succeeds, block_at, called}
-use Rattle.screen_text.specs.Bytes.{is_text}
 use Rattle.screen_text.specs.Screens.{screen_text}
-use Rattle.screen_text.specs.Writing.{first_bad}
-use Rattle.device_text.specs.declared.pages.PageCause.TheVariants.{BadByte, Device, OutOfMemory}
+use Rattle.device_text.specs.declared.pages.PageCause.TheVariants.{Device, OutOfMemory}
 use Rattle.device_text.specs.declared.pages.Unprinted.{Unprinted}
 
--- the text of a screen, or its first line with a byte that no text can carry
-unfoldable pub written : (screen : ℕ) → List ℕ → Result (List ℕ) Unprinted
-written screen bytes =
-    if list_all is_text bytes then Ok (screen_text screen bytes)
-    else Err (record { screen = screen; line = first_bad bytes / 64; cause = BadByte })
-
--- the text of a screen of a disk, if it can be read and a text can carry it
+-- the text of a screen of a disk, if it can be read
 unfoldable pub page : Disk → (screen : ℕ) → Result (List ℕ) Unprinted
 page d screen =
-    if succeeds d screen then written screen (block_at d.blocks screen) else Err (record { screen = screen; line = 0; cause = Device })
+    if succeeds d screen then Ok (screen_text screen (block_at d.blocks screen)) else Err (record { screen = screen; line = 0; cause = Device })
 
 -- two texts, one behind the other: the first that is refused decides
 abbrev pub joined : Result (List ℕ) Unprinted → Result (List ℕ) Unprinted → Result (List ℕ) Unprinted

@@ -17,6 +17,13 @@ pub fn is_text(byte: u8) -> bool
     byte >= 32 && byte <= 126
 }
 
+/// Whether a text can carry all these bytes as they are.
+pub fn are_text(bytes: &[u8]) -> bool
+    ensures { result ≡ list_all is_text bytes.now }
+{
+    bytes.iter().all(|byte| is_text(*byte))
+}
+
 /// Whether a line of a text has nothing but text and tabs.
 pub fn is_line(line: &[u8]) -> bool
     ensures { result ≡ list_all (λ b. b == 9 || is_text b) line.now }

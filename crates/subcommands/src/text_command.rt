@@ -22,7 +22,6 @@ impl Reason for PageCause {
 
     fn spelled(&self, alloc: Global) -> Result<String, AllocError> {
         match *self {
-            PageCause::BadByte => "BadByte".to_string(alloc),
             PageCause::Device => "Device".to_string(alloc),
             PageCause::OutOfMemory => "out of memory".to_string(alloc),
         }
@@ -35,6 +34,7 @@ impl Reason for Cause {
     fn spelled(&self, alloc: Global) -> Result<String, AllocError> {
         match *self {
             Cause::BadByte => "BadByte".to_string(alloc),
+            Cause::BadEscape => "BadEscape".to_string(alloc),
             Cause::LongLine => "LongLine".to_string(alloc),
             Cause::FullScreen => "FullScreen".to_string(alloc),
             Cause::BadHeading => "BadHeading".to_string(alloc),
@@ -76,8 +76,8 @@ fn refuse_page<W: Output>(alloc: Global, why: Unprinted, writer: &mut W) -> Ende
     }
 }
 
-/// Prints the screens from `from` to `to` as text. Status 0; 1: a screen can't be read, or has a byte that no text can carry
-/// (`screen S line L: CAUSE` is printed, and nothing else), or memory ran out; 5: the text can't be printed.
+/// Prints the screens from `from` to `to` as text. Status 0; 1: a screen can't be read
+/// (`screen S line 0: Device` is printed, and nothing else), or memory ran out; 5: the text can't be printed.
 pub fn do_text<W: Output, D: Device>(
     alloc: Global,
     device: &mut D,
