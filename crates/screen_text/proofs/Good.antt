@@ -5,7 +5,7 @@ use Rattle.std.proofs.lemmas.List.Folds.{list_all-append}
 use Rattle.screen_text.specs.declared.cause.Cause.{Cause}
 use Rattle.screen_text.specs.declared.cause.Cause.TheVariants.{BadByte, BadEscape, LongLine, FullScreen, BadHeading, LateHeading, NamedTwice, NoScreen}
 use Rattle.screen_text.specs.declared.cause.TextFault.{TextFault}
-use Rattle.screen_text.specs.Bytes.{blanks, padded, is_text, trimmed, spread}
+use Rattle.screen_text.specs.Bytes.{bad_byte, blanks, padded, is_text, trimmed, spread}
 use Rattle.screen_text.specs.Escapes.{Unescaped, has_sign, is_byte, is_whole, unescaped}
 use Rattle.screen_text.specs.Screens.{has_mark}
 use Rattle.screen_text.specs.Reading.{State, is_heading, number_of, nothing, then_read, whole, with_escapes, with_line, with_plain, with_screen, with_text, with_texts}
@@ -193,7 +193,7 @@ spread-text column (b ∷ bs) e =
     let t : ((b == 9 || is_text b) && list_all (λ c. c == 9 || is_text c) bs) ≡ true = e in
     spread-by (b == 9) b column bs refl (grind arith) (λ c. spread-text c bs (grind arith))
 
-text_by : (fine : Bool) (s : State) (line : List ℕ) → list_all (λ b. b == 9 || is_text b) line ≡ fine → IsGood s → IsGoodResult (if fine then with_plain s (trimmed (spread 0 line)) else Err BadByte)
+text_by : (fine : Bool) (s : State) (line : List ℕ) → list_all (λ b. b == 9 || is_text b) line ≡ fine → IsGood s → IsGoodResult (if fine then with_plain s (trimmed (spread 0 line)) else Err (BadByte (bad_byte line)))
 text_by true s line e h = good_plain s (trimmed (spread 0 line)) h (trimmed-text-of (spread 0 line) (spread-text 0 line e))
 text_by false s line e h = tt
 

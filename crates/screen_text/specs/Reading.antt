@@ -6,7 +6,7 @@ use Rattle.bstr.specs.Text.{lines_of, without_terminator}
 use Rattle.screen_text.specs.declared.cause.Cause.{Cause}
 use Rattle.screen_text.specs.declared.cause.Cause.TheVariants.{BadByte, BadEscape, LongLine, FullScreen, BadHeading, LateHeading, NamedTwice, NoScreen, OutOfMemory}
 use Rattle.screen_text.specs.declared.cause.TextFault.{TextFault}
-use Rattle.screen_text.specs.Bytes.{padded, trimmed, is_text, spread}
+use Rattle.screen_text.specs.Bytes.{padded, trimmed, is_text, bad_byte, spread}
 use Rattle.screen_text.specs.Escapes.{Unescaped, has_sign, is_whole, unescaped}
 use Rattle.screen_text.specs.Screens.{heading, has_mark}
 
@@ -61,7 +61,7 @@ with_plain s line =
 
 -- a line of a text: tabs are blanks, and blanks at its end are nothing
 unfoldable pub with_text : State → List ℕ → Result State Cause
-with_text s line = if list_all (λ b. b == 9 || is_text b) line then with_plain s (trimmed (spread 0 line)) else Err BadByte
+with_text s line = if list_all (λ b. b == 9 || is_text b) line then with_plain s (trimmed (spread 0 line)) else Err (BadByte (bad_byte line))
 
 -- before the first line
 unfoldable pub nothing : State

@@ -3,8 +3,8 @@
 /// What is wrong with a line of a text.
 #[derive(Clone, Copy, Debug, PartialEq, Eq, Drop)]
 pub enum Cause {
-    /// A byte that is no text: below 32, but a tab, or above 126.
-    BadByte,
+    /// The line's first byte that is no text: below 32, but a tab, or above 126.
+    BadByte(u8),
     /// `%~` begins a line in which a `~` hasn't two digits of base 16, 0 to 9 and A to F.
     BadEscape,
     /// More than 64 bytes.

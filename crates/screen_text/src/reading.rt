@@ -6,7 +6,7 @@ ghost use Rattle.screen_text.specs.Reading.{Refuses, RefusesText, IsRead, nothin
 ghost use Rattle.screen_text.specs.Bytes.{padded};
 ghost use Rattle.screen_text.specs.Escapes.{unescaped};
 
-use crate::bytes::{LINE, is_line, pad, spread, trimmed};
+use crate::bytes::{LINE, bad_byte, is_line, pad, spread, trimmed};
 use crate::cause::{Cause, TextFault};
 use crate::escapes::{has_sign, unescaped};
 use crate::headings::{behind, has_mark, named};
@@ -188,7 +188,7 @@ impl Reading {
         ensures refused { IfErr result (Refuses (with_text self.old line.now)) }
     {
         if !is_line(line) {
-            return Err(Cause::BadByte);
+            return Err(Cause::BadByte(bad_byte(line)));
         }
         match spread(alloc, line) {
             Ok(plain) => self.take_plain(alloc, trimmed(plain.as_slice())),

@@ -33,7 +33,7 @@ impl Reason for Cause {
 
     fn spelled(&self, alloc: Global) -> Result<String, AllocError> {
         match *self {
-            Cause::BadByte => "BadByte".to_string(alloc),
+            Cause::BadByte(byte) => format!(in alloc; "BadByte {byte}"),
             Cause::BadEscape => "BadEscape".to_string(alloc),
             Cause::LongLine => "LongLine".to_string(alloc),
             Cause::FullScreen => "FullScreen".to_string(alloc),
