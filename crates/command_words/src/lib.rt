@@ -1,8 +1,12 @@
 //! The words that the program is started with: its subcommands, their arguments and options.
 #![tactic(auto)]
 
+mod containers;
+
 use clap::error::ErrorKind;
 use clap::{Arg, ArgAction, ArgMatches, Command, value_parser};
+pub use containers::ContainerWords;
+use containers::{export_command, export_words, import_command, import_words};
 use std::alloc::{AllocError, Global};
 use std::{env, io};
 
@@ -38,6 +42,8 @@ pub enum Words {
         blocks: String,
         count: u32,
     },
+    Import(ContainerWords),
+    Export(ContainerWords),
     Run(RunWords),
     Debug {
         image: String,
@@ -274,6 +280,8 @@ fn command<'a>(alloc: Global) -> Result<Command<'a>, AllocError> {
         .subcommand(text_command(alloc)?)?
         .subcommand(screens_command(alloc)?)?
         .subcommand(new_command(alloc)?)?
+        .subcommand(import_command(alloc)?)?
+        .subcommand(export_command(alloc)?)?
         .subcommand(run_command(alloc)?)?
         .subcommand(see_command(alloc)?)?
         .subcommand(debug_command(alloc)?)?
@@ -455,6 +463,8 @@ fn words_of(alloc: Global, matches: &ArgMatches<'_>) -> Result<Option<Words>, Al
         Some(("text", inner)) => text_words(alloc, inner),
         Some(("screens", inner)) => screens_words(alloc, inner),
         Some(("new", inner)) => new_words(alloc, inner),
+        Some(("import", inner)) => import_words(alloc, inner),
+        Some(("export", inner)) => export_words(alloc, inner),
         Some(("debug", inner)) => debug_words(alloc, inner),
         Some(("see", inner)) => see_words(alloc, inner),
         Some(("view", inner)) => view_words(alloc, inner),

@@ -1,15 +1,12 @@
 use Rattle.std.proofs.Common.{◌≡◌, ◌∙◌, ℕ, suc, ◌+◌, ◌-◌, ◌<◌, ◌≤◌, List, [], ◌∷◌, ◌++◌, Option, Some, None, Result, Ok, Err, append_assoc, append-nil, length, ◌/◌, Bool, true, false, ◌&&◌, inl, inr, arith, refl, ap, sym}
 use Rattle.std.specs.Prelude.{IfSome, IfOk, IfErr}
-use Rattle.std.specs.List.{list_all}
 use Rattle.block_buffers.specs.Calls.{KeepsBlocks, Reads}
 use Rattle.block_buffers.specs.Disks.{Disk, called}
 use Rattle.block_buffers.specs.declared.devices.DeviceFault.{DeviceFault}
-use Rattle.screen_text.specs.Bytes.{is_text}
 use Rattle.screen_text.specs.Screens.{screen_text}
-use Rattle.screen_text.specs.Writing.{first_bad}
-use Rattle.device_text.specs.declared.pages.PageCause.TheVariants.{BadByte, Device}
+use Rattle.device_text.specs.declared.pages.PageCause.TheVariants.{Device}
 use Rattle.device_text.specs.declared.pages.Unprinted.{Unprinted}
-use Rattle.device_text.specs.Pages.{IsWhy, joined, page, pages, written}
+use Rattle.device_text.specs.Pages.{IsWhy, joined, page, pages}
 
 -- where the first k screens of a disk are read, and come to this text
 pub record Underway (d : Disk) (from count k : ℕ) (text : List ℕ) (disk : Option Disk) : Type 0 where
@@ -80,40 +77,6 @@ pub read_fails : (d : Disk) (screen : ℕ) (told new : Option Disk) (bytes : Lis
 unfolding page
 read_fails d screen told new bytes f e h = let r : Reads d screen new bytes (Err f) = rw e at h in rw r.0 refl
 
-pub read_gives : (d : Disk) (screen : ℕ) (told new : Option Disk) (bytes : List ℕ) (u : Unit {0}) → told ≡ Some d → IfSome told (λ e. Reads e screen new bytes (Ok u)) → page d screen ≡ written screen bytes
+pub read_gives : (d : Disk) (screen : ℕ) (told new : Option Disk) (bytes : List ℕ) (u : Unit {0}) → told ≡ Some d → IfSome told (λ e. Reads e screen new bytes (Ok u)) → page d screen ≡ Ok (screen_text screen bytes)
 unfolding page
-read_gives d screen told new bytes u e h = let r : Reads d screen new bytes (Ok u) = rw e at h in rw r.0 (ap (written screen) (sym r.2))
-
-pub text_good : (screen : ℕ) (bytes text : List ℕ) → list_all is_text bytes ≡ true → text ≡ screen_text screen bytes → written screen bytes ≡ Ok text
-unfolding written
-text_good screen bytes text e t = rw e (ap Ok (sym t))
-
-all-good : (bytes : List ℕ) → list_all is_text bytes ≡ true → first_bad bytes ≡ length bytes
-unfolding first_bad
-all-good [] e = refl
-all-good (b ∷ bytes) e =
-    let t : (is_text b && list_all is_text bytes) ≡ true = e in
-    let first : is_text b ≡ true = grind arith in
-    rw first (let more : first_bad bytes ≡ length bytes = all-good bytes (grind arith) in omega arith)
-
-not-all : (bytes : List ℕ) (t : Bool) → list_all is_text bytes ≡ t → first_bad bytes < length bytes → list_all is_text bytes ≡ false
-not-all bytes true e below = absurd (omega (arith, all-good bytes e))
-not-all bytes false e below = e
-
-pub text_bad : (screen : ℕ) (bytes : List ℕ) (line : ℕ) → first_bad bytes < length bytes → line ≡ first_bad bytes / 64 → written screen bytes ≡ Err (record { screen = screen; line = line; cause = BadByte })
-unfolding written
-text_bad screen bytes line below is =
-    let none : list_all is_text bytes ≡ false = not-all bytes (list_all is_text bytes) refl below in
-    rw none (ap (λ l. Err (record { screen = screen; line = l; cause = BadByte })) (sym is))
-
-pub ok_map : {A E : Type 0} {P Q : A → Type 0} (r : Result A E) → IfOk r P → ((v : A) → P v → Q v) → IfOk r Q
-ok_map (Ok v) h f = f v h
-ok_map (Err e) h f = tt
-
-pub err_map : {A E : Type 0} {P Q : E → Type 0} (r : Result A E) → IfErr r P → ((e : E) → P e → Q e) → IfErr r Q
-err_map (Ok v) h f = tt
-err_map (Err e) h f = f e h
-
-pub why_same : (r s : Result (List ℕ) Unprinted) (why : Unprinted) → r ≡ s → IsWhy s why → IsWhy r why
-why_same r s why e (inl is) = inl (e ∙ is)
-why_same r s why e (inr wanting) = inr wanting
+read_gives d screen told new bytes u e h = let r : Reads d screen new bytes (Ok u) = rw e at h in rw r.0 (ap (λ b. Ok (screen_text screen b)) (sym r.2))

@@ -1,15 +1,13 @@
 -- What is printed is the text of the screens.
-use Rattle.std.proofs.Common.{◌≡◌, ◌∙◌, ◌/◌, ℕ, zero, suc, ◌+◌, ◌<◌, ◌≤◌, List, [], ◌∷◌, ◌++◌, length, Bool, true, false, nat_lt, not, ◌&&◌, Result, Ok, Err, arith, refl, ap, sym, if◌then◌else◌}
+use Rattle.std.proofs.Common.{◌≡◌, ◌∙◌, ℕ, zero, suc, ◌+◌, ◌<◌, ◌≤◌, List, [], ◌∷◌, ◌++◌, length, Bool, true, false, nat_lt, not, ◌&&◌, Result, Ok, Err, arith, refl, ap, sym, if◌then◌else◌}
 use Rattle.std.specs.Prelude.{All, eqb}
-use Rattle.std.specs.List.{list_all, AllByRecursion, IsDistinct}
+use Rattle.std.specs.List.{AllByRecursion, IsDistinct}
 use Rattle.std.proofs.lemmas.List.Elements.{All-nil, All-cons}
 use Rattle.block_buffers.specs.Disks.{Disk, block_at, called, next_fails, succeeds}
-use Rattle.screen_text.specs.Bytes.{is_text}
 use Rattle.screen_text.specs.Screens.{Screen, IsWritable, AreWritable, numbers_of, screen_text, text_of}
-use Rattle.screen_text.specs.Writing.{first_bad}
-use Rattle.device_text.specs.declared.pages.PageCause.TheVariants.{BadByte, Device}
+use Rattle.device_text.specs.declared.pages.PageCause.TheVariants.{Device}
 use Rattle.device_text.specs.declared.pages.Unprinted.{Unprinted}
-use Rattle.device_text.specs.Pages.{AreBlocks, joined, page, pages, screens_at, written}
+use Rattle.device_text.specs.Pages.{AreBlocks, joined, page, pages, screens_at}
 
 -- a text of two parts
 record Parts (p r : Result (List ℕ) Unprinted) (text : List ℕ) : Type 0 where
@@ -27,31 +25,19 @@ parts (Ok a) (Ok b) text e = record { first = a; rest = b; first_is = refl; rest
 -- a screen whose text there is
 record IsPrinted (d : Disk) (screen : ℕ) (text : List ℕ) : Type 0 where
   there : screen < length d.blocks
-  carried : list_all is_text (block_at d.blocks screen) ≡ true
   is : text ≡ screen_text screen (block_at d.blocks screen)
 
 printed : (d : Disk) (screen : ℕ) (text : List ℕ) → page d screen ≡ Ok text → IsPrinted d screen text
-unfolding page written
+unfolding page
 printed d screen text e = by_call (succeeds d screen) refl e where
-  bytes : List ℕ
-  bytes = block_at d.blocks screen
-
-  bad : Unprinted
-  bad = record { screen = screen; line = first_bad bytes / 64; cause = BadByte }
-
   missing : Unprinted
   missing = record { screen = screen; line = 0; cause = Device }
 
-  by_bytes : screen < length d.blocks → (b : Bool) → list_all is_text bytes ≡ b
-      → (if b then Ok (screen_text screen bytes) else Err bad) ≡ Ok text → IsPrinted d screen text
-  by_bytes there true q h = record { there = there; carried = q; is = cc }
-  by_bytes there false q h = cc
-
   by_call : (b : Bool) → succeeds d screen ≡ b
-      → (if b then written screen bytes else Err missing) ≡ Ok text → IsPrinted d screen text
+      → (if b then Ok (screen_text screen (block_at d.blocks screen)) else Err missing) ≡ Ok text → IsPrinted d screen text
   by_call true q h =
       let test : (nat_lt screen (length d.blocks) && not (next_fails d.coming)) ≡ true = q in
-      by_bytes (grind arith) (list_all is_text bytes) refl h
+      record { there = grind arith; is = cc }
   by_call false q h = cc
 
 pub text_so : (n : ℕ) (d : Disk) (screen : ℕ) (text : List ℕ) → pages d screen n ≡ Ok text → text ≡ text_of (screens_at d.blocks screen n)
@@ -69,7 +55,7 @@ each_writable (suc n) d screen text sized few e =
     let p = parts (page d screen) (pages (called d) (screen + 1) n) text e in
     let here = printed d screen p.first p.first_is in
     All-cons IsWritable (record { number = screen; bytes = block_at d.blocks screen }) (screens_at d.blocks (screen + 1) n)
-    (record { number = omega arith; size = sized screen [] here.there; text = here.carried })
+    (record { number = omega arith; size = (sized screen [] here.there).size; bytes = (sized screen [] here.there).bytes })
     (each_writable n (called d) (screen + 1) p.rest sized (omega arith) p.rest_is)
 
 -- all numbers from one on are above those before it

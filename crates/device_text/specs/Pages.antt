@@ -1,23 +1,16 @@
 -- The text of screens of a disk.
-use Rattle.std.specs.Prelude.{All, ◌≡◌, ◌⊎◌, ℕ, zero, suc, ◌+◌, ◌/◌, List, [], ◌∷◌, ◌++◌, length, Result, Ok, Err, if◌then◌else◌}
+use Rattle.std.specs.Prelude.{All, ◌≡◌, ◌⊎◌, ℕ, zero, suc, ◌+◌, List, [], ◌∷◌, ◌++◌, length, true, Result, Ok, Err, if◌then◌else◌}
 use Rattle.std.specs.List.{list_all}
 use Rattle.block_buffers.specs.Disks.{Disk, succeeds, block_at, called}
-use Rattle.screen_text.specs.Bytes.{is_text}
+use Rattle.screen_text.specs.Escapes.{is_byte}
 use Rattle.screen_text.specs.Screens.{Screen, screen_text}
-use Rattle.screen_text.specs.Writing.{first_bad}
-use Rattle.device_text.specs.declared.pages.PageCause.TheVariants.{BadByte, Device, OutOfMemory}
+use Rattle.device_text.specs.declared.pages.PageCause.TheVariants.{Device, OutOfMemory}
 use Rattle.device_text.specs.declared.pages.Unprinted.{Unprinted}
 
--- the text of a screen, or its first line with a byte that no text can carry
-unfoldable pub written : (screen : ℕ) → List ℕ → Result (List ℕ) Unprinted
-written screen bytes =
-    if list_all is_text bytes then Ok (screen_text screen bytes)
-    else Err (record { screen = screen; line = first_bad bytes / 64; cause = BadByte })
-
--- the text of a screen of a disk, if it can be read and a text can carry it
+-- the text of a screen of a disk, if it can be read
 unfoldable pub page : Disk → (screen : ℕ) → Result (List ℕ) Unprinted
 page d screen =
-    if succeeds d screen then written screen (block_at d.blocks screen) else Err (record { screen = screen; line = 0; cause = Device })
+    if succeeds d screen then Ok (screen_text screen (block_at d.blocks screen)) else Err (record { screen = screen; line = 0; cause = Device })
 
 -- two texts, one behind the other: the first that is refused decides
 abbrev pub joined : Result (List ℕ) Unprinted → Result (List ℕ) Unprinted → Result (List ℕ) Unprinted
@@ -35,9 +28,13 @@ unfoldable pub screens_at : (blocks : List (List ℕ)) → (screen n : ℕ) → 
 screens_at blocks screen zero = []
 screens_at blocks screen (suc n) = record { number = screen; bytes = block_at blocks screen } ∷ screens_at blocks (screen + 1) n
 
--- each block of the disk has 1,024 bytes
+-- each block has 1,024 bytes
+pub record IsBlock (block : List ℕ) : Type 0 where
+  pub size : length block ≡ 1024
+  pub bytes : list_all is_byte block ≡ true
+
 abbrev pub AreBlocks : List (List ℕ) → Type 0
-AreBlocks blocks = All (λ b. length b ≡ 1024) blocks
+AreBlocks blocks = All IsBlock blocks
 
 -- this is why they aren't printed, or memory ran out
 abbrev pub IsWhy : Result (List ℕ) Unprinted → Unprinted → Type 0

@@ -1,20 +1,18 @@
 //! Screens of a device as text.
 
-ghost use Rattle.std.specs.Prelude.{◌≡◌, ◌+◌, ◌-◌, Err, IfErr, IfOk, Ok, Some};
+ghost use Rattle.std.specs.Prelude.{◌≡◌, ◌+◌, ◌-◌, IfErr, IfOk, Ok, Some};
 ghost use Rattle.block_buffers.specs.Calls.{KeepsBlocks};
 ghost use Rattle.block_buffers.specs.Disks.{Disk, called};
 ghost use Rattle.device_text.specs.declared.pages.PageCause.{PageCause};
-ghost use Rattle.device_text.specs.Pages.{IsWhy, page, pages, written};
+ghost use Rattle.device_text.specs.Pages.{IsWhy, page, pages};
 
 use block_buffers::{BLOCK_SIZE, Device};
-use screen_text::{Unwritten, screen_text};
+use screen_text::screen_text;
 use std::alloc::Global;
 
 /// What is wrong with a screen that is to be printed.
 #[derive(Clone, Copy, Debug, PartialEq, Eq, Drop)]
 pub enum PageCause {
-    /// A byte that no text can carry.
-    BadByte,
     /// The screen isn't there, or can't be read.
     Device,
     /// Memory ran out.
@@ -25,7 +23,7 @@ pub enum PageCause {
 #[derive(Clone, Copy, Debug, PartialEq, Eq, Drop)]
 pub struct Unprinted {
     pub screen: u16,
-    /// The line of the screen, counted from 0.
+    /// The line of the screen, counted from 0; 0 where it is the whole screen.
     pub line: usize,
     pub cause: PageCause,
 }
@@ -41,22 +39,6 @@ fn wanting(screen: u16) -> Unprinted
     }
 }
 
-/// The text of the bytes of a screen.
-fn text_of(alloc: Global, screen: u16, bytes: &[u8; BLOCK_SIZE]) -> Result<Vec<u8>, Unprinted>
-    ensures text { IfOk result (λ v. written screen bytes.now ≡ Ok v.items) }
-    ensures refused { IfErr result (IsWhy (written screen bytes.now)) }
-{
-    match screen_text(alloc, screen, bytes) {
-        Ok(text) => Ok(text),
-        Err(Unwritten::BadByte(line)) => Err(Unprinted {
-            screen,
-            line,
-            cause: PageCause::BadByte,
-        }),
-        Err(Unwritten::OutOfMemory) => Err(wanting(screen)),
-    }
-}
-
 /// The text of a screen of a device.
 fn page_text<D: Device>(alloc: Global, device: &mut D, screen: u16) -> Result<Vec<u8>, Unprinted>
     ensures text { IfOk result (λ v. (d : Disk) → D.disk device.old ≡ Some d → page d screen ≡ Ok v.items) }
@@ -66,7 +48,10 @@ fn page_text<D: Device>(alloc: Global, device: &mut D, screen: u16) -> Result<Ve
 {
     let mut bytes = [b' '; BLOCK_SIZE];
     match device.read(screen, &mut bytes) {
-        Ok(()) => text_of(alloc, screen, &bytes),
+        Ok(()) => match screen_text(alloc, screen, &bytes) {
+            Ok(text) => Ok(text),
+            Err(_) => Err(wanting(screen)),
+        },
         Err(_) => Err(Unprinted {
             screen,
             line: 0,

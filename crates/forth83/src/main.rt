@@ -1,6 +1,7 @@
 //! A Forth-83 system with block storage.
 #![tactic(auto)]
 
+mod disks;
 mod places;
 mod sessions;
 
@@ -9,6 +10,7 @@ ghost use Rattle.memory.specs.Bytes.{IsCount};
 
 use block_buffers::{Device, MemoryDevice};
 use command_words::{BuildWords, LoadWords, Parsed, RunWords, ScreenRange, Words};
+use disks::{export_screens, import_screens};
 use inner_interpreter::{Reading, Writing};
 use places::{blocks_of, show_place, show_stop};
 use sessions::{Session, run_session};
@@ -470,6 +472,8 @@ fn obey(rt: &HostRuntime, words: Words) -> Result<u8, u8> {
         Words::Text(words) => print_text(rt, &words),
         Words::Screens { text, blocks } => write_screens(rt, text.as_str(), blocks.as_str()),
         Words::New { blocks, count } => write_new(rt, blocks.as_str(), count),
+        Words::Import(words) => import_screens(rt, &words),
+        Words::Export(words) => export_screens(rt, &words),
         Words::Run(words) => run_image(rt, &words),
         Words::Debug {
             image,

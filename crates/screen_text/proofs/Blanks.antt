@@ -1,7 +1,7 @@
-use Rattle.std.proofs.Common.{◌≡◌, ◌≢◌, ◌∙◌, ℕ, zero, suc, ◌+◌, ◌-◌, ◌%◌, ◌<◌, ◌≤◌, ◌==◌, List, [], ◌∷◌, ◌++◌, length, take, drop, slice_index, Bool, true, false, ◌&&◌, append_assoc, append-nil, length-append, arith, refl, ap, sym}
+use Rattle.std.proofs.Common.{◌≡◌, ◌≢◌, ◌∙◌, ℕ, zero, suc, ◌+◌, ◌-◌, ◌%◌, ◌<◌, ◌≤◌, ◌==◌, List, [], ◌∷◌, ◌++◌, length, take, drop, get_or, slice_index, Bool, true, false, ◌&&◌, ◌||◌, append_assoc, append-nil, length-append, arith, refl, ap, sym}
 use Rattle.std.proofs.lemmas.Grind.{common_steps}
-use Rattle.std.proofs.lemmas.List.{drop_all}
-use Rattle.screen_text.specs.Bytes.{blanks, padded, is_blank, trimmed, spread}
+use Rattle.std.proofs.lemmas.List.{drop_all, at_drop_all, at_drop_more}
+use Rattle.screen_text.specs.Bytes.{bad_byte, blanks, padded, is_blank, is_text, trimmed, spread}
 
 pub length-blanks : (n : ℕ) → length (blanks n) ≡ n
 unfolding blanks
@@ -84,3 +84,16 @@ unfolding spread
 spread_all plain line all i within e =
     let none : drop i line ≡ [] = drop_all i line within in
     sym (append-nil plain) ∙ ap (λ r. plain ++ spread (length plain) r) (sym none) ∙ e
+
+-- `bad_byte`, a byte on, where it stops, and at the end
+pub bad_more : (line : List ℕ) (i : ℕ) → i < length line → (get_or line i 0 == 9 || is_text (get_or line i 0)) ≡ true → bad_byte (drop i line) ≡ bad_byte (drop (i + 1) line)
+unfolding bad_byte
+bad_more line i h good = at_drop_more bad_byte line i 0 h ∙ rw good refl
+
+pub bad_here : (line : List ℕ) (i : ℕ) → i < length line → (get_or line i 0 == 9 || is_text (get_or line i 0)) ≡ false → bad_byte (drop i line) ≡ get_or line i 0
+unfolding bad_byte
+bad_here line i h bad = at_drop_more bad_byte line i 0 h ∙ rw bad refl
+
+pub bad_end : (line : List ℕ) (i : ℕ) → length line ≤ i → bad_byte (drop i line) ≡ 0
+unfolding bad_byte
+bad_end line i h = at_drop_all bad_byte line i h

@@ -5,15 +5,17 @@ use Rattle.std.proofs.lemmas.Grind.{flat_map-append}
 use Rattle.std.proofs.lemmas.List.Elements.{All-head, All-tail}
 use Rattle.std.proofs.lemmas.List.Folds.{list_all-append}
 use Rattle.screen_text.specs.Bytes.{is_blank, is_text, trimmed}
-use Rattle.screen_text.specs.Screens.{Screen, IsWritable, heading, marked, screen_lines, line_text, screen_text, text_of, numbers_of, bytes_of}
+use Rattle.screen_text.specs.Escapes.{is_byte}
+use Rattle.screen_text.specs.Screens.{Screen, IsWritable, heading, written, screen_lines, line_text, screen_text, text_of, numbers_of, bytes_of}
 use Rattle.screen_text.specs.Reading.{State, whole, with_screen, with_text}
 use Rattle.screen_text.proofs.Splitting.{ended, are_text}
-use Rattle.screen_text.proofs.Tidy.{tidy-line, tidy-heading, heading-read}
-use Rattle.screen_text.proofs.Rereading.{Leads, stays, one, joins, Adds, adds_lines, text-front, text-back}
+use Rattle.screen_text.proofs.Tidy.{tidy-heading, heading-read}
+use Rattle.screen_text.proofs.Escaping.{tidy-written}
+use Rattle.screen_text.proofs.Rereading.{Leads, stays, one, joins, Adds, adds_lines, all-front, all-back}
 
 -- the lines that a screen is written in
 unfoldable pub source_lines : Screen → List (List ℕ)
-source_lines s = heading s.number ∷ map marked (screen_lines 16 s.bytes)
+source_lines s = heading s.number ∷ map written (screen_lines 16 s.bytes)
 
 unfoldable pub all_lines : List Screen → List (List ℕ)
 all_lines screens = flat_map source_lines screens
@@ -70,10 +72,10 @@ unfolding source_lines
 reads_screen s screen h may none few size =
     let t : State = record { headed = true; numbers = s.numbers ++ screen.number ∷ []; bytes = whole s } in
     let first : with_text s (heading screen.number) ≡ Ok t = heading-read s screen.number h.number ∙ begins s screen.number may none few in
-    let a : Adds t (map marked (screen_lines 16 screen.bytes)) screen.bytes = adds_lines 16 t screen.bytes h.size h.text (let w = h.size in omega (arith, length-append s.numbers (screen.number ∷ []))) in
+    let a : Adds t (map written (screen_lines 16 screen.bytes)) screen.bytes = adds_lines 16 t screen.bytes h.size h.bytes (let w = h.size in omega (arith, length-append s.numbers (screen.number ∷ []))) in
     record {
       after = a.after;
-      leads = joins s t a.after (heading screen.number ∷ []) (map marked (screen_lines 16 screen.bytes)) (one s t (heading screen.number) first) a.leads;
+      leads = joins s t a.after (heading screen.number ∷ []) (map written (screen_lines 16 screen.bytes)) (one s t (heading screen.number) first) a.leads;
       headed = ap (λ b. b || length a.after.numbers == 0) a.headed;
       numbers = a.numbers;
       bytes = a.bytes;
@@ -99,14 +101,14 @@ reads_screens (screen ∷ screens) s each new few may size =
     }
 
 -- the text of screens has just these lines
-lines-text : (lines : List (List ℕ)) → flat_map line_text lines ≡ ended (map marked lines)
+lines-text : (lines : List (List ℕ)) → flat_map line_text lines ≡ ended (map written lines)
 unfolding line_text ended
 lines-text [] = refl
-lines-text (l ∷ lines) = ap (λ r. (marked l ++ 10 ∷ []) ++ r) (lines-text lines)
+lines-text (l ∷ lines) = ap (λ r. (written l ++ 10 ∷ []) ++ r) (lines-text lines)
 
 screen-text-is : (s : Screen) → screen_text s.number s.bytes ≡ ended (source_lines s)
 unfolding screen_text source_lines ended
-screen-text-is s = ap (λ r. heading s.number ++ 10 ∷ r) (lines-text (screen_lines 16 s.bytes)) ∙ sym (append_assoc (heading s.number) (10 ∷ []) (ended (map marked (screen_lines 16 s.bytes))))
+screen-text-is s = ap (λ r. heading s.number ++ 10 ∷ r) (lines-text (screen_lines 16 s.bytes)) ∙ sym (append_assoc (heading s.number) (10 ∷ []) (ended (map written (screen_lines 16 s.bytes))))
 
 ended-append : (xs ys : List (List ℕ)) → ended (xs ++ ys) ≡ ended xs ++ ended ys
 unfolding ended
@@ -117,16 +119,16 @@ unfolding text_of all_lines
 text-is [] = unfold ended in refl
 text-is (s ∷ screens) = ap (λ r. r ++ text_of screens) (screen-text-is s) ∙ ap (λ r. ended (source_lines s) ++ r) (text-is screens) ∙ sym (ended-append (source_lines s) (all_lines screens))
 
-rows-by : (t : Bool) (n : ℕ) (part : List ℕ) → list_all is_text (marked (trimmed (take 64 part))) ≡ true → are_text (map marked (screen_lines n (drop 64 part))) ≡ true →
-    are_text (map marked (if t then [] else trimmed (take 64 part) ∷ screen_lines n (drop 64 part))) ≡ true
+rows-by : (t : Bool) (n : ℕ) (part : List ℕ) → list_all is_text (written (trimmed (take 64 part))) ≡ true → are_text (map written (screen_lines n (drop 64 part))) ≡ true →
+    are_text (map written (if t then [] else trimmed (take 64 part) ∷ screen_lines n (drop 64 part))) ≡ true
 unfolding are_text
 rows-by true n part e more = refl
 rows-by false n part e more = rw (e, more) refl
 
-rows-text : (n : ℕ) (part : List ℕ) → list_all is_text part ≡ true → are_text (map marked (screen_lines n part)) ≡ true
+rows-text : (n : ℕ) (part : List ℕ) → list_all is_byte part ≡ true → are_text (map written (screen_lines n part)) ≡ true
 unfolding are_text screen_lines
 rows-text zero part e = refl
-rows-text (suc n) part e = rows-by (is_blank part) n part (tidy-line (take 64 part) (text-front 64 part e)).text (rows-text n (drop 64 part) (text-back 64 part e))
+rows-text (suc n) part e = rows-by (is_blank part) n part (tidy-written (take 64 part) (all-front is_byte 64 part e)).text (rows-text n (drop 64 part) (all-back is_byte 64 part e))
 
 pub all-text-lines : (screens : List Screen) → All IsWritable screens → are_text (all_lines screens) ≡ true
 unfolding all_lines source_lines are_text
@@ -134,6 +136,6 @@ all-text-lines [] each = refl
 all-text-lines (s ∷ screens) each =
     let h : IsWritable s = All-head IsWritable s screens each in
     let title : list_all is_text (heading s.number) ≡ true = (tidy-heading s.number h.number).text in
-    let rows : are_text (map marked (screen_lines 16 s.bytes)) ≡ true = rows-text 16 s.bytes h.text in
+    let rows : are_text (map written (screen_lines 16 s.bytes)) ≡ true = rows-text 16 s.bytes h.bytes in
     let more : are_text (all_lines screens) ≡ true = all-text-lines screens (All-tail IsWritable s screens each) in
-    rw title (list_all-append (λ l. list_all is_text l) (map marked (screen_lines 16 s.bytes)) (all_lines screens) ∙ rw (rows, more) refl)
+    rw title (list_all-append (λ l. list_all is_text l) (map written (screen_lines 16 s.bytes)) (all_lines screens) ∙ rw (rows, more) refl)

@@ -3,14 +3,16 @@ use Rattle.std.specs.Prelude.{eqb}
 use Rattle.std.specs.List.{list_all, list_any, IsDistinct, AllByRecursion}
 use Rattle.std.proofs.lemmas.List.Folds.{list_all-append}
 use Rattle.screen_text.specs.declared.cause.Cause.{Cause}
-use Rattle.screen_text.specs.declared.cause.Cause.TheVariants.{BadByte, LongLine, FullScreen, BadHeading, LateHeading, NamedTwice, NoScreen}
+use Rattle.screen_text.specs.declared.cause.Cause.TheVariants.{BadByte, BadEscape, LongLine, FullScreen, BadHeading, LateHeading, NamedTwice, NoScreen}
 use Rattle.screen_text.specs.declared.cause.TextFault.{TextFault}
-use Rattle.screen_text.specs.Bytes.{blanks, padded, is_text, trimmed, spread}
+use Rattle.screen_text.specs.Bytes.{bad_byte, blanks, padded, is_text, trimmed, spread}
+use Rattle.screen_text.specs.Escapes.{Unescaped, has_sign, is_byte, is_whole, unescaped}
 use Rattle.screen_text.specs.Screens.{has_mark}
-use Rattle.screen_text.specs.Reading.{State, is_heading, number_of, nothing, then_read, whole, with_line, with_plain, with_screen, with_text, with_texts}
+use Rattle.screen_text.specs.Reading.{State, is_heading, number_of, nothing, then_read, whole, with_escapes, with_line, with_plain, with_screen, with_text, with_texts}
 use Rattle.screen_text.proofs.Blanks.{length-blanks}
 use Rattle.screen_text.proofs.Tidy.{trimmed-text-of}
-use Rattle.screen_text.proofs.Rereading.{text-back}
+use Rattle.screen_text.proofs.Rereading.{all-back}
+use Rattle.screen_text.proofs.Escaping.{text-bytes, unescaped-bytes}
 
 -- what holds of all that is read
 pub record IsGood (s : State) : Type 0 where
@@ -20,7 +22,7 @@ pub record IsGood (s : State) : Type 0 where
   pub rows : ℕ
   pub size : length s.bytes ≡ 64 * rows
   pub fits : length s.bytes ≤ 1024 * length s.numbers
-  pub text : list_all is_text s.bytes ≡ true
+  pub bytes : list_all is_byte s.bytes ≡ true
 
 abbrev pub IsGoodResult : Result State Cause → Type 0
 IsGoodResult (Ok s) = IsGood s
@@ -58,19 +60,27 @@ unfolding blanks is_text
 blanks-text zero = refl
 blanks-text (suc n) = blanks-text n
 
-pub padded-text : (n : ℕ) (bs : List ℕ) → list_all is_text bs ≡ true → list_all is_text (padded n bs) ≡ true
+blanks-bytes : (n : ℕ) → list_all is_byte (blanks n) ≡ true
+unfolding blanks is_byte
+blanks-bytes zero = refl
+blanks-bytes (suc n) = blanks-bytes n
+
+pub padded-bytes : (n : ℕ) (bs : List ℕ) → list_all is_byte bs ≡ true → list_all is_byte (padded n bs) ≡ true
 unfolding padded
-padded-text n bs e = list_all-append is_text bs (blanks (n - length bs)) ∙ rw (e, blanks-text (n - length bs)) refl
+padded-bytes n bs e = list_all-append is_byte bs (blanks (n - length bs)) ∙ rw (e, blanks-bytes (n - length bs)) refl
 
 pub length-padded : (n : ℕ) (bs : List ℕ) → length bs ≤ n → length (padded n bs) ≡ n
 unfolding padded
 length-padded n bs h = omega (arith, length-append bs (blanks (n - length bs)), length-blanks (n - length bs))
 
+more-bytes : (xs ys : List ℕ) → list_all is_byte xs ≡ true → list_all is_byte ys ≡ true → list_all is_byte (xs ++ ys) ≡ true
+more-bytes xs ys a b = list_all-append is_byte xs ys ∙ rw (a, b) refl
+
 more-text : (xs ys : List ℕ) → list_all is_text xs ≡ true → list_all is_text ys ≡ true → list_all is_text (xs ++ ys) ≡ true
 more-text xs ys a b = list_all-append is_text xs ys ∙ rw (a, b) refl
 
 -- a line in the last screen
-in_room : (s : State) (line : List ℕ) → IsGood s → length line ≤ 64 → list_all is_text line ≡ true → length s.bytes < 1024 * length s.numbers → IsGood (record s { bytes = s.bytes ++ padded 64 line })
+in_room : (s : State) (line : List ℕ) → IsGood s → length line ≤ 64 → list_all is_byte line ≡ true → length s.bytes < 1024 * length s.numbers → IsGood (record s { bytes = s.bytes ++ padded 64 line })
 in_room s line h short text some =
     let size : length (s.bytes ++ padded 64 line) ≡ 64 * (h.rows + 1) = (let z = h.size in omega (arith, length-append s.bytes (padded 64 line), length-padded 64 line short)) in
     record {
@@ -80,11 +90,11 @@ in_room s line h short text some =
       rows = h.rows + 1;
       size = size;
       fits = (let z = h.size in omega arith);
-      text = more-text s.bytes (padded 64 line) h.text (padded-text 64 line text);
+      bytes = more-bytes s.bytes (padded 64 line) h.bytes (padded-bytes 64 line text);
     }
 
 -- a line that begins the next screen
-in_next : (s : State) (line : List ℕ) → IsGood s → s.headed ≡ false → length line ≤ 64 → list_all is_text line ≡ true → length s.numbers < 65535 →
+in_next : (s : State) (line : List ℕ) → IsGood s → s.headed ≡ false → length line ≤ 64 → list_all is_byte line ≡ true → length s.numbers < 65535 →
     IsGood (record s { numbers = s.numbers ++ (length s.numbers + 1) ∷ []; bytes = s.bytes ++ padded 64 line })
 in_next s line h plain short text some =
     let size : length (s.bytes ++ padded 64 line) ≡ 64 * (h.rows + 1) = (let z = h.size in omega (arith, length-append s.bytes (padded 64 line), length-padded 64 line short)) in
@@ -100,11 +110,11 @@ in_next s line h plain short text some =
       rows = h.rows + 1;
       size = size;
       fits = (let z = h.size in let f = h.fits in omega arith);
-      text = more-text s.bytes (padded 64 line) h.text (padded-text 64 line text);
+      bytes = more-bytes s.bytes (padded 64 line) h.bytes (padded-bytes 64 line text);
     }
 
 line_by : (long room headed next : Bool) (s : State) (line : List ℕ) → nat_lt 64 (length line) ≡ long → nat_lt (length s.bytes) (1024 * length s.numbers) ≡ room → s.headed ≡ headed → nat_lt (length s.numbers) 65535 ≡ next →
-    IsGood s → list_all is_text line ≡ true →
+    IsGood s → list_all is_byte line ≡ true →
     IsGoodResult (if long then Err LongLine
     else if room then Ok (record s { bytes = s.bytes ++ padded 64 line })
     else if headed then Err FullScreen
@@ -116,7 +126,7 @@ line_by false false true next s line a b c d h text = tt
 line_by false false false true s line a b c d h text = in_next s line h c (grind arith) text (grind arith)
 line_by false false false false s line a b c d h text = tt
 
-good_line : (s : State) (line : List ℕ) → IsGood s → list_all is_text line ≡ true → IsGoodResult (with_line s line)
+good_line : (s : State) (line : List ℕ) → IsGood s → list_all is_byte line ≡ true → IsGoodResult (with_line s line)
 unfolding with_line
 good_line s line h text = line_by (nat_lt 64 (length line)) (nat_lt (length s.bytes) (1024 * length s.numbers)) s.headed (nat_lt (length s.numbers) 65535) s line refl refl refl refl h text
 
@@ -139,27 +149,37 @@ screen_by false false false s n e h small =
       rows = 16 * length s.numbers;
       size = omega arith;
       fits = omega (arith, length-append s.numbers (n ∷ []));
-      text = padded-text (1024 * length s.numbers) s.bytes h.text;
+      bytes = padded-bytes (1024 * length s.numbers) s.bytes h.bytes;
     }
 
 good_screen : (s : State) (n : ℕ) → IsGood s → n < 65536 → IsGoodResult (with_screen s n)
 unfolding with_screen
 good_screen s n h small = screen_by (not (s.headed || length s.numbers == 0)) (list_any (λ m. m == n) s.numbers) (not (nat_lt (length s.numbers) 65536)) s n refl h small
 
-plain_by : (marked twice named : Bool) (s : State) (line : List ℕ) → is_heading line ≡ named → IsGood s → list_all is_text line ≡ true →
+escapes_by : (whole : Bool) (s : State) (u : Unescaped) → IsGood s → list_all is_byte u.bytes ≡ true → IsGoodResult (if whole then with_line s u.bytes else Err BadEscape)
+escapes_by true s u h bytes = good_line s u.bytes h bytes
+escapes_by false s u h bytes = tt
+
+good_escapes : (s : State) (text : List ℕ) → IsGood s → list_all is_text text ≡ true → IsGoodResult (with_escapes s (unescaped text))
+unfolding with_escapes
+good_escapes s text h e = escapes_by (is_whole (unescaped text)) s (unescaped text) h (unescaped-bytes text (text-bytes text e))
+
+plain_by : (marked twice signed named : Bool) (s : State) (line : List ℕ) → is_heading line ≡ named → IsGood s → list_all is_text line ≡ true →
     IsGoodResult (if not marked then with_line s line
     else if twice then with_line s (drop 1 line)
+    else if signed then with_escapes s (unescaped (drop 2 line))
     else if named then with_screen s (number_of (drop 9 line))
     else Err BadHeading)
 unfolding is_heading
-plain_by false twice named s line e h text = good_line s line h text
-plain_by true true named s line e h text = good_line s (drop 1 line) h (text-back 1 line text)
-plain_by true false true s line e h text = good_screen s (number_of (drop 9 line)) h (let low : nat_lt (number_of (drop 9 line)) 65536 ≡ true = grind arith in grind arith)
-plain_by true false false s line e h text = tt
+plain_by false twice signed named s line e h text = good_line s line h (text-bytes line text)
+plain_by true true signed named s line e h text = good_line s (drop 1 line) h (text-bytes (drop 1 line) (all-back is_text 1 line text))
+plain_by true false true named s line e h text = good_escapes s (drop 2 line) h (all-back is_text 2 line text)
+plain_by true false false true s line e h text = good_screen s (number_of (drop 9 line)) h (let low : nat_lt (number_of (drop 9 line)) 65536 ≡ true = grind arith in grind arith)
+plain_by true false false false s line e h text = tt
 
 good_plain : (s : State) (line : List ℕ) → IsGood s → list_all is_text line ≡ true → IsGoodResult (with_plain s line)
 unfolding with_plain
-good_plain s line h text = plain_by (has_mark line) (has_mark (drop 1 line)) (is_heading line) s line refl h text
+good_plain s line h text = plain_by (has_mark line) (has_mark (drop 1 line)) (has_sign (drop 1 line)) (is_heading line) s line refl h text
 
 spread-by : (tab : Bool) (b column : ℕ) (bs : List ℕ) → (b == 9) ≡ tab → (b == 9 || is_text b) ≡ true → ((c : ℕ) → list_all is_text (spread c bs) ≡ true) →
     list_all is_text (if tab then blanks (8 - column % 8) ++ spread (column + (8 - column % 8)) bs else b ∷ spread (column + 1) bs) ≡ true
@@ -173,7 +193,7 @@ spread-text column (b ∷ bs) e =
     let t : ((b == 9 || is_text b) && list_all (λ c. c == 9 || is_text c) bs) ≡ true = e in
     spread-by (b == 9) b column bs refl (grind arith) (λ c. spread-text c bs (grind arith))
 
-text_by : (fine : Bool) (s : State) (line : List ℕ) → list_all (λ b. b == 9 || is_text b) line ≡ fine → IsGood s → IsGoodResult (if fine then with_plain s (trimmed (spread 0 line)) else Err BadByte)
+text_by : (fine : Bool) (s : State) (line : List ℕ) → list_all (λ b. b == 9 || is_text b) line ≡ fine → IsGood s → IsGoodResult (if fine then with_plain s (trimmed (spread 0 line)) else Err (BadByte (bad_byte line)))
 text_by true s line e h = good_plain s (trimmed (spread 0 line)) h (trimmed-text-of (spread 0 line) (spread-text 0 line e))
 text_by false s line e h = tt
 
@@ -196,4 +216,4 @@ good_texts k s (text ∷ texts) h = then_good k (with_text s text) (λ t. with_t
 
 pub good_nothing : IsGood nothing
 unfolding nothing IsDistinct
-good_nothing = record { low = refl; distinct = tt; counted = λ e. refl; rows = 0; size = refl; fits = omega arith; text = refl }
+good_nothing = record { low = refl; distinct = tt; counted = λ e. refl; rows = 0; size = refl; fits = omega arith; bytes = refl }

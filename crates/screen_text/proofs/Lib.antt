@@ -3,6 +3,7 @@ pub mod Lines
 pub mod Splitting
 pub mod Numbers
 pub mod Tidy
+pub mod Escaping
 pub mod Rereading
 pub mod Gathering
 pub mod Kept

@@ -6,7 +6,6 @@ use Rattle.screen_text.specs.declared.cause.TextFault.{TextFault}
 use Rattle.screen_text.specs.Bytes.{is_blank, is_text, trimmed}
 use Rattle.screen_text.specs.Screens.{line_text, screen_lines}
 use Rattle.screen_text.specs.Reading.{State, Refuses, RefusesText, with_text, with_texts, then_read}
-use Rattle.screen_text.specs.Writing.{first_bad}
 
 -- where the rest of a screen is blank no line comes any more, and else the next
 pub lines_end : (n : ℕ) (bytes : List ℕ) → is_blank bytes ≡ true → flat_map line_text (screen_lines n bytes) ≡ []
@@ -27,16 +26,6 @@ texts_more line s t text texts e = ap (λ r. then_read line r (λ u. with_texts 
 pub texts_end : (line : ℕ) (s : State) (text : List ℕ) (texts : List (List ℕ)) (cause : Cause) → with_text s text ≡ Err cause → with_texts line s (text ∷ texts) ≡ Err (record { line = line; cause = cause })
 unfolding with_texts
 texts_end line s text texts cause e = ap (λ r. then_read line r (λ u. with_texts (line + 1) u texts)) e
-
-by_first : (b : ℕ) (bytes : List ℕ) (t : Bool) → is_text b ≡ t → (length bytes ≤ prefix_len is_text bytes → list_all is_text bytes ≡ true) → length (b ∷ bytes) ≤ prefix_len is_text (b ∷ bytes) → list_all is_text (b ∷ bytes) ≡ true
-by_first b bytes true e more within = rw e (more (let w : length (b ∷ bytes) ≤ 1 + prefix_len is_text bytes = rw e at within in omega arith))
-by_first b bytes false e more within = absurd (let w : length (b ∷ bytes) ≤ 0 = rw e at within in omega arith)
-
--- all is text where no byte comes before the end that isn't
-pub all_text : (bytes : List ℕ) → length bytes ≤ first_bad bytes → list_all is_text bytes ≡ true
-unfolding first_bad
-all_text [] within = refl
-all_text (b ∷ bytes) within = by_first b bytes (is_text b) refl (all_text bytes) within
 
 pub taken_front : (bytes : List ℕ) → 64 < length bytes → 64 ≡ length (take 64 bytes)
 taken_front bytes long = sym (length-take-le 64 bytes (omega arith))

@@ -3,12 +3,12 @@ use Rattle.std.specs.Prelude.{All, eqb}
 use Rattle.std.specs.List.{list_all, IsDistinct}
 use Rattle.std.proofs.lemmas.List.Elements.{All-nil, All-cons}
 use Rattle.screen_text.specs.declared.cause.TextFault.{TextFault}
-use Rattle.screen_text.specs.Bytes.{is_text}
+use Rattle.screen_text.specs.Escapes.{is_byte}
 use Rattle.screen_text.specs.Screens.{IsWritable, AreWritable, text_of, screens_of, numbers_of, bytes_of}
 use Rattle.screen_text.specs.Reading.{State, IsRead, nothing, read, text_lines, whole}
-use Rattle.screen_text.proofs.Good.{IsGood, IsGoodText, good_texts, good_nothing, length-padded, padded-text}
+use Rattle.screen_text.proofs.Good.{IsGood, IsGoodText, good_texts, good_nothing, length-padded, padded-bytes}
 use Rattle.screen_text.proofs.Kept.{reread}
-use Rattle.screen_text.proofs.Rereading.{text-front, text-back}
+use Rattle.screen_text.proofs.Rereading.{all-front, all-back}
 
 pub numbers-cut : (numbers bytes : List ℕ) → numbers_of (screens_of numbers bytes) ≡ numbers
 unfolding numbers_of screens_of
@@ -26,15 +26,15 @@ bytes-cut (n ∷ numbers) bytes size =
 both : (n : ℕ) (rest : Bool) → (nat_lt n 65536 && rest) ≡ true → (n < 65536) × (rest ≡ true)
 both n rest e = (grind arith, grind arith)
 
-writable-cut : (numbers bytes : List ℕ) → list_all (λ n. nat_lt n 65536) numbers ≡ true → length bytes ≡ 1024 * length numbers → list_all is_text bytes ≡ true → All IsWritable (screens_of numbers bytes)
+writable-cut : (numbers bytes : List ℕ) → list_all (λ n. nat_lt n 65536) numbers ≡ true → length bytes ≡ 1024 * length numbers → list_all is_byte bytes ≡ true → All IsWritable (screens_of numbers bytes)
 unfolding screens_of
 writable-cut [] bytes low size text = All-nil IsWritable
 writable-cut (n ∷ numbers) bytes low size text =
     let t : (n < 65536) × (list_all (λ m. nat_lt m 65536) numbers ≡ true) = both n (list_all (λ m. nat_lt m 65536) numbers) low in
     let rest : length (drop 1024 bytes) ≡ 1024 * length numbers = omega (arith, length-drop 1024 bytes) in
     let first : IsWritable (record { number = n; bytes = take 1024 bytes }) =
-    record { number = t.0; size = length-take-le 1024 bytes (omega arith); text = text-front 1024 bytes text } in
-    All-cons IsWritable (record { number = n; bytes = take 1024 bytes }) (screens_of numbers (drop 1024 bytes)) first (writable-cut numbers (drop 1024 bytes) t.1 rest (text-back 1024 bytes text))
+    record { number = t.0; size = length-take-le 1024 bytes (omega arith); bytes = all-front is_byte 1024 bytes text } in
+    All-cons IsWritable (record { number = n; bytes = take 1024 bytes }) (screens_of numbers (drop 1024 bytes)) first (writable-cut numbers (drop 1024 bytes) t.1 rest (all-back is_byte 1024 bytes text))
 
 -- what a text is read as are screens that can be written
 pub record IsReturned (numbers bytes : List ℕ) : Type 0 where
@@ -47,7 +47,7 @@ good-returned : (s : State) → IsGood s → IsReturned s.numbers (whole s)
 unfolding whole
 good-returned s h =
     let size : length (whole s) ≡ 1024 * length s.numbers = length-padded (1024 * length s.numbers) s.bytes h.fits in
-    let text : list_all is_text (whole s) ≡ true = padded-text (1024 * length s.numbers) s.bytes h.text in
+    let text : list_all is_byte (whole s) ≡ true = padded-bytes (1024 * length s.numbers) s.bytes h.bytes in
     record {
       writable = record { each = writable-cut s.numbers (whole s) h.low size text; distinct = subst (IsDistinct eqb) (sym (numbers-cut s.numbers (whole s))) h.distinct };
       numbers_same = numbers-cut s.numbers (whole s);

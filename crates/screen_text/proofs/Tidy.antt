@@ -3,6 +3,7 @@ use Rattle.std.specs.Prelude.{codes, decimal, bytes_eq}
 use Rattle.std.specs.List.{list_all}
 use Rattle.std.proofs.lemmas.List.Folds.{list_all-append}
 use Rattle.screen_text.specs.Bytes.{blanks, padded, is_blank, is_text, trimmed, spread}
+use Rattle.screen_text.specs.Escapes.{has_sign}
 use Rattle.screen_text.specs.Screens.{heading, has_mark, marked}
 use Rattle.screen_text.specs.Reading.{State, number_of, is_heading, with_line, with_plain, with_screen, with_text}
 use Rattle.screen_text.proofs.Blanks.{blank-cons, trimmed-text}
@@ -50,6 +51,10 @@ heading-two : (n : ℕ) → has_mark (drop 1 (heading n)) ≡ false
 unfolding has_mark heading
 heading-two n = refl
 
+heading-sign : (n : ℕ) → has_sign (drop 1 (heading n)) ≡ false
+unfolding has_sign heading
+heading-sign n = refl
+
 -- a line of a screen is read as it was, whether it begins with % or not
 pub unmarked : (s : State) (line : List ℕ) (m : Bool) → has_mark line ≡ m → with_plain s (if m then 37 ∷ line else line) ≡ with_line s line
 unfolding with_plain
@@ -67,10 +72,11 @@ headed s n small =
     let low : nat_lt n 65536 ≡ true = grind arith in
     let one : has_mark (heading n) ≡ true = heading-one n in
     let two : has_mark (drop 1 (heading n)) ≡ false = heading-two n in
-    rw (one, two, value, low, same-bytes (heading n)) refl
+    let sign : has_sign (drop 1 (heading n)) ≡ false = heading-sign n in
+    rw (one, two, sign, value, low, same-bytes (heading n)) refl
 
 -- bytes that begin with one that is no blank
-trimmed-cons : (b : ℕ) (bs : List ℕ) → b ≢ 32 → trimmed (b ∷ bs) ≡ b ∷ trimmed bs
+pub trimmed-cons : (b : ℕ) (bs : List ℕ) → b ≢ 32 → trimmed (b ∷ bs) ≡ b ∷ trimmed bs
 unfolding trimmed
 trimmed-cons b bs h =
     let q : (b == 32) ≡ false = grind arith in
@@ -121,7 +127,7 @@ again-by false b bs e more =
     let q : is_blank (b ∷ trimmed bs) ≡ false = same ∙ e in
     rw (q, more) refl
 
-trimmed-again : (bs : List ℕ) → trimmed (trimmed bs) ≡ trimmed bs
+pub trimmed-again : (bs : List ℕ) → trimmed (trimmed bs) ≡ trimmed bs
 unfolding trimmed
 trimmed-again [] = refl
 trimmed-again (b ∷ bs) = again-by (is_blank (b ∷ bs)) b bs refl (trimmed-again bs)
@@ -147,8 +153,8 @@ tidy-heading n small =
       trimmed = ap trimmed is ∙ trimmed-text (codes "% screen " ++ d.front) d.last (let high : 48 ≤ d.last = d.high in λ e. omega arith) ∙ sym is;
     }
 
-pub line-read : (s : State) (bs : List ℕ) → list_all is_text bs ≡ true → with_text s (marked (trimmed bs)) ≡ with_line s (trimmed bs)
-line-read s bs e = taken_plain s (marked (trimmed bs)) (tidy-line bs e) ∙ unfold marked in unmarked s (trimmed bs) (has_mark (trimmed bs)) refl
+pub text-read : (s : State) (bs : List ℕ) → list_all is_text bs ≡ true → with_text s (marked (trimmed bs)) ≡ with_line s (trimmed bs)
+text-read s bs e = taken_plain s (marked (trimmed bs)) (tidy-line bs e) ∙ unfold marked in unmarked s (trimmed bs) (has_mark (trimmed bs)) refl
 
 pub heading-read : (s : State) (n : ℕ) → n < 65536 → with_text s (heading n) ≡ with_screen s n
 heading-read s n small = taken_plain s (heading n) (tidy-heading n small) ∙ headed s n small

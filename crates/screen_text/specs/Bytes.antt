@@ -1,5 +1,5 @@
 -- Bytes of a text, and blanks.
-use Rattle.std.specs.Prelude.{ℕ, ◌+◌, ◌-◌, ◌%◌, ◌==◌, List, [], ◌∷◌, ◌++◌, length, replicate, Bool, ◌&&◌, nat_le, if◌then◌else◌}
+use Rattle.std.specs.Prelude.{ℕ, ◌+◌, ◌-◌, ◌%◌, ◌==◌, List, [], ◌∷◌, ◌++◌, length, replicate, Bool, ◌&&◌, ◌||◌, nat_le, if◌then◌else◌}
 use Rattle.std.specs.List.{list_all}
 
 -- n blanks
@@ -21,6 +21,11 @@ trimmed (b ∷ bs) = if is_blank (b ∷ bs) then [] else b ∷ trimmed bs
 -- a byte that a text can carry: from the blank to ~
 unfoldable pub is_text : ℕ → Bool
 is_text b = nat_le 32 b && nat_le b 126
+
+-- a line's first byte that is neither a tab nor text, 0 where there is none
+unfoldable pub bad_byte : List ℕ → ℕ
+bad_byte [] = 0
+bad_byte (b ∷ bs) = if b == 9 || is_text b then bad_byte bs else b
 
 -- with blanks for each tab, up to the next column of eight
 unfoldable pub spread : (column : ℕ) → List ℕ → List ℕ

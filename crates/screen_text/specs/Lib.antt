@@ -1,5 +1,5 @@
 pub mod Bytes
 pub mod Screens
 pub mod Reading
-pub mod Writing
+pub mod Escapes
 pub mod Blocks

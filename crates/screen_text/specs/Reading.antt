@@ -4,9 +4,10 @@ use Rattle.std.specs.List.{list_all, list_any}
 use Rattle.std.specs.Str.{bytes_eq}
 use Rattle.bstr.specs.Text.{lines_of, without_terminator}
 use Rattle.screen_text.specs.declared.cause.Cause.{Cause}
-use Rattle.screen_text.specs.declared.cause.Cause.TheVariants.{BadByte, LongLine, FullScreen, BadHeading, LateHeading, NamedTwice, NoScreen, OutOfMemory}
+use Rattle.screen_text.specs.declared.cause.Cause.TheVariants.{BadByte, BadEscape, LongLine, FullScreen, BadHeading, LateHeading, NamedTwice, NoScreen, OutOfMemory}
 use Rattle.screen_text.specs.declared.cause.TextFault.{TextFault}
-use Rattle.screen_text.specs.Bytes.{padded, trimmed, is_text, spread}
+use Rattle.screen_text.specs.Bytes.{padded, trimmed, is_text, bad_byte, spread}
+use Rattle.screen_text.specs.Escapes.{Unescaped, has_sign, is_whole, unescaped}
 use Rattle.screen_text.specs.Screens.{heading, has_mark}
 
 -- what is read up to a line: whether headings stand before the lines, the numbers of the screens, and the lines of these,
@@ -45,17 +46,22 @@ with_line s line =
     else if nat_lt (length s.numbers) 65535 then Ok (record s { numbers = s.numbers ++ (length s.numbers + 1) ∷ []; bytes = s.bytes ++ padded 64 line })
     else Err NoScreen
 
--- a line that begins with one % is a heading; of two, one is left out
+-- a line with escapes, where these are good
+unfoldable pub with_escapes : State → Unescaped → Result State Cause
+with_escapes s u = if is_whole u then with_line s u.bytes else Err BadEscape
+
+-- a line that begins with one % is a heading, or has escapes behind %~; of two, one is left out
 unfoldable pub with_plain : State → List ℕ → Result State Cause
 with_plain s line =
     if not (has_mark line) then with_line s line
     else if has_mark (drop 1 line) then with_line s (drop 1 line)
+    else if has_sign (drop 1 line) then with_escapes s (unescaped (drop 2 line))
     else if is_heading line then with_screen s (number_of (drop 9 line))
     else Err BadHeading
 
 -- a line of a text: tabs are blanks, and blanks at its end are nothing
 unfoldable pub with_text : State → List ℕ → Result State Cause
-with_text s line = if list_all (λ b. b == 9 || is_text b) line then with_plain s (trimmed (spread 0 line)) else Err BadByte
+with_text s line = if list_all (λ b. b == 9 || is_text b) line then with_plain s (trimmed (spread 0 line)) else Err (BadByte (bad_byte line))
 
 -- before the first line
 unfoldable pub nothing : State

@@ -2,6 +2,7 @@
 use Rattle.std.specs.Prelude.{All, eqb, map, ◌≡◌, ◌<◌, ℕ, zero, suc, ◌==◌, List, [], ◌∷◌, ◌++◌, length, take, drop, Bool, true, false, codes, decimal, flat_map, if◌then◌else◌}
 use Rattle.std.specs.List.{list_all, IsDistinct}
 use Rattle.screen_text.specs.Bytes.{is_blank, is_text, trimmed}
+use Rattle.screen_text.specs.Escapes.{escaped, is_byte}
 
 -- a screen: its number and its 1,024 bytes
 pub record Screen : Type 0 where
@@ -26,9 +27,13 @@ unfoldable pub screen_lines : ℕ → List ℕ → List (List ℕ)
 screen_lines zero bytes = []
 screen_lines (suc n) bytes = if is_blank bytes then [] else trimmed (take 64 bytes) ∷ screen_lines n (drop 64 bytes)
 
+-- one with bytes that are no text is written by escapes
+unfoldable pub written : List ℕ → List ℕ
+written line = if list_all is_text line then marked line else escaped line
+
 -- a line of a screen and its end
 unfoldable pub line_text : List ℕ → List ℕ
-line_text line = marked line ++ 10 ∷ []
+line_text line = written line ++ 10 ∷ []
 
 -- a screen as text: its heading and its lines
 unfoldable pub screen_text : (number : ℕ) → (bytes : List ℕ) → List ℕ
@@ -49,11 +54,11 @@ numbers_of screens = map (λ s. s.number) screens
 unfoldable pub bytes_of : List Screen → List ℕ
 bytes_of screens = flat_map (λ s. s.bytes) screens
 
--- a screen that a text can carry
+-- a screen: its number is one of a block file, and its bytes are bytes
 pub record IsWritable (s : Screen) : Type 0 where
   pub number : s.number < 65536
   pub size : length s.bytes ≡ 1024
-  pub text : list_all is_text s.bytes ≡ true
+  pub bytes : list_all is_byte s.bytes ≡ true
 
 -- screens that a text can carry: no number stands twice
 pub record AreWritable (screens : List Screen) : Type 0 where

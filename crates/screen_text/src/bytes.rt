@@ -2,7 +2,7 @@
 
 ghost use Rattle.std.specs.Prelude.{◌≡◌, ◌||◌, ◌==◌, ◌∷◌, [], List, ℕ, length, IfOk, OnOk, ◌++◌, take};
 ghost use Rattle.std.specs.List.{list_all};
-ghost use Rattle.screen_text.specs.Bytes.{blanks, is_blank, is_text, padded, spread, trimmed};
+ghost use Rattle.screen_text.specs.Bytes.{bad_byte, blanks, is_blank, is_text, padded, spread, trimmed};
 
 use std::alloc::{AllocError, Global};
 
@@ -17,11 +17,37 @@ pub fn is_text(byte: u8) -> bool
     byte >= 32 && byte <= 126
 }
 
+/// Whether a text can carry all these bytes as they are.
+pub fn are_text(bytes: &[u8]) -> bool
+    ensures { result ≡ list_all is_text bytes.now }
+{
+    bytes.iter().all(|byte| is_text(*byte))
+}
+
 /// Whether a line of a text has nothing but text and tabs.
 pub fn is_line(line: &[u8]) -> bool
     ensures { result ≡ list_all (λ b. b == 9 || is_text b) line.now }
 {
     line.iter().all(|byte| *byte == b'\t' || is_text(*byte))
+}
+
+/// Whether a byte may stand in a line of a text: it is text, or a tab.
+fn may_stand(byte: u8) -> bool
+    ensures { result ≡ (byte == 9 || is_text byte) }
+{
+    byte == b'\t' || is_text(byte)
+}
+
+/// A line's first byte that is neither a tab nor text, 0 where there is none.
+pub fn bad_byte(line: &[u8]) -> u8
+    ensures { result ≡ bad_byte line.now }
+{
+    for byte in line {
+        if !may_stand(*byte) {
+            return *byte;
+        }
+    }
+    0
 }
 
 /// Whether there is nothing but blanks.

@@ -1,10 +1,12 @@
-//! Why a text isn't read, and why a screen isn't written.
+//! Why a text isn't read.
 
 /// What is wrong with a line of a text.
 #[derive(Clone, Copy, Debug, PartialEq, Eq, Drop)]
 pub enum Cause {
-    /// A byte that is no text: below 32, but a tab, or above 126.
-    BadByte,
+    /// The line's first byte that is no text: below 32, but a tab, or above 126.
+    BadByte(u8),
+    /// `%~` begins a line in which a `~` hasn't two digits of base 16, 0 to 9 and A to F.
+    BadEscape,
     /// More than 64 bytes.
     LongLine,
     /// The seventeenth line of a screen.
@@ -27,13 +29,4 @@ pub struct TextFault {
     /// The first line at fault, counted from 1.
     pub line: usize,
     pub cause: Cause,
-}
-
-/// Why a screen isn't written as text.
-#[derive(Clone, Copy, Debug, PartialEq, Eq, Drop)]
-pub enum Unwritten {
-    /// This line of the screen, counted from 0, is the first with a byte that no text can carry: below 32 or above 126.
-    BadByte(usize),
-    /// Memory ran out.
-    OutOfMemory,
 }

@@ -4,12 +4,13 @@
 mod blocks;
 mod bytes;
 mod cause;
+mod escapes;
 mod headings;
 pub mod laws;
 mod printing;
 mod reading;
 
 pub use blocks::put_screens;
-pub use cause::{Cause, TextFault, Unwritten};
+pub use cause::{Cause, TextFault};
 pub use printing::screen_text;
 pub use reading::{Screens, read_text};

@@ -2,11 +2,13 @@
 
 ghost use Rattle.std.specs.Prelude.{◌≡◌, ◌==◌, ◌||◌, ◌++◌, ◌*◌, length, Ok, Err, IfErr, IfOk, OnOk, map};
 ghost use Rattle.std.specs.List.{list_any};
-ghost use Rattle.screen_text.specs.Reading.{Refuses, RefusesText, IsRead, nothing, read, text_lines, whole, with_line, with_plain, with_screen, with_text, with_texts};
+ghost use Rattle.screen_text.specs.Reading.{Refuses, RefusesText, IsRead, nothing, read, text_lines, whole, with_escapes, with_line, with_plain, with_screen, with_text, with_texts};
 ghost use Rattle.screen_text.specs.Bytes.{padded};
+ghost use Rattle.screen_text.specs.Escapes.{unescaped};
 
-use crate::bytes::{LINE, is_line, pad, spread, trimmed};
+use crate::bytes::{LINE, bad_byte, is_line, pad, spread, trimmed};
 use crate::cause::{Cause, TextFault};
+use crate::escapes::{has_sign, unescaped};
 use crate::headings::{behind, has_mark, named};
 use bstr::ByteSlice;
 use std::alloc::{AllocError, Global};
@@ -143,6 +145,19 @@ impl Reading {
         Ok(())
     }
 
+    /// Takes a line of what stands behind `%~`.
+    #[tactic(auto, unfolding(crate::specs::Reading::with_escapes))]
+    fn take_escaped(&mut self, alloc: Global, text: &[u8]) -> Result<(), Cause>
+        ensures taken { IfOk result (λ _. with_escapes self.old (unescaped text.now) ≡ Ok self.new) }
+        ensures refused { IfErr result (Refuses (with_escapes self.old (unescaped text.now))) }
+    {
+        match unescaped(alloc, text) {
+            Ok(Some(line)) => self.add(line.as_slice()),
+            Ok(None) => Err(Cause::BadEscape),
+            Err(_) => Err(Cause::OutOfMemory),
+        }
+    }
+
     /// Takes a line without tabs and blanks at its end: one that begins with one `%` is a heading.
     #[tactic(auto, unfolding(crate::specs::Reading::with_plain))]
     fn take_plain(&mut self, alloc: Global, line: &[u8]) -> Result<(), Cause>
@@ -155,6 +170,9 @@ impl Reading {
         let unmarked = behind(line, 1);
         if has_mark(unmarked) {
             return self.add(unmarked);
+        }
+        if has_sign(unmarked) {
+            return self.take_escaped(alloc, behind(line, 2));
         }
         match named(alloc, line) {
             Ok(Some(number)) => self.begin(number),
@@ -170,7 +188,7 @@ impl Reading {
         ensures refused { IfErr result (Refuses (with_text self.old line.now)) }
     {
         if !is_line(line) {
-            return Err(Cause::BadByte);
+            return Err(Cause::BadByte(bad_byte(line)));
         }
         match spread(alloc, line) {
             Ok(plain) => self.take_plain(alloc, trimmed(plain.as_slice())),

@@ -4,7 +4,7 @@ use Rattle.std.specs.Prelude.{All}
 use Rattle.std.proofs.Math.Seq.{drop-append_seam, drop-append-add, take-append_seam, take-append-add}
 use Rattle.std.proofs.lemmas.List.Elements.{All-head, All-tail}
 use Rattle.block_buffers.specs.Disks.{Disk, block_at, called}
-use Rattle.device_text.specs.Pages.{AreBlocks, pages, screens_at}
+use Rattle.device_text.specs.Pages.{AreBlocks, IsBlock, pages, screens_at}
 use Rattle.device_text.proofs.Screens.{last_there, rest_read, text_so, writable_so}
 use Rattle.screen_text.specs.Bytes.{blanks, padded}
 use Rattle.screen_text.specs.Blocks.{with_screen, with_screens}
@@ -42,8 +42,8 @@ length_file : (blocks : List (List ℕ)) → AreBlocks blocks → length (file_o
 unfolding file_of
 length_file [] sized = refl
 length_file (b ∷ blocks) sized =
-    let first : length b ≡ 1024 = All-head (λ c. length c ≡ 1024) b blocks sized in
-    omega (arith, length-append b (file_of blocks), length_file blocks (All-tail (λ c. length c ≡ 1024) b blocks sized))
+    let first : length b ≡ 1024 = (All-head IsBlock b blocks sized).size in
+    omega (arith, length-append b (file_of blocks), length_file blocks (All-tail IsBlock b blocks sized))
 
 -- a file is what stands before a block, the block, and what stands behind it
 split : (blocks : List (List ℕ)) (k : ℕ) → AreBlocks blocks → k < length blocks
@@ -51,11 +51,11 @@ split : (blocks : List (List ℕ)) (k : ℕ) → AreBlocks blocks → k < length
 unfolding file_of
 split [] k sized there = absurd (omega arith)
 split (b ∷ blocks) zero sized there =
-    let size : length b ≡ 1024 = All-head (λ c. length c ≡ 1024) b blocks sized in
+    let size : length b ≡ 1024 = (All-head IsBlock b blocks sized).size in
     let one : 1024 * (0 + 1) ≡ length b = omega arith in
     ap (λ n. b ++ drop n (b ++ file_of blocks)) one ∙ ap (λ bs. b ++ bs) (drop-append_seam b (file_of blocks))
 split (b ∷ blocks) (suc j) sized there =
-    let size : length b ≡ 1024 = All-head (λ c. length c ≡ 1024) b blocks sized in
+    let size : length b ≡ 1024 = (All-head IsBlock b blocks sized).size in
     let before : 1024 * suc j ≡ length b + 1024 * j = omega arith in
     let behind : 1024 * (suc j + 1) ≡ length b + 1024 * (j + 1) = omega arith in
     let front : take (1024 * suc j) (b ++ file_of blocks) ≡ b ++ take (1024 * j) (file_of blocks) =
@@ -65,7 +65,7 @@ split (b ∷ blocks) (suc j) sized there =
     ap (λ f. f ++ (block_at blocks j ++ drop (1024 * (suc j + 1)) (b ++ file_of blocks))) front
     ∙ ap (λ r. (b ++ take (1024 * j) (file_of blocks)) ++ (block_at blocks j ++ r)) back
     ∙ append_assoc b (take (1024 * j) (file_of blocks)) (block_at blocks j ++ drop (1024 * (j + 1)) (file_of blocks))
-    ∙ ap (λ f. b ++ f) (split blocks j (All-tail (λ c. length c ≡ 1024) b blocks sized) (omega arith))
+    ∙ ap (λ f. b ++ f) (split blocks j (All-tail IsBlock b blocks sized) (omega arith))
 
 -- a screen of a file, written into it
 put_same : (blocks : List (List ℕ)) (k : ℕ) → AreBlocks blocks → k < length blocks → with_screen (file_of blocks) (record { number = k; bytes = block_at blocks k }) ≡ file_of blocks

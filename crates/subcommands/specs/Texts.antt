@@ -14,12 +14,12 @@ use Rattle.screen_text.specs.declared.cause.TextFault.{TextFault}
 use Rattle.subcommands.specs.Lines.{Prints, PrintsOutOfMemory, line}
 
 abbrev pub page_cause : PageCause → List ℕ
-page_cause page.BadByte = codes "BadByte"
 page_cause page.Device = codes "Device"
 page_cause page.OutOfMemory = codes "out of memory"
 
 abbrev pub text_cause : Cause → List ℕ
-text_cause text.BadByte = codes "BadByte"
+text_cause (text.BadByte byte) = codes "BadByte " ++ decimal byte
+text_cause text.BadEscape = codes "BadEscape"
 text_cause text.LongLine = codes "LongLine"
 text_cause text.FullScreen = codes "FullScreen"
 text_cause text.BadHeading = codes "BadHeading"

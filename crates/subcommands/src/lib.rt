@@ -3,6 +3,7 @@
 
 mod causes;
 mod commands;
+mod container_command;
 mod debug_command;
 mod file_devices;
 mod files;
@@ -19,6 +20,7 @@ mod upgrade_command;
 mod whole_files;
 
 pub use commands::{Ended, do_build, do_kernel, do_run, do_view, refuse_image, status_of};
+pub use container_command::{do_export, do_import, refuse_container};
 pub use debug_command::do_debug;
 pub use file_devices::{FileDevice, open_device, open_to_read};
 pub use files::read_image;

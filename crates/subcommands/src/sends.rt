@@ -1,6 +1,6 @@
 //! Sending lines piece by piece, so that no memory is wanted for them.
 
-ghost use Rattle.std.specs.Prelude.{◌≡◌, ◌++◌, ◌∷◌, [], decimal, IsNone, OnErr, OnOk};
+ghost use Rattle.std.specs.Prelude.{◌≡◌, ◌++◌, ◌∷◌, [], IsNone, OnErr, OnOk};
 ghost use Rattle.std.specs.Io.KnownBytes.{Appends};
 ghost use Rattle.inner_interpreter.specs.Ends.{Marks};
 ghost use Rattle.subcommands.specs.Lines.{refusal};
@@ -21,8 +21,12 @@ pub fn send_decimal<I: Integer, W: Output>(writer: &mut W, number: I) -> Result<
 
 /// Sends a word, and a number in decimal behind it.
 #[tactic(auto, using(inner_interpreter::proofs::Sending::appends_both))]
-pub fn send_numbered<W: Output>(writer: &mut W, word: &[u8], number: u16) -> Result<(), EndFault>
-    ensures sent { OnOk result (Appends (W.sent writer.old) (W.sent writer.new) (word.now ++ decimal number)) }
+pub fn send_numbered<I: Integer, W: Output>(
+    writer: &mut W,
+    word: &[u8],
+    number: I,
+) -> Result<(), EndFault>
+    ensures sent { OnOk result (Appends (W.sent writer.old) (W.sent writer.new) (word.now ++ I.text number)) }
     ensures mark { Marks (W.failed writer.old) (W.failed writer.new) result }
 {
     send_all(writer, word)?;

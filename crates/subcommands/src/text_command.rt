@@ -27,7 +27,6 @@ impl Reason for PageCause {
 
     fn send<W: Output>(&self, writer: &mut W) -> Result<(), EndFault> {
         match *self {
-            PageCause::BadByte => send_all(writer, b"BadByte"),
             PageCause::Device => send_all(writer, b"Device"),
             PageCause::OutOfMemory => send_all(writer, b"out of memory"),
         }
@@ -39,7 +38,8 @@ impl Reason for Cause {
 
     fn send<W: Output>(&self, writer: &mut W) -> Result<(), EndFault> {
         match *self {
-            Cause::BadByte => send_all(writer, b"BadByte"),
+            Cause::BadByte(byte) => send_numbered(writer, b"BadByte ", u16::from(byte)),
+            Cause::BadEscape => send_all(writer, b"BadEscape"),
             Cause::LongLine => send_all(writer, b"LongLine"),
             Cause::FullScreen => send_all(writer, b"FullScreen"),
             Cause::BadHeading => send_all(writer, b"BadHeading"),
@@ -84,8 +84,8 @@ fn refuse_page<W: Output>(why: Unprinted, writer: &mut W) -> Ended
     ended(sent, 1)
 }
 
-/// Prints the screens from `from` to `to` as text. Status 0; 1: a screen can't be read, or has a byte that no text can carry
-/// (`screen S line L: CAUSE` is printed, and nothing else), or memory ran out; 5: the text can't be printed.
+/// Prints the screens from `from` to `to` as text. Status 0; 1: a screen can't be read
+/// (`screen S line 0: Device` is printed, and nothing else), or memory ran out; 5: the text can't be printed.
 pub fn do_text<W: Output, D: Device>(
     alloc: Global,
     device: &mut D,

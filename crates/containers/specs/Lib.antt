@@ -1,0 +1,4 @@
+pub mod Layouts
+pub mod Containers
+pub mod Formats
+pub mod Cleaning
