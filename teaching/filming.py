@@ -8,7 +8,7 @@ import traces
 import images
 from calls import MAYBE, Calls, effect_of
 
-EVERY = 20000
+EVERY, MOST_LAID = 20_000, 8 << 20
 
 
 class Place:
@@ -87,13 +87,15 @@ def whole_film(setting, image, dictionary, header, most, progress):
     reader = Whole(image, dictionary, Calls(header.body, header.end, most), setting.typed)
     run = traces.Run(setting, path, traces.lowest_colon(dictionary).name.decode())
     for number, line in enumerate(run.lines()):
-        reader.take(line)
+        if line.endswith(b"\n"):
+            reader.take(line)
         if number % EVERY == 0:
             progress.tell(f"{number:,} steps of the run so far")
     reader.calls.finish()
     film = Film(reader.calls, run.output, run.status)
     if reader.counter.is_right(run.output):
-        film.marks = [reader.counter.place(step.mark) for step in film.calls.steps]
+        marks = [reader.counter.place(step.mark) for step in film.calls.steps]
+        film.marks = marks if marks and marks[-1] <= MOST_LAID else None
     return film, reader.by_word
 
 

@@ -5,6 +5,8 @@ is refused by the same causes as `forth83` has.
 """
 import bisect
 
+import program
+
 MAGIC = b"FTH83IMG"
 MEMORY = 65536
 PAGE = 1024
@@ -18,7 +20,7 @@ MOST_HEADERS = 32768
 COLON, VARIABLE, CONSTANT, VOCABULARY = 1, 2, 3, 4
 
 
-class BadImage(Exception):
+class BadImage(program.Refusal):
     """Why a file is no image: its cause, as the program spells it."""
 
 

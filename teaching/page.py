@@ -12,7 +12,7 @@ import threads
 
 HERE = pathlib.Path(__file__).resolve().parent
 MARK = "<!-- a film of ./forth film -->"
-DO = 9
+DO, UNLAID = 9, 100_000
 POLICY = "default-src 'none'; script-src '{}'; style-src '{}'; img-src data:"
 
 
@@ -163,7 +163,7 @@ def ending(film, how, root, name):
 
 def data_of(film, words, fence, name):
     """All that the page's script needs."""
-    output = base64.b64encode(film.output).decode() if film.marks or not film.is_whole else ""
+    output = base64.b64encode(film.output[:film.marks[-1] if film.marks else UNLAID]).decode()
     loops = Loops()
     steps = packed_steps(film, words, loops)
     return {

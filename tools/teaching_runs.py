@@ -35,6 +35,8 @@ WORDS = r"""% screen 21
 : <b>&"' ( -- ) ." <i>" ;
 : </script><img/src=x> ( -- ) <b>&"' ;
 : DIVIDES 7 2 / ABORT" oh" ;
+: SPEWS ( -- ) BEGIN 0 65535 TYPE AGAIN ;
+: MUCH ( -- ) 200 0 DO 0 65535 TYPE LOOP ;
 """
 
 
@@ -206,6 +208,8 @@ def check_cuts(tree):
     _, page, said = tree.film("FOREVER", "FOREVER", "--limit", "150000")
     for text in (page, said):
         tree.cases.holds("a word without an end", "The run was cut at 150,000 ticks", text)
+    data, page, _ = tree.film("MUCH", "MUCH")
+    tree.cases.same("13 MB that are shown", (False, True), (data["is_laid"], len(page) < 300_000))
 
 
 def check_hostile(tree):
@@ -242,6 +246,8 @@ REFUSALS = (
     (1, "notes.html is there already, and is no film", "film SQUARES|5 SQUARES|-o|notes.html"),
     (1, "folder is a folder", "film SQUARES -o folder"),
     (1, "there is no folder none", "film SQUARES -o none/x.html"),
+    (1, "as one that shows more than 128 MB", "film SPEWS --screens 21 22"),
+    (1, "there is no word \\udcff", "film \udcff"),
     (1, "/proc/film.html can't be", "film SQUARES|5 SQUARES|-o|/proc/film.html"),
     (2, "usage", "film"),
     (2, "usage", "film SQUARES --trace x"),
