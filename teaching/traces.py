@@ -62,7 +62,8 @@ class Run:
         if self.status in (1, 2):
             raise program.Refusal(self.output.decode("utf-8", "replace").strip())
         if self.status < 0:
-            raise program.Refusal(f"the run was ended by signal {-self.status}, as one that shows more than {MOST_SHOWN >> 20} MB")
+            why = f"the run was ended by signal {-self.status}, as one that shows more than {MOST_SHOWN >> 20} MB"
+            raise program.Refusal(why)
 
 
 def parsed(lines):
