@@ -9,6 +9,7 @@ import images
 from calls import MAYBE, Calls, effect_of
 
 EVERY, MOST_LAID = 20_000, 8 << 20
+UNKNOWN = -1
 
 
 class Place:
@@ -128,9 +129,9 @@ def compare(setting, image_path, film, dictionary, header, by_word, progress):
 
 
 def single_film(lines, header, most, output, status):
-    """The film of a word's own lines: its calls of others are single steps."""
+    """The film of a word's own lines: its calls of others are single steps, and where it was called isn't known."""
     calls = Calls(header.body, header.end, most)
-    calls.begin(header.body, 0)
+    calls.begin(header.body, UNKNOWN)
     for where, _, data, returns in traces.parsed(lines):
         calls.keep(where, data, returns, (0, 0))
     film = Film(calls, output, status)

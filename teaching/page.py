@@ -141,7 +141,7 @@ def frames_of(film, words, fence):
     for number, frame in enumerate(film.calls.frames):
         is_open = int(frame.parent is None or frame.begins >= fence)
         returns = first[number].returns if number in first else ()
-        back = words.name_at(returns[frame.base]) if frame.base < len(returns) else "?"
+        back = words.name_at(returns[frame.base]) if 0 <= frame.base < len(returns) else "?"
         rows.append([-1 if frame.parent is None else frame.parent, words.word_at(frame.begins), frame.base, is_open, back])
     return rows
 

@@ -196,6 +196,17 @@ def check_doubts(tree):
     tree.cases.holds("a page of four words", "debug was asked for 4 of the 4 words, SQUARES first", page)
 
 
+def check_given(tree):
+    """Traces that are there: of one line, and of 120,003."""
+    for name, line, count, more in (("ONE", "ONE", 1, ()), ("ROUND", "40000 ROUND", 120_003, ("--steps", "200000"))):
+        trace = trace_of(tree, name, line)
+        status, said = tree.tool("film", name, "--image", "own.img", "--trace", "trace.txt", "-o", "given.html", *more)
+        tree.cases.same(f"a film of a trace, which said {said}", 0, status)
+        data = json.loads(re.search(r'id="film">(.*?)</script>', (tree.room / "given.html").read_text(encoding="utf-8"), re.S)[1])
+        tree.cases.same(f"the lines of a trace of {name}", count, len(trace))
+        tree.cases.same(f"the steps of a trace of {name}", True, trace == [step[:4] for step in expanded(data)])
+
+
 def check_cuts(tree):
     """Long traces are cut, and told; 100,000 lines are taken."""
     data, page, said = tree.film("ROUND", "40000 ROUND", "--steps", "500")
@@ -308,7 +319,8 @@ def check_maps(tree):
     came = [line.split()[4] for line in text.splitlines() if line.startswith("+")]
     tree.cases.same("the words that came", ["FIRST", "SECOND"], came)
     tree.cases.holds("what changed", "HERE went from 3055 to 3092", text)
-    for words in (["kernel.img"], ["kernel.img", "two.img"], ["own.img"], [str(ROOT / "examples/hi.img")]):
+    tree.forth("load", "tools.img", "odd.blk", "23", "23", "odd.img")
+    for words in (["kernel.img"], ["kernel.img", "two.img"], ["own.img"], ["odd.img"], [str(ROOT / "examples/hi.img")]):
         status, said = tree.tool("map", *words, "-o", "map.svg")
         tree.cases.same(f"a map of {words}, which said {said}", 0, status)
         drawn = xml.etree.ElementTree.parse(tree.room / "map.svg").getroot()
@@ -440,6 +452,6 @@ def check_course(tree):
 
 
 def check(tree):
-    for act in (check_traces, check_output, check_ends, check_doubts, check_cuts, check_hostile, check_refusals, check_maps,
-                check_pages, check_course):
+    for act in (check_traces, check_output, check_ends, check_doubts, check_given, check_cuts, check_hostile, check_refusals,
+                check_maps, check_pages, check_course):
         act(tree)
