@@ -36,12 +36,11 @@ class Film:
 
 def digests_of(dictionary):
     """A digest for each colon word, by the addresses of its thread; the others of memory have one together."""
-    found, digests = {}, [traces.Digest()] * 65536
-    for header in dictionary.headers:
-        if header.is_colon():
-            found[header.begins] = traces.Digest()
-            digests[header.body:header.end] = [found[header.begins]] * max(0, header.end - header.body)
-    return found, digests
+    by_word = {header.begins: traces.Digest() for header in dictionary.headers if header.is_colon()}
+    digests = [traces.Digest()] * images.MEMORY
+    for address, header in dictionary.owners().items():
+        digests[address] = by_word[header.begins]
+    return by_word, digests
 
 
 class Whole:
@@ -102,15 +101,8 @@ def whole_film(setting, image, dictionary, header, most, progress):
 
 def words_of(film, dictionary):
     """The colon words whose threads the film's steps stand in, each once, in the order of the film."""
-    owner, found = {}, []
-    for header in dictionary.headers:
-        if header.is_colon():
-            owner.update((address, header) for address in range(header.body, header.end))
-    for step in film.calls.steps:
-        header = owner.get(step.address)
-        if header and header not in found:
-            found.append(header)
-    return found
+    owner = dictionary.owners()
+    return list(dict.fromkeys(owner[step.address] for step in film.calls.steps if step.address in owner))
 
 
 def compare(setting, image_path, film, dictionary, header, by_word, progress):

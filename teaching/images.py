@@ -164,6 +164,13 @@ class Dictionary:
             at = bisect.bisect_left(beginnings, header.body)
             header.end = beginnings[at] if at < len(beginnings) else self.memory.cell(DP)
 
+    def owners(self):
+        """The colon word in whose thread each address lies."""
+        found = {}
+        for header in filter(Header.is_colon, self.headers):
+            found.update((address, header) for address in range(header.body, header.end))
+        return found
+
     def find(self, name):
         """The header that a search of the name finds: in the vocabulary of CONTEXT, then in FORTH."""
         if not name or len(name) > 31:

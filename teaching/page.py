@@ -38,7 +38,7 @@ class Words:
     def __init__(self, film, dictionary, manual, source):
         self.dictionary, self.manual, self.source = dictionary, manual, source
         self.words, self.place_of, self.entries = [], {}, []
-        self.told, self.owner = {}, {}
+        self.told, self.owner = {}, dictionary.owners()
         for header in self.headers(film):
             self.add(header)
         for step in film.calls.steps:
@@ -47,9 +47,6 @@ class Words:
 
     def headers(self, film):
         """The colon words in whose threads the steps stand, in the order of the film."""
-        for header in self.dictionary.headers:
-            if header.is_colon():
-                self.owner.update((address, header) for address in range(header.body, header.end))
         found = [self.owner.get(frame.begins) for frame in film.calls.frames]
         found += [self.owner.get(step.address) for step in film.calls.steps]
         return list(dict.fromkeys(header for header in found if header))

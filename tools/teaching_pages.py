@@ -31,7 +31,7 @@ def check_keys(tree, one):
 
 def check_narrow(tree, one):
     """On a narrow window nothing of a film stands beside it."""
-    for width, height in ((360, 640), (1300, 900)):
+    for width, height in ((320, 568), (901, 700), (1300, 900)):
         one.size(width, height)
         for name in ("film.html", "hostile.html", "bytes.html", "long.html", "life.html"):
             one.open(tree.room / name)
