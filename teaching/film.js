@@ -215,7 +215,7 @@ function table(isBlank, kind) {
     const line = element("tr"), indent = "  ".repeat(chain(step[1]).length - 1);
     line.append(element("td", String(row + 1)));
     line.append(element("td", indent + (place ? `${place[2]} ${place[3]}` : `end of ${wordName(step[1])}`)));
-    const own = returns.slice(frames[chain(step[1])[0]][2]);
+    const own = returns.slice(Math.max(0, frames[chain(step[1])[0]][2]));
     for (const cells of [data, own]) {
       line.append(element("td", isBlank && row ? "" : cells.slice(-12).map(cell).join(" "), "room"));
     }

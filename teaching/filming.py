@@ -8,7 +8,8 @@ import traces
 import images
 from calls import MAYBE, Calls, effect_of
 
-EVERY = 20000
+EVERY, MOST_LAID = 20_000, 8 << 20
+UNKNOWN = -1
 
 
 class Place:
@@ -35,12 +36,11 @@ class Film:
 
 def digests_of(dictionary):
     """A digest for each colon word, by the addresses of its thread; the others of memory have one together."""
-    found, digests = {}, [traces.Digest()] * 65536
-    for header in dictionary.headers:
-        if header.is_colon():
-            found[header.begins] = traces.Digest()
-            digests[header.body:header.end] = [found[header.begins]] * max(0, header.end - header.body)
-    return found, digests
+    by_word = {header.begins: traces.Digest() for header in dictionary.headers if header.is_colon()}
+    digests = [traces.Digest()] * images.MEMORY
+    for address, header in dictionary.owners().items():
+        digests[address] = by_word[header.begins]
+    return by_word, digests
 
 
 class Whole:
@@ -87,27 +87,22 @@ def whole_film(setting, image, dictionary, header, most, progress):
     reader = Whole(image, dictionary, Calls(header.body, header.end, most), setting.typed)
     run = traces.Run(setting, path, traces.lowest_colon(dictionary).name.decode())
     for number, line in enumerate(run.lines()):
-        reader.take(line)
+        if line.endswith(b"\n"):
+            reader.take(line)
         if number % EVERY == 0:
             progress.tell(f"{number:,} steps of the run so far")
     reader.calls.finish()
     film = Film(reader.calls, run.output, run.status)
     if reader.counter.is_right(run.output):
-        film.marks = [reader.counter.place(step.mark) for step in film.calls.steps]
+        marks = [reader.counter.place(step.mark) for step in film.calls.steps]
+        film.marks = marks if marks and marks[-1] <= MOST_LAID else None
     return film, reader.by_word
 
 
 def words_of(film, dictionary):
     """The colon words whose threads the film's steps stand in, each once, in the order of the film."""
-    owner, found = {}, []
-    for header in dictionary.headers:
-        if header.is_colon():
-            owner.update((address, header) for address in range(header.body, header.end))
-    for step in film.calls.steps:
-        header = owner.get(step.address)
-        if header and header not in found:
-            found.append(header)
-    return found
+    owner = dictionary.owners()
+    return list(dict.fromkeys(owner[step.address] for step in film.calls.steps if step.address in owner))
 
 
 def compare(setting, image_path, film, dictionary, header, by_word, progress):
@@ -126,9 +121,9 @@ def compare(setting, image_path, film, dictionary, header, by_word, progress):
 
 
 def single_film(lines, header, most, output, status):
-    """The film of a word's own lines: its calls of others are single steps."""
+    """The film of a word's own lines: its calls of others are single steps, and where it was called isn't known."""
     calls = Calls(header.body, header.end, most)
-    calls.begin(header.body, 0)
+    calls.begin(header.body, UNKNOWN)
     for where, _, data, returns in traces.parsed(lines):
         calls.keep(where, data, returns, (0, 0))
     film = Film(calls, output, status)

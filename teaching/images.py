@@ -5,6 +5,8 @@ is refused by the same causes as `forth83` has.
 """
 import bisect
 
+import program
+
 MAGIC = b"FTH83IMG"
 MEMORY = 65536
 PAGE = 1024
@@ -18,7 +20,7 @@ MOST_HEADERS = 32768
 COLON, VARIABLE, CONSTANT, VOCABULARY = 1, 2, 3, 4
 
 
-class BadImage(Exception):
+class BadImage(program.Refusal):
     """Why a file is no image: its cause, as the program spells it."""
 
 
@@ -161,6 +163,13 @@ class Dictionary:
         for header in self.headers:
             at = bisect.bisect_left(beginnings, header.body)
             header.end = beginnings[at] if at < len(beginnings) else self.memory.cell(DP)
+
+    def owners(self):
+        """The colon word in whose thread each address lies."""
+        found = {}
+        for header in filter(Header.is_colon, self.headers):
+            found.update((address, header) for address in range(header.body, header.end))
+        return found
 
     def find(self, name):
         """The header that a search of the name finds: in the vocabulary of CONTEXT, then in FORTH."""

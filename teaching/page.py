@@ -12,7 +12,7 @@ import threads
 
 HERE = pathlib.Path(__file__).resolve().parent
 MARK = "<!-- a film of ./forth film -->"
-DO = 9
+DO, UNLAID = 9, 100_000
 POLICY = "default-src 'none'; script-src '{}'; style-src '{}'; img-src data:"
 
 
@@ -38,7 +38,7 @@ class Words:
     def __init__(self, film, dictionary, manual, source):
         self.dictionary, self.manual, self.source = dictionary, manual, source
         self.words, self.place_of, self.entries = [], {}, []
-        self.told, self.owner = {}, {}
+        self.told, self.owner = {}, dictionary.owners()
         for header in self.headers(film):
             self.add(header)
         for step in film.calls.steps:
@@ -47,9 +47,6 @@ class Words:
 
     def headers(self, film):
         """The colon words in whose threads the steps stand, in the order of the film."""
-        for header in self.dictionary.headers:
-            if header.is_colon():
-                self.owner.update((address, header) for address in range(header.body, header.end))
         found = [self.owner.get(frame.begins) for frame in film.calls.frames]
         found += [self.owner.get(step.address) for step in film.calls.steps]
         return list(dict.fromkeys(header for header in found if header))
@@ -141,7 +138,7 @@ def frames_of(film, words, fence):
     for number, frame in enumerate(film.calls.frames):
         is_open = int(frame.parent is None or frame.begins >= fence)
         returns = first[number].returns if number in first else ()
-        back = words.name_at(returns[frame.base]) if frame.base < len(returns) else "?"
+        back = words.name_at(returns[frame.base]) if 0 <= frame.base < len(returns) else "?"
         rows.append([-1 if frame.parent is None else frame.parent, words.word_at(frame.begins), frame.base, is_open, back])
     return rows
 
@@ -163,7 +160,7 @@ def ending(film, how, root, name):
 
 def data_of(film, words, fence, name):
     """All that the page's script needs."""
-    output = base64.b64encode(film.output).decode() if film.marks or not film.is_whole else ""
+    output = base64.b64encode(film.output[:film.marks[-1] if film.marks else UNLAID]).decode()
     loops = Loops()
     steps = packed_steps(film, words, loops)
     return {

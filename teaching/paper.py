@@ -59,10 +59,17 @@ def entry(name, defined, used):
 
 
 def cross_reference(references):
+    if not references.defined:
+        return "<section><h2>Words: where defined, where used</h2><p>No word is defined in these screens.</p></section>"
     rows = "".join(entry(name, references.defined[name], references.uses(name)) for name in sorted(references.defined))
     told = "<p>21.3 is screen 21, line 3, and 21.3.5 its lines 3 and 5. Names in comments and in texts aren't counted.</p>"
     head = "<thead><tr><th>word</th><th>defined</th><th>used</th></tr></thead>"
-    return f"<section><h2>Words: where defined, where used</h2>{told}<table>{head}<tbody>{rows}</tbody></table></section>"
+    return f"<section><h2>Words: where defined, where used</h2>{told}{columns(head, rows)}</section>"
+
+
+def columns(head, rows):
+    """A table in as many columns as the page has room for."""
+    return f'<div class="columns"><table>{head}<tbody>{rows}</tbody></table></div>'
 
 
 def missing(references, known):
@@ -73,7 +80,7 @@ def missing(references, known):
     told = ("<p>Neither defined in these screens nor words of this Forth, or no words at all, as what a word like TEXT reads "
             "behind it.</p>")
     head = "<thead><tr><th>word</th><th>used</th></tr></thead>"
-    return f"<section><h2>Words that aren't known</h2>{told}<table>{head}<tbody>{rows}</tbody></table></section>"
+    return f"<section><h2>Words that aren't known</h2>{told}{columns(head, rows)}</section>"
 
 
 def document(name, parts, is_wide):

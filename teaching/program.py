@@ -20,6 +20,24 @@ def say(tool, text):
     print(f"{tool}: {text}", file=sys.stderr)
 
 
+def guarded(tool, act):
+    """Does what a tool does, and tells why it isn't done; the status."""
+    try:
+        return act()
+    except Refusal as refusal:
+        say(tool, str(refusal))
+        return refusal.status
+    except BrokenPipeError:
+        os.dup2(os.open(os.devnull, os.O_WRONLY), sys.stdout.fileno())
+        return 1
+    except OSError as error:
+        say(tool, f"{error.filename or 'a file'}: {error.strerror}")
+        return 1
+    except KeyboardInterrupt:
+        say(tool, "broken off; nothing was made")
+        return 130
+
+
 class Progress:
     """A line on standard error that is written anew, where that is a terminal."""
 

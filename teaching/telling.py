@@ -10,7 +10,8 @@ OTHERS = "Not compared so, as a search doesn't find them by name: {names}."
 COUNTED = (
     "Where the output stands at each step was counted by the rows that show bytes, and all bytes that these rows name are "
     "those that the run showed, in number and, for EMIT and texts, one by one.")
-UNCOUNTED = "The output can't be laid beside the steps here: more was shown than the steps tell."
+UNCOUNTED = (
+    "The output can't be laid beside the steps here: more was shown than the steps tell, or more than a page takes.")
 BESIDE = (
     "What is typed, and what the Forth shows before and behind the word, isn't in the film. Names are those that the image "
     "had at the start.")

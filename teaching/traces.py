@@ -7,6 +7,7 @@ the lowest colon word reaches to HERE, and one run tells the steps of all words,
 """
 import hashlib
 import re
+import resource
 import shutil
 import subprocess
 
@@ -14,8 +15,7 @@ import images
 import program
 
 LINE = re.compile(rb"(\d{1,5}) (.{1,31}?) \|((?: -?\d{1,5})*) \|((?: \d{1,5})*)\n", re.S)
-STOPS = {0: "", 3: "a fault ended the run, as the image has no fault thread", 4: "the limit of ticks ended the run",
-         5: "standard input or output failed"}
+MOST_SHOWN = 128 << 20
 
 
 class Setting:
@@ -34,6 +34,11 @@ class Setting:
         return words
 
 
+def bounded():
+    """No file of a run grows without bound."""
+    resource.setrlimit(resource.RLIMIT_FSIZE, (MOST_SHOWN, MOST_SHOWN))
+
+
 class Run:
     """A run of `debug` over an image's file; its lines come as they are written."""
 
@@ -47,7 +52,7 @@ class Run:
         typed.write_bytes(self.setting.typed)
         words = [self.setting.forth83.path, *self.setting.words(self.image, self.name)]
         with open(shown, "wb") as out, open(typed, "rb") as keys:
-            with subprocess.Popen(words, stdin=keys, stdout=out, stderr=subprocess.PIPE) as running:
+            with subprocess.Popen(words, stdin=keys, stdout=out, stderr=subprocess.PIPE, preexec_fn=bounded) as running:
                 try:
                     yield from running.stderr
                 finally:
@@ -56,6 +61,9 @@ class Run:
         self.status, self.output = running.returncode, shown.read_bytes()
         if self.status in (1, 2):
             raise program.Refusal(self.output.decode("utf-8", "replace").strip())
+        if self.status < 0:
+            why = f"the run was ended by signal {-self.status}, as one that shows more than {MOST_SHOWN >> 20} MB"
+            raise program.Refusal(why)
 
 
 def parsed(lines):

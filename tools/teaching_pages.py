@@ -31,7 +31,7 @@ def check_keys(tree, one):
 
 def check_narrow(tree, one):
     """On a narrow window nothing of a film stands beside it."""
-    for width, height in ((360, 640), (1300, 900)):
+    for width, height in ((320, 568), (901, 700), (1300, 900)):
         one.size(width, height)
         for name in ("film.html", "hostile.html", "bytes.html", "long.html", "life.html"):
             one.open(tree.room / name)
@@ -89,9 +89,17 @@ def check_map(tree, one):
             tree.cases.same(f"whether a chain of {name} has links", True, chained > 10)
 
 
+def check_hostile_map(tree, one):
+    """Names with what XML takes for its own, and bytes that are no text."""
+    for name in ("map1-own.svg", "map1-odd.svg", "map1-hi.svg"):
+        one.open(tree.room / name)
+        one.press("End", "ArrowLeft")
+        tree.cases.same(f"elements that names made in {name}", 0, one.value('document.querySelectorAll("img, b, i").length'))
+
+
 def check(tree):
     with browser.Browser() as one:
-        for act in (check_keys, check_narrow, check_hostile, check_long, check_paper, check_map):
+        for act in (check_keys, check_narrow, check_hostile, check_long, check_paper, check_map, check_hostile_map):
             act(tree, one)
         tree.cases.same("errors in the browser", [], one.errors)
         tree.cases.same("what pages asked of the network", [], one.asked)

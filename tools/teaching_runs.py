@@ -35,6 +35,8 @@ WORDS = r"""% screen 21
 : <b>&"' ( -- ) ." <i>" ;
 : </script><img/src=x> ( -- ) <b>&"' ;
 : DIVIDES 7 2 / ABORT" oh" ;
+: SPEWS ( -- ) BEGIN 0 65535 TYPE AGAIN ;
+: MUCH ( -- ) 200 0 DO 0 65535 TYPE LOOP ;
 """
 
 
@@ -194,6 +196,17 @@ def check_doubts(tree):
     tree.cases.holds("a page of four words", "debug was asked for 4 of the 4 words, SQUARES first", page)
 
 
+def check_given(tree):
+    """Traces that are there: of one line, and of 120,003."""
+    for name, line, count, more in (("ONE", "ONE", 1, ()), ("ROUND", "40000 ROUND", 120_003, ("--steps", "200000"))):
+        trace = trace_of(tree, name, line)
+        status, said = tree.tool("film", name, "--image", "own.img", "--trace", "trace.txt", "-o", "given.html", *more)
+        tree.cases.same(f"a film of a trace, which said {said}", 0, status)
+        data = json.loads(re.search(r'id="film">(.*?)</script>', (tree.room / "given.html").read_text(encoding="utf-8"), re.S)[1])
+        tree.cases.same(f"the lines of a trace of {name}", count, len(trace))
+        tree.cases.same(f"the steps of a trace of {name}", True, trace == [step[:4] for step in expanded(data)])
+
+
 def check_cuts(tree):
     """Long traces are cut, and told; 100,000 lines are taken."""
     data, page, said = tree.film("ROUND", "40000 ROUND", "--steps", "500")
@@ -206,6 +219,8 @@ def check_cuts(tree):
     _, page, said = tree.film("FOREVER", "FOREVER", "--limit", "150000")
     for text in (page, said):
         tree.cases.holds("a word without an end", "The run was cut at 150,000 ticks", text)
+    data, page, _ = tree.film("MUCH", "MUCH")
+    tree.cases.same("13 MB that are shown", (False, True), (data["is_laid"], len(page) < 300_000))
 
 
 def check_hostile(tree):
@@ -242,6 +257,8 @@ REFUSALS = (
     (1, "notes.html is there already, and is no film", "film SQUARES|5 SQUARES|-o|notes.html"),
     (1, "folder is a folder", "film SQUARES -o folder"),
     (1, "there is no folder none", "film SQUARES -o none/x.html"),
+    (1, "as one that shows more than 128 MB", "film SPEWS --screens 21 22"),
+    (1, "there is no word \\udcff", "film \udcff"),
     (1, "/proc/film.html can't be", "film SQUARES|5 SQUARES|-o|/proc/film.html"),
     (2, "usage", "film"),
     (2, "usage", "film SQUARES --trace x"),
@@ -302,7 +319,8 @@ def check_maps(tree):
     came = [line.split()[4] for line in text.splitlines() if line.startswith("+")]
     tree.cases.same("the words that came", ["FIRST", "SECOND"], came)
     tree.cases.holds("what changed", "HERE went from 3055 to 3092", text)
-    for words in (["kernel.img"], ["kernel.img", "two.img"], ["own.img"], [str(ROOT / "examples/hi.img")]):
+    tree.forth("load", "tools.img", "odd.blk", "23", "23", "odd.img")
+    for words in (["kernel.img"], ["kernel.img", "two.img"], ["own.img"], ["odd.img"], [str(ROOT / "examples/hi.img")]):
         status, said = tree.tool("map", *words, "-o", "map.svg")
         tree.cases.same(f"a map of {words}, which said {said}", 0, status)
         drawn = xml.etree.ElementTree.parse(tree.room / "map.svg").getroot()
@@ -384,20 +402,24 @@ def check_shadows(tree):
     tree.cases.holds("a screen that is no text", "(line 1: BadByte)", "".join(texts_of(tree.room / "life.html", "p")))
 
 
-WRONG = {
-    1: ("% screen 21\n1 2 3", "21 LOAD leaves 1 2 3 but 10080 56 2 is wanted."),
-    2: ("% screen 22\n: MINUTES 60 * ; : FAHRENHEIT 32 + ;", "100 FAHRENHEIT leaves 132 but 212 is wanted."),
-    3: ("% screen 23\n: CUBE * * ;", "3 CUBE takes more from the stack than it is given."),
-    4: ('% screen 24\n: PRICE . ." euro" ;', "305 PRICE shows  305 euro  but  3 euro 5 cent  is wanted"),
-    5: ("% screen 25\n: SIGNUM DUP 0< ;", "-7 SIGNUM leaves -7 -1 but -1 is wanted."),
-    6: ("% screen 26\n: SUM-TO 0 SWAP 1 ?DO I + LOOP ;", "4 SUM-TO leaves 6 but 10 is wanted."),
-    7: ("% screen 27\n: DIGITS DROP ;", "4096 DIGITS leaves nothing but 4 is wanted."),
-    8: ("% screen 28\nVARIABLE BANK : PAY BANK ! ;", "0 BANK ! 50 PAY 30 PAY BANK @ leaves 30 but 80 is wanted."),
-    9: ("% screen 29\n: VOWELS SWAP DROP ;", "S| AUDIO| VOWELS leaves 5 but 4 is wanted."),
-    10: ("% screen 30\n: PERCENT * 100 / ;", "30000 15 PERCENT leaves -88 but 4500 is wanted."),
-    11: ("% screen 31\n: COUNTER CREATE 0 , DOES> @ 1+ ;", "TALLY TALLY TALLY leaves 1 1 1 but 1 2 3 is wanted."),
-    12: ("% screen 32\n: HOME ; : WHERE 0 0 ; : FORWARD DROP ;", "HOME 3 FORWARD WHERE leaves 0 0 but 0 3 is wanted."),
-}
+# Answers that are wrong, and what is said of them.
+WRONG = (
+    (1, "% screen 21\n1 2 3", "21 LOAD leaves 1 2 3 but 10080 56 2 is wanted."),
+    (2, "% screen 22\n: MINUTES 60 * ; : FAHRENHEIT 32 + ;", "100 FAHRENHEIT leaves 132 but 212 is wanted."),
+    (3, "% screen 23\n: CUBE * * ;", "3 CUBE takes more from the stack than it is given."),
+    (4, '% screen 24\n: PRICE . ." euro" ;', "305 PRICE shows  305 euro  but  3 euro 5 cent  is wanted"),
+    (5, "% screen 25\n: SIGNUM DUP 0< ;", "-7 SIGNUM leaves -7 -1 but -1 is wanted."),
+    (6, "% screen 26\n: SUM-TO 0 SWAP 1 ?DO I + LOOP ;", "4 SUM-TO leaves 6 but 10 is wanted."),
+    (7, "% screen 27\n: DIGITS DROP ;", "4096 DIGITS leaves nothing but 4 is wanted."),
+    (8, "% screen 28\nVARIABLE BANK : PAY BANK ! ;", "0 BANK ! 50 PAY 30 PAY BANK @ leaves 30 but 80 is wanted."),
+    (9, "% screen 29\n: VOWELS SWAP DROP ;", "S| AUDIO| VOWELS leaves 5 but 4 is wanted."),
+    (10, "% screen 30\n: PERCENT * 100 / ;", "30000 15 PERCENT leaves -88 but 4500 is wanted."),
+    (11, "% screen 31\n: COUNTER CREATE 0 , DOES> @ 1+ ;", "TALLY TALLY TALLY leaves 1 1 1 but 1 2 3 is wanted."),
+    (12, "% screen 32\n: HOME ; : WHERE 0 0 ; : FORWARD DROP ;", "HOME 3 FORWARD WHERE leaves 0 0 but 0 3 is wanted."),
+    (10, "% screen 30\n: PERCENT 100 */ ; : .BINARY 2 BASE ! U. ;", "6 .BINARY BASE @ leaves 2 but 10 is wanted."),
+    (3, "% screen 23\n: CUBE DUP DUP * * ; : TWIST SWAP ROT DROP ;", "1 2 3 TWIST leaves 3 2 but 3 2 1 is wanted."),
+    (12, "% screen 32\n: HOME UP ;", "UP is unknown (fault 13)"),
+)
 
 
 def checked(tree, blocks, number):
@@ -406,23 +428,30 @@ def checked(tree, blocks, number):
     return re.sub(r"\x1b\[[0-9;?]*[A-Za-z]", "", said.decode("ascii", "replace"))
 
 
+def answered(tree, number, *texts):
+    """What CHECK says of a lesson, over the course's screens and those of these texts."""
+    (tree.room / "c.blk").unlink(missing_ok=True)
+    tree.forth("new", "c.blk", "64")
+    for text in (str(ROOT / "teaching/course.txt"), *texts):
+        tree.forth("screens", text, "c.blk")
+    said = checked(tree, "c.blk", number)
+    tree.cases.holds(f"lesson {number}, what is shown behind CHECK", "1 2 + . 3  ok", said)
+    return said
+
+
 def check_course(tree):
     """Each solution is right, each blank screen and each wrong answer is told; what is typed behind it is shown."""
     for number in range(1, 13):
-        wanted = {"blank": "leaves nothing" if number == 1 else "isn't there yet", "solved": f"Lesson {number} is right.",
-                  "wrong": WRONG[number][1]}
-        (tree.room / "wrong.txt").write_text(WRONG[number][0] + "\n", encoding="ascii")
-        for name, text in (("blank", None), ("solved", str(ROOT / "teaching/solutions.txt")), ("wrong", "wrong.txt")):
-            (tree.room / f"{name}.blk").unlink(missing_ok=True)
-            tree.forth("new", f"{name}.blk", "64")
-            for screens in filter(None, (str(ROOT / "teaching/course.txt"), text)):
-                tree.forth("screens", screens, f"{name}.blk")
-            said = checked(tree, f"{name}.blk", number)
-            tree.cases.holds(f"lesson {number}, {name}", wanted[name], said)
-            tree.cases.holds(f"lesson {number}, behind {name}", "1 2 + . 3  ok", said)
+        blank = "leaves nothing" if number == 1 else "isn't there yet"
+        tree.cases.holds(f"lesson {number}, blank", blank, answered(tree, number))
+        solved = answered(tree, number, str(ROOT / "teaching/solutions.txt"))
+        tree.cases.holds(f"lesson {number}, solved", f"Lesson {number} is right.", solved)
+    for number, text, wanted in WRONG:
+        (tree.room / "wrong.txt").write_text(text + "\n", encoding="ascii")
+        tree.cases.holds(f"lesson {number}, wrong", wanted, answered(tree, number, "wrong.txt"))
 
 
 def check(tree):
-    for act in (check_traces, check_output, check_ends, check_doubts, check_cuts, check_hostile, check_refusals, check_maps,
-                check_pages, check_course):
+    for act in (check_traces, check_output, check_ends, check_doubts, check_given, check_cuts, check_hostile, check_refusals,
+                check_maps, check_pages, check_course):
         act(tree)
