@@ -37,8 +37,20 @@ def count(path):
     return size // BYTES
 
 
+def character(byte):
+    """What is seen of a byte: a dot where it is no text."""
+    return chr(byte) if 32 <= byte <= 126 else "."
+
+
+def plain(line):
+    """A line of a screen as it is seen; one that begins with two `%` begins with one, and behind `%~` bytes are escaped."""
+    if line.startswith("%~"):
+        return re.sub("~([0-9A-F]{2})", lambda found: character(int(found[1], 16)), line[2:])
+    return line[1:] if line.startswith("%%") else line
+
+
 def take(screens, text):
-    """Takes the screens that `text` printed; a line that begins with two `%` begins with one."""
+    """Takes the screens that `text` printed."""
     number = None
     for line in text.splitlines():
         heading = re.fullmatch(r"% screen (\d+)", line)
@@ -46,7 +58,7 @@ def take(screens, text):
             number = int(heading[1])
             screens.lines[number] = []
         else:
-            screens.lines[number].append(line[1:] if line.startswith("%%") else line)
+            screens.lines[number].append(plain(line))
 
 
 def read(forth83, path, first, last):

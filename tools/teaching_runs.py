@@ -388,10 +388,11 @@ def check_pages(tree):
 
 
 def check_shadows(tree):
-    """Shadows stand beside their screens, and a screen that is no text is told."""
+    """Shadows stand beside their screens, and a byte that is no text is a dot."""
     (tree.room / "shadow.txt").write_text("% screen 33\n<b>& the shadow\n% screen 5\n32 SHADOW !\n", encoding="ascii")
     tree.forth("screens", "shadow.txt", "life.blk")
     data = bytearray((tree.room / "life.blk").read_bytes())
+    line = data[6 * 1024 + 64:6 * 1024 + 128].decode("ascii")
     data[6 * 1024 + 70] = 200
     (tree.room / "life.blk").write_bytes(data)
     status, _ = tree.tool("print", "life.blk", "1", "6")
@@ -399,7 +400,8 @@ def check_shadows(tree):
     captions = texts_of(tree.room / "life.html", "figcaption")
     tree.cases.same("screens and shadows", ["Screen 1", "Screen 33", *[f"Screen {number}" for number in range(2, 7)]], captions)
     tree.cases.same("a shadow", " 0 <b>& the shadow", texts_of(tree.room / "life.html", "pre")[1].splitlines()[0])
-    tree.cases.holds("a screen that is no text", "(line 1: BadByte)", "".join(texts_of(tree.room / "life.html", "p")))
+    wanted = f" 1 {line[:6]}.{line[7:]}".rstrip()
+    tree.cases.same("a byte that is no text", wanted, texts_of(tree.room / "life.html", "pre")[6].splitlines()[1].rstrip())
 
 
 # Answers that are wrong, and what is said of them.

@@ -1,10 +1,9 @@
-use Rattle.std.proofs.Common.{◌≡◌, ◌≢◌, ◌∙◌, ℕ, zero, suc, ◌+◌, ◌-◌, ◌*◌, ◌/◌, ◌%◌, ◌<◌, ◌≤◌, ◌==◌, List, [], ◌∷◌, length, get_or, Bool, true, false, not, ◌&&◌, nat_lt, nat_le, Option, None, Some, if◌then◌else◌, arith, refl, ap, sym}
+use Rattle.std.proofs.Common.{◌≡◌, ◌∙◌, ℕ, zero, suc, ◌+◌, ◌-◌, ◌*◌, ◌/◌, ◌%◌, ◌<◌, ◌≤◌, ◌==◌, List, length, Bool, true, false, not, ◌&&◌, nat_lt, nat_le, Option, None, Some, if◌then◌else◌, arith, refl, ap, sym}
 use Rattle.std.proofs.lemmas.Bool.{and_parts, ltb-true, ltb-false, leb-true, eqb-true}
 use Rattle.std.proofs.lemmas.Nat.{mul-add-lt, mul-le, same_from_place, div_below, mod_below, div-add-mod', row_fits}
 use Rattle.std.proofs.Math.Nat.{mul_assoc, mul_comm}
-use Rattle.containers.specs.declared.cause.Cause.{Cause}
 use Rattle.containers.specs.declared.cause.Cause.TheVariants.{CutShort, TooLarge}
-use Rattle.containers.specs.Layouts.{IsLayout, Layout, divides_screen, is_order, physical, pitch, place, track}
+use Rattle.containers.specs.Layouts.{IsLayout, Layout, divides_screen, physical, pitch, place, track}
 use Rattle.containers.specs.Containers.{capacity, first_open, is_ended, is_whole, open_cause, screens, sectors, unread}
 use Rattle.containers.proofs.Orders.{Tests, tests_of, physical_below, physical_one, physical_small}
 

@@ -1,11 +1,11 @@
-use Rattle.std.proofs.Common.{◌≡◌, ◌≢◌, ◌∙◌, ◌⊎◌, inl, inr, ℕ, zero, suc, ◌+◌, ◌-◌, ◌<◌, ◌≤◌, ◌==◌, ◌%◌, Bool, true, false, not, nat_lt, Option, None, Some, if◌then◌else◌, List, [], ◌∷◌, ◌++◌, ◌*◌, length, get_or, set, drop, arith, refl, ap, sym, length-append, length-drop, length-set, append_assoc, append-nil, replicate}
-use Rattle.std.proofs.lemmas.List.{ext_get_or, get_or_append_left, get_or-append_right, get_or-drop, get_or-set_same, get_or-set_other, get_or_past, length_push, get_or_push}
+use Rattle.std.proofs.Common.{◌≡◌, ◌≢◌, ◌∙◌, ◌⊎◌, inl, inr, ℕ, zero, suc, ◌+◌, ◌-◌, ◌<◌, ◌≤◌, ◌==◌, ◌%◌, Bool, true, false, not, nat_lt, Option, None, Some, if◌then◌else◌, List, ◌++◌, length, get_or, set, drop, arith, refl, ap, sym, length-append, length-drop, length-set, append_assoc, append-nil, replicate}
+use Rattle.std.proofs.lemmas.List.{ext_get_or, get_or_append_left, get_or-append_right, get_or-drop, get_or-set_same, get_or-set_other}
 use Rattle.std.proofs.lemmas.Bool.{cases_eq, cases_lt}
 use Rattle.containers.specs.Layouts.{IsLayout, Layout, place}
 use Rattle.std.proofs.lemmas.Bool.{ltb-false}
 use Rattle.containers.specs.declared.cause.Cause.{Cause}
 use Rattle.containers.specs.declared.cause.Cause.TheVariants.{CutBlock, NoRoom}
-use Rattle.containers.specs.Containers.{IsBeside, IsRead, IsWritten, blank_sectors, capacity, new_container, tracks_for, unread, unwritten, unwritten_by}
+use Rattle.containers.specs.Containers.{IsBeside, IsRead, IsWritten, blank_sectors, capacity, unread, unwritten, unwritten_by}
 use Rattle.containers.proofs.Places.{place_one, capacity_same}
 
 -- a byte of the first n lies at a place, or none does

@@ -1,5 +1,5 @@
-use Rattle.std.proofs.Common.{◌≡◌, ◌∙◌, ℕ, suc, ◌+◌, ◌-◌, ◌<◌, ◌≤◌, List, [], ◌∷◌, ◌++◌, Option, Some, None, Result, Ok, Err, append_assoc, append-nil, length, ◌/◌, Bool, true, false, ◌&&◌, inl, inr, arith, refl, ap, sym}
-use Rattle.std.specs.Prelude.{IfSome, IfOk, IfErr}
+use Rattle.std.proofs.Common.{◌≡◌, ◌∙◌, ℕ, suc, ◌+◌, ◌-◌, ◌<◌, ◌≤◌, List, [], ◌++◌, Option, Some, None, Result, Ok, Err, append_assoc, append-nil, inl, inr, arith, refl, ap, sym}
+use Rattle.std.specs.Prelude.{IfSome}
 use Rattle.block_buffers.specs.Calls.{KeepsBlocks, Reads}
 use Rattle.block_buffers.specs.Disks.{Disk, called}
 use Rattle.block_buffers.specs.declared.devices.DeviceFault.{DeviceFault}

@@ -1,6 +1,6 @@
-use Rattle.std.proofs.Common.{◌≡◌, ◌≢◌, ◌∙◌, Err, ℕ, zero, suc, ◌+◌, ◌-◌, ◌*◌, ◌/◌, ◌%◌, ◌<◌, ◌≤◌, ◌==◌, List, [], ◌∷◌, ◌++◌, length, drop, flat_map, fold, Bool, true, false, not, ◌&&◌, nat_lt, nat_le, if◌then◌else◌, append_assoc, append-nil, arith, refl, ap, sym, subst}
+use Rattle.std.proofs.Common.{◌≡◌, ◌∙◌, Err, ℕ, ◌+◌, ◌-◌, ◌*◌, ◌/◌, ◌%◌, ◌<◌, ◌≤◌, ◌==◌, List, [], ◌∷◌, ◌++◌, flat_map, fold, Bool, true, false, not, ◌&&◌, nat_lt, if◌then◌else◌, append_assoc, append-nil, arith, refl, ap, sym, subst}
 use Rattle.std.specs.List.{list_all}
-use Rattle.std.proofs.lemmas.Bool.{and_parts, and_from, ltb-true, lt-ltb, le-ltb}
+use Rattle.std.proofs.lemmas.Bool.{and_parts, and_from, ltb-true, lt-ltb}
 use Rattle.std.proofs.lemmas.List.Folds.{list_all-append}
 use Rattle.screen_text.specs.Bytes.{is_blank, is_text, trimmed}
 use Rattle.screen_text.specs.Escapes.{Unescaped, digit, escaped, escaped_byte, has_sign, is_byte, is_plain, is_whole, unescaped, value, with_character}

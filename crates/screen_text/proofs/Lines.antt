@@ -1,9 +1,8 @@
-use Rattle.std.proofs.Common.{◌≡◌, ◌∙◌, ℕ, zero, suc, ◌+◌, ◌-◌, ◌*◌, ◌<◌, ◌≤◌, List, [], ◌∷◌, ◌++◌, length, take, drop, map, flat_map, get_or, Bool, true, false, Ok, Err, Result, append_assoc, append-nil, length-take-le, drop-cons, add-one, inl, inr, Bor, arith, refl, ap, sym}
+use Rattle.std.proofs.Common.{◌≡◌, ◌∙◌, ℕ, zero, suc, ◌+◌, ◌-◌, ◌*◌, ◌<◌, ◌≤◌, List, [], ◌∷◌, ◌++◌, length, take, drop, map, flat_map, get_or, true, false, Ok, Err, Result, append_assoc, append-nil, length-take-le, drop-cons, add-one, inl, inr, Bor, arith, refl, ap, sym}
 use Rattle.std.proofs.lemmas.List.{drop-drop, drop_all, take_all}
-use Rattle.std.specs.List.{list_all, prefix_len}
 use Rattle.screen_text.specs.declared.cause.Cause.{Cause}
 use Rattle.screen_text.specs.declared.cause.TextFault.{TextFault}
-use Rattle.screen_text.specs.Bytes.{is_blank, is_text, trimmed}
+use Rattle.screen_text.specs.Bytes.{is_blank, trimmed}
 use Rattle.screen_text.specs.Screens.{line_text, screen_lines}
 use Rattle.screen_text.specs.Reading.{State, Refuses, RefusesText, with_text, with_texts, then_read}
 

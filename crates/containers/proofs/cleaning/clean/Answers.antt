@@ -1,4 +1,4 @@
-use Rattle.std.proofs.Common.{◌∙◌, ap, set, get_or, arith, refl}
+use Rattle.std.proofs.Common.{◌∙◌, ap, set, get_or, arith}
 use Rattle.std.proofs.lemmas.List.{get_or_default}
 use Rattle.std.proofs.lemmas.List.Edits.{map_over_more}
 use Rattle.containers.specs.Cleaning.{cleaned_byte}

@@ -1,4 +1,4 @@
-use Rattle.std.proofs.Common.{◌≡◌, ◌∙◌, ◌+◌, ◌==◌, get_or, drop, true, false, sym, refl, arith}
+use Rattle.std.proofs.Common.{◌≡◌, ◌∙◌, ◌+◌, ◌==◌, get_or, drop, true, false, sym, arith}
 use Rattle.std.specs.List.{list_any}
 use Rattle.containers.proofs.Orders.{distinct_more, distinct_stops, distinct_end}
 use Rattle.containers.proofs.order.is_distinct.Goals as goal

@@ -1,4 +1,4 @@
-use Rattle.std.proofs.Common.{◌≡◌, ◌≤◌, ◌+◌, ◌*◌, ap, sym, ◌∙◌, refl, length, arith}
+use Rattle.std.proofs.Common.{ap, refl, length, arith}
 use Rattle.containers.proofs.Places.{ended_inside}
 use Rattle.containers.proofs.reading.is_ended.Goals as goal
 

@@ -1,4 +1,4 @@
-use Rattle.std.proofs.Common.{◌≡◌, ◌<◌, ◌≤◌, ◌∙◌, ◌*◌, ◌-◌, ◌+◌, ◌++◌, replicate, length, subst, sym, ap, refl, arith}
+use Rattle.std.proofs.Common.{◌≡◌, ◌∙◌, ◌*◌, ◌-◌, ◌+◌, ◌++◌, replicate, length, ap, refl, arith}
 use Rattle.containers.specs.Containers.{blank_sectors, tracks_for, new_container}
 use Rattle.containers.proofs.Returning.{blanks_more, blanks_end}
 use Rattle.containers.proofs.writing.new_container.Goals as goal

@@ -1,8 +1,7 @@
-use Rattle.std.proofs.Common.{◌≡◌, ◌<◌, ◌≤◌, ◌∙◌, length, get_or, set, subst, sym, ap, arith}
+use Rattle.std.proofs.Common.{◌<◌, length, arith}
 use Rattle.containers.specs.Layouts.{place}
-use Rattle.containers.specs.Containers.{capacity}
 use Rattle.containers.proofs.Places.{byte_small, byte_inside}
-use Rattle.containers.proofs.Returning.{HasFirst, Writable, one_more, writable}
+use Rattle.containers.proofs.Returning.{Writable, one_more, writable}
 use Rattle.containers.proofs.writing.put.Goals as goal
 
 pub place-place-requires : goal.place-place-requires
