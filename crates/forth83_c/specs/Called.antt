@@ -1,6 +1,9 @@
 -- What calls answer and leave.
-use Rattle.std.specs.Prelude.{◌≡◌, ◌≤◌, ◌-◌, ◌+◌, ℕ, List, length, take, drop}
+use Rattle.std.specs.Prelude.{◌≡◌, ◌≤◌, ◌-◌, ℕ, List, length, take, drop, None, Some, true, IsSome}
+use Rattle.inner_interpreter.specs.Answer.{Reply, answer_of, asked_by, asked_page, is_answer}
+use Rattle.inner_interpreter.specs.Entering.{entered, with_parts}
 use Rattle.inner_interpreter.specs.State.{State}
+use Rattle.inner_interpreter.specs.Tick.{Runs}
 use Rattle.forth83_c.specs.declared.record.Forth83.{Forth83}
 use Rattle.forth83_c.specs.declared.record.Forth83End.{Forth83End}
 use Rattle.forth83_c.specs.declared.status.Status.{Status}
@@ -49,3 +52,26 @@ pub record HasRun (old new : Forth83) (typed shown : List ℕ) (limit : ℕ) (en
   pub read : end.read ≤ length typed
   pub fits : end.shown ≤ length shown
   pub fewer : end.left ≤ limit
+
+-- the machine that the record kept was given an answer that it had asked for, and keeps what that comes to
+pub record HasAnswered (old new : Forth83) (reply : Reply) : Type 0 where
+  pub before : State
+  pub after : State
+  pub was_kept : IsKept old before
+  pub is_kept : IsKept new after
+  pub goes : before.halt ≡ None
+  pub fits : is_answer (asked_by before.wait) reply ≡ true
+  pub is : after ≡ (answer_of before reply).0
+
+-- the machine that the record kept ran, and keeps what it is where this word is entered
+pub record HasEntered (old new : Forth83) (word : ℕ) : Type 0 where
+  pub before : State
+  pub was_kept : IsKept old before
+  pub runs : Runs before
+  pub is_kept : IsKept new (with_parts before (entered before.parts word))
+
+-- the machine that the record keeps asks that these bytes be kept
+pub record AsksPage (kept : Forth83) (page : List ℕ) : Type 0 where
+  pub state : State
+  pub is_kept : IsKept kept state
+  pub asks : asked_page state ≡ Some page

@@ -4,7 +4,8 @@ ghost use Rattle.std.specs.Prelude.{◌≡◌, ◌≢◌, ◌<◌, ◌⊎◌, le
 ghost use Rattle.image_loader.specs.Files.{Contents, IsFile, IsCutShort, IsFollowed, HasBadMagic, HasBadVersion, HasBadBuffers, HasBadSize};
 ghost use Rattle.inner_interpreter.specs.State.{start};
 ghost use Rattle.forth83_c.specs.declared.status.Status.TheVariants as status;
-ghost use Rattle.forth83_c.specs.Called.{HasRun};
+ghost use Rattle.inner_interpreter.specs.Answer.{seen};
+ghost use Rattle.forth83_c.specs.Called.{HasAnswered, HasEntered, HasRun};
 ghost use Rattle.forth83_c.specs.Kept.{IsKept};
 
 use crate::driving::drive;
@@ -13,7 +14,7 @@ use crate::record::{Forth83, Forth83End};
 use crate::showing::ROOM;
 use crate::status::Status;
 use image_loader::ImageFault;
-use inner_interpreter::Machine;
+use inner_interpreter::{Answer, Machine, Refused};
 use std::alloc::Global;
 
 /// Loads an image into a record.
@@ -82,6 +83,58 @@ pub fn run(
                 stop: stop.code(),
             };
             Status::Done
+        }
+        Err(NotResumed::NoMachine) => Status::NoMachine,
+        Err(NotResumed::OutOfMemory) => Status::OutOfMemory,
+    }
+}
+
+/// Answers what the machine of a record asks.
+pub fn answer(alloc: Global, kept: &mut Forth83, answer: Answer<'_>) -> Status
+    ensures answered { result ≡ status.Done → HasAnswered kept.old kept.new (seen answer.entry) }
+    ensures stays { result ≢ status.Done → kept.new ≡ kept.old }
+{
+    match resume(alloc, kept) {
+        Ok(machine) => {
+            let mut machine = machine;
+            if machine.halted().is_some() {
+                return Status::Halted;
+            }
+            match machine.answer(answer) {
+                Ok(_) => {
+                    keep(machine, kept);
+                    Status::Done
+                }
+                Err(_) => Status::NotAsked,
+            }
+        }
+        Err(NotResumed::NoMachine) => Status::NoMachine,
+        Err(NotResumed::OutOfMemory) => Status::OutOfMemory,
+    }
+}
+
+/// Enters a word.
+pub fn enter(alloc: Global, kept: &mut Forth83, word: u16) -> Status
+    ensures entered { result ≡ status.Done → HasEntered kept.old kept.new word }
+    ensures stays { result ≢ status.Done → kept.new ≡ kept.old }
+{
+    match resume(alloc, kept) {
+        Ok(machine) => {
+            let mut machine = machine;
+            if machine.halted().is_some() {
+                return Status::Halted;
+            }
+            if machine.asked().is_some() {
+                return Status::Waiting;
+            }
+            match machine.enter(word) {
+                Ok(()) => {
+                    keep(machine, kept);
+                    Status::Done
+                }
+                Err(Refused::Waiting) => Status::Waiting,
+                Err(_) => Status::Halted,
+            }
         }
         Err(NotResumed::NoMachine) => Status::NoMachine,
         Err(NotResumed::OutOfMemory) => Status::OutOfMemory,
