@@ -1,0 +1,20 @@
+-- Bytes of memory, and bytes that are put one behind the other.
+use Rattle.std.proofs.Common.{◌≡◌, ℕ, ◌+◌, ◌-◌, ◌≤◌, List, length, arith, take, drop, replicate, [], ◌++◌, ap, ◌∙◌, append-nil, append_assoc}
+use Rattle.std.proofs.lemmas.List.{drop-replicate}
+use Rattle.std.proofs.lemmas.Grind.{common_steps}
+use Rattle.memory.specs.Bytes.{front_put, zeros}
+
+pub all_of_memory : (bs : List ℕ) → length bs ≡ 65536 → front_put bs zeros ≡ bs
+unfolding front_put zeros
+all_of_memory bs e =
+    let less : 65536 - length bs ≡ 0 = omega (arith, e) in
+    let none : drop (length bs) (replicate 65536 0) ≡ [] = drop-replicate (length bs) 65536 0 ∙ ap (λ k. replicate k 0) less in
+    ap (λ r. bs ++ r) none ∙ append-nil bs
+
+-- bytes that were put behind the first ones
+pub put_behind : (xs bs : List ℕ) (at end : ℕ) → end ≡ at + length bs → at + length bs ≤ length xs
+    → take end (take at xs ++ (bs ++ drop end xs)) ≡ take at xs ++ bs
+put_behind xs bs at end e fits = grind (arith, common_steps)
+
+pub append_both : (a b c xs ys zs : List ℕ) → b ≡ a ++ xs → c ≡ b ++ ys → xs ++ ys ≡ zs → c ≡ a ++ zs
+append_both a b c xs ys zs e f g = f ∙ ap (λ v. v ++ ys) e ∙ append_assoc a xs ys ∙ ap (λ v. a ++ v) g

@@ -1,0 +1,77 @@
+-- What calls answer and leave.
+use Rattle.std.specs.Prelude.{◌≡◌, ◌≤◌, ◌-◌, ℕ, List, length, take, drop, None, Some, true, IsSome}
+use Rattle.inner_interpreter.specs.Answer.{Reply, answer_of, asked_by, asked_page, is_answer}
+use Rattle.inner_interpreter.specs.Entering.{entered, with_parts}
+use Rattle.inner_interpreter.specs.State.{State}
+use Rattle.inner_interpreter.specs.Tick.{Runs}
+use Rattle.forth83_c.specs.declared.record.Forth83.{Forth83}
+use Rattle.forth83_c.specs.declared.record.Forth83End.{Forth83End}
+use Rattle.forth83_c.specs.declared.status.Status.{Status}
+use Rattle.forth83_c.specs.declared.status.Status.TheVariants as status
+use Rattle.forth83_c.specs.declared.stop.Stop.{Stop}
+use Rattle.forth83_c.specs.declared.stop.Stop.TheVariants as stop
+use Rattle.forth83_c.specs.Driven.{IsDriven, HasStopped}
+use Rattle.forth83_c.specs.Kept.{IsKept}
+
+-- the numbers of the header
+abbrev pub code_of : Status → ℕ
+code_of status.Done = 0
+code_of status.NoMachine = 1
+code_of status.OutOfMemory = 2
+code_of status.ShortRoom = 3
+code_of status.Truncated = 4
+code_of status.TrailingBytes = 5
+code_of status.BadMagic = 6
+code_of status.BadVersion = 7
+code_of status.BadBuffers = 8
+code_of status.BadSize = 9
+code_of status.Halted = 10
+code_of status.Waiting = 11
+code_of status.NotAsked = 12
+code_of status.BadPage = 13
+code_of status.Stack = 14
+
+abbrev pub stop_code : Stop → ℕ
+stop_code stop.Halted = 0
+stop_code stop.Limit = 1
+stop_code stop.Room = 2
+stop_code stop.Typed = 3
+stop_code stop.Block = 4
+
+-- the machine that the record kept was driven to that which it keeps now, by the typed bytes and for at most `limit` ticks;
+-- `end` tells how many of them were read, how many bytes shown, how many ticks left, and why it ended there
+pub record HasRun (old new : Forth83) (typed shown : List ℕ) (limit : ℕ) (end : Forth83End) : Type 0 where
+  pub before : State
+  pub after : State
+  pub was_kept : IsKept old before
+  pub is_kept : IsKept new after
+  pub driven : IsDriven before typed limit after (drop end.read typed) (take end.shown shown) end.left
+  pub stop : Stop
+  pub stopped : HasStopped stop after (drop end.read typed) end.left (length shown - end.shown)
+  pub told : end.stop ≡ stop_code stop
+  pub read : end.read ≤ length typed
+  pub fits : end.shown ≤ length shown
+  pub fewer : end.left ≤ limit
+
+-- the machine that the record kept was given an answer that it had asked for, and keeps what that comes to
+pub record HasAnswered (old new : Forth83) (reply : Reply) : Type 0 where
+  pub before : State
+  pub after : State
+  pub was_kept : IsKept old before
+  pub is_kept : IsKept new after
+  pub goes : before.halt ≡ None
+  pub fits : is_answer (asked_by before.wait) reply ≡ true
+  pub is : after ≡ (answer_of before reply).0
+
+-- the machine that the record kept ran, and keeps what it is where this word is entered
+pub record HasEntered (old new : Forth83) (word : ℕ) : Type 0 where
+  pub before : State
+  pub was_kept : IsKept old before
+  pub runs : Runs before
+  pub is_kept : IsKept new (with_parts before (entered before.parts word))
+
+-- the machine that the record keeps asks that these bytes be kept
+pub record AsksPage (kept : Forth83) (page : List ℕ) : Type 0 where
+  pub state : State
+  pub is_kept : IsKept kept state
+  pub asks : asked_page state ≡ Some page

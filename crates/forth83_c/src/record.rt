@@ -1,0 +1,69 @@
+//! The record that a machine is kept in between two calls. It is plain bytes of the host's, and may be copied.
+
+/// A block buffer.
+#[repr(C)]
+#[derive(Clone, Copy)]
+pub struct Forth83Buffer {
+    /// Its slot, from 0 on.
+    pub slot: u16,
+    /// 1 where it has a block.
+    pub has_block: u16,
+    /// That block.
+    pub block: u16,
+    /// 1 where the block was updated since it was read or written.
+    pub updated: u16,
+}
+
+/// A machine: all that a tick reads and writes.
+#[repr(C)]
+#[derive(Drop)]
+pub struct Forth83 {
+    /// Which layout this is: 1.
+    pub abi: u32,
+    /// How many blocks its device has.
+    pub block_count: u32,
+    /// The address of the next token in the thread.
+    pub ip: u16,
+    /// 1 where another token comes next.
+    pub has_pending: u16,
+    /// The address of that token.
+    pub pending: u16,
+    /// What it asks: 0 nothing, 1 a key, 2 a line, 3 a block's bytes, 4 that a block's bytes be kept.
+    pub asks: u16,
+    /// The most bytes of that line, or the block.
+    pub asked: u16,
+    /// The token that asks.
+    pub token: u16,
+    /// Why it halted: 0 it did not, 1 BYE, 2 the end of input, 3 input that can't be read, 4 a fault.
+    pub halts: u16,
+    /// That fault.
+    pub fault: u16,
+    /// Where the top of the data stack is among its cells; 256 where it is empty.
+    pub values_top: u16,
+    /// The same of the return stack.
+    pub returns_top: u16,
+    /// How many buffers there are, 2 to 16.
+    pub buffer_count: u16,
+    /// The buffers, the most recently referenced first.
+    pub buffers: [Forth83Buffer; 16],
+    /// The cells of the data stack, the bottom at place 255.
+    pub values: [u16; 257],
+    /// The cells of the return stack.
+    pub returns: [u16; 257],
+    /// Memory.
+    pub memory: [u8; 65536],
+}
+
+/// How a call of `forth83_run` ended.
+#[repr(C)]
+#[derive(Clone, Copy)]
+pub struct Forth83End {
+    /// How many typed bytes were read.
+    pub read: usize,
+    /// How many bytes are shown.
+    pub shown: usize,
+    /// How many ticks of the limit are left.
+    pub left: u64,
+    /// Why it ended: 0 the machine is halted, 1 no tick is left, 2 too little room, 3 typed bytes are wanted, 4 a block is.
+    pub stop: u32,
+}

@@ -1,0 +1,142 @@
+//! Loading and running of a machine that is kept.
+
+ghost use Rattle.std.specs.Prelude.{◌≡◌, ◌≢◌, ◌<◌, ◌⊎◌, length};
+ghost use Rattle.image_loader.specs.Files.{Contents, IsFile, IsCutShort, IsFollowed, HasBadMagic, HasBadVersion, HasBadBuffers, HasBadSize};
+ghost use Rattle.inner_interpreter.specs.State.{start};
+ghost use Rattle.forth83_c.specs.declared.status.Status.TheVariants as status;
+ghost use Rattle.inner_interpreter.specs.Answer.{seen};
+ghost use Rattle.forth83_c.specs.Called.{HasAnswered, HasEntered, HasRun};
+ghost use Rattle.forth83_c.specs.Kept.{IsKept};
+
+use crate::driving::drive;
+use crate::kept::{NotResumed, keep, resume};
+use crate::record::{Forth83, Forth83End};
+use crate::showing::ROOM;
+use crate::status::Status;
+use image_loader::ImageFault;
+use inner_interpreter::{Answer, Machine, Refused};
+use std::alloc::Global;
+
+/// Loads an image into a record.
+pub fn load(alloc: Global, image: &[u8], block_count: u32, kept: &mut Forth83) -> Status
+    ensures loaded { (contents : Contents) → IsFile image.now contents → result ≡ status.Done →
+        IsKept kept.new (start contents block_count) }
+    ensures found { result ≡ status.Done → (contents : Contents) × IsFile image.now contents }
+    ensures accepted { (contents : Contents) → IsFile image.now contents →
+        (result ≡ status.Done) ⊎ (result ≡ status.OutOfMemory) }
+    ensures truncated { IsCutShort image.now → result ≡ status.Truncated }
+    ensures trailing { IsFollowed image.now → result ≡ status.TrailingBytes }
+    ensures bad_magic { HasBadMagic image.now → result ≡ status.BadMagic }
+    ensures bad_version { HasBadVersion image.now → result ≡ status.BadVersion }
+    ensures bad_buffers { HasBadBuffers image.now → result ≡ status.BadBuffers }
+    ensures bad_size { HasBadSize image.now → result ≡ status.BadSize }
+    ensures stays { result ≢ status.Done → kept.new ≡ kept.old }
+{
+    match image_loader::read(alloc, image) {
+        Ok(image) => match Machine::load(alloc, &image, block_count) {
+            Ok(machine) => {
+                keep(machine, kept);
+                Status::Done
+            }
+            Err(_) => Status::OutOfMemory,
+        },
+        Err(ImageFault::Truncated) => Status::Truncated,
+        Err(ImageFault::TrailingBytes) => Status::TrailingBytes,
+        Err(ImageFault::BadMagic) => Status::BadMagic,
+        Err(ImageFault::BadVersion) => Status::BadVersion,
+        Err(ImageFault::BadBuffers) => Status::BadBuffers,
+        Err(ImageFault::BadSize) => Status::BadSize,
+        Err(ImageFault::OutOfMemory) => Status::OutOfMemory,
+    }
+}
+
+/// Drives the machine of a record.
+pub fn run(
+    alloc: Global,
+    kept: &mut Forth83,
+    typed: &[u8],
+    shown: &mut [u8],
+    limit: u64,
+    end: &mut Forth83End,
+) -> Status
+    ensures ran { result ≡ status.Done → HasRun kept.old kept.new typed.now shown.new limit end.new }
+    ensures refused { (result ≡ status.Done) ⊎ ((result ≡ status.NoMachine) ⊎
+        ((result ≡ status.OutOfMemory) ⊎ (result ≡ status.ShortRoom))) }
+    ensures room { length shown.old < 65536 → result ≡ status.ShortRoom }
+    ensures roomy { result ≡ status.ShortRoom → length shown.old < 65536 }
+    ensures stays { result ≢ status.Done → kept.new ≡ kept.old }
+    ensures silent { result ≢ status.Done → shown.new ≡ shown.old }
+    ensures untold { result ≢ status.Done → end.new ≡ end.old }
+{
+    if shown.len() < ROOM {
+        return Status::ShortRoom;
+    }
+    match resume(alloc, kept) {
+        Ok(machine) => {
+            let mut machine = machine;
+            let (course, stop) = drive(&mut machine, typed, shown, limit);
+            keep(machine, kept);
+            *end = Forth83End {
+                read: course.read,
+                shown: course.shown,
+                left: course.left,
+                stop: stop.code(),
+            };
+            Status::Done
+        }
+        Err(NotResumed::NoMachine) => Status::NoMachine,
+        Err(NotResumed::OutOfMemory) => Status::OutOfMemory,
+    }
+}
+
+/// Answers what the machine of a record asks.
+pub fn answer(alloc: Global, kept: &mut Forth83, answer: Answer<'_>) -> Status
+    ensures answered { result ≡ status.Done → HasAnswered kept.old kept.new (seen answer.entry) }
+    ensures stays { result ≢ status.Done → kept.new ≡ kept.old }
+{
+    match resume(alloc, kept) {
+        Ok(machine) => {
+            let mut machine = machine;
+            if machine.halted().is_some() {
+                return Status::Halted;
+            }
+            match machine.answer(answer) {
+                Ok(_) => {
+                    keep(machine, kept);
+                    Status::Done
+                }
+                Err(_) => Status::NotAsked,
+            }
+        }
+        Err(NotResumed::NoMachine) => Status::NoMachine,
+        Err(NotResumed::OutOfMemory) => Status::OutOfMemory,
+    }
+}
+
+/// Enters a word.
+pub fn enter(alloc: Global, kept: &mut Forth83, word: u16) -> Status
+    ensures entered { result ≡ status.Done → HasEntered kept.old kept.new word }
+    ensures stays { result ≢ status.Done → kept.new ≡ kept.old }
+{
+    match resume(alloc, kept) {
+        Ok(machine) => {
+            let mut machine = machine;
+            if machine.halted().is_some() {
+                return Status::Halted;
+            }
+            if machine.asked().is_some() {
+                return Status::Waiting;
+            }
+            match machine.enter(word) {
+                Ok(()) => {
+                    keep(machine, kept);
+                    Status::Done
+                }
+                Err(Refused::Waiting) => Status::Waiting,
+                Err(_) => Status::Halted,
+            }
+        }
+        Err(NotResumed::NoMachine) => Status::NoMachine,
+        Err(NotResumed::OutOfMemory) => Status::OutOfMemory,
+    }
+}

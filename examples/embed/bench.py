@@ -1,0 +1,119 @@
+#!/usr/bin/env python3
+"""The test bench of bench.c from Python: bench.py LIBRARY IMAGE < LINES
+
+LIBRARY is libforth83.so, which the Makefile here makes. Block 1 is the instrument, and the others are kept in memory.
+"""
+import ctypes
+import sys
+
+BLOCKS, INSTRUMENT, TICKS, PAGE, ROOM = 16, 1, 1000000, 1024, 65536
+READ = 3
+HALTED, LIMIT, SHORT, TYPED, BLOCK = range(5)
+
+
+class Buffer(ctypes.Structure):
+    """A block buffer, as forth83_buffer of forth83.h."""
+
+    _fields_ = [(name, ctypes.c_uint16) for name in ("slot", "has_block", "block", "updated")]
+
+
+class Machine(ctypes.Structure):
+    """A machine, as forth83 of forth83.h."""
+
+    _fields_ = (
+        [(name, ctypes.c_uint32) for name in ("abi", "block_count")]
+        + [(name, ctypes.c_uint16) for name in ("ip", "has_pending", "pending", "asks", "asked", "token", "halts", "fault")]
+        + [(name, ctypes.c_uint16) for name in ("values_top", "returns_top", "buffer_count")]
+        + [("buffers", Buffer * 16), ("values", ctypes.c_uint16 * 257), ("returns", ctypes.c_uint16 * 257)]
+        + [("memory", ctypes.c_uint8 * 65536)]
+    )
+
+
+class End(ctypes.Structure):
+    """How a call ended, as forth83_end of forth83.h."""
+
+    _fields_ = [
+        ("read", ctypes.c_size_t),
+        ("shown", ctypes.c_size_t),
+        ("left", ctypes.c_uint64),
+        ("stop", ctypes.c_uint32),
+    ]
+
+
+class Bench:
+    """A Forth over the instrument."""
+
+    def __init__(self, library, image):
+        self.calls = ctypes.CDLL(library)
+        self.machine = Machine()
+        self.blocks = [bytearray(PAGE) for _ in range(BLOCKS)]
+        self.measured = 0
+        self.must(self.calls.forth83_load(image, ctypes.c_size_t(len(image)), BLOCKS, ctypes.byref(self.machine)), "the image")
+
+    @staticmethod
+    def must(status, what):
+        """Ends the program where a call did nothing."""
+        if status != 0:
+            sys.exit(f"bench: {what}: status {status}")
+
+    def measure(self, page):
+        """The instrument: its first cell counts the measurements, its second is twice the output set in the third."""
+        self.measured += 1
+        value = 2 * int.from_bytes(page[4:6], "little")
+        page[0:4] = (self.measured % 65536).to_bytes(2, "little") + (value % 65536).to_bytes(2, "little")
+
+    def serve(self):
+        """Serves the block that the machine asks."""
+        machine, block, size = ctypes.byref(self.machine), self.machine.asked, ctypes.c_size_t(PAGE)
+        if block >= BLOCKS:
+            self.must(self.calls.forth83_failed(machine), "a block that isn't there")
+        elif self.machine.asks == READ:
+            if block == INSTRUMENT:
+                self.measure(self.blocks[block])
+            self.must(self.calls.forth83_read(machine, bytes(self.blocks[block]), size), "a block's bytes")
+        else:
+            page = ctypes.create_string_buffer(PAGE)
+            self.must(self.calls.forth83_page(machine, page, size), "a block to be kept")
+            self.blocks[block][:] = page.raw
+            self.must(self.calls.forth83_written(machine), "a block that is kept")
+
+    def type(self, line):
+        """Types a line: what it shows, and whether the machine goes on."""
+        before = bytes(self.machine)
+        room = ctypes.create_string_buffer(2 * ROOM)
+        left, output = TICKS, b""
+        while True:
+            end = End()
+            sizes = ctypes.c_size_t(len(line)), ctypes.c_size_t(len(room))
+            self.must(
+                self.calls.forth83_run(
+                    ctypes.byref(self.machine), line, sizes[0], room, sizes[1], ctypes.c_uint64(left), ctypes.byref(end)
+                ),
+                "a line",
+            )
+            output += room.raw[: end.shown]
+            line, left = line[end.read :], end.left
+            if end.stop == BLOCK:
+                self.serve()
+            elif end.stop == LIMIT:
+                ctypes.memmove(ctypes.byref(self.machine), before, len(before))
+                return output + b"\n(broken off)\n", True
+            elif end.stop != SHORT:
+                return output, end.stop == TYPED
+
+
+def main():
+    """Types each line of standard input."""
+    if len(sys.argv) != 3:
+        sys.exit("usage: bench.py LIBRARY IMAGE < LINES")
+    with open(sys.argv[2], "rb") as file:
+        bench = Bench(sys.argv[1], file.read())
+    for line in sys.stdin.buffer:
+        output, goes = bench.type(line)
+        sys.stdout.buffer.write(output)
+        if not goes:
+            break
+
+
+if __name__ == "__main__":
+    main()

@@ -1,0 +1,116 @@
+/* The proved Forth-83 machine in a host's own process. docs/EMBEDDING.md says what is promised, and what a host must do.
+ *
+ * The host owns all bytes. A machine is a record of the host's, of plain bytes: copy it to undo, or write it to a file to go on
+ * another day. No call keeps a pointer, and nothing is global: calls on different records may come from different threads. */
+#ifndef FORTH83_H
+#define FORTH83_H
+#include <stddef.h>
+#include <stdint.h>
+
+#ifdef __cplusplus
+extern "C" {
+#endif
+
+/* The layout of the records below; each record that was loaded has it as `abi`. */
+#define FORTH83_ABI 1
+
+/* The least room for what is shown, in bytes: any act may show as many. */
+#define FORTH83_ROOM 65536
+
+/* How many bytes a block has. */
+#define FORTH83_PAGE 1024
+
+/* What a call answers: done, or why it did nothing. */
+enum forth83_status {
+  FORTH83_DONE = 0,
+  FORTH83_NO_MACHINE = 1,     /* the record keeps no machine */
+  FORTH83_OUT_OF_MEMORY = 2,  /* malloc gave no memory */
+  FORTH83_SHORT_ROOM = 3,     /* fewer than FORTH83_ROOM bytes of room */
+  FORTH83_TRUNCATED = 4,      /* an image's file that ends too soon */
+  FORTH83_TRAILING_BYTES = 5, /* bytes behind an image's file */
+  FORTH83_BAD_MAGIC = 6,      /* no image's file */
+  FORTH83_BAD_VERSION = 7,    /* an image's file of another version */
+  FORTH83_BAD_BUFFERS = 8,    /* a number of buffers below 2 or above 16 */
+  FORTH83_BAD_SIZE = 9,       /* a size that doesn't fit */
+  FORTH83_HALTED = 10,        /* the machine is halted */
+  FORTH83_WAITING = 11,       /* the machine waits for an answer */
+  FORTH83_NOT_ASKED = 12,     /* what was answered isn't asked */
+  FORTH83_BAD_PAGE = 13,      /* the page isn't of FORTH83_PAGE bytes */
+  FORTH83_STACK = 14          /* the stack is full, or empty */
+};
+
+/* Why forth83_run ended. */
+enum forth83_stop {
+  FORTH83_STOP_HALTED = 0, /* the machine is halted: `halts` tells why */
+  FORTH83_STOP_LIMIT = 1,  /* all ticks that were allowed are done */
+  FORTH83_STOP_ROOM = 2,   /* fewer than FORTH83_ROOM bytes of room are left */
+  FORTH83_STOP_TYPED = 3,  /* a key is asked and no byte is left, or a line and no whole line is: call again with more */
+  FORTH83_STOP_BLOCK = 4   /* a block is asked: `asks` and `asked` tell which */
+};
+
+/* What a machine asks. */
+enum forth83_asks {
+  FORTH83_ASKS_NOTHING = 0,
+  FORTH83_ASKS_KEY = 1,
+  FORTH83_ASKS_LINE = 2,  /* of at most `asked` bytes */
+  FORTH83_ASKS_READ = 3,  /* the bytes of block `asked` */
+  FORTH83_ASKS_WRITE = 4  /* that the bytes of block `asked` be kept */
+};
+
+/* Why a machine halted. */
+enum forth83_halts {
+  FORTH83_RUNS = 0,
+  FORTH83_BYE = 1,
+  FORTH83_INPUT_ENDED = 2,
+  FORTH83_INPUT_FAULT = 3,
+  FORTH83_FAULT = 4 /* `fault`, which nothing in the image handles */
+};
+
+/* A block buffer. */
+typedef struct forth83_buffer {
+  uint16_t slot;      /* its slot, from 0 on */
+  uint16_t has_block; /* 1 where it has a block */
+  uint16_t block;     /* that block */
+  uint16_t updated;   /* 1 where the block was updated since it was read or written */
+} forth83_buffer;
+
+/* A machine. A host may read each field; what it writes must be such as a machine has, else calls refuse it. */
+typedef struct forth83 {
+  uint32_t abi;
+  uint32_t block_count; /* how many blocks its device has */
+  uint16_t ip;          /* the address of the next token in the thread */
+  uint16_t has_pending; /* 1 where another token comes next */
+  uint16_t pending;     /* the address of that token */
+  uint16_t asks;        /* enum forth83_asks */
+  uint16_t asked;
+  uint16_t token;       /* the token that asks */
+  uint16_t halts;       /* enum forth83_halts */
+  uint16_t fault;
+  uint16_t values_top;  /* the data stack is values[values_top] to values[255], the top first */
+  uint16_t returns_top; /* the return stack, likewise */
+  uint16_t buffer_count;
+  forth83_buffer buffers[16]; /* the most recently referenced first */
+  uint16_t values[257];
+  uint16_t returns[257];
+  uint8_t memory[65536];
+} forth83;
+
+/* How a call of forth83_run ended. */
+typedef struct forth83_end {
+  size_t read;   /* how many typed bytes were read */
+  size_t shown;  /* how many bytes are shown */
+  uint64_t left; /* how many ticks of the limit are left */
+  uint32_t stop; /* enum forth83_stop */
+} forth83_end;
+
+/* Loads an image, of which these are the bytes of the file, for a device of block_count blocks. */
+uint32_t forth83_load(const uint8_t *image, size_t image_size, uint32_t block_count, forth83 *machine);
+
+/* Goes on with the machine: by the typed bytes, for at most limit ticks, up to where the host is needed. */
+uint32_t forth83_run(forth83 *machine, const uint8_t *typed, size_t typed_size, uint8_t *shown, size_t shown_size,
+                     uint64_t limit, forth83_end *end);
+
+#ifdef __cplusplus
+}
+#endif
+#endif
