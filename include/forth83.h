@@ -110,6 +110,22 @@ uint32_t forth83_load(const uint8_t *image, size_t image_size, uint32_t block_co
 uint32_t forth83_run(forth83 *machine, const uint8_t *typed, size_t typed_size, uint8_t *shown, size_t shown_size,
                      uint64_t limit, forth83_end *end);
 
+/* Answers to FORTH83_STOP_BLOCK: a block's bytes; that its bytes are kept, which forth83_page gives; that this failed. */
+uint32_t forth83_read(forth83 *machine, const uint8_t *page, size_t page_size);
+uint32_t forth83_page(const forth83 *machine, uint8_t *page, size_t page_size);
+uint32_t forth83_written(forth83 *machine);
+uint32_t forth83_failed(forth83 *machine);
+
+/* Answers to FORTH83_STOP_TYPED: nothing is typed any more. The machine halts. */
+uint32_t forth83_ended(forth83 *machine);
+
+/* Enters the word at a compilation address; the next forth83_run goes on with it. The return stack is emptied. */
+uint32_t forth83_enter(forth83 *machine, uint16_t word);
+
+/* Pushes on the data stack, and pops its top into x. */
+uint32_t forth83_push(forth83 *machine, uint16_t x);
+uint32_t forth83_pop(forth83 *machine, uint16_t *x);
+
 #ifdef __cplusplus
 }
 #endif

@@ -1,5 +1,5 @@
 -- What calls answer and leave.
-use Rattle.std.specs.Prelude.{◌≡◌, ◌≤◌, ◌-◌, ℕ, List, length, take, drop, None, Some, true, IsSome}
+use Rattle.std.specs.Prelude.{◌≡◌, ◌≤◌, ◌-◌, ℕ, List, ◌∷◌, length, take, drop, None, Some, true}
 use Rattle.inner_interpreter.specs.Answer.{Reply, answer_of, asked_by, asked_page, is_answer}
 use Rattle.inner_interpreter.specs.Entering.{entered, with_parts}
 use Rattle.inner_interpreter.specs.State.{State}
@@ -75,3 +75,16 @@ pub record AsksPage (kept : Forth83) (page : List ℕ) : Type 0 where
   pub state : State
   pub is_kept : IsKept kept state
   pub asks : asked_page state ≡ Some page
+
+-- of whatever machine the record kept: it keeps the same with x on top of the data stack
+abbrev pub HasPushed : (old new : Forth83) (x : ℕ) → Type 0
+HasPushed old new x = (s : State) → IsKept old s → IsKept new (with_parts s (record s.parts { values = x ∷ s.parts.values }))
+
+-- x was on top of the data stack, and the record keeps the same without it
+pub record Popped (new : Forth83) (s : State) (x : ℕ) : Type 0 where
+  pub rest : List ℕ
+  pub was : s.parts.values ≡ x ∷ rest
+  pub is_kept : IsKept new (with_parts s (record s.parts { values = rest }))
+
+abbrev pub HasPopped : (old new : Forth83) (x : ℕ) → Type 0
+HasPopped old new x = (s : State) → IsKept old s → Popped new s x

@@ -80,7 +80,7 @@ fn buffer_of(entry: Entry) -> Forth83Buffer
 }
 
 /// The cells of a stack whose top is at a place.
-fn stack_of(cells: &[u16; 257], top: u16) -> Stack
+pub fn stack_of(cells: &[u16; 257], top: u16) -> Stack
     requires { top ≤ 256 }
     ensures { result ≡ slice_range cells.now top 256 }
 {
@@ -271,7 +271,7 @@ fn marked_told(x: Option<u16>) -> (u16, u16)
 }
 
 /// Keeps a stack, and answers where its top is.
-fn keep_stack(stack: Stack, cells: &mut [u16; 257]) -> u16
+pub fn keep_stack(stack: Stack, cells: &mut [u16; 257]) -> u16
     ensures cells { stack ≡ slice_range cells.new result 256 }
     ensures most { result ≤ 256 }
 {

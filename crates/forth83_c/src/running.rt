@@ -5,11 +5,11 @@ ghost use Rattle.image_loader.specs.Files.{Contents, IsFile, IsCutShort, IsFollo
 ghost use Rattle.inner_interpreter.specs.State.{start};
 ghost use Rattle.forth83_c.specs.declared.status.Status.TheVariants as status;
 ghost use Rattle.inner_interpreter.specs.Answer.{seen};
-ghost use Rattle.forth83_c.specs.Called.{HasAnswered, HasEntered, HasRun};
+ghost use Rattle.forth83_c.specs.Called.{AsksPage, HasAnswered, HasEntered, HasPopped, HasPushed, HasRun};
 ghost use Rattle.forth83_c.specs.Kept.{IsKept};
 
 use crate::driving::drive;
-use crate::kept::{NotResumed, keep, resume};
+use crate::kept::{NotResumed, keep, keep_stack, resume, stack_of};
 use crate::record::{Forth83, Forth83End};
 use crate::showing::ROOM;
 use crate::status::Status;
@@ -138,5 +138,67 @@ pub fn enter(alloc: Global, kept: &mut Forth83, word: u16) -> Status
         }
         Err(NotResumed::NoMachine) => Status::NoMachine,
         Err(NotResumed::OutOfMemory) => Status::OutOfMemory,
+    }
+}
+
+/// Puts the bytes that the machine of a record asks to be kept into `page`.
+pub fn asked_page(alloc: Global, kept: &Forth83, page: &mut [u8]) -> Status
+    ensures asks { result ≡ status.Done → AsksPage kept.now page.new }
+    ensures size { length page.old ≢ 1024 → result ≡ status.BadPage }
+    ensures stays { result ≢ status.Done → page.new ≡ page.old }
+{
+    if page.len() != 1024 {
+        return Status::BadPage;
+    }
+    match resume(alloc, kept) {
+        Ok(machine) => match machine.asked_page() {
+            Some(bytes) => {
+                page.copy_from_slice(bytes);
+                Status::Done
+            }
+            None => Status::NotAsked,
+        },
+        Err(NotResumed::NoMachine) => Status::NoMachine,
+        Err(NotResumed::OutOfMemory) => Status::OutOfMemory,
+    }
+}
+
+/// Pushes a number on the data stack of a record.
+pub fn push(kept: &mut Forth83, x: u16) -> Status
+    ensures pushed { result ≡ status.Done → HasPushed kept.old kept.new x }
+    ensures stays { result ≢ status.Done → kept.new ≡ kept.old }
+{
+    if kept.values_top > 256 {
+        return Status::NoMachine;
+    }
+    let mut stack = stack_of(&kept.values, kept.values_top);
+    match stack.push(x) {
+        Ok(()) => {
+            let top = keep_stack(stack, &mut kept.values);
+            kept.values_top = top;
+            Status::Done
+        }
+        Err(_) => Status::Stack,
+    }
+}
+
+/// Pops the number on top of the data stack of a record.
+pub fn pop(kept: &mut Forth83, x: &mut u16) -> Status
+    ensures popped { result ≡ status.Done → HasPopped kept.old kept.new x.new }
+    ensures stays { result ≢ status.Done → kept.new ≡ kept.old }
+    ensures untold { result ≢ status.Done → x.new ≡ x.old }
+{
+    if kept.values_top > 256 {
+        return Status::NoMachine;
+    }
+    let mut stack = stack_of(&kept.values, kept.values_top);
+    match stack.pop() {
+        Some(top) => {
+            *x = top;
+            let place = keep_stack(stack, &mut kept.values);
+            kept.values_top = place;
+            Status::Done
+        }
+        None => Status::Stack,
     }
 }
