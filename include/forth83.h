@@ -126,6 +126,28 @@ uint32_t forth83_enter(forth83 *machine, uint16_t word);
 uint32_t forth83_push(forth83 *machine, uint16_t x);
 uint32_t forth83_pop(forth83 *machine, uint16_t *x);
 
+/* Saves memory up to HERE as an image that starts with the word at entry: puts its file into file, and its size into size. */
+uint32_t forth83_save(const forth83 *machine, uint16_t entry, uint8_t *file, size_t file_size, size_t *size);
+
+/* A cell of memory is two bytes, the low one first, and memory goes on at address 0 behind its end. These are the header's own
+ * code, and write any address: so may a host. */
+static inline uint16_t forth83_cell(const forth83 *machine, uint16_t address)
+{
+    return (uint16_t)(machine->memory[address] + 256u * machine->memory[(uint16_t)(address + 1u)]);
+}
+
+static inline void forth83_set_cell(forth83 *machine, uint16_t address, uint16_t x)
+{
+    machine->memory[address] = (uint8_t)x;
+    machine->memory[(uint16_t)(address + 1u)] = (uint8_t)(x / 256u);
+}
+
+/* How many cells the data stack has. */
+static inline unsigned forth83_depth(const forth83 *machine)
+{
+    return machine->values_top > 256 ? 0 : 256u - machine->values_top;
+}
+
 #ifdef __cplusplus
 }
 #endif

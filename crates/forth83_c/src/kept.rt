@@ -136,7 +136,11 @@ fn is_kept(entry: Entry, kept: Forth83Buffer) -> bool
     ensures { IsTrue result → entry ≡ entry_of kept }
 {
     let wanted = entry_of(kept);
-    entry.slot == wanted.slot && entry.block == wanted.block && entry.updated == wanted.updated
+    kept.has_block <= 1
+        && kept.updated <= 1
+        && entry.slot == wanted.slot
+        && entry.block == wanted.block
+        && entry.updated == wanted.updated
 }
 
 /// Whether just these buffers are kept.

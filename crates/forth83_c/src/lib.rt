@@ -7,14 +7,14 @@ mod lines;
 pub mod record;
 mod running;
 mod showing;
-pub mod status;
-pub mod stop;
+mod status;
+mod stop;
 
-ghost use Rattle.std.specs.Prelude.{◌≡◌, ◌≢◌, ◌<◌, ◌⊎◌, length};
+ghost use Rattle.std.specs.Prelude.{◌≡◌, ◌≢◌, ◌<◌, ◌⊎◌, length, take};
 ghost use Rattle.image_loader.specs.Files.{Contents, IsFile, IsCutShort, IsFollowed, HasBadMagic, HasBadVersion, HasBadBuffers, HasBadSize};
 ghost use Rattle.inner_interpreter.specs.State.{start};
 ghost use Rattle.inner_interpreter.specs.Answer.{InputEnd, ReadFault, ReadOk, WriteFault, WriteOk};
-ghost use Rattle.forth83_c.specs.Called.{AsksPage, HasAnswered, HasEntered, HasPopped, HasPushed, HasRun};
+ghost use Rattle.forth83_c.specs.Called.{AsksPage, HasAnswered, HasEntered, HasPopped, HasPushed, HasRun, HasSaved};
 ghost use Rattle.forth83_c.specs.Kept.{IsKept};
 
 use inner_interpreter::Answer;
@@ -167,4 +167,22 @@ pub extern "C" fn forth83_pop(machine: &mut Forth83, x: &mut u16) -> u32
     ensures untold { result ≢ 0 → x.new ≡ x.old }
 {
     running::pop(machine, x).code()
+}
+
+/// Saves memory up to HERE as an image that starts with the word at `entry`: its file is put into `file`, and how many bytes
+/// that has into `size`.
+#[unsafe(no_mangle)]
+#[tactic(auto, using(crate::proofs::Codes::code_zero))]
+pub extern "C" fn forth83_save(
+    alloc: Global,
+    machine: &Forth83,
+    entry: u16,
+    file: &mut [u8],
+    size: &mut usize,
+) -> u32
+    ensures saved { result ≡ 0 → HasSaved machine.now entry (take size.new file.new) }
+    ensures stays { result ≢ 0 → file.new ≡ file.old }
+    ensures untold { result ≢ 0 → size.new ≡ size.old }
+{
+    running::save(alloc, machine, entry, file, size).code()
 }

@@ -1,20 +1,20 @@
 //! Loading and running of a machine that is kept.
 
-ghost use Rattle.std.specs.Prelude.{◌≡◌, ◌≢◌, ◌<◌, ◌⊎◌, length};
+ghost use Rattle.std.specs.Prelude.{◌≡◌, ◌≢◌, ◌<◌, ◌⊎◌, length, take};
 ghost use Rattle.image_loader.specs.Files.{Contents, IsFile, IsCutShort, IsFollowed, HasBadMagic, HasBadVersion, HasBadBuffers, HasBadSize};
 ghost use Rattle.inner_interpreter.specs.State.{start};
 ghost use Rattle.forth83_c.specs.declared.status.Status.TheVariants as status;
 ghost use Rattle.inner_interpreter.specs.Answer.{seen};
-ghost use Rattle.forth83_c.specs.Called.{AsksPage, HasAnswered, HasEntered, HasPopped, HasPushed, HasRun};
+ghost use Rattle.forth83_c.specs.Called.{AsksPage, HasAnswered, HasEntered, HasPopped, HasPushed, HasRun, HasSaved};
 ghost use Rattle.forth83_c.specs.Kept.{IsKept};
 
 use crate::driving::drive;
 use crate::kept::{NotResumed, keep, keep_stack, resume, stack_of};
 use crate::record::{Forth83, Forth83End};
-use crate::showing::ROOM;
+use crate::showing::{ROOM, put};
 use crate::status::Status;
 use image_loader::ImageFault;
-use inner_interpreter::{Answer, Machine, Refused};
+use inner_interpreter::{Answer, Machine, Refused, SaveRefused};
 use std::alloc::Global;
 
 /// Loads an image into a record.
@@ -200,5 +200,33 @@ pub fn pop(kept: &mut Forth83, x: &mut u16) -> Status
             Status::Done
         }
         None => Status::Stack,
+    }
+}
+
+/// Puts the file of the image that the machine of a record is saved as into `file`, and how many bytes it has into `size`.
+pub fn save(alloc: Global, kept: &Forth83, entry: u16, file: &mut [u8], size: &mut usize) -> Status
+    ensures saved { result ≡ status.Done → HasSaved kept.now entry (take size.new file.new) }
+    ensures stays { result ≢ status.Done → file.new ≡ file.old }
+    ensures untold { result ≢ status.Done → size.new ≡ size.old }
+{
+    let machine = match resume(alloc, kept) {
+        Ok(machine) => machine,
+        Err(NotResumed::NoMachine) => return Status::NoMachine,
+        Err(NotResumed::OutOfMemory) => return Status::OutOfMemory,
+    };
+    let image = match machine.save(alloc, entry) {
+        Ok(image) => image,
+        Err(SaveRefused::BadSize) => return Status::BadSize,
+        Err(SaveRefused::OutOfMemory) => return Status::OutOfMemory,
+    };
+    match image_loader::write(alloc, &image) {
+        Ok(bytes) => {
+            if bytes.len() > file.len() {
+                return Status::ShortRoom;
+            }
+            *size = put(file, 0, bytes.as_slice());
+            Status::Done
+        }
+        Err(_) => Status::OutOfMemory,
     }
 }
