@@ -122,7 +122,8 @@ uint32_t forth83_ended(forth83 *machine);
 /* Enters the word at a compilation address; the next forth83_run goes on with it. The return stack is emptied. */
 uint32_t forth83_enter(forth83 *machine, uint16_t word);
 
-/* Pushes on the data stack, and pops its top into x. */
+/* Pushes on the data stack, and pops its top into x. FORTH83_WAITING where the machine asks, since what a request needs lies
+ * on top then: below a line's two cells lies what the lines before left. */
 uint32_t forth83_push(forth83 *machine, uint16_t x);
 uint32_t forth83_pop(forth83 *machine, uint16_t *x);
 

@@ -148,21 +148,23 @@ pub extern "C" fn forth83_enter(alloc: Global, machine: &mut Forth83, word: u16)
     running::enter(alloc, machine, word).code()
 }
 
-/// Pushes a number on the data stack.
+/// Pushes a number on the data stack. `Waiting` where a request stands, since what it needs lies on top.
 #[unsafe(no_mangle)]
 #[tactic(auto, using(crate::proofs::Codes::code_zero))]
 pub extern "C" fn forth83_push(machine: &mut Forth83, x: u16) -> u32
     ensures pushed { result ≡ 0 → HasPushed machine.old machine.new x }
+    ensures waiting { machine.old.asks ≢ 0 → result ≡ 11 }
     ensures stays { result ≢ 0 → machine.new ≡ machine.old }
 {
     running::push(machine, x).code()
 }
 
-/// Pops the number on top of the data stack into `x`.
+/// Pops the number on top of the data stack into `x`. `Waiting` where a request stands, since what it needs lies on top.
 #[unsafe(no_mangle)]
 #[tactic(auto, using(crate::proofs::Codes::code_zero))]
 pub extern "C" fn forth83_pop(machine: &mut Forth83, x: &mut u16) -> u32
     ensures popped { result ≡ 0 → HasPopped machine.old machine.new x.new }
+    ensures waiting { machine.old.asks ≢ 0 → result ≡ 11 }
     ensures stays { result ≢ 0 → machine.new ≡ machine.old }
     ensures untold { result ≢ 0 → x.new ≡ x.old }
 {

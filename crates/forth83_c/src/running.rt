@@ -163,11 +163,15 @@ pub fn asked_page(alloc: Global, kept: &Forth83, page: &mut [u8]) -> Status
     }
 }
 
-/// Pushes a number on the data stack of a record.
+/// Pushes a number on the data stack of a record, where nothing is asked.
 pub fn push(kept: &mut Forth83, x: u16) -> Status
     ensures pushed { result ≡ status.Done → HasPushed kept.old kept.new x }
+    ensures waiting { kept.old.asks ≢ 0 → result ≡ status.Waiting }
     ensures stays { result ≢ status.Done → kept.new ≡ kept.old }
 {
+    if kept.asks != 0 {
+        return Status::Waiting;
+    }
     if kept.values_top > 256 {
         return Status::NoMachine;
     }
@@ -182,12 +186,16 @@ pub fn push(kept: &mut Forth83, x: u16) -> Status
     }
 }
 
-/// Pops the number on top of the data stack of a record.
+/// Pops the number on top of the data stack of a record, where nothing is asked.
 pub fn pop(kept: &mut Forth83, x: &mut u16) -> Status
     ensures popped { result ≡ status.Done → HasPopped kept.old kept.new x.new }
+    ensures waiting { kept.old.asks ≢ 0 → result ≡ status.Waiting }
     ensures stays { result ≢ status.Done → kept.new ≡ kept.old }
     ensures untold { result ≢ status.Done → x.new ≡ x.old }
 {
+    if kept.asks != 0 {
+        return Status::Waiting;
+    }
     if kept.values_top > 256 {
         return Status::NoMachine;
     }
