@@ -110,6 +110,45 @@ uint32_t forth83_load(const uint8_t *image, size_t image_size, uint32_t block_co
 uint32_t forth83_run(forth83 *machine, const uint8_t *typed, size_t typed_size, uint8_t *shown, size_t shown_size,
                      uint64_t limit, forth83_end *end);
 
+/* Answers to FORTH83_STOP_BLOCK: a block's bytes; that its bytes are kept, which forth83_page gives; that this failed. */
+uint32_t forth83_read(forth83 *machine, const uint8_t *page, size_t page_size);
+uint32_t forth83_page(const forth83 *machine, uint8_t *page, size_t page_size);
+uint32_t forth83_written(forth83 *machine);
+uint32_t forth83_failed(forth83 *machine);
+
+/* Answers to FORTH83_STOP_TYPED: nothing is typed any more. The machine halts. */
+uint32_t forth83_ended(forth83 *machine);
+
+/* Enters the word at a compilation address; the next forth83_run goes on with it. The return stack is emptied. */
+uint32_t forth83_enter(forth83 *machine, uint16_t word);
+
+/* Pushes on the data stack, and pops its top into x. FORTH83_WAITING where the machine asks, since what a request needs lies
+ * on top then: below a line's two cells lies what the lines before left. */
+uint32_t forth83_push(forth83 *machine, uint16_t x);
+uint32_t forth83_pop(forth83 *machine, uint16_t *x);
+
+/* Saves memory up to HERE as an image that starts with the word at entry: puts its file into file, and its size into size. */
+uint32_t forth83_save(const forth83 *machine, uint16_t entry, uint8_t *file, size_t file_size, size_t *size);
+
+/* A cell of memory is two bytes, the low one first, and memory goes on at address 0 behind its end. These are the header's own
+ * code, and write any address: so may a host. */
+static inline uint16_t forth83_cell(const forth83 *machine, uint16_t address)
+{
+    return (uint16_t)(machine->memory[address] + 256u * machine->memory[(uint16_t)(address + 1u)]);
+}
+
+static inline void forth83_set_cell(forth83 *machine, uint16_t address, uint16_t x)
+{
+    machine->memory[address] = (uint8_t)x;
+    machine->memory[(uint16_t)(address + 1u)] = (uint8_t)(x / 256u);
+}
+
+/* How many cells the data stack has. */
+static inline unsigned forth83_depth(const forth83 *machine)
+{
+    return machine->values_top > 256 ? 0 : 256u - machine->values_top;
+}
+
 #ifdef __cplusplus
 }
 #endif

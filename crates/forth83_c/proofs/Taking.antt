@@ -1,5 +1,5 @@
 -- Lines and keys at the front of the typed bytes.
-use Rattle.std.proofs.Common.{◌≡◌, ℕ, suc, ◌+◌, ◌-◌, ◌<◌, ◌≤◌, ◌++◌, List, [], ◌∷◌, Bool, true, false, length, take, drop, get_or, refl, sym, ap, ◌∙◌, append-nil, drop-cons, arith}
+use Rattle.std.proofs.Common.{◌≡◌, ℕ, suc, ◌+◌, ◌-◌, ◌<◌, List, [], ◌∷◌, Bool, true, false, length, take, drop, get_or, refl, sym, ap, ◌∙◌, append-nil, drop-cons, arith}
 use Rattle.std.proofs.lemmas.List.{take_more}
 use Rattle.std.specs.List.{list_all}
 use Rattle.block_buffers.specs.Disks.{Disk}

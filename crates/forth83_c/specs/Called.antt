@@ -1,7 +1,8 @@
 -- What calls answer and leave.
-use Rattle.std.specs.Prelude.{◌≡◌, ◌≤◌, ◌-◌, ℕ, List, length, take, drop, None, Some, true, IsSome}
+use Rattle.std.specs.Prelude.{◌≡◌, ◌≤◌, ◌-◌, ℕ, List, ◌∷◌, length, take, drop, None, Some, true}
 use Rattle.inner_interpreter.specs.Answer.{Reply, answer_of, asked_by, asked_page, is_answer}
-use Rattle.inner_interpreter.specs.Entering.{entered, with_parts}
+use Rattle.image_loader.specs.Files.{IsWritten}
+use Rattle.inner_interpreter.specs.Entering.{can_save, entered, saved, with_parts}
 use Rattle.inner_interpreter.specs.State.{State}
 use Rattle.inner_interpreter.specs.Tick.{Runs}
 use Rattle.forth83_c.specs.declared.record.Forth83.{Forth83}
@@ -75,3 +76,23 @@ pub record AsksPage (kept : Forth83) (page : List ℕ) : Type 0 where
   pub state : State
   pub is_kept : IsKept kept state
   pub asks : asked_page state ≡ Some page
+
+-- of whatever machine the record kept: it keeps the same with x on top of the data stack
+abbrev pub HasPushed : (old new : Forth83) (x : ℕ) → Type 0
+HasPushed old new x = (s : State) → IsKept old s → IsKept new (with_parts s (record s.parts { values = x ∷ s.parts.values }))
+
+-- x was on top of the data stack, and the record keeps the same without it
+pub record Popped (new : Forth83) (s : State) (x : ℕ) : Type 0 where
+  pub rest : List ℕ
+  pub was : s.parts.values ≡ x ∷ rest
+  pub is_kept : IsKept new (with_parts s (record s.parts { values = rest }))
+
+abbrev pub HasPopped : (old new : Forth83) (x : ℕ) → Type 0
+HasPopped old new x = (s : State) → IsKept old s → Popped new s x
+
+-- these bytes are the file of the image that the kept machine is saved as, which starts with the word at entry
+pub record HasSaved (kept : Forth83) (entry : ℕ) (bytes : List ℕ) : Type 0 where
+  pub state : State
+  pub is_kept : IsKept kept state
+  pub fits : can_save state.parts ≡ true
+  pub written : IsWritten bytes (saved state.parts entry)

@@ -80,7 +80,7 @@ fn buffer_of(entry: Entry) -> Forth83Buffer
 }
 
 /// The cells of a stack whose top is at a place.
-fn stack_of(cells: &[u16; 257], top: u16) -> Stack
+pub fn stack_of(cells: &[u16; 257], top: u16) -> Stack
     requires { top ≤ 256 }
     ensures { result ≡ slice_range cells.now top 256 }
 {
@@ -136,7 +136,11 @@ fn is_kept(entry: Entry, kept: Forth83Buffer) -> bool
     ensures { IsTrue result → entry ≡ entry_of kept }
 {
     let wanted = entry_of(kept);
-    entry.slot == wanted.slot && entry.block == wanted.block && entry.updated == wanted.updated
+    kept.has_block <= 1
+        && kept.updated <= 1
+        && entry.slot == wanted.slot
+        && entry.block == wanted.block
+        && entry.updated == wanted.updated
 }
 
 /// Whether just these buffers are kept.
@@ -271,7 +275,7 @@ fn marked_told(x: Option<u16>) -> (u16, u16)
 }
 
 /// Keeps a stack, and answers where its top is.
-fn keep_stack(stack: Stack, cells: &mut [u16; 257]) -> u16
+pub fn keep_stack(stack: Stack, cells: &mut [u16; 257]) -> u16
     ensures cells { stack ≡ slice_range cells.new result 256 }
     ensures most { result ≤ 256 }
 {

@@ -7,16 +7,19 @@ mod lines;
 pub mod record;
 mod running;
 mod showing;
-pub mod status;
-pub mod stop;
+mod status;
+mod stop;
 
-ghost use Rattle.std.specs.Prelude.{◌≡◌, ◌≢◌, ◌<◌, ◌⊎◌, length};
+ghost use Rattle.std.specs.Prelude.{◌≡◌, ◌≢◌, ◌<◌, ◌⊎◌, length, take};
 ghost use Rattle.image_loader.specs.Files.{Contents, IsFile, IsCutShort, IsFollowed, HasBadMagic, HasBadVersion, HasBadBuffers, HasBadSize};
 ghost use Rattle.inner_interpreter.specs.State.{start};
-ghost use Rattle.forth83_c.specs.Called.{HasRun};
+ghost use Rattle.inner_interpreter.specs.Answer.{InputEnd, ReadFault, ReadOk, WriteFault, WriteOk};
+ghost use Rattle.forth83_c.specs.Called.{AsksPage, HasAnswered, HasEntered, HasPopped, HasPushed, HasRun, HasSaved};
 ghost use Rattle.forth83_c.specs.Kept.{IsKept};
 
+use inner_interpreter::Answer;
 use record::{Forth83, Forth83End};
+use status::Status;
 use std::alloc::Global;
 
 /// Loads an image, of which `image` are the bytes of the file, for a device of `block_count` blocks.
@@ -72,4 +75,116 @@ pub extern "C" fn forth83_run(
     ensures untold { result ≢ 0 → end.new ≡ end.old }
 {
     running::run(alloc, machine, typed, shown, limit, end).code()
+}
+
+/// Answers a request for a block with its bytes, 1,024 of them.
+#[unsafe(no_mangle)]
+#[tactic(auto, using(crate::proofs::Codes::code_zero))]
+pub extern "C" fn forth83_read(alloc: Global, machine: &mut Forth83, page: &[u8]) -> u32
+    ensures answered { result ≡ 0 → HasAnswered machine.old machine.new (ReadOk page.now) }
+    ensures size { length page.now ≢ 1024 → result ≡ 13 }
+    ensures stays { result ≢ 0 → machine.new ≡ machine.old }
+{
+    if page.len() != 1024 {
+        return Status::BadPage.code();
+    }
+    let mut bytes = [0u8; 1024];
+    bytes.copy_from_slice(page);
+    running::answer(alloc, machine, Answer::ReadOk(&bytes)).code()
+}
+
+/// Answers that a block's bytes are kept.
+#[unsafe(no_mangle)]
+#[tactic(auto, using(crate::proofs::Codes::code_zero))]
+pub extern "C" fn forth83_written(alloc: Global, machine: &mut Forth83) -> u32
+    ensures answered { result ≡ 0 → HasAnswered machine.old machine.new WriteOk }
+    ensures stays { result ≢ 0 → machine.new ≡ machine.old }
+{
+    running::answer(alloc, machine, Answer::WriteOk).code()
+}
+
+/// Answers that nothing is typed any more: the machine halts.
+#[unsafe(no_mangle)]
+#[tactic(auto, using(crate::proofs::Codes::code_zero))]
+pub extern "C" fn forth83_ended(alloc: Global, machine: &mut Forth83) -> u32
+    ensures answered { result ≡ 0 → HasAnswered machine.old machine.new InputEnd }
+    ensures stays { result ≢ 0 → machine.new ≡ machine.old }
+{
+    running::answer(alloc, machine, Answer::InputEnd).code()
+}
+
+/// Answers that the block can't be read, or that its bytes can't be kept.
+#[unsafe(no_mangle)]
+#[tactic(auto, using(crate::proofs::Codes::code_zero))]
+pub extern "C" fn forth83_failed(alloc: Global, machine: &mut Forth83) -> u32
+    ensures read { result ≡ 0 → machine.old.asks ≢ 4 → HasAnswered machine.old machine.new ReadFault }
+    ensures write { result ≡ 0 → machine.old.asks ≡ 4 → HasAnswered machine.old machine.new WriteFault }
+    ensures stays { result ≢ 0 → machine.new ≡ machine.old }
+{
+    if machine.asks == 4 {
+        return running::answer(alloc, machine, Answer::WriteFault).code();
+    }
+    running::answer(alloc, machine, Answer::ReadFault).code()
+}
+
+/// Puts the bytes of the block that is asked to be kept into `page`, which has 1,024.
+#[unsafe(no_mangle)]
+#[tactic(auto, using(crate::proofs::Codes::code_zero))]
+pub extern "C" fn forth83_page(alloc: Global, machine: &Forth83, page: &mut [u8]) -> u32
+    ensures asks { result ≡ 0 → AsksPage machine.now page.new }
+    ensures size { length page.old ≢ 1024 → result ≡ 13 }
+    ensures stays { result ≢ 0 → page.new ≡ page.old }
+{
+    running::asked_page(alloc, machine, page).code()
+}
+
+/// Enters the word at a compilation address: the return stack is emptied, and the word comes next.
+#[unsafe(no_mangle)]
+#[tactic(auto, using(crate::proofs::Codes::code_zero))]
+pub extern "C" fn forth83_enter(alloc: Global, machine: &mut Forth83, word: u16) -> u32
+    ensures entered { result ≡ 0 → HasEntered machine.old machine.new word }
+    ensures stays { result ≢ 0 → machine.new ≡ machine.old }
+{
+    running::enter(alloc, machine, word).code()
+}
+
+/// Pushes a number on the data stack. `Waiting` where a request stands, since what it needs lies on top.
+#[unsafe(no_mangle)]
+#[tactic(auto, using(crate::proofs::Codes::code_zero))]
+pub extern "C" fn forth83_push(machine: &mut Forth83, x: u16) -> u32
+    ensures pushed { result ≡ 0 → HasPushed machine.old machine.new x }
+    ensures waiting { machine.old.asks ≢ 0 → result ≡ 11 }
+    ensures stays { result ≢ 0 → machine.new ≡ machine.old }
+{
+    running::push(machine, x).code()
+}
+
+/// Pops the number on top of the data stack into `x`. `Waiting` where a request stands, since what it needs lies on top.
+#[unsafe(no_mangle)]
+#[tactic(auto, using(crate::proofs::Codes::code_zero))]
+pub extern "C" fn forth83_pop(machine: &mut Forth83, x: &mut u16) -> u32
+    ensures popped { result ≡ 0 → HasPopped machine.old machine.new x.new }
+    ensures waiting { machine.old.asks ≢ 0 → result ≡ 11 }
+    ensures stays { result ≢ 0 → machine.new ≡ machine.old }
+    ensures untold { result ≢ 0 → x.new ≡ x.old }
+{
+    running::pop(machine, x).code()
+}
+
+/// Saves memory up to HERE as an image that starts with the word at `entry`: its file is put into `file`, and how many bytes
+/// that has into `size`.
+#[unsafe(no_mangle)]
+#[tactic(auto, using(crate::proofs::Codes::code_zero))]
+pub extern "C" fn forth83_save(
+    alloc: Global,
+    machine: &Forth83,
+    entry: u16,
+    file: &mut [u8],
+    size: &mut usize,
+) -> u32
+    ensures saved { result ≡ 0 → HasSaved machine.now entry (take size.new file.new) }
+    ensures stays { result ≢ 0 → file.new ≡ file.old }
+    ensures untold { result ≢ 0 → size.new ≡ size.old }
+{
+    running::save(alloc, machine, entry, file, size).code()
 }

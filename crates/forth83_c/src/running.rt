@@ -1,20 +1,20 @@
 //! Loading and running of a machine that is kept.
 
-ghost use Rattle.std.specs.Prelude.{◌≡◌, ◌≢◌, ◌<◌, ◌⊎◌, length};
+ghost use Rattle.std.specs.Prelude.{◌≡◌, ◌≢◌, ◌<◌, ◌⊎◌, length, take};
 ghost use Rattle.image_loader.specs.Files.{Contents, IsFile, IsCutShort, IsFollowed, HasBadMagic, HasBadVersion, HasBadBuffers, HasBadSize};
 ghost use Rattle.inner_interpreter.specs.State.{start};
 ghost use Rattle.forth83_c.specs.declared.status.Status.TheVariants as status;
 ghost use Rattle.inner_interpreter.specs.Answer.{seen};
-ghost use Rattle.forth83_c.specs.Called.{HasAnswered, HasEntered, HasRun};
+ghost use Rattle.forth83_c.specs.Called.{AsksPage, HasAnswered, HasEntered, HasPopped, HasPushed, HasRun, HasSaved};
 ghost use Rattle.forth83_c.specs.Kept.{IsKept};
 
 use crate::driving::drive;
-use crate::kept::{NotResumed, keep, resume};
+use crate::kept::{NotResumed, keep, keep_stack, resume, stack_of};
 use crate::record::{Forth83, Forth83End};
-use crate::showing::ROOM;
+use crate::showing::{ROOM, put};
 use crate::status::Status;
 use image_loader::ImageFault;
-use inner_interpreter::{Answer, Machine, Refused};
+use inner_interpreter::{Answer, Machine, Refused, SaveRefused};
 use std::alloc::Global;
 
 /// Loads an image into a record.
@@ -138,5 +138,103 @@ pub fn enter(alloc: Global, kept: &mut Forth83, word: u16) -> Status
         }
         Err(NotResumed::NoMachine) => Status::NoMachine,
         Err(NotResumed::OutOfMemory) => Status::OutOfMemory,
+    }
+}
+
+/// Puts the bytes that the machine of a record asks to be kept into `page`.
+pub fn asked_page(alloc: Global, kept: &Forth83, page: &mut [u8]) -> Status
+    ensures asks { result ≡ status.Done → AsksPage kept.now page.new }
+    ensures size { length page.old ≢ 1024 → result ≡ status.BadPage }
+    ensures stays { result ≢ status.Done → page.new ≡ page.old }
+{
+    if page.len() != 1024 {
+        return Status::BadPage;
+    }
+    match resume(alloc, kept) {
+        Ok(machine) => match machine.asked_page() {
+            Some(bytes) => {
+                page.copy_from_slice(bytes);
+                Status::Done
+            }
+            None => Status::NotAsked,
+        },
+        Err(NotResumed::NoMachine) => Status::NoMachine,
+        Err(NotResumed::OutOfMemory) => Status::OutOfMemory,
+    }
+}
+
+/// Pushes a number on the data stack of a record, where nothing is asked.
+pub fn push(kept: &mut Forth83, x: u16) -> Status
+    ensures pushed { result ≡ status.Done → HasPushed kept.old kept.new x }
+    ensures waiting { kept.old.asks ≢ 0 → result ≡ status.Waiting }
+    ensures stays { result ≢ status.Done → kept.new ≡ kept.old }
+{
+    if kept.asks != 0 {
+        return Status::Waiting;
+    }
+    if kept.values_top > 256 {
+        return Status::NoMachine;
+    }
+    let mut stack = stack_of(&kept.values, kept.values_top);
+    match stack.push(x) {
+        Ok(()) => {
+            let top = keep_stack(stack, &mut kept.values);
+            kept.values_top = top;
+            Status::Done
+        }
+        Err(_) => Status::Stack,
+    }
+}
+
+/// Pops the number on top of the data stack of a record, where nothing is asked.
+pub fn pop(kept: &mut Forth83, x: &mut u16) -> Status
+    ensures popped { result ≡ status.Done → HasPopped kept.old kept.new x.new }
+    ensures waiting { kept.old.asks ≢ 0 → result ≡ status.Waiting }
+    ensures stays { result ≢ status.Done → kept.new ≡ kept.old }
+    ensures untold { result ≢ status.Done → x.new ≡ x.old }
+{
+    if kept.asks != 0 {
+        return Status::Waiting;
+    }
+    if kept.values_top > 256 {
+        return Status::NoMachine;
+    }
+    let mut stack = stack_of(&kept.values, kept.values_top);
+    match stack.pop() {
+        Some(top) => {
+            *x = top;
+            let place = keep_stack(stack, &mut kept.values);
+            kept.values_top = place;
+            Status::Done
+        }
+        None => Status::Stack,
+    }
+}
+
+/// Puts the file of the image that the machine of a record is saved as into `file`, and how many bytes it has into `size`.
+pub fn save(alloc: Global, kept: &Forth83, entry: u16, file: &mut [u8], size: &mut usize) -> Status
+    ensures saved { result ≡ status.Done → HasSaved kept.now entry (take size.new file.new) }
+    ensures stays { result ≢ status.Done → file.new ≡ file.old }
+    ensures untold { result ≢ status.Done → size.new ≡ size.old }
+{
+    let machine = match resume(alloc, kept) {
+        Ok(machine) => machine,
+        Err(NotResumed::NoMachine) => return Status::NoMachine,
+        Err(NotResumed::OutOfMemory) => return Status::OutOfMemory,
+    };
+    let image = match machine.save(alloc, entry) {
+        Ok(image) => image,
+        Err(SaveRefused::BadSize) => return Status::BadSize,
+        Err(SaveRefused::OutOfMemory) => return Status::OutOfMemory,
+    };
+    match image_loader::write(alloc, &image) {
+        Ok(bytes) => {
+            if bytes.len() > file.len() {
+                return Status::ShortRoom;
+            }
+            *size = put(file, 0, bytes.as_slice());
+            Status::Done
+        }
+        Err(_) => Status::OutOfMemory,
     }
 }

@@ -12,7 +12,7 @@ pub const ROOM: usize = 65536;
 
 /// Puts bytes from a place on, and answers the place behind them.
 #[tactic(auto, using(crate::proofs::Bytes::put_behind))]
-fn put(out: &mut [u8], at: usize, bytes: &[u8]) -> usize
+pub fn put(out: &mut [u8], at: usize, bytes: &[u8]) -> usize
     requires { at + length bytes.now ≤ length out.old }
     ensures front { take result out.new ≡ take at out.old ++ bytes.now }
     ensures end { result ≡ at + length bytes.now }

@@ -1,4 +1,4 @@
-use Rattle.std.proofs.Common.{rules, ◌≡◌, ◌<◌, ◌+◌, length, arith}
+use Rattle.std.proofs.Common.{rules, ◌≡◌, ◌<◌, length, arith}
 use Rattle.forth83_c.proofs.Taking.{line_here, line_on, typed_on}
 use Rattle.forth83_c.proofs.lines.whole_line.Goals as goal
 

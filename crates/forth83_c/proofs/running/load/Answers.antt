@@ -1,4 +1,3 @@
-use Rattle.std.proofs.Common.{◌≡◌}
 use Rattle.forth83_c.proofs.running.load.Goals as goal
 
 pub returns-in-Err-Truncated-clause-accepted : goal.returns-in-Err-Truncated-clause-accepted
