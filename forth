@@ -34,6 +34,7 @@ usage: ./forth [BLOCKS]                      works on the file BLOCKS, forth.blk
        ./forth --image OWN FROM TO [BLOCKS]  makes of the screens FROM to TO the image OWN, which starts with their program
        ./forth --proved [BLOCKS]             waits for the proved program, where it isn't there yet
        ./forth --unproved [BLOCKS]           runs the program without proofs, and has nothing proved
+       ./forth --on DEVICE [--speed N] [..]  takes a serial port, or another terminal, as its console, with what else is named
        ./forth --status                      says which program is there, and how far its proof is
        ./forth film NAME [LINE]              makes a page that shows each step of the word NAME; film --help tells more
        ./forth map IMAGE [OTHER]             makes a map of an image's memory
@@ -442,6 +443,7 @@ make_own() {
 
 sources=
 case ${1:-} in
+  --on) exec "$here/workbench/on" "${@:2}" ;;
   film | map | print) command -v python3 > /dev/null || refuse "$1 needs python3, which isn't there"; exec python3 -B "$here/teaching/$1" "${@:2}" ;;
 esac
 own=

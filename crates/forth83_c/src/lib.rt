@@ -3,6 +3,7 @@
 
 mod driving;
 mod kept;
+pub mod laws;
 mod lines;
 pub mod record;
 mod running;
