@@ -1,5 +1,5 @@
 -- A machine that was loaded.
-use Rattle.std.proofs.Common.{◌≡◌, ◌∙◌, refl, sym, ap, subst, length, ℕ, List, Option, Some, Result, Ok, Err}
+use Rattle.std.proofs.Common.{◌≡◌, ◌∙◌, refl, ap, subst, length, ℕ, List, Option, Some, Result, Ok, Err}
 use Rattle.std.specs.Prelude.{IfSome, IfOk}
 use Rattle.block_buffers.specs.Disks.{Disk}
 use Rattle.image_loader.specs.Files.{Contents}

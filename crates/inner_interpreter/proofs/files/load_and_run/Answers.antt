@@ -1,11 +1,8 @@
-use Rattle.std.proofs.Common.{◌≡◌, ◌∙◌, refl, sym, ap, subst, length, false}
-use Rattle.std.specs.Prelude.{IfSome, ℕ, List, Some}
+use Rattle.std.proofs.Common.{◌∙◌, ap, subst}
 use Rattle.std.proofs.lemmas.Result.{IfOk-weaker}
-use Rattle.block_buffers.specs.Disks.{Disk}
 use Rattle.inner_interpreter.specs.Moves.{HasRun}
-use Rattle.inner_interpreter.specs.Served.{is_input_fault}
 use Rattle.inner_interpreter.specs.State.{State, start}
-use Rattle.inner_interpreter.specs.Worlds.{IsAt, loaded}
+use Rattle.inner_interpreter.specs.Worlds.{loaded}
 use Rattle.inner_interpreter.proofs.Loading.{loaded_at, ok_both, start_not_failed}
 use Rattle.inner_interpreter.proofs.files.load_and_run.Goals as goal
 

@@ -1,4 +1,4 @@
-use Rattle.std.proofs.Common.{◌≡◌, ◌↔◌, Result, Err, IsErrOf, ap, subst}
+use Rattle.std.proofs.Common.{◌≡◌, ◌↔◌, Err, IsErrOf, ap, subst}
 use Rattle.image_loader.specs.Files.{Contents}
 use Rattle.image_loader.specs.declared.fault.ImageFault.TheVariants as ImageFault
 use Rattle.inner_interpreter.specs.Files.{HasRunFrom}
