@@ -1,10 +1,10 @@
 -- What is printed is the text of the screens.
-use Rattle.std.proofs.Common.{◌≡◌, ◌∙◌, ℕ, zero, suc, ◌+◌, ◌<◌, ◌≤◌, List, [], ◌∷◌, ◌++◌, length, Bool, true, false, nat_lt, not, ◌&&◌, Result, Ok, Err, arith, refl, ap, sym, if◌then◌else◌}
+use Rattle.std.proofs.Common.{◌≡◌, ◌∙◌, ℕ, zero, suc, ◌+◌, ◌<◌, ◌≤◌, List, [], ◌++◌, length, Bool, true, false, nat_lt, not, ◌&&◌, Result, Ok, Err, arith, refl, ap, if◌then◌else◌}
 use Rattle.std.specs.Prelude.{All, eqb}
 use Rattle.std.specs.List.{AllByRecursion, IsDistinct}
 use Rattle.std.proofs.lemmas.List.Elements.{All-nil, All-cons}
 use Rattle.block_buffers.specs.Disks.{Disk, block_at, called, next_fails, succeeds}
-use Rattle.screen_text.specs.Screens.{Screen, IsWritable, AreWritable, numbers_of, screen_text, text_of}
+use Rattle.screen_text.specs.Screens.{IsWritable, AreWritable, numbers_of, screen_text, text_of}
 use Rattle.device_text.specs.declared.pages.PageCause.TheVariants.{Device}
 use Rattle.device_text.specs.declared.pages.Unprinted.{Unprinted}
 use Rattle.device_text.specs.Pages.{AreBlocks, joined, page, pages, screens_at}
