@@ -412,7 +412,7 @@ WRONG = (
     (4, '% screen 24\n: PRICE . ." euro" ;', "305 PRICE shows  305 euro  but  3 euro 5 cent  is wanted"),
     (5, "% screen 25\n: SIGNUM DUP 0< ;", "-7 SIGNUM leaves -7 -1 but -1 is wanted."),
     (6, "% screen 26\n: SUM-TO 0 SWAP 1 ?DO I + LOOP ;", "4 SUM-TO leaves 6 but 10 is wanted."),
-    (7, "% screen 27\n: DIGITS DROP ;", "4096 DIGITS leaves nothing but 4 is wanted."),
+    (7, "% screen 27\n: DIGITS DROP ;", "4096 DIGITS leaves nothing, but 4 is wanted."),
     (8, "% screen 28\nVARIABLE BANK : PAY BANK ! ;", "0 BANK ! 50 PAY 30 PAY BANK @ leaves 30 but 80 is wanted."),
     (9, "% screen 29\n: VOWELS SWAP DROP ;", "S| AUDIO| VOWELS leaves 5 but 4 is wanted."),
     (10, "% screen 30\n: PERCENT * 100 / ;", "30000 15 PERCENT leaves -88 but 4500 is wanted."),
@@ -421,6 +421,11 @@ WRONG = (
     (10, "% screen 30\n: PERCENT 100 */ ; : .BINARY 2 BASE ! U. ;", "6 .BINARY BASE @ leaves 2 but 10 is wanted."),
     (3, "% screen 23\n: CUBE DUP DUP * * ; : TWIST SWAP ROT DROP ;", "1 2 3 TWIST leaves 3 2 but 3 2 1 is wanted."),
     (12, "% screen 32\n: HOME UP ;", "UP is unknown (fault 13)"),
+    (2, "% screen 22\n: MINUTES 60 *", "is the ; of MINUTES missing? (fault 17) at CHECK"),
+    (2, "% screen 22\n: MINUTES 60 * . ;",
+     "1 MINUTES leaves nothing, but 60 is wanted. It shows 60, and . takes what it shows."),
+    (2, "% screen 22\n: MINUTES 60 * ; : FAHRENHEIT 5 / 9 * 32 + ;", "37 FAHRENHEIT leaves 95 but 98 is wanted."),
+    (99, "% screen 21\n1", "There is no lesson 99 but 1 to 12."),
 )
 
 
