@@ -7,7 +7,8 @@ const part = (id) => document.getElementById(id);
 const steps = film.steps, frames = film.frames;
 const bytes = Uint8Array.from(atob(film.output), (letter) => letter.charCodeAt(0));
 const open = frames.map((frame) => frame[3] === 1);
-const endings = new Map(film.ends);
+const endings = new Map(film.ends.map(([call, told]) => [call, told]));
+const faults = new Map(film.ends.map(([call, , place]) => [call, place]));
 const child = steps.map((step, number) => {
   const next = steps[number + 1];
   return next && next[1] !== step[1] && frames[next[1]][0] === step[1] ? next[1] : -1;
@@ -104,7 +105,7 @@ function returnLabels(step) {
 
 function showThread(step) {
   const frame = step[1], here = step[0], current = here < 0 ? frames[frame][1] : film.places[here][1];
-  const told = film.words[current] || { name: "?", source: "", from: "" };
+  const told = film.words[current] || { name: "?", source: "", from: "" }, failed = here < 0 ? faults.get(frame) : -1;
   part("name").textContent = told.from ? `${told.name} (${told.from})` : told.name;
   part("source").textContent = told.source;
   const rows = [...film.places.entries()].filter(([number, place]) => place[1] === current || number === here);
@@ -112,10 +113,14 @@ function showThread(step) {
     const row = element("li", undefined, number === here ? "here" : "");
     row.append(element("i", String(place[0])), element("span", place[3] ? `${place[2]} ${place[3]}` : place[2]));
     if (number === here) row.setAttribute("aria-current", "step");
+    if (number === failed) {
+      row.className = "failed";
+      row.append(element("em", "the fault came here"));
+    }
     return row;
   });
   part("thread").replaceChildren(...made);
-  const marked = part("thread").querySelector(".here");
+  const marked = part("thread").querySelector(".here, .failed");
   if (marked) part("thread").scrollTop = marked.offsetTop - part("thread").clientHeight / 2;
 }
 
@@ -177,6 +182,12 @@ function show() {
 function go(place) {
   at = Math.max(0, Math.min(visible.length - 1, place));
   show();
+}
+
+// The step that the page's address names behind #.
+function goToMark() {
+  const wanted = Number(location.hash.slice(1));
+  go(Number.isInteger(wanted) && wanted > 0 ? wanted - 1 : 0);
 }
 
 function refold(kept) {
@@ -245,7 +256,7 @@ function rebase() {
 const keys = {
   ArrowRight: () => go(at + 1), ArrowLeft: () => go(at - 1), ArrowDown: unfold, ArrowUp: fold,
   PageDown: () => go(at + 10), PageUp: () => go(at - 10), Home: () => go(0), End: () => go(visible.length - 1),
-  a: foldAll, x: rebase, p: () => print(),
+  a: foldAll, x: rebase, p: () => print(), "?": () => { part("help").open = !part("help").open; },
 };
 
 document.addEventListener("keydown", (event) => {
@@ -263,6 +274,6 @@ const buttons = {
 for (const [id, key] of Object.entries(buttons)) part(id).addEventListener("click", () => keys[key]());
 takeSnapshots();
 seeSteps(0);
-const wanted = Number(location.hash.slice(1));
-go(Number.isInteger(wanted) && wanted > 0 ? wanted - 1 : 0);
+goToMark();
+window.addEventListener("hashchange", goToMark);
 fillSheet();

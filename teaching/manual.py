@@ -1,9 +1,10 @@
-"""What docs/WORDS.md says of each word: its stack effect and a sentence."""
+"""What docs/WORDS.md says of each word, its stack effect and a sentence, and what the Forth says of each fault."""
 import re
 
 import program
 
 ROW = re.compile(r"^\| `(\S+)` \| `([^`]*)` \| (?:yes)? ?\| (.+) \|$", re.M)
+FAULT = re.compile(r'\b(\d+) = IF \." ([^"]*)"')
 
 
 def entries():
@@ -14,6 +15,13 @@ def entries():
         for name, effect, says in ROW.findall(page.read_text(encoding="utf-8")):
             found.setdefault(name.encode(), []).append((effect, says.replace("`", "")))
     return found
+
+
+def fault(number):
+    """What a fault is, as the tools tell it at the terminal; an empty text where they have only its number."""
+    page = program.ROOT / "workbench/faults.txt"
+    found = FAULT.findall(page.read_text(encoding="ascii")) if page.is_file() else []
+    return dict(found).get(str(number), "").strip(" ;")
 
 
 class Manual:

@@ -6,6 +6,7 @@ import json
 import pathlib
 
 import calls
+import manual
 import screens
 import texts
 import threads
@@ -57,6 +58,10 @@ class Words:
     def name_at(self, address):
         """The name of the word in whose thread an address lies."""
         return texts.shown(self.owner[address].name) if address in self.owner else "?"
+
+    def token_at(self, address):
+        """The name of the word that an address's token does."""
+        return self.entries[self.place_of[address]][2]
 
     def word_at(self, address):
         """The number of the word in whose thread an address lies, -1 where it is none of the film's."""
@@ -143,19 +148,36 @@ def frames_of(film, words, fence):
     return rows
 
 
-def ending(film, how, root, name):
-    """How a call of the word ended, in a sentence."""
-    last = [step for step in film.calls.steps if step.frame == root and step.address is None]
+def faulted(film, words, root, name):
+    """How a fault ended a call of the word, in sentences, and the number of the place in the call's own thread at which it came,
+    -1 where the film doesn't reach so far."""
+    steps = film.calls.steps
+    end = next((number for number, step in enumerate(steps) if step.frame == root and step.address is None), 0)
+    if not end:
+        return f"A fault ended {name} behind these steps.", -1
+    own = next(step.address for step in reversed(steps[:end]) if step.frame == root)
+    outer, inner = (words.token_at(address) for address in (own, steps[end - 1].address))
+    number = steps[end].data[-1]
+    told = f"{manual.fault(number) or 'a fault'} (fault {number}) at {outer}"
+    told += "" if own == steps[end - 1].address else f", within it at {inner}"
+    return f"{told}. It ended {name}: both stacks were emptied, and the fault's number was put.", words.place_of[own]
+
+
+def ending(film, how, name):
+    """How a call of the word ended without a fault, in a sentence."""
     if how == calls.RETURNED:
         return f"{name} is done."
-    if how == calls.FAULTED:
-        number = last[-1].data[-1] if last else "?"
-        return f"Fault {number} came, and ended {name}: both stacks were emptied, and the fault's number was put."
     if how == calls.LEFT:
         return f"{name} was left: the return stack was emptied."
     if film.status == 4:
         return f"The run was cut here, at its limit, within {name}."
     return f"The program ended here, within {name}."
+
+
+def endings(film, words, name):
+    """Of each call of the word: its number, how it ended, and the place where a fault came or -1."""
+    return [[root, *(faulted(film, words, root, name) if how == calls.FAULTED else (ending(film, how, name), -1))]
+            for root, how in film.calls.ends]
 
 
 def data_of(film, words, fence, name):
@@ -168,7 +190,7 @@ def data_of(film, words, fence, name):
         "frames": frames_of(film, words, fence), "steps": steps, "output": output,
         "loops": [list(depths) for depths in loops.seen],
         "begins": film.marks[0] if film.marks else 0, "is_laid": bool(film.marks),
-        "ends": [[root, ending(film, how, root, name)] for root, how in film.calls.ends],
+        "ends": endings(film, words, name),
     }
 
 

@@ -25,6 +25,12 @@ def check_keys(tree, one):
         one.press(*keys)
         tree.cases.same(f"steps behind {keys}", f"step {count}", one.value(COUNT))
         tree.cases.holds(f"what comes next behind {keys}", text, one.value(NEXT))
+    help_is_open = 'document.getElementById("help").open'
+    for wanted in (True, False):
+        one.press("?")
+        tree.cases.same("whether ? shows the keys", wanted, one.value(help_is_open))
+    one.value('history.replaceState(null, "", "#12"); dispatchEvent(new HashChangeEvent("hashchange"))')
+    tree.cases.same("the step that the page's address names", "step 12 of 24", one.value(COUNT))
     one.press("End")
     tree.cases.same("the output at the end", "0 1 4 9 16 ", one.value('document.getElementById("output").textContent'))
 
@@ -37,6 +43,29 @@ def check_narrow(tree, one):
             one.open(tree.room / name)
             fits = one.value("document.documentElement.scrollWidth <= innerWidth")
             tree.cases.same(f"whether {name} fits in {width} columns of a window", True, fits)
+
+
+def check_telephone(tree, one):
+    """On a window of 400 by 800 the tops of both stacks, and the output, are seen at each step without scrolling."""
+    one.size(400, 800)
+    one.open(tree.room / "film.html")
+    hidden = ('["#data li", "#returns li", "#output"].filter((name) => document.querySelector(name).getBoundingClientRect().top '
+              '+ 20 > document.querySelector("footer").getBoundingClientRect().top).join()')
+    for step in range(39):
+        tree.cases.same(f"what is below the window at step {step + 1} on a telephone", "", one.value(hidden))
+        one.press("ArrowRight")
+    one.size(1300, 900)
+
+
+def check_fault(tree, one):
+    """The last step names the fault, and its place in the word's own thread is marked."""
+    tree.film("CALLS", "CALLS")
+    one.open(tree.room / "film.html")
+    failed = 'Array.from(document.querySelectorAll("#thread .failed span"), (span) => span.textContent).join()'
+    tree.cases.same("places that are marked before the fault", "", one.value(failed))
+    one.press("End")
+    tree.cases.holds("the fault in words", "division by 0", one.value(NEXT))
+    tree.cases.same("the place that is marked behind the fault", "WRECKED", one.value(failed))
 
 
 def check_hostile(tree, one):
@@ -99,7 +128,8 @@ def check_hostile_map(tree, one):
 
 def check(tree):
     with browser.Browser() as one:
-        for act in (check_keys, check_narrow, check_hostile, check_long, check_paper, check_map, check_hostile_map):
+        for act in (check_keys, check_narrow, check_telephone, check_hostile, check_long, check_paper, check_map,
+                    check_hostile_map, check_fault):
             act(tree, one)
         tree.cases.same("errors in the browser", [], one.errors)
         tree.cases.same("what pages asked of the network", [], one.asked)

@@ -19,6 +19,7 @@ WORDS = r"""% screen 21
 : ROUND ( n -- ) 0 DO I DROP LOOP ;
 : FOREVER ( -- ) BEGIN 1 DROP AGAIN ;
 : WRECKED ( -- ) 1 0 / ;
+: DROPS ( -- ) DROP ;
 : CALLS ( -- ) ONE WRECKED ;
 : DOWN ( n -- ) DUP IF DUP . 1- RECURSE ELSE DROP THEN ;
 : LEAVES ( -- ) 5 . BYE ;
@@ -165,9 +166,12 @@ def check_output(tree):
 def check_ends(tree):
     """How words end, and what of them is a call."""
     for name, line, frames, ending in (
-            ("ONE", "ONE", 1, "ONE is done."), ("CALLS", "CALLS", 3, "Fault 5 came, and ended CALLS: both stacks were emptied"),
+            ("ONE", "ONE", 1, "ONE is done."),
+            ("CALLS", "CALLS", 3, "division by 0, or too great a quotient (fault 5) at WRECKED, within it at /. It ended CALLS"),
+            ("DROPS", "DROPS", 1, "the stack was empty (fault 1) at DROP. It ended DROPS: both stacks were emptied"),
             ("LEAVES", "LEAVES", None, "The program ended here, within LEAVES."), ("DOWN", "2 DOWN", None, "DOWN is done."),
-            ("TALL", "TALL", None, "TALL is done."), ("DIVIDES", "DIVIDES", 1, "Fault 17 came, and ended DIVIDES"),
+            ("TALL", "TALL", None, "TALL is done."),
+            ("DIVIDES", "DIVIDES", 1, "a fault (fault 17) at (ABORT\"). It ended DIVIDES"),
             ("FOREVER", "FOREVER", 1, "The run was cut here, at its limit, within FOREVER.")):
         data, _, _ = tree.film(name, line, "--limit", "150000")
         tree.cases.holds(f"how {name} ends", ending, data["ends"][-1][1])
