@@ -12,7 +12,7 @@ import texts
 
 HERE = pathlib.Path(__file__).resolve().parent
 MARK = "<!-- a map of ./forth map -->"
-BYTE, ROW, GUTTER, LINE, LETTER, TITLE_LETTER = 13, 24, 56, 17, 7.3, 8.1
+BYTE, ROW, GUTTER, LINE, ABOVE, LETTER, TITLE_LETTER = 13, 24, 56, 17, 8, 7.3, 8.1
 
 
 class Canvas:
@@ -27,6 +27,7 @@ class Canvas:
     def line(self, text, kind="told", x=8):
         """A line of text, cut into as many as the width needs."""
         most = max(12, int((self.width - x) / (TITLE_LETTER if kind == "title" else LETTER)))
+        self.y += ABOVE if kind in ("title", "heading") and self.parts else 0
         while text:
             cut = len(text) if len(text) <= most else (text.rfind(" ", 1, most) if " " in text[1:most] else most)
             self.y += LINE
@@ -265,4 +266,4 @@ def map_of(one):
 
 
 def map_of_two(first, second):
-    return svg(draw_two(first, second, 40), draw_two(first, second, 10), f"{first.name} and {second.name}")
+    return svg(draw_two(first, second, 40), draw_two(first, second, 9), f"{first.name} and {second.name}")

@@ -20,8 +20,23 @@ MOST_HEADERS = 32768
 COLON, VARIABLE, CONSTANT, VOCABULARY = 1, 2, 3, 4
 
 
+CAUSES = {
+    "BadMagic": "it doesn't begin as an image does; ./forth --image makes one, and so does ./forth83 load",
+    "BadVersion": "its version is neither 1 nor 2",
+    "BadBuffers": "it has no 2 to 16 block buffers",
+    "BadSize": "its size is none that memory has",
+    "TrailingBytes": "it has bytes behind its end",
+    "Truncated": "it ends too soon",
+    "ChainTooLong": "a chain of its words never ends",
+}
+
+
 class BadImage(program.Refusal):
     """Why a file is no image: its cause, as the program spells it."""
+
+    def told(self):
+        """The cause in words."""
+        return f"{CAUSES[str(self)]} ({self})"
 
 
 class Image:

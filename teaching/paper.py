@@ -8,7 +8,7 @@ import screens
 
 HERE = pathlib.Path(__file__).resolve().parent
 MARK = "<!-- screens of ./forth print -->"
-A_PAGE = 3
+A_PAGE, FEW = 3, 8
 
 
 def figure(read, number):
@@ -68,8 +68,9 @@ def cross_reference(references):
 
 
 def columns(head, rows):
-    """A table in as many columns as the page has room for."""
-    return f'<div class="columns"><table>{head}<tbody>{rows}</tbody></table></div>'
+    """A table in as many columns as the page has room for; one of few rows in one, as its head would stand apart."""
+    kind = "columns" if rows.count("<tr>") > FEW else "column"
+    return f'<div class="{kind}"><table>{head}<tbody>{rows}</tbody></table></div>'
 
 
 def missing(references, known):

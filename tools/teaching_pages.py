@@ -97,6 +97,11 @@ def check_paper(tree, one):
     tree.cases.same("the data stack on paper at step 5", ["", "0"], one.value(rows.format(5)))
     one.paper(tree.room / "film.pdf")
     tree.cases.same("a film on paper", b"%PDF", (tree.room / "film.pdf").read_bytes()[:4])
+    one.open(tree.room / "few.html")
+    one.size(1300, 900)
+    edges = ('Array.from(document.querySelectorAll("thead"), (head) => head.getBoundingClientRect().left - '
+             'head.parentNode.querySelector("td").getBoundingClientRect().left)')
+    tree.cases.same("how far heads of tables stand from their first cells", [0, 0], one.value(edges))
     one.open(tree.room / "life.html")
     one.paper(tree.room / "life.pdf")
     tree.cases.same("pages of life: two of screens, one of shadows' width, index and words", True,
@@ -112,6 +117,9 @@ def check_map(tree, one):
             one.open(tree.room / name)
             one.press("Home", "End")
             tree.cases.same(f"the newest word of {name}", newest, one.value(told).split(",")[0])
+            box = (f'document.querySelector(".{"narrow" if width < 1000 else "wide"} .tell rect").getBoundingClientRect()')
+            tree.cases.same(f"whether what is told of it fits in {width} columns, in {name}", True,
+                            one.value(f"{box}.left >= 0 && {box}.right <= innerWidth"))
             one.press("Enter")
             tree.cases.same(f"the word before it in its chain in {name}", before, one.value(told).split(",")[0])
             chained = one.value('document.activeElement.parentNode.querySelectorAll(".link.on").length')

@@ -238,7 +238,11 @@ def check_hostile(tree):
     screens = bytearray((tree.room / "forth.blk").read_bytes())
     line = b": \xff\x07\x80 ( -- ) 65 EMIT ; : RINGS ( -- ) \xff\x07\x80 ;"
     screens[23 * 1024:23 * 1024 + len(line)] = line
+    accented = ": CAF\u00c9 ( -- n ) 7 ;".encode()
+    screens[24 * 1024:24 * 1024 + len(accented)] = accented
     (tree.room / "odd.blk").write_bytes(screens)
+    status, said = tree.tool("film", "CAF\u00c9", "--blocks", "odd.blk", "-o", "accented.html")
+    tree.cases.same(f"a film of a name with an accent: {said}", (0, True), (status, "screens 24 to 24" in said))
     status, said = tree.tool("film", "RINGS", "--blocks", "odd.blk", "--screens", "23", "23", "-o", "odd.html")
     tree.cases.same(f"a film with bytes that are no text: {said}", 0, status)
     page = (tree.room / "odd.html").read_text(encoding="utf-8")
@@ -254,7 +258,7 @@ REFUSALS = (
     (1, "gone.blk isn't there", "film SQUARES --blocks gone.blk"),
     (1, "no whole blocks", "film SQUARES --blocks odd.bytes"),
     (1, "Fault 13: the word over the mark isn't known", "film TALL --screens 22 22"),
-    (1, "cut.img is no image: Truncated", "film SQUARES --image cut.img"),
+    (1, "cut.img is no image: it ends too soon (Truncated)", "film SQUARES --image cut.img"),
     (1, "gone.img can't be read", "film SQUARES --image gone.img"),
     (1, "cut.txt: line 2 is no whole line of a trace", "film SQUARES --image own.img --trace cut.txt"),
     (1, "gone.txt can't be read", "film SQUARES --image own.img --trace gone.txt"),
@@ -267,7 +271,8 @@ REFUSALS = (
     (2, "usage", "film"),
     (2, "usage", "film SQUARES --trace x"),
     (2, "at least 1", "film SQUARES --steps 0"),
-    (1, "cut.img is no image that can be drawn: Truncated", "map cut.img"),
+    (1, "cut.img is no image that can be drawn: it ends too soon (Truncated)", "map cut.img"),
+    (1, "forth.blk is no image that can be drawn: it doesn't begin as an image does", "map forth.blk"),
     (1, "gone.img can't be read", "map gone.img"),
     (1, "notes.html is there already, and is no map", "map own.img -o notes.html"),
     (1, "/proc/map.svg can't be", "map own.img -o /proc/map.svg"),
@@ -388,6 +393,12 @@ def check_pages(tree):
             ("ALIVE", "1.11", "3.3"), ("POPULATION", "2.14", "nowhere here"), ("CELL", "1.7", "1.11.14, 2.3.7.12"),
             ("WIDE", "1.2", "1.4.5.7.9, 2.6.8.11.14")):
         tree.cases.same(f"where {name} is", [defined, used], cells[cells.index(name) + 1:cells.index(name) + 3])
+    (tree.room / "few.txt").write_text("% screen 1\n: ONLY ( -- ) MISSPELT ;\n", encoding="ascii")
+    for words in (["new", "few.blk", "4"], ["screens", "few.txt", "few.blk"]):
+        tree.forth(*words)
+    status, said = tree.tool("print", "few.blk")
+    tree.cases.same("pages of one screen", (0, True), (status, "few.html, 1 screen;" in said))
+    tree.cases.same("the word that isn't known", ["MISSPELT", "1.0"], texts_of(tree.room / "few.html", "td")[-2:])
     check_shadows(tree)
 
 
