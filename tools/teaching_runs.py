@@ -252,7 +252,8 @@ def check_hostile(tree):
 
 # The status, a part of what is said, and the words, with a bar between them where a word has blanks.
 REFUSALS = (
-    (1, "there is no word GONE", "film GONE"),
+    (1, "there is no word GONE in the screens of forth.blk, as they were saved; what was only typed is in none", "film GONE"),
+    (1, "there is no word GONE in own.img", "film GONE --image own.img"),
     (1, "DUP has no thread", "film DUP"),
     (1, "SQUARES wasn't done by: 5 .", "film SQUARES|5 ."),
     (1, "gone.blk isn't there", "film SQUARES --blocks gone.blk"),
@@ -424,6 +425,7 @@ WRONG = (
     (1, "% screen 21\n1 2 3", "21 LOAD leaves 1 2 3 but 10080 56 2 is wanted."),
     (2, "% screen 22\n: MINUTES 60 * ; : FAHRENHEIT 32 + ;", "100 FAHRENHEIT leaves 132 but 212 is wanted."),
     (3, "% screen 23\n: CUBE * * ;", "3 CUBE takes more from the stack than it is given."),
+    (4, "% screen 24\n: PRICE DROP 0 0 DO 42 EMIT LOOP ;", f"305 PRICE shows  {99 * '*'}  but  3 euro 5 cent  is wanted"),
     (4, '% screen 24\n: PRICE . ." euro" ;', "305 PRICE shows  305 euro  but  3 euro 5 cent  is wanted"),
     (5, "% screen 25\n: SIGNUM DUP 0< ;", "-7 SIGNUM leaves -7 -1 but -1 is wanted."),
     (6, "% screen 26\n: SUM-TO 0 SWAP 1 ?DO I + LOOP ;", "4 SUM-TO leaves 6 but 10 is wanted."),
