@@ -170,7 +170,7 @@ def ending(film, how, name):
     if how == calls.LEFT:
         return f"{name} was left: the return stack was emptied."
     if film.status == 4:
-        return f"The run was cut here, at its limit, within {name}."
+        return f"The run was cut at its limit, within {name}."
     return f"The program ended here, within {name}."
 
 
@@ -190,7 +190,7 @@ def data_of(film, words, fence, name):
         "frames": frames_of(film, words, fence), "steps": steps, "output": output,
         "loops": [list(depths) for depths in loops.seen],
         "begins": film.marks[0] if film.marks else 0, "is_laid": bool(film.marks),
-        "ends": endings(film, words, name),
+        "ends": endings(film, words, name), "is_cut": film.calls.met > film.calls.most,
     }
 
 

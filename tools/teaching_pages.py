@@ -88,6 +88,15 @@ def check_long(tree, one):
     tree.cases.holds("what comes at the end of a long film", "(LOOP)", one.value(NEXT))
 
 
+def check_cut(tree, one):
+    """The last step of a film that has the first 500 of a word's steps doesn't say that the word is done."""
+    one.open(tree.room / "cut.html")
+    one.press("End")
+    tree.cases.same("the end of a cut film", "step 500 of 500", one.value(COUNT))
+    tree.cases.holds("what is told there", "The film ends here; the run went on.", one.value(NEXT))
+    tree.cases.same("whether it says that the word is done", False, "is done" in one.value(NEXT))
+
+
 def check_paper(tree, one):
     """The page of exercises has the stacks blank but at the first step, and the answers behind it."""
     one.open(tree.room / "film.html")
@@ -136,8 +145,8 @@ def check_hostile_map(tree, one):
 
 def check(tree):
     with browser.Browser() as one:
-        for act in (check_keys, check_narrow, check_telephone, check_hostile, check_long, check_paper, check_map,
-                    check_hostile_map, check_fault):
+        for act in (check_keys, check_narrow, check_telephone, check_hostile, check_long, check_cut, check_paper,
+                    check_map, check_hostile_map, check_fault):
             act(tree, one)
         tree.cases.same("errors in the browser", [], one.errors)
         tree.cases.same("what pages asked of the network", [], one.asked)

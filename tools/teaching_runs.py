@@ -172,7 +172,7 @@ def check_ends(tree):
             ("LEAVES", "LEAVES", None, "The program ended here, within LEAVES."), ("DOWN", "2 DOWN", None, "DOWN is done."),
             ("TALL", "TALL", None, "TALL is done."),
             ("DIVIDES", "DIVIDES", 1, "a fault (fault 17) at (ABORT\"). It ended DIVIDES"),
-            ("FOREVER", "FOREVER", 1, "The run was cut here, at its limit, within FOREVER.")):
+            ("FOREVER", "FOREVER", 1, "The run was cut at its limit, within FOREVER.")):
         data, _, _ = tree.film(name, line, "--limit", "150000")
         tree.cases.holds(f"how {name} ends", ending, data["ends"][-1][1])
         if frames:
@@ -215,6 +215,7 @@ def check_cuts(tree):
     """Long traces are cut, and told; 100,000 lines are taken."""
     data, page, said = tree.film("ROUND", "40000 ROUND", "--steps", "500")
     tree.cases.same("steps that are kept", 500, len(data["steps"]))
+    (tree.room / "film.html").rename(tree.room / "cut.html")
     for text in (page, said):
         tree.cases.holds("a cut film", "it has the first 500 of 120,003 steps", text)
     data, _, said = tree.film("ROUND", "40000 ROUND", "--steps", "200000")
