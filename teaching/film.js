@@ -136,7 +136,7 @@ function showNext(number) {
   if (child[number] >= 0) {
     parts.push(element("small", open[child[number]] ? "a call, unfolded" : "a call, folded: the arrow down unfolds it"));
   }
-  if (number === steps.length - 1 && endings.size) {
+  if (at === visible.length - 1 && (film.is_cut || endings.size)) {
     parts.push(element("small", film.is_cut ? "The film ends here; the run went on." : endings.get(chain(step[1])[0]) || ""));
   }
   box.replaceChildren(...parts);

@@ -89,12 +89,14 @@ def check_long(tree, one):
 
 
 def check_cut(tree, one):
-    """The last step of a film that has the first 500 of a word's steps doesn't say that the word is done."""
-    one.open(tree.room / "cut.html")
-    one.press("End")
-    tree.cases.same("the end of a cut film", "step 500 of 500", one.value(COUNT))
-    tree.cases.holds("what is told there", "The film ends here; the run went on.", one.value(NEXT))
-    tree.cases.same("whether it says that the word is done", False, "is done" in one.value(NEXT))
+    """The last step of a film that has the first of a word's steps doesn't say that the word is done; in one of 20 steps of
+    SQUARES the cut is within the call of `.`, the eighth step, which is folded."""
+    for name, count in (("cut.html", "500 of 500"), ("folded.html", "8 of 8")):
+        one.open(tree.room / name)
+        one.press("End")
+        tree.cases.same(f"the end of {name}", f"step {count}", one.value(COUNT))
+        tree.cases.holds(f"what is told at the end of {name}", "The film ends here; the run went on.", one.value(NEXT))
+        tree.cases.same(f"whether {name} says that the word is done", False, "is done" in one.value(NEXT))
 
 
 def check_paper(tree, one):

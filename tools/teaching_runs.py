@@ -216,6 +216,8 @@ def check_cuts(tree):
     data, page, said = tree.film("ROUND", "40000 ROUND", "--steps", "500")
     tree.cases.same("steps that are kept", 500, len(data["steps"]))
     (tree.room / "film.html").rename(tree.room / "cut.html")
+    tree.film("SQUARES", "5 SQUARES", "--steps", "20")
+    (tree.room / "film.html").rename(tree.room / "folded.html")
     for text in (page, said):
         tree.cases.holds("a cut film", "it has the first 500 of 120,003 steps", text)
     data, _, said = tree.film("ROUND", "40000 ROUND", "--steps", "200000")
