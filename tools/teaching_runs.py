@@ -444,6 +444,8 @@ WRONG = (
     (10, "% screen 30\n: PERCENT 100 */ ; : .BINARY 2 BASE ! U. ;", "6 .BINARY BASE @ leaves 2 but 10 is wanted."),
     (3, "% screen 23\n: CUBE DUP DUP * * ; : TWIST SWAP ROT DROP ;", "1 2 3 TWIST leaves 3 2 but 3 2 1 is wanted."),
     (12, "% screen 32\n: HOME UP ;", "UP is unknown (fault 13)"),
+    (1, "% screen 21\n7 24 * 60 *\n3 4 + 10 2 - *\n100 7 MOD .",
+     "21 LOAD leaves 10080 56 but 10080 56 2 is wanted. It shows 2, and . takes what it shows."),
     (2, "% screen 22\n: MINUTES 60 *", "is the ; of MINUTES missing? (fault 17) at CHECK"),
     (2, "% screen 22\n: MINUTES 60 * . ;",
      "1 MINUTES leaves nothing, but 60 is wanted. It shows 60, and . takes what it shows."),
