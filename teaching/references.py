@@ -1,7 +1,8 @@
 """Where the words of screens are defined and used: the words are read as the Forth reads them, and nothing is executed.
 
-A comment goes up to its `)`, a text up to its quote, `\\` to the end of its line. A word defines the next one where it is `:`,
-one of the Forth's defining words outside a definition, or a word of these screens in whose definition such a word stands.
+A comment goes up to its `)`, a text up to its quote, `\\` to the end of its line; behind `:` and `[COMPILE]` the words that
+begin these are names like others. A word defines the next one where it is `:`, one of the Forth's defining words outside a
+definition, or a word of these screens in whose definition such a word stands.
 """
 import re
 
@@ -10,6 +11,7 @@ import screens
 ENDS = {"(": ")", ".(": ")", '."': '"', 'ABORT"': '"'}
 DEFINING = {"VARIABLE", "CONSTANT", "CREATE", "2VARIABLE", "2CONSTANT", "VOCABULARY", "PRIM", "FRESH"}
 QUOTING = {"[COMPILE]", "COMPILE", "[']", "'"}
+NAMING = {":", "[COMPILE]", "[']", "'"}
 
 
 def flat(lines):
@@ -20,7 +22,7 @@ def flat(lines):
 
 def words(lines):
     """The words of a screen, each with its line; what comments and texts have is passed over."""
-    text, at = flat(lines), 0
+    text, at, before = flat(lines), 0, ""
     while at < len(text):
         if text[at] == " ":
             at += 1
@@ -30,11 +32,19 @@ def words(lines):
         word, line = text[at:end], at // screens.WIDTH
         yield word, line
         at = end + 1
-        if word == "\\":
-            at = (line + 1) * screens.WIDTH
-        elif word.upper() in ENDS:
-            closed = text.find(ENDS[word.upper()], at)
-            at = len(text) if closed < 0 else closed + 1
+        if before not in NAMING:
+            at = passed(text, word, at, line)
+        before = word.upper()
+
+
+def passed(text, word, at, line):
+    """Where the words go on behind one that ends before `at`, and may begin a comment or a text."""
+    if word == "\\":
+        return (line + 1) * screens.WIDTH
+    if word.upper() not in ENDS:
+        return at
+    closed = text.find(ENDS[word.upper()], at)
+    return len(text) if closed < 0 else closed + 1
 
 
 def is_number(word, has_hex):

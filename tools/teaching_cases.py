@@ -192,6 +192,11 @@ def check_references(cases):
     for name, places in (("TABLE", [(1, 2)]), ("ROW", [(1, 3), (2, 2)]), ("HI", [(2, 0)])):
         cases.same(f"where {name} is used", places, found.uses(name))
     cases.same("not known", {"FOO": [(2, 0)]}, found.missing({"CREATE", "ALLOT", ":", ";", "(", '."', "\\"}))
+    read.lines[3] = [': ." ( -- ) 34 WORD HI ; IMMEDIATE', 'VARIABLE X : Y [COMPILE] ." X ;', ': Z ." X" ;']
+    found = references.References(read, [3])
+    defined = {'."': [(3, 0)], "X": [(3, 1)], "Y": [(3, 1)], "Z": [(3, 2)]}
+    cases.same("defined, where a word of texts is one of them", defined, found.defined)
+    cases.same("where X is used", [(3, 1)], found.uses("X"))
 
 
 def check_texts(cases):
