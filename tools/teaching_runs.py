@@ -471,6 +471,17 @@ def answered(tree, number, *texts):
     return said
 
 
+def check_chosen(tree):
+    """Until a screen is chosen PUT writes into a blank one, not into the checkers; behind CHECK into the lesson's."""
+    (tree.room / "c.blk").unlink(missing_ok=True)
+    for words in (["new", "c.blk", "64"], ["screens", str(ROOT / "teaching/course.txt"), "c.blk"]):
+        tree.forth(*words)
+    tree.cases.same("screen 20", b" " * 1024, (tree.room / "c.blk").read_bytes()[20 * 1024:21 * 1024])
+    _, said = tree.run([tree.forth83, "run", "tools.img", "c.blk"], b"1 LOAD\nSCR @ .\n3 CHECK\nSCR @ .\n1 LOAD\nSCR @ .\n")
+    shown = re.sub(r"\x1b\[[0-9;?]*[A-Za-z]", "", said.decode("ascii", "replace"))
+    tree.cases.same("the screens that are chosen", ["20", "23", "23"], re.findall(r"SCR @ \. (\d+)", shown))
+
+
 def check_course(tree):
     """Each solution is right, each blank screen and each wrong answer is told; what is typed behind it is shown."""
     for number in range(1, 13):
@@ -485,5 +496,5 @@ def check_course(tree):
 
 def check(tree):
     for act in (check_traces, check_output, check_ends, check_doubts, check_given, check_cuts, check_hostile, check_refusals,
-                check_maps, check_pages, check_course):
+                check_maps, check_pages, check_chosen, check_course):
         act(tree)
