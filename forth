@@ -37,11 +37,12 @@ usage: ./forth [BLOCKS]                      works on the file BLOCKS, forth.blk
        ./forth --unproved [BLOCKS]           runs the program without proofs, and has nothing proved
        ./forth --on DEVICE [--speed N] [..]  takes a serial port, or another terminal, as its console, with what else is named
        ./forth --status                      says which program is there, and how far its proof is
+       ./forth where IMAGE [BLOCKS]          runs an image, and tells at which word of which screen its fault comes
        ./forth film NAME [LINE]              makes a page that shows each step of the word NAME; film --help tells more
        ./forth map IMAGE [OTHER]             makes a map of an image's memory
        ./forth print [BLOCKS] [FROM TO]      makes pages of screens, to be printed
        ./forth survey BLOCKS [FROM TO]       tells what old screens are, which dialect fits, and which words nobody knows
-A name that begins with - is written as ./-NAME, a block file that is called film, map, print or survey as ./film.
+A name that begins with - is written as ./-NAME, a block file that is called where, film, map, print or survey as ./film.
 END
   [ $# -eq 1 ] || say "$2"
   exit "$1"
@@ -452,6 +453,14 @@ case ${1:-} in
     command -v python3 > /dev/null || refuse "$1 needs python3, which isn't there"
     case $1 in survey) script=$here/dialects/survey ;; *) script=$here/teaching/$1 ;; esac
     exec python3 -B "$script" "${@:2}"
+    ;;
+  where)
+    { [ $# -eq 2 ] || [ $# -eq 3 ]; } || usage 2 'where wants an IMAGE, and the BLOCKS that it works on'
+    room=$(mktemp -d) || exit 1
+    trap leave EXIT
+    find_program
+    "$here/workbench/where" "$forth83" "${@:2}"
+    exit
     ;;
 esac
 own=
