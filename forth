@@ -172,7 +172,8 @@ find_images() {
   if [ -z "$unproved" ] && are_kept; then
     return
   fi
-  "$forth83" kernel "$room/kernel.blk" > "$room/said" || refuse "the program can't make its kernel: $(cat "$room/said")"
+  local said
+  said=$("$forth83" kernel "$room/kernel.blk") || refuse "the program can't make its kernel: $said"
   make_images "$room/kernel.blk" "$room" || exit 1
   if [ -n "$unproved" ] || ! keep_images; then
     images=$room
@@ -187,15 +188,15 @@ look_at_name() {
 
 # Makes the block file where it isn't there.
 make_blocks() {
-  local folder
+  local folder said
   look_at_name "$blocks"
   folder=$(dirname -- "$blocks")
   [ -d "$folder" ] || refuse "$blocks can't be made: there is no folder $folder"
   [ -w "$folder" ] || refuse "$blocks can't be made: the folder $folder can't be written; name a file elsewhere, as ./forth ~/my.blk"
-  "$forth83" kernel "$room/new.blk" > "$room/said" || refuse "$blocks can't be made: $(cat "$room/said")"
-  { cp -- "$room/new.blk" "$blocks.$$" && mv -n -- "$blocks.$$" "$blocks"; } 2> "$room/said" || {
+  said=$("$forth83" kernel "$room/new.blk") || refuse "$blocks can't be made: $said"
+  said=$({ cp -- "$room/new.blk" "$blocks.$$" && mv -n -- "$blocks.$$" "$blocks"; } 2>&1) || {
     rm -f -- "$blocks.$$"
-    refuse "$blocks can't be made: $(cat "$room/said")"
+    refuse "$blocks can't be made: $said"
   }
   rm -f -- "$blocks.$$"
   is_new=', a new file'
