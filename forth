@@ -25,6 +25,7 @@ say() {
   echo "forth: $1" >&2
 }
 
+# usage STATUS [WHAT]: shows how the Forth is started, and below it what was wrong.
 usage() {
   cat >&2 << 'END'
 usage: ./forth [BLOCKS]                      works on the file BLOCKS, forth.blk where none is named, and makes it where it isn't there
@@ -36,11 +37,14 @@ usage: ./forth [BLOCKS]                      works on the file BLOCKS, forth.blk
        ./forth --unproved [BLOCKS]           runs the program without proofs, and has nothing proved
        ./forth --on DEVICE [--speed N] [..]  takes a serial port, or another terminal, as its console, with what else is named
        ./forth --status                      says which program is there, and how far its proof is
+       ./forth where IMAGE [BLOCKS]          runs an image, and tells at which word of which screen its fault comes
        ./forth film NAME [LINE]              makes a page that shows each step of the word NAME; film --help tells more
        ./forth map IMAGE [OTHER]             makes a map of an image's memory
        ./forth print [BLOCKS] [FROM TO]      makes pages of screens, to be printed
-A name that begins with - is written as ./-NAME, a block file that is called film, map or print as ./film.
+       ./forth survey BLOCKS [FROM TO]       tells what old screens are, which dialect fits, and which words nobody knows
+A name that begins with - is written as ./-NAME, a block file that is called where, film, map, print or survey as ./film.
 END
+  [ $# -eq 1 ] || say "$2"
   exit "$1"
 }
 
@@ -168,7 +172,8 @@ find_images() {
   if [ -z "$unproved" ] && are_kept; then
     return
   fi
-  "$forth83" kernel "$room/kernel.blk" > "$room/said" || refuse "the program can't make its kernel: $(cat "$room/said")"
+  local said
+  said=$("$forth83" kernel "$room/kernel.blk") || refuse "the program can't make its kernel: $said"
   make_images "$room/kernel.blk" "$room" || exit 1
   if [ -n "$unproved" ] || ! keep_images; then
     images=$room
@@ -183,15 +188,15 @@ look_at_name() {
 
 # Makes the block file where it isn't there.
 make_blocks() {
-  local folder
+  local folder said
   look_at_name "$blocks"
   folder=$(dirname -- "$blocks")
   [ -d "$folder" ] || refuse "$blocks can't be made: there is no folder $folder"
   [ -w "$folder" ] || refuse "$blocks can't be made: the folder $folder can't be written; name a file elsewhere, as ./forth ~/my.blk"
-  "$forth83" kernel "$room/new.blk" > "$room/said" || refuse "$blocks can't be made: $(cat "$room/said")"
-  { cp -- "$room/new.blk" "$blocks.$$" && mv -n -- "$blocks.$$" "$blocks"; } 2> "$room/said" || {
+  said=$("$forth83" kernel "$room/new.blk") || refuse "$blocks can't be made: $said"
+  said=$({ cp -- "$room/new.blk" "$blocks.$$" && mv -n -- "$blocks.$$" "$blocks"; } 2>&1) || {
     rm -f -- "$blocks.$$"
-    refuse "$blocks can't be made: $(cat "$room/said")"
+    refuse "$blocks can't be made: $said"
   }
   rm -f -- "$blocks.$$"
   is_new=', a new file'
@@ -427,6 +432,7 @@ make_own() {
       'load: Halted') why='a screen leaves the Forth' ;;
       'load: Limit') why='the screens come to no end' ;;
       'load: BadSize') why='HERE is where no image can end' ;;
+      *"cannot open $own") why="it can't be written: is its disk full, or its folder read-only?" ;;
       *) why=${said#error: } ;;
     esac
     say "$own isn't made: $why"
@@ -444,29 +450,49 @@ make_own() {
 sources=
 case ${1:-} in
   --on) exec "$here/workbench/on" "${@:2}" ;;
-  film | map | print) command -v python3 > /dev/null || refuse "$1 needs python3, which isn't there"; exec python3 -B "$here/teaching/$1" "${@:2}" ;;
+  film | map | print | survey)
+    command -v python3 > /dev/null || refuse "$1 needs python3, which isn't there"
+    case $1 in survey) script=$here/dialects/survey ;; *) script=$here/teaching/$1 ;; esac
+    exec python3 -B "$script" "${@:2}"
+    ;;
+  where)
+    { [ $# -eq 2 ] || [ $# -eq 3 ]; } || usage 2 'where wants an IMAGE, and the BLOCKS that it works on'
+    room=$(mktemp -d) || exit 1
+    trap leave EXIT
+    find_program
+    "$here/workbench/where" "$forth83" "${@:2}"
+    exit
+    ;;
 esac
 own=
 while [ $# -gt 0 ]; do
   case $1 in
     -h | --help) usage 0 ;;
-    --status) [ $# -eq 1 ] || usage 2; exec "$here/workbench/prove" --status ;;
+    --status) [ $# -eq 1 ] || usage 2 '--status stands alone'; exec "$here/workbench/prove" --status ;;
     --proved | --unproved) wanted=${1#--}; shift ;;
-    --quiet | --kernel) door=${1#--}; shift ;;
-    --image) [ $# -ge 4 ] || usage 2; own=$2 from=$3 to=$4; [ -n "$own" ] || usage 2; shift 4 ;;
-    --kernel-of) [ $# -ge 2 ] || usage 2; sources=$2; [ -n "$sources" ] || usage 2; shift 2 ;;
-    -*) usage 2 ;;
+    --quiet | --kernel)
+      [ "${door:-${1#--}}" = "${1#--}" ] || usage 2 '--quiet and --kernel exclude each other'
+      door=${1#--}
+      shift
+      ;;
+    --image)
+      { [ $# -ge 4 ] && [ -n "$2" ]; } || usage 2 '--image wants the name OWN of an image, and screens FROM TO'
+      own=$2 from=$3 to=$4
+      shift 4
+      ;;
+    --kernel-of) [ -n "${2:-}" ] || usage 2 '--kernel-of wants the name of a file'; sources=$2; shift 2 ;;
+    -*) usage 2 "$1 is no option" ;;
     *) break ;;
   esac
 done
-[ $# -le 1 ] || usage 2
-case "$own $sources" in -* | *' -'*) usage 2 ;; esac
+[ $# -le 1 ] || usage 2 "one file of blocks at a time, and no option behind it: $*"
+case "$own $sources" in -* | *' -'*) usage 2 'a name that begins with - is written as ./-NAME' ;; esac
 if [ -n "$own" ]; then
-  [[ $from =~ ^[0-9]{1,5}$ && $to =~ ^[0-9]{1,5}$ ]] || usage 2
+  [[ $from =~ ^[0-9]{1,5}$ && $to =~ ^[0-9]{1,5}$ && $((10#$from)) -le 65535 && $((10#$to)) -le 65535 ]] ||
+    usage 2 "FROM and TO are numbers of screens, 0 to 65535, and not $from $to"
   from=$((10#$from)) to=$((10#$to))
-  [ "$to" -le 65535 ] || usage 2
 fi
-[ $# -eq 0 ] || [ -n "$1" ] || usage 2
+[ $# -eq 0 ] || [ -n "$1" ] || usage 2 'the name of the file of blocks is empty'
 blocks=${1:-$sources}
 if [ -z "$blocks" ] && { [ "$door" != quiet ] || [ -n "$own" ]; }; then
   blocks=forth.blk
