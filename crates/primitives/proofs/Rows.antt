@@ -1,10 +1,9 @@
 -- The whole table, row by row: what each asks of its device, leaves of the buffers, and keeps where it stops.
-use Rattle.std.proofs.Common.{◌≡◌, ℕ, ◌==◌, ◌||◌, List, [], ◌∷◌, ◌++◌, Option, None, nat_lt, length, slice_index, take, drop, Bool, true, false, inl, inr, arith, refl, sym, subst, rules, if◌then◌else◌}
+use Rattle.std.proofs.Common.{◌≡◌, ℕ, ◌==◌, ◌||◌, List, [], ◌∷◌, Option, None, nat_lt, length, slice_index, take, drop, Bool, true, false, inl, inr, arith, refl, rules, if◌then◌else◌}
 use Rattle.std.proofs.lemmas.Bool.{cases_lt}
 use Rattle.block_buffers.specs.Entries.{address_of, holds, slot_of, victim, assigned, unassigned}
 use Rattle.input_source.specs.declared.words.Word.{Word}
-use Rattle.memory.specs.Bytes.{cell, Write}
-use Rattle.memory.specs.declared.system.TheConstants.{SCR}
+use Rattle.memory.specs.Bytes.{Write}
 use Rattle.plain_rows.specs.Whole.{Whole}
 use Rattle.plain_rows.specs.Row.{After, done, fault, takes1}
 use Rattle.plain_rows.proofs.Shapes.{by_if, by_room_or, by_takes1}
@@ -12,7 +11,7 @@ use Rattle.plain_rows.proofs.Takes.{takes2_none, takes2_deep}
 use Rattle.stacks.specs.Cells.{◌▸◌}
 use Rattle.plain_rows.proofs.Plain.{plain_control, plain_stack, plain_cells, plain_doubles, plain_memory}
 use Rattle.primitives.specs.Blocks.{with_block, fetches}
-use Rattle.primitives.specs.Needs.{reads_stream, is_about_screen, stream_needs, needed}
+use Rattle.primitives.specs.Needs.{reads_stream, is_about_screen, needed}
 use Rattle.primitives.specs.Devices.{saves_victim}
 use Rattle.primitives.specs.DictionaryRows.{leaves_past, creates}
 use Rattle.primitives.specs.Interpret.{compiles_past}
