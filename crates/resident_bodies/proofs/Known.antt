@@ -176,94 +176,55 @@ all_control : (w : ℕ) (s : Whole) → Each KnownBut (control_rows w) s
 unfolding Each
 all_control w s = of_parts KnownBut 10 (control_rows w) s (search (rules, known, more, numbered) depth 9) (of_parts KnownBut 10 (drop 10 (control_rows w)) s (search (rules, known, more, numbered) depth 9) (search (rules, known, more, numbered) depth 9))
 
-known_control : (n w : ℕ) (s : Whole) → 1 ≤ n → n < 28 → KnownBut n (control n w s)
-unfolding control
-known_control n w s low high = has_between KnownBut 1 n (control_rows w) s (from_control w) (all_control w s) low high
-
 all_stack : (s : Whole) → Each KnownBut stack_rows s
 unfolding Each
 all_stack s = search (rules, known, more, numbered) depth 9
-
-known_stack : (n : ℕ) (s : Whole) → 32 ≤ n → n < 46 → KnownBut n (stack n s)
-unfolding stack
-known_stack n s low high = has_between KnownBut 32 n stack_rows s from_stack (all_stack s) low high
 
 all_cells : (s : Whole) → Each KnownBut cell_rows s
 unfolding Each
 all_cells s = of_parts KnownBut 10 cell_rows s (search (rules, known, more, numbered) depth 9) (of_parts KnownBut 10 (drop 10 cell_rows) s (search (rules, known, more, numbered) depth 9) (search (rules, known, more, numbered) depth 9))
 
-known_cells : (n : ℕ) (s : Whole) → 48 ≤ n → n < 80 → KnownBut n (cells n s)
-unfolding cells
-known_cells n s low high = has_between KnownBut 48 n cell_rows s from_cells (all_cells s) low high
-
 all_doubles : (s : Whole) → Each KnownBut double_rows s
 unfolding Each
 all_doubles s = search (rules, known, more, numbered) depth 9
-
-known_doubles : (n : ℕ) (s : Whole) → 80 ≤ n → n < 91 → KnownBut n (doubles n s)
-unfolding doubles
-known_doubles n s low high = has_between KnownBut 80 n double_rows s from_doubles (all_doubles s) low high
 
 all_memory : (s : Whole) → Each KnownBut memory_rows s
 unfolding Each
 all_memory s = search (rules, known, more, numbered) depth 9
 
-known_memory : (n : ℕ) (s : Whole) → 96 ≤ n → n < 108 → KnownBut n (memory n s)
-unfolding memory
-known_memory n s low high = has_between KnownBut 96 n memory_rows s from_memory (all_memory s) low high
-
 all_devices : (s : Whole) → Each KnownBut device_rows s
 unfolding Each
 all_devices s = search (rules, known, more, numbered) depth 9
-
-known_devices : (n : ℕ) (s : Whole) → 112 ≤ n → n < 122 → KnownBut n (devices n s)
-unfolding devices
-known_devices n s low high = has_between KnownBut 112 n device_rows s from_devices (all_devices s) low high
 
 all_numbers : (s : Whole) → Each KnownBut number_rows s
 unfolding Each
 all_numbers s = search (rules, known, more, numbered) depth 9
 
-known_numbers : (n : ℕ) (s : Whole) → 128 ≤ n → n < 135 → KnownBut n (numbers n s)
-unfolding numbers
-known_numbers n s low high = has_between KnownBut 128 n number_rows s from_numbers (all_numbers s) low high
-
 all_input : (s : Whole) → Each KnownBut input_rows s
 unfolding Each
 all_input s = search (rules, known, more, numbered) depth 9
-
-known_input : (n : ℕ) (s : Whole) → 144 ≤ n → n < 158 → KnownBut n (input n s)
-unfolding input
-known_input n s low high = has_between KnownBut 144 n input_rows s from_input (all_input s) low high
 
 all_compiling : (s : Whole) → Each KnownBut compiling_rows s
 unfolding Each
 all_compiling s = of_parts KnownBut 10 compiling_rows s (search (rules, known, more, numbered) depth 9) (of_parts KnownBut 10 (drop 10 compiling_rows) s (search (rules, known, more, numbered) depth 9) (search (rules, known, more, numbered) depth 9))
 
-known_compiling : (n : ℕ) (s : Whole) → 168 ≤ n → n < 198 → KnownBut n (compiling n s)
-unfolding compiling
-known_compiling n s low high = has_between KnownBut 168 n compiling_rows s from_compiling (all_compiling s) low high
-
 all_editor : (s : Whole) → Each KnownBut editor_rows s
 unfolding Each
 all_editor s = search (rules, known, more, numbered) depth 9
 
-known_editor : (n : ℕ) (s : Whole) → 200 ≤ n → n < 205 → KnownBut n (editor n s)
-unfolding editor
-known_editor n s low high = has_between KnownBut 200 n editor_rows s from_editor (all_editor s) low high
-
 known_number : (n w : ℕ) (s : Whole) → 0 < n → n < 205 → is_gap n ≡ false → KnownBut n (row n w s)
+unfolding control stack cells doubles memory devices numbers input compiling editor
 known_number n w s p l g = by_group (KnownBut n) n w s
-    (λ b. known_control n w s (grind arith) (grind arith))
-    (λ a b. known_stack n s (grind arith) (grind arith))
-    (λ a b. known_cells n s (grind arith) (grind arith))
-    (λ a b. known_doubles n s (grind arith) (grind arith))
-    (λ a b. known_memory n s (grind arith) (grind arith))
-    (λ a b. known_devices n s (grind arith) (grind arith))
-    (λ a b. known_numbers n s (grind arith) (grind arith))
-    (λ a b. known_input n s (grind arith) (grind arith))
-    (λ a b. known_compiling n s (grind arith) (grind arith))
-    (λ a. known_editor n s (grind arith) (grind arith))
+    (λ b. has_between KnownBut 1 n (control_rows w) s (from_control w) (all_control w s) (grind arith) (grind arith))
+    (λ a b. has_between KnownBut 32 n stack_rows s from_stack (all_stack s) (grind arith) (grind arith))
+    (λ a b. has_between KnownBut 48 n cell_rows s from_cells (all_cells s) (grind arith) (grind arith))
+    (λ a b. has_between KnownBut 80 n double_rows s from_doubles (all_doubles s) (grind arith) (grind arith))
+    (λ a b. has_between KnownBut 96 n memory_rows s from_memory (all_memory s) (grind arith) (grind arith))
+    (λ a b. has_between KnownBut 112 n device_rows s from_devices (all_devices s) (grind arith) (grind arith))
+    (λ a b. has_between KnownBut 128 n number_rows s from_numbers (all_numbers s) (grind arith) (grind arith))
+    (λ a b. has_between KnownBut 144 n input_rows s from_input (all_input s) (grind arith) (grind arith))
+    (λ a b. has_between KnownBut 168 n compiling_rows s from_compiling (all_compiling s) (grind arith) (grind arith))
+    (λ a. has_between KnownBut 200 n editor_rows s from_editor (all_editor s) (grind arith) (grind arith))
 
 not_unknown : (x : After) → Known x → x.1 ≢ outcome.Fault UNKNOWN_CODE
 unfolding Known
