@@ -20,6 +20,7 @@ use Rattle.input_source.specs.declared.words.Word.{Word}
 use Rattle.input_source.specs.Words.{IsNextWord}
 use Rattle.input_source.proofs.WordLaw.{word_law}
 use Rattle.primitives.specs.DictionaryRows.{creates}
+use Rattle.plain_rows.specs.Table.{row_in}
 use Rattle.primitives.specs.Table.{row, compiling}
 use Rattle.colon_bodies.specs.declared.words.Half.TheVariants.{Free}
 use Rattle.colon_bodies.specs.Tree.{Empty}
@@ -83,7 +84,7 @@ makes t w name = creates t w name true 1 [] (PutCell 16 65535 ∷ PutCell 32 (ce
 
 colon_row : (u : Whole) (d : List ℕ) (i b p x : ℕ) (text : List ℕ) → Reading u b p text → 0 < (next text p).len → (next text p).len ≤ 31 → cell u.memory 28 + (7 + (next text p).len) ≤ limit_of (length u.buffers)
     → row 168 x (at u d i) ≡ (at (record u { memory = written u.memory (PutCell 20 (next text p).next ∷ begun_writes (site_of u.memory (name text p)) (cell u.memory 34) (name text p)) }) d i, Done)
-unfolding row compiling creates
+unfolding row row_in compiling creates
 colon_row u d i b p x text r s l h =
     let a : (nat_le 1 (next text p).len && nat_le (next text p).len 31) ≡ true = grind arith in
     named_here (at u d i) b p text makes (reading_at u d i b p text r) ∙ rw (a, has_room_is (at u d i) (7 + (next text p).len + 0) (omega arith)) refl

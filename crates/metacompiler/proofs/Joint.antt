@@ -32,6 +32,7 @@ use Rattle.primitives.specs.Streams.{has_stream, stream_buffers, with_stream, re
 use Rattle.primitives.specs.Names.{name_word, name_in, searches}
 use Rattle.primitives.specs.DictionaryRows.{leaves_past}
 use Rattle.primitives.specs.Interpret.{compiles_past, found_word, number_word}
+use Rattle.plain_rows.specs.Table.{row_in}
 use Rattle.primitives.specs.Table.{row, input}
 use Rattle.metacompiler.specs.Reading.{Reading, stream, next, name}
 use Rattle.metacompiler.proofs.Turn.{brought}
@@ -117,7 +118,7 @@ takes t word name =
     else searches t (sought t.memory name) (number_word t word name) (found_word t word)
 
 pub scan : (u : Whole) (b p x : ℕ) (text : List ℕ) → Reading u b p text → row 149 x u ≡ takes u (next text p) (name text p)
-unfolding row input
+unfolding row row_in input
 scan u b p x text r = named_here u b p text takes r
 
 -- where no word is left
@@ -174,7 +175,7 @@ page_put m bs at l h k =
 
 -- a screen that is in no buffer is asked for
 pub scan_asks : (u : Whole) (b x : ℕ) → cell u.memory 22 ≡ b → (b == 0) ≡ false → nat_lt b u.block_count ≡ true → holds u.buffers b ≡ false → (victim u.buffers).updated ≡ false → row 149 x u ≡ (u, Ask (Read b))
-unfolding row input has_stream has_block without_block
+unfolding row row_in input has_stream has_block without_block
 scan_asks u b x e z c h v = rw (e, z, c, h, v) refl
 
 -- once it is brought, the machine reads it

@@ -21,6 +21,7 @@ use Rattle.input_source.specs.declared.words.Stream.{Stream}
 use Rattle.input_source.specs.declared.words.Word.{Word}
 use Rattle.input_source.specs.Words.{parsed, parsed_in, IsTaken, IsNextWord}
 use Rattle.input_source.proofs.WordLaw.{word_law, taken-parsed}
+use Rattle.plain_rows.specs.Table.{row_in}
 use Rattle.primitives.specs.Table.{row, input}
 use Rattle.inner_interpreter.specs.Tick.{ticked}
 use Rattle.source_words.specs.declared.modes.Mode.{Mode}
@@ -54,7 +55,7 @@ abbrev passes_on : Whole → Stream → After
 passes_on t st = passes t (parsed_in t.memory st 41)
 
 paren_row : (u : Whole) (d : List ℕ) (i b p w : ℕ) (text : List ℕ) → Reading u b p text → row 145 w (at u d i) ≡ (at (record u { memory = put_cell u.memory 20 (parsed text p 41).next }) d i, Done)
-unfolding row input
+unfolding row row_in input
 paren_row u d i b p w text r = reads_here (at u d i) b p text passes_on (reading_at u d i b p text r) ∙ ap (λ (x : Word). passes (at u d i) x) (parsed_here u b p 41 text r)
 
 or_true : (a b : Bool) → a ≡ true → (a || b) ≡ true

@@ -21,6 +21,7 @@ use Rattle.input_source.specs.Words.{parsed, parsed_in, bytes_in, bytes_of}
 use Rattle.primitives.specs.Interpret.{compiles_past}
 use Rattle.primitives.specs.Defining.{lays_past}
 use Rattle.primitives.specs.Names.{finds_word, searches}
+use Rattle.plain_rows.specs.Table.{row_in}
 use Rattle.primitives.specs.Table.{row, compiling}
 use Rattle.colon_bodies.specs.declared.words.Half.{Half}
 use Rattle.colon_bodies.specs.declared.words.Half.TheVariants.{Free}
@@ -220,7 +221,7 @@ text_row_of true = 191
 
 text_row : (k : Bool) (u : Whole) (d : List ℕ) (i b p w : ℕ) (text : List ℕ) → Reading u b p text → (parsed text p 34).len ≤ 255 → cell u.memory 28 + (3 + (parsed text p 34).len) ≤ limit_of (length u.buffers)
     → row (text_row_of k) w (at u d i) ≡ (at (record u { memory = laid_at (cell u.memory 28) (put_cell u.memory 20 (parsed text p 34).next) (text_code (runtime u.memory (text_control k)) (bytes_of text (parsed text p 34))) }) d i, Done)
-unfolding row compiling
+unfolding row row_in compiling
 text_row false u d i b p w text r s h = reads_here (at u d i) b p text (tells_on 16) (reading_at u d i b p text r) ∙ tells_here 16 (at u d i) b p text (reading_at u d i b p text r) s h
 text_row true u d i b p w text r s h = reads_here (at u d i) b p text (tells_on 17) (reading_at u d i b p text r) ∙ tells_here 17 (at u d i) b p text (reading_at u d i b p text r) s h
 
@@ -279,7 +280,7 @@ ticks_past t w nm = finds_word t w nm (λ x. lays_past t w (literal_code t.memor
 
 tick_row : (u : Whole) (d : List ℕ) (i b p w l : ℕ) (text : List ℕ) → Reading u b p text → ((next text p).len == 0) ≡ false → sought u.memory (name text p) ≡ Found l → cell u.memory 28 + 4 ≤ limit_of (length u.buffers)
     → row 176 w (at u d i) ≡ (at (record u { memory = laid (put_cell u.memory 20 (next text p).next) (literal_code u.memory (compilation_address u.memory l)) }) d i, Done)
-unfolding row compiling
+unfolding row row_in compiling
 tick_row u d i b p w l text r z f h =
     named_here (at u d i) b p text ticks_past (reading_at u d i b p text r)
     ∙ tick_takes (at u d i) (next text p) (name text p) l (λ x. lays_past (at u d i) (next text p) (literal_code u.memory x)) z f
@@ -327,7 +328,7 @@ forces_past t w nm = finds_word t w nm (λ x. lays_past t w (cell_bytes x))
 
 force_row : (u : Whole) (d : List ℕ) (i b p w l : ℕ) (text : List ℕ) → Reading u b p text → ((next text p).len == 0) ≡ false → sought u.memory (name text p) ≡ Found l → cell u.memory 28 + 2 ≤ limit_of (length u.buffers)
     → row 177 w (at u d i) ≡ (at (record u { memory = laid (put_cell u.memory 20 (next text p).next) (cell_bytes (compilation_address u.memory l)) }) d i, Done)
-unfolding row compiling
+unfolding row row_in compiling
 force_row u d i b p w l text r z f h =
     named_here (at u d i) b p text forces_past (reading_at u d i b p text r)
     ∙ tick_takes (at u d i) (next text p) (name text p) l (λ x. lays_past (at u d i) (next text p) (cell_bytes x)) z f

@@ -1,4 +1,5 @@
 pub mod Takes
 pub mod Trimmed
 pub mod Shapes
+pub mod Tables
 pub mod Plain

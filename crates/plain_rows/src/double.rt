@@ -7,8 +7,9 @@ ghost use Rattle.plain_rows.specs.Row.{leaves, double, ◌▸▸◌};
 ghost use Rattle.plain_rows.specs.Double.{d_magnitude, d_halved, d_least, d_greatest, d_plus, d_minus, d_negate, d_absolute, d_two_slash, d_min, d_max, d_equals, d_zero_equals, d_less, du_less};
 
 use crate::cell::flag;
-use crate::ending::{from_one, from_two, leave};
+use crate::ending::{from_one, from_two};
 use crate::faults::DATA_UNDERFLOW;
+use crate::leaves;
 use crate::parts::{Outcome, Parts};
 
 /// The double of a low and a high cell.
@@ -22,7 +23,7 @@ fn leave_double(parts: &mut Parts, taken: usize, n: u32) -> Outcome
     requires { taken ≤ length parts.old.values }
     ensures { (parts.new, result) ≡ leaves parts.old (drop taken parts.old.values ▸▸ n) }
 {
-    leave(parts, taken, &[(n / 65536) as u16, (n % 65536) as u16])
+    leaves!(parts, taken, [(n % 65536) as u16, (n / 65536) as u16])
 }
 
 fn magnitude(n: u32) -> u32
@@ -63,36 +64,36 @@ fn greater(m: u32, n: u32) -> u32
     }
 }
 
-/// A row that takes a double, and leaves one.
+/// A row whose stack effect takes a double, and leaves one.
 macro_rules! double_from_one {
-    ($parts:ident, $n:ident, $given:expr) => {{
+    ($parts:ident, ($d:ident) -> $given:expr) => {{
         let Some((low, high)) = $parts.values.top2() else {
             return Outcome::Fault(DATA_UNDERFLOW);
         };
-        let $n = double_of(low, high);
+        let $d = double_of(low, high);
         leave_double($parts, 2, $given)
     }};
 }
 
-/// A row that takes two doubles, and leaves one.
+/// A row whose stack effect takes two doubles, and leaves one.
 macro_rules! double_from_two {
-    ($parts:ident, $m:ident, $n:ident, $given:expr) => {{
+    ($parts:ident, ($d1:ident, $d2:ident) -> $given:expr) => {{
         let Some((low1, high1, low2, high2)) = $parts.values.top4() else {
             return Outcome::Fault(DATA_UNDERFLOW);
         };
-        let ($m, $n) = (double_of(low1, high1), double_of(low2, high2));
+        let ($d1, $d2) = (double_of(low1, high1), double_of(low2, high2));
         leave_double($parts, 4, $given)
     }};
 }
 
-/// A row that takes two doubles, and leaves a cell.
+/// A row whose stack effect takes two doubles, and leaves a cell.
 macro_rules! cell_from_doubles {
-    ($parts:ident, $m:ident, $n:ident, $given:expr) => {{
+    ($parts:ident, ($d1:ident, $d2:ident) -> $given:expr) => {{
         let Some((low1, high1, low2, high2)) = $parts.values.top4() else {
             return Outcome::Fault(DATA_UNDERFLOW);
         };
-        let ($m, $n) = (double_of(low1, high1), double_of(low2, high2));
-        leave($parts, 4, &[$given])
+        let ($d1, $d2) = (double_of(low1, high1), double_of(low2, high2));
+        leaves!($parts, 4, [$given])
     }};
 }
 
@@ -100,75 +101,75 @@ macro_rules! cell_from_doubles {
 pub fn d_plus(parts: &mut Parts) -> Outcome
     ensures { (parts.new, result) ≡ d_plus parts.old }
 {
-    double_from_two!(parts, m, n, m.wrapping_add(n))
+    double_from_two!(parts, (d1, d2) -> d1.wrapping_add(d2))
 }
 
 /// 81 `D-` ( d1 d2 -- d )
 pub fn d_minus(parts: &mut Parts) -> Outcome
     ensures { (parts.new, result) ≡ d_minus parts.old }
 {
-    double_from_two!(parts, m, n, m.wrapping_sub(n))
+    double_from_two!(parts, (d1, d2) -> d1.wrapping_sub(d2))
 }
 
 /// 82 `DNEGATE` ( d -- d2 )
 pub fn d_negate(parts: &mut Parts) -> Outcome
     ensures { (parts.new, result) ≡ d_negate parts.old }
 {
-    double_from_one!(parts, n, 0u32.wrapping_sub(n))
+    double_from_one!(parts, (d) -> 0u32.wrapping_sub(d))
 }
 
 /// 83 `DABS` ( d -- d2 )
 pub fn d_absolute(parts: &mut Parts) -> Outcome
     ensures { (parts.new, result) ≡ d_absolute parts.old }
 {
-    double_from_one!(parts, n, magnitude(n))
+    double_from_one!(parts, (d) -> magnitude(d))
 }
 
 /// 84 `D2/` ( d -- d2 )
 pub fn d_two_slash(parts: &mut Parts) -> Outcome
     ensures { (parts.new, result) ≡ d_two_slash parts.old }
 {
-    double_from_one!(parts, n, half(n))
+    double_from_one!(parts, (d) -> half(d))
 }
 
 /// 85 `DMIN` ( d1 d2 -- d )
 pub fn d_min(parts: &mut Parts) -> Outcome
     ensures { (parts.new, result) ≡ d_min parts.old }
 {
-    double_from_two!(parts, m, n, lesser(m, n))
+    double_from_two!(parts, (d1, d2) -> lesser(d1, d2))
 }
 
 /// 86 `DMAX` ( d1 d2 -- d )
 pub fn d_max(parts: &mut Parts) -> Outcome
     ensures { (parts.new, result) ≡ d_max parts.old }
 {
-    double_from_two!(parts, m, n, greater(m, n))
+    double_from_two!(parts, (d1, d2) -> greater(d1, d2))
 }
 
 /// 87 `D=` ( d1 d2 -- t )
 pub fn d_equals(parts: &mut Parts) -> Outcome
     ensures { (parts.new, result) ≡ d_equals parts.old }
 {
-    cell_from_doubles!(parts, m, n, flag(m == n))
+    cell_from_doubles!(parts, (d1, d2) -> flag(d1 == d2))
 }
 
 /// 88 `D0=` ( d -- t )
 pub fn d_zero_equals(parts: &mut Parts) -> Outcome
     ensures { (parts.new, result) ≡ d_zero_equals parts.old }
 {
-    from_two!(parts, low, high, [flag(double_of(low, high) == 0)])
+    from_two!(parts, (low, high) -> [flag(double_of(low, high) == 0)])
 }
 
 /// 89 `D<` ( d1 d2 -- t )
 pub fn d_less(parts: &mut Parts) -> Outcome
     ensures { (parts.new, result) ≡ d_less parts.old }
 {
-    cell_from_doubles!(parts, m, n, flag(m.cast_signed() < n.cast_signed()))
+    cell_from_doubles!(parts, (d1, d2) -> flag(d1.cast_signed() < d2.cast_signed()))
 }
 
 /// 90 `DU<` ( ud1 ud2 -- t )
 pub fn du_less(parts: &mut Parts) -> Outcome
     ensures { (parts.new, result) ≡ du_less parts.old }
 {
-    cell_from_doubles!(parts, m, n, flag(m < n))
+    cell_from_doubles!(parts, (ud1, ud2) -> flag(ud1 < ud2))
 }

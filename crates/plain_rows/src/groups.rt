@@ -8,7 +8,7 @@ use crate::parts::{Outcome, Parts};
 use crate::{cell, control, double, memory_rows, stack};
 
 /// Rows 1 to 27.
-#[tactic(auto, unfolding(crate::specs::Table::control))]
+#[tactic(auto, unfolding(crate::specs::Table::row_in, crate::specs::Table::control))]
 pub fn control_row(parts: &mut Parts, number: u8, token: u16) -> Outcome
     ensures { (parts.new, result) ≡ control number token parts.old }
 {
@@ -45,7 +45,7 @@ pub fn control_row(parts: &mut Parts, number: u8, token: u16) -> Outcome
 }
 
 /// Rows 32 to 45.
-#[tactic(auto, unfolding(crate::specs::Table::stack))]
+#[tactic(auto, unfolding(crate::specs::Table::row_in, crate::specs::Table::stack))]
 pub fn stack_row(parts: &mut Parts, number: u8, _token: u16) -> Outcome
     ensures { (parts.new, result) ≡ stack number parts.old }
 {
@@ -69,7 +69,7 @@ pub fn stack_row(parts: &mut Parts, number: u8, _token: u16) -> Outcome
 }
 
 /// Rows 48 to 79.
-#[tactic(auto, unfolding(crate::specs::Table::cells))]
+#[tactic(auto, unfolding(crate::specs::Table::row_in, crate::specs::Table::cells))]
 pub fn cell_row(parts: &mut Parts, number: u8, _token: u16) -> Outcome
     ensures { (parts.new, result) ≡ cells number parts.old }
 {
@@ -111,7 +111,7 @@ pub fn cell_row(parts: &mut Parts, number: u8, _token: u16) -> Outcome
 }
 
 /// Rows 80 to 90.
-#[tactic(auto, unfolding(crate::specs::Table::doubles))]
+#[tactic(auto, unfolding(crate::specs::Table::row_in, crate::specs::Table::doubles))]
 pub fn double_row(parts: &mut Parts, number: u8, _token: u16) -> Outcome
     ensures { (parts.new, result) ≡ doubles number parts.old }
 {
@@ -132,7 +132,7 @@ pub fn double_row(parts: &mut Parts, number: u8, _token: u16) -> Outcome
 }
 
 /// Rows 96 to 107.
-#[tactic(auto, unfolding(crate::specs::Table::memory))]
+#[tactic(auto, unfolding(crate::specs::Table::row_in, crate::specs::Table::memory))]
 pub fn memory_row(parts: &mut Parts, number: u8, _token: u16) -> Outcome
     ensures { (parts.new, result) ≡ memory number parts.old }
 {

@@ -5,8 +5,8 @@
 ghost use Rattle.std.specs.Prelude.{◌≡◌};
 ghost use Rattle.plain_rows.specs.MemoryRows.{fetch, store, plus_store, two_store, cmove, dash_trailing, trimmed, c_fetch, c_store, two_fetch, cmove_down, fill, count};
 
-use crate::ending::leave;
 use crate::faults::DATA_UNDERFLOW;
+use crate::leaves;
 use crate::parts::{Outcome, Parts};
 use memory::Memory;
 
@@ -29,7 +29,7 @@ pub fn fetch(parts: &mut Parts) -> Outcome
         return Outcome::Fault(DATA_UNDERFLOW);
     };
     let x = parts.memory.cell(a);
-    leave(parts, 1, &[x])
+    leaves!(parts, 1, [x])
 }
 
 /// 97 `!` ( x a -- )
@@ -52,7 +52,7 @@ pub fn c_fetch(parts: &mut Parts) -> Outcome
         return Outcome::Fault(DATA_UNDERFLOW);
     };
     let c = u16::from(parts.memory.byte(a));
-    leave(parts, 1, &[c])
+    leaves!(parts, 1, [c])
 }
 
 /// 99 `C!` ( c a -- )
@@ -89,7 +89,7 @@ pub fn two_fetch(parts: &mut Parts) -> Outcome
     };
     let high = parts.memory.cell(a);
     let low = parts.memory.cell(a.wrapping_add(2));
-    leave(parts, 1, &[high, low])
+    leaves!(parts, 1, [low, high])
 }
 
 /// 102 `2!` ( d a -- )
@@ -109,11 +109,11 @@ pub fn two_store(parts: &mut Parts) -> Outcome
 pub fn cmove(parts: &mut Parts) -> Outcome
     ensures { (parts.new, result) ≡ cmove parts.old }
 {
-    let Some((from, to, n)) = parts.values.top3() else {
+    let Some((a1, a2, u)) = parts.values.top3() else {
         return Outcome::Fault(DATA_UNDERFLOW);
     };
     parts.values.lower(3);
-    parts.move_up(from, to, n);
+    parts.move_up(a1, a2, u);
     Outcome::Done
 }
 
@@ -121,11 +121,11 @@ pub fn cmove(parts: &mut Parts) -> Outcome
 pub fn cmove_down(parts: &mut Parts) -> Outcome
     ensures { (parts.new, result) ≡ cmove_down parts.old }
 {
-    let Some((from, to, n)) = parts.values.top3() else {
+    let Some((a1, a2, u)) = parts.values.top3() else {
         return Outcome::Fault(DATA_UNDERFLOW);
     };
     parts.values.lower(3);
-    parts.move_down(from, to, n);
+    parts.move_down(a1, a2, u);
     Outcome::Done
 }
 
@@ -149,7 +149,7 @@ pub fn count(parts: &mut Parts) -> Outcome
         return Outcome::Fault(DATA_UNDERFLOW);
     };
     let c = u16::from(parts.memory.byte(a));
-    leave(parts, 1, &[c, a.wrapping_add(1)])
+    leaves!(parts, 1, [a.wrapping_add(1), c])
 }
 
 /// 107 `-TRAILING` ( a u -- a u2 )
@@ -159,6 +159,6 @@ pub fn dash_trailing(parts: &mut Parts) -> Outcome
     let Some((a, u)) = parts.values.top2() else {
         return Outcome::Fault(DATA_UNDERFLOW);
     };
-    let n = trim(&parts.memory, a, u);
-    leave(parts, 2, &[n, a])
+    let u2 = trim(&parts.memory, a, u);
+    leaves!(parts, 2, [a, u2])
 }

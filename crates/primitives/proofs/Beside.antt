@@ -1,16 +1,15 @@
 -- An index that is told of a write holds for the memory behind it. Cells of the system by their addresses: STATE 16,
 -- BASE 18, >IN 20, DP 28, LAST 30, HLD 36, VOC-LINK 52.
-use Rattle.std.proofs.Common.{◌≡◌, ◌≢◌, ℕ, ◌+◌, ◌-◌, ◌%◌, ◌<◌, ◌≤◌, List, [], ◌∷◌, ◌++◌, length, map, arith, ◌∙◌, IsTrue, length-append, refl, subst, sym, true, false}
-use Rattle.std.specs.Prelude.{Result, Ok, Err}
+use Rattle.std.proofs.Common.{◌≡◌, ℕ, ◌+◌, ◌-◌, ◌%◌, ◌<◌, ◌≤◌, List, [], ◌∷◌, length, map, arith, ◌∙◌, IsTrue, length-append, subst, sym, true, false}
+use Rattle.std.specs.Prelude.{Result, Ok}
 use Rattle.std.proofs.lemmas.List.{length-map}
 use Rattle.std.proofs.lemmas.Grind.{common_steps}
 use Rattle.cells.specs.Cell.{wrap, difference, is_negative}
-use Rattle.memory.specs.Bytes.{byte, cell, cell_bytes, put_byte, put_cell, put_bytes, bytes, PutCell, PutBytes, with_write, written}
+use Rattle.memory.specs.Bytes.{byte, cell, cell_bytes, put_byte, put_cell, put_bytes, PutCell, PutBytes, written}
 use Rattle.memory.proofs.Ranges.{length-bytes}
 use Rattle.compiling_words.specs.Code.{runtime}
 use Rattle.compiling_words.specs.declared.laying.Full.{Full}
 use Rattle.compiling_words.specs.Definitions.{ended, IsEnded}
-use Rattle.compiling_words.specs.Laying.{laid}
 use Rattle.dictionary.specs.Laying.{laid_at}
 use Rattle.dictionary.specs.Newest.{newest_count, revealed}
 use Rattle.dictionary.specs.declared.site.Site.{Site}
@@ -27,7 +26,7 @@ use Rattle.number_text.specs.Digits.{is_base, byte_of, expansion}
 use Rattle.number_text.specs.Picture.{held, with_digit, signed_picture, with_digits, IsDigitPictured, AreDigitsPictured}
 use Rattle.number_text.proofs.Expansions.{count_most}
 use Rattle.name_index.specs.declared.index.NameIndex.{NameIndex}
-use Rattle.name_index.specs.Watch.{AgreeBeside, IsBeside}
+use Rattle.name_index.specs.Watch.{AgreeBeside}
 use Rattle.name_index.specs.Index.{Holds}
 use Rattle.name_index.proofs.Writes.{beside_byte, beside_cell, beside_bytes, holds_low_cell, holds_cell_between, holds_high_cell}
 

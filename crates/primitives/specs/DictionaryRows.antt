@@ -1,4 +1,4 @@
-use Rattle.std.specs.Prelude.{ℕ, ◌+◌, List, [], ◌∷◌, ◌++◌, length, Bool, false, not, if◌then◌else◌}
+use Rattle.std.specs.Prelude.{ℕ, ◌+◌, List, [], ◌∷◌, ◌++◌, length, Bool, false, if◌then◌else◌}
 use Rattle.cells.specs.Cell.{wrap}
 use Rattle.dictionary.specs.Adding.{site_of, header_writes, new_count, record_bytes}
 use Rattle.dictionary.specs.Forgetting.{target, cuts}

@@ -10,7 +10,7 @@ use compiling_words::{Control, control_code, literal_code, runtime};
 use memory::cell_bytes;
 use memory::system::{DP, STATE};
 use plain_rows::faults::{DATA_OVERFLOW, DATA_UNDERFLOW, DICTIONARY_FULL};
-use plain_rows::leave;
+use plain_rows::leaves;
 use plain_rows::parts::{Outcome, Parts};
 
 /// Lays bytes, and puts the cells `given`, the new top first, in place of the `taken` top cells.
@@ -246,7 +246,7 @@ pub fn mark_back(parts: &mut Parts) -> Outcome
     ensures { (parts.new, result) ≡ mark_back parts.old }
 {
     let a = compiling_words::mark_back(&parts.memory);
-    leave(parts, 0, &[a])
+    leaves!(parts, 0, [a])
 }
 
 /// 195 `<RESOLVE` ( a -- )

@@ -17,7 +17,7 @@ use memory::system::{CONTEXT, CURRENT, DP, VOC_LINK};
 use plain_rows::faults::{
     BAD_LENGTH, CHAIN_TOO_LONG, DATA_OVERFLOW, DATA_UNDERFLOW, DICTIONARY_FULL, NOT_FOUND,
 };
-use plain_rows::leave;
+use plain_rows::leaves;
 use plain_rows::parts::{Outcome, Parts};
 
 /// 147 `FIND` ( a -- a 0, w -1, w 1 )
@@ -35,9 +35,9 @@ pub fn find(parts: &mut Parts) -> Outcome
             } else {
                 65535
             };
-            leave(parts, 1, &[flag, w])
+            leaves!(parts, 1, [w, flag])
         }
-        Ok(None) => leave(parts, 1, &[0, a]),
+        Ok(None) => leaves!(parts, 1, [a, 0]),
         Err(_) => Outcome::Fault(CHAIN_TOO_LONG),
     }
 }
@@ -158,7 +158,7 @@ pub fn to_body(parts: &mut Parts) -> Outcome
     let Some(w) = parts.values.pick(0) else {
         return Outcome::Fault(DATA_UNDERFLOW);
     };
-    leave(parts, 1, &[w.wrapping_add(2)])
+    leaves!(parts, 1, [w.wrapping_add(2)])
 }
 
 /// 154 `HERE` ( -- a )
@@ -166,7 +166,7 @@ pub fn here(parts: &mut Parts) -> Outcome
     ensures { (parts.new, result) ≡ here parts.old }
 {
     let here = parts.memory.cell(DP);
-    leave(parts, 0, &[here])
+    leaves!(parts, 0, [here])
 }
 
 /// 155 `PAD` ( -- a )
@@ -174,7 +174,7 @@ pub fn pad_row(parts: &mut Parts) -> Outcome
     ensures { (parts.new, result) ≡ pad_row parts.old }
 {
     let pad = number_text::pad(&parts.memory);
-    leave(parts, 0, &[pad])
+    leaves!(parts, 0, [pad])
 }
 
 /// 156 `VOCABULARY` ( -- )

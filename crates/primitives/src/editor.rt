@@ -16,7 +16,7 @@ use input_source::{Stream, Word, word_bytes};
 use memory::Memory;
 use memory::system::{SCR, TO_IN};
 use plain_rows::faults::DATA_UNDERFLOW;
-use plain_rows::leave;
+use plain_rows::leaves;
 use plain_rows::parts::{Outcome, Parts};
 
 /// References block SCR, and gives its slot; or says what stops the row.
@@ -125,7 +125,7 @@ pub fn line(parts: &mut Parts) -> Outcome
     match open_screen(parts) {
         Ok(slot) => {
             let a = line_address(parts.buffers.address_of(slot), n);
-            leave(parts, 1, &[64, a])
+            leaves!(parts, 1, [a, 64])
         }
         Err(outcome) => outcome,
     }

@@ -12,7 +12,7 @@ use memory::Memory;
 use memory::system::HLD;
 use plain_rows::faults::{BAD_BASE, DATA_UNDERFLOW};
 use plain_rows::parts::{Outcome, Parts};
-use plain_rows::{double_of, leave};
+use plain_rows::{double_of, leaves};
 
 /// How many digits a double has at most: in base 2.
 const MOST_DIGITS: u16 = 32;
@@ -77,7 +77,7 @@ pub fn close_picture(parts: &mut Parts) -> Outcome
         return Outcome::Fault(DATA_UNDERFLOW);
     }
     let (address, length) = number_text::close_picture(&parts.memory);
-    leave(parts, 2, &[length, address])
+    leaves!(parts, 2, [address, length])
 }
 
 /// 132 `HOLD` ( c -- )
@@ -121,5 +121,5 @@ pub fn convert(parts: &mut Parts) -> Outcome
         return Outcome::Fault(BAD_BASE);
     };
     let (high, low) = ((number / 65536) as u16, (number % 65536) as u16);
-    leave(parts, 3, &[behind, high, low])
+    leaves!(parts, 3, [low, high, behind])
 }

@@ -9,7 +9,7 @@ use plain_rows::parts::{Outcome, Parts};
 use plain_rows::{cell_row, control_row, double_row, memory_row, stack_row};
 
 /// Rows 112 to 121.
-#[tactic(auto, unfolding(crate::specs::Table::devices))]
+#[tactic(auto, unfolding(plain_rows::specs::Table::row_in, crate::specs::Table::devices))]
 pub fn device_row(parts: &mut Parts, number: u8, _token: u16) -> Outcome
     ensures { (parts.new, result) ≡ devices number parts.old }
 {
@@ -29,7 +29,7 @@ pub fn device_row(parts: &mut Parts, number: u8, _token: u16) -> Outcome
 }
 
 /// Rows 128 to 134.
-#[tactic(auto, unfolding(crate::specs::Table::numbers))]
+#[tactic(auto, unfolding(plain_rows::specs::Table::row_in, crate::specs::Table::numbers))]
 pub fn number_row(parts: &mut Parts, number: u8, _token: u16) -> Outcome
     ensures { (parts.new, result) ≡ numbers number parts.old }
 {
@@ -46,7 +46,7 @@ pub fn number_row(parts: &mut Parts, number: u8, _token: u16) -> Outcome
 }
 
 /// Rows 144 to 157.
-#[tactic(auto, unfolding(crate::specs::Table::input))]
+#[tactic(auto, unfolding(plain_rows::specs::Table::row_in, crate::specs::Table::input))]
 #[inline(never)]
 pub fn input_row(parts: &mut Parts, number: u8, _token: u16) -> Outcome
     ensures { (parts.new, result) ≡ input number parts.old }
@@ -71,7 +71,7 @@ pub fn input_row(parts: &mut Parts, number: u8, _token: u16) -> Outcome
 }
 
 /// Rows 168 to 197.
-#[tactic(auto, unfolding(crate::specs::Table::compiling))]
+#[tactic(auto, unfolding(plain_rows::specs::Table::row_in, crate::specs::Table::compiling))]
 #[inline(never)]
 pub fn compile_row(parts: &mut Parts, number: u8, _token: u16) -> Outcome
     ensures { (parts.new, result) ≡ compiling number parts.old }
@@ -112,7 +112,7 @@ pub fn compile_row(parts: &mut Parts, number: u8, _token: u16) -> Outcome
 }
 
 /// Rows 200 to 204.
-#[tactic(auto, unfolding(crate::specs::Table::editor))]
+#[tactic(auto, unfolding(plain_rows::specs::Table::row_in, crate::specs::Table::editor))]
 #[inline(never)]
 pub fn editor_row(parts: &mut Parts, number: u8, _token: u16) -> Outcome
     ensures { (parts.new, result) ≡ editor number parts.old }

@@ -7,5 +7,6 @@ pub mod Controls
 pub mod Items
 pub mod Ending
 pub mod Twice
+pub mod Groups
 pub mod Gaps
 pub mod Known

@@ -8,6 +8,7 @@ use Rattle.plain_rows.specs.Whole.{Whole}
 use Rattle.plain_rows.specs.declared.parts.Outcome.TheVariants.{Done}
 use Rattle.plain_rows.specs.Row.{After, takes1, takes2, room, has_room}
 use Rattle.primitives.specs.Compiling.{compiles, resolves}
+use Rattle.plain_rows.specs.Table.{row_in}
 use Rattle.primitives.specs.Table.{row, compiling}
 use Rattle.primitives.specs.Interpret.{compiles_past}
 use Rattle.primitives.specs.Defining.{lays_past}
@@ -63,51 +64,51 @@ at_number : (a n w : ℕ) (s : Whole) (k : Token) (d : List ℕ) → Some a ≡ 
 at_number a n w s k d e h = let q : a ≡ n = cc in subst (λ i. RowIs i w s k d) q h
 
 if_row : (w : ℕ) (s : Whole) (d : List ℕ) → cell s.memory 28 + 4 ≤ limit s.buffers → length d ≤ 250 → RowIs 179 w s IF d
-unfolding row compiling RowIs
+unfolding row row_in compiling RowIs
 if_row w s d h g = control_is (with_stack s d) 8 0 (ahead s.memory 2 ∷ d) h (omega arith)
 
 while_row : (w : ℕ) (s : Whole) (d : List ℕ) → cell s.memory 28 + 4 ≤ limit s.buffers → length d ≤ 250 → RowIs 184 w s WHILE d
-unfolding row compiling RowIs
+unfolding row row_in compiling RowIs
 while_row w s d h g = control_is (with_stack s d) 8 0 (ahead s.memory 2 ∷ d) h (omega arith)
 
 do_row : (w : ℕ) (s : Whole) (d : List ℕ) → cell s.memory 28 + 4 ≤ limit s.buffers → length d ≤ 250 → RowIs 187 w s DO d
-unfolding row compiling RowIs
+unfolding row row_in compiling RowIs
 do_row w s d h g = control_is (with_stack s d) 9 0 (ahead s.memory 4 ∷ ahead s.memory 2 ∷ d) h (omega arith)
 
 does_row : (w : ℕ) (s : Whole) (d : List ℕ) → cell s.memory 28 + 2 ≤ limit s.buffers → length d ≤ 250 → RowIs 178 w s DOES d
-unfolding row compiling RowIs
+unfolding row row_in compiling RowIs
 does_row w s d h g = compiles_is (with_stack s d) (cell_bytes (runtime s.memory 18)) d (omega (arith, length-cell (runtime s.memory 18))) (omega arith)
 
 begin_row : (w : ℕ) (s : Whole) (d : List ℕ) → length d ≤ 250 → RowIs 182 w s BEGIN d
-unfolding row compiling room RowIs
+unfolding row row_in compiling room RowIs
 begin_row w s d g = rw (room_is (length (cell s.memory 28 ∷ d)) (omega arith)) refl
 
 then_row : (w : ℕ) (s : Whole) (a : ℕ) (d : List ℕ) → RowIs 181 w s THEN (a ∷ d)
-unfolding row compiling takes1 RowIs
+unfolding row row_in compiling takes1 RowIs
 then_row w s a d = refl
 
 else_row : (w : ℕ) (s : Whole) (a : ℕ) (d : List ℕ) → cell s.memory 28 + 4 ≤ limit s.buffers → length d ≤ 250 → RowIs 180 w s ELSE (a ∷ d)
-unfolding row compiling takes1 RowIs
+unfolding row row_in compiling takes1 RowIs
 else_row w s a d h g = resolved_is (with_stack s (a ∷ d)) 7 0 a (ahead s.memory 2 ∷ d) h (omega arith)
 
 until_row : (w : ℕ) (s : Whole) (a : ℕ) (d : List ℕ) → cell s.memory 28 + 4 ≤ limit s.buffers → length d ≤ 250 → RowIs 183 w s UNTIL (a ∷ d)
-unfolding row compiling takes1 RowIs
+unfolding row row_in compiling takes1 RowIs
 until_row w s a d h g = control_is (with_stack s (a ∷ d)) 8 a d h (omega arith)
 
 again_row : (w : ℕ) (s : Whole) (a : ℕ) (d : List ℕ) → cell s.memory 28 + 4 ≤ limit s.buffers → length d ≤ 250 → RowIs 186 w s AGAIN (a ∷ d)
-unfolding row compiling takes1 RowIs
+unfolding row row_in compiling takes1 RowIs
 again_row w s a d h g = control_is (with_stack s (a ∷ d)) 7 a d h (omega arith)
 
 repeat_row : (w : ℕ) (s : Whole) (a b : ℕ) (d : List ℕ) → cell s.memory 28 + 4 ≤ limit s.buffers → length d ≤ 250 → RowIs 185 w s REPEAT (b ∷ a ∷ d)
-unfolding row compiling takes2 RowIs
+unfolding row row_in compiling takes2 RowIs
 repeat_row w s a b d h g = resolved_is (with_stack s (b ∷ a ∷ d)) 7 a b d h (omega arith)
 
 loop_row : (w : ℕ) (s : Whole) (a b : ℕ) (d : List ℕ) → cell s.memory 28 + 4 ≤ limit s.buffers → length d ≤ 250 → RowIs 188 w s (LOOP false) (b ∷ a ∷ d)
-unfolding row compiling takes2 RowIs
+unfolding row row_in compiling takes2 RowIs
 loop_row w s a b d h g = resolved_is (with_stack s (b ∷ a ∷ d)) 10 b a d h (omega arith)
 
 plus_loop_row : (w : ℕ) (s : Whole) (a b : ℕ) (d : List ℕ) → cell s.memory 28 + 4 ≤ limit s.buffers → length d ≤ 250 → RowIs 189 w s (LOOP true) (b ∷ a ∷ d)
-unfolding row compiling takes2 RowIs
+unfolding row row_in compiling takes2 RowIs
 plus_loop_row w s a b d h g = resolved_is (with_stack s (b ∷ a ∷ d)) 11 b a d h (omega arith)
 
 -- the row of a word that fits
@@ -140,7 +141,7 @@ row_is before at o p t u h k n w s below r g q e d =
     subst (λ x. RowIs n w s k x) (sym v) (fit_row at o p t u h k n w s below q (fits_so o t k n (Some (At p u h)) q e) (omega arith) (subst (λ x. length x ≤ 250) v g))
 
 pub semicolon_is : (s : Whole) (w : ℕ) → cell s.memory 28 + 2 ≤ limit s.buffers → row 169 w s ≡ (record s { memory = ended s.memory }, Done)
-unfolding row compiling
+unfolding row row_in compiling
 semicolon_is s w h = rw (has_room_is s 2 h) refl
 
 -- >IN moves, and then bytes are laid

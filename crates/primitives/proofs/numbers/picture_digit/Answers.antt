@@ -1,4 +1,4 @@
-use Rattle.std.proofs.Common.{refl, rules}
+use Rattle.std.proofs.Common.{rules}
 use Rattle.primitives.proofs.Beside.{digit_pictured}
 use Rattle.primitives.proofs.numbers.picture_digit.Goals as goal
 

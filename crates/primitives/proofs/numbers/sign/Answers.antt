@@ -1,4 +1,4 @@
-use Rattle.std.proofs.Common.{refl, rules}
+use Rattle.std.proofs.Common.{rules}
 use Rattle.primitives.proofs.Beside.{minus_holds}
 use Rattle.primitives.proofs.numbers.sign.Goals as goal
 
