@@ -1,6 +1,6 @@
 //! The buffers: slots in fixed places. What the callers see is their entries, the most recently referenced first.
 
-ghost use Rattle.std.specs.Prelude.{◌≡◌, ◌+◌, ◌*◌, ◌<◌, ◌≤◌, length, MatchOption, IfSome, IsTrue, IsFalse, IsSome};
+ghost use Rattle.std.specs.Prelude.{◌≡◌, ◌+◌, ◌*◌, ◌<◌, ◌≤◌, ◌↔◌, length, MatchOption, IfSome, IsTrue, IsFalse, IsSome};
 ghost use Rattle.memory.specs.Bytes.{IsCount};
 ghost use Rattle.memory.specs.declared.limit.TheConstants.{GREATEST_LIMIT};
 ghost use Rattle.block_buffers.specs.Entries.{start, limit, address_of, AreBuffers, entry_at, victim, holds, slot_of, IsSlotOf, moved_front, assigned, front_marked, cleaned, unmarked, unassigned, has_updated, IsFirstUpdated};
@@ -53,6 +53,21 @@ impl Buffers {
             slots: stamped::unassigned_slots(usize::from(count), next),
             next,
         }
+    }
+
+    /// The buffers with just these entries, the most recently referenced first. `None` where no buffers have such: there are
+    /// 2 to 16, each slot below their number stands once, and only a buffer with a block is updated.
+    pub fn from_entries(entries: &[Entry]) -> Option<Buffers>
+        ensures value { IfSome result (λ b. b ≡ entries.now) }
+        ensures exactly { IsSome result ↔ AreBuffers entries.now }
+    {
+        if !entries::are_buffers(entries) {
+            return None;
+        }
+        let count = entries.len();
+        let mut slots = stamped::unassigned_slots(count, count as u64);
+        let next = stamped::take_all(slots.as_mut_slice(), count as u64, entries);
+        Some(Buffers { slots, next })
     }
 
     /// The entries, the most recently referenced first.
