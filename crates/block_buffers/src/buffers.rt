@@ -70,10 +70,10 @@ impl Buffers {
         Some(Buffers { slots, next })
     }
 
-    /// The entries, the most recently referenced first.
-    fn recent(&self) -> ArrayVec<Entry, MOST>
+    /// The entries, the most recently referenced first: from them `from_entries` makes the same buffers.
+    pub fn entries(&self) -> ArrayVec<Entry, MOST>
         ensures value { result.items ≡ self.now }
-        ensures buffers { AreBuffers self.now }
+        ensures sound { AreBuffers self.now }
     {
         stamped::recent(self.slots.as_slice())
     }
@@ -112,7 +112,7 @@ impl Buffers {
         ensures value { result ≡ entry_at self.now place }
         ensures slot { result.slot < length self.now }
     {
-        self.recent().as_slice()[place]
+        self.entries().as_slice()[place]
     }
 
     /// The slot of the buffer that has block `u`; `None` where no buffer has it.
@@ -210,7 +210,7 @@ impl Buffers {
         ensures slot { IfSome result (λ e. e.slot < length self.now) }
         ensures block { IfSome result (λ e. IsSome e.block) }
     {
-        let first = entries::first_updated(self.recent().as_slice());
+        let first = entries::first_updated(self.entries().as_slice());
         if first.updated { Some(first) } else { None }
     }
 }
