@@ -8,7 +8,8 @@ use Rattle.std.proofs.lemmas.List.Elements.{All-nil, All-cons, All-head, All-tai
 use Rattle.std.proofs.lemmas.List.Folds.{list_any_none}
 use Rattle.std.proofs.lemmas.List.Kept.{AllPairs-cons}
 use Rattle.block_buffers.specs.declared.entry.Entry.{Entry}
-use Rattle.block_buffers.specs.Entries.{is_in, can_stand, slots_differ, AreBuffers}
+use Rattle.block_buffers.specs.Entries.{is_in, AreBuffers}
+use Rattle.block_buffers.specs.Tests.{can_stand, slots_differ}
 use Rattle.block_buffers.proofs.Kept.{SmallSlot, HasWhereUpdated, SlotsDiffer}
 use Rattle.block_buffers.proofs.Pairs.{pairs_head, pairs_tail}
 use Rattle.block_buffers.proofs.Stamps.{lt_true, lt_below}

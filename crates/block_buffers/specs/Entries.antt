@@ -1,5 +1,5 @@
 -- The list of block buffers, the most recently referenced first.
-use Rattle.std.specs.Prelude.{◌≡◌, ◌≢◌, ℕ, zero, suc, ◌+◌, ◌-◌, ◌*◌, ◌<◌, ◌≤◌, List, [], ◌∷◌, ◌++◌, Some, None, ◌==◌, Bool, true, false, not, if◌then◌else◌, slice_index_or, is_some, unwrap_or, find, filter, map, take, fold, ◌&&◌, ◌||◌, length, nat_lt, All, AllPairs, Contains, IsSome}
+use Rattle.std.specs.Prelude.{◌≡◌, ◌≢◌, ℕ, zero, suc, ◌+◌, ◌-◌, ◌*◌, ◌<◌, ◌≤◌, List, [], ◌∷◌, ◌++◌, Some, None, ◌==◌, Bool, true, false, not, if◌then◌else◌, slice_index_or, is_some, unwrap_or, find, filter, map, take, fold, length, nat_lt, All, AllPairs, Contains, IsSome}
 use Rattle.std.specs.List.{list_any}
 use Rattle.memory.specs.Bytes.{IsCount, limit_of}
 use Rattle.block_buffers.specs.declared.entry.Entry.{Entry}
@@ -123,15 +123,6 @@ pub record AreBuffers (b : List Entry) : Type 0 where
   pub slots : All (λ e. e.slot < length b) b
   pub once : AllPairs (λ d e. d.slot ≢ e.slot) b
   pub updated_have : All (λ e. e.updated ≡ true → IsSome e.block) b
-
--- the entry's slot is below a number, and it is updated only where it has a block
-abbrev pub can_stand : ℕ → Entry → Bool
-can_stand n e = nat_lt e.slot n && (not e.updated || is_some e.block)
-
--- no slot stands twice
-unfoldable pub slots_differ : List Entry → Bool
-slots_differ [] = true
-slots_differ (e ∷ es) = not (list_any (is_in e.slot) es) && slots_differ es
 
 -- no two buffers have the same block
 abbrev pub HasNoBlockTwice : List Entry → Type 0

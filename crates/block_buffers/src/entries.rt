@@ -1,7 +1,8 @@
 //! Work on a list of entries, the most recently referenced first.
 ghost use Rattle.std.specs.Prelude.{◌≡◌, ◌↔◌, ◌≤◌, if◌then◌else◌, IsTrue, drop, length};
 ghost use Rattle.std.specs.List.{list_all, list_any};
-ghost use Rattle.block_buffers.specs.Entries.{is_in, is_of, unassigned_slot, cleaned_entry, unmarked_entry, first_updated, is_updated, lower_of, can_stand, slots_differ, AreBuffers};
+ghost use Rattle.block_buffers.specs.Entries.{is_in, is_of, unassigned_slot, cleaned_entry, unmarked_entry, first_updated, is_updated, lower_of, AreBuffers};
+ghost use Rattle.block_buffers.specs.Tests.{can_stand, slots_differ};
 
 use crate::entry::Entry;
 
