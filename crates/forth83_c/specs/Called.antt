@@ -1,5 +1,5 @@
 -- What calls answer and leave.
-use Rattle.std.specs.Prelude.{◌≡◌, ◌≤◌, ◌-◌, ℕ, List, ◌∷◌, length, take, drop, None, Some, true}
+use Rattle.std.specs.Prelude.{◌≡◌, ◌≢◌, ◌≤◌, ◌-◌, ℕ, List, ◌∷◌, length, take, drop, None, Some, true}
 use Rattle.inner_interpreter.specs.Answer.{Reply, answer_of, asked_by, asked_page, is_answer}
 use Rattle.image_loader.specs.Files.{IsWritten}
 use Rattle.inner_interpreter.specs.Entering.{can_save, entered, saved, with_parts}
@@ -12,7 +12,7 @@ use Rattle.forth83_c.specs.declared.status.Status.TheVariants as status
 use Rattle.forth83_c.specs.declared.stop.Stop.{Stop}
 use Rattle.forth83_c.specs.declared.stop.Stop.TheVariants as stop
 use Rattle.forth83_c.specs.Driven.{IsDriven, HasStopped}
-use Rattle.forth83_c.specs.Kept.{IsKept}
+use Rattle.forth83_c.specs.Kept.{IsKept, IsRecord}
 
 -- the numbers of the header
 abbrev pub code_of : Status → ℕ
@@ -38,6 +38,10 @@ stop_code stop.Limit = 1
 stop_code stop.Room = 2
 stop_code stop.Typed = 3
 stop_code stop.Block = 4
+
+-- by this number of the header no machine is told exactly where the record is none
+abbrev pub TellsMachine : Forth83 → (code : ℕ) → Type 0
+TellsMachine k code = (code ≡ 1 → ¬ IsRecord k) × (code ≢ 1 → IsRecord k)
 
 -- the machine that the record kept was driven to that which it keeps now, by the typed bytes and for at most `limit` ticks;
 -- `end` tells how many of them were read, how many bytes shown, how many ticks left, and why it ended there
