@@ -1,6 +1,7 @@
 -- A record keeps one state.
-use Rattle.std.proofs.Common.{◌≡◌, sym, refl, ◌∙◌}
+use Rattle.std.proofs.Common.{◌≡◌, ℕ, ◌≤◌, List, [], ◌∷◌, None, length, arith, ap, sym, refl, ◌∙◌}
 use Rattle.std.specs.Prelude.{slice_range}
+use Rattle.stacks.specs.Cells.{first_of}
 use Rattle.plain_rows.specs.Whole.{Whole}
 use Rattle.inner_interpreter.specs.State.{State}
 use Rattle.forth83_c.specs.declared.record.Forth83.{Forth83}
@@ -19,6 +20,10 @@ same_state k s t h g =
     (h.buffers ∙ sym g.buffers) (h.block_count ∙ sym g.block_count))
     (h.wait ∙ sym g.wait) (h.halt ∙ sym g.halt)
 
+none_first : (xs : List ℕ) → first_of xs ≡ None → xs ≡ []
+none_first [] e = refl
+none_first (x ∷ xs) e = cc
+
 -- the state that a record tells
 kept_state : Forth83 → State
 kept_state k = record {
@@ -35,20 +40,31 @@ kept_state k = record {
   halt = halt_of k.halts k.fault;
 }
 
-pub some_state : (k : Forth83) → IsRecord k → (s : State) × IsKept k s
+kept_kept : (k : Forth83) → IsRecord k → IsKept k (kept_state k)
 unfolding kept_state
-some_state k h = (
-  kept_state k,
-  record {
-    machine = h;
-    memory = refl;
-    values = refl;
-    returns = refl;
-    ip = refl;
-    pending = refl;
-    buffers = refl;
-    block_count = refl;
-    wait = refl;
-    halt = refl;
-  },
-)
+kept_kept k h = record {
+  machine = h;
+  memory = refl;
+  values = refl;
+  returns = refl;
+  ip = refl;
+  pending = refl;
+  buffers = refl;
+  block_count = refl;
+  wait = refl;
+  halt = refl;
+}
+
+pub some_state : (k : Forth83) → IsRecord k → (s : State) × IsKept k s
+some_state k h = (kept_state k, kept_kept k h)
+
+-- its data stack, where that is full or empty
+pub full_stack : (k : Forth83) (xs : List ℕ) → IsRecord k → xs ≡ slice_range k.values k.values_top 256 → 256 ≤ length xs
+    → (s : State) × IsKept k s × (256 ≤ length s.parts.values)
+unfolding kept_state
+full_stack k xs h e l = (kept_state k, kept_kept k h, omega (arith, l, ap (λ ys. length ys) e))
+
+pub empty_stack : (k : Forth83) (xs : List ℕ) → IsRecord k → xs ≡ slice_range k.values k.values_top 256 → first_of xs ≡ None
+    → (s : State) × IsKept k s × (s.parts.values ≡ [])
+unfolding kept_state
+empty_stack k xs h e l = (kept_state k, kept_kept k h, sym e ∙ none_first xs l)

@@ -5,7 +5,7 @@ ghost use Rattle.image_loader.specs.Files.{Contents, IsFile, IsCutShort, IsFollo
 ghost use Rattle.inner_interpreter.specs.State.{start};
 ghost use Rattle.forth83_c.specs.declared.status.Status.TheVariants as status;
 ghost use Rattle.inner_interpreter.specs.Answer.{seen};
-ghost use Rattle.forth83_c.specs.Called.{AsksPage, HasAnswered, HasEntered, HasPopped, HasPushed, HasRun, HasSaved, TellsMachine, code_of};
+ghost use Rattle.forth83_c.specs.Called.{AsksPage, HasAnswered, HasEntered, HasPopped, HasPushed, HasRun, HasSaved, Tells, TellsMachine, WhyNotAnswered, WhyNotEntered, WhyNoPage, WhyNotPushed, WhyNotPopped, WhyNotSaved, code_of};
 ghost use Rattle.forth83_c.specs.Kept.{IsKept};
 
 use crate::driving::drive;
@@ -94,6 +94,7 @@ pub fn run(
 pub fn answer(alloc: Global, kept: &mut Forth83, answer: Answer<'_>) -> Status
     ensures answered { result ≡ status.Done → HasAnswered kept.old kept.new (seen answer.entry) }
     ensures no_machine { TellsMachine kept.old (code_of result) }
+    ensures why { Tells (WhyNotAnswered (seen answer.entry)) kept.old result }
     ensures stays { result ≢ status.Done → kept.new ≡ kept.old }
 {
     match resume(alloc, kept) {
@@ -119,6 +120,7 @@ pub fn answer(alloc: Global, kept: &mut Forth83, answer: Answer<'_>) -> Status
 pub fn enter(alloc: Global, kept: &mut Forth83, word: u16) -> Status
     ensures entered { result ≡ status.Done → HasEntered kept.old kept.new word }
     ensures no_machine { TellsMachine kept.old (code_of result) }
+    ensures why { Tells WhyNotEntered kept.old result }
     ensures stays { result ≢ status.Done → kept.new ≡ kept.old }
 {
     match resume(alloc, kept) {
@@ -149,6 +151,7 @@ pub fn asked_page(alloc: Global, kept: &Forth83, page: &mut [u8]) -> Status
     ensures asks { result ≡ status.Done → AsksPage kept.now page.new }
     ensures size { length page.old ≢ 1024 → result ≡ status.BadPage }
     ensures no_machine { length page.old ≡ 1024 → TellsMachine kept.now (code_of result) }
+    ensures why { length page.old ≡ 1024 → Tells WhyNoPage kept.now result }
     ensures stays { result ≢ status.Done → page.new ≡ page.old }
 {
     if page.len() != 1024 {
@@ -172,6 +175,7 @@ pub fn push(kept: &mut Forth83, x: u16) -> Status
     ensures pushed { result ≡ status.Done → HasPushed kept.old kept.new x }
     ensures waiting { kept.old.asks ≢ 0 → result ≡ status.Waiting }
     ensures no_machine { kept.old.asks ≡ 0 → TellsMachine kept.old (code_of result) }
+    ensures why { kept.old.asks ≡ 0 → Tells WhyNotPushed kept.old result }
     ensures stays { result ≢ status.Done → kept.new ≡ kept.old }
 {
     if kept.asks != 0 {
@@ -196,6 +200,7 @@ pub fn pop(kept: &mut Forth83, x: &mut u16) -> Status
     ensures popped { result ≡ status.Done → HasPopped kept.old kept.new x.new }
     ensures waiting { kept.old.asks ≢ 0 → result ≡ status.Waiting }
     ensures no_machine { kept.old.asks ≡ 0 → TellsMachine kept.old (code_of result) }
+    ensures why { kept.old.asks ≡ 0 → Tells WhyNotPopped kept.old result }
     ensures stays { result ≢ status.Done → kept.new ≡ kept.old }
     ensures untold { result ≢ status.Done → x.new ≡ x.old }
 {
@@ -221,6 +226,7 @@ pub fn pop(kept: &mut Forth83, x: &mut u16) -> Status
 pub fn save(alloc: Global, kept: &Forth83, entry: u16, file: &mut [u8], size: &mut usize) -> Status
     ensures saved { result ≡ status.Done → HasSaved kept.now entry (take size.new file.new) }
     ensures no_machine { TellsMachine kept.now (code_of result) }
+    ensures why { Tells (WhyNotSaved entry (length file.old)) kept.now result }
     ensures stays { result ≢ status.Done → file.new ≡ file.old }
     ensures untold { result ≢ status.Done → size.new ≡ size.old }
 {
