@@ -14,7 +14,7 @@ rest_differ : (e : Entry) (es : List Entry) → SlotsDiffer (e ∷ es) → Slots
 rest_differ e es h = λ i j d l m. h (suc i) (suc j) d (omega arith) (omega arith)
 
 -- no entry of the list has this slot
-abbrev Lacks : ℕ → List Entry → Type 0
+abbrev pub Lacks : ℕ → List Entry → Type 0
 Lacks slot es = (k : ℕ) (d : Entry) → k < length es → slot ≢ (get_or es k d).slot
 
 none_in : (slot : ℕ) (es : List Entry) → Lacks slot es → filter (is_in slot) es ≡ []
@@ -23,7 +23,7 @@ none_in slot (e ∷ es) h =
     let here : (e.slot == slot) ≡ false = ne_eqb e.slot slot (λ q. h 0 e (omega arith) (sym q))
     in rw here (none_in slot es (λ k d l. h (suc k) d (omega arith)))
 
-all_elsewhere : (slot : ℕ) (es : List Entry) → Lacks slot es → filter (is_elsewhere slot) es ≡ es
+pub all_elsewhere : (slot : ℕ) (es : List Entry) → Lacks slot es → filter (is_elsewhere slot) es ≡ es
 all_elsewhere slot [] h = refl
 all_elsewhere slot (e ∷ es) h =
     let here : (e.slot == slot) ≡ false = ne_eqb e.slot slot (λ q. h 0 e (omega arith) (sym q))

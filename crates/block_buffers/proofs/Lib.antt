@@ -14,3 +14,5 @@ pub mod Stamps
 pub mod Written
 pub mod Fresh
 pub mod Found
+pub mod Trying
+pub mod Taking

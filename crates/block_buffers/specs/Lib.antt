@@ -3,3 +3,4 @@ pub mod Disks
 pub mod Entries
 pub mod Screens
 pub mod Stamps
+pub mod Tests

@@ -1,6 +1,6 @@
 //! The buffers: slots in fixed places. What the callers see is their entries, the most recently referenced first.
 
-ghost use Rattle.std.specs.Prelude.{◌≡◌, ◌+◌, ◌*◌, ◌<◌, ◌≤◌, length, MatchOption, IfSome, IsTrue, IsFalse, IsSome};
+ghost use Rattle.std.specs.Prelude.{◌≡◌, ◌+◌, ◌*◌, ◌<◌, ◌≤◌, ◌↔◌, length, MatchOption, IfSome, IsTrue, IsFalse, IsSome};
 ghost use Rattle.memory.specs.Bytes.{IsCount};
 ghost use Rattle.memory.specs.declared.limit.TheConstants.{GREATEST_LIMIT};
 ghost use Rattle.block_buffers.specs.Entries.{start, limit, address_of, AreBuffers, entry_at, victim, holds, slot_of, IsSlotOf, moved_front, assigned, front_marked, cleaned, unmarked, unassigned, has_updated, IsFirstUpdated};
@@ -55,10 +55,25 @@ impl Buffers {
         }
     }
 
-    /// The entries, the most recently referenced first.
-    fn recent(&self) -> ArrayVec<Entry, MOST>
+    /// The buffers with just these entries, the most recently referenced first. `None` where no buffers have such: there are
+    /// 2 to 16, each slot below their number stands once, and only a buffer with a block is updated.
+    pub fn from_entries(entries: &[Entry]) -> Option<Buffers>
+        ensures value { IfSome result (λ b. b ≡ entries.now) }
+        ensures exactly { IsSome result ↔ AreBuffers entries.now }
+    {
+        if !entries::are_buffers(entries) {
+            return None;
+        }
+        let count = entries.len();
+        let mut slots = stamped::unassigned_slots(count, count as u64);
+        let next = stamped::take_all(slots.as_mut_slice(), count as u64, entries);
+        Some(Buffers { slots, next })
+    }
+
+    /// The entries, the most recently referenced first: from them `from_entries` makes the same buffers.
+    pub fn entries(&self) -> ArrayVec<Entry, MOST>
         ensures value { result.items ≡ self.now }
-        ensures buffers { AreBuffers self.now }
+        ensures sound { AreBuffers self.now }
     {
         stamped::recent(self.slots.as_slice())
     }
@@ -97,7 +112,7 @@ impl Buffers {
         ensures value { result ≡ entry_at self.now place }
         ensures slot { result.slot < length self.now }
     {
-        self.recent().as_slice()[place]
+        self.entries().as_slice()[place]
     }
 
     /// The slot of the buffer that has block `u`; `None` where no buffer has it.
@@ -195,7 +210,7 @@ impl Buffers {
         ensures slot { IfSome result (λ e. e.slot < length self.now) }
         ensures block { IfSome result (λ e. IsSome e.block) }
     {
-        let first = entries::first_updated(self.recent().as_slice());
+        let first = entries::first_updated(self.entries().as_slice());
         if first.updated { Some(first) } else { None }
     }
 }

@@ -1,19 +1,11 @@
 -- A record keeps one state.
-use Rattle.std.proofs.Common.{◌≡◌, ℕ, ◌<◌, List, length, sym, refl, ◌∙◌, subst, rules}
-use Rattle.std.proofs.lemmas.List.{ext_get_or}
-use Rattle.block_buffers.specs.declared.entry.Entry.{Entry}
-use Rattle.block_buffers.specs.Entries.{entry_at, unassigned_slot}
+use Rattle.std.proofs.Common.{◌≡◌, ℕ, ◌≤◌, List, [], ◌∷◌, None, length, arith, ap, sym, refl, ◌∙◌}
+use Rattle.std.specs.Prelude.{slice_range}
+use Rattle.stacks.specs.Cells.{first_of}
 use Rattle.plain_rows.specs.Whole.{Whole}
 use Rattle.inner_interpreter.specs.State.{State}
 use Rattle.forth83_c.specs.declared.record.Forth83.{Forth83}
-use Rattle.forth83_c.specs.declared.record.Forth83Buffer.{Forth83Buffer}
-use Rattle.forth83_c.specs.Kept.{AreKept, IsKept}
-
-same_buffers : (kept : List Forth83Buffer) (count : ℕ) (b c : List Entry) → AreKept kept count b → AreKept kept count c → b ≡ c
-unfolding entry_at
-same_buffers kept count b c h k =
-    ext_get_or (unassigned_slot 0) b c (h.count_is ∙ sym k.count_is)
-    (λ (i : ℕ) (p : i < length b). let q : i < count = subst (λ n. i < n) h.count_is p in h.each i q ∙ sym (k.each i q))
+use Rattle.forth83_c.specs.Kept.{marked, wait_of, halt_of, entries_of, IsRecord, IsKept}
 
 same_parts : (s t : Whole) → s.memory ≡ t.memory → s.values ≡ t.values → s.returns ≡ t.returns → s.ip ≡ t.ip → s.pending ≡ t.pending → s.buffers ≡ t.buffers → s.block_count ≡ t.block_count → s ≡ t
 same_parts s t a b c d e f g = rw (a, b, c, d, e, f, g) refl
@@ -25,5 +17,54 @@ pub same_state : (k : Forth83) (s t : State) → IsKept k s → IsKept k t → s
 same_state k s t h g =
     same_whole s t
     (same_parts s.parts t.parts (h.memory ∙ sym g.memory) (h.values ∙ sym g.values) (h.returns ∙ sym g.returns) (h.ip ∙ sym g.ip) (h.pending ∙ sym g.pending)
-    (same_buffers k.buffers k.buffer_count s.parts.buffers t.parts.buffers h.buffers g.buffers) (h.block_count ∙ sym g.block_count))
+    (h.buffers ∙ sym g.buffers) (h.block_count ∙ sym g.block_count))
     (h.wait ∙ sym g.wait) (h.halt ∙ sym g.halt)
+
+none_first : (xs : List ℕ) → first_of xs ≡ None → xs ≡ []
+none_first [] e = refl
+none_first (x ∷ xs) e = cc
+
+-- the state that a record tells
+kept_state : Forth83 → State
+kept_state k = record {
+  parts = record {
+    memory = k.memory;
+    values = slice_range k.values k.values_top 256;
+    returns = slice_range k.returns k.returns_top 256;
+    ip = k.ip;
+    pending = marked k.has_pending k.pending;
+    buffers = entries_of k.buffers k.buffer_count;
+    block_count = k.block_count;
+  };
+  wait = wait_of k.asks k.asked k.token;
+  halt = halt_of k.halts k.fault;
+}
+
+kept_kept : (k : Forth83) → IsRecord k → IsKept k (kept_state k)
+unfolding kept_state
+kept_kept k h = record {
+  machine = h;
+  memory = refl;
+  values = refl;
+  returns = refl;
+  ip = refl;
+  pending = refl;
+  buffers = refl;
+  block_count = refl;
+  wait = refl;
+  halt = refl;
+}
+
+pub some_state : (k : Forth83) → IsRecord k → (s : State) × IsKept k s
+some_state k h = (kept_state k, kept_kept k h)
+
+-- its data stack, where that is full or empty
+pub full_stack : (k : Forth83) (xs : List ℕ) → IsRecord k → xs ≡ slice_range k.values k.values_top 256 → 256 ≤ length xs
+    → (s : State) × IsKept k s × (256 ≤ length s.parts.values)
+unfolding kept_state
+full_stack k xs h e l = (kept_state k, kept_kept k h, omega (arith, l, ap (λ ys. length ys) e))
+
+pub empty_stack : (k : Forth83) (xs : List ℕ) → IsRecord k → xs ≡ slice_range k.values k.values_top 256 → first_of xs ≡ None
+    → (s : State) × IsKept k s × (s.parts.values ≡ [])
+unfolding kept_state
+empty_stack k xs h e l = (kept_state k, kept_kept k h, sym e ∙ none_first xs l)

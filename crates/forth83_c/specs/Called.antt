@@ -1,5 +1,5 @@
 -- What calls answer and leave.
-use Rattle.std.specs.Prelude.{◌≡◌, ◌≤◌, ◌-◌, ℕ, List, ◌∷◌, length, take, drop, None, Some, true}
+use Rattle.std.specs.Prelude.{◌≡◌, ◌≢◌, ◌≤◌, ◌-◌, ◌<◌, ℕ, List, [], ◌∷◌, length, take, drop, None, Some, IsSome, true, false}
 use Rattle.inner_interpreter.specs.Answer.{Reply, answer_of, asked_by, asked_page, is_answer}
 use Rattle.image_loader.specs.Files.{IsWritten}
 use Rattle.inner_interpreter.specs.Entering.{can_save, entered, saved, with_parts}
@@ -12,7 +12,7 @@ use Rattle.forth83_c.specs.declared.status.Status.TheVariants as status
 use Rattle.forth83_c.specs.declared.stop.Stop.{Stop}
 use Rattle.forth83_c.specs.declared.stop.Stop.TheVariants as stop
 use Rattle.forth83_c.specs.Driven.{IsDriven, HasStopped}
-use Rattle.forth83_c.specs.Kept.{IsKept}
+use Rattle.forth83_c.specs.Kept.{IsKept, IsRecord}
 
 -- the numbers of the header
 abbrev pub code_of : Status → ℕ
@@ -38,6 +38,55 @@ stop_code stop.Limit = 1
 stop_code stop.Room = 2
 stop_code stop.Typed = 3
 stop_code stop.Block = 4
+
+-- by this number of the header no machine is told exactly where the record is none
+abbrev pub TellsMachine : Forth83 → (code : ℕ) → Type 0
+TellsMachine k code = (code ≡ 1 → ¬ IsRecord k) × (code ≢ 1 → IsRecord k)
+
+-- why a call does nothing to a state, by the status that it answers then: the answer isn't taken
+abbrev pub WhyNotAnswered : Reply → State → Status → Type 0
+WhyNotAnswered reply s status.Halted = IsSome s.halt
+WhyNotAnswered reply s status.NotAsked = (s.halt ≡ None) × (is_answer (asked_by s.wait) reply ≡ false)
+WhyNotAnswered reply s _ = ⊥
+
+-- no word is entered
+abbrev pub WhyNotEntered : State → Status → Type 0
+WhyNotEntered s status.Halted = IsSome s.halt
+WhyNotEntered s status.Waiting = (s.halt ≡ None) × IsSome s.wait
+WhyNotEntered s _ = ⊥
+
+-- no page is asked to be kept
+abbrev pub WhyNoPage : State → Status → Type 0
+WhyNoPage s status.NotAsked = asked_page s ≡ None
+WhyNoPage s _ = ⊥
+
+-- the stack is full
+abbrev pub WhyNotPushed : State → Status → Type 0
+WhyNotPushed s status.Stack = 256 ≤ length s.parts.values
+WhyNotPushed s _ = ⊥
+
+-- it is empty
+abbrev pub WhyNotPopped : State → Status → Type 0
+WhyNotPopped s status.Stack = s.parts.values ≡ []
+WhyNotPopped s _ = ⊥
+
+-- HERE is no size of an image, or its file has more bytes than there is room for
+abbrev pub WhyNotSaved : (entry room : ℕ) → State → Status → Type 0
+WhyNotSaved entry room s status.BadSize = can_save s.parts ≡ false
+WhyNotSaved entry room s status.ShortRoom = (bytes : List ℕ) × IsWritten bytes (saved s.parts entry) × (room < length bytes)
+WhyNotSaved entry room s _ = ⊥
+
+-- what a status says of the record that a call was lent: it is no machine's; or it is one, and the call was done or memory
+-- was refused; or it keeps a state to which the call does nothing
+abbrev pub Tells : (State → Status → Type 0) → Forth83 → Status → Type 0
+Tells Why k status.NoMachine = ¬ IsRecord k
+Tells Why k status.OutOfMemory = IsRecord k
+Tells Why k status.Done = IsRecord k
+Tells Why k other = (s : State) × IsKept k s × Why s other
+
+-- the same of the status' number
+abbrev pub TellsByCode : (State → Status → Type 0) → Forth83 → (code : ℕ) → Type 0
+TellsByCode Why k code = (status : Status) × (code ≡ code_of status) × Tells Why k status
 
 -- the machine that the record kept was driven to that which it keeps now, by the typed bytes and for at most `limit` ticks;
 -- `end` tells how many of them were read, how many bytes shown, how many ticks left, and why it ended there

@@ -1,12 +1,15 @@
 -- A machine's state, as a record keeps it.
-use Rattle.std.specs.Prelude.{◌≡◌, ℕ, ◌<◌, ◌==◌, List, length, Option, Some, None, if◌then◌else◌, slice_range, slice_index_or}
+use Rattle.std.specs.Prelude.{◌≡◌, ℕ, ◌≤◌, ◌==◌, nat_le, List, map, take, Bool, true, ◌&&◌, Option, Some, None, if◌then◌else◌, slice_range}
+use Rattle.std.specs.List.{list_all}
 use Rattle.block_buffers.specs.declared.entry.Entry.{Entry}
-use Rattle.block_buffers.specs.Entries.{entry_at}
+use Rattle.block_buffers.specs.Entries.{AreBuffers}
 use Rattle.plain_rows.specs.declared.parts.Request.{Request}
 use Rattle.plain_rows.specs.declared.parts.Request.TheVariants.{Key, Line, Read, Write}
 use Rattle.inner_interpreter.specs.declared.act.Cause.{Cause}
 use Rattle.inner_interpreter.specs.declared.act.Cause.TheVariants.{Bye, InputEnded, InputFault, Fault}
 use Rattle.inner_interpreter.specs.State.{State}
+use Rattle.forth83_c.specs.declared.kept.NotResumed.{NotResumed}
+use Rattle.forth83_c.specs.declared.kept.NotResumed.TheVariants.{NoMachine, OutOfMemory}
 use Rattle.forth83_c.specs.declared.record.Forth83.{Forth83}
 use Rattle.forth83_c.specs.declared.record.Forth83Buffer.{Forth83Buffer}
 
@@ -32,26 +35,48 @@ halt_of halts fault =
     else if halts == 4 then Some (Fault fault)
     else None
 
-abbrev pub no_buffer : Forth83Buffer
-no_buffer = record { slot = 0; has_block = 0; block = 0; updated = 0 }
-
 -- the entry that a buffer's record tells
 abbrev pub entry_of : Forth83Buffer → Entry
 entry_of b = record { slot = b.slot; block = marked b.has_block b.block; updated = b.updated == 1 }
 
--- so many buffers are kept, each in its place
-pub record AreKept (kept : List Forth83Buffer) (count : ℕ) (b : List Entry) : Type 0 where
-  pub count_is : length b ≡ count
-  pub each : (i : ℕ) → i < count → entry_at b i ≡ entry_of (slice_index_or kept i no_buffer)
+-- the entries that the first buffers' records tell, as many as there are buffers
+abbrev pub entries_of : List Forth83Buffer → (count : ℕ) → List Entry
+entries_of kept count = map entry_of (take count kept)
 
--- the record keeps just this state
+-- its marks are 0 or 1
+abbrev pub has_marks : Forth83Buffer → Bool
+has_marks b = nat_le b.has_block 1 && nat_le b.updated 1
+
+-- the layout is this one, and each number is such as a machine's is
+pub record HasNumbers (k : Forth83) : Type 0 where
+  pub abi : k.abi ≡ 1
+  pub values : k.values_top ≤ 256
+  pub returns : k.returns_top ≤ 256
+  pub pending : k.has_pending ≤ 1
+  pub asks : k.asks ≤ 4
+  pub halts : k.halts ≤ 4
+  pub count : k.buffer_count ≤ 16
+
+-- the record is a machine's: its numbers are, and its buffers are such as buffers are
+pub record IsRecord (k : Forth83) : Type 0 where
+  pub numbers : HasNumbers k
+  pub marks : list_all has_marks (take k.buffer_count k.buffers) ≡ true
+  pub buffers : AreBuffers (entries_of k.buffers k.buffer_count)
+
+-- the record is a machine's, and keeps just this state
 pub record IsKept (k : Forth83) (s : State) : Type 0 where
+  pub machine : IsRecord k
   pub memory : s.parts.memory ≡ k.memory
   pub values : s.parts.values ≡ slice_range k.values k.values_top 256
   pub returns : s.parts.returns ≡ slice_range k.returns k.returns_top 256
   pub ip : s.parts.ip ≡ k.ip
   pub pending : s.parts.pending ≡ marked k.has_pending k.pending
-  pub buffers : AreKept k.buffers k.buffer_count s.parts.buffers
+  pub buffers : s.parts.buffers ≡ entries_of k.buffers k.buffer_count
   pub block_count : s.parts.block_count ≡ k.block_count
   pub wait : s.wait ≡ wait_of k.asks k.asked k.token
   pub halt : s.halt ≡ halt_of k.halts k.fault
+
+-- why no machine is resumed: the record is none; or memory was refused, and it is one
+abbrev pub IsRefused : Forth83 → NotResumed → Type 0
+IsRefused k NoMachine = ¬ IsRecord k
+IsRefused k OutOfMemory = IsRecord k

@@ -1,9 +1,12 @@
 //! A machine out of its record, and back.
 
-ghost use Rattle.std.specs.Prelude.{◌≡◌, ◌≤◌, length, IfOk, IfSome, IsTrue, slice_range};
-ghost use Rattle.forth83_c.specs.Kept.{marked, wait_of, halt_of, entry_of, AreKept, IsKept};
+ghost use Rattle.std.specs.Prelude.{◌≡◌, ◌≤◌, ◌↔◌, length, map, take, true, IfOk, IfErr, MatchOption, IsTrue, slice_range};
+ghost use Rattle.std.specs.List.{list_all};
+ghost use Rattle.block_buffers.specs.Entries.{AreBuffers};
+ghost use Rattle.forth83_c.specs.Kept.{marked, wait_of, halt_of, entry_of, entries_of, has_marks, HasNumbers, IsRecord, IsKept, IsRefused};
 
 use crate::record::{Forth83, Forth83Buffer};
+use arrayvec::ArrayVec;
 use block_buffers::{Buffers, Entry};
 use inner_interpreter::{Cause, Machine};
 use memory::{Memory, OutOfMemory};
@@ -65,7 +68,8 @@ fn entry_of(b: Forth83Buffer) -> Entry
 
 fn buffer_of(entry: Entry) -> Forth83Buffer
     requires { entry.slot ≤ 65535 }
-    ensures { entry_of result ≡ entry }
+    ensures entry { entry_of result ≡ entry }
+    ensures marks { has_marks result ≡ true }
 {
     let (has_block, block) = match entry.block {
         Some(block) => (1, block),
@@ -90,100 +94,66 @@ pub fn stack_of(cells: &[u16; 257], top: u16) -> Stack
     }
 }
 
-/// Gives each slot the block of its own number, so that references can bring the slots into any order.
-fn number_slots(buffers: &mut Buffers)
-    ensures { length buffers.new ≡ length buffers.old }
+/// Whether each number of a record is such as a machine's is.
+fn has_numbers(kept: &Forth83) -> bool
+    ensures { IsTrue result ↔ HasNumbers kept.now }
 {
-    for _ in 0..buffers.count() {
-        let slot = buffers.victim().slot;
-        buffers.assign(slot as u16);
-    }
+    let tops = kept.values_top <= 256 && kept.returns_top <= 256;
+    let marks = kept.has_pending <= 1 && kept.asks <= 4 && kept.halts <= 4;
+    kept.abi == ABI && tops && marks && kept.buffer_count <= 16
 }
 
-/// Refers to the slots of those kept buffers that have a block, or of those that have none, the last one first.
-fn refer(buffers: &mut Buffers, kept: &[Forth83Buffer; 16], has_block: u16)
-    ensures { length buffers.new ≡ length buffers.old }
+/// Whether the marks of all these buffers are 0 or 1.
+fn have_marks(buffers: &[Forth83Buffer]) -> bool
+    ensures { result ≡ list_all has_marks buffers.now }
 {
-    let mut left = usize::from(buffers.count());
-    while left > 0 {
-        left -= 1;
-        let b = kept[left];
-        if b.has_block == has_block && buffers.find(b.slot).is_some() {
-            buffers.touch(b.slot);
-        }
-    }
+    buffers.iter().all(|b| b.has_block <= 1 && b.updated <= 1)
 }
 
-/// Gives the blocks to their buffers, the one referenced last at the end.
-fn give_blocks(buffers: &mut Buffers, kept: &[Forth83Buffer; 16])
-    ensures { length buffers.new ≡ length buffers.old }
+/// The entries that the buffers' records tell.
+fn entries_of(buffers: &[Forth83Buffer]) -> ArrayVec<Entry, 16>
+    requires { length buffers.now ≤ 16 }
+    ensures { result.items ≡ map entry_of buffers.now }
 {
-    let mut left = usize::from(buffers.count());
-    while left > 0 {
-        left -= 1;
-        let b = kept[left];
-        if b.has_block == 1 {
-            buffers.assign(b.block);
-            if b.updated == 1 {
-                buffers.mark_front();
-            }
-        }
+    let mut entries = ArrayVec::new();
+    for buffer in buffers {
+        entries.push(entry_of(*buffer));
     }
+    entries
 }
 
-/// Whether just this buffer is kept.
-fn is_kept(entry: Entry, kept: Forth83Buffer) -> bool
-    ensures { IsTrue result → entry ≡ entry_of kept }
+/// The buffers that a record keeps; `None` where it is no machine's.
+fn buffers_of(kept: &Forth83) -> Option<Buffers>
+    ensures { MatchOption result (¬ IsRecord kept.now)
+        (λ b. IsRecord kept.now × (b ≡ entries_of kept.now.buffers kept.now.buffer_count)) }
 {
-    let wanted = entry_of(kept);
-    kept.has_block <= 1
-        && kept.updated <= 1
-        && entry.slot == wanted.slot
-        && entry.block == wanted.block
-        && entry.updated == wanted.updated
-}
-
-/// Whether just these buffers are kept.
-fn are_kept(buffers: &Buffers, kept: &[Forth83Buffer; 16], count: u16) -> bool
-    ensures { IsTrue result → AreKept kept.now count buffers.now }
-{
-    if buffers.count() != count {
-        return false;
-    }
-    for place in 0..usize::from(count) {
-        if !is_kept(buffers.entry(place), kept[place]) {
-            return false;
-        }
-    }
-    true
-}
-
-/// The buffers that are kept; none where there can't be such.
-fn buffers_of(kept: &[Forth83Buffer; 16], count: u16) -> Option<Buffers>
-    ensures { IfSome result (λ b. AreKept kept.now count b) }
-{
-    if count < 2 || count > 16 {
+    if !has_numbers(kept) {
         return None;
     }
-    let mut buffers = Buffers::new(count);
-    number_slots(&mut buffers);
-    refer(&mut buffers, kept, 1);
-    refer(&mut buffers, kept, 0);
-    buffers.unassign_all();
-    give_blocks(&mut buffers, kept);
-    if are_kept(&buffers, kept, count) {
-        Some(buffers)
-    } else {
-        None
+    let buffers = &kept.buffers[..usize::from(kept.buffer_count)];
+    if !have_marks(buffers) {
+        return None;
     }
+    let entries = entries_of(buffers);
+    Buffers::from_entries(entries.as_slice())
+}
+
+/// Whether a record is a machine's.
+pub fn is_record(kept: &Forth83) -> bool
+    ensures { IsTrue result ↔ IsRecord kept.now }
+{
+    buffers_of(kept).is_some()
 }
 
 /// Keeps these buffers.
 fn keep_buffers(buffers: &Buffers, kept: &mut [Forth83Buffer; 16])
-    ensures { AreKept kept.new (length buffers.now) buffers.now }
+    ensures entries { entries_of kept.new (length buffers.now) ≡ buffers.now }
+    ensures marks { list_all has_marks (take (length buffers.now) kept.new) ≡ true }
+    ensures sound { AreBuffers buffers.now }
 {
-    for place in 0..usize::from(buffers.count()) {
-        let entry = buffers.entry(place);
+    let entries = buffers.entries();
+    for place in 0..entries.as_slice().len() {
+        let entry = entries.as_slice()[place];
         kept[place] = buffer_of(entry);
     }
 }
@@ -196,14 +166,12 @@ fn memory_of(alloc: Global, bytes: &[u8; 65536]) -> Result<Memory, OutOfMemory>
     Memory::with_front(alloc, bytes)
 }
 
-/// The machine that a record keeps. `NoMachine` where its numbers are none that a machine has.
+/// The machine that a record keeps; `NoMachine` exactly where the record is none.
 pub fn resume(alloc: Global, kept: &Forth83) -> Result<Machine, NotResumed>
-    ensures { IfOk result (λ m. IsKept kept.now m) }
+    ensures machine { IfOk result (λ m. IsKept kept.now m) }
+    ensures refused { IfErr result (IsRefused kept.now) }
 {
-    if !is_record(kept) {
-        return Err(NotResumed::NoMachine);
-    }
-    let Some(buffers) = buffers_of(&kept.buffers, kept.buffer_count) else {
+    let Some(buffers) = buffers_of(kept) else {
         return Err(NotResumed::NoMachine);
     };
     let limit = buffers.limit();
@@ -229,20 +197,9 @@ pub fn resume(alloc: Global, kept: &Forth83) -> Result<Machine, NotResumed>
     }
 }
 
-/// Whether the numbers of a record are such as a machine's are.
-fn is_record(kept: &Forth83) -> bool
-    ensures { IsTrue result → (kept.now.values_top ≤ 256) × (kept.now.returns_top ≤ 256) }
-{
-    kept.abi == ABI
-        && kept.values_top <= 256
-        && kept.returns_top <= 256
-        && kept.has_pending <= 1
-        && kept.asks <= 4
-        && kept.halts <= 4
-}
-
 fn wait_told(wait: Option<(Request, u16)>) -> (u16, u16, u16)
-    ensures { wait_of result.0 result.1 result.2 ≡ wait }
+    ensures wait { wait_of result.0 result.1 result.2 ≡ wait }
+    ensures most { result.0 ≤ 4 }
 {
     match wait {
         None => (0, 0, 0),
@@ -254,7 +211,8 @@ fn wait_told(wait: Option<(Request, u16)>) -> (u16, u16, u16)
 }
 
 fn halt_told(halt: Option<Cause>) -> (u16, u16)
-    ensures { halt_of result.0 result.1 ≡ halt }
+    ensures halt { halt_of result.0 result.1 ≡ halt }
+    ensures most { result.0 ≤ 4 }
 {
     match halt {
         None => (0, 0),
@@ -266,7 +224,8 @@ fn halt_told(halt: Option<Cause>) -> (u16, u16)
 }
 
 fn marked_told(x: Option<u16>) -> (u16, u16)
-    ensures { marked result.0 result.1 ≡ x }
+    ensures value { marked result.0 result.1 ≡ x }
+    ensures most { result.0 ≤ 1 }
 {
     match x {
         None => (0, 0),

@@ -11,11 +11,11 @@ mod showing;
 mod status;
 mod stop;
 
-ghost use Rattle.std.specs.Prelude.{◌≡◌, ◌≢◌, ◌<◌, ◌⊎◌, length, take};
+ghost use Rattle.std.specs.Prelude.{◌≡◌, ◌≢◌, ◌<◌, ◌≤◌, ◌⊎◌, length, take};
 ghost use Rattle.image_loader.specs.Files.{Contents, IsFile, IsCutShort, IsFollowed, HasBadMagic, HasBadVersion, HasBadBuffers, HasBadSize};
 ghost use Rattle.inner_interpreter.specs.State.{start};
 ghost use Rattle.inner_interpreter.specs.Answer.{InputEnd, ReadFault, ReadOk, WriteFault, WriteOk};
-ghost use Rattle.forth83_c.specs.Called.{AsksPage, HasAnswered, HasEntered, HasPopped, HasPushed, HasRun, HasSaved};
+ghost use Rattle.forth83_c.specs.Called.{AsksPage, HasAnswered, HasEntered, HasPopped, HasPushed, HasRun, HasSaved, TellsByCode, TellsMachine, WhyNotAnswered, WhyNotEntered, WhyNoPage, WhyNotPushed, WhyNotPopped, WhyNotSaved};
 ghost use Rattle.forth83_c.specs.Kept.{IsKept};
 
 use inner_interpreter::Answer;
@@ -71,6 +71,7 @@ pub extern "C" fn forth83_run(
     ensures refused { (result ≡ 0) ⊎ ((result ≡ 1) ⊎ ((result ≡ 2) ⊎ (result ≡ 3))) }
     ensures room { length shown.old < 65536 → result ≡ 3 }
     ensures roomy { result ≡ 3 → length shown.old < 65536 }
+    ensures no_machine { 65536 ≤ length shown.old → TellsMachine machine.old result }
     ensures stays { result ≢ 0 → machine.new ≡ machine.old }
     ensures silent { result ≢ 0 → shown.new ≡ shown.old }
     ensures untold { result ≢ 0 → end.new ≡ end.old }
@@ -84,6 +85,8 @@ pub extern "C" fn forth83_run(
 pub extern "C" fn forth83_read(alloc: Global, machine: &mut Forth83, page: &[u8]) -> u32
     ensures answered { result ≡ 0 → HasAnswered machine.old machine.new (ReadOk page.now) }
     ensures size { length page.now ≢ 1024 → result ≡ 13 }
+    ensures no_machine { length page.now ≡ 1024 → TellsMachine machine.old result }
+    ensures why { length page.now ≡ 1024 → TellsByCode (WhyNotAnswered (ReadOk page.now)) machine.old result }
     ensures stays { result ≢ 0 → machine.new ≡ machine.old }
 {
     if page.len() != 1024 {
@@ -99,6 +102,8 @@ pub extern "C" fn forth83_read(alloc: Global, machine: &mut Forth83, page: &[u8]
 #[tactic(auto, using(crate::proofs::Codes::code_zero))]
 pub extern "C" fn forth83_written(alloc: Global, machine: &mut Forth83) -> u32
     ensures answered { result ≡ 0 → HasAnswered machine.old machine.new WriteOk }
+    ensures no_machine { TellsMachine machine.old result }
+    ensures why { TellsByCode (WhyNotAnswered WriteOk) machine.old result }
     ensures stays { result ≢ 0 → machine.new ≡ machine.old }
 {
     running::answer(alloc, machine, Answer::WriteOk).code()
@@ -109,6 +114,8 @@ pub extern "C" fn forth83_written(alloc: Global, machine: &mut Forth83) -> u32
 #[tactic(auto, using(crate::proofs::Codes::code_zero))]
 pub extern "C" fn forth83_ended(alloc: Global, machine: &mut Forth83) -> u32
     ensures answered { result ≡ 0 → HasAnswered machine.old machine.new InputEnd }
+    ensures no_machine { TellsMachine machine.old result }
+    ensures why { TellsByCode (WhyNotAnswered InputEnd) machine.old result }
     ensures stays { result ≢ 0 → machine.new ≡ machine.old }
 {
     running::answer(alloc, machine, Answer::InputEnd).code()
@@ -120,6 +127,9 @@ pub extern "C" fn forth83_ended(alloc: Global, machine: &mut Forth83) -> u32
 pub extern "C" fn forth83_failed(alloc: Global, machine: &mut Forth83) -> u32
     ensures read { result ≡ 0 → machine.old.asks ≢ 4 → HasAnswered machine.old machine.new ReadFault }
     ensures write { result ≡ 0 → machine.old.asks ≡ 4 → HasAnswered machine.old machine.new WriteFault }
+    ensures no_machine { TellsMachine machine.old result }
+    ensures why_read { machine.old.asks ≢ 4 → TellsByCode (WhyNotAnswered ReadFault) machine.old result }
+    ensures why_write { machine.old.asks ≡ 4 → TellsByCode (WhyNotAnswered WriteFault) machine.old result }
     ensures stays { result ≢ 0 → machine.new ≡ machine.old }
 {
     if machine.asks == 4 {
@@ -134,6 +144,8 @@ pub extern "C" fn forth83_failed(alloc: Global, machine: &mut Forth83) -> u32
 pub extern "C" fn forth83_page(alloc: Global, machine: &Forth83, page: &mut [u8]) -> u32
     ensures asks { result ≡ 0 → AsksPage machine.now page.new }
     ensures size { length page.old ≢ 1024 → result ≡ 13 }
+    ensures no_machine { length page.old ≡ 1024 → TellsMachine machine.now result }
+    ensures why { length page.old ≡ 1024 → TellsByCode WhyNoPage machine.now result }
     ensures stays { result ≢ 0 → page.new ≡ page.old }
 {
     running::asked_page(alloc, machine, page).code()
@@ -144,6 +156,8 @@ pub extern "C" fn forth83_page(alloc: Global, machine: &Forth83, page: &mut [u8]
 #[tactic(auto, using(crate::proofs::Codes::code_zero))]
 pub extern "C" fn forth83_enter(alloc: Global, machine: &mut Forth83, word: u16) -> u32
     ensures entered { result ≡ 0 → HasEntered machine.old machine.new word }
+    ensures no_machine { TellsMachine machine.old result }
+    ensures why { TellsByCode WhyNotEntered machine.old result }
     ensures stays { result ≢ 0 → machine.new ≡ machine.old }
 {
     running::enter(alloc, machine, word).code()
@@ -155,6 +169,8 @@ pub extern "C" fn forth83_enter(alloc: Global, machine: &mut Forth83, word: u16)
 pub extern "C" fn forth83_push(machine: &mut Forth83, x: u16) -> u32
     ensures pushed { result ≡ 0 → HasPushed machine.old machine.new x }
     ensures waiting { machine.old.asks ≢ 0 → result ≡ 11 }
+    ensures no_machine { machine.old.asks ≡ 0 → TellsMachine machine.old result }
+    ensures why { machine.old.asks ≡ 0 → TellsByCode WhyNotPushed machine.old result }
     ensures stays { result ≢ 0 → machine.new ≡ machine.old }
 {
     running::push(machine, x).code()
@@ -166,6 +182,8 @@ pub extern "C" fn forth83_push(machine: &mut Forth83, x: u16) -> u32
 pub extern "C" fn forth83_pop(machine: &mut Forth83, x: &mut u16) -> u32
     ensures popped { result ≡ 0 → HasPopped machine.old machine.new x.new }
     ensures waiting { machine.old.asks ≢ 0 → result ≡ 11 }
+    ensures no_machine { machine.old.asks ≡ 0 → TellsMachine machine.old result }
+    ensures why { machine.old.asks ≡ 0 → TellsByCode WhyNotPopped machine.old result }
     ensures stays { result ≢ 0 → machine.new ≡ machine.old }
     ensures untold { result ≢ 0 → x.new ≡ x.old }
 {
@@ -184,6 +202,8 @@ pub extern "C" fn forth83_save(
     size: &mut usize,
 ) -> u32
     ensures saved { result ≡ 0 → HasSaved machine.now entry (take size.new file.new) }
+    ensures no_machine { TellsMachine machine.now result }
+    ensures why { TellsByCode (WhyNotSaved entry (length file.old)) machine.now result }
     ensures stays { result ≢ 0 → file.new ≡ file.old }
     ensures untold { result ≢ 0 → size.new ≡ size.old }
 {

@@ -1,15 +1,15 @@
 //! Loading and running of a machine that is kept.
 
-ghost use Rattle.std.specs.Prelude.{◌≡◌, ◌≢◌, ◌<◌, ◌⊎◌, length, take};
+ghost use Rattle.std.specs.Prelude.{◌≡◌, ◌≢◌, ◌<◌, ◌≤◌, ◌⊎◌, length, take};
 ghost use Rattle.image_loader.specs.Files.{Contents, IsFile, IsCutShort, IsFollowed, HasBadMagic, HasBadVersion, HasBadBuffers, HasBadSize};
 ghost use Rattle.inner_interpreter.specs.State.{start};
 ghost use Rattle.forth83_c.specs.declared.status.Status.TheVariants as status;
 ghost use Rattle.inner_interpreter.specs.Answer.{seen};
-ghost use Rattle.forth83_c.specs.Called.{AsksPage, HasAnswered, HasEntered, HasPopped, HasPushed, HasRun, HasSaved};
+ghost use Rattle.forth83_c.specs.Called.{AsksPage, HasAnswered, HasEntered, HasPopped, HasPushed, HasRun, HasSaved, Tells, TellsMachine, WhyNotAnswered, WhyNotEntered, WhyNoPage, WhyNotPushed, WhyNotPopped, WhyNotSaved, code_of};
 ghost use Rattle.forth83_c.specs.Kept.{IsKept};
 
 use crate::driving::drive;
-use crate::kept::{NotResumed, keep, keep_stack, resume, stack_of};
+use crate::kept::{NotResumed, is_record, keep, keep_stack, resume, stack_of};
 use crate::record::{Forth83, Forth83End};
 use crate::showing::{ROOM, put};
 use crate::status::Status;
@@ -64,6 +64,7 @@ pub fn run(
         ((result ≡ status.OutOfMemory) ⊎ (result ≡ status.ShortRoom))) }
     ensures room { length shown.old < 65536 → result ≡ status.ShortRoom }
     ensures roomy { result ≡ status.ShortRoom → length shown.old < 65536 }
+    ensures no_machine { 65536 ≤ length shown.old → TellsMachine kept.old (code_of result) }
     ensures stays { result ≢ status.Done → kept.new ≡ kept.old }
     ensures silent { result ≢ status.Done → shown.new ≡ shown.old }
     ensures untold { result ≢ status.Done → end.new ≡ end.old }
@@ -92,6 +93,8 @@ pub fn run(
 /// Answers what the machine of a record asks.
 pub fn answer(alloc: Global, kept: &mut Forth83, answer: Answer<'_>) -> Status
     ensures answered { result ≡ status.Done → HasAnswered kept.old kept.new (seen answer.entry) }
+    ensures no_machine { TellsMachine kept.old (code_of result) }
+    ensures why { Tells (WhyNotAnswered (seen answer.entry)) kept.old result }
     ensures stays { result ≢ status.Done → kept.new ≡ kept.old }
 {
     match resume(alloc, kept) {
@@ -116,6 +119,8 @@ pub fn answer(alloc: Global, kept: &mut Forth83, answer: Answer<'_>) -> Status
 /// Enters a word.
 pub fn enter(alloc: Global, kept: &mut Forth83, word: u16) -> Status
     ensures entered { result ≡ status.Done → HasEntered kept.old kept.new word }
+    ensures no_machine { TellsMachine kept.old (code_of result) }
+    ensures why { Tells WhyNotEntered kept.old result }
     ensures stays { result ≢ status.Done → kept.new ≡ kept.old }
 {
     match resume(alloc, kept) {
@@ -145,6 +150,8 @@ pub fn enter(alloc: Global, kept: &mut Forth83, word: u16) -> Status
 pub fn asked_page(alloc: Global, kept: &Forth83, page: &mut [u8]) -> Status
     ensures asks { result ≡ status.Done → AsksPage kept.now page.new }
     ensures size { length page.old ≢ 1024 → result ≡ status.BadPage }
+    ensures no_machine { length page.old ≡ 1024 → TellsMachine kept.now (code_of result) }
+    ensures why { length page.old ≡ 1024 → Tells WhyNoPage kept.now result }
     ensures stays { result ≢ status.Done → page.new ≡ page.old }
 {
     if page.len() != 1024 {
@@ -167,12 +174,14 @@ pub fn asked_page(alloc: Global, kept: &Forth83, page: &mut [u8]) -> Status
 pub fn push(kept: &mut Forth83, x: u16) -> Status
     ensures pushed { result ≡ status.Done → HasPushed kept.old kept.new x }
     ensures waiting { kept.old.asks ≢ 0 → result ≡ status.Waiting }
+    ensures no_machine { kept.old.asks ≡ 0 → TellsMachine kept.old (code_of result) }
+    ensures why { kept.old.asks ≡ 0 → Tells WhyNotPushed kept.old result }
     ensures stays { result ≢ status.Done → kept.new ≡ kept.old }
 {
     if kept.asks != 0 {
         return Status::Waiting;
     }
-    if kept.values_top > 256 {
+    if !is_record(kept) {
         return Status::NoMachine;
     }
     let mut stack = stack_of(&kept.values, kept.values_top);
@@ -190,13 +199,15 @@ pub fn push(kept: &mut Forth83, x: u16) -> Status
 pub fn pop(kept: &mut Forth83, x: &mut u16) -> Status
     ensures popped { result ≡ status.Done → HasPopped kept.old kept.new x.new }
     ensures waiting { kept.old.asks ≢ 0 → result ≡ status.Waiting }
+    ensures no_machine { kept.old.asks ≡ 0 → TellsMachine kept.old (code_of result) }
+    ensures why { kept.old.asks ≡ 0 → Tells WhyNotPopped kept.old result }
     ensures stays { result ≢ status.Done → kept.new ≡ kept.old }
     ensures untold { result ≢ status.Done → x.new ≡ x.old }
 {
     if kept.asks != 0 {
         return Status::Waiting;
     }
-    if kept.values_top > 256 {
+    if !is_record(kept) {
         return Status::NoMachine;
     }
     let mut stack = stack_of(&kept.values, kept.values_top);
@@ -214,6 +225,8 @@ pub fn pop(kept: &mut Forth83, x: &mut u16) -> Status
 /// Puts the file of the image that the machine of a record is saved as into `file`, and how many bytes it has into `size`.
 pub fn save(alloc: Global, kept: &Forth83, entry: u16, file: &mut [u8], size: &mut usize) -> Status
     ensures saved { result ≡ status.Done → HasSaved kept.now entry (take size.new file.new) }
+    ensures no_machine { TellsMachine kept.now (code_of result) }
+    ensures why { Tells (WhyNotSaved entry (length file.old)) kept.now result }
     ensures stays { result ≢ status.Done → file.new ≡ file.old }
     ensures untold { result ≢ status.Done → size.new ≡ size.old }
 {

@@ -1,7 +1,7 @@
 use crate::assertions::assert_equal;
 use block_buffers::{
-    BLOCK_SIZE, Buffers, Device, DeviceFault, LINE_SIZE, MemoryDevice, delete_line, insert_line,
-    put_line, screen_line, wipe,
+    BLOCK_SIZE, Buffers, Device, DeviceFault, Entry, LINE_SIZE, MemoryDevice, delete_line,
+    insert_line, put_line, screen_line, wipe,
 };
 use std::test::Fail;
 
@@ -117,4 +117,45 @@ fn updated_victim_is_written_and_given_away(rt: HostRuntime) {
     );
     buffers.assign(5);
     assert_equal(&rt, (buffers.find(5), buffers.find(1)), (Some(0), None));
+}
+
+/// Slots 2, 0 and 1: block 7, updated; no block; block 65,535.
+fn told() -> [Entry; 3] {
+    let mut entries = [Entry::default(); 3];
+    entries[0] = Entry {
+        slot: 2,
+        block: Some(7),
+        updated: true,
+    };
+    entries[2] = Entry {
+        slot: 1,
+        block: Some(65535),
+        updated: false,
+    };
+    entries
+}
+
+#[test]
+fn buffers_are_made_of_entries(rt: HostRuntime) {
+    let mut found = (None, None, 0);
+    let mut again = false;
+    if let Some(buffers) = Buffers::from_entries(&told()) {
+        again = buffers.entries().as_slice() == told().as_slice();
+        let mut buffers = buffers;
+        // Slot 1 is the victim, and then slot 0.
+        buffers.assign(9);
+        found = (buffers.find(9), buffers.find(65535), buffers.victim().slot);
+    }
+    assert!(rt; again);
+    assert_equal(&rt, found, (Some(1), None, 0));
+    let mut wrong = told();
+    wrong[1].slot = 1;
+    let twice = Buffers::from_entries(&wrong).is_none();
+    wrong[1].slot = 3;
+    let high = Buffers::from_entries(&wrong).is_none();
+    wrong[1].slot = 0;
+    wrong[1].updated = true;
+    let marked = Buffers::from_entries(&wrong).is_none();
+    let few = Buffers::from_entries(&told()[1..2]).is_none();
+    assert_equal(&rt, (twice, high, marked, few), (true, true, true, true));
 }

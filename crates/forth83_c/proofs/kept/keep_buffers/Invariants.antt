@@ -1,10 +1,12 @@
-use Rattle.std.proofs.Common.{◌≡◌, ◌<◌, ℕ, length}
-use Rattle.std.specs.Prelude.{slice_index_or}
-use Rattle.block_buffers.specs.Entries.{entry_at}
-use Rattle.forth83_c.specs.Kept.{entry_of, no_buffer}
+use Rattle.std.proofs.Common.{◌≡◌, map, take, length, true}
+use Rattle.std.specs.List.{list_all}
+use Rattle.forth83_c.specs.Kept.{entry_of, has_marks}
 use Rattle.forth83_c.proofs.kept.keep_buffers.Given as goal
 
 -- those so far are kept
 abbrev pub invariant-loop-place : goal.invariant-loop-place
-invariant-loop-place l =
-    (length l.kept ≡ 16) × ((i : ℕ) → i < l.place → entry_at l.buffers i ≡ entry_of (slice_index_or l.kept i no_buffer))
+invariant-loop-place l = record {
+  all : length l.kept ≡ 16;
+  entries : map entry_of (take l.place l.kept) ≡ take l.place l.entries.items;
+  marks : list_all has_marks (take l.place l.kept) ≡ true;
+}
