@@ -1,21 +1,19 @@
 -- The words of a screen with one definition.
-use Rattle.std.proofs.Common.{◌≡◌, ◌≤◌, ◌<◌, ◌+◌, ℕ, List, [], ◌∷◌, ◌++◌, codes, replicate, length, Option, Some, None, refl, ap, ◌∙◌, arith, Bool, true, false, if◌then◌else◌}
+use Rattle.std.proofs.Common.{◌≡◌, ◌≤◌, ◌+◌, ℕ, List, [], ◌∷◌, codes, Some, None, refl, ap, ◌∙◌, arith, Bool, true, false, if◌then◌else◌}
 use Rattle.memory.specs.Bytes.{cell}
 use Rattle.memory.specs.declared.system.TheConstants.{CURRENT, DP}
-use Rattle.dictionary.specs.Header.{is_immediate, compilation_address}
+use Rattle.dictionary.specs.Header.{compilation_address}
 use Rattle.dictionary.specs.Search.{Found, sought_from}
-use Rattle.colon_bodies.specs.Tokens.{Token, NAME, SEMI}
+use Rattle.colon_bodies.specs.Tokens.{NAME, SEMI}
 use Rattle.colon_bodies.specs.declared.words.Half.TheVariants.{Free}
 use Rattle.source_words.specs.Modes.{begins_body, begins_comment, ends_body, names_in_body, names_outside, takes_text}
 use Rattle.source_words.specs.Words.{SourceWord, source_words, words_of_screens, screen_words, words_from, is_comment, has_text, size_of, word_of, name_of, before}
-use Rattle.std.specs.List.{position_or_len}
-use Rattle.std.specs.Str.{bytes_eq}
 use Rattle.image_builder.specs.Places.{Plain, Figure, Wide}
-use Rattle.image_builder.specs.Spelled.{choosing, counting, ending, figure_of, keyword, naming, repeating, saying, sense_of_word, text_of}
+use Rattle.image_builder.specs.Spelled.{choosing, counting, ending, figure_of, keyword, naming, repeating, saying, sense_of_word}
 use Rattle.number_text.specs.Numbers.{is_double, is_number}
-use Rattle.metacompiler.specs.Meaning.{Means, named_token, token_as, token_of}
+use Rattle.metacompiler.specs.Meaning.{named_token, token_as, token_of}
 use Rattle.metacompiler.specs.Sample.{IsCalled, square, square_screen}
-use Rattle.metacompiler.specs.Sources.{AreDefined, Defines, IsFree}
+use Rattle.metacompiler.specs.Sources.{AreDefined}
 
 plain : (screen offset : ℕ) (name : List ℕ) → SourceWord
 plain screen offset name = record { screen = screen; offset = offset; name = name; text = None }

@@ -3,7 +3,7 @@ use Rattle.std.proofs.Common.{◌≡◌, ℕ, ◌+◌, ◌<◌, ◌≤◌, ◌�
 use Rattle.std.proofs.lemmas.Bool.{cases_lt}
 use Rattle.std.specs.Prelude.{true}
 use Rattle.plain_rows.specs.Whole.{Whole}
-use Rattle.plain_rows.specs.Row.{After, fault}
+use Rattle.plain_rows.specs.Row.{fault}
 use Rattle.plain_rows.specs.Table.{row_in, control_rows, control, stack_rows, stack, cell_rows, cells, double_rows, doubles, memory_rows, memory}
 use Rattle.plain_rows.specs.declared.faults.TheConstants.{UNKNOWN_CODE}
 use Rattle.plain_rows.proofs.Tables.{lacks_before, lacks_behind}

@@ -1,5 +1,5 @@
 -- The groups of the table: where a number's row stands, and which numbers each group has.
-use Rattle.std.proofs.Common.{◌≡◌, ℕ, ◌<◌, ◌≤◌, List, Bool, true, false, refl, arith, rules, if◌then◌else◌}
+use Rattle.std.proofs.Common.{◌≡◌, ℕ, ◌<◌, ◌≤◌, Bool, true, false, refl, arith, rules, if◌then◌else◌}
 use Rattle.std.specs.Prelude.{nat_lt}
 use Rattle.plain_rows.specs.Whole.{Whole}
 use Rattle.plain_rows.specs.Row.{After}

@@ -1,6 +1,5 @@
 -- The rows of the other numbers: none answers unknown code.
-use Rattle.std.proofs.Common.{◌≡◌, ◌≢◌, ℕ, Result, Ok, Err, ◌+◌, ◌==◌, ◌<◌, ◌≤◌, List, drop, ◌⊎◌, Bool, true, false, inl, inr, arith, refl, sym, ap, ◌∙◌, subst, rules, if◌then◌else◌}
-use Rattle.std.proofs.lemmas.Bool.{eqb-true, cases_lt}
+use Rattle.std.proofs.Common.{◌≡◌, ◌≢◌, ℕ, Result, Ok, Err, ◌==◌, ◌<◌, List, drop, ◌⊎◌, Bool, true, false, inl, inr, arith, refl, sym, ap, ◌∙◌, rules, if◌then◌else◌}
 use Rattle.dictionary.specs.declared.fault.ForgetFault.{ForgetFault}
 use Rattle.dictionary.specs.declared.fault.ForgetFault.TheVariants.{NameLength, NotFound, ChainTooLong}
 use Rattle.dictionary.specs.Search.{Sought, Found, Nowhere, TooLong}
