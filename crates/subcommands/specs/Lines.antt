@@ -45,6 +45,10 @@ abbrev pub PrintsNoImage : List ℕ → (status : ℕ) → (old new : Option (Li
 PrintsNoImage bytes status old new =
     (fault : ImageFault) → IsNoFile bytes fault → PrintsRefusal (codes "image") (image_cause fault) status old new
 
+-- the bytes are an image's file
+abbrev pub IsOfImage : List ℕ → Type 0
+IsOfImage bytes = (image : Contents) × IsFile bytes image
+
 -- where the bytes are an image's file: of the image
 abbrev pub OfImageFile : List ℕ → (Contents → Type 0) → Type 0
 OfImageFile bytes Of = (image : Contents) → IsFile bytes image → Of image

@@ -1,16 +1,17 @@
 //! `upgrade`.
 
-ghost use Rattle.std.specs.Prelude.{◌≡◌, ◌<◌, ◌⊎◌, false, true, IsNone, IfSome, MatchOption, OnOk};
+ghost use Rattle.std.specs.Prelude.{◌≡◌, ◌↔◌, ◌<◌, IsTrue, false, true, length, IsNone, IfSome, MatchOption, OnOk};
 ghost use Rattle.std.specs.Io.KnownBytes.{Appends};
 ghost use Rattle.inner_interpreter.specs.Ends.{Marks};
 ghost use Rattle.memory.specs.Bytes.{IsCount};
 ghost use Rattle.subcommands.specs.Ends.{IsRefusal};
-ghost use Rattle.subcommands.specs.Lines.{HasRoom, IsTooLarge, IsUpgraded, OfImageFile, PrintsNoImage, PrintsOutOfMemory, PrintsTooLarge, upgrade_line, upgraded};
+ghost use Rattle.subcommands.specs.Lines.{HasRoom, IsOfImage, IsTooLarge, IsUpgraded, OfImageFile, PrintsNoImage, PrintsOutOfMemory, PrintsTooLarge, upgrade_line, upgraded};
 
 use crate::commands::{Ended, end_with, end_with_file, print_out_of_memory, refuse, refuse_image};
 use crate::sends::{end_line, send_decimal, send_numbered};
-use image_loader::{Image, UpgradeFault, upgrade};
+use image_loader::{Image, ImageFault, UpgradeFault, upgrade};
 use inner_interpreter::{EndFault, Output, send_all};
+use memory::limit_of;
 use std::alloc::Global;
 
 /// Sends what is told of an image that was upgraded: `size S buffers N`.
@@ -38,6 +39,45 @@ fn refuse_upgrade<W: Output>(fault: UpgradeFault, writer: &mut W) -> Ended
     match fault {
         UpgradeFault::OutOfMemory => print_out_of_memory(writer),
         UpgradeFault::TooLarge => refuse("image", UpgradeFault::TooLarge, writer),
+    }
+}
+
+/// Whether bytes were refused for want of memory alone: then they are an image's file.
+fn wants_memory(fault: ImageFault) -> bool
+    ensures { IsTrue result ↔ (fault ≡ ImageFault.OutOfMemory) }
+{
+    matches!(fault, ImageFault::OutOfMemory)
+}
+
+/// The size of the image of which these bytes are the file, by what stands before its bytes: sixteen, and fourteen in version 1.
+fn size_in(file: &[u8]) -> usize
+    requires { IsOfImage file.now }
+    ensures { OfImageFile file.now (λ image. result ≡ length image.bytes) }
+{
+    if file[8] == 1 {
+        file.len() - 14
+    } else {
+        file.len() - 16
+    }
+}
+
+/// Prints why an image that no memory was found to read isn't upgraded: it is too large, or for want of memory.
+fn refuse_unread<W: Output>(file: &[u8], buffers: Option<u16>, writer: &mut W) -> Ended
+    requires file { IsOfImage file.now }
+    requires buffers { IfSome buffers (λ count. IsCount count) }
+    ensures too_large { W.failed writer.new ≡ false →
+        OfImageFile file.now (λ old. IsTooLarge old buffers →
+        PrintsTooLarge result.status (W.sent writer.old) (W.sent writer.new)) }
+    ensures out_of_memory { W.failed writer.new ≡ false →
+        OfImageFile file.now (λ old. HasRoom old buffers →
+        PrintsOutOfMemory result.status (W.sent writer.old) (W.sent writer.new)) }
+    ensures cut { W.failed writer.old ≡ false → W.failed writer.new ≡ true → result.status ≡ 5 }
+    ensures status { IsRefusal result.status (W.failed writer.new) }
+    ensures file { IsNone result.file }
+{
+    match buffers {
+        Some(count) if size_in(file) > usize::from(limit_of(count)) => refuse_upgrade(UpgradeFault::TooLarge, writer),
+        _ => refuse_upgrade(UpgradeFault::OutOfMemory, writer),
     }
 }
 
@@ -72,7 +112,7 @@ pub fn do_upgrade<W: Output>(
     requires { IfSome buffers (λ count. IsCount count) }
     ensures status { MatchOption result.file (0 < result.status) (λ _. result.status ≡ 0) }
     // Where the bytes are an image's file, the new one is that of the same entry and bytes; where these reach too far, that
-    // is printed, or that there is no memory to read it; and else that memory ran out.
+    // is printed; and else that memory ran out.
     ensures upgraded { W.failed writer.new ≡ false →
         OfImageFile image.now
         (λ old.
@@ -80,8 +120,7 @@ pub fn do_upgrade<W: Output>(
         (λ file. IsUpgraded file.items (upgraded old buffers) (W.sent writer.old) (W.sent writer.new))) }
     ensures too_large { W.failed writer.new ≡ false →
         OfImageFile image.now (λ old. IsTooLarge old buffers →
-        PrintsTooLarge result.status (W.sent writer.old) (W.sent writer.new) ⊎
-        PrintsOutOfMemory result.status (W.sent writer.old) (W.sent writer.new)) }
+        PrintsTooLarge result.status (W.sent writer.old) (W.sent writer.new)) }
     ensures wanting { W.failed writer.new ≡ false → IsNone result.file →
         OfImageFile image.now (λ old. HasRoom old buffers →
         PrintsOutOfMemory result.status (W.sent writer.old) (W.sent writer.new)) }
@@ -92,6 +131,7 @@ pub fn do_upgrade<W: Output>(
 {
     let image = match image_loader::read(alloc, image) {
         Ok(image) => image,
+        Err(fault) if wants_memory(fault) => return refuse_unread(image, buffers, writer),
         Err(fault) => return refuse_image(fault, writer),
     };
     let count = buffers.unwrap_or(image.buffers());
