@@ -76,7 +76,10 @@ fn refuse_unread<W: Output>(file: &[u8], buffers: Option<u16>, writer: &mut W) -
     ensures file { IsNone result.file }
 {
     match buffers {
-        Some(count) if size_in(file) > usize::from(limit_of(count)) => refuse_upgrade(UpgradeFault::TooLarge, writer),
+        Some(count) if size_in(file) > usize::from(limit_of(count)) => refuse_upgrade(
+            UpgradeFault::TooLarge,
+            writer,
+        ),
         _ => refuse_upgrade(UpgradeFault::OutOfMemory, writer),
     }
 }
