@@ -1,8 +1,12 @@
 -- A record keeps one state.
-use Rattle.std.proofs.Common.{◌≡◌, ℕ, ◌≤◌, List, [], ◌∷◌, None, length, arith, ap, sym, refl, ◌∙◌}
-use Rattle.std.specs.Prelude.{slice_range}
+use Rattle.std.proofs.Common.{◌≡◌, ℕ, ◌≤◌, List, [], ◌∷◌, Bool, true, false, None, length, arith, ap, sym, refl, ◌∙◌}
+use Rattle.std.specs.Prelude.{IsTrue, slice_range}
+use Rattle.memory.specs.Bytes.{cell}
+use Rattle.memory.specs.declared.system.TheConstants.{CONTEXT}
+use Rattle.dictionary.specs.Adding.{is_name}
 use Rattle.dictionary.specs.Header.{compilation_address}
 use Rattle.dictionary.specs.Search.{Sought, Found, sought}
+use Rattle.dictionary.proofs.Unnamed.{name_never}
 use Rattle.stacks.specs.Cells.{first_of}
 use Rattle.plain_rows.specs.Whole.{Whole}
 use Rattle.inner_interpreter.specs.State.{State}
@@ -88,3 +92,12 @@ found_there k m name l h e f = record {
   found = ap (λ n. sought n name) (sym e) ∙ f;
   is = ap (λ n. compilation_address n l) e;
 }
+
+-- what is found has a name
+by_test : (m name : List ℕ) (l : ℕ) (b : Bool) → is_name name ≡ b → sought m name ≡ Found l → IsTrue b
+unfolding sought
+by_test m name l true e f = refl
+by_test m name l false e f = absurd (name_never m name (cell m CONTEXT) l e f)
+
+pub is_named_found : (m name : List ℕ) (l : ℕ) → sought m name ≡ Found l → IsTrue (is_name name)
+is_named_found m name l f = by_test m name l (is_name name) refl f

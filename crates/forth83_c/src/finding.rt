@@ -1,6 +1,7 @@
 //! The search of a name in the memory of a machine that is kept.
 
-ghost use Rattle.std.specs.Prelude.{◌≡◌, ◌≢◌};
+ghost use Rattle.std.specs.Prelude.{◌≡◌, ◌≢◌, IsTrue};
+ghost use Rattle.dictionary.specs.Adding.{is_name};
 ghost use Rattle.forth83_c.specs.declared.status.Status.TheVariants as status;
 ghost use Rattle.forth83_c.specs.Called.{HasFound, Tells, TellsMachine, WhyNotFound, code_of};
 
@@ -15,6 +16,7 @@ use std::alloc::Global;
 #[tactic(auto, using(crate::proofs::Same::found_there))]
 pub fn find(alloc: Global, kept: &Forth83, name: &[u8], word: &mut u16) -> Status
     ensures found { result ≡ status.Done → HasFound kept.now name.now word.new }
+    ensures named { result ≡ status.Done → IsTrue (is_name name.now) }
     ensures no_machine { TellsMachine kept.now (code_of result) }
     ensures why { Tells (WhyNotFound name.now) kept.now result }
     ensures untold { result ≢ status.Done → word.new ≡ word.old }

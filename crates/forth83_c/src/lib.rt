@@ -12,7 +12,8 @@ mod showing;
 mod status;
 mod stop;
 
-ghost use Rattle.std.specs.Prelude.{◌≡◌, ◌≢◌, ◌<◌, ◌≤◌, ◌⊎◌, length, take};
+ghost use Rattle.std.specs.Prelude.{◌≡◌, ◌≢◌, ◌<◌, ◌≤◌, ◌⊎◌, length, take, IsTrue};
+ghost use Rattle.dictionary.specs.Adding.{is_name};
 ghost use Rattle.image_loader.specs.Files.{Contents, IsFile, IsCutShort, IsFollowed, HasBadMagic, HasBadVersion, HasBadBuffers, HasBadSize};
 ghost use Rattle.inner_interpreter.specs.State.{start};
 ghost use Rattle.inner_interpreter.specs.Answer.{InputEnd, ReadFault, ReadOk, WriteFault, WriteOk};
@@ -170,6 +171,11 @@ pub extern "C" fn forth83_enter(alloc: Global, machine: &mut Forth83, word: u16)
 #[tactic(auto, using(crate::proofs::Codes::code_zero))]
 pub extern "C" fn forth83_find(alloc: Global, machine: &Forth83, name: &[u8], word: &mut u16) -> u32
     ensures found { result ≡ 0 → HasFound machine.now name.now word.new }
+
+    // What is found has a name of 1 to 31 bytes.
+    ensures named { result ≡ 0 → IsTrue (is_name name.now) }
+
+    // It isn't found where the search comes to no header, or gives up at a chain that is too long; nothing is told then.
     ensures no_machine { TellsMachine machine.now result }
     ensures why { TellsByCode (WhyNotFound name.now) machine.now result }
     ensures untold { result ≢ 0 → word.new ≡ word.old }
