@@ -36,7 +36,9 @@ enum forth83_status {
   FORTH83_WAITING = 11,       /* the machine waits for an answer */
   FORTH83_NOT_ASKED = 12,     /* what was answered isn't asked */
   FORTH83_BAD_PAGE = 13,      /* the page isn't of FORTH83_PAGE bytes */
-  FORTH83_STACK = 14          /* the stack is full, or empty */
+  FORTH83_STACK = 14,         /* the stack is full, or empty */
+  FORTH83_NOT_FOUND = 15,     /* no word has that name */
+  FORTH83_CHAIN_TOO_LONG = 16 /* more than 32,768 headers in a chain, and the name isn't among these */
 };
 
 /* Why forth83_run ended. */
@@ -118,6 +120,10 @@ uint32_t forth83_failed(forth83 *machine);
 
 /* Answers to FORTH83_STOP_TYPED: nothing is typed any more. The machine halts. */
 uint32_t forth83_ended(forth83 *machine);
+
+/* Puts the compilation address of the word that a name means into word, as FIND does: CONTEXT's vocabulary is searched, and then
+ * FORTH. The name is its bytes: small letters aren't capitals. Nothing in the machine is changed, whatever it asks. */
+uint32_t forth83_find(const forth83 *machine, const uint8_t *name, size_t name_size, uint16_t *word);
 
 /* Enters the word at a compilation address; the next forth83_run goes on with it. The return stack is emptied. */
 uint32_t forth83_enter(forth83 *machine, uint16_t word);

@@ -1,10 +1,11 @@
 /* A test bench: a Forth in a program of C, over an instrument of which the registers are a block.
  *
- *   bench IMAGE < LINES
+ *   bench IMAGE [WORD] < LINES
  *
- * Each line is typed at the Forth, and what it shows goes to standard output. Block 1 is the instrument: reading it takes a
- * measurement, writing it sets the outputs. Other blocks, up to 15, are kept in memory. A line may take a million ticks; one that
- * takes more is broken off, and all is as it was before that line. */
+ * The word, where one is named, comes in place of the image's own first one: a test plan that ends by QUIT, say. Each line is
+ * typed at the Forth, and what it shows goes to standard output. Block 1 is the instrument: reading it takes a measurement,
+ * writing it sets the outputs. Other blocks, up to 15, are kept in memory. A line may take a million ticks; one that takes more is
+ * broken off, and all is as it was before that line. */
 #include "forth83.h"
 
 #include <stdbool.h>
@@ -35,6 +36,14 @@ static void must(uint32_t status, const char *what)
         fprintf(stderr, "bench: %s: status %u\n", what, status);
         exit(1);
     }
+}
+
+/* Enters the word of that name. */
+static void enter(forth83 *machine, const char *name)
+{
+    uint16_t word;
+    must(forth83_find(machine, (const uint8_t *)name, strlen(name), &word), name);
+    must(forth83_enter(machine, word), name);
 }
 
 /* Serves the block that the machine asks. */
@@ -90,8 +99,8 @@ int main(int count, char **arguments)
     static forth83 machine;
     static uint8_t image[70000];
     char line[256];
-    if (count != 2) {
-        fprintf(stderr, "usage: bench IMAGE < LINES\n");
+    if (count != 2 && count != 3) {
+        fprintf(stderr, "usage: bench IMAGE [WORD] < LINES\n");
         return 2;
     }
     FILE *file = fopen(arguments[1], "rb");
@@ -102,6 +111,8 @@ int main(int count, char **arguments)
     size_t size = fread(image, 1, sizeof image, file);
     fclose(file);
     must(forth83_load(image, size, BLOCKS, &machine), arguments[1]);
+    if (count == 3)
+        enter(&machine, arguments[2]);
     while (fgets(line, sizeof line, stdin) != NULL)
         if (!type(&machine, (const uint8_t *)line, strlen(line)))
             break;

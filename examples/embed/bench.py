@@ -1,9 +1,10 @@
 #!/usr/bin/env python3
-"""The test bench of bench.c from Python: bench.py LIBRARY IMAGE < LINES
+"""The test bench of bench.c from Python: bench.py LIBRARY IMAGE [WORD] < LINES
 
 LIBRARY is libforth83.so, which the Makefile here makes. Block 1 is the instrument, and the others are kept in memory.
 """
 import ctypes
+import os
 import sys
 
 BLOCKS, INSTRUMENT, TICKS, PAGE, ROOM = 16, 1, 1000000, 1024, 65536
@@ -56,6 +57,12 @@ class Bench:
         if status != 0:
             sys.exit(f"bench: {what}: status {status}")
 
+    def enter(self, name):
+        """Enters the word of that name."""
+        machine, word, spelled = ctypes.byref(self.machine), ctypes.c_uint16(), os.fsencode(name)
+        self.must(self.calls.forth83_find(machine, spelled, ctypes.c_size_t(len(spelled)), ctypes.byref(word)), name)
+        self.must(self.calls.forth83_enter(machine, word), name)
+
     def measure(self, page):
         """The instrument: its first cell counts the measurements, its second is twice the output set in the third."""
         self.measured += 1
@@ -103,11 +110,13 @@ class Bench:
 
 
 def main():
-    """Types each line of standard input."""
-    if len(sys.argv) != 3:
-        sys.exit("usage: bench.py LIBRARY IMAGE < LINES")
+    """Enters the word, if one is named, and types each line of standard input."""
+    if len(sys.argv) not in (3, 4):
+        sys.exit("usage: bench.py LIBRARY IMAGE [WORD] < LINES")
     with open(sys.argv[2], "rb") as file:
         bench = Bench(sys.argv[1], file.read())
+    if len(sys.argv) == 4:
+        bench.enter(sys.argv[3])
     for line in sys.stdin.buffer:
         output, goes = bench.type(line)
         sys.stdout.buffer.write(output)

@@ -20,6 +20,8 @@ code_zero status.Waiting e = absurd (omega (arith, e))
 code_zero status.NotAsked e = absurd (omega (arith, e))
 code_zero status.BadPage e = absurd (omega (arith, e))
 code_zero status.Stack e = absurd (omega (arith, e))
+code_zero status.NotFound e = absurd (omega (arith, e))
+code_zero status.ChainTooLong e = absurd (omega (arith, e))
 
 pub code_three : (s : Status) → code_of s ≡ 3 → s ≡ status.ShortRoom
 code_three status.Done e = absurd (omega (arith, e))
@@ -37,6 +39,8 @@ code_three status.Waiting e = absurd (omega (arith, e))
 code_three status.NotAsked e = absurd (omega (arith, e))
 code_three status.BadPage e = absurd (omega (arith, e))
 code_three status.Stack e = absurd (omega (arith, e))
+code_three status.NotFound e = absurd (omega (arith, e))
+code_three status.ChainTooLong e = absurd (omega (arith, e))
 
 pub load_codes : (s : Status) (n : ℕ) → n ≡ code_of s → (s ≡ status.Done) ⊎ (s ≡ status.OutOfMemory) → (n ≡ 0) ⊎ (n ≡ 2)
 load_codes s n e (inl h) = inl (e ∙ ap code_of h)

@@ -1,10 +1,17 @@
 -- A record keeps one state.
-use Rattle.std.proofs.Common.{◌≡◌, ℕ, ◌≤◌, List, [], ◌∷◌, None, length, arith, ap, sym, refl, ◌∙◌}
-use Rattle.std.specs.Prelude.{slice_range}
+use Rattle.std.proofs.Common.{◌≡◌, ℕ, ◌≤◌, List, [], ◌∷◌, Bool, true, false, None, length, arith, ap, sym, refl, ◌∙◌}
+use Rattle.std.specs.Prelude.{IsTrue, slice_range}
+use Rattle.memory.specs.Bytes.{cell}
+use Rattle.memory.specs.declared.system.TheConstants.{CONTEXT}
+use Rattle.dictionary.specs.Adding.{is_name}
+use Rattle.dictionary.specs.Header.{compilation_address}
+use Rattle.dictionary.specs.Search.{Sought, Found, sought}
+use Rattle.dictionary.proofs.Unnamed.{name_never}
 use Rattle.stacks.specs.Cells.{first_of}
 use Rattle.plain_rows.specs.Whole.{Whole}
 use Rattle.inner_interpreter.specs.State.{State}
 use Rattle.forth83_c.specs.declared.record.Forth83.{Forth83}
+use Rattle.forth83_c.specs.Called.{HasFound}
 use Rattle.forth83_c.specs.Kept.{marked, wait_of, halt_of, entries_of, IsRecord, IsKept}
 
 same_parts : (s t : Whole) → s.memory ≡ t.memory → s.values ≡ t.values → s.returns ≡ t.returns → s.ip ≡ t.ip → s.pending ≡ t.pending → s.buffers ≡ t.buffers → s.block_count ≡ t.block_count → s ≡ t
@@ -68,3 +75,29 @@ pub empty_stack : (k : Forth83) (xs : List ℕ) → IsRecord k → xs ≡ slice_
     → (s : State) × IsKept k s × (s.parts.values ≡ [])
 unfolding kept_state
 empty_stack k xs h e l = (kept_state k, kept_kept k h, sym e ∙ none_first xs l)
+
+-- what a search comes to in its memory
+pub sought_there : (k : Forth83) (m name : List ℕ) (r : Sought) → IsRecord k → m ≡ k.memory → sought m name ≡ r
+    → (s : State) × IsKept k s × (sought s.parts.memory name ≡ r)
+unfolding kept_state
+sought_there k m name r h e f = (kept_state k, kept_kept k h, ap (λ n. sought n name) (sym e) ∙ f)
+
+pub found_there : (k : Forth83) (m name : List ℕ) (l : ℕ) → IsRecord k → m ≡ k.memory → sought m name ≡ Found l
+    → HasFound k name (compilation_address m l)
+unfolding kept_state
+found_there k m name l h e f = record {
+  state = kept_state k;
+  is_kept = kept_kept k h;
+  header = l;
+  found = ap (λ n. sought n name) (sym e) ∙ f;
+  is = ap (λ n. compilation_address n l) e;
+}
+
+-- what is found has a name
+by_test : (m name : List ℕ) (l : ℕ) (b : Bool) → is_name name ≡ b → sought m name ≡ Found l → IsTrue b
+unfolding sought
+by_test m name l true e f = refl
+by_test m name l false e f = absurd (name_never m name (cell m CONTEXT) l e f)
+
+pub is_named_found : (m name : List ℕ) (l : ℕ) → sought m name ≡ Found l → IsTrue (is_name name)
+is_named_found m name l f = by_test m name l (is_name name) refl f

@@ -1,5 +1,7 @@
 -- What calls answer and leave.
 use Rattle.std.specs.Prelude.{◌≡◌, ◌≢◌, ◌≤◌, ◌-◌, ◌<◌, ℕ, List, [], ◌∷◌, length, take, drop, None, Some, IsSome, true, false}
+use Rattle.dictionary.specs.Header.{compilation_address}
+use Rattle.dictionary.specs.Search.{Found, Nowhere, TooLong, sought}
 use Rattle.inner_interpreter.specs.Answer.{Reply, answer_of, asked_by, asked_page, is_answer}
 use Rattle.image_loader.specs.Files.{IsWritten}
 use Rattle.inner_interpreter.specs.Entering.{can_save, entered, saved, with_parts}
@@ -31,6 +33,8 @@ code_of status.Waiting = 11
 code_of status.NotAsked = 12
 code_of status.BadPage = 13
 code_of status.Stack = 14
+code_of status.NotFound = 15
+code_of status.ChainTooLong = 16
 
 abbrev pub stop_code : Stop → ℕ
 stop_code stop.Halted = 0
@@ -75,6 +79,12 @@ abbrev pub WhyNotSaved : (entry room : ℕ) → State → Status → Type 0
 WhyNotSaved entry room s status.BadSize = can_save s.parts ≡ false
 WhyNotSaved entry room s status.ShortRoom = (bytes : List ℕ) × IsWritten bytes (saved s.parts entry) × (room < length bytes)
 WhyNotSaved entry room s _ = ⊥
+
+-- FIND's search of the name comes to no header, or to a chain that is too long
+abbrev pub WhyNotFound : (name : List ℕ) → State → Status → Type 0
+WhyNotFound name s status.NotFound = sought s.parts.memory name ≡ Nowhere
+WhyNotFound name s status.ChainTooLong = sought s.parts.memory name ≡ TooLong
+WhyNotFound name s _ = ⊥
 
 -- what a status says of the record that a call was lent: it is no machine's; or it is one, and the call was done or memory
 -- was refused; or it keeps a state to which the call does nothing
@@ -145,3 +155,12 @@ pub record HasSaved (kept : Forth83) (entry : ℕ) (bytes : List ℕ) : Type 0 w
   pub is_kept : IsKept kept state
   pub fits : can_save state.parts ≡ true
   pub written : IsWritten bytes (saved state.parts entry)
+
+-- FIND's search of the name, in the memory of the machine that the record keeps, comes to a header; this is its compilation
+-- address
+pub record HasFound (kept : Forth83) (name : List ℕ) (word : ℕ) : Type 0 where
+  pub state : State
+  pub is_kept : IsKept kept state
+  pub header : ℕ
+  pub found : sought state.parts.memory name ≡ Found header
+  pub is : word ≡ compilation_address state.parts.memory header

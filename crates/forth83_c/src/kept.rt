@@ -160,7 +160,7 @@ fn keep_buffers(buffers: &Buffers, kept: &mut [Forth83Buffer; 16])
 
 /// Memory of these bytes.
 #[tactic(auto, using(crate::proofs::Bytes::all_of_memory))]
-fn memory_of(alloc: Global, bytes: &[u8; 65536]) -> Result<Memory, OutOfMemory>
+pub fn memory_of(alloc: Global, bytes: &[u8; 65536]) -> Result<Memory, OutOfMemory>
     ensures { IfOk result (λ m. m ≡ bytes.now) }
 {
     Memory::with_front(alloc, bytes)

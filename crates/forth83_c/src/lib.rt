@@ -2,6 +2,7 @@
 #![tactic(auto)]
 
 mod driving;
+mod finding;
 mod kept;
 pub mod laws;
 mod lines;
@@ -11,11 +12,12 @@ mod showing;
 mod status;
 mod stop;
 
-ghost use Rattle.std.specs.Prelude.{◌≡◌, ◌≢◌, ◌<◌, ◌≤◌, ◌⊎◌, length, take};
+ghost use Rattle.std.specs.Prelude.{◌≡◌, ◌≢◌, ◌<◌, ◌≤◌, ◌⊎◌, length, take, IsTrue};
+ghost use Rattle.dictionary.specs.Adding.{is_name};
 ghost use Rattle.image_loader.specs.Files.{Contents, IsFile, IsCutShort, IsFollowed, HasBadMagic, HasBadVersion, HasBadBuffers, HasBadSize};
 ghost use Rattle.inner_interpreter.specs.State.{start};
 ghost use Rattle.inner_interpreter.specs.Answer.{InputEnd, ReadFault, ReadOk, WriteFault, WriteOk};
-ghost use Rattle.forth83_c.specs.Called.{AsksPage, HasAnswered, HasEntered, HasPopped, HasPushed, HasRun, HasSaved, TellsByCode, TellsMachine, WhyNotAnswered, WhyNotEntered, WhyNoPage, WhyNotPushed, WhyNotPopped, WhyNotSaved};
+ghost use Rattle.forth83_c.specs.Called.{AsksPage, HasAnswered, HasEntered, HasFound, HasPopped, HasPushed, HasRun, HasSaved, TellsByCode, TellsMachine, WhyNotAnswered, WhyNotEntered, WhyNotFound, WhyNoPage, WhyNotPushed, WhyNotPopped, WhyNotSaved};
 ghost use Rattle.forth83_c.specs.Kept.{IsKept};
 
 use inner_interpreter::Answer;
@@ -161,6 +163,24 @@ pub extern "C" fn forth83_enter(alloc: Global, machine: &mut Forth83, word: u16)
     ensures stays { result ≢ 0 → machine.new ≡ machine.old }
 {
     running::enter(alloc, machine, word).code()
+}
+
+/// Puts the compilation address of the word that a name means into `word`, as FIND finds it: in CONTEXT's vocabulary, and then
+/// in FORTH.
+#[unsafe(no_mangle)]
+#[tactic(auto, using(crate::proofs::Codes::code_zero))]
+pub extern "C" fn forth83_find(alloc: Global, machine: &Forth83, name: &[u8], word: &mut u16) -> u32
+    ensures found { result ≡ 0 → HasFound machine.now name.now word.new }
+
+    // What is found has a name of 1 to 31 bytes.
+    ensures named { result ≡ 0 → IsTrue (is_name name.now) }
+
+    // It isn't found where the search comes to no header, or gives up at a chain that is too long; nothing is told then.
+    ensures no_machine { TellsMachine machine.now result }
+    ensures why { TellsByCode (WhyNotFound name.now) machine.now result }
+    ensures untold { result ≢ 0 → word.new ≡ word.old }
+{
+    finding::find(alloc, machine, name, word).code()
 }
 
 /// Pushes a number on the data stack. `Waiting` where a request stands, since what it needs lies on top.

@@ -37,6 +37,10 @@ pub enum Status {
     BadPage,
     /// The stack is full, or empty.
     Stack,
+    /// No word has the name.
+    NotFound,
+    /// The search for the name looks at no more headers of a chain.
+    ChainTooLong,
 }
 
 impl Status {
@@ -60,6 +64,8 @@ impl Status {
             Status::NotAsked => 12,
             Status::BadPage => 13,
             Status::Stack => 14,
+            Status::NotFound => 15,
+            Status::ChainTooLong => 16,
         }
     }
 }
