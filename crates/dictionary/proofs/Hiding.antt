@@ -20,7 +20,7 @@ unfolding chain
 find_but_none m name zero l = refl
 find_but_none m name (suc n) l = find_step m name l (chain m n (cell m l)) (l == 0) refl (find_but_none m name n (cell m l))
 
-walked_but_none : (m name : List ℕ) (n l : ℕ) → walked (is_named_but m name 0) m n l ≡ walked (is_named m name) m n l
+pub walked_but_none : (m name : List ℕ) (n l : ℕ) → walked (is_named_but m name 0) m n l ≡ walked (is_named m name) m n l
 unfolding walked
 walked_but_none m name n l = rw (find_but_none m name n l) refl
 
@@ -32,4 +32,7 @@ pub from_hiding_none : (m name : List ℕ) (voc : ℕ) → sought_from m voc nam
 unfolding sought_from first_from first_in
 from_hiding_none m name voc = sym (simp walked_but_none)
 
-pub ruleset hiding_none = (in_hiding_none, from_hiding_none)
+pub chain_hiding_none : (m name : List ℕ) (n l : ℕ) → walked (is_named m name) m n l ≡ walked (is_named_but m name 0) m n l
+chain_hiding_none m name n l = sym (walked_but_none m name n l)
+
+pub ruleset hiding_none = (in_hiding_none, from_hiding_none, chain_hiding_none)

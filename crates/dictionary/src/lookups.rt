@@ -1,7 +1,7 @@
 //! The search of a name.
 
 ghost use Rattle.std.specs.Prelude.{◌≡◌, ◌<◌, length};
-ghost use Rattle.dictionary.specs.Header.{is_named_but};
+ghost use Rattle.dictionary.specs.Header.{is_named, is_named_but};
 ghost use Rattle.dictionary.specs.Search.{head_of, walked, first_in, first_from, sought_in, sought_from, sought, sought_hiding, by_address, IsSought};
 
 use crate::fault::ChainTooLong;
@@ -75,6 +75,15 @@ fn first_from(
         Ok(None) => first_in(memory, FORTH_VOC, name, hidden),
         decided => decided,
     }
+}
+
+/// The link field of the first unhidden header of that name in the chain from the member at `start` on, 0 for a chain's end.
+/// A longer chain than 32,768 headers without a find is `ChainTooLong`.
+#[tactic(auto, using(crate::proofs::Hiding::hiding_none))]
+pub fn search_chain(memory: &Memory, start: u16, name: &[u8]) -> Result<Option<u16>, ChainTooLong>
+    ensures { IsSought (walked (is_named memory.now name.now) memory.now 32768 start) result }
+{
+    walk(memory, start, name, NONE)
 }
 
 /// The link field of the header that a name means in the vocabulary at `voc` alone. A longer chain than 32,768 headers

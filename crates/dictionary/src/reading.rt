@@ -1,6 +1,6 @@
 //! Headers as they stand in memory.
 
-ghost use Rattle.std.specs.Prelude.{◌≡◌, ◌++◌, ◌==◌, bytes_eq};
+ghost use Rattle.std.specs.Prelude.{◌≡◌, ◌++◌, ◌==◌, bytes_eq, length, false, IsFalse};
 ghost use Rattle.memory.specs.Bytes.{cell};
 ghost use Rattle.dictionary.specs.Header.{view_of, count_byte, name_length, is_hidden, is_immediate, name_of, compilation_address, is_named, is_named_but, header_of};
 
@@ -11,7 +11,7 @@ use memory::Memory;
 
 /// How many bytes the name of the header at `link_field` has, 0 to 31.
 #[tactic(auto, unfolding(crate::specs::Header::name_length))]
-fn name_length(memory: &Memory, link_field: u16) -> u8
+pub fn name_length(memory: &Memory, link_field: u16) -> u8
     ensures { result ≡ name_length memory.now link_field }
 {
     count_byte(memory, link_field).0 & 31
@@ -19,7 +19,7 @@ fn name_length(memory: &Memory, link_field: u16) -> u8
 
 /// Whether no search finds the header at `link_field`.
 #[tactic(auto, unfolding(crate::specs::Header::is_hidden))]
-fn is_hidden(memory: &Memory, link_field: u16) -> bool
+pub fn is_hidden(memory: &Memory, link_field: u16) -> bool
     ensures { result ≡ is_hidden memory.now link_field }
 {
     count_byte(memory, link_field).contains(CountByte::HIDDEN)
@@ -71,17 +71,47 @@ fn is_same(head: &[u8], tail: &[u8], name: &[u8]) -> bool
     tail == back
 }
 
-/// Whether the header at `link_field` is unhidden and has that name.
-#[tactic(auto, unfolding(crate::specs::Header::is_named, crate::specs::Header::name_of))]
-fn is_named(memory: &Memory, link_field: u16, name: &[u8]) -> bool
-    ensures { result ≡ is_named memory.now name.now link_field }
+/// Whether the header at `link_field` has that name, hidden or not.
+#[tactic(auto, unfolding(crate::specs::Header::name_of))]
+fn has_name(memory: &Memory, link_field: u16, name: &[u8]) -> bool
+    ensures { result ≡ bytes_eq (name_of memory.now link_field) name.now }
 {
-    if is_hidden(memory, link_field) {
-        return false;
-    }
     let length = u16::from(name_length(memory, link_field));
     let (head, tail) = memory.span(link_field.wrapping_add(3), length);
     is_same(head, tail, name)
+}
+
+/// Whether the last byte of a header's name is that of `name`, which has as many: it differs in most names that aren't `name`.
+#[tactic(auto, using(crate::proofs::Names::ends_otherwise))]
+fn ends_alike(memory: &Memory, link_field: u16, size: u8, name: &[u8]) -> bool
+    requires header { size ≡ name_length memory.now link_field }
+    requires name { size ≡ length name.now }
+    ensures { IsFalse result → bytes_eq (name_of memory.now link_field) name.now ≡ false }
+{
+    let _ = memory.len();
+    if size == 0 {
+        return true;
+    }
+    memory.byte(link_field.wrapping_add(2 + u16::from(size))) == name[usize::from(size) - 1]
+}
+
+/// Whether the header at `link_field` is unhidden and has that name.
+#[tactic(auto, using(crate::proofs::Names::length_otherwise), unfolding(crate::specs::Header::is_named))]
+fn is_named(memory: &Memory, link_field: u16, name: &[u8]) -> bool
+    ensures { result ≡ is_named memory.now name.now link_field }
+{
+    let _ = memory.len();
+    if is_hidden(memory, link_field) {
+        return false;
+    }
+    let size = name_length(memory, link_field);
+    if usize::from(size) != name.len() {
+        return false;
+    }
+    if !ends_alike(memory, link_field, size, name) {
+        return false;
+    }
+    has_name(memory, link_field, name)
 }
 
 /// The same, where the header at `hidden` counts as hidden.

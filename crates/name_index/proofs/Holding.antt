@@ -1,50 +1,70 @@
 -- An index that holds for one memory, and for another.
-use Rattle.std.proofs.Common.{◌≡◌, ℕ, ◌+◌, ◌-◌, ◌<◌, ◌≤◌, List, true, false, arith, ◌∙◌, slice_index, replicate, inl, inr, subst, nat_lt, ◌&&◌, sym, refl}
+use Rattle.std.proofs.Common.{◌≡◌, ℕ, ◌+◌, ◌-◌, ◌%◌, ◌<◌, ◌≤◌, List, true, false, arith, ◌∙◌, slice_index, replicate, inl, inr, subst, nat_lt, ◌&&◌, sym, refl}
 use Rattle.std.proofs.lemmas.List.{get_or-replicate}
 use Rattle.std.proofs.lemmas.Bool.{cases_lt}
 use Rattle.std.proofs.lemmas.Grind.{common_steps}
 use Rattle.cells.specs.Cell.{wrap}
 use Rattle.name_index.specs.declared.index.NameIndex.{NameIndex}
-use Rattle.name_index.specs.Ranges.{meets, is_met}
+use Rattle.name_index.specs.Ranges.{is_met}
 use Rattle.name_index.specs.Watch.{is_watched, Agree, AgreeBelow, AgreeBeside, IsBeside, IsUnwatched}
-use Rattle.name_index.specs.Index.{Keeps, IsValid, Holds}
+use Rattle.name_index.specs.Index.{Serves, Holds}
+use Rattle.name_index.proofs.Walks.{same_none, same_by}
+
+watched_none : (top a : ℕ) → top ≤ 256 → is_watched top a ≡ true → ⊥
+unfolding is_watched
+watched_none top a h w = grind (arith, common_steps)
 
 -- an index that keeps nothing
-none_case : (limit : ℕ) (m : List ℕ) (k : ℕ) → k < 256 → 0 < slice_index (replicate 256 0) k → IsValid limit 256 m (slice_index (replicate 256 0) k)
-none_case limit m k b q =
-    let s : slice_index (replicate 256 0) k ≡ 0 = get_or-replicate 256 k 0 0 b in
-    absurd (omega (arith, s))
+none_case : (m : List ℕ) (k : ℕ) → k < 4096 → Serves 256 m k (slice_index (replicate 4 0) (k % 4)) (slice_index (replicate 4096 0) k)
+none_case m k b =
+    let s : slice_index (replicate 4096 0) k ≡ 0 = get_or-replicate 4096 k 0 0 b in
+    let h : slice_index (replicate 4 0) (k % 4) ≡ 0 = get_or-replicate 4 (k % 4) 0 0 (omega arith) in
+    rw (s, h) (record { older = omega arith; same = same_none 256 k m })
 
-pub holds_none : (index : NameIndex) (limit : ℕ) (m : List ℕ) → index.places ≡ replicate 256 0 → index.top ≡ 256 → Holds limit index m
+pub holds_none : (index : NameIndex) (limit : ℕ) (m : List ℕ) → index.table ≡ replicate 4096 0 → index.heads ≡ replicate 4 0 → index.top ≡ 256 → Holds limit index m
 unfolding Holds
-holds_none index limit m p t = rw (p, t) (λ k b q. none_case limit m k b q)
+holds_none index limit m table heads top = record {
+  bound = λ h. absurd (omega (arith, h, top));
+  slots = λ k b. rw (table, heads, top) (none_case m k b);
+}
+
+-- an index holds as another does with the same table, heads and top
+pub holds_same : (limit : ℕ) (index other : NameIndex) (m : List ℕ) → other.table ≡ index.table → other.heads ≡ index.heads → other.top ≡ index.top
+    → Holds limit index m → Holds limit other m
+unfolding Holds
+holds_same limit index other m table heads top holds = record {
+  bound = rw top holds.bound;
+  slots = λ k b. rw (table, heads, top) (holds.slots k b);
+}
 
 -- what holds for one memory holds for each that agrees with it
-keeps_by : (top : ℕ) (m other : List ℕ) (l : ℕ) → Agree top m other → Keeps top m l → Keeps top other l
-keeps_by top m other l s keeps third len g name some named = keeps third len (λ a w. g a w ∙ s a w) name some named
-
-valid_by : (limit top : ℕ) (m other : List ℕ) (l : ℕ) → (256 < top → top ≤ limit → Agree top m other) → IsValid limit top m l → IsValid limit top other l
-valid_by limit top m other l s v = record {
-  raised = v.raised;
-  bound = v.bound;
-  keeps = keeps_by top m other l (s v.raised v.bound) v.keeps;
+serves_by : (top k known e : ℕ) (m other : List ℕ) → Agree top m other → Serves top m k known e → Serves top other k known e
+serves_by top k known e m other t is = record {
+  older = is.older;
+  same = same_by top k known e m other t is.same;
 }
 
 pub holds_by : (limit : ℕ) (index : NameIndex) (m other : List ℕ) → (256 < index.top → index.top ≤ limit → Agree index.top m other) → Holds limit index m → Holds limit index other
 unfolding Holds
-holds_by limit index m other s holds k b q = valid_by limit index.top m other (slice_index index.places k) s (holds k b q)
+holds_by limit index m other s holds = record {
+  bound = holds.bound;
+  slots = λ k b.
+      serves_by index.top k (slice_index index.heads (k % 4)) (slice_index index.table k) m other
+      (elim (cases_lt 256 index.top) [ inl h ↦ s h (holds.bound h) | inr h ↦ λ a w. absurd (watched_none index.top a h w) ])
+      (holds.slots k b);
+}
 
 -- memories that are the same below an address, and below the limit
-watched_below : (top floor a : ℕ) → 256 < top → top ≤ floor → is_watched top a ≡ true → a < floor
+watched_below : (top floor a : ℕ) → top ≤ floor → is_watched top a ≡ true → a < floor
 unfolding is_watched
-watched_below top floor a h k w = grind (arith, common_steps)
+watched_below top floor a k w = grind (arith, common_steps)
 
 pub holds_above : (limit floor : ℕ) (index : NameIndex) (m other : List ℕ) → (256 < index.top → index.top ≤ floor) → AgreeBelow floor m other → Holds limit index m → Holds limit index other
 holds_above limit floor index m other t s holds =
-    holds_by limit index m other (λ r b a w. s a (watched_below index.top floor a r (t r) w)) holds
+    holds_by limit index m other (λ r b a w. s a (watched_below index.top floor a (t r) w)) holds
 
 pub holds_below_limit : (limit : ℕ) (index : NameIndex) (m other : List ℕ) → AgreeBelow limit m other → Holds limit index m → Holds limit index other
-holds_below_limit limit index m other s holds = holds_by limit index m other (λ r b a w. s a (watched_below index.top limit a r b w)) holds
+holds_below_limit limit index m other s holds = holds_by limit index m other (λ r b a w. s a (watched_below index.top limit a b w)) holds
 
 -- a range that meets nothing watched
 apart : (top start end a : ℕ) → is_met top start end ≡ false → is_watched top a ≡ true → start ≤ a → a < end → true ≡ false
@@ -63,48 +83,25 @@ beside top at n h k f g a w i lt e =
     ]
 
 -- a range that meets something has a watched address
-unmeets : (start end low high : ℕ) → start < end → low < high → ((a : ℕ) → start ≤ a → a < end → low ≤ a → a < high → true ≡ false) → meets start end low high ≡ false
-unmeets start end low high some other f =
-    elim (cases_lt start high) [
-      | inr h ↦ grind (arith, common_steps)
-      | inl h ↦ elim (cases_lt low end) [
-        | inr k ↦ grind (arith, common_steps)
-        | inl k ↦ elim (cases_lt start low) [
-          | inl g ↦ let p : true ≡ false = f low (omega (arith, g)) k (omega arith) other in cc
-          | inr g ↦ let p : true ≡ false = f start (omega arith) some (omega (arith, g)) h in cc
-        ]
-      ]
-    ]
-
-watched_system : (top a : ℕ) → 32 ≤ a → a < 34 → is_watched top a ≡ true
-unfolding is_watched
-watched_system top a h k = grind (arith, common_steps)
-
-watched_record : (top a : ℕ) → 42 ≤ a → a < 52 → is_watched top a ≡ true
-unfolding is_watched
-watched_record top a h k = grind (arith, common_steps)
-
 watched_header : (top a : ℕ) → 256 ≤ a → a < top → is_watched top a ≡ true
 unfolding is_watched
 watched_header top a h k = grind (arith, common_steps)
 
-unmet_headers : (top start end : ℕ) → start < end → ((a : ℕ) → start ≤ a → a < end → is_watched top a ≡ false) → (nat_lt 256 top && meets start end 256 top) ≡ false
-unmet_headers top start end some f =
-    elim (cases_lt 256 top) [
-      | inl h ↦ let u : meets start end 256 top ≡ false =
-          unmeets start end 256 top some h (λ a x y v w. sym (watched_header top a v w) ∙ f a x y) in grind (arith, common_steps, u)
-      | inr h ↦ grind (arith, common_steps)
-    ]
-
 pub unmet : (top start end : ℕ) → start < end → ((a : ℕ) → start ≤ a → a < end → is_watched top a ≡ false) → is_met top start end ≡ false
 unfolding is_met
-unmet top start end some f =
-    let one : meets start end 32 34 ≡ false =
-    unmeets start end 32 34 some (omega arith) (λ a x y v w. sym (watched_system top a v w) ∙ f a x y) in
-    let two : meets start end 42 52 ≡ false =
-    unmeets start end 42 52 some (omega arith) (λ a x y v w. sym (watched_record top a v w) ∙ f a x y) in
-    let three : (nat_lt 256 top && meets start end 256 top) ≡ false = unmet_headers top start end some f in
-    rw (one, two, three) refl
+unmet top start end some f = elim (cases_lt 256 top) [
+  | inr t ↦ grind (arith, common_steps)
+  | inl t ↦ elim (cases_lt start top) [
+    | inr h ↦ grind (arith, common_steps)
+    | inl h ↦ elim (cases_lt 256 end) [
+      | inr k ↦ grind (arith, common_steps)
+      | inl k ↦ elim (cases_lt start 256) [
+        | inl g ↦ let p : true ≡ false = sym (watched_header top 256 (omega arith) t) ∙ f 256 (omega (arith, g)) k in cc
+        | inr g ↦ let p : true ≡ false = sym (watched_header top start g h) ∙ f start (omega arith) some in cc
+      ]
+    ]
+  ]
+]
 
 pub unmet_none : (top end : ℕ) → end ≤ 0 → is_met top 0 end ≡ false
 unfolding is_met

@@ -1,5 +1,10 @@
-pub mod Holding
 pub mod Alike
+pub mod Walks
+pub mod Served
+pub mod Passed
+pub mod Numbers
+pub mod Rounds
+pub mod Raised
+pub mod Holding
 pub mod Orders
-pub mod Keeping
 pub mod Writes

@@ -64,42 +64,21 @@ beside_moved_down m from to (suc n) a b =
     beside_moved_down (put_byte m (wrap (to + n)) (byte m (wrap (from + n)))) from to n a (beside_less to n a b)
     ∙ byte_set m (wrap (to + n)) (byte m (wrap (from + n))) a (beside_last to n a b)
 
--- a write below the dictionary, beside CONTEXT and FORTH's record: at constants its premises compute
-below_dictionary : (top start end : ℕ) → end ≤ 256 → is_met 0 start end ≡ false → is_met top start end ≡ false
+-- a write below the dictionary
+below_dictionary : (top start end : ℕ) → end ≤ 256 → is_met top start end ≡ false
 unfolding is_met
-below_dictionary top start end h e = grind (arith, common_steps)
+below_dictionary top start end h = grind (arith, common_steps)
 
-pub holds_system : (limit at n : ℕ) (index : NameIndex) (m other : List ℕ) → at + n ≤ 256 → is_met 0 at (at + n) ≡ false
-    → AgreeBeside at n m other → Holds limit index m → Holds limit index other
-holds_system limit at n index m other small e s holds =
+pub holds_system : (limit at n : ℕ) (index : NameIndex) (m other : List ℕ) → at + n ≤ 256 → AgreeBeside at n m other
+    → Holds limit index m → Holds limit index other
+holds_system limit at n index m other small s holds =
     holds_beside limit at n index m other
-    (beside index.top at n (omega (arith, small)) (omega (arith, small)) (below_dictionary index.top at (at + n) small e)
+    (beside index.top at n (omega (arith, small)) (omega (arith, small)) (below_dictionary index.top at (at + n) small)
     (unmet_none index.top (at + n - 65536) (omega (arith, small)))) s holds
 
--- cells of the system: before CONTEXT, up to FORTH's record, and behind it
-unmet_low : (at : ℕ) → at + 2 ≤ 32 → is_met 0 at (at + 2) ≡ false
-unfolding is_met
-unmet_low at h = grind (arith, common_steps)
-
-unmet_between : (at : ℕ) → 34 ≤ at → at + 2 ≤ 42 → is_met 0 at (at + 2) ≡ false
-unfolding is_met
-unmet_between at h k = grind (arith, common_steps)
-
-unmet_high : (at : ℕ) → 52 ≤ at → is_met 0 at (at + 2) ≡ false
-unfolding is_met
-unmet_high at h = grind (arith, common_steps)
-
-pub holds_low_cell : (limit at x : ℕ) (index : NameIndex) (m : List ℕ) → at + 2 ≤ 32 → Holds limit index m → Holds limit index (put_cell m at x)
-holds_low_cell limit at x index m h holds =
-    holds_system limit at 2 index m (put_cell m at x) (omega (arith, h)) (unmet_low at h) (beside_cell m at x (omega (arith, h))) holds
-
-pub holds_cell_between : (limit at x : ℕ) (index : NameIndex) (m : List ℕ) → 34 ≤ at → at + 2 ≤ 42 → Holds limit index m → Holds limit index (put_cell m at x)
-holds_cell_between limit at x index m h k holds =
-    holds_system limit at 2 index m (put_cell m at x) (omega (arith, k)) (unmet_between at h k) (beside_cell m at x (omega (arith, k))) holds
-
-pub holds_high_cell : (limit at x : ℕ) (index : NameIndex) (m : List ℕ) → 52 ≤ at → at + 2 ≤ 256 → Holds limit index m → Holds limit index (put_cell m at x)
-holds_high_cell limit at x index m h k holds =
-    holds_system limit at 2 index m (put_cell m at x) k (unmet_high at h) (beside_cell m at x (omega (arith, k))) holds
+pub holds_system_cell : (limit at x : ℕ) (index : NameIndex) (m : List ℕ) → at + 2 ≤ 256 → Holds limit index m → Holds limit index (put_cell m at x)
+holds_system_cell limit at x index m h holds =
+    holds_system limit at 2 index m (put_cell m at x) h (beside_cell m at x (omega (arith, h))) holds
 
 -- a page of a block buffer
 pub holds_page : (limit at : ℕ) (index : NameIndex) (m bs : List ℕ) → length m ≡ 65536 → limit ≤ at → at ≤ 64512 → Holds limit index m → Holds limit index (with_page m at bs)
@@ -124,4 +103,4 @@ holds_written limit index m (w ∷ ws) aside holds =
     holds_written limit index (with_write m w) ws (All-tail (λ (v : Write). IsAside index.top v) w ws aside)
     (holds_write limit index m w (All-head (λ (v : Write). IsAside index.top v) w ws aside) holds)
 
-pub ruleset writes = (beside_byte, beside_cell, beside_bytes, beside_filled, beside_moved_up, beside_moved_down, holds_beside, holds_low_cell, holds_cell_between, holds_high_cell, holds_page)
+pub ruleset writes = (beside_byte, beside_cell, beside_bytes, beside_filled, beside_moved_up, beside_moved_down, holds_beside, holds_system_cell, holds_page)

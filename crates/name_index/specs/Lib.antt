@@ -1,4 +1,5 @@
 pub mod Watch
+pub mod Slots
 pub mod Index
 pub mod Ranges
-pub mod Stays
+pub mod Passing

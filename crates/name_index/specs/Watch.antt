@@ -1,12 +1,12 @@
-use Rattle.std.specs.Prelude.{ℕ, ◌+◌, ◌<◌, ◌≡◌, ◌≢◌, List, Bool, true, false, nat_le, nat_lt, ◌&&◌, ◌||◌}
+use Rattle.std.specs.Prelude.{ℕ, ◌+◌, ◌<◌, ◌≡◌, ◌≢◌, List, Bool, true, false, nat_le, nat_lt, ◌&&◌}
 use Rattle.cells.specs.Cell.{wrap}
 use Rattle.memory.specs.Bytes.{byte}
 
--- Which addresses a find may rest on, and memories that are the same there.
+-- Which addresses the table rests on, and memories that are the same there.
 
--- CONTEXT's cell, FORTH's record, and the dictionary below top
+-- the dictionary below top
 unfoldable pub is_watched : ℕ → ℕ → Bool
-is_watched top a = (nat_le 32 a && nat_lt a 34) || (nat_le 42 a && nat_lt a 52) || (nat_le 256 a && nat_lt a top)
+is_watched top a = nat_le 256 a && nat_lt a top
 
 -- two memories have the same bytes there
 abbrev pub Agree : ℕ → List ℕ → List ℕ → Type 0

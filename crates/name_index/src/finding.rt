@@ -1,26 +1,74 @@
 //! The search by the index.
 
-ghost use Rattle.dictionary.specs.Search.{sought, IsSought};
+ghost use Rattle.std.specs.Prelude.{◌≡◌, ◌<◌, ℕ, List, length, slice_index, IsTrue};
+ghost use Rattle.dictionary.specs.Search.{sought, sought_in, IsSought};
 ghost use Rattle.name_index.specs.Index.{Holds};
+ghost use Rattle.name_index.specs.Passing.{PassesTo};
 
-use crate::chains::search;
-use crate::headers::is_named;
+use crate::admitting::bring_up;
 use crate::index::NameIndex;
-use dictionary::ChainTooLong;
+use crate::slots::{class_of, slot_of};
+use dictionary::{ChainTooLong, head_of, is_hidden, search_chain, search_in};
 use memory::Memory;
+use memory::system::{CONTEXT, FORTH_VOC};
 
-/// The place of a name. Any place is right for any name.
-fn place_of(name: &[u8]) -> u8 {
-    let mut place = 0u8;
-    for byte in name {
-        place = place.wrapping_mul(37).wrapping_add(*byte);
+/// The first member of a chain from `start` on, or the second where the first is hidden, as one is that is being defined.
+#[tactic(auto, using(crate::proofs::Passed::passes_hidden, crate::proofs::Passed::passes_none))]
+fn first_unhidden(memory: &Memory, start: u16) -> u16
+    ensures { (name : List ℕ) → PassesTo memory.now name start result }
+{
+    let next = memory.cell(start);
+    if next < start && is_hidden(memory, start) {
+        next
+    } else {
+        start
     }
-    place
+}
+
+/// Whether the slots of a class are known from the member `first` of its chain on, which is seen to where it may be.
+fn is_known(memory: &Memory, index: &mut NameIndex, class: u8, first: u16, limit: u16) -> bool
+    requires class { class < 4 }
+    requires holds { Holds limit index.old memory.now }
+    ensures head { IsTrue result → slice_index index.new.heads class ≡ first }
+    ensures holds { Holds limit index.new memory.now }
+{
+    let known = index.head(class);
+    if first == known {
+        return true;
+    }
+    if known == 0 && index.waits() {
+        return false;
+    }
+    bring_up(memory, index, class, first, limit)
+}
+
+/// The search in FORTH alone.
+#[tactic(auto, unfolding(dictionary::specs::Search::sought_in, dictionary::specs::Search::first_in))]
+fn search_forth(
+    memory: &Memory,
+    index: &mut NameIndex,
+    name: &[u8],
+    limit: u16,
+) -> Result<Option<u16>, ChainTooLong>
+    requires name { 0 < length name.now }
+    requires holds { Holds limit index.old memory.now }
+    ensures found { IsSought (sought_in memory.now 42 name.now) result }
+    ensures holds { Holds limit index.new memory.now }
+{
+    let _ = memory.len();
+    let start = memory.cell(head_of(FORTH_VOC, name));
+    let first = first_unhidden(memory, start);
+    if is_known(memory, index, class_of(name), first, limit) {
+        search_chain(memory, index.entry(slot_of(name)), name)
+    } else {
+        search_chain(memory, start, name)
+    }
 }
 
 /// The link field of the header that a name means, as `dictionary::search`: the vocabulary in CONTEXT is searched, and then
-/// FORTH. A longer chain than 32,768 headers without a find is `ChainTooLong`. What is found is kept where all that was
-/// read stands in CONTEXT's cell, in FORTH's record and in the dictionary below `limit`.
+/// FORTH. A longer chain than 32,768 headers without a find is `ChainTooLong`. FORTH is searched by the table, as far as its
+/// chains stand in the dictionary below `limit` and fall from member to member.
+#[tactic(auto, using(crate::proofs::Orders::orders))]
 pub fn find_indexed(
     memory: &Memory,
     index: &mut NameIndex,
@@ -31,18 +79,15 @@ pub fn find_indexed(
     ensures found { IsSought (sought memory.now name.now) result }
     ensures holds { Holds limit index.new memory.now }
 {
-    let _ = memory.len();
     if name.is_empty() {
         return Ok(None);
     }
-    let place = place_of(name);
-    let kept = index.kept(place);
-    if kept != 0 && is_named(memory, kept, name) {
-        return Ok(Some(kept));
+    let context = memory.cell(CONTEXT);
+    if context == FORTH_VOC {
+        return search_forth(memory, index, name, limit);
     }
-    let watched = search(memory, name, index.reach());
-    if let Ok(Some(found)) = watched.answer {
-        index.keep(place, found, watched.reach, limit);
+    match search_in(memory, context, name) {
+        Ok(None) => search_forth(memory, index, name, limit),
+        decided => decided,
     }
-    watched.answer
 }

@@ -5,38 +5,54 @@ use crate::watch::{DICTIONARY, is_touched};
 /// How many bytes of memory's beginning a loop may keep behind its end too: below them a store is never in place.
 const LEAST_FLOOR: u16 = 16;
 
-/// What searches found: in each place a header's link field, 0 for none. Each of them was found by what stands in CONTEXT's
-/// cell, in FORTH's record and in the dictionary below `top`.
+/// How many searches walk a chain before a table is made, at first and at most: each time that a table is emptied it waits
+/// twice as long.
+const FIRST_WAIT: u16 = 16;
+
+const LONGEST_WAIT: u16 = 512;
+
+/// For each slot a member of FORTH's chain of a class, 0 for none: the newest whose name has that slot, of those from the
+/// class's head in `heads` on. It rests on what stands in the dictionary below `top`.
 #[derive(Drop)]
 pub struct NameIndex {
-    places: [u16; 256],
+    table: [u16; 4096],
+    heads: [u16; 4],
     top: u16,
+    wait: u16,
+    next_wait: u16,
 }
 
 impl NameIndex {
-    ghost use Rattle.std.specs.Prelude.{ℕ, ◌≡◌, ◌<◌, ◌≤◌, ◌+◌, List, true, slice_index, slice_set};
+    ghost use Rattle.std.specs.Prelude.{ℕ, ◌≡◌, ◌<◌, ◌≤◌, ◌+◌, List, length, true, slice_index, slice_set};
     ghost use Rattle.name_index.specs.Watch.{is_watched, IsUnwatched, AgreeBelow, AgreeBeside};
-    ghost use Rattle.name_index.specs.Index.{Keeps, Holds, top_of, emptied, floor_of};
+    ghost use Rattle.name_index.specs.Index.{Holds, IsEmpty, top_of, floor_of};
     ghost use Rattle.cells.specs.Cell.{wrap};
 
     /// An index that keeps nothing.
-    #[tactic(auto, using(crate::proofs::Holding::holds_none))]
     pub fn new() -> NameIndex
-        ensures value { result ≡ emptied }
+        ensures nothing { IsEmpty result }
         ensures holds { (limit : ℕ) (m : List ℕ) → Holds limit result m }
     {
         NameIndex {
-            places: [0; 256],
+            table: [0; 4096],
+            heads: [0; 4],
             top: DICTIONARY,
+            wait: FIRST_WAIT,
+            next_wait: FIRST_WAIT,
         }
     }
 
     /// Keeps nothing any more.
+    #[inline(never)]
     pub fn clear(&mut self)
-        ensures value { self.new ≡ emptied }
+        ensures nothing { IsEmpty self.new }
         ensures holds { (limit : ℕ) (m : List ℕ) → Holds limit self.new m }
     {
-        *self = NameIndex::new();
+        self.table = [0; 4096];
+        self.heads = [0; 4];
+        self.top = DICTIONARY;
+        self.next_wait = self.next_wait.saturating_mul(2).min(LONGEST_WAIT);
+        self.wait = self.next_wait;
     }
 
     /// Stands beside a write of the `n` addresses from `at` on, which wrap: where one of them is watched, nothing is kept any
@@ -45,7 +61,7 @@ impl NameIndex {
     pub fn note(&mut self, at: u16, n: u16)
         ensures holds { (limit : ℕ) (m other : List ℕ)
             → AgreeBeside at n m other → Holds limit self.old m → Holds limit self.new other }
-        ensures watched { (i : ℕ) → i < n → is_watched (top_of self.old) (wrap (at + i)) ≡ true → self.new ≡ emptied }
+        ensures watched { (i : ℕ) → i < n → is_watched (top_of self.old) (wrap (at + i)) ≡ true → IsEmpty self.new }
         ensures unwatched { IsUnwatched (top_of self.old) at n → self.new ≡ self.old }
     {
         if is_touched(self.top, at, n) {
@@ -68,34 +84,65 @@ impl NameIndex {
         }
     }
 
-    /// The header that a place keeps, 0 for none.
-    pub(crate) fn kept(&self, place: u8) -> u16
-        ensures { result ≡ slice_index self.now.places place }
+    /// The member from which on a class's slots are known, 0 for none.
+    pub(crate) fn head(&self, class: u8) -> u16
+        requires { class < 4 }
+        ensures { result ≡ slice_index self.now.heads class }
     {
-        self.places[usize::from(place)]
+        self.heads[usize::from(class)]
+    }
+
+    /// What a slot holds, 0 for none.
+    pub(crate) fn entry(&self, slot: u16) -> u16
+        requires { slot < 4096 }
+        ensures { result ≡ slice_index self.now.table slot }
+    {
+        self.table[usize::from(slot)]
     }
 
     /// How far the dictionary is watched.
-    pub(crate) fn reach(&self) -> u32
+    pub(crate) fn top(&self) -> u16
         ensures { result ≡ top_of self.now }
     {
-        u32::from(self.top)
+        self.top
     }
 
-    /// Keeps that the header at `found` was found, by a search for which the dictionary has to be watched below `reach`. A
-    /// reach above the limit is not kept.
-    #[tactic(auto, using(crate::proofs::Keeping::holds_set))]
-    pub(crate) fn keep(&mut self, place: u8, found: u16, reach: u32, limit: u16)
-        requires raised { 256 < reach }
-        requires more { top_of self.old ≤ reach }
-        ensures places { reach ≤ limit → self.new.places ≡ slice_set self.old.places place found }
-        ensures top { reach ≤ limit → top_of self.new ≡ reach }
-        ensures holds { (m : List ℕ) → (reach < 65536 → Keeps reach m found) → Holds limit self.old m →
-            Holds limit self.new m }
+    /// Whether a chain is walked though the table could be made: where it was emptied lately.
+    #[tactic(auto, using(crate::proofs::Holding::holds_same))]
+    pub(crate) fn waits(&mut self) -> bool
+        ensures holds { (limit : ℕ) (m : List ℕ) → Holds limit self.old m → Holds limit self.new m }
     {
-        if reach <= u32::from(limit) {
-            self.places[usize::from(place)] = found;
-            self.top = reach as u16;
+        if self.wait == 0 {
+            return false;
         }
+        self.wait -= 1;
+        true
+    }
+
+    /// Puts a member in a slot that holds none which is newer than the member `known`.
+    pub(crate) fn admit(&mut self, slot: u16, member: u16, known: u16)
+        requires { slot < 4096 }
+        ensures newer { known < slice_index self.old.table slot → self.new.table ≡ self.old.table }
+        ensures set { slice_index self.old.table slot ≤ known → self.new.table ≡ slice_set self.old.table slot member }
+        ensures heads { self.new.heads ≡ self.old.heads }
+        ensures top { top_of self.new ≡ top_of self.old }
+        ensures size { length self.old.table ≡ 4096 }
+    {
+        let place = usize::from(slot);
+        if self.table[place] <= known {
+            self.table[place] = member;
+        }
+    }
+
+    /// From now on a class's slots are known from the member `first` on, and the dictionary is watched below `top`.
+    pub(crate) fn raise(&mut self, class: u8, first: u16, top: u16)
+        requires { class < 4 }
+        ensures heads { self.new.heads ≡ slice_set self.old.heads class first }
+        ensures table { self.new.table ≡ self.old.table }
+        ensures top { top_of self.new ≡ top }
+        ensures size { length self.old.heads ≡ 4 }
+    {
+        self.heads[usize::from(class)] = first;
+        self.top = top;
     }
 }

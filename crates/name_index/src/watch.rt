@@ -7,18 +7,11 @@ ghost use Rattle.name_index.specs.Watch.{is_watched, IsBeside, IsUnwatched};
 /// The first address of the dictionary.
 pub const DICTIONARY: u16 = 256;
 
-/// Whether one of the addresses from `start` to `end - 1`, which are some, is watched: 32 and 33 are
-/// CONTEXT's cell, 42 to 51 FORTH's record, and those from 256 on the dictionary.
+/// Whether one of the addresses from `start` to `end - 1`, which are some, is watched: those of the dictionary below `top`.
 #[tactic(auto, unfolding(crate::specs::Ranges::is_met))]
 fn is_met(top: u16, start: u32, end: u32) -> bool
     ensures { result ≡ is_met top start end }
 {
-    if start < 34 && 32 < end {
-        return true;
-    }
-    if start < 52 && 42 < end {
-        return true;
-    }
     DICTIONARY < top && start < u32::from(top) && u32::from(DICTIONARY) < end
 }
 

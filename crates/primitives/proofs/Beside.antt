@@ -28,7 +28,7 @@ use Rattle.number_text.proofs.Expansions.{count_most}
 use Rattle.name_index.specs.declared.index.NameIndex.{NameIndex}
 use Rattle.name_index.specs.Watch.{AgreeBeside}
 use Rattle.name_index.specs.Index.{Holds}
-use Rattle.name_index.proofs.Writes.{beside_byte, beside_cell, beside_bytes, holds_low_cell, holds_cell_between, holds_high_cell}
+use Rattle.name_index.proofs.Writes.{beside_byte, beside_cell, beside_bytes, holds_system_cell}
 
 -- what an index is after it was told of n addresses from at on
 abbrev pub IsTold : ℕ → ℕ → NameIndex → NameIndex → Type 0
@@ -46,7 +46,7 @@ unfolding held
 held_told limit index new m place b e h told holds =
     rw (sym e) (told limit (put_cell m 36 place) (put_byte (put_cell m 36 place) place b)
     (beside_byte (put_cell m 36 place) place b h)
-    (holds_cell_between limit 36 place index m (omega arith) (omega arith) holds))
+    (holds_system_cell limit 36 place index m (omega arith) holds))
 
 pub held_holds : (limit : ℕ) (index new : NameIndex) (m other : List ℕ) (place b : ℕ) → other ≡ held m b → place ≡ difference (cell m 36) 1 → place < 65536
     → IsTold place 1 index new → Holds limit index m → Holds limit new other
@@ -96,7 +96,7 @@ digits_hold limit index new m other end place number is t k e h p told holds =
     let a : ℕ = difference end (length (expansion (cell m 18) number)) in
     rw (is, sym e) (told limit (put_cell m 36 a) (put_bytes (put_cell m 36 a) a (map byte_of (expansion (cell m 18) number)))
     (rw p (beside_digits (put_cell m 36 a) end (cell m 18) number h t k))
-    (holds_cell_between limit 36 a index m (omega arith) (omega arith) holds))
+    (holds_system_cell limit 36 a index m (omega arith) holds))
 
 pub digits_pictured : (limit : ℕ) (index new : NameIndex) (m other : List ℕ) (result : Result Unit BadBase) (end place number : ℕ) (u : Unit) → AreDigitsPictured m other number result → result ≡ Ok u
     → number < 4294967296 → end ≡ cell m 36 → end < 65536 → place ≡ difference end 32 → IsTold place 32 index new → Holds limit index m → Holds limit new other
@@ -121,7 +121,7 @@ word_holds limit index new m other here n stream w is l s e h k told holds =
     let count : length bs ≡ n = length-counted (bytes_in m stream w) ∙ omega (arith, length-word m stream w l s, k) in
     rw (is, sym e) (told limit (put_cell m 20 w.next) (put_bytes (put_cell m 20 w.next) here bs)
     (beside_within here n here 0 (length bs) (put_cell m 20 w.next) _ (omega (arith, h)) (omega (arith, count)) (beside_bytes (put_cell m 20 w.next) here bs h))
-    (holds_low_cell limit 20 w.next index m (omega arith) holds))
+    (holds_system_cell limit 20 w.next index m (omega arith) holds))
 
 pub placed_holds : (limit : ℕ) (index new : NameIndex) (m other : List ℕ) (result : Result ℕ TooLong) (here n : ℕ) (stream : Stream) (w : Word) → IsPlaced m other stream w result → result ≡ Ok here
     → length m ≡ 65536 → here < 65536 → n ≡ w.len + 2 → IsTold here n index new → Holds limit index m → Holds limit new other
@@ -140,9 +140,9 @@ header_holds limit index one two m header here size head end link k h g first se
     let m3 : List ℕ = put_cell m2 head link in
     let s1 : AgreeBeside here size m m1 = subst (λ n. AgreeBeside here n m m1) k (beside_bytes m here header h) in
     let h1 : Holds limit one m1 = first limit m m1 s1 holds in
-    let h2 : Holds limit one m2 = holds_low_cell limit 28 end one m1 (omega arith) h1 in
+    let h2 : Holds limit one m2 = holds_system_cell limit 28 end one m1 (omega arith) h1 in
     let h3 : Holds limit two m3 = second limit m2 m3 (beside_cell m2 head link g) h2 in
-    holds_low_cell limit 30 link two m3 (omega arith) h3
+    holds_system_cell limit 30 link two m3 (omega arith) h3
 
 -- what an index is after it was told of a header of so many bytes, and of the head of its chain
 abbrev pub IsToldHeader : ℕ → ℕ → ℕ → NameIndex → NameIndex → Type 0
@@ -154,7 +154,7 @@ pub vocabulary_holds : (limit : ℕ) (index new : NameIndex) (m other name : Lis
     → IsToldHeader site.here size site.head index new → Holds limit index m → Holds limit new other
 unfolding with_vocabulary_at written record_bytes cell_bytes
 vocabulary_holds limit index new m other name site newest size is k told holds =
-    rw is (holds_high_cell limit 52 (wrap (site.here + (7 + length name))) new _ (omega arith) (omega arith)
+    rw is (holds_system_cell limit 52 (wrap (site.here + (7 + length name))) new _ (omega arith)
     (told limit m (header_bytes site.view site.link (128 + length name) name 4 (record_bytes newest)) _ _
     (length_header site.view site.link (128 + length name) 4 name (record_bytes newest) ∙ omega (arith, k)) holds))
 
@@ -169,9 +169,9 @@ ended_holds limit index one two m other here count is e h f g first second holds
     let m3 : List ℕ = put_byte m2 count (revealed (byte m count)) in
     let s1 : AgreeBeside here 2 m m1 = subst (λ n. AgreeBeside here n m m1) (length-cell_bytes x) (beside_bytes m here (cell_bytes x) h) in
     let h1 : Holds limit one m1 = first limit m m1 s1 holds in
-    let h2 : Holds limit one m2 = holds_low_cell limit 28 _ one m1 (omega arith) h1 in
+    let h2 : Holds limit one m2 = holds_system_cell limit 28 _ one m1 (omega arith) h1 in
     let h3 : Holds limit two m3 = second limit m2 m3 (beside_byte m2 count _ g) h2 in
-    rw (is, sym e, sym f) (holds_low_cell limit 16 0 two m3 (omega arith) h3)
+    rw (is, sym e, sym f) (holds_system_cell limit 16 0 two m3 (omega arith) h3)
 
 pub definition_holds : (limit : ℕ) (index one two : NameIndex) (m other : List ℕ) (result : Result Unit Full) (room here count : ℕ) (u : Unit) → IsEnded room m other result → result ≡ Ok u
     → here ≡ cell m 28 → here < 65536 → count ≡ newest_count m → count < 65536
@@ -180,4 +180,4 @@ definition_holds limit index one two m other result room here count u is r e h f
     let p : IsEnded room m other (Ok u) = subst (λ q. IsEnded room m other q) r is in
     ended_holds limit index one two m other here count p.1 e h f g first second holds
 
-pub ruleset holding = (held_holds, digit_pictured, minus_holds, plus_holds, digits_pictured, placed_holds, header_holds, vocabulary_holds, definition_holds, holds_cell_between, holds_low_cell)
+pub ruleset holding = (held_holds, digit_pictured, minus_holds, plus_holds, digits_pictured, placed_holds, header_holds, vocabulary_holds, definition_holds, holds_system_cell)

@@ -1,0 +1,16 @@
+use Rattle.std.proofs.Common.{◌≡◌, ◌≤◌, ◌<◌, length}
+use Rattle.name_index.proofs.Rounds.{Rounds}
+use Rattle.name_index.proofs.admitting.admit_members.Given as goal
+
+abbrev pub invariant-loop-l : goal.invariant-loop-l
+invariant-loop-l l = record {
+  rounds : Rounds l.top l.memory l.class l.known l.first l.l l.fn.index.table l.index.table;
+  heads : l.index.heads ≡ l.fn.index.heads;
+  top : l.index.top ≡ l.fn.index.top;
+  more : l.fn.index.top ≤ l.top;
+  bound : 256 < l.top → l.top ≤ l.limit;
+  most : l.l ≤ l.first;
+}
+
+abbrev pub decreases-loop-l : goal.decreases-loop-l
+decreases-loop-l l = l.l
