@@ -8,20 +8,15 @@ use Rattle.dictionary.specs.Chain.{chain, is_longer}
 use Rattle.dictionary.specs.Search.{Sought, Found, Nowhere, TooLong, comes_to, head_of, walked, first_in, or_else, first_from, sought_in, sought_from}
 use Rattle.dictionary.specs.Adding.{is_name}
 use Rattle.dictionary.proofs.Firsts.{none_first, from_in}
+use Rattle.dictionary.proofs.Names.{other_length}
 
 name_at_most : (m : List ℕ) (l : ℕ) → length (name_of m l) ≤ 31
 unfolding name_of name_length bytes
 name_at_most m l = let k = and_le_r (count_byte m l) 31 in grind (arith, common_steps, k)
 
-unequal : (xs ys : List ℕ) → length xs < length ys → bytes_eq xs ys ≡ false
-unequal [] [] h = absurd (omega arith)
-unequal [] (y ∷ ys) h = refl
-unequal (x ∷ xs) [] h = refl
-unequal (x ∷ xs) (y ∷ ys) h = let r = unequal xs ys (omega arith) in grind (arith, r)
-
 unnamed : (m name : List ℕ) (l : ℕ) → 31 < length name → is_named m name l ≡ false
 unfolding is_named
-unnamed m name l h = let n = name_at_most m l in let u = unequal (name_of m l) name (omega arith) in grind (arith, u)
+unnamed m name l h = let n = name_at_most m l in let u = other_length (name_of m l) name (λ e. absurd (omega (arith, n, h, e))) in grind (arith, u)
 
 find_none : (m name : List ℕ) (ls : List ℕ) → 31 < length name → find (is_named m name) ls ≡ None
 find_none m name ls h = none_first (is_named m name) ls (λ k d lt. unnamed m name _ h)

@@ -15,13 +15,13 @@ unfolding is_watched
 watched_none top a h w = grind (arith, common_steps)
 
 -- an index that keeps nothing
-none_case : (m : List ℕ) (k : ℕ) → k < 4096 → Serves 256 m k (slice_index (replicate 4 0) (k % 4)) (slice_index (replicate 4096 0) k)
+none_case : (m : List ℕ) (k : ℕ) → k < 8192 → Serves 256 m k (slice_index (replicate 4 0) (k % 4)) (slice_index (replicate 8192 0) k)
 none_case m k b =
-    let s : slice_index (replicate 4096 0) k ≡ 0 = get_or-replicate 4096 k 0 0 b in
+    let s : slice_index (replicate 8192 0) k ≡ 0 = get_or-replicate 8192 k 0 0 b in
     let h : slice_index (replicate 4 0) (k % 4) ≡ 0 = get_or-replicate 4 (k % 4) 0 0 (omega arith) in
     rw (s, h) (record { older = omega arith; same = same_none 256 k m })
 
-pub holds_none : (index : NameIndex) (limit : ℕ) (m : List ℕ) → index.table ≡ replicate 4096 0 → index.heads ≡ replicate 4 0 → index.top ≡ 256 → Holds limit index m
+pub holds_none : (index : NameIndex) (limit : ℕ) (m : List ℕ) → index.table ≡ replicate 8192 0 → index.heads ≡ replicate 4 0 → index.top ≡ 256 → Holds limit index m
 unfolding Holds
 holds_none index limit m table heads top = record {
   bound = λ h. absurd (omega (arith, h, top));

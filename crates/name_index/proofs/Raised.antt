@@ -10,7 +10,7 @@ use Rattle.name_index.proofs.Rounds.{same_number, other_number}
 serves_more : (top more k known e : ℕ) (m : List ℕ) → top ≤ more → Serves top m k known e → Serves more m k known e
 serves_more top more k known e m le is = record { older = is.older; same = same_more top more k known e m le is.same }
 
-raised_slot : (old top class first k : ℕ) (m heads before table : List ℕ) (b : Bool) → (k % 4 == class) ≡ b → class < length heads → old ≤ top → k < 4096
+raised_slot : (old top class first k : ℕ) (m heads before table : List ℕ) (b : Bool) → (k % 4 == class) ≡ b → class < length heads → old ≤ top → k < 8192
     → IsAdmitted top m class first before table → Serves old m k (slice_index heads (k % 4)) (slice_index before k)
     → Serves top m k (slice_index (slice_set heads class first) (k % 4)) (slice_index table k)
 raised_slot old top class first k m heads before table true e len le b is was =

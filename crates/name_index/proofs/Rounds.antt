@@ -80,11 +80,11 @@ next_set old top k known f l x t m le is above most h round = record {
 
 -- all slots
 pub record Rounds (top : ℕ) (m : List ℕ) (class known f l : ℕ) (before table : List ℕ) : Type 0 where
-  pub slots : (k : ℕ) → k < 4096 → k % 4 ≡ class → Round top m k known f l (slice_index table k)
-  pub others : (k : ℕ) → k < 4096 → k % 4 ≢ class → slice_index table k ≡ slice_index before k
+  pub slots : (k : ℕ) → k < 8192 → k % 4 ≡ class → Round top m k known f l (slice_index table k)
+  pub others : (k : ℕ) → k < 8192 → k % 4 ≢ class → slice_index table k ≡ slice_index before k
 
 pub first_rounds : (top class known f : ℕ) (m heads before : List ℕ) → slice_index heads class ≡ known
-    → ((k : ℕ) → k < 4096 → Serves top m k (slice_index heads (k % 4)) (slice_index before k)) → Rounds top m class known f f before before
+    → ((k : ℕ) → k < 8192 → Serves top m k (slice_index heads (k % 4)) (slice_index before k)) → Rounds top m class known f f before before
 first_rounds top class known f m heads before e serves = record {
   slots = λ k b c. first_round top k known f (slice_index before k) m
       (subst (λ (h : ℕ). Serves top m k h (slice_index before k)) (subst (λ (i : ℕ). slice_index heads i ≡ known) (sym c) e) (serves k b));

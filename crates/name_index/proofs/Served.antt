@@ -14,7 +14,7 @@ by_slot top k first entry m name start size s small is passes =
     passes.2 ∙ is.same m size (λ a w. refl) name s passes.0 32768 passes.1 (omega (arith, small))
 
 pub found_by : (limit k class start first entry : ℕ) (index : NameIndex) (m name : List ℕ) → Holds limit index m → length m ≡ 65536
-    → k ≡ slot_of name → k < 4096 → k % 4 ≡ class_of name → class ≡ class_of name → slice_index index.heads class ≡ first
+    → k ≡ slot_of name → k < 8192 → k % 4 ≡ class_of name → class ≡ class_of name → slice_index index.heads class ≡ first
     → entry ≡ slice_index index.table k → entry < 65536 → start ≡ cell m (head_of 42 name) → PassesTo m name start first
     → sought_in m 42 name ≡ walked (is_named m name) m 32768 entry
 unfolding Holds sought_in first_in

@@ -25,7 +25,7 @@ top_of index = index.top
 
 -- an index that keeps nothing
 pub record IsEmpty (index : NameIndex) : Type 0 where
-  pub table : index.table ≡ replicate 4096 0
+  pub table : index.table ≡ replicate 8192 0
   pub heads : index.heads ≡ replicate 4 0
   pub top : index.top ≡ 256
 
@@ -36,12 +36,12 @@ floor_of index = if nat_lt 256 index.top then index.top else 16
 -- each slot serves the member that is known of its class, and what is watched ends at the limit at the latest
 pub record IsRight (limit : ℕ) (index : NameIndex) (m : List ℕ) : Type 0 where
   pub bound : 256 < index.top → index.top ≤ limit
-  pub slots : (k : ℕ) → k < 4096 → Serves index.top m k (slice_index index.heads (k % 4)) (slice_index index.table k)
+  pub slots : (k : ℕ) → k < 8192 → Serves index.top m k (slice_index index.heads (k % 4)) (slice_index index.table k)
 
 unfoldable pub Holds : ℕ → NameIndex → List ℕ → Type 0
 Holds limit index m = IsRight limit index m
 
 -- a table in whose slots of a class stands what serves the member f; the others are as they were
 pub record IsAdmitted (top : ℕ) (m : List ℕ) (class f : ℕ) (before table : List ℕ) : Type 0 where
-  pub slots : (k : ℕ) → k < 4096 → k % 4 ≡ class → Serves top m k f (slice_index table k)
-  pub others : (k : ℕ) → k < 4096 → k % 4 ≢ class → slice_index table k ≡ slice_index before k
+  pub slots : (k : ℕ) → k < 8192 → k % 4 ≡ class → Serves top m k f (slice_index table k)
+  pub others : (k : ℕ) → k < 8192 → k % 4 ≢ class → slice_index table k ≡ slice_index before k

@@ -13,7 +13,7 @@ class_of name = slice_index name 0 % 4
 
 -- the slot, among those of a class, of names with that number
 unfoldable pub slot_in : ℕ → List ℕ → ℕ
-slot_in class name = 4 * (number_of 0 name % 1024) + class
+slot_in class name = 4 * (number_of 0 name % 2048) + class
 
 unfoldable pub slot_of : List ℕ → ℕ
 slot_of name = slot_in (class_of name) name

@@ -15,7 +15,7 @@ const LONGEST_WAIT: u16 = 512;
 /// class's head in `heads` on. It rests on what stands in the dictionary below `top`.
 #[derive(Drop)]
 pub struct NameIndex {
-    table: [u16; 4096],
+    table: [u16; 8192],
     heads: [u16; 4],
     top: u16,
     wait: u16,
@@ -34,7 +34,7 @@ impl NameIndex {
         ensures holds { (limit : ℕ) (m : List ℕ) → Holds limit result m }
     {
         NameIndex {
-            table: [0; 4096],
+            table: [0; 8192],
             heads: [0; 4],
             top: DICTIONARY,
             wait: FIRST_WAIT,
@@ -48,7 +48,7 @@ impl NameIndex {
         ensures nothing { IsEmpty self.new }
         ensures holds { (limit : ℕ) (m : List ℕ) → Holds limit self.new m }
     {
-        self.table = [0; 4096];
+        self.table = [0; 8192];
         self.heads = [0; 4];
         self.top = DICTIONARY;
         self.next_wait = self.next_wait.saturating_mul(2).min(LONGEST_WAIT);
@@ -94,7 +94,7 @@ impl NameIndex {
 
     /// What a slot holds, 0 for none.
     pub(crate) fn entry(&self, slot: u16) -> u16
-        requires { slot < 4096 }
+        requires { slot < 8192 }
         ensures { result ≡ slice_index self.now.table slot }
     {
         self.table[usize::from(slot)]
@@ -121,12 +121,12 @@ impl NameIndex {
 
     /// Puts a member in a slot that holds none which is newer than the member `known`.
     pub(crate) fn admit(&mut self, slot: u16, member: u16, known: u16)
-        requires { slot < 4096 }
+        requires { slot < 8192 }
         ensures newer { known < slice_index self.old.table slot → self.new.table ≡ self.old.table }
         ensures set { slice_index self.old.table slot ≤ known → self.new.table ≡ slice_set self.old.table slot member }
         ensures heads { self.new.heads ≡ self.old.heads }
         ensures top { top_of self.new ≡ top_of self.old }
-        ensures size { length self.old.table ≡ 4096 }
+        ensures size { length self.old.table ≡ 8192 }
     {
         let place = usize::from(slot);
         if self.table[place] <= known {

@@ -8,7 +8,7 @@ use dictionary::name_length;
 use memory::Memory;
 
 /// How many slots the names of a class have.
-const SLOTS: u16 = 1024;
+const SLOTS: u16 = 2048;
 
 /// A number of bytes, from the number of those before them on.
 #[tactic(auto, unfolding(crate::specs::Slots::number_of))]
@@ -25,8 +25,8 @@ fn number_of(before: u16, bytes: &[u8]) -> u16
 /// The slot, among those of a class, of a name with that number.
 fn slot_in(class: u8, number: u16) -> u16
     requires { class < 4 }
-    ensures value { result ≡ 4 * (number % 1024) + class }
-    ensures small { result < 4096 }
+    ensures value { result ≡ 4 * (number % 2048) + class }
+    ensures small { result < 8192 }
     ensures class { result % 4 ≡ class }
 {
     4 * (number % SLOTS) + u16::from(class)
@@ -48,7 +48,7 @@ pub fn class_of(name: &[u8]) -> u8
 #[tactic(auto, unfolding(crate::specs::Slots::slot_of, crate::specs::Slots::slot_in))]
 pub fn slot_of(name: &[u8]) -> u16
     ensures value { result ≡ slot_of name.now }
-    ensures small { result < 4096 }
+    ensures small { result < 8192 }
     ensures class { result % 4 ≡ class_of name.now }
 {
     slot_in(class_of(name), number_of(0, name))
@@ -59,7 +59,7 @@ pub fn slot_of(name: &[u8]) -> u16
 pub fn slot_at(memory: &Memory, link_field: u16, class: u8) -> u16
     requires { class < 4 }
     ensures value { result ≡ slot_in class (name_of memory.now link_field) }
-    ensures small { result < 4096 }
+    ensures small { result < 8192 }
     ensures class { result % 4 ≡ class }
 {
     let length = u16::from(name_length(memory, link_field));
