@@ -1,8 +1,8 @@
 -- A search, member by member.
-use Rattle.std.proofs.Common.{◌≡◌, ◌≢◌, ℕ, zero, suc, ◌-◌, ◌<◌, ◌≤◌, ◌==◌, List, Bool, refl, arith, false, true, ap, ◌∙◌}
+use Rattle.std.proofs.Common.{◌≡◌, ◌≢◌, ℕ, zero, suc, ◌-◌, ◌<◌, ◌≤◌, ◌==◌, List, Bool, refl, arith, false, true}
 use Rattle.memory.specs.Bytes.{cell}
 use Rattle.dictionary.specs.Chain.{chain, is_longer}
-use Rattle.dictionary.specs.Search.{Sought, Found, Nowhere, TooLong, walked}
+use Rattle.dictionary.specs.Search.{Found, Nowhere, TooLong, walked}
 
 longer_later : (m : List ℕ) (n l : ℕ) → (l == 0) ≡ false → is_longer m (suc n) l ≡ is_longer m n (cell m l)
 unfolding is_longer chain

@@ -1,10 +1,10 @@
-use Rattle.std.proofs.Common.{◌≡◌, ◌≢◌, ℕ, zero, suc, ◌<◌, ◌≤◌, List, [], ◌∷◌, ◌++◌, length, Bool, true, false, refl, arith, sym, subst, ◌∙◌, ap, ◌==◌, if◌then◌else◌, Option, Some, None}
+use Rattle.std.proofs.Common.{◌≡◌, ℕ, zero, suc, ◌<◌, ◌≤◌, List, [], ◌∷◌, length, Bool, true, false, refl, arith, sym, ◌∙◌, ap, ◌==◌, if◌then◌else◌, Option, Some, None}
 use Rattle.std.specs.Prelude.{All, Contains, find, IsTrue, IsFalse}
-use Rattle.std.proofs.lemmas.List.Elements.{All-nil, All-cons, All-head, All-tail, All-contains, Contains-append_right}
+use Rattle.std.proofs.lemmas.List.Elements.{All-nil, All-cons, All-head, All-tail}
 use Rattle.memory.specs.Bytes.{cell}
 use Rattle.dictionary.specs.Header.{is_named}
 use Rattle.dictionary.specs.Chain.{chain, is_longer, IsNewest}
-use Rattle.dictionary.specs.Search.{Found, Nowhere, TooLong, comes_to, head_of, walked, first_in, or_else, first_from, sought_in, sought_from, chain_in, searched_in, goes_on_in}
+use Rattle.dictionary.specs.Search.{Found, comes_to, head_of, walked, first_in, or_else, first_from, sought_in, sought_from, chain_in, searched_in, goes_on_in}
 
 newest_here : (p : ℕ → Bool) (x : ℕ) (xs : List ℕ) → p x ≡ true → IsNewest p (x ∷ xs) x
 newest_here p x xs h = record { newer = []; older = xs; stands = refl; passes = h; none_newer = All-nil (λ (k : ℕ). IsFalse (p k)) }

@@ -1,12 +1,12 @@
 -- Searches where a new header stands in front of a chain.
-use Rattle.std.proofs.Common.{◌≡◌, ◌≢◌, ℕ, suc, ◌+◌, ◌<◌, ◌≤◌, ◌∷◌, List, [], length, refl, arith, Bool, true, false, sym, ap, subst, ◌∙◌, inl, inr, ◌⊎◌}
+use Rattle.std.proofs.Common.{◌≡◌, ◌≢◌, ℕ, suc, ◌+◌, ◌<◌, ◌≤◌, ◌∷◌, List, [], length, refl, arith, Bool, false, sym, ap, subst, ◌∙◌, inl, inr, ◌⊎◌}
 use Rattle.std.specs.Prelude.{◌==◌, find}
 use Rattle.memory.specs.Bytes.{byte, cell}
 use Rattle.memory.specs.declared.limit.TheConstants.{GREATEST_LIMIT}
 use Rattle.memory.proofs.Same.{cell_by}
 use Rattle.dictionary.specs.Header.{is_named, name_length}
 use Rattle.dictionary.specs.Chain.{chain, is_longer}
-use Rattle.dictionary.specs.Search.{Sought, head_of, walked, first_in, first_from, sought_from}
+use Rattle.dictionary.specs.Search.{head_of, walked, first_in, first_from, sought_from}
 use Rattle.dictionary.proofs.Firsts.{chain_cut}
 use Rattle.dictionary.proofs.Searches.{HeaderSame, AreSame, chain_by, walked_by}
 

@@ -1,5 +1,5 @@
 -- No member of a chain is at 0, so nothing is hidden there.
-use Rattle.std.proofs.Common.{◌≡◌, ◌≢◌, ℕ, zero, suc, List, [], ◌∷◌, Bool, true, false, ◌==◌, if◌then◌else◌, refl, arith, sym}
+use Rattle.std.proofs.Common.{◌≡◌, ℕ, zero, suc, List, [], ◌∷◌, Bool, true, false, ◌==◌, if◌then◌else◌, refl, arith, sym}
 use Rattle.std.specs.Prelude.{find}
 use Rattle.memory.specs.Bytes.{cell}
 use Rattle.dictionary.specs.Header.{is_named, is_named_but}

@@ -1,8 +1,8 @@
 -- CONTEXT's vocabulary, and then FORTH.
-use Rattle.std.proofs.Common.{◌≡◌, ℕ, ◌<◌, ◌≤◌, List, length, refl, arith, sym, ◌∙◌, true, false, ◌==◌, ap, subst}
+use Rattle.std.proofs.Common.{◌≡◌, ℕ, ◌<◌, List, length, refl, arith, true, false, ◌==◌}
 use Rattle.std.proofs.lemmas.Grind.{common_steps}
 use Rattle.memory.specs.Bytes.{cell}
-use Rattle.dictionary.specs.Search.{Sought, Found, Nowhere, TooLong, or_else, head_of, sought, sought_in, sought_from, first_from, first_in}
+use Rattle.dictionary.specs.Search.{Sought, Found, Nowhere, TooLong, or_else, sought, sought_in, sought_from, first_from, first_in}
 use Rattle.dictionary.specs.Header.{is_named}
 
 some_name : (name : List ℕ) → 0 < length name → (length name == 0) ≡ false

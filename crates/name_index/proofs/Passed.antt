@@ -1,9 +1,7 @@
 -- A hidden member is passed.
-use Rattle.std.proofs.Common.{◌≡◌, ℕ, ◌*◌, ◌<◌, ◌≤◌, List, refl, arith, true, false}
-use Rattle.std.proofs.lemmas.Grind.{common_steps}
+use Rattle.std.proofs.Common.{◌≡◌, ℕ, ◌<◌, List, refl, arith, true, false}
 use Rattle.memory.specs.Bytes.{cell}
 use Rattle.dictionary.specs.Header.{is_named, is_hidden}
-use Rattle.dictionary.specs.Search.{walked}
 use Rattle.dictionary.proofs.Chains.{walked_later}
 use Rattle.name_index.specs.Passing.{PassesTo}
 

@@ -1,9 +1,9 @@
 -- The members of a chain enter the table one by one, from the newest on.
-use Rattle.std.proofs.Common.{◌≡◌, ◌≢◌, ℕ, ◌+◌, ◌*◌, ◌%◌, ◌<◌, ◌≤◌, ◌==◌, List, length, Bool, true, false, refl, arith, sym, ◌∙◌, slice_index, slice_set, inl, inr, subst}
+use Rattle.std.proofs.Common.{◌≡◌, ◌≢◌, ℕ, ◌%◌, ◌<◌, ◌≤◌, ◌==◌, List, length, Bool, true, false, refl, arith, sym, ◌∙◌, slice_index, slice_set, inl, inr, subst}
 use Rattle.std.proofs.lemmas.Bool.{cases_lt}
 use Rattle.std.proofs.lemmas.Grind.{common_steps, get_or-set_at}
 use Rattle.std.proofs.lemmas.List.{get_or-set_other}
-use Rattle.dictionary.specs.Header.{name_length, name_of}
+use Rattle.dictionary.specs.Header.{name_of}
 use Rattle.name_index.specs.Slots.{slot_in}
 use Rattle.name_index.specs.declared.index.NameIndex.{NameIndex}
 use Rattle.name_index.specs.Index.{Same, Serves, IsAdmitted, Holds}

@@ -1,5 +1,5 @@
 -- A search by the table.
-use Rattle.std.proofs.Common.{◌≡◌, ℕ, ◌*◌, ◌%◌, ◌<◌, ◌≤◌, List, length, refl, arith, sym, ◌∙◌, slice_index, subst}
+use Rattle.std.proofs.Common.{◌≡◌, ℕ, ◌%◌, ◌<◌, List, length, refl, arith, sym, ◌∙◌, slice_index, subst}
 use Rattle.memory.specs.Bytes.{cell}
 use Rattle.dictionary.specs.Header.{is_named}
 use Rattle.dictionary.specs.Search.{walked, head_of, first_in, sought_in}

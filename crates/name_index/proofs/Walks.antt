@@ -1,5 +1,5 @@
 -- Searches that come to the same.
-use Rattle.std.proofs.Common.{rules, ◌≡◌, ◌≢◌, ℕ, ◌+◌, ◌-◌, ◌*◌, ◌%◌, ◌<◌, ◌≤◌, List, length, Bool, true, false, not, ◌&&◌, refl, arith, sym, ap, ◌∙◌, bytes_eq}
+use Rattle.std.proofs.Common.{rules, ◌≡◌, ◌≢◌, ℕ, ◌+◌, ◌-◌, ◌*◌, ◌%◌, ◌≤◌, List, Bool, true, false, not, ◌&&◌, refl, arith, sym, ap, ◌∙◌, bytes_eq}
 use Rattle.std.proofs.lemmas.Slice.Eq.{bytes_eq-Decides}
 use Rattle.memory.specs.Bytes.{cell}
 use Rattle.dictionary.specs.Header.{is_named, is_hidden, name_of}

@@ -1,4 +1,4 @@
-use Rattle.std.proofs.Common.{rules, arith, ◌≤◌, ◌+◌}
+use Rattle.std.proofs.Common.{rules, ◌≤◌, ◌+◌}
 use Rattle.name_index.proofs.Alike.{Member}
 use Rattle.name_index.proofs.Rounds.{begin_rounds, begin_bound, next_rounds}
 use Rattle.name_index.proofs.admitting.admit_members.Goals as goal

@@ -1,4 +1,4 @@
-use Rattle.std.proofs.Common.{◌≡◌, ◌≤◌, ◌<◌, length}
+use Rattle.std.proofs.Common.{◌≡◌, ◌≤◌, ◌<◌}
 use Rattle.name_index.proofs.Rounds.{Rounds}
 use Rattle.name_index.proofs.admitting.admit_members.Given as goal
 
