@@ -12,9 +12,7 @@ use Rattle.compiling_words.specs.declared.laying.Full.{Full}
 use Rattle.compiling_words.specs.Definitions.{ended, IsEnded}
 use Rattle.dictionary.specs.Laying.{laid_at}
 use Rattle.dictionary.specs.Newest.{newest_count, revealed}
-use Rattle.dictionary.specs.declared.site.Site.{Site}
-use Rattle.dictionary.specs.Adding.{header_bytes, record_bytes, with_vocabulary_at}
-use Rattle.dictionary.proofs.Pieces.{length-cell_bytes, length_header}
+use Rattle.dictionary.proofs.Pieces.{length-cell_bytes}
 use Rattle.input_source.specs.declared.words.Stream.{Stream}
 use Rattle.input_source.specs.declared.words.Word.{Word}
 use Rattle.input_source.specs.declared.placing.TooLong.{TooLong}
@@ -144,20 +142,6 @@ header_holds limit index one two m header here size head end link k h g first se
     let h3 : Holds limit two m3 = second limit m2 m3 (beside_cell m2 head link g) h2 in
     holds_system_cell limit 30 link two m3 (omega arith) h3
 
--- what an index is after it was told of a header of so many bytes, and of the head of its chain
-abbrev pub IsToldHeader : ℕ → ℕ → ℕ → NameIndex → NameIndex → Type 0
-IsToldHeader here size head old new = (limit : ℕ) (m header : List ℕ) (end link : ℕ) → length header ≡ size → Holds limit old m
-    → Holds limit new (written m (PutBytes here header ∷ PutCell 28 end ∷ PutCell head link ∷ PutCell 30 link ∷ []))
-
--- a vocabulary: its record is laid with its header
-pub vocabulary_holds : (limit : ℕ) (index new : NameIndex) (m other name : List ℕ) (site : Site) (newest size : ℕ) → other ≡ with_vocabulary_at site newest m name → size ≡ 17 + length name
-    → IsToldHeader site.here size site.head index new → Holds limit index m → Holds limit new other
-unfolding with_vocabulary_at written record_bytes cell_bytes
-vocabulary_holds limit index new m other name site newest size is k told holds =
-    rw is (holds_system_cell limit 52 (wrap (site.here + (7 + length name))) new _ (omega arith)
-    (told limit m (header_bytes site.view site.link (128 + length name) name 4 (record_bytes newest)) _ _
-    (length_header site.view site.link (128 + length name) 4 name (record_bytes newest) ∙ omega (arith, k)) holds))
-
 -- ;
 pub ended_holds : (limit : ℕ) (index one two : NameIndex) (m other : List ℕ) (here count : ℕ) → other ≡ ended m → here ≡ cell m 28 → here < 65536 → count ≡ newest_count m → count < 65536
     → IsTold here 2 index one → IsTold count 1 one two → Holds limit index m → Holds limit two other
@@ -180,4 +164,4 @@ definition_holds limit index one two m other result room here count u is r e h f
     let p : IsEnded room m other (Ok u) = subst (λ q. IsEnded room m other q) r is in
     ended_holds limit index one two m other here count p.1 e h f g first second holds
 
-pub ruleset holding = (held_holds, digit_pictured, minus_holds, plus_holds, digits_pictured, placed_holds, header_holds, vocabulary_holds, definition_holds, holds_system_cell)
+pub ruleset holding = (held_holds, digit_pictured, minus_holds, plus_holds, digits_pictured, placed_holds, header_holds, definition_holds, holds_system_cell)

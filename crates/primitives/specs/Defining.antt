@@ -10,7 +10,7 @@ use Rattle.plain_rows.specs.Whole.{Whole}
 use Rattle.plain_rows.specs.Row.{After, done, takes1, needs, has_room}
 use Rattle.plain_rows.specs.declared.faults.TheConstants.{DICTIONARY_FULL, BAD_LENGTH}
 use Rattle.primitives.specs.DictionaryRows.{creates}
-use Rattle.primitives.specs.Names.{reads_name, parses, finds_word}
+use Rattle.primitives.specs.Names.{reads_name, parses, reads_word}
 
 -- 168 : ( -- ): as CREATE with code field 1, hidden; then STATE := -1, CONTEXT := CURRENT
 abbrev pub colon : Whole → After
@@ -24,13 +24,11 @@ lays_past t w bs = needs t DICTIONARY_FULL (has_room t (length bs))
 
 -- 176 ['] ( -- ): lays the next word's compilation address as a literal
 abbrev pub bracket_tick : Whole → After
-bracket_tick s = reads_name s (λ t name_word name.
-    finds_word t name_word name (λ w. lays_past t name_word (literal_code t.memory w)))
+bracket_tick s = reads_word s (λ t word w. lays_past t word (literal_code t.memory w))
 
 -- 177 [COMPILE] ( -- ): lays the next word's compilation address
 abbrev pub bracket_compile : Whole → After
-bracket_compile s = reads_name s (λ t name_word name.
-    finds_word t name_word name (λ w. lays_past t name_word (cell_bytes w)))
+bracket_compile s = reads_word s (λ t word w. lays_past t word (cell_bytes w))
 
 -- lays what shows a text, and the text up to the next quote
 abbrev pub quotes : TextWord → Whole → After

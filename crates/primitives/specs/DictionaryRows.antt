@@ -1,17 +1,19 @@
-use Rattle.std.specs.Prelude.{ℕ, ◌+◌, List, [], ◌∷◌, ◌++◌, length, Bool, false, if◌then◌else◌}
+use Rattle.std.specs.Prelude.{◌≡◌, ℕ, ◌+◌, List, [], ◌∷◌, ◌++◌, length, Bool, false, if◌then◌else◌, Result, Ok, Err}
 use Rattle.cells.specs.Cell.{wrap}
 use Rattle.dictionary.specs.Adding.{site_of, header_writes, new_count, record_bytes}
 use Rattle.dictionary.specs.Forgetting.{target, cuts}
 use Rattle.dictionary.specs.Header.{compilation_address, is_immediate}
 use Rattle.dictionary.specs.Newest.{with_immediate}
 use Rattle.dictionary.specs.Search.{sought}
+use Rattle.input_source.specs.declared.words.Stream.{Stream}
 use Rattle.input_source.specs.declared.words.Word.{Word}
 use Rattle.memory.specs.Bytes.{cell, put_cell, Write, PutCell, written}
 use Rattle.memory.specs.declared.system.TheConstants.{TO_IN, DP, CONTEXT, CURRENT, VOC_LINK}
 use Rattle.number_text.specs.Picture.{pad}
 use Rattle.plain_rows.specs.Whole.{Whole}
+use Rattle.plain_rows.specs.declared.parts.Outcome.{Outcome}
 use Rattle.plain_rows.specs.Row.{After, done, takes1, leaves, room}
-use Rattle.primitives.specs.Names.{counted_string, reads_name, searches, finds_word, forgets, admits_header}
+use Rattle.primitives.specs.Names.{counted_string, name_word, name_in, reads_name, searches, reads_word, forgets, admits_header}
 use Rattle.stacks.specs.Cells.{◌▸◌}
 
 -- 147 FIND ( a -- a 0, w -1, w 1 ): the counted string at a; 1 where it is immediate
@@ -26,7 +28,7 @@ leaves_past t w d = room t d (done (record t { values = d; memory = put_cell t.m
 
 -- 148 ' ( -- w ): the next word's compilation address
 abbrev pub tick : Whole → After
-tick s = reads_name s (λ t name_word name. finds_word t name_word name (λ w. leaves_past t name_word (t.values ▸ w)))
+tick s = reads_word s (λ t word w. leaves_past t word (t.values ▸ w))
 
 -- as CREATE: a header of the name with this code field, hidden or not, and the bytes that are laid with it; more is
 -- written behind it, and d is the data stack then
@@ -36,6 +38,22 @@ creates t w name hidden code extra more d = admits_header t w (length extra) (do
   memory = written t.memory
       (PutCell TO_IN w.next ∷ (header_writes (site_of t.memory name) name (new_count hidden name) code extra ++ more));
 }))
+
+-- where the parameter field of a new header of the name is
+abbrev pub new_body : List ℕ → List ℕ → ℕ
+new_body m name = wrap ((site_of m name).here + (7 + length name))
+
+-- what the code's make_header answers: where the parameter field is of a header of the next word's name, behind which a row
+-- may write more and leave another data stack; or what stops the row
+abbrev pub IsHeaderMade : Whole → Whole → Stream → Bool → ℕ → List ℕ → Result ℕ Outcome → Type 0
+IsHeaderMade old new stream hidden code extra (Ok body) =
+    (body ≡ new_body old.memory (name_in old.memory stream)) × (new.values ≡ old.values)
+    × ((more : List Write) (d : List ℕ)
+    → creates old (name_word old.memory stream) (name_in old.memory stream) hidden code extra more d
+    ≡ done (record new { values = d; memory = written new.memory more }))
+IsHeaderMade old new stream hidden code extra (Err o) =
+    (more : List Write) (d : List ℕ)
+    → creates old (name_word old.memory stream) (name_in old.memory stream) hidden code extra more d ≡ (new, o)
 
 -- 150 CREATE ( -- )
 abbrev pub create : Whole → After
@@ -61,10 +79,6 @@ here s = leaves s (s.values ▸ cell s.memory DP)
 -- 155 PAD ( -- a )
 abbrev pub pad_row : Whole → After
 pad_row s = leaves s (s.values ▸ pad s.memory)
-
--- where the parameter field of a new header of the name is
-abbrev pub new_body : List ℕ → List ℕ → ℕ
-new_body m name = wrap ((site_of m name).here + (7 + length name))
 
 -- 156 VOCABULARY ( -- ): as CREATE with code field 4 and a record laid with it: four empty chains and VOC-LINK; last
 -- VOC-LINK := it

@@ -9,6 +9,8 @@ use Rattle.memory.specs.declared.system.TheConstants.{TO_IN, SCR}
 use Rattle.plain_rows.specs.Whole.{Whole}
 use Rattle.plain_rows.specs.Row.{After, done, takes1, leaves}
 use Rattle.primitives.specs.Blocks.{fetches}
+use Rattle.primitives.specs.declared.editor.Edit.{Edit}
+use Rattle.primitives.specs.declared.editor.Edit.TheVariants.{Put, Insert}
 use Rattle.primitives.specs.Streams.{reads}
 use Rattle.stacks.specs.Cells.{◌▸◌}
 
@@ -30,22 +32,27 @@ abbrev pub line : Whole → After
 line s = takes1 s (λ n rest. fetches s (cell s.memory SCR) (λ t slot.
     leaves t (rest ▸ address_of t.buffers slot + line_start n ▸ 64)))
 
+-- what a line's text makes of a screen: it becomes line n, or it comes before that, and the last line is lost
+abbrev pub edited : Edit → List ℕ → ℕ → List ℕ → List ℕ
+edited Put = with_line
+edited Insert = line_inserted
+
 -- a line's text is taken from the stream, whose end >IN becomes, and makes another page of the screen
-abbrev pub edits : Whole → (List ℕ → ℕ → List ℕ → List ℕ) → After
-edits s edited = takes1 s (λ n rest. reads s (λ r stream. fetches r (cell r.memory SCR) (λ t slot. done (record t {
+abbrev pub edits : Edit → Whole → After
+edits edit s = takes1 s (λ n rest. reads s (λ r stream. fetches r (cell r.memory SCR) (λ t slot. done (record t {
   values = rest;
   buffers = front_marked t.buffers;
   memory = with_screen (put_cell t.memory TO_IN stream.size) t slot
-      (edited (screen_in t slot) n (line_text t.memory stream));
+      (edited edit (screen_in t slot) n (line_text t.memory stream));
 }))))
 
 -- 201 PUT ( n -- ): line n := the text
 abbrev pub put : Whole → After
-put s = edits s with_line
+put s = edits Put s
 
 -- 202 INSERT ( n -- ): the text comes before line n, and the last line is lost
 abbrev pub insert : Whole → After
-insert s = edits s line_inserted
+insert s = edits Insert s
 
 -- 203 DELETE ( n -- ): line n goes, and a blank line comes last
 abbrev pub delete : Whole → After

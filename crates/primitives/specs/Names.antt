@@ -1,5 +1,5 @@
 -- Names and texts that rows take out of the stream, and what a search of a name comes to.
-use Rattle.std.specs.Prelude.{ℕ, ◌+◌, List, not, ◌==◌, ◌&&◌, nat_le, Result, Ok, Err}
+use Rattle.std.specs.Prelude.{◌≡◌, ℕ, ◌+◌, List, not, ◌==◌, ◌&&◌, nat_le, Result, Ok, Err}
 use Rattle.cells.specs.Cell.{wrap}
 use Rattle.dictionary.specs.declared.fault.ForgetFault.{ForgetFault}
 use Rattle.dictionary.specs.declared.fault.ForgetFault.TheVariants.{NameLength, NotFound, ChainTooLong}
@@ -10,6 +10,7 @@ use Rattle.input_source.specs.declared.words.Word.{Word}
 use Rattle.input_source.specs.Words.{word_in, parsed_in, bytes_in}
 use Rattle.memory.specs.Bytes.{byte, bytes}
 use Rattle.plain_rows.specs.Whole.{Whole}
+use Rattle.plain_rows.specs.declared.parts.Outcome.{Outcome}
 use Rattle.plain_rows.specs.Row.{After, fault, needs, has_room}
 use Rattle.plain_rows.specs.declared.faults.TheConstants.{DICTIONARY_FULL, CHAIN_TOO_LONG, NOT_FOUND, BAD_LENGTH}
 use Rattle.primitives.specs.Streams.{reads}
@@ -45,6 +46,15 @@ abbrev pub finds_word : Whole → Word → List ℕ → (ℕ → After) → Afte
 finds_word t w name after =
     needs t BAD_LENGTH (not (w.len == 0))
     (searches t (sought t.memory name) (fault t NOT_FOUND) (λ l. after (compilation_address t.memory l)))
+
+-- a row that takes a word out of the stream: goes on with it and with its compilation address
+abbrev pub reads_word : Whole → (Whole → Word → ℕ → After) → After
+reads_word s after = reads_name s (λ t word name. finds_word t word name (after t word))
+
+-- what the code's read_word answers: what the row goes on with, or what stops it
+abbrev pub IsWordRead : Whole → Whole → Result (Word × ℕ) Outcome → Type 0
+IsWordRead old new (Ok found) = (after : Whole → Word → ℕ → After) → reads_word old after ≡ after new found.0 found.1
+IsWordRead old new (Err o) = (after : Whole → Word → ℕ → After) → reads_word old after ≡ (new, o)
 
 -- goes on with where the header begins that can be forgotten; else its name is empty (15), it isn't there or is fenced
 -- (13), or a chain is too long (11)

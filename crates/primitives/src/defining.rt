@@ -5,20 +5,19 @@
 ghost use Rattle.std.specs.Prelude.{◌≡◌};
 ghost use Rattle.primitives.specs.Defining.{colon, lays_past, bracket_tick, bracket_compile, quotes, dot_quote, abort_quote, constant, variable};
 
-use crate::dictionary_rows::create_with;
-use crate::names::sought;
+use crate::dictionary_rows::{create_with, make_header};
+use crate::names::read_word;
 use crate::streams::{open, pass};
-use crate::writing::{lay_text, write_header};
+use crate::writing::lay_text;
 use compiling_words::{TextWord, literal_code, runtime_of};
-use dictionary::{Site, compilation_address};
-use input_source::{Word, next_word, parse_to, word_bytes};
+use input_source::{Word, parse_to, word_bytes};
 use memory::cell_bytes;
 use memory::system::{CONTEXT, CURRENT, DP, STATE};
-use plain_rows::faults::{BAD_LENGTH, CHAIN_TOO_LONG, DATA_UNDERFLOW, DICTIONARY_FULL, NOT_FOUND};
+use plain_rows::faults::{BAD_LENGTH, DATA_UNDERFLOW, DICTIONARY_FULL};
 use plain_rows::parts::{Outcome, Parts};
 
 /// 168 `:` ( -- )
-#[tactic(auto, unfolding(crate::specs::DictionaryRows::creates, dictionary::specs::Adding::with_header_at, memory::specs::Bytes::written))]
+#[tactic(auto, unfolding(memory::specs::Bytes::written))]
 pub fn colon(parts: &mut Parts) -> Outcome
     ensures { (parts.new, result) ≡ colon parts.old }
 {
@@ -26,22 +25,15 @@ pub fn colon(parts: &mut Parts) -> Outcome
         Ok(stream) => stream,
         Err(outcome) => return outcome,
     };
-    let word = next_word(&parts.memory, stream, b' ');
-    if word.len == 0 || word.len > 31 {
-        return Outcome::Fault(BAD_LENGTH);
-    }
-    if !parts.has_room(7 + word.len as usize) {
-        return Outcome::Fault(DICTIONARY_FULL);
-    }
-    let bytes = word_bytes(&parts.memory, stream, word);
-    let name = &bytes[..word.len as usize];
-    let site = Site::of(&parts.memory, name);
     let current = parts.memory.cell(CURRENT);
-    pass(parts, word);
-    write_header(parts, site, name, 1, &[], true);
-    parts.set_cell(STATE, 65535);
-    parts.set_cell(CONTEXT, current);
-    Outcome::Done
+    match make_header(parts, stream, 1, &[], true) {
+        Ok(_) => {
+            parts.set_cell(STATE, 65535);
+            parts.set_cell(CONTEXT, current);
+            Outcome::Done
+        }
+        Err(outcome) => outcome,
+    }
 }
 
 /// Lays bytes, and makes `>IN` the place behind a word.
@@ -62,22 +54,12 @@ fn lay_past(parts: &mut Parts, word: Word, bytes: &[u8]) -> Outcome
 pub fn bracket_tick(parts: &mut Parts) -> Outcome
     ensures { (parts.new, result) ≡ bracket_tick parts.old }
 {
-    let stream = match open(parts) {
-        Ok(stream) => stream,
-        Err(outcome) => return outcome,
-    };
-    let word = next_word(&parts.memory, stream, b' ');
-    if word.len == 0 {
-        return Outcome::Fault(BAD_LENGTH);
-    }
-    match sought(parts, stream, word) {
-        Ok(Some(link_field)) => {
-            let w = compilation_address(&parts.memory, link_field);
+    match read_word(parts) {
+        Ok((word, w)) => {
             let code = literal_code(&parts.memory, w);
             lay_past(parts, word, &code)
         }
-        Ok(None) => Outcome::Fault(NOT_FOUND),
-        Err(_) => Outcome::Fault(CHAIN_TOO_LONG),
+        Err(outcome) => outcome,
     }
 }
 
@@ -85,21 +67,9 @@ pub fn bracket_tick(parts: &mut Parts) -> Outcome
 pub fn bracket_compile(parts: &mut Parts) -> Outcome
     ensures { (parts.new, result) ≡ bracket_compile parts.old }
 {
-    let stream = match open(parts) {
-        Ok(stream) => stream,
-        Err(outcome) => return outcome,
-    };
-    let word = next_word(&parts.memory, stream, b' ');
-    if word.len == 0 {
-        return Outcome::Fault(BAD_LENGTH);
-    }
-    match sought(parts, stream, word) {
-        Ok(Some(link_field)) => {
-            let w = compilation_address(&parts.memory, link_field);
-            lay_past(parts, word, &cell_bytes(w))
-        }
-        Ok(None) => Outcome::Fault(NOT_FOUND),
-        Err(_) => Outcome::Fault(CHAIN_TOO_LONG),
+    match read_word(parts) {
+        Ok((word, w)) => lay_past(parts, word, &cell_bytes(w)),
+        Err(outcome) => outcome,
     }
 }
 

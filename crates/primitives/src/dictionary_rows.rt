@@ -3,14 +3,15 @@
 #![tactic(auto, using(plain_rows::proofs::Takes::takes, crate::proofs::Searching::searching))]
 
 ghost use Rattle.std.specs.Prelude.{◌≡◌, ◌≤◌, [], ◌++◌, length, drop, false};
-ghost use Rattle.primitives.specs.DictionaryRows.{find, leaves_past, tick, creates, create, immediate, forget, to_body, here, pad_row, vocabulary, definitions};
+ghost use Rattle.primitives.specs.DictionaryRows.{find, leaves_past, tick, creates, IsHeaderMade, create, immediate, forget, to_body, here, pad_row, vocabulary, definitions};
 ghost use Rattle.primitives.specs.Names.{name_word, name_in};
 
-use crate::names::{sought, sought_at, target_in};
+use crate::names::{read_word, sought_at, target_in};
 use crate::streams::{open, pass};
-use crate::writing::{write_header, write_vocabulary};
+use crate::writing::write_header;
 use dictionary::{
-    ForgetFault, Site, compilation_address, cut_by, is_immediate, newest_count, set_immediate,
+    ForgetFault, Site, compilation_address, cut_by, is_immediate, newest_count, record_bytes,
+    set_immediate,
 };
 use input_source::{Stream, Word, next_word, word_bytes};
 use memory::system::{CONTEXT, CURRENT, DP, VOC_LINK};
@@ -58,26 +59,41 @@ pub fn leave_past(parts: &mut Parts, word: Word, cells: &[u16]) -> Outcome
 pub fn tick(parts: &mut Parts) -> Outcome
     ensures { (parts.new, result) ≡ tick parts.old }
 {
-    let stream = match open(parts) {
-        Ok(stream) => stream,
-        Err(outcome) => return outcome,
-    };
-    let word = next_word(&parts.memory, stream, b' ');
-    if word.len == 0 {
-        return Outcome::Fault(BAD_LENGTH);
-    }
-    match sought(parts, stream, word) {
-        Ok(Some(link_field)) => {
-            let w = compilation_address(&parts.memory, link_field);
-            leave_past(parts, word, &[w])
-        }
-        Ok(None) => Outcome::Fault(NOT_FOUND),
-        Err(_) => Outcome::Fault(CHAIN_TOO_LONG),
+    match read_word(parts) {
+        Ok((word, w)) => leave_past(parts, word, &[w]),
+        Err(outcome) => outcome,
     }
 }
 
-/// Makes a header of the next word's name; `taken` cells leave the data stack.
+/// Makes a header of the next word's name, and gives the address of its parameter field; or says what stops the row.
 #[tactic(auto, unfolding(crate::specs::DictionaryRows::creates, dictionary::specs::Adding::with_header_at, memory::specs::Bytes::written))]
+pub fn make_header(
+    parts: &mut Parts,
+    stream: Stream,
+    code: u16,
+    extra: &[u8],
+    hidden: bool,
+) -> Result<u16, Outcome>
+    requires { length extra.now ≤ 10 }
+    ensures { IsHeaderMade parts.old parts.new stream hidden code extra.now result }
+{
+    let word = next_word(&parts.memory, stream, b' ');
+    if word.len == 0 || word.len > 31 {
+        return Err(Outcome::Fault(BAD_LENGTH));
+    }
+    if !parts.has_room(7 + word.len as usize + extra.len()) {
+        return Err(Outcome::Fault(DICTIONARY_FULL));
+    }
+    let bytes = word_bytes(&parts.memory, stream, word);
+    let name = &bytes[..word.len as usize];
+    let site = Site::of(&parts.memory, name);
+    pass(parts, word);
+    write_header(parts, site, name, code, extra, hidden);
+    Ok(site.here.wrapping_add(7 + word.len))
+}
+
+/// Makes a header of the next word's name; `taken` cells leave the data stack.
+#[tactic(auto, unfolding(memory::specs::Bytes::written))]
 pub fn create_with(
     parts: &mut Parts,
     stream: Stream,
@@ -90,20 +106,13 @@ pub fn create_with(
     ensures { (parts.new, result) ≡ creates parts.old (name_word parts.old.memory stream)
         (name_in parts.old.memory stream) false code extra.now [] (drop taken parts.old.values) }
 {
-    let word = next_word(&parts.memory, stream, b' ');
-    if word.len == 0 || word.len > 31 {
-        return Outcome::Fault(BAD_LENGTH);
+    match make_header(parts, stream, code, extra, false) {
+        Ok(_) => {
+            parts.values.lower(taken);
+            Outcome::Done
+        }
+        Err(outcome) => outcome,
     }
-    if !parts.has_room(7 + word.len as usize + extra.len()) {
-        return Outcome::Fault(DICTIONARY_FULL);
-    }
-    let bytes = word_bytes(&parts.memory, stream, word);
-    let name = &bytes[..word.len as usize];
-    let site = Site::of(&parts.memory, name);
-    pass(parts, word);
-    write_header(parts, site, name, code, extra, false);
-    parts.values.lower(taken);
-    Outcome::Done
 }
 
 /// 150 `CREATE` ( -- )
@@ -178,7 +187,7 @@ pub fn pad_row(parts: &mut Parts) -> Outcome
 }
 
 /// 156 `VOCABULARY` ( -- )
-#[tactic(auto, unfolding(crate::specs::DictionaryRows::creates, dictionary::specs::Adding::with_vocabulary_at, dictionary::specs::Adding::record_bytes, memory::specs::Bytes::cell_bytes, memory::specs::Bytes::written))]
+#[tactic(auto, unfolding(memory::specs::Bytes::written))]
 pub fn vocabulary(parts: &mut Parts) -> Outcome
     ensures { (parts.new, result) ≡ vocabulary parts.old }
 {
@@ -186,20 +195,14 @@ pub fn vocabulary(parts: &mut Parts) -> Outcome
         Ok(stream) => stream,
         Err(outcome) => return outcome,
     };
-    let word = next_word(&parts.memory, stream, b' ');
-    if word.len == 0 || word.len > 31 {
-        return Outcome::Fault(BAD_LENGTH);
+    let record = record_bytes(parts.memory.cell(VOC_LINK));
+    match make_header(parts, stream, 4, &record, false) {
+        Ok(body) => {
+            parts.set_cell(VOC_LINK, body);
+            Outcome::Done
+        }
+        Err(outcome) => outcome,
     }
-    if !parts.has_room(7 + word.len as usize + 10) {
-        return Outcome::Fault(DICTIONARY_FULL);
-    }
-    let bytes = word_bytes(&parts.memory, stream, word);
-    let name = &bytes[..word.len as usize];
-    let site = Site::of(&parts.memory, name);
-    let newest = parts.memory.cell(VOC_LINK);
-    pass(parts, word);
-    write_vocabulary(parts, site, name, newest);
-    Outcome::Done
 }
 
 /// 157 `DEFINITIONS` ( -- )

@@ -4,20 +4,29 @@
 
 ghost use Rattle.std.specs.Prelude.{◌≡◌, ◌<◌, ◌≤◌, ◌+◌, length};
 ghost use Rattle.block_buffers.specs.Entries.{address_of};
-ghost use Rattle.block_buffers.specs.Screens.{blank_screen, line_start, with_line, line_inserted, line_deleted};
+ghost use Rattle.block_buffers.specs.Screens.{blank_screen, line_start, line_deleted};
 ghost use Rattle.memory.specs.Bytes.{cell, front_put, page, put_cell, with_page};
 ghost use Rattle.primitives.specs.Blocks.{IsFetched};
-ghost use Rattle.primitives.specs.Editor.{line_text, line, put, insert, delete, wipe};
+ghost use Rattle.primitives.specs.Editor.{line_text, line, edited, edits, put, insert, delete, wipe};
 
 use crate::blocks::fetch;
 use crate::streams::open;
-use block_buffers::{delete_line, insert_line, put_line};
+use block_buffers::{BLOCK_SIZE, delete_line, insert_line, put_line};
 use input_source::{Stream, Word, word_bytes};
 use memory::Memory;
 use memory::system::{SCR, TO_IN};
 use plain_rows::faults::DATA_UNDERFLOW;
 use plain_rows::leaves;
 use plain_rows::parts::{Outcome, Parts};
+
+/// What a line's text does to the screen.
+#[derive(Clone, Copy)]
+pub enum Edit {
+    /// It becomes the line.
+    Put,
+    /// It comes before the line, and the last line is lost.
+    Insert,
+}
 
 /// References block SCR, and gives its slot; or says what stops the row.
 fn open_screen(parts: &mut Parts) -> Result<usize, Outcome>
@@ -79,38 +88,30 @@ fn wipe_in(parts: &mut Parts, slot: usize)
     parts.set_page(slot, &screen);
 }
 
-/// `>IN` goes to the stream's end, and its text becomes line `n` of the screen in a slot.
-fn put_in(parts: &mut Parts, slot: usize, n: u16, stream: Stream)
-    requires slot { slot < length parts.old.buffers }
-    requires place { stream.place ≤ stream.size }
-    ensures { parts.new ≡ (record parts.old {
-      memory = with_page (put_cell parts.old.memory TO_IN stream.size)
-          (address_of parts.old.buffers slot)
-          (with_line (page parts.old.memory (address_of parts.old.buffers slot)) n (line_text parts.old.memory stream));
-    }) }
+/// A line's text becomes line `n` of a screen, or comes before it.
+fn edit_screen(screen: &mut [u8; BLOCK_SIZE], edit: Edit, n: u16, text: &[u8; 64])
+    ensures { screen.new ≡ edited edit screen.old n text.now }
 {
-    let at = parts.buffers.address_of(slot);
-    let text = line_text(&parts.memory, stream);
-    let mut screen = *parts.memory.page(at);
-    put_line(&mut screen, n, &text);
-    parts.set_cell(TO_IN, stream.size);
-    parts.set_page(slot, &screen);
+    match edit {
+        Edit::Put => put_line(screen, n, text),
+        Edit::Insert => insert_line(screen, n, text),
+    }
 }
 
-/// `>IN` goes to the stream's end, and its text comes before line `n` of the screen in a slot.
-fn insert_in(parts: &mut Parts, slot: usize, n: u16, stream: Stream)
+/// `>IN` goes to the stream's end, and its text edits line `n` of the screen in a slot.
+fn edit_in(parts: &mut Parts, slot: usize, edit: Edit, n: u16, stream: Stream)
     requires slot { slot < length parts.old.buffers }
     requires place { stream.place ≤ stream.size }
     ensures { parts.new ≡ (record parts.old {
       memory = with_page (put_cell parts.old.memory TO_IN stream.size)
           (address_of parts.old.buffers slot)
-          (line_inserted (page parts.old.memory (address_of parts.old.buffers slot)) n (line_text parts.old.memory stream));
+          (edited edit (page parts.old.memory (address_of parts.old.buffers slot)) n (line_text parts.old.memory stream));
     }) }
 {
     let at = parts.buffers.address_of(slot);
     let text = line_text(&parts.memory, stream);
     let mut screen = *parts.memory.page(at);
-    insert_line(&mut screen, n, &text);
+    edit_screen(&mut screen, edit, n, &text);
     parts.set_cell(TO_IN, stream.size);
     parts.set_page(slot, &screen);
 }
@@ -139,9 +140,9 @@ fn line_address(at: u16, n: u16) -> u16
     at + 64 * (n % 16)
 }
 
-/// 201 `PUT` ( n -- )
-pub fn put(parts: &mut Parts) -> Outcome
-    ensures { (parts.new, result) ≡ put parts.old }
+/// A row that takes a line's text out of the stream, and edits the screen with it.
+fn edit_line(parts: &mut Parts, edit: Edit) -> Outcome
+    ensures { (parts.new, result) ≡ edits edit parts.old }
 {
     let Some(n) = parts.values.pick(0) else {
         return Outcome::Fault(DATA_UNDERFLOW);
@@ -154,31 +155,24 @@ pub fn put(parts: &mut Parts) -> Outcome
         Ok(slot) => slot,
         Err(outcome) => return outcome,
     };
-    put_in(parts, slot, n, stream);
+    edit_in(parts, slot, edit, n, stream);
     parts.values.lower(1);
     parts.buffers.mark_front();
     Outcome::Done
+}
+
+/// 201 `PUT` ( n -- )
+pub fn put(parts: &mut Parts) -> Outcome
+    ensures { (parts.new, result) ≡ put parts.old }
+{
+    edit_line(parts, Edit::Put)
 }
 
 /// 202 `INSERT` ( n -- )
 pub fn insert(parts: &mut Parts) -> Outcome
     ensures { (parts.new, result) ≡ insert parts.old }
 {
-    let Some(n) = parts.values.pick(0) else {
-        return Outcome::Fault(DATA_UNDERFLOW);
-    };
-    let stream = match open(parts) {
-        Ok(stream) => stream,
-        Err(outcome) => return outcome,
-    };
-    let slot = match open_screen(parts) {
-        Ok(slot) => slot,
-        Err(outcome) => return outcome,
-    };
-    insert_in(parts, slot, n, stream);
-    parts.values.lower(1);
-    parts.buffers.mark_front();
-    Outcome::Done
+    edit_line(parts, Edit::Insert)
 }
 
 /// 203 `DELETE` ( n -- )

@@ -6,15 +6,17 @@ ghost use Rattle.input_source.specs.Words.{bytes_in};
 ghost use Rattle.memory.specs.Bytes.{bytes};
 ghost use Rattle.number_text.specs.Numbers.{IsNumber, IsNoNumber};
 ghost use Rattle.dictionary.specs.Search.{sought, IsSought};
-ghost use Rattle.primitives.specs.Names.{counted_string};
+ghost use Rattle.primitives.specs.Names.{counted_string, IsWordRead};
 
+use crate::streams::open;
 use crate::text::Text;
-use dictionary::{ChainTooLong, ForgetFault, forget_target};
-use input_source::{Stream, Word};
+use dictionary::{ChainTooLong, ForgetFault, compilation_address, forget_target};
+use input_source::{Stream, Word, next_word};
 use memory::Memory;
 use name_index::find_indexed;
 use number_text::{Number, number};
-use plain_rows::parts::Parts;
+use plain_rows::faults::{BAD_LENGTH, CHAIN_TOO_LONG, NOT_FOUND};
+use plain_rows::parts::{Outcome, Parts};
 
 /// The same of a name that goes on at address 0.
 fn sought_in_pieces(parts: &mut Parts, from: u16, n: u16) -> Result<Option<u16>, ChainTooLong>
@@ -51,6 +53,23 @@ pub fn sought(parts: &mut Parts, stream: Stream, word: Word) -> Result<Option<u1
     ensures same { parts.new ≡ parts.old }
 {
     sought_bytes(parts, stream.at.wrapping_add(word.at), word.len)
+}
+
+/// Takes a word out of the stream, and gives it and its compilation address; or says what stops the row.
+#[tactic(auto, using(crate::proofs::Searching::searching))]
+pub fn read_word(parts: &mut Parts) -> Result<(Word, u16), Outcome>
+    ensures { IsWordRead parts.old parts.new result }
+{
+    let stream = open(parts)?;
+    let word = next_word(&parts.memory, stream, b' ');
+    if word.len == 0 {
+        return Err(Outcome::Fault(BAD_LENGTH));
+    }
+    match sought(parts, stream, word) {
+        Ok(Some(link_field)) => Ok((word, compilation_address(&parts.memory, link_field))),
+        Ok(None) => Err(Outcome::Fault(NOT_FOUND)),
+        Err(_) => Err(Outcome::Fault(CHAIN_TOO_LONG)),
+    }
 }
 
 /// The link field of the header that the counted string at `a` means.

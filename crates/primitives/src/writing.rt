@@ -4,7 +4,7 @@ ghost use Rattle.std.specs.Prelude.{ℕ, ◌≡◌, ◌+◌, ◌≤◌, List, []
 ghost use Rattle.block_buffers.specs.Entries.{limit};
 ghost use Rattle.compiling_words.specs.Code.{text_code};
 ghost use Rattle.compiling_words.specs.Definitions.{IsEnded};
-ghost use Rattle.dictionary.specs.Adding.{header_size, with_header_at, with_vocabulary_at};
+ghost use Rattle.dictionary.specs.Adding.{header_size, with_header_at};
 ghost use Rattle.dictionary.specs.Laying.{laid_at};
 ghost use Rattle.input_source.specs.Placing.{IsPlaced};
 ghost use Rattle.memory.specs.Bytes.{PutBytes, PutCell, written};
@@ -20,9 +20,6 @@ use plain_rows::parts::Parts;
 
 /// The bytes of a header besides its name: view, link, count byte and code field.
 const FIXED_SIZE: u16 = 7;
-
-/// The bytes of a vocabulary's record.
-const RECORD_SIZE: u16 = 10;
 
 /// Tells the index of a new header of `size` bytes: of its bytes, and of the head of its chain. DP and LAST are not
 /// watched.
@@ -53,17 +50,6 @@ pub fn write_header(
 {
     site.write(&mut parts.memory, name, code, extra, hidden);
     let size = FIXED_SIZE + name.len() as u16 + extra.len() as u16;
-    note_header(&mut parts.index, site.here, size, site.head);
-}
-
-/// Writes a vocabulary at its site, as `Site::write_vocabulary`.
-#[tactic(auto, using(crate::proofs::Beside::holding))]
-pub fn write_vocabulary(parts: &mut Parts, site: Site, name: &[u8], newest: u16)
-    requires { length name.now ≤ 31 }
-    ensures { parts.new ≡ (record parts.old { memory = with_vocabulary_at site newest parts.old.memory name.now }) }
-{
-    site.write_vocabulary(&mut parts.memory, name, newest);
-    let size = FIXED_SIZE + name.len() as u16 + RECORD_SIZE;
     note_header(&mut parts.index, site.here, size, site.head);
 }
 
