@@ -2,6 +2,7 @@ pub mod Tokens
 pub mod Tree
 pub mod Code
 pub mod Rules
+pub mod Meaning
 pub mod Faults
 pub mod Open
 pub mod Draft

@@ -17,7 +17,8 @@ use Rattle.image_builder.specs.declared.state.Begun.TheVariants as g
 use Rattle.colon_bodies.specs.Rules as rules
 use Rattle.colon_bodies.specs.declared.words.Half.TheVariants.{Free, Compiling}
 use Rattle.image_builder.specs.Built.{Built}
-use Rattle.image_builder.specs.Places.{Place, Sense, Plain, Keyword, Figure, Wide, Remark}
+use Rattle.colon_bodies.specs.Meaning.{Sense, Plain, Keyword, Figure, Wide, Remark}
+use Rattle.image_builder.specs.Places.{Place}
 use Rattle.image_builder.specs.Items.{Items, Nothing, item_words, controls, low, zeros, bytes, heads_of, image, system, end_of, last_link, names, current, newest_record}
 use Rattle.image_builder.specs.Names.{Name, address, newest_first, newest_link}
 use Rattle.image_builder.specs.Meanings.{look, unnamed, name_first, sense_of, is_barred, meaning}

@@ -3,7 +3,8 @@ use Rattle.std.specs.Prelude.{◌≡◌, ◌≢◌, ℕ, ◌+◌, ◌<◌, ◌�
 use Rattle.colon_bodies.specs.Tokens.{Token}
 use Rattle.colon_bodies.specs.declared.words.Half.TheVariants.{Free}
 use Rattle.colon_bodies.specs.declared.fault.BodyCause.{BodyCause}
-use Rattle.image_builder.specs.Places.{Place, Sense, Plain}
+use Rattle.colon_bodies.specs.Meaning.{Sense, Plain}
+use Rattle.image_builder.specs.Places.{Place}
 use Rattle.image_builder.specs.Items.{Items, item_words, head_size, kind_size, end_of, names, controls, boot}
 use Rattle.image_builder.specs.declared.entry.Lead.{Lead}
 use Rattle.image_builder.specs.declared.entry.Lead.TheVariants.{Makes, Defines, Starts}

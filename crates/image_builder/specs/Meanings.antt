@@ -2,14 +2,15 @@
 use Rattle.std.proofs.Math.Dec.{ltb}
 use Rattle.std.specs.Prelude.{ℕ, Bool, false, cond, ◌||◌, ◌&&◌, List, [], ◌∷◌, Option, Some, None, Result, Ok, Err, codes}
 use Rattle.std.specs.Str.{bytes_eq}
-use Rattle.colon_bodies.specs.Tokens.{Token, NAME, NUMBER, DOUBLE}
+use Rattle.colon_bodies.specs.Tokens.{Token, NAME}
+use Rattle.colon_bodies.specs.Meaning.{Sense, by_spelling, keyword_first}
 use Rattle.colon_bodies.specs.declared.words.Half.{Half}
-use Rattle.colon_bodies.specs.declared.words.Half.TheVariants.{Free, Compiling}
-use Rattle.image_builder.specs.Places.{Place, Sense, Plain, Keyword, Figure, Wide, Remark}
+use Rattle.image_builder.specs.Places.{Place}
 use Rattle.image_builder.specs.Names.{Name, address, found}
 use Rattle.image_builder.specs.Items.{Items, current, names, record_of}
 use Rattle.image_builder.specs.declared.entry.Sign.{Sign}
 use Rattle.image_builder.specs.declared.cause.Cause.{Cause}
+use Rattle.colon_bodies.specs.Meaning as body
 use Rattle.colon_bodies.specs.Rules as rules
 use Rattle.image_builder.specs.declared.entry.Sign.TheVariants as g
 use Rattle.image_builder.specs.declared.cause.Cause.TheVariants as c
@@ -37,17 +38,11 @@ is_inner _ = false
 
 -- a name that can't stand behind what is half read
 abbrev pub is_barred : Half → Name → Bool
-is_barred Free n = n.immediate || is_inner n.sign
-is_barred Compiling n = n.immediate
-is_barred _ n = false
+is_barred h n = body.is_barred h (is_inner n.sign) n.immediate
 
 -- what a word is in a body that isn't a name's
 abbrev pub unnamed : Sense → Result Token Cause
-unnamed (Keyword w) = Ok w
-unnamed (Figure n) = Ok (NUMBER n)
-unnamed (Wide n) = Ok (DOUBLE n)
-unnamed Remark = Err c.Misplaced
-unnamed Plain = Err c.Unknown
+unnamed s = by_spelling (λ w. Ok w) (Err c.Misplaced) (Err c.Unknown) s
 
 abbrev pub name_first : Half → Option Name → Sense → Result Token Cause
 name_first h (Some n) s = cond (is_barred h n) (Err c.Misplaced) (Ok (NAME (address n)))
@@ -55,9 +50,7 @@ name_first h None s = unnamed s
 
 -- behind ['] and [COMPILE] a word is a name first, elsewhere a keyword
 abbrev pub sense_of : Half → Option Name → Sense → Result Token Cause
-sense_of Free n (Keyword w) = Ok w
-sense_of Compiling n (Keyword w) = Ok w
-sense_of h n s = name_first h n s
+sense_of h n s = keyword_first (λ w. Ok w) h s (name_first h n s)
 
 -- what a word is in a body, behind what is half read
 abbrev pub meaning : Half → Items → Place → Result Token Cause

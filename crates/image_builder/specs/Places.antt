@@ -1,21 +1,13 @@
 -- Words of a source.
 use Rattle.std.specs.Prelude.{◌≡◌, ℕ, List}
-use Rattle.colon_bodies.specs.Tokens.{Token}
 use Rattle.colon_bodies.specs.Draft.{token}
+use Rattle.colon_bodies.specs.Meaning.{Sense, Plain, Keyword, Figure, Wide, Remark}
 use Rattle.image_builder.specs.declared.spot.Sort.{Sort}
 use Rattle.image_builder.specs.declared.spot.Inner.{Inner}
 use Rattle.image_builder.specs.declared.spot.Inner.TheVariants as i
 use Rattle.image_builder.specs.declared.spot.Spot.{Spot}
 
--- what a word is in a body where it is no name
-pub data Sense : Type 0 where
-  Plain : Sense
-  Keyword : Token → Sense
-  Figure : (n : ℕ) → Sense
-  Wide : (n : ℕ) → Sense
-  Remark : Sense
-
--- without where its text lies in memory
+-- what a word is in a body where it is no name, without where its text lies in memory
 abbrev pub sense : Inner → Sense
 sense i.Other = Plain
 sense (i.Keyword w) = Keyword (token w)

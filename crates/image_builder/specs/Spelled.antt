@@ -7,7 +7,8 @@ use Rattle.source_words.specs.Words.{SourceWord}
 use Rattle.colon_bodies.specs.Tokens.{Token, TICK, FORCE, COMPILE, IF, ELSE, THEN, BEGIN, UNTIL, AGAIN, WHILE, REPEAT, DO, LOOP, TEXT, DOES, SEMI}
 use Rattle.image_builder.specs.declared.spot.Sort.{Sort}
 use Rattle.image_builder.specs.declared.spot.Sort.TheVariants as s
-use Rattle.image_builder.specs.Places.{Place, Sense, Plain, Keyword, Figure, Wide, Remark}
+use Rattle.colon_bodies.specs.Meaning.{Sense, Plain, Keyword, Figure, Wide, Remark}
+use Rattle.image_builder.specs.Places.{Place}
 use Rattle.std.specs.Prelude.{true, false, map}
 
 -- outside bodies: the words that make headers, the other words of items, and numbers of base 10

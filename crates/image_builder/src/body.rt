@@ -39,7 +39,7 @@ fn is_barred_name(half: Half, e: Entry) -> bool
     ensures { result ≡ is_barred half (entry e.entry) }
 {
     match half {
-        Half::Free => e.immediate || is_inner_control(e.sign),
+        Half::Free => is_inner_control(e.sign) || e.immediate,
         Half::Compiling => e.immediate,
         _ => false,
     }

@@ -8,7 +8,7 @@ use Rattle.colon_bodies.specs.Tokens.{NAME, SEMI}
 use Rattle.colon_bodies.specs.declared.words.Half.TheVariants.{Free}
 use Rattle.source_words.specs.Modes.{begins_body, begins_comment, ends_body, names_in_body, names_outside, takes_text}
 use Rattle.source_words.specs.Words.{SourceWord, source_words, words_of_screens, screen_words, words_from, is_comment, has_text, size_of, word_of, name_of, before}
-use Rattle.image_builder.specs.Places.{Plain, Figure, Wide}
+use Rattle.colon_bodies.specs.Meaning.{Plain, Figure, Wide}
 use Rattle.image_builder.specs.Spelled.{choosing, counting, ending, figure_of, keyword, naming, repeating, saying, sense_of_word}
 use Rattle.number_text.specs.Numbers.{is_double, is_number}
 use Rattle.metacompiler.specs.Meaning.{named_token, token_as, token_of}

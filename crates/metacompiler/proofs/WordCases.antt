@@ -10,7 +10,7 @@ use Rattle.source_words.specs.Modes.{takes_text, begins_comment, ends_body, name
 use Rattle.colon_bodies.specs.Tokens.{Token, NAME, NUMBER, DOUBLE, TICK, FORCE, TEXT, SEMI}
 use Rattle.colon_bodies.specs.declared.words.Half.{Half}
 use Rattle.colon_bodies.specs.declared.words.Half.TheVariants.{Free, Ticked, Forced, Compiling, Both}
-use Rattle.image_builder.specs.Places.{Sense, Plain, Keyword, Figure, Wide, Remark}
+use Rattle.colon_bodies.specs.Meaning.{Sense, Plain, Keyword, Figure, Wide, Remark}
 use Rattle.image_builder.specs.Spelled.{keyword, naming, choosing, repeating, counting, saying, ending, figure_of, keyword_or, sense_of_word}
 use Rattle.metacompiler.specs.Meaning.{name_first, token_as}
 

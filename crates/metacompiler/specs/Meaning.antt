@@ -4,39 +4,26 @@ use Rattle.memory.specs.Bytes.{cell}
 use Rattle.dictionary.specs.Header.{is_immediate, compilation_address}
 use Rattle.dictionary.specs.Search.{Sought, Found, Nowhere, TooLong, sought_from}
 use Rattle.compiling_words.specs.Code.{runtime}
-use Rattle.colon_bodies.specs.Tokens.{Token, NAME, NUMBER, DOUBLE, TEXT, TICK, FORCE, COMPILE, SEMI}
+use Rattle.colon_bodies.specs.Tokens.{Token, NAME, TEXT, TICK, FORCE, COMPILE, SEMI}
+use Rattle.colon_bodies.specs.Meaning.{Sense, is_barred, by_spelling, keyword_first}
 use Rattle.colon_bodies.specs.Rules.{half_after}
 use Rattle.colon_bodies.specs.declared.words.Half.{Half}
-use Rattle.colon_bodies.specs.declared.words.Half.TheVariants.{Free, Compiling}
 use Rattle.source_words.specs.Words.{SourceWord}
-use Rattle.image_builder.specs.Places.{Sense, Keyword, Figure, Wide}
 use Rattle.image_builder.specs.Spelled.{keyword, sense_of_word, text_of}
 use Rattle.resident_bodies.specs.Words.{row_of}
 
--- what a name stands for behind what is half read, by its header: an immediate name stands behind ['] and [COMPILE]
--- alone
+-- what a name stands for behind what is half read, by its header; any control may be named
 abbrev pub named_token : List ℕ → Half → ℕ → Option Token
-named_token m Free l = if is_immediate m l then None else Some (NAME (compilation_address m l))
-named_token m Compiling l = if is_immediate m l then None else Some (NAME (compilation_address m l))
-named_token m _ l = Some (NAME (compilation_address m l))
-
--- what a word is that is no name
-abbrev pub unnamed_token : Sense → Option Token
-unnamed_token (Keyword w) = Some w
-unnamed_token (Figure n) = Some (NUMBER n)
-unnamed_token (Wide n) = Some (DOUBLE n)
-unnamed_token _ = None
+named_token m h l = if is_barred h false (is_immediate m l) then None else Some (NAME (compilation_address m l))
 
 abbrev pub name_first : List ℕ → Half → Sought → Sense → Option Token
 name_first m h (Found l) s = named_token m h l
-name_first m h Nowhere s = unnamed_token s
+name_first m h Nowhere s = by_spelling (λ w. Some w) None None s
 name_first m h TooLong s = None
 
 -- behind ['] and [COMPILE] a word is a name first, elsewhere a keyword
 abbrev pub token_as : List ℕ → Half → Sought → Sense → Option Token
-token_as m Free l (Keyword w) = Some w
-token_as m Compiling l (Keyword w) = Some w
-token_as m h l s = name_first m h l s
+token_as m h l s = keyword_first (λ w. Some w) h s (name_first m h l s)
 
 -- what a word of a body is, behind what is half read
 abbrev pub token_of : List ℕ → (voc : ℕ) → Half → SourceWord → Option Token

@@ -2,7 +2,7 @@
 use Rattle.std.proofs.Common.{◌≡◌, ◌≢◌, ℕ, ◌<◌, ◌≤◌, ◌%◌, Bool, true, false, not, ◌&&◌, ◌==◌, List, [], ◌∷◌, ◌++◌, length, Some, refl, sym, ap, ◌∙◌, subst, arith, append-nil, if◌then◌else◌, ◌⊎◌, inl, inr, zero, suc}
 use Rattle.std.specs.Prelude.{slice_index}
 use Rattle.std.specs.List.{list_all}
-use Rattle.dictionary.specs.Header.{is_immediate, compilation_address}
+use Rattle.dictionary.specs.Header.{compilation_address}
 use Rattle.dictionary.specs.Search.{Sought, Found, Nowhere, TooLong, sought_hiding}
 use Rattle.source_words.specs.Modes.{begins_comment}
 use Rattle.source_words.specs.Spaced.{Spelling, bare}
@@ -13,7 +13,7 @@ use Rattle.colon_bodies.specs.Tokens.{Token, NAME, NUMBER}
 use Rattle.colon_bodies.specs.Plain.{IsPlainCell}
 use Rattle.colon_bodies.specs.declared.words.Half.{Half}
 use Rattle.colon_bodies.specs.declared.words.Half.TheVariants.{Free, Ticked, Forced, Compiling, Both}
-use Rattle.image_builder.specs.Places.{Plain, Keyword, Figure, Wide}
+use Rattle.colon_bodies.specs.Meaning.{Plain, Keyword, Figure, Wide}
 use Rattle.image_builder.specs.Spelled.{keyword, naming, choosing, repeating, counting, saying, ending, sense_of_word, figure_of, text_of}
 use Rattle.see.specs.Naming.{number_text, is_word, gives, gives_none, is_meant, is_free, name_at}
 use Rattle.see.specs.Printing.{gives_immediate, is_forced, is_keyword}

@@ -1,9 +1,9 @@
 -- Forced names leave a definition within its bounds.
-use Rattle.std.proofs.Common.{◌≡◌, ◌≤◌, Bool, true, false, ℕ, ◌+◌, List, [], ◌∷◌, ◌++◌, refl, sym, subst, max}
+use Rattle.std.proofs.Common.{◌≡◌, Bool, true, false, ℕ, List, [], ◌∷◌, ◌++◌, refl, sym, subst}
 use Rattle.colon_bodies.specs.Tokens.{Token, NAME, SEMI, AreShort}
 use Rattle.colon_bodies.specs.Tree.{named, all_words, depth, all_depth, Body, Empty, Call, Tick, Pair, Literal, Double, Text, IfThen, IfElse, Until, Again, While, Loop, Definition, Simple, Doing}
 use Rattle.colon_bodies.specs.Rules.{AreKnown}
-use Rattle.colon_bodies.specs.Plain.{IsPlainDefinition, spelled, all_spelled, respelled}
+use Rattle.colon_bodies.specs.Plain.{spelled, all_spelled, respelled}
 use Rattle.colon_bodies.proofs.Spelling.{all_spelled_words}
 use Rattle.colon_bodies.proofs.Taking.{known-append}
 use Rattle.see.specs.Shown.{IsThread, IsWithinBounds}

@@ -1,17 +1,17 @@
 -- A definition's text read again as a source is, with the names and the runtime cells of the same memory.
-use Rattle.std.specs.Prelude.{◌≡◌, ◌<◌, ℕ, Bool, not, ◌==◌, ◌&&◌, ◌||◌, List, [], ◌∷◌, Option, Some, None, if◌then◌else◌, map, codes, slice_index}
+use Rattle.std.specs.Prelude.{◌≡◌, ◌<◌, ℕ, Bool, not, ◌==◌, ◌&&◌, List, [], ◌∷◌, Option, Some, None, if◌then◌else◌, map, codes, slice_index}
 use Rattle.std.specs.List.{list_any}
 use Rattle.dictionary.specs.Header.{is_immediate, compilation_address}
 use Rattle.dictionary.specs.Search.{Sought, Found, Nowhere, TooLong, sought_hiding}
 use Rattle.source_words.specs.declared.modes.Mode.TheVariants.{Outside}
 use Rattle.source_words.specs.Words.{screen_words}
 use Rattle.source_words.specs.Spaced.{Spelling, spelling, bare}
-use Rattle.colon_bodies.specs.Tokens.{Token, NAME, NUMBER, DOUBLE}
+use Rattle.colon_bodies.specs.Tokens.{Token, NAME, NUMBER}
+use Rattle.colon_bodies.specs.Meaning.{Sense, is_barred, by_spelling, keyword_first}
 use Rattle.colon_bodies.specs.Tree.{Definition}
 use Rattle.colon_bodies.specs.Rules.{half_after}
 use Rattle.colon_bodies.specs.declared.words.Half.{Half}
-use Rattle.colon_bodies.specs.declared.words.Half.TheVariants.{Free, Compiling}
-use Rattle.image_builder.specs.Places.{Sense, Keyword, Figure, Wide}
+use Rattle.colon_bodies.specs.declared.words.Half.TheVariants.{Free}
 use Rattle.image_builder.specs.Spelled.{sense_of_word, text_of}
 use Rattle.see.specs.Extent.{controls_of}
 use Rattle.see.specs.Printing.{its_words}
@@ -24,30 +24,20 @@ inner_controls = 6 ∷ 7 ∷ 8 ∷ 9 ∷ 10 ∷ 11 ∷ 16 ∷ 17 ∷ 18 ∷ []
 unfoldable pub is_inner : List ℕ → ℕ → Bool
 is_inner controls w = list_any (λ k. not (slice_index controls k == 0) && (w == slice_index controls k)) inner_controls
 
--- what a name stands for behind what is half read, by its header: an immediate name stands behind [COMPILE], and so does that
--- of such a control where nothing is half read
+-- what a name stands for behind what is half read, by its header
 abbrev pub named_token : List ℕ → Half → ℕ → Option Token
-named_token m Free k = if is_immediate m k || is_inner (controls_of m) (compilation_address m k) then None else Some (NAME (compilation_address m k))
-named_token m Compiling k = if is_immediate m k then None else Some (NAME (compilation_address m k))
-named_token m _ k = Some (NAME (compilation_address m k))
-
--- what a word is that is no name
-abbrev pub unnamed_token : Sense → Option Token
-unnamed_token (Keyword w) = Some w
-unnamed_token (Figure n) = Some (NUMBER n)
-unnamed_token (Wide n) = Some (DOUBLE n)
-unnamed_token _ = None
+named_token m h k =
+    if is_barred h (is_inner (controls_of m) (compilation_address m k)) (is_immediate m k) then None
+    else Some (NAME (compilation_address m k))
 
 abbrev pub name_first : List ℕ → Half → Sought → Sense → Option Token
 name_first m h (Found k) s = named_token m h k
-name_first m h Nowhere s = unnamed_token s
+name_first m h Nowhere s = by_spelling (λ w. Some w) None None s
 name_first m h TooLong s = None
 
 -- behind ['] and [COMPILE] a word is a name first, elsewhere a keyword
 abbrev pub token_as : List ℕ → Half → Sought → Sense → Option Token
-token_as m Free l (Keyword w) = Some w
-token_as m Compiling l (Keyword w) = Some w
-token_as m h l s = name_first m h l s
+token_as m h l s = keyword_first (λ w. Some w) h s (name_first m h l s)
 
 -- what a word of a body is, behind what is half read; the header at `hidden` counts as hidden
 abbrev pub token_of : List ℕ → (hidden : ℕ) → Half → Spelling → Option Token
