@@ -3,6 +3,7 @@
 use crate::assertions::assert_equal;
 use crate::see_tests::{CHOICE, built};
 use block_buffers::MemoryDevice;
+use debug_subcommand::do_debug;
 use debug_tracer::debug;
 use image_loader::read;
 use inner_interpreter::ends::FailingWriter;
@@ -11,7 +12,6 @@ use std::alloc::Global;
 use std::io;
 use std::io::{ErrorKind, Write};
 use std::test::Fail;
-use subcommands::do_debug;
 
 /// What `debug` of Z shows, in the image of CHOICE.
 const CHOICE_TRACE: &str = "334 DUP | 0 | 0 369

@@ -2,9 +2,9 @@
 
 use crate::assertions::assert_equal;
 use block_buffers::{Device, DeviceFault};
+use file_access::open_device;
 use std::fs;
 use std::test::Fail;
-use subcommands::open_device;
 
 /// The file that the test makes, and takes away again.
 const NAME: &str = "forth83_test.blk";

@@ -7,12 +7,13 @@ use block_buffers::MemoryDevice;
 use image_loader::{Image, read};
 use inner_interpreter::Writing;
 use inner_interpreter::ends::FailingWriter;
+use load_subcommand::do_load;
 use memory::Memory;
 use memory::system::BASE;
 use metacompiler::{LoadFault, is_resident, load_by_machine};
 use std::alloc::{AllocError, Global};
 use std::test::Fail;
-use subcommands::{Ended, do_load};
+use subcommands::Ended;
 
 /// The first and the last screen, the ticks, what screens 21 and 22 hold, and by how many bytes the image grows, or why
 /// there is none.

@@ -1,3 +1,3 @@
-pub mod Loading
+pub mod Building
 pub mod Rewriting
 pub mod Told

@@ -1,7 +1,5 @@
 -- How refusals are spelled.
 use Rattle.std.specs.Prelude.{ℕ, List, ◌++◌, codes, decimal}
-use Rattle.debug_tracer.specs.declared.fault.DebugFault.{DebugFault}
-use Rattle.debug_tracer.specs.declared.fault.DebugFault.TheVariants as debug
 use Rattle.image_loader.specs.Files.{IsCutShort, IsFollowed, HasBadMagic, HasBadVersion, HasBadBuffers, HasBadSize}
 use Rattle.image_loader.specs.declared.fault.ImageFault.{ImageFault}
 use Rattle.image_loader.specs.declared.fault.ImageFault.TheVariants as image
@@ -53,12 +51,6 @@ see_cause (see.Nameless cell) = codes "Nameless " ++ decimal cell
 see_cause see.Shadowed = codes "Shadowed"
 see_cause see.BadText = codes "BadText"
 see_cause see.OutOfMemory = codes "OutOfMemory"
-
-abbrev pub debug_cause : DebugFault → List ℕ
-debug_cause debug.NotFound = codes "NotFound"
-debug_cause debug.ChainTooLong = codes "ChainTooLong"
-debug_cause debug.NotColon = codes "NotColon"
-debug_cause debug.OutOfMemory = codes "OutOfMemory"
 
 -- why these bytes are no image's file
 abbrev pub IsNoFile : List ℕ → ImageFault → Type 0

@@ -10,12 +10,3 @@ pub record IsUnrun {R D : Type 0} (status : ℕ) (failed : Bool) (reader reader'
   pub reader_is : reader' ≡ reader
   pub device_is : device' ≡ device
   pub status_is : IsRefusal status failed
-
--- the same of a run that is traced
-pub record IsUnmarked {R D T : Type 0} (status : ℕ) (failed : Bool) (reader reader' : R) (device device' : D) (trace trace' : T) : Type 0 where
-  pub unrun : IsUnrun status failed reader reader' device device'
-  pub trace_is : trace' ≡ trace
-
--- a reader, a device and a trace are as they were
-abbrev pub AreKept : {R D T : Type 0} → (reader reader' : R) → (device device' : D) → (trace trace' : T) → Type 0
-AreKept reader reader' device device' trace trace' = (reader' ≡ reader) × (device' ≡ device) × (trace' ≡ trace)

@@ -1,13 +1,10 @@
 -- Lines that the program prints, and its status.
-use Rattle.std.specs.Prelude.{◌≡◌, ◌⊎◌, ◌<◌, ◌≤◌, ℕ, List, [], ◌∷◌, ◌++◌, length, Option, Result, Ok, Err, IsOk, Vec, codes, decimal, unwrap_or}
+use Rattle.std.specs.Prelude.{◌≡◌, ◌⊎◌, ◌<◌, ◌≤◌, ℕ, List, [], ◌∷◌, ◌++◌, length, Option, Result, Ok, Err, Vec, codes, decimal, unwrap_or}
 use Rattle.std.specs.declared.alloc.Global.{Global}
 use Rattle.std.specs.Io.KnownBytes.{Appends}
 use Rattle.block_buffers.specs.Disks.{Disk}
-use Rattle.debug_tracer.specs.Debugged.{debugged}
-use Rattle.debug_tracer.specs.declared.fault.DebugFault.{DebugFault}
-use Rattle.debug_tracer.specs.declared.fault.DebugFault.TheVariants as debug
 use Rattle.dictionary.specs.Search.{sought}
-use Rattle.subcommands.specs.Causes.{IsNoFile, build_cause, debug_cause, image_cause, view_cause, see_cause}
+use Rattle.subcommands.specs.Causes.{IsNoFile, build_cause, image_cause, view_cause, see_cause}
 use Rattle.image_loader.specs.Files.{Contents, IsFile, IsWritten}
 use Rattle.image_loader.specs.declared.fault.ImageFault.{ImageFault}
 use Rattle.image_builder.specs.Sources.{Done, IsRefused}
@@ -56,15 +53,6 @@ OfImageFile bytes Of = (image : Contents) → IsFile bytes image → Of image
 -- the memory that an image is loaded to
 abbrev pub memory_of : Contents → List ℕ
 memory_of image = front_put image.bytes zeros
-
--- where the bytes are an image's file, and a word of this name can't be traced: of why
-abbrev pub OfUntraced : List ℕ → (name : List ℕ) → (DebugFault → Type 0) → Type 0
-OfUntraced bytes name Of =
-    (image : Contents) → IsFile bytes image → (why : DebugFault) → debugged (memory_of image) name ≡ Err why → Of why
-
--- where it can be traced
-abbrev pub OfTraced : List ℕ → (name : List ℕ) → Type 0 → Type 0
-OfTraced bytes name Of = (image : Contents) → IsFile bytes image → IsOk (debugged (memory_of image) name) → Of
 
 -- `screen S offset O: CAUSE`, with some spelling of the cause
 abbrev pub fault_line : (screen offset : ℕ) → List ℕ → List ℕ
@@ -138,11 +126,6 @@ abbrev pub PrintsSeen : (name : List ℕ) → Result (Vec ℕ Global) SeeRefused
 PrintsSeen name (Ok text) status old new = Prints (line text.items) 0 status old new
 PrintsSeen name (Err see.OutOfMemory) status old new = PrintsOutOfMemory status old new
 PrintsSeen name (Err why) status old new = PrintsRefusal name (see_cause why) status old new
-
--- why a word isn't traced was printed
-abbrev pub PrintsUntraced : (name : List ℕ) → DebugFault → (status : ℕ) → (old new : Option (List ℕ)) → Type 0
-PrintsUntraced name debug.OutOfMemory status old new = PrintsOutOfMemory status old new
-PrintsUntraced name why status old new = PrintsRefusal name (debug_cause why) status old new
 
 -- what VIEW tells of a name in an image was printed, or that memory ran out
 abbrev pub EndsViewed : Contents → (name : List ℕ) → (status : ℕ) → (old new : Option (List ℕ)) → Type 0

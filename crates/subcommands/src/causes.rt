@@ -4,14 +4,12 @@
 ghost use Rattle.std.specs.Prelude.{ℕ, List, OnOk};
 ghost use Rattle.std.specs.Io.KnownBytes.{Appends};
 ghost use Rattle.inner_interpreter.specs.Ends.{Marks};
-ghost use Rattle.subcommands.specs.Causes.{image_cause, build_cause, view_cause, see_cause, debug_cause, upgrade_cause};
-ghost use Rattle.subcommands.specs.Loads.{load_cause};
+ghost use Rattle.subcommands.specs.Causes.{image_cause, build_cause, view_cause, see_cause, upgrade_cause};
 
 use crate::sends::send_numbered;
-use debug_tracer::DebugFault;
+use image_builder::Cause;
 use image_loader::{ImageFault, UpgradeFault};
 use inner_interpreter::{EndFault, Output, send_all};
-use metacompiler::{Cause, LoadFault};
 use see::{SeeRefused, ViewRefused};
 
 /// Why something is refused.
@@ -72,24 +70,6 @@ impl Reason for Cause {
     }
 }
 
-impl Reason for LoadFault {
-    ghost spelling = { λ c. load_cause c };
-
-    fn send<W: Output>(&self, writer: &mut W) -> Result<(), EndFault> {
-        match *self {
-            LoadFault::NotFound => send_all(writer, b"NotFound"),
-            LoadFault::ChainTooLong => send_all(writer, b"ChainTooLong"),
-            LoadFault::Fault(number) => send_numbered(writer, b"Fault ", number),
-            LoadFault::Halted => send_all(writer, b"Halted"),
-            LoadFault::Asked => send_all(writer, b"Asked"),
-            LoadFault::Limit => send_all(writer, b"Limit"),
-            LoadFault::Unfinished => send_all(writer, b"Unfinished"),
-            LoadFault::BadSize => send_all(writer, b"BadSize"),
-            LoadFault::OutOfMemory => send_all(writer, b"out of memory"),
-        }
-    }
-}
-
 impl Reason for ViewRefused {
     ghost spelling = { λ r. view_cause r };
 
@@ -114,19 +94,6 @@ impl Reason for SeeRefused {
             SeeRefused::Shadowed => send_all(writer, b"Shadowed"),
             SeeRefused::BadText => send_all(writer, b"BadText"),
             SeeRefused::OutOfMemory => send_all(writer, b"OutOfMemory"),
-        }
-    }
-}
-
-impl Reason for DebugFault {
-    ghost spelling = { λ f. debug_cause f };
-
-    fn send<W: Output>(&self, writer: &mut W) -> Result<(), EndFault> {
-        match *self {
-            DebugFault::NotFound => send_all(writer, b"NotFound"),
-            DebugFault::ChainTooLong => send_all(writer, b"ChainTooLong"),
-            DebugFault::NotColon => send_all(writer, b"NotColon"),
-            DebugFault::OutOfMemory => send_all(writer, b"OutOfMemory"),
         }
     }
 }

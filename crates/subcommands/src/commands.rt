@@ -21,10 +21,10 @@ use crate::kernel::kernel_file;
 use crate::kernel_text::TEXT;
 use crate::sends::{end_line, ended, send_decimal, send_numbered, send_refusal};
 use block_buffers::Device;
+use image_builder::{BuildFault, Cause, build};
 use image_loader::{Image, ImageFault};
 use inner_interpreter::{EndFault, Input, Output, Stop, run_file, send_all};
 use memory::{Memory, OutOfMemory};
-use metacompiler::{BuildFault, Cause, build};
 use see::view;
 use std::alloc::Global;
 

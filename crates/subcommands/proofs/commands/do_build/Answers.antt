@@ -1,5 +1,5 @@
 use Rattle.std.proofs.Common.{inl}
-use Rattle.subcommands.proofs.Loading.{built_file, told_file}
+use Rattle.subcommands.proofs.Building.{built_file, told_file}
 use Rattle.subcommands.proofs.commands.do_build.Goals as goal
 
 pub returns-in-Ok-clause-file : goal.returns-in-Ok-clause-file

@@ -1,0 +1,61 @@
+-- What `debug` prints, and the status with which a traced run ends.
+use Rattle.std.specs.Prelude.{◌≡◌, ℕ, Bool, false, List, Option, Some, Err, IsOk, codes}
+use Rattle.block_buffers.specs.Disks.{Disk}
+use Rattle.debug_tracer.specs.Debugged.{EndsDebugged, debugged}
+use Rattle.debug_tracer.specs.declared.fault.DebugFault.{DebugFault}
+use Rattle.debug_tracer.specs.declared.fault.DebugFault.TheVariants as debug
+use Rattle.image_loader.specs.Files.{Contents, IsFile}
+use Rattle.inner_interpreter.specs.Moves.{HasRun}
+use Rattle.inner_interpreter.specs.Runs.{World, stop_by}
+use Rattle.inner_interpreter.specs.State.{State, start}
+use Rattle.inner_interpreter.specs.declared.stop.Stop.{Stop}
+use Rattle.subcommands.specs.Ends.{IsUnrun}
+use Rattle.subcommands.specs.Lines.{PrintsOutOfMemory, PrintsRefusal, memory_of}
+use Rattle.subcommands.specs.Statuses.{status_of}
+
+abbrev pub debug_cause : DebugFault → List ℕ
+debug_cause debug.NotFound = codes "NotFound"
+debug_cause debug.ChainTooLong = codes "ChainTooLong"
+debug_cause debug.NotColon = codes "NotColon"
+debug_cause debug.OutOfMemory = codes "OutOfMemory"
+
+-- why a word isn't traced was printed
+abbrev pub PrintsUntraced : (name : List ℕ) → DebugFault → (status : ℕ) → (old new : Option (List ℕ)) → Type 0
+PrintsUntraced name debug.OutOfMemory status old new = PrintsOutOfMemory status old new
+PrintsUntraced name why status old new = PrintsRefusal name (debug_cause why) status old new
+
+-- where the bytes are an image's file, and a word of this name can't be traced: of why
+abbrev pub OfUntraced : List ℕ → (name : List ℕ) → (DebugFault → Type 0) → Type 0
+OfUntraced bytes name Of =
+    (image : Contents) → IsFile bytes image → (why : DebugFault) → debugged (memory_of image) name ≡ Err why → Of why
+
+-- where it can be traced
+abbrev pub OfTraced : List ℕ → (name : List ℕ) → Type 0 → Type 0
+OfTraced bytes name Of = (image : Contents) → IsFile bytes image → IsOk (debugged (memory_of image) name) → Of
+
+-- memory ran out before anything was run: reader, device and trace are as they were
+pub record IsUnmarked {R D T : Type 0} (status : ℕ) (failed : Bool) (reader reader' : R) (device device' : D) (trace trace' : T) : Type 0 where
+  pub unrun : IsUnrun status failed reader reader' device device'
+  pub trace_is : trace' ≡ trace
+
+-- a reader, a device and a trace are as they were
+abbrev pub AreKept : {R D T : Type 0} → (reader reader' : R) → (device device' : D) → (trace trace' : T) → Type 0
+AreKept reader reader' device device' trace trace' = (reader' ≡ reader) × (device' ≡ device) × (trace' ≡ trace)
+
+-- an image that was loaded, for a device of so many blocks, was run with a trace
+pub record HasTracedFrom (image : Contents) (blocks : ℕ) (calls calls' : List Bool) (limit : ℕ) (reader writer trace : Bool) (stop : Stop) : Type 0 where
+  pub state : State
+  pub run : HasRun (start image blocks) state calls calls' limit stop
+  pub ended : reader ≡ false → writer ≡ false → trace ≡ false → stop_by state.halt 0 ≡ Some stop
+
+-- the same, with the status of its stop
+pub record HasTracedWith (status : ℕ) (image : Contents) (blocks : ℕ) (calls calls' : List Bool) (limit : ℕ) (reader writer trace : Bool) : Type 0 where
+  pub stop : Stop
+  pub status_is : status ≡ status_of stop
+  pub run : HasTracedFrom image blocks calls calls' limit reader writer trace stop
+
+-- the run ends here, with the status of its stop, and the trace of the word of this name was sent
+pub record EndsTracedWith (status : ℕ) (w : World) (name : List ℕ) (unread : Option (List ℕ)) (disk : Option Disk) (sent : Option (List ℕ)) (old new : Option (List ℕ)) : Type 0 where
+  pub stop : Stop
+  pub status_is : status ≡ status_of stop
+  pub ends : EndsDebugged w name unread disk sent old new stop

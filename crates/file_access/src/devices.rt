@@ -1,0 +1,100 @@
+//! A device over a file.
+
+ghost use Rattle.std.specs.Prelude.{◌≤◌, None};
+ghost use Rattle.file_access.specs.Streams.{IsApart};
+
+use crate::guards::{Unopened, is_in_use};
+use crate::opening::open_apart;
+use block_buffers::{CallLog, Device, DeviceFault};
+use std::fs::{File, OpenOptions};
+use std::io;
+use std::io::{Read, Seek, SeekFrom, Write};
+
+/// A device over an open file, which stands in for no standard stream.
+#[derive(Drop)]
+pub struct FileDevice {
+    file: File,
+    count: u32,
+    log: CallLog,
+    ghost few: { count ≤ 65536 },
+    ghost apart: { IsApart file },
+}
+
+/// Opens a file of blocks for reading and writing, and holds it against other runs. `CannotOpen`: the system refuses it;
+/// `InUse`: another run has it.
+pub fn open_device(rt: &HostRuntime, name: &str) -> Result<FileDevice, Unopened> {
+    match open_blocks(rt, OpenOptions::new().read(true).write(true), name) {
+        Some(device) => {
+            if is_in_use(&device.file) {
+                return Err(Unopened::InUse);
+            }
+            Ok(device)
+        }
+        None => Err(Unopened::CannotOpen),
+    }
+}
+
+/// Opens a file of blocks for reading alone: each write fails. `None`: it can't be opened.
+pub fn open_to_read(rt: &HostRuntime, name: &str) -> Option<FileDevice> {
+    open_blocks(rt, OpenOptions::new().read(true), name)
+}
+
+fn open_blocks(rt: &HostRuntime, options: &OpenOptions, name: &str) -> Option<FileDevice> {
+    let file = open_apart(rt, options, name).ok()?;
+    let length = file.metadata().ok()?.len();
+    let blocks = length / 1024;
+    let count = if blocks > 65536 { 65536 } else { blocks as u32 };
+    Some(FileDevice {
+        file,
+        count,
+        log: CallLog::new(),
+    })
+}
+
+/// Reads the page at an offset.
+fn read_page(mut file: &File, at: u64, page: &mut [u8; 1024]) -> io::Result<()> {
+    file.seek(SeekFrom::Start(at))?;
+    file.read_exact(page)
+}
+
+/// Writes the page at an offset.
+fn write_page(mut file: &File, at: u64, page: &[u8; 1024]) -> io::Result<()> {
+    file.seek(SeekFrom::Start(at))?;
+    file.write_all(page)
+}
+
+impl Device for FileDevice {
+    ghost disk = { λ _. None };
+
+    ghost calls = { λ d. d.log.calls };
+
+    ghost block_count = { λ d. d.count };
+
+    fn count(&self) -> u32 {
+        self.count
+    }
+
+    fn read(&mut self, block: u16, page: &mut [u8; 1024]) -> Result<(), DeviceFault> {
+        if u32::from(block) < self.count {
+            let done = read_page(&self.file, u64::from(block) * 1024, page);
+            if let Ok(()) = done {
+                self.log = CallLog::succeeded(&self.log);
+                return Ok(());
+            }
+        }
+        self.log = CallLog::failed(&self.log);
+        Err(DeviceFault)
+    }
+
+    fn write(&mut self, block: u16, page: &[u8; 1024]) -> Result<(), DeviceFault> {
+        if u32::from(block) < self.count {
+            let done = write_page(&self.file, u64::from(block) * 1024, page);
+            if let Ok(()) = done {
+                self.log = CallLog::succeeded(&self.log);
+                return Ok(());
+            }
+        }
+        self.log = CallLog::failed(&self.log);
+        Err(DeviceFault)
+    }
+}

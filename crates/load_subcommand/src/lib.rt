@@ -1,0 +1,7 @@
+//! What `load` does, prints and ends with.
+#![tactic(auto)]
+
+mod cause;
+mod load_command;
+
+pub use load_command::do_load;

@@ -1,0 +1,88 @@
+//! Files that are opened, read and written as they are named.
+
+use crate::keeping::keep_blocks;
+use crate::refusals::{cannot_open, out_of_memory, refuse_blocks, refuse_file};
+use block_buffers::MemoryDevice;
+use file_access::{
+    FileDevice, hold, open_device, open_to_read, read_blocks, read_file, read_image, write_file,
+};
+use std::fs;
+use std::fs::File;
+
+/// The bytes of an image's file. Where there are none it is printed why, and the status is the error.
+pub fn image_bytes(rt: &HostRuntime, image: &str) -> Result<Vec<u8>, u8> {
+    match read_image(rt, image) {
+        Ok(Some(bytes)) => Ok(bytes),
+        Ok(None) => Err(cannot_open(rt, image)),
+        Err(_) => Err(out_of_memory(rt)),
+    }
+}
+
+/// The file of blocks of a run. Where it can't be opened that is printed, and the status is the error.
+pub fn run_blocks(rt: &HostRuntime, blocks: &str) -> Result<FileDevice, u8> {
+    keep_blocks(rt, blocks)?;
+    match open_device(rt, blocks) {
+        Ok(device) => Ok(device),
+        Err(why) => Err(refuse_blocks(rt, blocks, why)),
+    }
+}
+
+/// The file of blocks that is only read. Where it can't be opened that is printed, and the status is the error.
+pub fn read_alone(rt: &HostRuntime, blocks: &str) -> Result<FileDevice, u8> {
+    keep_blocks(rt, blocks)?;
+    match open_to_read(rt, blocks) {
+        Some(device) => Ok(device),
+        None => Err(cannot_open(rt, blocks)),
+    }
+}
+
+/// The device of a run without a file of blocks.
+pub fn no_blocks(rt: &HostRuntime) -> MemoryDevice {
+    MemoryDevice::new(Vec::new(rt.alloc()), Vec::new(rt.alloc()))
+}
+
+/// The bytes of a file. Where it can't be read that is printed, and the status is the error.
+pub fn file_bytes(rt: &HostRuntime, name: &str) -> Result<Vec<u8>, u8> {
+    match read_file(rt, name) {
+        Ok(bytes) => Ok(bytes),
+        Err(error) => Err(refuse_file(rt, &error, name)),
+    }
+}
+
+/// The bytes of a file, if it is there. Where they can't be read that is printed, and the status is the error.
+pub fn old_file(rt: &HostRuntime, name: &str) -> Result<Option<Vec<u8>>, u8> {
+    match fs::exists(rt, name) {
+        Ok(false) => Ok(None),
+        Ok(true) => Ok(Some(file_bytes(rt, name)?)),
+        Err(error) => Err(refuse_file(rt, &error, name)),
+    }
+}
+
+/// The bytes of a file of blocks that is to be replaced; none where it isn't there. Where they can't be read that is printed,
+/// and the status is the error.
+pub fn old_blocks(rt: &HostRuntime, blocks: &str) -> Result<Vec<u8>, u8> {
+    match read_blocks(rt, blocks) {
+        Ok(old) => Ok(old),
+        Err(error) => Err(refuse_file(rt, &error, blocks)),
+    }
+}
+
+/// A file that is to be replaced, held against other runs for as long as it is open; none where it isn't there. Where another
+/// run has it that is printed, and the status is the error.
+pub fn held(rt: &HostRuntime, name: &str) -> Result<Option<File>, u8> {
+    match hold(rt, name) {
+        Ok(file) => Ok(file),
+        Err(why) => Err(refuse_blocks(rt, name, why)),
+    }
+}
+
+/// Writes the file that a subcommand made, if it made one, and answers the status.
+pub fn write_made(rt: &HostRuntime, status: u8, file: Option<Vec<u8>>, name: &str) -> u8 {
+    let Some(file) = file else {
+        return status;
+    };
+    match write_file(rt, name, file.as_slice()) {
+        Ok(()) => status,
+        Err(error) => refuse_file(rt, &error, name),
+    }
+}

@@ -1,0 +1,53 @@
+//! The standard streams and the file of a trace, with what is gathered before it is written.
+
+use crate::refusals::{cannot_open, out_of_memory};
+use file_access::TraceFile;
+use std::io::{BufReader, BufWriter, IsTerminal, Stdin, Stdout};
+use std::os::fd::AsFd;
+
+/// How many bytes that are shown are gathered before they are written into a file or a pipe.
+const GATHERED_BYTES: usize = 8192;
+
+/// Whether standard output can't be written at all.
+fn is_closed(rt: &HostRuntime) -> bool {
+    rt.stdout().as_fd().try_clone_to_owned().is_err()
+}
+
+/// Standard output. What a terminal is shown is written at once, so that a run can be watched, and stopped at any time;
+/// where it is closed, that too is seen at once. Want of memory is printed, and the status is the error.
+pub fn standard_output(rt: &HostRuntime) -> Result<BufWriter<Stdout>, u8> {
+    let gathered = if rt.stdout().is_terminal() || is_closed(rt) {
+        0
+    } else {
+        GATHERED_BYTES
+    };
+    match BufWriter::with_capacity(rt.alloc(), gathered, rt.stdout()) {
+        Ok(writer) => Ok(writer),
+        Err(_) => Err(out_of_memory(rt)),
+    }
+}
+
+/// Standard input. Want of memory is printed, and the status is the error.
+pub fn standard_input(rt: &HostRuntime) -> Result<BufReader<Stdin>, u8> {
+    match BufReader::new(rt.alloc(), rt.stdin()) {
+        Ok(reader) => Ok(reader),
+        Err(_) => Err(out_of_memory(rt)),
+    }
+}
+
+/// The file of a trace, which is emptied where the run begins. What a terminal is shown is written at once. Where the file
+/// can't be opened that is printed, and the status is the error.
+pub fn trace_file(rt: &HostRuntime, name: &str) -> Result<BufWriter<TraceFile>, u8> {
+    let Ok(file) = TraceFile::open(rt, name) else {
+        return Err(cannot_open(rt, name));
+    };
+    let gathered = if file.is_terminal() {
+        0
+    } else {
+        GATHERED_BYTES
+    };
+    match BufWriter::with_capacity(rt.alloc(), gathered, file) {
+        Ok(writer) => Ok(writer),
+        Err(_) => Err(out_of_memory(rt)),
+    }
+}
