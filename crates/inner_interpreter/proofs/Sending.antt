@@ -1,7 +1,7 @@
 -- Bytes that are sent in several calls.
-use Rattle.std.proofs.Common.{◌≡◌, ℕ, List, ◌++◌, ◌+◌, ◌-◌, ◌<◌, length, arith, take, drop, Option, None, Some, sym, ap, ◌∙◌, append_assoc}
+use Rattle.std.proofs.Common.{◌≡◌, ℕ, List, [], ◌∷◌, ◌++◌, ◌+◌, ◌-◌, ◌<◌, ◌≤◌, length, arith, take, drop, Option, None, Some, refl, sym, ap, ◌∙◌, append_assoc}
 use Rattle.std.proofs.Math.Seq.{take-add}
-use Rattle.std.proofs.lemmas.List.{take-append-drop, take_all, length-drop, length-append}
+use Rattle.std.proofs.lemmas.List.{take-append-drop, append-nil, take_all, length-drop, length-append}
 use Rattle.std.specs.Io.KnownBytes.{Appends, Keeps}
 use Rattle.inner_interpreter.specs.Sent.{AppendsPart}
 
@@ -32,6 +32,15 @@ part_kept None b c n bs l h k = tt
 part_kept (Some os) None c n bs l h k = absurd h
 part_kept (Some os) (Some xs) None n bs l h k = absurd k
 part_kept (Some os) (Some xs) (Some ys) n bs l h k = (take n bs, drop n bs, sym (take-append-drop n bs), k ∙ h, simp length-drop (omega (arith, l)))
+
+-- a byte that was sent at once, or wasn't
+pub one_sent : (a b : Option (List ℕ)) (n x : ℕ) → 0 < n → n ≤ 1 → Appends a b (take n (x ∷ [])) → Appends a b (x ∷ [])
+one_sent a b n x some most h = let e : n ≡ 1 = omega (arith, some, most) in rw e at h
+
+pub none_sent : (a b : Option (List ℕ)) (x : ℕ) → Keeps a b → AppendsPart a b (x ∷ [])
+none_sent None b x h = tt
+none_sent (Some os) None x h = absurd h
+none_sent (Some os) (Some ns) x h = ([], x ∷ [], refl, h ∙ sym (append-nil os), omega arith)
 
 -- behind xs a part of these bytes was sent
 pub record SentPart (new : Option (List ℕ)) (xs bytes : List ℕ) : Type 0 where

@@ -1,6 +1,6 @@
 //! Showing bytes.
 
-ghost use Rattle.std.specs.Prelude.{OnOk, OnErr};
+ghost use Rattle.std.specs.Prelude.{[], ◌∷◌, OnOk, OnErr};
 ghost use Rattle.std.specs.Io.KnownBytes.{Appends};
 ghost use Rattle.memory.specs.Bytes.{bytes};
 ghost use Rattle.inner_interpreter.specs.Ends.{Marks};
@@ -26,6 +26,19 @@ pub fn send_all<W: Output>(writer: &mut W, bytes: &[u8]) -> Result<(), EndFault>
         }
     }
     Ok(())
+}
+
+/// Sends a byte.
+#[tactic(auto, using(crate::proofs::Sending::one_sent, crate::proofs::Sending::none_sent))]
+fn send_byte<W: Output>(writer: &mut W, byte: u8) -> Result<(), EndFault>
+    ensures ok { OnOk result (Appends (W.sent writer.old) (W.sent writer.new) (byte ∷ [])) }
+    ensures err { OnErr result (AppendsPart (W.sent writer.old) (W.sent writer.new) (byte ∷ [])) }
+    ensures mark { Marks (W.failed writer.old) (W.failed writer.new) result }
+{
+    match writer.send(&[byte]) {
+        Ok(_) => Ok(()),
+        Err(fault) => Err(fault),
+    }
 }
 
 /// Sends bytes of memory.
@@ -54,10 +67,10 @@ pub fn show<W: Output>(machine: &Machine, writer: &mut W, shown: Shown) -> Resul
 {
     match shown {
         Shown::Nothing => Ok(()),
-        Shown::Byte(byte) => send_all(writer, &[byte]),
+        Shown::Byte(byte) => send_byte(writer, byte),
         Shown::Span(span) => send_span(machine, writer, span),
         Shown::Line(span) => match send_span(machine, writer, span) {
-            Ok(()) => send_all(writer, &[b' ']),
+            Ok(()) => send_byte(writer, b' '),
             Err(fault) => Err(fault),
         },
     }
