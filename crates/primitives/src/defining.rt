@@ -5,7 +5,7 @@
 ghost use Rattle.std.specs.Prelude.{◌≡◌};
 ghost use Rattle.primitives.specs.Defining.{colon, lays_past, bracket_tick, bracket_compile, quotes, dot_quote, abort_quote, constant, variable};
 
-use crate::dictionary_rows::{create_with, make_header};
+use crate::dictionary_rows::{COLON, CONSTANT, VARIABLE, create_with, make_header};
 use crate::names::read_word;
 use crate::streams::{open, pass};
 use crate::writing::lay_text;
@@ -26,7 +26,7 @@ pub fn colon(parts: &mut Parts) -> Outcome
         Err(outcome) => return outcome,
     };
     let current = parts.memory.cell(CURRENT);
-    match make_header(parts, stream, 1, &[], true) {
+    match make_header(parts, stream, COLON, &[], true) {
         Ok(_) => {
             parts.set_cell(STATE, 65535);
             parts.set_cell(CONTEXT, current);
@@ -118,7 +118,7 @@ pub fn constant(parts: &mut Parts) -> Outcome
         return Outcome::Fault(DATA_UNDERFLOW);
     };
     match open(parts) {
-        Ok(stream) => create_with(parts, stream, 3, &cell_bytes(x), 1),
+        Ok(stream) => create_with(parts, stream, CONSTANT, &cell_bytes(x), 1),
         Err(outcome) => outcome,
     }
 }
@@ -128,7 +128,7 @@ pub fn variable(parts: &mut Parts) -> Outcome
     ensures { (parts.new, result) ≡ variable parts.old }
 {
     match open(parts) {
-        Ok(stream) => create_with(parts, stream, 2, &cell_bytes(0), 0),
+        Ok(stream) => create_with(parts, stream, VARIABLE, &cell_bytes(0), 0),
         Err(outcome) => outcome,
     }
 }

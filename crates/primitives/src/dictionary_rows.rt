@@ -21,6 +21,18 @@ use plain_rows::faults::{
 use plain_rows::leaves;
 use plain_rows::parts::{Outcome, Parts};
 
+/// What stands in the code field of a word that `:` makes.
+pub const COLON: u16 = 1;
+
+/// The same of CREATE and VARIABLE.
+pub const VARIABLE: u16 = 2;
+
+/// The same of CONSTANT.
+pub const CONSTANT: u16 = 3;
+
+/// The same of VOCABULARY.
+pub const VOCABULARY: u16 = 4;
+
 /// 147 `FIND` ( a -- a 0, w -1, w 1 )
 pub fn find(parts: &mut Parts) -> Outcome
     ensures { (parts.new, result) ≡ find parts.old }
@@ -120,7 +132,7 @@ pub fn create(parts: &mut Parts) -> Outcome
     ensures { (parts.new, result) ≡ create parts.old }
 {
     match open(parts) {
-        Ok(stream) => create_with(parts, stream, 2, &[], 0),
+        Ok(stream) => create_with(parts, stream, VARIABLE, &[], 0),
         Err(outcome) => outcome,
     }
 }
@@ -196,7 +208,7 @@ pub fn vocabulary(parts: &mut Parts) -> Outcome
         Err(outcome) => return outcome,
     };
     let record = record_bytes(parts.memory.cell(VOC_LINK));
-    match make_header(parts, stream, 4, &record, false) {
+    match make_header(parts, stream, VOCABULARY, &record, false) {
         Ok(body) => {
             parts.set_cell(VOC_LINK, body);
             Outcome::Done

@@ -1,4 +1,5 @@
-//! Names that rows take, looked up where they stand in memory: a copy is made only of one that goes on at address 0.
+//! Names that rows take, looked up where they stand in memory: a copy is made only of one that goes on at address 0, by functions that
+//! are inlined nowhere, since the room for it would be taken at each search.
 
 ghost use Rattle.std.specs.Prelude.{◌≡◌, ◌<◌, ◌≤◌, ◌+◌, ◌++◌, length, MatchOption};
 ghost use Rattle.dictionary.specs.Forgetting.{target};
@@ -19,6 +20,7 @@ use plain_rows::faults::{BAD_LENGTH, CHAIN_TOO_LONG, NOT_FOUND};
 use plain_rows::parts::{Outcome, Parts};
 
 /// The same of a name that goes on at address 0.
+#[inline(never)]
 fn sought_in_pieces(parts: &mut Parts, from: u16, n: u16) -> Result<Option<u16>, ChainTooLong>
     ensures found { IsSought (sought parts.old.memory (bytes parts.old.memory from n)) result }
     ensures same { parts.new ≡ parts.old }
@@ -95,6 +97,7 @@ pub fn number_in(memory: &Memory, stream: Stream, word: Word, base: u16) -> Opti
     number_in_pieces(head, tail, base)
 }
 
+#[inline(never)]
 fn number_in_pieces(head: &[u8], tail: &[u8], base: u16) -> Option<Number>
     requires { length head.now + length tail.now ≤ 65535 }
     ensures { MatchOption result (IsNoNumber base (head.now ++ tail.now)) (IsNumber base (head.now ++ tail.now)) }
@@ -115,6 +118,7 @@ pub fn target_in(memory: &Memory, stream: Stream, word: Word) -> Result<u16, For
     target_in_pieces(memory, head, tail)
 }
 
+#[inline(never)]
 fn target_in_pieces(memory: &Memory, head: &[u8], tail: &[u8]) -> Result<u16, ForgetFault>
     requires { length head.now + length tail.now ≤ 65535 }
     ensures { result ≡ target memory.now (head.now ++ tail.now) }
