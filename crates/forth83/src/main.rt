@@ -47,19 +47,12 @@ fn obey_build(rt: &HostRuntime, words: &BuildWords) -> Result<u8, u8> {
     )
 }
 
-/// Does what the words of `run` say.
-fn obey_run(rt: &HostRuntime, words: &RunWords) -> Result<u8, u8> {
-    let session = Session {
+/// What the words of `run` want beside the run.
+fn session_of(words: &RunWords) -> Session<'_> {
+    Session {
         break_file: words.break_file.as_deref(),
         saves: words.saves,
-    };
-    run_image(
-        rt,
-        words.image.as_str(),
-        words.blocks.as_deref(),
-        words.limit,
-        session,
-    )
+    }
 }
 
 /// Does what the words say, and answers the status. Where a subcommand can't begin it is printed why, and the status is the
@@ -79,7 +72,13 @@ fn obey(rt: &HostRuntime, words: Words) -> Result<u8, u8> {
         Words::New { blocks, count } => write_new(rt, blocks.as_str(), count),
         Words::Import(words) => import_screens(rt, disk_of(&words), words.cleans),
         Words::Export(words) => export_screens(rt, disk_of(&words)),
-        Words::Run(words) => obey_run(rt, &words),
+        Words::Run(words) => run_image(
+            rt,
+            words.image.as_str(),
+            words.blocks.as_deref(),
+            words.limit,
+            session_of(&words),
+        ),
         Words::Debug {
             image,
             name,
