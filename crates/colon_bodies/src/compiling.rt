@@ -2,7 +2,7 @@
 
 ghost use Rattle.std.specs.Prelude.{◌≡◌, ◌≢◌, true, ℕ, IfOk, IfErr, map, ◌+◌, ◌<◌, ◌≤◌, ◌⊎◌, ◌^◌, List, length, slice_index};
 ghost use Rattle.colon_bodies.specs.Tree.{Body};
-ghost use Rattle.colon_bodies.specs.Tokens.{SEMI, text_control, loop_control, IsShort, control, laid};
+ghost use Rattle.colon_bodies.specs.Tokens.{SEMI, IsShort, control, laid};
 ghost use Rattle.colon_bodies.specs.Rules.{suits};
 ghost use Rattle.colon_bodies.specs.Faults.{IsFault};
 ghost use Rattle.colon_bodies.specs.Open.{Outer, read, past, open_depth};
@@ -10,6 +10,7 @@ ghost use Rattle.colon_bodies.specs.Draft.{token, After, Drafted, Drafts, Drafti
 ghost use Rattle.colon_bodies.specs.declared.words.Half.{Half};
 ghost use Rattle.colon_bodies.specs.declared.words.Half.TheVariants.{Free};
 
+use crate::controls::{cell_of, loop_control, text_control};
 use crate::draft::{Draft, Mark};
 use crate::fault::{BodyCause, BodyFault};
 use crate::image::lay_cell;
@@ -22,23 +23,8 @@ use crate::steps::{
     lay_name, lay_number, lay_text, open_begin, open_do, open_if, switch_else, test_while,
 };
 use crate::words::{BodyWord, Half};
+use memory::controls::Control;
 use std::alloc::Global;
-
-/// The control that shows a text, or that aborts with it.
-fn text_cell(runtime: &[u16], aborts: bool) -> u16
-    requires { 28 ≤ length runtime.now }
-    ensures { result ≡ slice_index runtime.now (text_control aborts) }
-{
-    if aborts { runtime[17] } else { runtime[16] }
-}
-
-/// The control that ends a loop.
-fn loop_cell(runtime: &[u16], plus: bool) -> u16
-    requires { 28 ≤ length runtime.now }
-    ensures { result ≡ slice_index runtime.now (loop_control plus) }
-{
-    if plus { runtime[11] } else { runtime[10] }
-}
 
 /// Lays what one word lays where nothing is half read.
 fn step(
@@ -59,23 +45,27 @@ fn step(
 {
     match word {
         BodyWord::Name(w) => lay_name(image, w),
-        BodyWord::Number(n) => lay_number(image, runtime[6], n),
-        BodyWord::Double(n) => lay_double(image, runtime[6], n),
-        BodyWord::Text(aborts, text) => lay_text(image, text_cell(runtime, aborts), text),
-        BodyWord::Tick => begin_tick(image, runtime[6]),
+        BodyWord::Number(n) => lay_number(image, cell_of(runtime, Control::Literal), n),
+        BodyWord::Double(n) => lay_double(image, cell_of(runtime, Control::Literal), n),
+        BodyWord::Text(aborts, text) => {
+            lay_text(image, cell_of(runtime, text_control(aborts)), text)
+        }
+        BodyWord::Tick => begin_tick(image, cell_of(runtime, Control::Literal)),
         BodyWord::Force => Ok(()),
-        BodyWord::Compile => begin_pair(image, runtime[19]),
-        BodyWord::If => open_if(image, marks, runtime[8]),
-        BodyWord::Else => switch_else(image, marks, at, runtime[7]),
+        BodyWord::Compile => begin_pair(image, cell_of(runtime, Control::Compile)),
+        BodyWord::If => open_if(image, marks, cell_of(runtime, Control::ZeroBranch)),
+        BodyWord::Else => switch_else(image, marks, at, cell_of(runtime, Control::Branch)),
         BodyWord::Then => close_then(image, marks, at),
         BodyWord::Begin => open_begin(image, marks, at),
-        BodyWord::Until => close_back(image, marks, runtime[8]),
-        BodyWord::Again => close_back(image, marks, runtime[7]),
-        BodyWord::While => test_while(image, marks, runtime[8]),
-        BodyWord::Repeat => close_repeat(image, marks, at, runtime[7]),
-        BodyWord::Do => open_do(image, marks, runtime[9]),
-        BodyWord::Loop(plus) => close_loop(image, marks, at, loop_cell(runtime, plus)),
-        BodyWord::Does => lay_does(image, marks, is_past, runtime[18]),
+        BodyWord::Until => close_back(image, marks, cell_of(runtime, Control::ZeroBranch)),
+        BodyWord::Again => close_back(image, marks, cell_of(runtime, Control::Branch)),
+        BodyWord::While => test_while(image, marks, cell_of(runtime, Control::ZeroBranch)),
+        BodyWord::Repeat => close_repeat(image, marks, at, cell_of(runtime, Control::Branch)),
+        BodyWord::Do => open_do(image, marks, cell_of(runtime, Control::Do)),
+        BodyWord::Loop(plus) => {
+            close_loop(image, marks, at, cell_of(runtime, loop_control(plus)))
+        }
+        BodyWord::Does => lay_does(image, marks, is_past, cell_of(runtime, Control::Does)),
         BodyWord::Semicolon => Err(BodyCause::Unbalanced),
     }
 }
@@ -196,7 +186,7 @@ pub fn compile(
     let mut draft = Draft::new(alloc);
     for (i, word) in words.iter().enumerate() {
         if is_semicolon(*word) {
-            return match finish(draft, at, limit, runtime[5]) {
+            return match finish(draft, at, limit, cell_of(runtime, Control::Exit)) {
                 Ok(image) => Ok((image, i + 1)),
                 Err(cause) => Err(BodyFault { place: i, cause }),
             };

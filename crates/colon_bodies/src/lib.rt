@@ -3,6 +3,7 @@
 #![tactic(auto)]
 
 mod compiling;
+mod controls;
 mod draft;
 mod fault;
 mod image;
@@ -12,6 +13,7 @@ mod steps;
 mod words;
 
 pub use compiling::{compile, finish, take_word};
+pub use controls::cell_of;
 pub use draft::{Draft, Mark};
 pub use fault::{BodyCause, BodyFault};
 pub use image::{lay_cell, patch};

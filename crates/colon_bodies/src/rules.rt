@@ -1,6 +1,8 @@
 //! Which words may stand where.
 
-ghost use Rattle.std.specs.Prelude.{◌≡◌, ◌≢◌, true, false, ◌↔◌, IsTrue, IfSome, ◌+◌, ◌<◌, ◌≤◌, length, slice_index};
+ghost use Rattle.std.specs.Prelude.{◌≡◌, ◌≢◌, true, false, ◌↔◌, IsTrue, ◌+◌, ◌<◌, ◌≤◌, length, slice_index};
+ghost use Rattle.std.specs.Option.{option_map};
+ghost use Rattle.memory.specs.Controls.{number_of};
 ghost use Rattle.colon_bodies.specs.Tokens.{DOES, SEMI, IsShort, control};
 ghost use Rattle.colon_bodies.specs.Rules.{IsKnown, HasCell, suits, half_after};
 ghost use Rattle.colon_bodies.specs.Open.{read, past_after};
@@ -8,8 +10,10 @@ ghost use Rattle.colon_bodies.specs.Draft.{token, opener};
 ghost use Rattle.colon_bodies.specs.declared.words.Half.{Half};
 ghost use Rattle.colon_bodies.specs.declared.words.Half.TheVariants.{Free};
 
+use crate::controls::{cell_of, loop_control, text_control};
 use crate::draft::Mark;
 use crate::words::{BodyWord, Half};
+use memory::controls::Control;
 
 /// Whether nothing is half read.
 pub fn is_free(half: Half) -> bool
@@ -86,31 +90,30 @@ pub fn is_short(word: BodyWord) -> bool
 }
 
 /// Whether a control has a cell.
-fn has_cell(runtime: &[u16], k: Option<u16>) -> bool
-    requires within { IfSome k (λ n. n < length runtime.now) }
-    ensures { IsTrue result ↔ HasCell (slice_index runtime.now) k }
+fn has_cell(runtime: &[u16], laid: Option<Control>) -> bool
+    requires { 28 ≤ length runtime.now }
+    ensures { IsTrue result ↔ HasCell (slice_index runtime.now) (option_map number_of laid) }
 {
-    match k {
+    match laid {
         None => true,
-        Some(n) => runtime[n as usize] != 0,
+        Some(control) => cell_of(runtime, control) != 0,
     }
 }
 
 /// The control that a word lays.
-fn control_of(word: BodyWord) -> Option<u16>
-    ensures is { result ≡ control (token word.entry) }
-    ensures below { IfSome result (λ n. n < 28) }
+fn control_of(word: BodyWord) -> Option<Control>
+    ensures { option_map number_of result ≡ control (token word.entry) }
 {
     match word {
-        BodyWord::Number(_) | BodyWord::Double(_) | BodyWord::Tick => Some(6),
-        BodyWord::Text(aborts, _) => Some(if aborts { 17 } else { 16 }),
-        BodyWord::Compile => Some(19),
-        BodyWord::If | BodyWord::Until | BodyWord::While => Some(8),
-        BodyWord::Else | BodyWord::Again | BodyWord::Repeat => Some(7),
-        BodyWord::Do => Some(9),
-        BodyWord::Loop(plus) => Some(if plus { 11 } else { 10 }),
-        BodyWord::Does => Some(18),
-        BodyWord::Semicolon => Some(5),
+        BodyWord::Number(_) | BodyWord::Double(_) | BodyWord::Tick => Some(Control::Literal),
+        BodyWord::Text(aborts, _) => Some(text_control(aborts)),
+        BodyWord::Compile => Some(Control::Compile),
+        BodyWord::If | BodyWord::Until | BodyWord::While => Some(Control::ZeroBranch),
+        BodyWord::Else | BodyWord::Again | BodyWord::Repeat => Some(Control::Branch),
+        BodyWord::Do => Some(Control::Do),
+        BodyWord::Loop(plus) => Some(loop_control(plus)),
+        BodyWord::Does => Some(Control::Does),
+        BodyWord::Semicolon => Some(Control::Exit),
         BodyWord::Name(_) | BodyWord::Force | BodyWord::Then | BodyWord::Begin => None,
     }
 }

@@ -2,23 +2,8 @@
 use Rattle.std.specs.Prelude.{ℕ, ◌+◌, ◌*◌, List, ◌∷◌, ◌++◌, length}
 use Rattle.memory.specs.Bytes.{cell, cell_bytes}
 use Rattle.memory.specs.declared.system.TheConstants.{RUNTIME_CELLS}
-use Rattle.compiling_words.specs.declared.control.Control.{Control}
-use Rattle.compiling_words.specs.declared.control.Control.TheVariants.{Exit, Literal, Branch, ZeroBranch, Do, Loop, PlusLoop, ShowText, AbortText, Does}
 use Rattle.compiling_words.specs.declared.text.TextWord.{TextWord}
 use Rattle.compiling_words.specs.declared.text.TextWord.TheVariants.{Show, Abort}
-
--- the row of a control primitive
-abbrev pub number_of : Control → ℕ
-number_of Exit = 5
-number_of Literal = 6
-number_of Branch = 7
-number_of ZeroBranch = 8
-number_of Do = 9
-number_of Loop = 10
-number_of PlusLoop = 11
-number_of ShowText = 16
-number_of AbortText = 17
-number_of Does = 18
 
 -- runtime cell k: the compilation address of control primitive k
 abbrev pub runtime : List ℕ → ℕ → ℕ

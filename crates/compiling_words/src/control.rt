@@ -1,35 +1,12 @@
-//! Control primitives, and what is laid for them.
+//! What is laid for control primitives.
 
 ghost use Rattle.std.specs.Prelude.{◌≡◌, length};
-ghost use Rattle.compiling_words.specs.Code.{number_of, runtime, control_code, literal_code};
+ghost use Rattle.memory.specs.Controls.{number_of};
+ghost use Rattle.compiling_words.specs.Code.{runtime, control_code, literal_code};
 
+use memory::controls::Control;
 use memory::system::RUNTIME_CELLS;
 use memory::{Memory, cell_bytes};
-
-/// The control primitives that compiling words lay, each with the number of its row.
-#[derive(Clone, Copy, Debug, PartialEq, Eq)]
-pub enum Control {
-    /// `EXIT`
-    Exit = 5,
-    /// `(LIT)`
-    Literal = 6,
-    /// `BRANCH`
-    Branch = 7,
-    /// `?BRANCH`
-    ZeroBranch = 8,
-    /// `(DO)`
-    Do = 9,
-    /// `(LOOP)`
-    Loop = 10,
-    /// `(+LOOP)`
-    PlusLoop = 11,
-    /// `(.")`
-    ShowText = 16,
-    /// `(ABORT")`
-    AbortText = 17,
-    /// `(DOES>)`
-    Does = 18,
-}
 
 /// The compilation address of a control primitive: its runtime cell.
 pub fn runtime(memory: &Memory, control: Control) -> u16

@@ -2,9 +2,10 @@
 
 ghost use Rattle.compiling_words.specs.Definitions.{IsBegun, IsEnded};
 
-use crate::control::{Control, runtime};
+use crate::control::runtime;
 use crate::laying::{Full, lay};
 use dictionary::{AddFault, add_header, newest_count, revealed};
+use memory::controls::Control;
 use memory::system::{CONTEXT, CURRENT, STATE};
 use memory::{Memory, cell_bytes};
 

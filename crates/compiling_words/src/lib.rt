@@ -12,8 +12,9 @@ mod laying;
 mod marks;
 mod text;
 
-pub use control::{Control, control_code, literal_code, runtime};
+pub use control::{control_code, literal_code, runtime};
 pub use definitions::{begin_definition, end_definition};
 pub use laying::{Full, allot, can_allot, comma, comma_byte, lay, literal};
 pub use marks::{mark_back, mark_forward, resolve_back, resolve_forward};
+pub use memory::controls::Control;
 pub use text::{TextWord, inline_text, lay_text, runtime_of};

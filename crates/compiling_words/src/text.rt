@@ -6,10 +6,11 @@ ghost use Rattle.compiling_words.specs.Code.{runtime, text_number, text_code};
 ghost use Rattle.compiling_words.specs.Laying.{IsLaid};
 ghost use Rattle.dictionary.specs.Laying.{laid_at};
 
-use crate::control::{Control, runtime};
+use crate::control::runtime;
 use crate::laying::Full;
 use dictionary::fits;
 use memory::Memory;
+use memory::controls::Control;
 use memory::system::DP;
 
 /// The two words that lay a text.

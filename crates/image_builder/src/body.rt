@@ -21,7 +21,8 @@ use crate::header::here;
 use crate::make::make_colon;
 use crate::spot::{Inner, Spot};
 use crate::state::{Begun, Build, Title};
-use colon_bodies::{BodyWord, Draft, Half, finish, is_semicolon, take_word};
+use colon_bodies::{BodyWord, Draft, Half, cell_of, finish, is_semicolon, take_word};
+use memory::controls::Control;
 use std::mem;
 
 /// Whether only keywords and numbers lay this control.
@@ -116,14 +117,6 @@ fn draft_word(b: &mut Build, word: BodyWord, at: u16) -> Result<(), Cause>
     Ok(())
 }
 
-/// The compilation address of EXIT.
-fn exit_of(runtime: &[u16]) -> u16
-    requires { length runtime.now ≡ 256 }
-    ensures { result ≡ slice_index runtime.now 5 }
-{
-    runtime[5]
-}
-
 /// The last word of a draft.
 fn end_body(b: &mut Build, p: &Title, at: u16) -> Result<(), Cause>
     requires somewhere { Somewhere b.old p.now }
@@ -132,7 +125,7 @@ fn end_body(b: &mut Build, p: &Title, at: u16) -> Result<(), Cause>
         IsTitle p.now.screen p.now.name.items q → IsState b.old.limit b.old t ws (Inside q before) → at ≡ body_at t q →
         EndsSo b.old.limit t q before result b.new }
 {
-    let exit = exit_of(b.runtime.as_slice());
+    let exit = cell_of(b.runtime.as_slice(), Control::Exit);
     let draft = mem::replace(&mut b.draft, Draft::new(b.alloc));
     let bytes = finish(draft, at, b.limit, exit)?;
     make_colon(b, p, bytes.as_slice())?;

@@ -2,6 +2,7 @@
 #![tactic(auto)]
 
 mod access;
+pub mod controls;
 pub mod laws;
 mod limit;
 pub mod mirrored;

@@ -1,4 +1,4 @@
-use Rattle.std.proofs.Common.{◌++◌, ◌∷◌, suc, map, take, drop, refl, sym, ap, ◌∙◌, arith, add-one}
+use Rattle.std.proofs.Common.{◌++◌, ◌∷◌, suc, map, take, drop, sym, ap, ◌∙◌, arith, add-one}
 use Rattle.std.specs.Prelude.{slice_index}
 use Rattle.colon_bodies.specs.Tokens.{SEMI}
 use Rattle.colon_bodies.specs.Draft.{token}
@@ -23,7 +23,7 @@ returns-in-Ok-clause-compiled c =
     ends (slice_index c.args.runtime.now) c.args.at c.args.limit _ _ _ _ c.loop-i.i _ _ p
     (cut token c.args.words.now c.loop-i.i (w.Name 0) lt) (sym (done_length token c.args.words.now c.loop-i.i (omega arith)))
     (c.is_semicolon.ensures.0 c.if-is_semicolon.true)
-    (c.in-Ok.ensures (slice_index c.args.runtime.now) p.outer p.body p.half refl p.is p.shallow)
+    (c.in-Ok.ensures (slice_index c.args.runtime.now) p.outer p.body p.half (sym c.cell_of.ensures) p.is p.shallow)
 
 pub returns-in-Err-clause-refused : goal.returns-in-Err-clause-refused
 returns-in-Err-clause-refused c =
@@ -31,7 +31,7 @@ returns-in-Err-clause-refused c =
     let lt = c.loop-i-test.true in
     word_faults (slice_index c.args.runtime.now) c.args.at c.args.limit _ _ _ SEMI c.loop-i.i _ _ p
     (cut token c.args.words.now c.loop-i.i (w.Name 0) lt ∙ ap (λ v. map token (take c.loop-i.i c.args.words.now) ++ v ∷ map token (drop (suc c.loop-i.i) c.args.words.now)) (c.is_semicolon.ensures.0 c.if-is_semicolon.true)) (sym (done_length token c.args.words.now c.loop-i.i (omega arith)))
-    (c.in-Err.ensures (slice_index c.args.runtime.now) p.outer p.body p.half refl p.is p.shallow)
+    (c.in-Err.ensures (slice_index c.args.runtime.now) p.outer p.body p.half (sym c.cell_of.ensures) p.is p.shallow)
 
 pub returns-in-Err-take_word-clause-refused : goal.returns-in-Err-take_word-clause-refused
 returns-in-Err-take_word-clause-refused c =
