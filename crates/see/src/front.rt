@@ -1,9 +1,14 @@
 //! One instruction off the front of a thread.
 
-ghost use Rattle.std.specs.Prelude.{◌≡◌, ◌≤◌, ◌+◌, ◌<◌, ℕ, length, take, drop, IfSome, slice_index, All};
+ghost use Rattle.std.specs.Prelude.{◌≡◌, ◌≤◌, ◌+◌, ◌<◌, ℕ, length, map, take, drop, IfSome, slice_index};
+ghost use Rattle.std.specs.Option.{option_map};
+ghost use Rattle.memory.specs.Controls.{number_of};
 ghost use Rattle.colon_bodies.specs.Instructions.{len};
 ghost use Rattle.colon_bodies.specs.Found.{is_cell, pick, controls, of_control, first, peel, with_text};
 ghost use Rattle.see.specs.Apart.{instr, front, peeled};
+
+use colon_bodies::cell_of;
+use memory::controls::Control;
 
 /// An instruction: a cell and what stands behind it.
 #[derive(Clone, Copy)]
@@ -87,53 +92,71 @@ fn is_control(c: u16, control: u16) -> bool
 }
 
 /// The control whose cell it is.
-fn control_in(c: u16, runtime: &[u16], among: &[u16]) -> Option<u16>
-    requires { All (λ k. k < length runtime.now) among.now }
-    ensures { result ≡ pick (slice_index runtime.now) c among.now }
+fn control_in(c: u16, runtime: &[u16], among: &[Control]) -> Option<Control>
+    requires { 28 ≤ length runtime.now }
+    ensures { option_map number_of result ≡ pick (slice_index runtime.now) c (map number_of among.now) }
 {
-    for k in among.iter() {
-        if is_control(c, runtime[*k as usize]) {
-            return Some(*k);
+    for control in among.iter() {
+        if is_control(c, cell_of(runtime, *control)) {
+            return Some(*control);
         }
     }
     None
 }
 
 /// The control whose cell it is, among those that a thread can show.
-pub fn control_at(c: u16, runtime: &[u16]) -> Option<u16>
+pub fn control_at(c: u16, runtime: &[u16]) -> Option<Control>
     requires { 28 ≤ length runtime.now }
-    ensures { result ≡ pick (slice_index runtime.now) c controls }
+    ensures { option_map number_of result ≡ pick (slice_index runtime.now) c controls }
 {
-    control_in(c, runtime, &[6, 16, 17, 8, 7, 9, 10, 11, 18, 19])
+    control_in(
+        c,
+        runtime,
+        &[
+            Control::Literal,
+            Control::ShowText,
+            Control::AbortText,
+            Control::ZeroBranch,
+            Control::Branch,
+            Control::Do,
+            Control::Loop,
+            Control::PlusLoop,
+            Control::Does,
+            Control::Compile,
+        ],
+    )
+}
+
+/// The instruction of a control that takes the cell behind it, from the bytes behind its own.
+macro_rules! with_cell {
+    ($bytes:expr, $x:ident -> $first:expr) => {{
+        let ($x, rest) = peel_off($bytes)?;
+        Some(Taken {
+            first: $first,
+            rest,
+        })
+    }};
 }
 
 /// A control's instruction, from the bytes behind its cell.
-fn control_off(k: u16, bytes: &[u8]) -> Option<Taken>
-    ensures { front result ≡ of_control k bytes.now }
+fn control_off(control: Control, bytes: &[u8]) -> Option<Taken>
+    ensures { front result ≡ of_control (number_of control) bytes.now }
 {
-    if k == 16 {
-        return text_off(false, bytes);
-    }
-    if k == 17 {
-        return text_off(true, bytes);
-    }
-    if k == 18 {
-        return Some(Taken {
+    match control {
+        Control::Literal => with_cell!(bytes, x -> Instruction::Number(x)),
+        Control::Branch => with_cell!(bytes, x -> Instruction::Branch(x)),
+        Control::ZeroBranch => with_cell!(bytes, x -> Instruction::Query(x)),
+        Control::Do => with_cell!(bytes, x -> Instruction::Do(x)),
+        Control::Loop => with_cell!(bytes, x -> Instruction::Loop(false, x)),
+        Control::PlusLoop => with_cell!(bytes, x -> Instruction::Loop(true, x)),
+        Control::ShowText => text_off(false, bytes),
+        Control::AbortText => text_off(true, bytes),
+        Control::Does => Some(Taken {
             first: Instruction::Does,
             rest: bytes,
-        });
+        }),
+        Control::Compile | Control::Exit => with_cell!(bytes, x -> Instruction::Pair(x)),
     }
-    let (x, rest) = peel_off(bytes)?;
-    let first = match k {
-        6 => Instruction::Number(x),
-        7 => Instruction::Branch(x),
-        8 => Instruction::Query(x),
-        9 => Instruction::Do(x),
-        10 => Instruction::Loop(false, x),
-        11 => Instruction::Loop(true, x),
-        _ => Instruction::Pair(x),
-    };
-    Some(Taken { first, rest })
 }
 
 /// The first instruction.
@@ -148,6 +171,6 @@ pub fn first_off<'a>(bytes: &'a [u8], runtime: &[u16]) -> Option<Taken<'a>>
             first: Instruction::Call(c),
             rest,
         }),
-        Some(k) => control_off(k, rest),
+        Some(control) => control_off(control, rest),
     }
 }
