@@ -5,13 +5,12 @@ ghost use Rattle.std.specs.List.{list_all};
 ghost use Rattle.metacompiler.specs.Resident.{end_of_header};
 ghost use Rattle.metacompiler.specs.Residency.{has_keyword, has_colon, has_compile, has_naming, has_choosing, has_repeating, has_counting, has_saying, has_keys, has_jumps, has_primitives, has_thread, words_at, are_apart, is_apart_from, is_within, is_beside, has_header, Joined, JoinedAll, HasChains, has_words, is_idle, is_record, are_records_apart, is_thread_beside, are_placed, passes, IsResident};
 
+use crate::rows;
+use compiling_words::{Control, runtime};
 use dictionary::{compilation_address, find, header, is_immediate, search_from};
 use memory::Memory;
 use memory::system::{BASE, CONTEXT, CURRENT, DP, FORTH_VOC, STATE};
 use std::alloc::{AllocError, Global};
-
-/// Where the cell of the runtime word of COMPILE stands.
-const RUNTIME_COMPILE: u16 = 102;
 
 /// How many headers of a chain are looked at.
 const MOST: u16 = 32768;
@@ -37,7 +36,7 @@ fn has_colon(memory: &Memory, voc: u16) -> bool
 {
     match search_from(memory, voc, b":") {
         Ok(Some(l)) => !is_immediate(memory, l)
-            && memory.cell(compilation_address(memory, l)) == 168,
+            && memory.cell(compilation_address(memory, l)) == rows::COLON,
         Ok(None) => false,
         Err(_) => false,
     }
@@ -51,7 +50,7 @@ fn has_compile(memory: &Memory, voc: u16) -> bool
     match search_from(memory, voc, b"COMPILE") {
         Ok(Some(l)) => {
             !is_immediate(memory, l)
-                && compilation_address(memory, l) == memory.cell(RUNTIME_COMPILE)
+                && compilation_address(memory, l) == runtime(memory, Control::Compile)
         }
         Ok(None) => false,
         Err(_) => false,
@@ -61,40 +60,44 @@ fn has_compile(memory: &Memory, voc: u16) -> bool
 fn has_naming(memory: &Memory, voc: u16) -> bool
     ensures { result ≡ has_naming memory.now voc }
 {
-    has_keyword(memory, voc, b"[']", 176)
-        && (has_keyword(memory, voc, b"[COMPILE]", 177) && has_compile(memory, voc))
+    has_keyword(memory, voc, b"[']", rows::BRACKET_TICK)
+        && (has_keyword(memory, voc, b"[COMPILE]", rows::BRACKET_COMPILE)
+            && has_compile(memory, voc))
 }
 
 fn has_choosing(memory: &Memory, voc: u16) -> bool
     ensures { result ≡ has_choosing memory.now voc }
 {
-    has_keyword(memory, voc, b"IF", 179)
-        && (has_keyword(memory, voc, b"ELSE", 180) && has_keyword(memory, voc, b"THEN", 181))
+    has_keyword(memory, voc, b"IF", rows::IF)
+        && (has_keyword(memory, voc, b"ELSE", rows::ELSE)
+            && has_keyword(memory, voc, b"THEN", rows::THEN))
 }
 
 fn has_repeating(memory: &Memory, voc: u16) -> bool
     ensures { result ≡ has_repeating memory.now voc }
 {
-    has_keyword(memory, voc, b"BEGIN", 182)
-        && (has_keyword(memory, voc, b"UNTIL", 183)
-            && (has_keyword(memory, voc, b"AGAIN", 186)
-                && (has_keyword(memory, voc, b"WHILE", 184)
-                    && has_keyword(memory, voc, b"REPEAT", 185))))
+    has_keyword(memory, voc, b"BEGIN", rows::BEGIN)
+        && (has_keyword(memory, voc, b"UNTIL", rows::UNTIL)
+            && (has_keyword(memory, voc, b"AGAIN", rows::AGAIN)
+                && (has_keyword(memory, voc, b"WHILE", rows::WHILE)
+                    && has_keyword(memory, voc, b"REPEAT", rows::REPEAT))))
 }
 
 fn has_counting(memory: &Memory, voc: u16) -> bool
     ensures { result ≡ has_counting memory.now voc }
 {
-    has_keyword(memory, voc, b"DO", 187)
-        && (has_keyword(memory, voc, b"LOOP", 188) && has_keyword(memory, voc, b"+LOOP", 189))
+    has_keyword(memory, voc, b"DO", rows::DO)
+        && (has_keyword(memory, voc, b"LOOP", rows::LOOP)
+            && has_keyword(memory, voc, b"+LOOP", rows::PLUS_LOOP))
 }
 
 fn has_saying(memory: &Memory, voc: u16) -> bool
     ensures { result ≡ has_saying memory.now voc }
 {
-    has_keyword(memory, voc, b".\"", 190)
-        && (has_keyword(memory, voc, b"ABORT\"", 191)
-            && (has_keyword(memory, voc, b"DOES>", 178) && has_keyword(memory, voc, b";", 169)))
+    has_keyword(memory, voc, b".\"", rows::DOT_QUOTE)
+        && (has_keyword(memory, voc, b"ABORT\"", rows::ABORT_QUOTE)
+            && (has_keyword(memory, voc, b"DOES>", rows::DOES)
+                && has_keyword(memory, voc, b";", rows::SEMICOLON)))
 }
 
 /// Whether a vocabulary, and then FORTH, has all words of the resident compiler.
@@ -103,7 +106,7 @@ fn has_keys(memory: &Memory, voc: u16) -> bool
     ensures { result ≡ has_keys memory.now voc }
 {
     has_colon(memory, voc)
-        && (has_keyword(memory, voc, b"(", 145)
+        && (has_keyword(memory, voc, b"(", rows::PAREN)
             && (has_naming(memory, voc)
                 && (has_choosing(memory, voc)
                     && (has_repeating(memory, voc)
@@ -123,13 +126,13 @@ fn has_primitives(memory: &Memory, word: u16) -> bool
     requires { word ≤ 65511 }
     ensures { result ≡ has_primitives memory.now (words_at memory.now word) }
 {
-    memory.cell(memory.cell(word + 2)) == 149
-        && (memory.cell(memory.cell(word + 4)) == 39
-            && (memory.cell(memory.cell(word + 6)) == 8
-                && (memory.cell(memory.cell(word + 10)) == 77
-                    && (memory.cell(memory.cell(word + 16)) == 15
-                        && (memory.cell(memory.cell(word + 18)) == 7
-                            && memory.cell(memory.cell(word + 22)) == 5)))))
+    memory.cell(memory.cell(word + 2)) == rows::INTERPRET
+        && (memory.cell(memory.cell(word + 4)) == rows::QUESTION_DUP
+            && (memory.cell(memory.cell(word + 6)) == Control::ZeroBranch as u16
+                && (memory.cell(memory.cell(word + 10)) == rows::ZERO_GREATER
+                    && (memory.cell(memory.cell(word + 16)) == rows::EXECUTE
+                        && (memory.cell(memory.cell(word + 18)) == Control::Branch as u16
+                            && memory.cell(memory.cell(word + 22)) == Control::Exit as u16)))))
 }
 
 /// Whether INTERPRET's thread stands behind this code field.
@@ -139,7 +142,8 @@ fn has_thread(memory: &Memory, word: u16) -> bool
     ensures near { IsTrue result → word ≤ 65511 }
 {
     word <= 65511
-        && (memory.cell(word) == 1 && (has_jumps(memory, word) && has_primitives(memory, word)))
+        && (memory.cell(word) == rows::COLON_CODE
+            && (has_jumps(memory, word) && has_primitives(memory, word)))
 }
 
 /// Where a header ends, behind its code field.
@@ -286,7 +290,7 @@ fn is_idle(memory: &Memory, limit: u16) -> bool
 fn is_record(memory: &Memory, voc: u16) -> bool
     ensures { result ≡ is_record memory.now voc }
 {
-    voc == 42 || (256 <= voc && u32::from(voc) + 10 <= u32::from(memory.cell(DP)))
+    voc == FORTH_VOC || (256 <= voc && u32::from(voc) + 10 <= u32::from(memory.cell(DP)))
 }
 
 fn are_records_apart(voc: u16, other: u16) -> bool

@@ -6,6 +6,7 @@ mod checking;
 pub mod laws;
 mod load;
 mod rounds;
+mod rows;
 
 pub use checking::is_resident;
 pub use image_builder::{BuildFault, Cause, build};
