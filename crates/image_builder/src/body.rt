@@ -30,7 +30,10 @@ fn is_inner_control(sign: Sign) -> bool
     ensures { result ≡ is_inner sign }
 {
     match sign {
-        Sign::Control(n) => (5 < n && n < 12) || (15 < n && n < 19),
+        Sign::Control(n) => {
+            (Control::Literal as u16 <= n && n <= Control::PlusLoop as u16)
+                || (Control::ShowText as u16 <= n && n <= Control::Does as u16)
+        }
         _ => false,
     }
 }

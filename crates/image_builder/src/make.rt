@@ -19,7 +19,19 @@ use crate::spot::Spot;
 use crate::state::{Build, Title};
 use colon_bodies::lay_cell;
 
-/// CREATE lays a header with code field 2.
+/// What stands in the code field of a word that `:` makes.
+const COLON: u16 = 1;
+
+/// The same of CREATE and VARIABLE.
+const VARIABLE: u16 = 2;
+
+/// The same of CONSTANT.
+const CONSTANT: u16 = 3;
+
+/// The same of VOCABULARY.
+const VOCABULARY: u16 = 4;
+
+/// CREATE lays a header.
 pub fn make_create(b: &mut Build, p: Spot) -> Result<(), Cause>
     requires building { Building b.old }
     requires short { length p.name.now < 32 }
@@ -28,11 +40,11 @@ pub fn make_create(b: &mut Build, p: Spot) -> Result<(), Cause>
     ensures kept { OnOk result (b.new.draft ≡ b.old.draft) }
     ensures memory { IfErr result (λ e. e ≡ OutOfMemory) }
 {
-    make_header(b, p.screen, p.name, Sign::Plain, 2)?;
+    make_header(b, p.screen, p.name, Sign::Plain, VARIABLE)?;
     Ok(())
 }
 
-/// VARIABLE lays a header with code field 2, and the cell 0.
+/// VARIABLE lays a header, and the cell 0.
 pub fn make_variable(b: &mut Build, p: Spot) -> Result<(), Cause>
     requires building { Building b.old }
     requires short { length p.name.now < 32 }
@@ -41,12 +53,12 @@ pub fn make_variable(b: &mut Build, p: Spot) -> Result<(), Cause>
     ensures kept { OnOk result (b.new.draft ≡ b.old.draft) }
     ensures memory { IfErr result (λ e. e ≡ OutOfMemory) }
 {
-    make_header(b, p.screen, p.name, Sign::Plain, 2)?;
+    make_header(b, p.screen, p.name, Sign::Plain, VARIABLE)?;
     lay_cell(&mut b.image, 0)?;
     Ok(())
 }
 
-/// CONSTANT lays a header with code field 3, and its value.
+/// CONSTANT lays a header, and its value.
 pub fn make_constant(b: &mut Build, p: Spot, n: u16) -> Result<(), Cause>
     requires building { Building b.old }
     requires short { length p.name.now < 32 }
@@ -55,7 +67,7 @@ pub fn make_constant(b: &mut Build, p: Spot, n: u16) -> Result<(), Cause>
     ensures kept { OnOk result (b.new.draft ≡ b.old.draft) }
     ensures memory { IfErr result (λ e. e ≡ OutOfMemory) }
 {
-    make_header(b, p.screen, p.name, Sign::Plain, 3)?;
+    make_header(b, p.screen, p.name, Sign::Plain, CONSTANT)?;
     lay_cell(&mut b.image, n)?;
     Ok(())
 }
@@ -86,7 +98,7 @@ pub fn lay_record(image: &mut Vec<u8>, older: u16) -> Result<(), Cause>
     Ok(())
 }
 
-/// VOCABULARY lays a header with code field 4, and a record.
+/// VOCABULARY lays a header, and a record.
 pub fn make_vocabulary(b: &mut Build, p: Spot) -> Result<(), Cause>
     requires building { Building b.old }
     requires short { length p.name.now < 32 }
@@ -96,7 +108,7 @@ pub fn make_vocabulary(b: &mut Build, p: Spot) -> Result<(), Cause>
     ensures memory { IfErr result (λ e. e ≡ OutOfMemory) }
 {
     let at = here(b);
-    make_header(b, p.screen, p.name, Sign::Record, 4)?;
+    make_header(b, p.screen, p.name, Sign::Record, VOCABULARY)?;
     lay_record(&mut b.image, b.newest_record)?;
     b.newest_record = at + 7 + p.name.len() as u16;
     Ok(())
@@ -205,7 +217,7 @@ pub fn make_colon(b: &mut Build, p: &Title, bytes: &[u8]) -> Result<(), Cause>
     ensures kept { OnOk result (b.new.draft ≡ b.old.draft) }
     ensures memory { IfErr result (λ e. e ≡ OutOfMemory) }
 {
-    make_header(b, p.screen, p.name.as_slice(), Sign::Plain, 1)?;
+    make_header(b, p.screen, p.name.as_slice(), Sign::Plain, COLON)?;
     b.image.extend_from_slice(bytes)?;
     Ok(())
 }

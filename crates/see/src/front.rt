@@ -85,11 +85,10 @@ fn text_off(aborts: bool, bytes: &[u8]) -> Option<Taken>
 }
 
 /// Whether the cell is that of a control.
-fn is_control(c: u16, runtime: &[u16], control: Control) -> bool
-    requires { 28 ≤ length runtime.now }
-    ensures { result ≡ is_cell (slice_index runtime.now) (number_of control) c }
+fn is_control(c: u16, control: u16) -> bool
+    ensures { (rt : ℕ → ℕ) (k : ℕ) → rt k ≡ control → result ≡ is_cell rt k c }
 {
-    c != 0 && c == cell_of(runtime, control)
+    c != 0 && c == control
 }
 
 /// The control whose cell it is.
@@ -98,7 +97,7 @@ fn control_in(c: u16, runtime: &[u16], among: &[Control]) -> Option<Control>
     ensures { option_map number_of result ≡ pick (slice_index runtime.now) c (map number_of among.now) }
 {
     for control in among.iter() {
-        if is_control(c, runtime, *control) {
+        if is_control(c, cell_of(runtime, *control)) {
             return Some(*control);
         }
     }
