@@ -4,13 +4,11 @@ ghost use Rattle.compiling_words.specs.Definitions.{IsBegun, IsEnded};
 
 use crate::control::runtime;
 use crate::laying::{Full, lay};
+use dictionary::code_fields::COLON;
 use dictionary::{AddFault, add_header, newest_count, revealed};
 use memory::controls::Control;
 use memory::system::{CONTEXT, CURRENT, STATE};
 use memory::{Memory, cell_bytes};
-
-/// The code field of a colon word.
-const COLON: u16 = 1;
 
 /// Begins a definition (Forth-83 `:`): its hidden header, then STATE is -1 and CONTEXT is CURRENT, as both were before.
 ///

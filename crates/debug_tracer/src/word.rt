@@ -7,15 +7,13 @@ ghost use Rattle.debug_tracer.specs.Debugged.{debugged, thread_of, thread_or_fau
 
 use crate::fault::DebugFault;
 use crate::lines::send_line;
+use dictionary::code_fields::COLON;
 use dictionary::{
     ChainTooLong, HeadersFault, compilation_address, extent_end, headers_in_order, search,
 };
 use inner_interpreter::{EndFault, Extent, Machine, Output, Tracer};
 use memory::{Memory, OutOfMemory};
 use std::alloc::Global;
-
-/// The code field of a colon definition.
-const COLON: u16 = 1;
 
 /// The thread of the word that is traced, and memory as it was at the start, with its headers: tokens are named by these.
 #[derive(Drop)]

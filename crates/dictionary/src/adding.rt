@@ -5,15 +5,13 @@ ghost use Rattle.memory.specs.Bytes.{cell, put_bytes};
 ghost use Rattle.dictionary.specs.Laying.{fits};
 ghost use Rattle.dictionary.specs.Adding.{is_name, new_count, header_bytes, site_of, with_header_at, with_header, header_size, IsAddable, IsAdded, record_bytes, with_vocabulary_at, with_vocabulary, IsVocabularyAdded};
 
+use crate::code_fields::VOCABULARY;
 use crate::fault::AddFault;
 use crate::laying::fits;
 use crate::lookups::head_of;
 use crate::site::Site;
 use memory::Memory;
 use memory::system::{BLK, CURRENT, DP, LAST, VOC_LINK};
-
-/// The code field of a vocabulary.
-const VOCABULARY: u16 = 4;
 
 /// The bytes of a header besides its name: view, link, count byte and code field.
 const FIXED_SIZE: u16 = 7;

@@ -6,6 +6,7 @@
 
 mod adding;
 mod bits;
+pub mod code_fields;
 mod counting;
 mod extents;
 mod fault;

@@ -18,18 +18,7 @@ use crate::header::{here, make_header};
 use crate::spot::Spot;
 use crate::state::{Build, Title};
 use colon_bodies::lay_cell;
-
-/// What stands in the code field of a word that `:` makes.
-const COLON: u16 = 1;
-
-/// The same of CREATE and VARIABLE.
-const VARIABLE: u16 = 2;
-
-/// The same of CONSTANT.
-const CONSTANT: u16 = 3;
-
-/// The same of VOCABULARY.
-const VOCABULARY: u16 = 4;
+use dictionary::code_fields::{COLON, CONSTANT, VARIABLE, VOCABULARY};
 
 /// CREATE lays a header.
 pub fn make_create(b: &mut Build, p: Spot) -> Result<(), Cause>

@@ -7,7 +7,7 @@ ghost use Rattle.metacompiler.specs.Residency.{has_keyword, has_colon, has_compi
 
 use crate::rows;
 use compiling_words::{Control, runtime};
-use dictionary::{compilation_address, find, header, is_immediate, search_from};
+use dictionary::{code_fields, compilation_address, find, header, is_immediate, search_from};
 use memory::Memory;
 use memory::system::{BASE, CONTEXT, CURRENT, DP, FORTH_VOC, STATE};
 use std::alloc::{AllocError, Global};
@@ -142,7 +142,7 @@ fn has_thread(memory: &Memory, word: u16) -> bool
     ensures near { IsTrue result → word ≤ 65511 }
 {
     word <= 65511
-        && (memory.cell(word) == rows::COLON_CODE
+        && (memory.cell(word) == code_fields::COLON
             && (has_jumps(memory, word) && has_primitives(memory, word)))
 }
 

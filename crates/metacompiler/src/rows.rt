@@ -1,9 +1,6 @@
 //! The rows of the words of the resident compiler and of INTERPRET's thread, by their names; those of controls are in
 //! `memory::controls`.
 
-/// What the code field of a colon word holds.
-pub const COLON_CODE: u16 = 1;
-
 /// `EXECUTE`
 pub const EXECUTE: u16 = 15;
 

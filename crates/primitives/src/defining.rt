@@ -5,11 +5,12 @@
 ghost use Rattle.std.specs.Prelude.{◌≡◌};
 ghost use Rattle.primitives.specs.Defining.{colon, lays_past, bracket_tick, bracket_compile, quotes, dot_quote, abort_quote, constant, variable};
 
-use crate::dictionary_rows::{COLON, CONSTANT, VARIABLE, create_with, make_header};
+use crate::dictionary_rows::{create_with, make_header};
 use crate::names::read_word;
 use crate::streams::{open, pass};
 use crate::writing::lay_text;
 use compiling_words::{TextWord, literal_code, runtime_of};
+use dictionary::code_fields::{COLON, CONSTANT, VARIABLE};
 use input_source::{Word, parse_to, word_bytes};
 use memory::cell_bytes;
 use memory::system::{CONTEXT, CURRENT, DP, STATE};

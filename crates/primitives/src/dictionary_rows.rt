@@ -9,6 +9,7 @@ ghost use Rattle.primitives.specs.Names.{name_word, name_in};
 use crate::names::{read_word, sought_at, target_in};
 use crate::streams::{open, pass};
 use crate::writing::write_header;
+use dictionary::code_fields::{VARIABLE, VOCABULARY};
 use dictionary::{
     ForgetFault, Site, compilation_address, cut_by, is_immediate, newest_count, record_bytes,
     set_immediate,
@@ -20,18 +21,6 @@ use plain_rows::faults::{
 };
 use plain_rows::leaves;
 use plain_rows::parts::{Outcome, Parts};
-
-/// What stands in the code field of a word that `:` makes.
-pub const COLON: u16 = 1;
-
-/// The same of CREATE and VARIABLE.
-pub const VARIABLE: u16 = 2;
-
-/// The same of CONSTANT.
-pub const CONSTANT: u16 = 3;
-
-/// The same of VOCABULARY.
-pub const VOCABULARY: u16 = 4;
 
 /// 147 `FIND` ( a -- a 0, w -1, w 1 )
 pub fn find(parts: &mut Parts) -> Outcome

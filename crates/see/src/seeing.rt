@@ -16,12 +16,10 @@ use crate::printing::{begin, show_words};
 use crate::refusal::SeeRefused;
 use crate::thread::thread_words;
 use colon_bodies::BodyWord;
+use dictionary::code_fields::COLON;
 use dictionary::{ChainTooLong, HeadersFault, compilation_address, headers_in_order, search};
 use memory::Memory;
 use std::alloc::{AllocError, Global};
-
-/// The code field of colon words.
-const COLON: u16 = 1;
 
 /// The words of a definition, as text.
 fn show(
