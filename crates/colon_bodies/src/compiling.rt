@@ -81,7 +81,7 @@ fn step(
 }
 
 /// Lays what one word lays behind what is half read.
-fn go_on(image: &mut Vec<u8>, word: BodyWord) -> Result<(), BodyCause>
+fn complete_half(image: &mut Vec<u8>, word: BodyWord) -> Result<(), BodyCause>
     ensures { (rt : ℕ → ℕ) (at : ℕ) (o : Outer) (t : Body) (h : Half) (marks : List Mark) → h ≢ Free →
         suits h (token word.entry) ≡ true → Drafted rt at o t h image.old.items marks →
         After rt at (read o t h (token word.entry)) result image.new.items marks }
@@ -106,7 +106,7 @@ fn lay(d: &mut Draft, word: BodyWord, at: u16, runtime: &[u16]) -> Result<(), Bo
     if is_free(d.half) {
         step(&mut d.image, &mut d.marks, d.is_past, word, at, runtime)?;
     } else {
-        go_on(&mut d.image, word)?;
+        complete_half(&mut d.image, word)?;
     }
     Ok(())
 }

@@ -100,7 +100,7 @@ fn meaning_of<'a>(b: &Build, w: Spot<'a>) -> Result<BodyWord<'a>, Cause>
 }
 
 /// One more word of the draft.
-fn go_on(b: &mut Build, word: BodyWord, at: u16) -> Result<(), Cause>
+fn draft_word(b: &mut Build, word: BodyWord, at: u16) -> Result<(), Cause>
     requires drafting { Drafting at b.old.draft.image.items b.old.draft.marks.items }
     requires room { at + length b.old.draft.image.items ≤ b.old.limit }
     requires limit { b.old.limit ≤ GREATEST_LIMIT }
@@ -153,6 +153,6 @@ pub fn take_body(b: &mut Build, p: Title, w: Spot) -> Result<Begun, Cause>
         end_body(b, &p, at)?;
         return Ok(Begun::Whole);
     }
-    go_on(b, word, at)?;
+    draft_word(b, word, at)?;
     Ok(Begun::Inside(p))
 }

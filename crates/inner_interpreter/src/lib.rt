@@ -3,7 +3,6 @@
 
 mod act;
 pub mod ends;
-mod executing;
 mod files;
 mod in_place;
 pub mod laws;
@@ -17,6 +16,7 @@ mod runs;
 mod sends;
 mod steps;
 mod stop;
+mod stretches;
 mod tracing;
 mod writing;
 

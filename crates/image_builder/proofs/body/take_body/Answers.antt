@@ -6,16 +6,16 @@ use Rattle.image_builder.specs.Places.{place}
 use Rattle.image_builder.proofs.Bodies.{means, means_fault, end_fault, draft_in, goes_out, word_fault, at_title, inside_goes, ends_goes}
 use Rattle.image_builder.proofs.body.take_body.Goals as goal
 
-pub go_on-requires-clause-drafting : goal.go_on-requires-clause-drafting
-go_on-requires-clause-drafting c =
+pub draft_word-requires-clause-drafting : goal.draft_word-requires-clause-drafting
+draft_word-requires-clause-drafting c =
     let s = c.requires.somewhere in
     let h = s.is in
     let d = h.drafts in
     let e = at_title c.args.b.now s.items s.place c.args.p.name.items c.here.result c.len.result h.built c.here.ensures.address (omega (arith, c.args.p.name.ok.0)) s.titled.1 in
     record { rt = slice_index c.args.b.now.runtime.items; outer = d.outer; body = d.body; half = d.half; is = (draft_in c.args.b.now s.items s.words s.place s.before _ h e).is }
 
-pub go_on-requires-clause-room : goal.go_on-requires-clause-room
-go_on-requires-clause-room c =
+pub draft_word-requires-clause-room : goal.draft_word-requires-clause-room
+draft_word-requires-clause-room c =
     let s = c.requires.somewhere in
     let h = s.is in
     let d = h.drafts in
@@ -23,15 +23,15 @@ go_on-requires-clause-room c =
     let room' = d.room in
     omega arith
 
-pub go_on-requires-clause-limit : goal.go_on-requires-clause-limit
-go_on-requires-clause-limit c = let s = c.requires.somewhere in let h = s.is in let b = h.built in b.limited.1
+pub draft_word-requires-clause-limit : goal.draft_word-requires-clause-limit
+draft_word-requires-clause-limit c = let s = c.requires.somewhere in let h = s.is in let b = h.built in b.limited.1
 
 pub returns : goal.returns
 returns c = λ t ws after before p titled h.
     let d = h.drafts in
     let e = at_title c.args.b.now t p c.args.p.name.items c.here.result c.len.result h.built c.here.ensures.address (omega (arith, c.args.p.name.ok.0)) titled.1 in
-    inside_goes c.args.b.now c.go_on.new.b t ws c.args.p p (place c.args.w) before (token c.in_ok-word.word) h titled c.in_ok-go_on.ensures.kept (means c.args.b.now t ws p (place c.args.w) before h (c.in_ok-word.ensures t h.built))
-    (goes_out c.args.b.now c.go_on.new.b t p _ d.outer d.body d.half (token c.in_ok-word.word) h.built e (c.in_ok-go_on.ensures.taken d.outer d.body d.half (draft_in c.args.b.now t ws p before _ h e) d.shallow))
+    inside_goes c.args.b.now c.draft_word.new.b t ws c.args.p p (place c.args.w) before (token c.in_ok-word.word) h titled c.in_ok-draft_word.ensures.kept (means c.args.b.now t ws p (place c.args.w) before h (c.in_ok-word.ensures t h.built))
+    (goes_out c.args.b.now c.draft_word.new.b t p _ d.outer d.body d.half (token c.in_ok-word.word) h.built e (c.in_ok-draft_word.ensures.taken d.outer d.body d.half (draft_in c.args.b.now t ws p before _ h e) d.shallow))
 
 pub returns-then-is_semicolon : goal.returns-then-is_semicolon
 returns-then-is_semicolon c = λ t ws after before p titled h.
@@ -39,12 +39,12 @@ returns-then-is_semicolon c = λ t ws after before p titled h.
     let x = c.is_semicolon.ensures.0 c.if-is_semicolon.true in
     ends_goes c.args.b.now c.end_body.new.b t ws p (place c.args.w) before h (means c.args.b.now t ws p (place c.args.w) before h (c.in_ok-word.ensures t h.built) ∙ ap Ok x) (c.in_ok-end_body.ensures t ws before p titled h e)
 
-pub returns-in_err-go_on : goal.returns-in_err-go_on
-returns-in_err-go_on c = λ t ws after before p titled h.
+pub returns-in_err-draft_word : goal.returns-in_err-draft_word
+returns-in_err-draft_word c = λ t ws after before p titled h.
     let d = h.drafts in
     let e = at_title c.args.b.now t p c.args.p.name.items c.here.result c.len.result h.built c.here.ensures.address (omega (arith, c.args.p.name.ok.0)) titled.1 in
-    let q = err_from_is_err_and c.from_residual-in_err-go_on.result c.from_residual-in_err-go_on.ensures.1 in
-    rw (q.1, q.2) (word_fault c.args.b.now t ws p (place c.args.w) before after _ (token c.in_ok-word.word) _ h e (means c.args.b.now t ws p (place c.args.w) before h (c.in_ok-word.ensures t h.built)) (c.in_err-go_on.ensures.taken d.outer d.body d.half (draft_in c.args.b.now t ws p before _ h e) d.shallow))
+    let q = err_from_is_err_and c.from_residual-in_err-draft_word.result c.from_residual-in_err-draft_word.ensures.1 in
+    rw (q.1, q.2) (word_fault c.args.b.now t ws p (place c.args.w) before after _ (token c.in_ok-word.word) _ h e (means c.args.b.now t ws p (place c.args.w) before h (c.in_ok-word.ensures t h.built)) (c.in_err-draft_word.ensures.taken d.outer d.body d.half (draft_in c.args.b.now t ws p before _ h e) d.shallow))
 
 pub returns-in_err-end_body : goal.returns-in_err-end_body
 returns-in_err-end_body c = λ t ws after before p titled h.
