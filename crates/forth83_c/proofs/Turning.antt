@@ -9,7 +9,7 @@ use Rattle.inner_interpreter.specs.Runs.{World, Served, served, round, round_by,
 use Rattle.inner_interpreter.specs.State.{State}
 use Rattle.inner_interpreter.specs.Tick.{ran}
 use Rattle.inner_interpreter.proofs.Running.{runs_running}
-use Rattle.inner_interpreter.proofs.Stretches.{rounds_add, one_round, stretched, behind}
+use Rattle.inner_interpreter.proofs.Stretched.{rounds_add, one_round, stretched, behind}
 use Rattle.forth83_c.specs.Driven.{begun, IsDriven, DrivesOn}
 
 pub none_driven : (s : State) (typed : List ℕ) (limit : ℕ) → IsDriven s typed limit s typed [] limit

@@ -19,7 +19,7 @@ use Rattle.inner_interpreter.specs.Tracing.{is_met, AddsLine, IsDue, Reached, Re
 use Rattle.inner_interpreter.specs.Worlds.{IsAt, IsFaulted}
 use Rattle.inner_interpreter.proofs.Running.{cut_behind, kept_at}
 use Rattle.inner_interpreter.proofs.Sending.{appends_both}
-use Rattle.inner_interpreter.proofs.Stretches.{rounds_add, runs_on, trace_add}
+use Rattle.inner_interpreter.proofs.Stretched.{rounds_add, runs_on, trace_add}
 
 appends_none : (a : Option (List ℕ)) → Appends a a []
 appends_none None = tt

@@ -15,7 +15,7 @@ use Rattle.inner_interpreter.specs.Answer.{Reply, asked_by, answered, answer_of,
 use Rattle.inner_interpreter.specs.Runs.{World, tick_round, answer_round, round_by, round, rounds, stops, stop_by, next_by, served}
 use Rattle.inner_interpreter.specs.Worlds.{waiting, rounds_left}
 use Rattle.inner_interpreter.proofs.Shapes.{either, by_answer}
-use Rattle.inner_interpreter.proofs.Stretches.{rounds_add, round_tick}
+use Rattle.inner_interpreter.proofs.Stretched.{rounds_add, round_tick}
 use Rattle.inner_interpreter.proofs.Uniqueness.{stays}
 
 -- no request stands

@@ -120,6 +120,9 @@ ran_read (suc n) k s = by_quiet (is_quiet (ticked s).1) (ran_read n (k + 1) (tic
 pub stretch_read : (n : ℕ) (s t : State) → t ≡ (stretch n s).1 → HasNotFailed t
 stretch_read n s t e = rw e (as_test (stretch n s).1.halt (ran_read n 0 s.parts))
 
+pub went_read : (count : ℕ) (s t : State) (act : Act) → (count, t, act) ≡ ran 0 count s.parts → HasNotFailed t
+went_read count s t act is = stretch_read count s t (ap (λ (r : ℕ × State × Act). r.1) is)
+
 read_reply : (b : Bool) (page : List ℕ) → (if b then answering.ReadOk page else answering.ReadFault) ≢ answering.InputFault
 read_reply true page q = cc
 read_reply false page q = cc

@@ -5,7 +5,7 @@ pub mod Lining
 pub mod Loading
 pub mod Answering
 pub mod Quiet
-pub mod Stretches
+pub mod Stretched
 pub mod Moving
 pub mod Running
 pub mod Ended

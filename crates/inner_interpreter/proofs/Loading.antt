@@ -1,6 +1,6 @@
 -- A machine that was loaded.
-use Rattle.std.proofs.Common.{◌≡◌, ◌∙◌, refl, ap, subst, length, ℕ, List, Option, Some, Result, Ok, Err}
-use Rattle.std.specs.Prelude.{IfSome, IfOk}
+use Rattle.std.proofs.Common.{◌≡◌, ◌∙◌, refl, ap, subst, length, ℕ, List, Option, Some}
+use Rattle.std.specs.Prelude.{IfSome}
 use Rattle.block_buffers.specs.Disks.{Disk}
 use Rattle.image_loader.specs.Files.{Contents}
 use Rattle.inner_interpreter.specs.Served.{is_input_fault, HasNotFailed}
@@ -18,7 +18,3 @@ loaded_at image s count limit unread disk sent typed d shown is told u k t =
 pub start_not_failed : (image : Contents) (s : State) (count : ℕ) → s ≡ start image count → HasNotFailed s
 unfolding is_input_fault
 start_not_failed image s count is = ap (λ (x : State). is_input_fault x.halt) is
-
-pub ok_both : {T E : Type 0} (r : Result T E) (P Q : T → Type 0) → IfOk r P → IfOk r Q → IfOk r (λ x. P x × Q x)
-ok_both (Ok x) P Q p q = (p, q)
-ok_both (Err e) P Q p q = tt

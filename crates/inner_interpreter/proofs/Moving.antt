@@ -102,6 +102,13 @@ moved_stretch m s t c e h all =
     let same : r.ticks ≡ m = omega (arith, all, r.count) in
     rw (e, h) (subst (λ n. HasMoved (running s.parts) (ran 0 m s.parts).1 c c n) same r.moved)
 
+-- the same of a call that makes such ticks out of those that are left
+pub moved_went : (left count : ℕ) (s t : State) (act : Act) (c : List Bool) → s ≡ running s.parts → (count, t, act) ≡ ran 0 count s.parts → count ≤ left → HasMoved s t c c (left - (left - count))
+moved_went left count s t act c e is most =
+    let same : count ≡ left - (left - count) = omega arith in
+    subst (λ n. HasMoved s t c c n) same
+    (moved_stretch count s t c e (ap (λ (r : ℕ × State × Act). r.1) is) (sym (ap (λ (r : ℕ × State × Act). r.0) is)))
+
 -- where moves are accepted, no more answers are made than ticks, but one where a request stood
 pub few_answers : (ts : List Turn) (s : State) → AreAccepted s ts → answers_in ts + waiting (after s ts).wait ≤ ticks_in ts + waiting s.wait
 unfolding after AreAccepted

@@ -4,6 +4,7 @@ use Rattle.std.specs.Prelude.{IsSome}
 use Rattle.std.specs.Io.KnownBytes.{Appends, Keeps}
 use Rattle.block_buffers.specs.Disks.{Disk}
 use Rattle.plain_rows.specs.declared.parts.Request.{Request}
+use Rattle.inner_interpreter.specs.declared.act.Act.{Act}
 use Rattle.inner_interpreter.specs.State.{State}
 use Rattle.plain_rows.specs.Whole.{Whole}
 use Rattle.inner_interpreter.specs.declared.stop.Stop.{Stop}
@@ -18,7 +19,7 @@ use Rattle.inner_interpreter.specs.Sent.{AppendsPart}
 use Rattle.inner_interpreter.specs.Runs.{World, round, round_by, rounds, stops, answer_round, served}
 use Rattle.inner_interpreter.specs.Worlds.{IsAt, IsBrokenOff, IsCut, IsFaulted, IsHeldUp, stretch}
 use Rattle.inner_interpreter.proofs.Sending.{SentPart, part_of}
-use Rattle.inner_interpreter.proofs.Stretches.{one_round, rounds_add, runs_on, stretched, behind, adds_line, adds_one, silent_before}
+use Rattle.inner_interpreter.proofs.Stretched.{one_round, rounds_add, runs_on, stretched, behind, adds_line, adds_one, silent_before}
 
 pub asked_none : (wait : Option (Request × ℕ)) → asked_by wait ≡ None → wait ≡ None
 asked_none None e = refl
@@ -61,6 +62,15 @@ stretch_at e w s s' unread disk sent sent' left left' m halt wait state all some
     } in
     (made.0, rw count (adds_line e m w s.parts same fits some all unmet), rw (made.2) there)
 
+-- the same of a call that makes such ticks, and answers how many and the last one's act
+pub went_at : (e : Extent) (w : World) (s s' : State) (act : Act) (unread : Option (List ℕ)) (disk : Option Disk) (sent sent' : Option (List ℕ)) (left count : ℕ)
+    → s.halt ≡ None → s.wait ≡ None → (count, s', act) ≡ ran 0 count s.parts → 0 < count → count ≤ left → AreUnmet e (count - 1) (ticked s.parts).0.parts
+    → Appends sent sent' (shown_bytes s'.parts.memory act.shown)
+    → IsAt w s unread disk sent left → Reached e w s' unread disk sent' (left - count)
+went_at e w s s' act unread disk sent sent' left count halt wait is some most unmet more at =
+    stretch_at e w s s' unread disk sent sent' left (left - count) count halt wait (ap (λ (r : ℕ × State × Act). r.1) is) (sym (ap (λ (r : ℕ × State × Act). r.0) is)) some most refl unmet
+    (subst (λ (r : ℕ × State × Act). Appends sent sent' (shown_bytes r.1.parts.memory r.2.shown)) is more) at
+
 pub stretch_cut : (e : Extent) (w : World) (s s' : State) (unread : Option (List ℕ)) (disk : Option Disk) (sent sent' : Option (List ℕ)) (left m : ℕ)
     → s.halt ≡ None → s.wait ≡ None → s' ≡ (stretch m s).1 → (stretch m s).0 ≡ m → 0 < m → m ≤ left → AreUnmet e (m - 1) (ticked s.parts).0.parts
     → AppendsPart sent sent' (shown_bytes (stretch m s).1.parts.memory (stretch m s).2.shown)
@@ -93,6 +103,14 @@ stretch_cut e w s s' unread disk sent sent' left m halt wait state all some most
         });
       },
     )
+
+pub went_cut : (e : Extent) (w : World) (s s' : State) (act : Act) (unread : Option (List ℕ)) (disk : Option Disk) (sent sent' : Option (List ℕ)) (left count : ℕ)
+    → s.halt ≡ None → s.wait ≡ None → (count, s', act) ≡ ran 0 count s.parts → 0 < count → count ≤ left → AreUnmet e (count - 1) (ticked s.parts).0.parts
+    → AppendsPart sent sent' (shown_bytes s'.parts.memory act.shown)
+    → IsAt w s unread disk sent left → ReachedCut e w s' unread disk sent'
+went_cut e w s s' act unread disk sent sent' left count halt wait is some most unmet more at =
+    stretch_cut e w s s' unread disk sent sent' left count halt wait (ap (λ (r : ℕ × State × Act). r.1) is) (sym (ap (λ (r : ℕ × State × Act). r.0) is)) some most unmet
+    (subst (λ (r : ℕ × State × Act). AppendsPart sent sent' (shown_bytes r.1.parts.memory r.2.shown)) is more) at
 
 -- what an answer told of each known start
 abbrev pub Tells : State → Request → Option (List ℕ) → Option Disk → State → Option (List ℕ) → Option Disk → (List ℕ → Type 0) → Type 0

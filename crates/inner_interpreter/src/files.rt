@@ -3,52 +3,15 @@
 ghost use Rattle.std.specs.Prelude.{◌≡◌, ◌≢◌, ◌↔◌, false, true, IfOk, IfErr, IsErrOf, OnErr};
 ghost use Rattle.image_loader.specs.Files.{Contents, IsFile, IsCutShort, IsFollowed, HasBadMagic, HasBadVersion, HasBadBuffers, HasBadSize};
 ghost use Rattle.inner_interpreter.specs.Files.{HasRunFrom};
-ghost use Rattle.inner_interpreter.specs.Worlds.{OfImage, OfFile, EndsFrom, EndsCutFrom, EndsFaultedFrom};
+ghost use Rattle.inner_interpreter.specs.Worlds.{OfFile, EndsFrom, EndsCutFrom, EndsFaultedFrom};
 
 use crate::ends::{Input, Output};
 use crate::machine::Machine;
 use crate::runs::run;
 use crate::stop::Stop;
 use block_buffers::Device;
-use image_loader::{Image, ImageFault};
-use memory::OutOfMemory;
+use image_loader::ImageFault;
 use std::alloc::Global;
-
-/// Loads an image and runs it.
-fn load_and_run<R: Input, W: Output, D: Device>(
-    alloc: Global,
-    image: &Image,
-    reader: &mut R,
-    writer: &mut W,
-    device: &mut D,
-    limit: u64,
-) -> Result<Stop, OutOfMemory>
-    ensures whole { IfOk result (λ stop. R.failed reader.new ≡ false → W.failed writer.new ≡ false →
-        OfImage image.now (R.unread reader.old) (D.disk device.old) (W.sent writer.old) limit
-        (λ w. EndsFrom w (R.unread reader.new) (D.disk device.new) (W.sent writer.new) stop)) }
-    ensures output { IfOk result (λ stop. W.failed writer.old ≡ false →
-        (stop ≡ Stop.OutputFault) ↔ (W.failed writer.new ≡ true)) }
-    ensures cut { IfOk result (λ _. W.failed writer.old ≡ false → W.failed writer.new ≡ true →
-        OfImage image.now (R.unread reader.old) (D.disk device.old) (W.sent writer.old) limit
-        (λ w. EndsCutFrom w (R.unread reader.new) (D.disk device.new) (W.sent writer.new))) }
-    ensures input { IfOk result (λ stop. R.failed reader.old ≡ false → R.failed reader.new ≡ true →
-        stop ≡ Stop.InputFault) }
-    ensures faulted { IfOk result (λ _. R.failed reader.old ≡ false → R.failed reader.new ≡ true →
-        OfImage image.now (R.unread reader.old) (D.disk device.old) (W.sent writer.old) limit
-        (λ w. EndsFaultedFrom w (R.unread reader.new) (D.disk device.new) (W.sent writer.new))) }
-    ensures one { IfOk result (λ _. R.failed reader.old ≡ false → R.failed reader.new ≡ true →
-        W.failed writer.new ≡ W.failed writer.old) }
-    ensures told { IfOk result (λ stop. R.failed reader.new ≡ false → stop ≢ Stop.InputFault) }
-    ensures moved { IfOk result (λ stop. HasRunFrom image.now (D.block_count device.old) (D.calls device.old)
-        (D.calls device.new) limit (R.failed reader.new) (W.failed writer.new) stop) }
-    ensures untraced { IfOk result (λ stop. stop ≢ Stop.TraceFault) }
-    ensures reader { OnErr result (reader.new ≡ reader.old) }
-    ensures writer { OnErr result (writer.new ≡ writer.old) }
-    ensures device { OnErr result (device.new ≡ device.old) }
-{
-    let mut machine = Machine::load(alloc, image, device.count())?;
-    run(alloc, &mut machine, reader, writer, device, limit)
-}
 
 /// Runs the image of which `bytes` are the file, for at most `limit` ticks, and answers why it stopped. Bytes that are no
 /// image's file are refused as by `image_loader::read`, and nothing is run; `OutOfMemory` also where there is no memory
@@ -112,11 +75,12 @@ pub fn run_file<R: Input, W: Output, D: Device>(
     ensures writer { OnErr result (writer.new ≡ writer.old) }
     ensures device { OnErr result (device.new ≡ device.old) }
 {
-    match image_loader::read(alloc, bytes) {
-        Ok(image) => match load_and_run(alloc, &image, reader, writer, device, limit) {
-            Ok(stop) => Ok(stop),
-            Err(OutOfMemory) => Err(ImageFault::OutOfMemory),
-        },
-        Err(fault) => Err(fault),
+    let image = image_loader::read(alloc, bytes)?;
+    let Ok(mut machine) = Machine::load(alloc, &image, device.count()) else {
+        return Err(ImageFault::OutOfMemory);
+    };
+    match run(alloc, &mut machine, reader, writer, device, limit) {
+        Ok(stop) => Ok(stop),
+        Err(_) => Err(ImageFault::OutOfMemory),
     }
 }

@@ -6,13 +6,12 @@ ghost use Rattle.block_buffers.specs.Disks.{Disk};
 ghost use Rattle.inner_interpreter.specs.Answer.{InputFault, asked_by, is_answer};
 ghost use Rattle.inner_interpreter.specs.Ends.{Marks};
 ghost use Rattle.inner_interpreter.specs.Lines.{IsLeft};
-ghost use Rattle.inner_interpreter.specs.Moves.{HasMoved, shown_bytes};
+ghost use Rattle.inner_interpreter.specs.Moves.{HasMoved};
 ghost use Rattle.inner_interpreter.specs.Runs.{World};
 ghost use Rattle.inner_interpreter.specs.Sent.{AppendsPart};
 ghost use Rattle.inner_interpreter.specs.Served.{Answered, served_move, Faults, HasAnswered, HasNotFailed};
-ghost use Rattle.inner_interpreter.specs.Tick.{Runs, ticked};
-ghost use Rattle.inner_interpreter.specs.Tracing.{AreUnmet, Reached, ReachedCut};
-ghost use Rattle.inner_interpreter.specs.Worlds.{IsAt, IsFaulted, rounds_left, stretch};
+ghost use Rattle.inner_interpreter.specs.Tracing.{Reached, ReachedCut};
+ghost use Rattle.inner_interpreter.specs.Worlds.{IsAt, IsFaulted, rounds_left};
 
 use crate::ends::{EndFault, Input, Output};
 use crate::machine::Machine;
@@ -27,34 +26,6 @@ use plain_rows::parts::Request;
 pub enum Failed {
     Reader,
     Writer,
-}
-
-/// Ticks up to the first that isn't quiet or behind which a token of the extent comes next, and what it shows.
-#[tactic(auto, using(crate::proofs::Faultless::stretch_read))]
-fn make_stretch<W: Output>(
-    machine: &mut Machine,
-    writer: &mut W,
-    extent: Extent,
-    left: &mut u64,
-) -> Result<(), EndFault>
-    requires runs { Runs machine.old }
-    requires some { 0 < left.old }
-    ensures state { machine.new ≡ (stretch (left.old - left.new) machine.old).1 }
-    ensures all { (stretch (left.old - left.new) machine.old).0 ≡ left.old - left.new }
-    ensures fewer { left.new < left.old }
-    ensures unmet { AreUnmet extent (left.old - left.new - 1) (ticked machine.old.parts).0.parts }
-    ensures read { HasNotFailed machine.new }
-    ensures ok { OnOk result (Appends (W.sent writer.old) (W.sent writer.new)
-        (shown_bytes (stretch (left.old - left.new) machine.old).1.parts.memory
-        (stretch (left.old - left.new) machine.old).2.shown)) }
-    ensures err { OnErr result (AppendsPart (W.sent writer.old) (W.sent writer.new)
-        (shown_bytes (stretch (left.old - left.new) machine.old).1.parts.memory
-        (stretch (left.old - left.new) machine.old).2.shown)) }
-    ensures mark { Marks (W.failed writer.old) (W.failed writer.new) result }
-{
-    let (count, act) = machine.ticks_onward(*left, extent);
-    *left -= count;
-    show(machine, writer, act.shown)
 }
 
 /// An answer, and what it shows.
@@ -149,10 +120,14 @@ pub fn make_rounds<R: Input, W: Output, D: Device>(
     ensures good { OnOk result ((R.failed reader.new ≡ R.failed reader.old) × (W.failed writer.new ≡ W.failed writer.old)) }
 {
     match machine.asked() {
-        None => match make_stretch(machine, writer, extent, left) {
-            Ok(()) => Ok(()),
-            Err(_) => Err(Failed::Writer),
-        },
+        None => {
+            let (count, act) = machine.ticks_onward(*left, extent);
+            *left -= count;
+            match show(machine, writer, act.shown) {
+                Ok(()) => Ok(()),
+                Err(_) => Err(Failed::Writer),
+            }
+        }
         Some(request) => match flush_before(writer, request) {
             Ok(()) => make_answer(line, machine, reader, writer, device, request),
             Err(_) => Err(Failed::Writer),

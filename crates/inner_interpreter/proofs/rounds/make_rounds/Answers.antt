@@ -1,28 +1,36 @@
-use Rattle.std.proofs.Common.{rules, arith, ◌≡◌, None, Some}
+use Rattle.std.proofs.Common.{rules, ◌≡◌, None, Some}
 use Rattle.inner_interpreter.specs.Answer.{asked_by}
-use Rattle.inner_interpreter.proofs.Moving.{moved_none, moved_still, moved_answer, moved_stretch}
-use Rattle.inner_interpreter.proofs.Running.{asked_none, runs_running, stretch_at, stretch_cut, answer_at, answer_cut, flush_cut, kept_at, faulted_at, on_ok_then}
+use Rattle.inner_interpreter.proofs.Faultless.{went_read}
+use Rattle.inner_interpreter.proofs.Moving.{moved_none, moved_still, moved_answer, moved_went}
+use Rattle.inner_interpreter.proofs.Running.{asked_none, runs_running, went_at, went_cut, answer_at, answer_cut, flush_cut, kept_at, faulted_at, on_ok_then}
 use Rattle.inner_interpreter.proofs.rounds.make_rounds.Goals as goal
 
 pub returns-in-Ok-clause-moved : goal.returns-in-Ok-clause-moved
 returns-in-Ok-clause-moved g c =
     let free : c.args.machine.now.wait ≡ None = asked_none _ (search rules) in
-    moved_stretch _ _ _ _ (runs_running _ c.requires.goes free) c.in-Ok.ensures.state c.in-Ok.ensures.all
+    let on = c.ticks_onward-count.ensures in
+    moved_went _ _ _ _ _ _ (runs_running _ c.requires.goes free) on.ran on.most
 
 pub returns-in-Err-clause-moved : goal.returns-in-Err-clause-moved
 returns-in-Err-clause-moved g c =
     let free : c.args.machine.now.wait ≡ None = asked_none _ (search rules) in
-    moved_stretch _ _ _ _ (runs_running _ c.requires.goes free) c.in-Err.ensures.state c.in-Err.ensures.all
+    let on = c.ticks_onward-count.ensures in
+    moved_went _ _ _ _ _ _ (runs_running _ c.requires.goes free) on.ran on.most
+
+pub returns-in-Ok-clause-read : goal.returns-in-Ok-clause-read
+returns-in-Ok-clause-read g c = went_read _ c.args.machine.now _ _ c.ticks_onward-count.ensures.ran
 
 pub returns-in-Ok-clause-ok : goal.returns-in-Ok-clause-ok
 returns-in-Ok-clause-ok g c = λ w at.
     let free : c.args.machine.now.wait ≡ None = asked_none _ (search rules) in
-    stretch_at _ w _ _ _ _ _ _ _ _ _ c.requires.goes free c.in-Ok.ensures.state c.in-Ok.ensures.all (omega (arith, c.in-Ok.ensures.fewer)) (omega arith) (omega (arith, c.in-Ok.ensures.fewer)) c.in-Ok.ensures.unmet c.in-Ok.ensures.ok at
+    let on = c.ticks_onward-count.ensures in
+    went_at _ w c.args.machine.now _ _ _ _ _ _ _ _ c.requires.goes free on.ran on.some on.most on.unmet c.in-Ok.ensures.ok at
 
 pub returns-in-Err-clause-cut : goal.returns-in-Err-clause-cut
 returns-in-Err-clause-cut g c = λ failed w at.
     let free : c.args.machine.now.wait ≡ None = asked_none _ (search rules) in
-    stretch_cut _ w _ _ _ _ _ _ _ _ c.requires.goes free c.in-Err.ensures.state c.in-Err.ensures.all (omega (arith, c.in-Err.ensures.fewer)) (omega arith) c.in-Err.ensures.unmet c.in-Err.ensures.err at
+    let on = c.ticks_onward-count.ensures in
+    went_cut _ w c.args.machine.now _ _ _ _ _ _ _ _ c.requires.goes free on.ran on.some on.most on.unmet c.in-Err.ensures.err at
 
 pub returns-in-Ok-flush_before-clause-moved : goal.returns-in-Ok-flush_before-clause-moved
 returns-in-Ok-flush_before-clause-moved g c = moved_still _ _ _ _ _ (moved_answer _ _ _ _ c.make_answer.ensures.answered)
