@@ -1,5 +1,5 @@
 -- Tracing a run: a line for each tick whose token is taken through ip in an extent.
-use Rattle.std.specs.Prelude.{◌≡◌, ◌⊎◌, true, ℕ, zero, suc, List, [], ◌++◌, Option, None, Bool, false, is_none, IsSome, nat_le, nat_lt, ◌&&◌, if◌then◌else◌}
+use Rattle.std.specs.Prelude.{◌≡◌, ◌⊎◌, true, ℕ, zero, suc, List, [], ◌++◌, Option, None, Bool, is_none, IsSome, ◌&&◌, if◌then◌else◌}
 use Rattle.std.specs.Io.KnownBytes.{Appends}
 use Rattle.block_buffers.specs.Disks.{Disk}
 use Rattle.plain_rows.specs.Whole.{Whole}
@@ -7,8 +7,8 @@ use Rattle.inner_interpreter.specs.declared.stop.Stop.{Stop}
 use Rattle.inner_interpreter.specs.declared.stop.Stop.TheVariants as stop
 use Rattle.machine.specs.declared.extent.Extent.{Extent}
 use Rattle.machine.specs.State.{State}
-use Rattle.machine.specs.Tick.{ticked}
 use Rattle.machine.specs.Answer.{asked_by}
+use Rattle.machine.specs.Met.{is_met}
 use Rattle.inner_interpreter.specs.Runs.{World, rounds, stops}
 use Rattle.inner_interpreter.specs.Worlds.{IsAt, IsCut, Ends, EndsCut, EndsFaulted}
 
