@@ -7,7 +7,7 @@ use Rattle.debug_tracer.specs.declared.fault.DebugFault.TheVariants as debug
 use Rattle.image_loader.specs.Files.{Contents, IsFile}
 use Rattle.inner_interpreter.specs.Moves.{HasRun}
 use Rattle.inner_interpreter.specs.Runs.{World, stop_by}
-use Rattle.inner_interpreter.specs.State.{State, start}
+use Rattle.machine.specs.State.{State, start}
 use Rattle.inner_interpreter.specs.declared.stop.Stop.{Stop}
 use Rattle.subcommands.specs.Ends.{IsUnrun}
 use Rattle.subcommands.specs.Lines.{PrintsOutOfMemory, PrintsRefusal, memory_of}

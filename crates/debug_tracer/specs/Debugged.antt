@@ -9,10 +9,10 @@ use Rattle.dictionary.specs.Search.{Sought, Found, Nowhere, TooLong, sought}
 use Rattle.block_buffers.specs.Disks.{Disk}
 use Rattle.plain_rows.specs.Whole.{Whole}
 use Rattle.inner_interpreter.specs.declared.stop.Stop.{Stop}
-use Rattle.inner_interpreter.specs.State.{State}
+use Rattle.machine.specs.State.{State}
 use Rattle.inner_interpreter.specs.Runs.{World}
 use Rattle.inner_interpreter.specs.Tracing.{EndsTraced, EndsCutTraced, EndsFaultedTraced, EndsUntraced}
-use Rattle.inner_interpreter.specs.declared.tracing.Extent.{Extent}
+use Rattle.machine.specs.declared.extent.Extent.{Extent}
 use Rattle.debug_tracer.specs.declared.fault.DebugFault.{DebugFault}
 use Rattle.debug_tracer.specs.declared.fault.DebugFault.TheVariants as f
 use Rattle.debug_tracer.specs.Lines.{line}

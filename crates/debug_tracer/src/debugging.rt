@@ -1,7 +1,7 @@
 //! DEBUG.
 
 ghost use Rattle.std.specs.Prelude.{◌≡◌, ◌≢◌, ◌↔◌, Ok, Some, false, true, IsOk, IfOk, IfErr, OnErr};
-ghost use Rattle.inner_interpreter.specs.declared.tracing.Extent.{Extent};
+ghost use Rattle.machine.specs.declared.extent.Extent.{Extent};
 ghost use Rattle.inner_interpreter.specs.Moves.{HasRun};
 ghost use Rattle.inner_interpreter.specs.Runs.{World, stop_by};
 ghost use Rattle.inner_interpreter.specs.Served.{HasNotFailed};

@@ -9,7 +9,7 @@ use Rattle.dictionary.specs.Search.{Sought, Found, sought}
 use Rattle.dictionary.proofs.Unnamed.{name_never}
 use Rattle.stacks.specs.Cells.{first_of}
 use Rattle.plain_rows.specs.Whole.{Whole}
-use Rattle.inner_interpreter.specs.State.{State}
+use Rattle.machine.specs.State.{State}
 use Rattle.forth83_c.specs.declared.record.Forth83.{Forth83}
 use Rattle.forth83_c.specs.Called.{HasFound}
 use Rattle.forth83_c.specs.Kept.{marked, wait_of, halt_of, entries_of, IsRecord, IsKept}

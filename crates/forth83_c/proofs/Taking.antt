@@ -4,10 +4,10 @@ use Rattle.std.proofs.lemmas.List.{take_more}
 use Rattle.std.specs.List.{list_all}
 use Rattle.block_buffers.specs.Disks.{Disk}
 use Rattle.plain_rows.specs.declared.parts.Request.TheVariants as request
-use Rattle.inner_interpreter.specs.Answer.{Key, Line, InputEnd, is_return, is_typed}
+use Rattle.machine.specs.Answer.{Key, Line, InputEnd, is_return, is_typed}
 use Rattle.inner_interpreter.specs.Lines.{Taken, line_of, line_reply, with_front}
 use Rattle.inner_interpreter.specs.Runs.{served, key_served}
-use Rattle.inner_interpreter.specs.State.{State}
+use Rattle.machine.specs.State.{State}
 use Rattle.inner_interpreter.proofs.Lining.{returned_here, more_here, typed_more}
 
 drop_one : (typed : List ℕ) (i : ℕ) → i < length typed → drop i typed ≡ get_or typed i 0 ∷ drop (i + 1) typed

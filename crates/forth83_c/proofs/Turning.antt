@@ -2,12 +2,12 @@
 use Rattle.std.proofs.Common.{◌≡◌, ℕ, ◌+◌, ◌-◌, ◌<◌, ◌++◌, List, [], None, Some, refl, sym, ap, ◌∙◌, arith}
 use Rattle.block_buffers.specs.Disks.{Disk}
 use Rattle.plain_rows.specs.declared.parts.Request.{Request}
-use Rattle.inner_interpreter.specs.declared.act.Act.{Act}
-use Rattle.inner_interpreter.specs.Answer.{Reply, answer_of, asked_by}
+use Rattle.machine.specs.declared.act.Act.{Act}
+use Rattle.machine.specs.Answer.{Reply, answer_of, asked_by}
 use Rattle.inner_interpreter.specs.Moves.{shown_bytes, answer_move}
 use Rattle.inner_interpreter.specs.Runs.{World, Served, served, round, round_by, rounds}
-use Rattle.inner_interpreter.specs.State.{State}
-use Rattle.inner_interpreter.specs.Tick.{ran}
+use Rattle.machine.specs.State.{State}
+use Rattle.machine.specs.Tick.{ran}
 use Rattle.inner_interpreter.proofs.Running.{runs_running}
 use Rattle.inner_interpreter.proofs.Stretched.{rounds_add, one_round, stretched, behind}
 use Rattle.forth83_c.specs.Driven.{begun, IsDriven, DrivesOn}

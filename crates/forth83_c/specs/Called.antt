@@ -2,11 +2,11 @@
 use Rattle.std.specs.Prelude.{◌≡◌, ◌≢◌, ◌≤◌, ◌-◌, ◌<◌, ℕ, List, [], ◌∷◌, length, take, drop, None, Some, IsSome, true, false}
 use Rattle.dictionary.specs.Header.{compilation_address}
 use Rattle.dictionary.specs.Search.{Found, Nowhere, TooLong, sought}
-use Rattle.inner_interpreter.specs.Answer.{Reply, answer_of, asked_by, asked_page, is_answer}
+use Rattle.machine.specs.Answer.{Reply, answer_of, asked_by, asked_page, is_answer}
 use Rattle.image_loader.specs.Files.{IsWritten}
-use Rattle.inner_interpreter.specs.Entering.{can_save, entered, saved, with_parts}
-use Rattle.inner_interpreter.specs.State.{State}
-use Rattle.inner_interpreter.specs.Tick.{Runs}
+use Rattle.machine.specs.Entering.{can_save, entered, saved, with_parts}
+use Rattle.machine.specs.State.{State}
+use Rattle.machine.specs.Tick.{Runs}
 use Rattle.forth83_c.specs.declared.record.Forth83.{Forth83}
 use Rattle.forth83_c.specs.declared.record.Forth83End.{Forth83End}
 use Rattle.forth83_c.specs.declared.status.Status.{Status}

@@ -4,10 +4,10 @@ use Rattle.std.specs.List.{list_all}
 use Rattle.block_buffers.specs.Disks.{Disk}
 use Rattle.plain_rows.specs.declared.parts.Request.{Request}
 use Rattle.plain_rows.specs.declared.parts.Request.TheVariants.{Key, Line, Read, Write}
-use Rattle.inner_interpreter.specs.Answer.{asked_by, is_typed}
+use Rattle.machine.specs.Answer.{asked_by, is_typed}
 use Rattle.inner_interpreter.specs.Requests.{asks_device}
 use Rattle.inner_interpreter.specs.Runs.{World, rounds}
-use Rattle.inner_interpreter.specs.State.{State}
+use Rattle.machine.specs.State.{State}
 use Rattle.forth83_c.specs.declared.stop.Stop.{Stop}
 use Rattle.forth83_c.specs.declared.stop.Stop.TheVariants.{Halted, Limit, Room, Typed, Block}
 

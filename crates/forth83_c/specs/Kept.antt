@@ -5,9 +5,9 @@ use Rattle.block_buffers.specs.declared.entry.Entry.{Entry}
 use Rattle.block_buffers.specs.Entries.{AreBuffers}
 use Rattle.plain_rows.specs.declared.parts.Request.{Request}
 use Rattle.plain_rows.specs.declared.parts.Request.TheVariants.{Key, Line, Read, Write}
-use Rattle.inner_interpreter.specs.declared.act.Cause.{Cause}
-use Rattle.inner_interpreter.specs.declared.act.Cause.TheVariants.{Bye, InputEnded, InputFault, Fault}
-use Rattle.inner_interpreter.specs.State.{State}
+use Rattle.machine.specs.declared.act.Cause.{Cause}
+use Rattle.machine.specs.declared.act.Cause.TheVariants.{Bye, InputEnded, InputFault, Fault}
+use Rattle.machine.specs.State.{State}
 use Rattle.forth83_c.specs.declared.kept.NotResumed.{NotResumed}
 use Rattle.forth83_c.specs.declared.kept.NotResumed.TheVariants.{NoMachine, OutOfMemory}
 use Rattle.forth83_c.specs.declared.record.Forth83.{Forth83}

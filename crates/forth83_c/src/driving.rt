@@ -3,9 +3,9 @@
 ghost use Rattle.std.specs.Prelude.{◌≡◌, ◌≤◌, ◌<◌, ◌+◌, ◌-◌, ℕ, List, length, take, drop, Some, None, true, IfSome, IsNone};
 ghost use Rattle.std.specs.List.{list_all};
 ghost use Rattle.plain_rows.specs.declared.parts.Request.TheVariants as request;
-ghost use Rattle.inner_interpreter.specs.Answer.{answer_of, asked_by, is_typed};
+ghost use Rattle.machine.specs.Answer.{answer_of, asked_by, is_typed};
 ghost use Rattle.inner_interpreter.specs.Lines.{line_reply};
-ghost use Rattle.inner_interpreter.specs.Tick.{Runs};
+ghost use Rattle.machine.specs.Tick.{Runs};
 ghost use Rattle.inner_interpreter.specs.Worlds.{rounds_left};
 ghost use Rattle.forth83_c.specs.Driven.{IsDriven, DrivesOn, HasStopped};
 

@@ -1,7 +1,7 @@
 //! The law of records.
 
 ghost use Rattle.std.specs.Prelude.{◌≡◌};
-ghost use Rattle.inner_interpreter.specs.State.{State};
+ghost use Rattle.machine.specs.State.{State};
 ghost use Rattle.forth83_c.specs.declared.record.Forth83.{Forth83};
 ghost use Rattle.forth83_c.specs.Kept.{IsKept, IsRecord};
 

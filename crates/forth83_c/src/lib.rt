@@ -15,8 +15,8 @@ mod stop;
 ghost use Rattle.std.specs.Prelude.{◌≡◌, ◌≢◌, ◌<◌, ◌≤◌, ◌⊎◌, length, take, IsTrue};
 ghost use Rattle.dictionary.specs.Adding.{is_name};
 ghost use Rattle.image_loader.specs.Files.{Contents, IsFile, IsCutShort, IsFollowed, HasBadMagic, HasBadVersion, HasBadBuffers, HasBadSize};
-ghost use Rattle.inner_interpreter.specs.State.{start};
-ghost use Rattle.inner_interpreter.specs.Answer.{InputEnd, ReadFault, ReadOk, WriteFault, WriteOk};
+ghost use Rattle.machine.specs.State.{start};
+ghost use Rattle.machine.specs.Answer.{InputEnd, ReadFault, ReadOk, WriteFault, WriteOk};
 ghost use Rattle.forth83_c.specs.Called.{AsksPage, HasAnswered, HasEntered, HasFound, HasPopped, HasPushed, HasRun, HasSaved, TellsByCode, TellsMachine, WhyNotAnswered, WhyNotEntered, WhyNotFound, WhyNoPage, WhyNotPushed, WhyNotPopped, WhyNotSaved};
 ghost use Rattle.forth83_c.specs.Kept.{IsKept};
 

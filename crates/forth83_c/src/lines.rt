@@ -2,7 +2,7 @@
 
 ghost use Rattle.std.specs.Prelude.{◌≡◌, ◌≤◌, ◌<◌, length, take, drop, true, IfSome, IsNone};
 ghost use Rattle.std.specs.List.{list_all};
-ghost use Rattle.inner_interpreter.specs.Answer.{is_return, is_typed};
+ghost use Rattle.machine.specs.Answer.{is_return, is_typed};
 ghost use Rattle.inner_interpreter.specs.Lines.{line_of};
 ghost use Rattle.plain_rows.specs.declared.parts.Request.TheVariants as request;
 ghost use Rattle.forth83_c.specs.Driven.{AreTooFew};

@@ -2,8 +2,8 @@
 use Rattle.std.proofs.Common.{◌≡◌, List, ℕ, Option}
 use Rattle.block_buffers.specs.Disks.{Disk}
 use Rattle.plain_rows.specs.declared.parts.Request.{Request}
-use Rattle.inner_interpreter.specs.declared.act.Act.{Act}
-use Rattle.inner_interpreter.specs.State.{State}
+use Rattle.machine.specs.declared.act.Act.{Act}
+use Rattle.machine.specs.State.{State}
 use Rattle.inner_interpreter.specs.Served.{Serves}
 
 pub serves_with : (s : State) (r r' : Request) (typed : List ℕ) (disk : Disk) (after : State) (unread unread' : Option (List ℕ)) (left : Option Disk) (act : Act)

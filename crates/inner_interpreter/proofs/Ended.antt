@@ -5,17 +5,18 @@ use Rattle.std.specs.Io.KnownBytes.{Appends, Keeps}
 use Rattle.block_buffers.specs.Disks.{Disk}
 use Rattle.plain_rows.specs.Whole.{Whole}
 use Rattle.plain_rows.specs.declared.parts.Request.{Request}
-use Rattle.inner_interpreter.specs.declared.act.Cause.{Cause}
-use Rattle.inner_interpreter.specs.declared.act.Cause.TheVariants as causes
+use Rattle.machine.specs.declared.act.Cause.{Cause}
+use Rattle.machine.specs.declared.act.Cause.TheVariants as causes
 use Rattle.inner_interpreter.specs.declared.stop.Stop.{Stop}
 use Rattle.inner_interpreter.specs.declared.stop.Stop.TheVariants as stop
-use Rattle.inner_interpreter.specs.declared.tracing.Extent.{Extent}
-use Rattle.inner_interpreter.specs.State.{State}
-use Rattle.inner_interpreter.specs.Answer.{InputFault, asked_by, is_answer}
+use Rattle.machine.specs.declared.extent.Extent.{Extent}
+use Rattle.machine.specs.State.{State}
+use Rattle.machine.specs.Answer.{InputFault, asked_by, is_answer}
 use Rattle.inner_interpreter.specs.Runs.{World, rounds, stops, stop_by, stop_of}
 use Rattle.inner_interpreter.specs.Sent.{AppendsPart}
 use Rattle.inner_interpreter.specs.Served.{is_input_fault}
-use Rattle.inner_interpreter.specs.Tracing.{is_met, AddsLine, IsDue, Reached, ReachedCut, MadeTraced, EndsTraced, EndsCutTraced, EndsFaultedTraced, EndsUntraced, Finishes, line_next, traced_line, trace}
+use Rattle.machine.specs.Met.{is_met}
+use Rattle.inner_interpreter.specs.Tracing.{AddsLine, IsDue, Reached, ReachedCut, MadeTraced, EndsTraced, EndsCutTraced, EndsFaultedTraced, EndsUntraced, Finishes, line_next, traced_line, trace}
 use Rattle.inner_interpreter.specs.Worlds.{IsAt, IsFaulted}
 use Rattle.inner_interpreter.proofs.Running.{cut_behind, kept_at}
 use Rattle.inner_interpreter.proofs.Sending.{appends_both}

@@ -5,13 +5,13 @@ use Rattle.memory.specs.Bytes.{cell}
 use Rattle.memory.specs.declared.system.TheConstants.{FAULT}
 use Rattle.plain_rows.specs.Whole.{Whole}
 use Rattle.plain_rows.specs.declared.parts.Request.{Request}
-use Rattle.inner_interpreter.specs.declared.act.Cause.{Cause}
-use Rattle.inner_interpreter.specs.declared.act.Shown.{Shown}
+use Rattle.machine.specs.declared.act.Cause.{Cause}
+use Rattle.machine.specs.declared.act.Shown.{Shown}
 use Rattle.inner_interpreter.specs.declared.stop.Stop.{Stop}
-use Rattle.inner_interpreter.specs.State.{State}
-use Rattle.inner_interpreter.specs.Tick.{by_fault}
-use Rattle.inner_interpreter.specs.Answer as answering
-use Rattle.inner_interpreter.specs.Answer.{Reply, asked_by, answered, answer_of, key_answered, line_answered, read_answered, write_answered}
+use Rattle.machine.specs.State.{State}
+use Rattle.machine.specs.Tick.{by_fault}
+use Rattle.machine.specs.Answer as answering
+use Rattle.machine.specs.Answer.{Reply, asked_by, answered, answer_of, key_answered, line_answered, read_answered, write_answered}
 use Rattle.inner_interpreter.specs.Runs.{World, tick_round, answer_round, round_by, round, rounds, stops, stop_by, next_by, served}
 use Rattle.inner_interpreter.specs.Worlds.{waiting, rounds_left}
 use Rattle.inner_interpreter.proofs.Shapes.{either, by_answer}

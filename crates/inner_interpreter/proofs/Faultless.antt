@@ -8,18 +8,18 @@ use Rattle.plain_rows.specs.Row.{After}
 use Rattle.plain_rows.specs.declared.parts.Outcome.TheVariants.{Done, Show, Byte as ByteOut, Ask as AskOut, Fault as FaultOut, Abort, Halt as HaltOut}
 use Rattle.plain_rows.specs.declared.parts.Request.{Request}
 use Rattle.plain_rows.specs.declared.parts.Request.TheVariants as request
-use Rattle.inner_interpreter.specs.declared.act.Act.{Act}
-use Rattle.inner_interpreter.specs.declared.act.Cause.{Cause}
-use Rattle.inner_interpreter.specs.declared.act.Cause.TheVariants as cause
-use Rattle.inner_interpreter.specs.declared.act.Refused.{Refused}
-use Rattle.inner_interpreter.specs.declared.act.Refused.TheVariants.{NotAsked}
-use Rattle.inner_interpreter.specs.declared.act.Shown.{Shown}
+use Rattle.machine.specs.declared.act.Act.{Act}
+use Rattle.machine.specs.declared.act.Cause.{Cause}
+use Rattle.machine.specs.declared.act.Cause.TheVariants as cause
+use Rattle.machine.specs.declared.act.Refused.{Refused}
+use Rattle.machine.specs.declared.act.Refused.TheVariants.{NotAsked}
+use Rattle.machine.specs.declared.act.Shown.{Shown}
 use Rattle.inner_interpreter.specs.declared.stop.Stop.{Stop}
 use Rattle.inner_interpreter.specs.declared.stop.Stop.TheVariants as stop
-use Rattle.inner_interpreter.specs.State.{State}
-use Rattle.inner_interpreter.specs.Tick.{taken, executed, by_fault, concluded, ticked, ran, is_quiet}
-use Rattle.inner_interpreter.specs.Answer as answering
-use Rattle.inner_interpreter.specs.Answer.{Reply, asked_by, is_answer, answered, answer_of, key_answered, line_answered, read_answered, write_answered}
+use Rattle.machine.specs.State.{State}
+use Rattle.machine.specs.Tick.{taken, executed, by_fault, concluded, ticked, ran, is_quiet}
+use Rattle.machine.specs.Answer as answering
+use Rattle.machine.specs.Answer.{Reply, asked_by, is_answer, answered, answer_of, key_answered, line_answered, read_answered, write_answered}
 use Rattle.inner_interpreter.specs.Lines.{line_of, line_reply}
 use Rattle.inner_interpreter.specs.Served.{is_input_fault, HasNotFailed}
 use Rattle.inner_interpreter.specs.Runs.{World, Served, served, round_by, round, rounds, stops, stop_by, next_by}

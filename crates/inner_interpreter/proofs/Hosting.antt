@@ -2,21 +2,21 @@
 use Rattle.std.proofs.Common.{◌≡◌, ℕ, zero, suc, ◌+◌, ◌-◌, List, [], ◌∷◌, ◌++◌, Option, Some, None, Bool, true, false, is_none, IsSome, ◌&&◌, Ok, Err, refl, sym, ap, subst, ◌∙◌, arith, replicate}
 use Rattle.plain_rows.specs.Whole.{Whole}
 use Rattle.plain_rows.specs.declared.parts.Request.{Request}
-use Rattle.inner_interpreter.specs.declared.act.Act.{Act}
-use Rattle.inner_interpreter.specs.declared.act.Cause.{Cause}
-use Rattle.inner_interpreter.specs.declared.act.Event.{Event}
-use Rattle.inner_interpreter.specs.declared.act.Event.TheVariants.{Went, Ask, Fault, Halt}
-use Rattle.inner_interpreter.specs.declared.act.Shown.{Shown}
-use Rattle.inner_interpreter.specs.declared.act.Shown.TheVariants.{Nothing, Byte, Span, Line}
-use Rattle.inner_interpreter.specs.declared.act.Refused.{Refused}
-use Rattle.inner_interpreter.specs.declared.act.Refused.TheVariants.{Waiting, Halted, NotAsked}
-use Rattle.inner_interpreter.specs.State.{State}
-use Rattle.inner_interpreter.specs.Tick.{Runs, running, is_quiet, ran, ticked, IsRefused}
-use Rattle.inner_interpreter.specs.Answer.{asked_by, is_answer}
+use Rattle.machine.specs.declared.act.Act.{Act}
+use Rattle.machine.specs.declared.act.Cause.{Cause}
+use Rattle.machine.specs.declared.act.Event.{Event}
+use Rattle.machine.specs.declared.act.Event.TheVariants.{Went, Ask, Fault, Halt}
+use Rattle.machine.specs.declared.act.Shown.{Shown}
+use Rattle.machine.specs.declared.act.Shown.TheVariants.{Nothing, Byte, Span, Line}
+use Rattle.machine.specs.declared.act.Refused.{Refused}
+use Rattle.machine.specs.declared.act.Refused.TheVariants.{Waiting, Halted, NotAsked}
+use Rattle.machine.specs.State.{State}
+use Rattle.machine.specs.Tick.{Runs, running, is_quiet, ran, ticked, IsRefused}
+use Rattle.machine.specs.Answer.{asked_by, is_answer}
 use Rattle.inner_interpreter.specs.Moves.{Turn, Tick, Answer, shown_bytes}
 use Rattle.inner_interpreter.specs.Histories.{Made, Call, Ticked, Answered, ManyTicked, Ensures, IsHistory, acted, behind, made, moves_of, moves_made, seen_bytes, seen_events, takes, told_event}
 use Rattle.inner_interpreter.proofs.Quiet.{ticked_runs, quiet_shows}
-use Rattle.inner_interpreter.proofs.Ran.{ran_quiet, ran_loud}
+use Rattle.machine.proofs.Ran.{ran_quiet, ran_loud}
 
 taken_move : (s : State) (t : Turn) (ts : List Turn) → takes s t ≡ true → made s (t ∷ ts) ≡ behind (shown_bytes (acted s t).0.parts.memory (acted s t).1.shown) (told_event (acted s t).1.event) (made (acted s t).0 ts)
 unfolding made

@@ -1,5 +1,3 @@
-pub mod Ran
-pub mod Passing
 pub mod Sending
 pub mod Lining
 pub mod Loading
@@ -16,4 +14,3 @@ pub mod Requested
 pub mod Ending
 pub mod Faultless
 pub mod Hosting
-pub mod Kept

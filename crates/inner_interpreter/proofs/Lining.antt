@@ -3,7 +3,7 @@ use Rattle.std.proofs.Common.{◌≡◌, ℕ, zero, suc, List, [], ◌∷◌, �
 use Rattle.std.proofs.lemmas.Grind.{common_steps}
 use Rattle.std.specs.Prelude.{IfErr}
 use Rattle.std.specs.List.{list_all}
-use Rattle.inner_interpreter.specs.Answer.{is_return, is_typed, is_line}
+use Rattle.machine.specs.Answer.{is_return, is_typed, is_line}
 use Rattle.inner_interpreter.specs.Ends.{TakesByte}
 use Rattle.inner_interpreter.specs.Lines.{Taken, line_of, IsBegun, IsLine, with_front}
 use Rattle.std.specs.Io.KnownBytes.{Keeps}

@@ -4,7 +4,7 @@ use Rattle.std.specs.Prelude.{IfSome}
 use Rattle.block_buffers.specs.Disks.{Disk}
 use Rattle.image_loader.specs.Files.{Contents}
 use Rattle.inner_interpreter.specs.Served.{is_input_fault, HasNotFailed}
-use Rattle.inner_interpreter.specs.State.{State, start}
+use Rattle.machine.specs.State.{State, start}
 use Rattle.inner_interpreter.specs.Worlds.{IsAt, loaded}
 
 -- it stands where the world of its image begins

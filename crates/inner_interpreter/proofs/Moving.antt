@@ -3,18 +3,18 @@ use Rattle.std.proofs.Common.{◌≡◌, ℕ, zero, suc, ◌+◌, ◌-◌, ◌�
 use Rattle.std.proofs.lemmas.List.Sums.{sum_by-cons, sum_by-append}
 use Rattle.plain_rows.specs.Whole.{Whole}
 use Rattle.plain_rows.specs.declared.parts.Request.{Request}
-use Rattle.inner_interpreter.specs.declared.act.Act.{Act}
+use Rattle.machine.specs.declared.act.Act.{Act}
 use Rattle.inner_interpreter.specs.declared.stop.Stop.{Stop}
 use Rattle.inner_interpreter.specs.declared.stop.Stop.TheVariants.{Limit}
-use Rattle.inner_interpreter.specs.State.{State}
-use Rattle.inner_interpreter.specs.Tick.{ran, ticked, is_quiet, running}
-use Rattle.inner_interpreter.specs.Answer.{Reply, is_answer, asked_by}
+use Rattle.machine.specs.State.{State}
+use Rattle.machine.specs.Tick.{ran, ticked, is_quiet, running}
+use Rattle.machine.specs.Answer.{Reply, is_answer, asked_by}
 use Rattle.inner_interpreter.specs.Moves.{Turn, Tick, Answer, after, turned, AreAccepted, device_call, device_calls, is_tick, ticks_in, answers_in, HasMoved, HasRun}
 use Rattle.inner_interpreter.specs.Served.{HasActed, HasAnswered}
 use Rattle.inner_interpreter.specs.Worlds.{waiting}
 use Rattle.inner_interpreter.proofs.Ending.{answer_none, one_waits}
 use Rattle.inner_interpreter.proofs.Quiet.{ticked_runs}
-use Rattle.inner_interpreter.proofs.Ran.{ran_quiet, ran_loud}
+use Rattle.machine.proofs.Ran.{ran_quiet, ran_loud}
 
 -- an answer fits only where a request stands
 asked_waits : (s : State) (reply : Reply) → is_answer (asked_by s.wait) reply ≡ true → waiting s.wait ≡ 1

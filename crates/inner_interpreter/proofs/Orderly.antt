@@ -17,14 +17,14 @@ use Rattle.primitives.specs.Table.{row}
 use Rattle.primitives.proofs.Behaves.{AreOrderly, AsksFitly}
 use Rattle.primitives.proofs.Rows.{behaves_row}
 use Rattle.primitives.proofs.Requests.{absent_read, held_write}
-use Rattle.inner_interpreter.specs.declared.act.Cause.{Cause}
-use Rattle.inner_interpreter.specs.declared.act.Cause.TheVariants.{Bye, Fault as FaultCause, InputEnded, InputFault as InputFaulted}
-use Rattle.inner_interpreter.specs.declared.act.Shown.TheVariants.{Nothing}
-use Rattle.inner_interpreter.specs.declared.act.Shown.{Shown}
-use Rattle.inner_interpreter.specs.State.{State, start}
-use Rattle.inner_interpreter.specs.Tick.{taken, thread, executed, faulted, by_fault, concluded, ticked, shown_span}
-use Rattle.inner_interpreter.specs.Answer as answering
-use Rattle.inner_interpreter.specs.Answer.{Reply, block_of, answered, answer_of, asked_by, is_answer, fits_request, key_answered, line_answered, read_answered, write_answered}
+use Rattle.machine.specs.declared.act.Cause.{Cause}
+use Rattle.machine.specs.declared.act.Cause.TheVariants.{Bye, Fault as FaultCause, InputEnded, InputFault as InputFaulted}
+use Rattle.machine.specs.declared.act.Shown.TheVariants.{Nothing}
+use Rattle.machine.specs.declared.act.Shown.{Shown}
+use Rattle.machine.specs.State.{State, start}
+use Rattle.machine.specs.Tick.{taken, thread, executed, faulted, by_fault, concluded, ticked, shown_span}
+use Rattle.machine.specs.Answer as answering
+use Rattle.machine.specs.Answer.{Reply, block_of, answered, answer_of, asked_by, is_answer, fits_request, key_answered, line_answered, read_answered, write_answered}
 use Rattle.inner_interpreter.specs.Moves.{Turn, Tick, Answer, Accepts, turned}
 use Rattle.inner_interpreter.specs.Requests.{IsOrderly}
 use Rattle.inner_interpreter.proofs.Shapes.{either, by_answer, is_taken}

@@ -4,10 +4,10 @@ use Rattle.plain_rows.specs.Whole.{Whole}
 use Rattle.plain_rows.specs.declared.parts.Outcome.TheVariants.{Done, Show, Byte as ByteOut, Ask as AskOut, Fault as FaultOut, Abort, Halt as HaltOut}
 use Rattle.plain_rows.specs.Row.{After}
 use Rattle.memory.specs.Bytes.{cell}
-use Rattle.inner_interpreter.specs.declared.act.Act.{Act}
-use Rattle.inner_interpreter.specs.declared.act.Shown.{Shown}
-use Rattle.inner_interpreter.specs.declared.act.Shown.TheVariants.{Nothing, Byte, Span, Line}
-use Rattle.inner_interpreter.specs.Tick.{ticked, taken, executed, concluded, by_fault, running, is_quiet}
+use Rattle.machine.specs.declared.act.Act.{Act}
+use Rattle.machine.specs.declared.act.Shown.{Shown}
+use Rattle.machine.specs.declared.act.Shown.TheVariants.{Nothing, Byte, Span, Line}
+use Rattle.machine.specs.Tick.{ticked, taken, executed, concluded, by_fault, running, is_quiet}
 use Rattle.inner_interpreter.specs.Moves.{shown_bytes}
 
 -- a fault is no quiet act

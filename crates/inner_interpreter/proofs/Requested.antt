@@ -24,10 +24,10 @@ use Rattle.primitives.specs.Table.{row}
 use Rattle.primitives.proofs.Behaves.{AreOrderly, asks_device as device_asked}
 use Rattle.primitives.proofs.Rows.{behaves_row}
 use Rattle.primitives.proofs.Requests.{answered as buffers_answered, left, left_most, left_same, fewer_requests}
-use Rattle.inner_interpreter.specs.declared.act.Shown.{Shown}
-use Rattle.inner_interpreter.specs.State.{State}
-use Rattle.inner_interpreter.specs.Tick.{taken, thread, executed, running, by_fault, concluded, ticked, Runs}
-use Rattle.inner_interpreter.specs.Answer.{is_answer, IsSpelled, answered, answer_of, asked_by, read_answered, write_answered}
+use Rattle.machine.specs.declared.act.Shown.{Shown}
+use Rattle.machine.specs.State.{State}
+use Rattle.machine.specs.Tick.{taken, thread, executed, running, by_fault, concluded, ticked, Runs}
+use Rattle.machine.specs.Answer.{is_answer, IsSpelled, answered, answer_of, asked_by, read_answered, write_answered}
 use Rattle.inner_interpreter.specs.Moves.{Tick, Answer, turned}
 use Rattle.inner_interpreter.specs.Requests.{IsOrderly, asks_device, ok_to, AreAsked, IsPage, token_of, IsBelowBuffers}
 use Rattle.inner_interpreter.proofs.Orderly.{moved_orderly}

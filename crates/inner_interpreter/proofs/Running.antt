@@ -4,14 +4,15 @@ use Rattle.std.specs.Prelude.{IsSome}
 use Rattle.std.specs.Io.KnownBytes.{Appends, Keeps}
 use Rattle.block_buffers.specs.Disks.{Disk}
 use Rattle.plain_rows.specs.declared.parts.Request.{Request}
-use Rattle.inner_interpreter.specs.declared.act.Act.{Act}
-use Rattle.inner_interpreter.specs.State.{State}
+use Rattle.machine.specs.declared.act.Act.{Act}
+use Rattle.machine.specs.State.{State}
 use Rattle.plain_rows.specs.Whole.{Whole}
 use Rattle.inner_interpreter.specs.declared.stop.Stop.{Stop}
-use Rattle.inner_interpreter.specs.declared.tracing.Extent.{Extent}
-use Rattle.inner_interpreter.specs.Tick.{ran, running, ticked}
-use Rattle.inner_interpreter.specs.Tracing.{AreUnmet, Reached, ReachedCut, line_next, traced_line, trace}
-use Rattle.inner_interpreter.specs.Answer.{answer_of, asked_by, is_answer, InputFault}
+use Rattle.machine.specs.declared.extent.Extent.{Extent}
+use Rattle.machine.specs.Tick.{ran, running, ticked}
+use Rattle.machine.specs.Met.{AreUnmet}
+use Rattle.inner_interpreter.specs.Tracing.{Reached, ReachedCut, line_next, traced_line, trace}
+use Rattle.machine.specs.Answer.{answer_of, asked_by, is_answer, InputFault}
 use Rattle.inner_interpreter.specs.Lines.{IsLeft}
 use Rattle.inner_interpreter.specs.Moves.{shown_bytes}
 use Rattle.inner_interpreter.specs.Served.{Answered, served_move, Faults}

@@ -4,10 +4,10 @@ use Rattle.cells.specs.Cell.{wrap}
 use Rattle.memory.specs.Bytes.{cell}
 use Rattle.plain_rows.specs.Whole.{Whole}
 use Rattle.plain_rows.specs.declared.parts.Request.{Request}
-use Rattle.inner_interpreter.specs.declared.act.Act.{Act}
-use Rattle.inner_interpreter.specs.State.{State}
-use Rattle.inner_interpreter.specs.Tick.{taken, quiet}
-use Rattle.inner_interpreter.specs.Answer.{Reply, answered, answer_of}
+use Rattle.machine.specs.declared.act.Act.{Act}
+use Rattle.machine.specs.State.{State}
+use Rattle.machine.specs.Tick.{taken, quiet}
+use Rattle.machine.specs.Answer.{Reply, answered, answer_of}
 
 -- one of two ends
 pub either : (P : State → Type 0) (b : Bool) (x y : State × Act) → P x.0 → P y.0 → P ((if b then x else y).0)

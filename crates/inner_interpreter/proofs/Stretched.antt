@@ -1,17 +1,18 @@
 -- A stretch of ticks is as many rounds.
 use Rattle.std.proofs.Common.{◌≡◌, ℕ, zero, suc, ◌+◌, ◌-◌, ◌<◌, ◌≤◌, ◌++◌, List, Bool, true, false, None, refl, sym, ap, ◌∙◌, append-nil, append_assoc, arith, Option, Some, [], if◌then◌else◌, is_none}
 use Rattle.plain_rows.specs.Whole.{Whole}
-use Rattle.inner_interpreter.specs.declared.act.Act.{Act}
-use Rattle.inner_interpreter.specs.State.{State}
-use Rattle.inner_interpreter.specs.Tick.{ran, ticked, is_quiet, running, quiet}
-use Rattle.inner_interpreter.specs.Answer.{asked_by}
+use Rattle.machine.specs.declared.act.Act.{Act}
+use Rattle.machine.specs.State.{State}
+use Rattle.machine.specs.Tick.{ran, ticked, is_quiet, running, quiet}
+use Rattle.machine.specs.Answer.{asked_by}
 use Rattle.inner_interpreter.specs.Moves.{shown_bytes}
 use Rattle.inner_interpreter.specs.declared.stop.Stop.{Stop}
-use Rattle.inner_interpreter.specs.declared.tracing.Extent.{Extent}
+use Rattle.machine.specs.declared.extent.Extent.{Extent}
 use Rattle.inner_interpreter.specs.Runs.{World, round, round_by, rounds, stops, stop_by, next_by, tick_round}
-use Rattle.inner_interpreter.specs.Tracing.{is_met, AreUnmet, AddsLine, line_next, traced_line, trace}
+use Rattle.machine.specs.Met.{is_met, AreUnmet}
+use Rattle.inner_interpreter.specs.Tracing.{AddsLine, line_next, traced_line, trace}
 use Rattle.inner_interpreter.proofs.Quiet.{ticked_runs, quiet_shows}
-use Rattle.inner_interpreter.proofs.Ran.{ran_quiet, ran_loud}
+use Rattle.machine.proofs.Ran.{ran_quiet, ran_loud}
 
 -- rounds add up
 pub rounds_add : (n m : ℕ) (w : World) → rounds (n + m) w ≡ rounds n (rounds m w)

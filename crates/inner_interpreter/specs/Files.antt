@@ -2,7 +2,7 @@
 use Rattle.std.specs.Prelude.{◌≡◌, ℕ, List, Bool, false, Some}
 use Rattle.image_loader.specs.Files.{Contents}
 use Rattle.inner_interpreter.specs.declared.stop.Stop.{Stop}
-use Rattle.inner_interpreter.specs.State.{State, start}
+use Rattle.machine.specs.State.{State, start}
 use Rattle.inner_interpreter.specs.Moves.{HasRun}
 use Rattle.inner_interpreter.specs.Runs.{stop_by}
 

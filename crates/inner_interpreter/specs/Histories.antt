@@ -1,12 +1,12 @@
 -- A list of moves; and what a machine's host sees that makes them by calls.
 use Rattle.std.specs.Prelude.{◌≡◌, ℕ, List, [], ◌∷◌, ◌++◌, Bool, is_none, ◌&&◌, OnErr, Result, Ok, Err, replicate, if◌then◌else◌}
-use Rattle.inner_interpreter.specs.declared.act.Act.{Act}
-use Rattle.inner_interpreter.specs.declared.act.Event.{Event}
-use Rattle.inner_interpreter.specs.declared.act.Event.TheVariants.{Went}
-use Rattle.inner_interpreter.specs.declared.act.Refused.{Refused}
-use Rattle.inner_interpreter.specs.State.{State}
-use Rattle.inner_interpreter.specs.Tick.{is_running, ticked, IsTicked, AreTicked, IsRefused}
-use Rattle.inner_interpreter.specs.Answer.{Reply, answer_of, asked_by, is_answer, TakesFit, RefusesHalted, RefusesUnfit}
+use Rattle.machine.specs.declared.act.Act.{Act}
+use Rattle.machine.specs.declared.act.Event.{Event}
+use Rattle.machine.specs.declared.act.Event.TheVariants.{Went}
+use Rattle.machine.specs.declared.act.Refused.{Refused}
+use Rattle.machine.specs.State.{State}
+use Rattle.machine.specs.Tick.{is_running, ticked, IsTicked, AreTicked, IsRefused}
+use Rattle.machine.specs.Answer.{Reply, answer_of, asked_by, is_answer, TakesFit, RefusesHalted, RefusesUnfit}
 use Rattle.inner_interpreter.specs.Moves.{Turn, Tick, Answer, shown_bytes}
 
 -- whether a machine takes a move: a tick while it neither is halted nor waits, an answer that fits what it asks

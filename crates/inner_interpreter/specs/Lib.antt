@@ -1,7 +1,3 @@
-pub mod State
-pub mod Tick
-pub mod InPlace
-pub mod Answer
 pub mod Ends
 pub mod Files
 pub mod Moves
@@ -13,5 +9,3 @@ pub mod Runs
 pub mod Served
 pub mod Worlds
 pub mod Tracing
-pub mod Onward
-pub mod Entering

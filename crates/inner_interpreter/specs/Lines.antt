@@ -3,7 +3,7 @@ use Rattle.std.specs.Prelude.{◌≡◌, ◌<◌, ℕ, zero, suc, length, Bool, 
 use Rattle.std.specs.List.{list_all}
 use Rattle.plain_rows.specs.declared.parts.Request.{Request}
 use Rattle.plain_rows.specs.declared.parts.Request.TheVariants as request
-use Rattle.inner_interpreter.specs.Answer.{Reply, Line, InputEnd, is_return, is_typed}
+use Rattle.machine.specs.Answer.{Reply, Line, InputEnd, is_return, is_typed}
 
 -- a line's bytes, whether a return ended it, and the bytes behind it
 pub record Taken : Type 0 where

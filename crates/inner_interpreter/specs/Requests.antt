@@ -4,9 +4,9 @@ use Rattle.memory.specs.Bytes.{cell}
 use Rattle.block_buffers.specs.Entries.{limit, holds, AreBuffers, HasNoBlockTwice}
 use Rattle.plain_rows.specs.declared.parts.Request.{Request}
 use Rattle.plain_rows.specs.declared.parts.Request.TheVariants as request
-use Rattle.inner_interpreter.specs.State.{State}
-use Rattle.inner_interpreter.specs.Tick.{Runs, taken}
-use Rattle.inner_interpreter.specs.Answer.{Reply, ReadOk, WriteOk, asked_by}
+use Rattle.machine.specs.State.{State}
+use Rattle.machine.specs.Tick.{Runs, taken}
+use Rattle.machine.specs.Answer.{Reply, ReadOk, WriteOk, asked_by}
 use Rattle.inner_interpreter.specs.Moves.{Tick, Answer, turned}
 
 -- the machine's buffers are in order: no block is in two of them, none is asked to be read that one of them has, and each

@@ -2,11 +2,11 @@
 use Rattle.std.specs.Prelude.{◌≡◌, ℕ, true, false, Bool, List, ◌++◌, Option, Some}
 use Rattle.block_buffers.specs.Disks.{Disk}
 use Rattle.plain_rows.specs.declared.parts.Request.{Request}
-use Rattle.inner_interpreter.specs.declared.act.Act.{Act}
-use Rattle.inner_interpreter.specs.declared.act.Cause.{Cause}
-use Rattle.inner_interpreter.specs.declared.act.Cause.TheVariants.{InputFault as InputFaulted}
-use Rattle.inner_interpreter.specs.State.{State}
-use Rattle.inner_interpreter.specs.Answer.{Reply, InputFault, answer_of, asked_by, is_answer}
+use Rattle.machine.specs.declared.act.Act.{Act}
+use Rattle.machine.specs.declared.act.Cause.{Cause}
+use Rattle.machine.specs.declared.act.Cause.TheVariants.{InputFault as InputFaulted}
+use Rattle.machine.specs.State.{State}
+use Rattle.machine.specs.Answer.{Reply, InputFault, answer_of, asked_by, is_answer}
 use Rattle.inner_interpreter.specs.Moves.{Move, answer_move, Answer, Accepts, device_call}
 use Rattle.inner_interpreter.specs.Runs.{served}
 

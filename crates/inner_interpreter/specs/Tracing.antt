@@ -1,25 +1,16 @@
 -- Tracing a run: a line for each tick whose token is taken through ip in an extent.
-use Rattle.std.specs.Prelude.{◌≡◌, ◌⊎◌, true, ℕ, zero, suc, List, [], ◌++◌, Option, None, Bool, false, is_none, IsSome, nat_le, nat_lt, ◌&&◌, if◌then◌else◌}
+use Rattle.std.specs.Prelude.{◌≡◌, ◌⊎◌, true, ℕ, zero, suc, List, [], ◌++◌, Option, None, Bool, is_none, IsSome, ◌&&◌, if◌then◌else◌}
 use Rattle.std.specs.Io.KnownBytes.{Appends}
 use Rattle.block_buffers.specs.Disks.{Disk}
 use Rattle.plain_rows.specs.Whole.{Whole}
 use Rattle.inner_interpreter.specs.declared.stop.Stop.{Stop}
 use Rattle.inner_interpreter.specs.declared.stop.Stop.TheVariants as stop
-use Rattle.inner_interpreter.specs.declared.tracing.Extent.{Extent}
-use Rattle.inner_interpreter.specs.State.{State}
-use Rattle.inner_interpreter.specs.Tick.{ticked}
-use Rattle.inner_interpreter.specs.Answer.{asked_by}
+use Rattle.machine.specs.declared.extent.Extent.{Extent}
+use Rattle.machine.specs.State.{State}
+use Rattle.machine.specs.Answer.{asked_by}
+use Rattle.machine.specs.Met.{is_met}
 use Rattle.inner_interpreter.specs.Runs.{World, rounds, stops}
 use Rattle.inner_interpreter.specs.Worlds.{IsAt, IsCut, Ends, EndsCut, EndsFaulted}
-
--- the next token is taken through ip, and ip lies in the extent
-unfoldable pub is_met : Extent → Whole → Bool
-is_met extent s = is_none s.pending && (nat_le extent.from s.ip && nat_lt s.ip extent.end)
-
--- no token of the extent comes next before any of n ticks
-unfoldable pub AreUnmet : Extent → ℕ → Whole → Type 0
-AreUnmet extent zero s = Unit {0}
-AreUnmet extent (suc n) s = (is_met extent s ≡ false) × AreUnmet extent n (ticked s).0.parts
 
 -- the line of a state in which no request stands and a token of the extent comes next
 abbrev pub line_next : Extent → (Whole → List ℕ) → State → List ℕ

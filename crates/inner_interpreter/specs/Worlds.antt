@@ -2,12 +2,12 @@
 use Rattle.std.specs.Prelude.{◌≡◌, ◌<◌, ◌⊎◌, ℕ, suc, length, ◌+◌, ◌*◌, true, List, ◌++◌, Option, None, Some, IsSome}
 use Rattle.block_buffers.specs.Disks.{Disk}
 use Rattle.plain_rows.specs.declared.parts.Request.{Request}
-use Rattle.inner_interpreter.specs.declared.act.Act.{Act}
+use Rattle.machine.specs.declared.act.Act.{Act}
 use Rattle.inner_interpreter.specs.declared.stop.Stop.{Stop}
 use Rattle.image_loader.specs.Files.{Contents, IsFile}
-use Rattle.inner_interpreter.specs.State.{State, start}
-use Rattle.inner_interpreter.specs.Tick.{ran}
-use Rattle.inner_interpreter.specs.Answer.{InputFault, answer_of, asked_by, is_answer}
+use Rattle.machine.specs.State.{State, start}
+use Rattle.machine.specs.Tick.{ran}
+use Rattle.machine.specs.Answer.{InputFault, answer_of, asked_by, is_answer}
 use Rattle.inner_interpreter.specs.Lines.{IsLeft}
 use Rattle.inner_interpreter.specs.Runs.{World, rounds, stops}
 

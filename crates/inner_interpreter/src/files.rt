@@ -6,11 +6,11 @@ ghost use Rattle.inner_interpreter.specs.Files.{HasRunFrom};
 ghost use Rattle.inner_interpreter.specs.Worlds.{OfFile, EndsFrom, EndsCutFrom, EndsFaultedFrom};
 
 use crate::ends::{Input, Output};
-use crate::machine::Machine;
 use crate::runs::run;
 use crate::stop::Stop;
 use block_buffers::Device;
 use image_loader::ImageFault;
+use machine::Machine;
 use std::alloc::Global;
 
 /// Runs the image of which `bytes` are the file, for at most `limit` ticks, and answers why it stopped. Bytes that are no

@@ -7,11 +7,11 @@ ghost use Rattle.inner_interpreter.specs.Histories.{Call, Made, IsHistory, made,
 ghost use Rattle.inner_interpreter.specs.Moves.{Turn, Accepts, turned};
 ghost use Rattle.inner_interpreter.specs.Requests.{IsOrderly, AreAsked, IsPage, OfNextCode};
 ghost use Rattle.inner_interpreter.specs.Runs.{World, rounds, stops};
-ghost use Rattle.inner_interpreter.specs.State.{State, start};
+ghost use Rattle.machine.specs.State.{State, start};
 ghost use Rattle.inner_interpreter.specs.Worlds.{rounds_left};
 
-use crate::act::Cause;
 use crate::stop::Stop;
+use machine::Cause;
 
 /// A run has an end: it stops after two rounds for each tick that is left, and one more where a request stands.
 pub fn end_law()

@@ -2,7 +2,7 @@
 
 ghost use Rattle.std.specs.Prelude.{ℕ, List, ◌≡◌, ◌≤◌, ◌<◌, true, vec_len, vec_capacity, IfOk, IfErr, Some};
 ghost use Rattle.std.specs.List.{list_all};
-ghost use Rattle.inner_interpreter.specs.Answer.{is_typed, is_return};
+ghost use Rattle.machine.specs.Answer.{is_typed, is_return};
 ghost use Rattle.inner_interpreter.specs.Ends.{Marks};
 ghost use Rattle.inner_interpreter.specs.Lines.{IsBegun, IsLine};
 

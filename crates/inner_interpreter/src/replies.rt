@@ -2,16 +2,15 @@
 
 ghost use Rattle.std.specs.Prelude.{◌≡◌, ◌≤◌, ℕ, List, Some, None, vec_capacity, IfOk, IfErr, OnOk, Bool};
 ghost use Rattle.block_buffers.specs.Disks.{Disk};
-ghost use Rattle.inner_interpreter.specs.Answer.{asked_by};
+ghost use Rattle.machine.specs.Answer.{asked_by};
 ghost use Rattle.inner_interpreter.specs.Ends.{Marks};
 ghost use Rattle.inner_interpreter.specs.Lines.{IsBegun, IsLeft};
 ghost use Rattle.inner_interpreter.specs.Served.{Serves, Faults, HasActed, HasAnswered, HasNotFailed};
 
-use crate::act::{Act, Answer};
 use crate::ends::{EndFault, Input};
 use crate::lines::take_line;
-use crate::machine::Machine;
 use block_buffers::Device;
+use machine::{Act, Answer, Machine};
 use plain_rows::parts::Request;
 
 /// Answers a `Key`. Where the reader fails, the machine is told so.

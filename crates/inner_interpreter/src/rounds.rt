@@ -3,7 +3,7 @@
 ghost use Rattle.std.specs.Prelude.{◌≡◌, ◌≤◌, ◌<◌, ◌-◌, ℕ, List, Some, None, true, vec_capacity, OnOk, OnErr, IsErrOf};
 ghost use Rattle.std.specs.Io.KnownBytes.{Appends, Keeps};
 ghost use Rattle.block_buffers.specs.Disks.{Disk};
-ghost use Rattle.inner_interpreter.specs.Answer.{InputFault, asked_by, is_answer};
+ghost use Rattle.machine.specs.Answer.{InputFault, asked_by, is_answer};
 ghost use Rattle.inner_interpreter.specs.Ends.{Marks};
 ghost use Rattle.inner_interpreter.specs.Lines.{IsLeft};
 ghost use Rattle.inner_interpreter.specs.Moves.{HasMoved};
@@ -14,11 +14,10 @@ ghost use Rattle.inner_interpreter.specs.Tracing.{Reached, ReachedCut};
 ghost use Rattle.inner_interpreter.specs.Worlds.{IsAt, IsFaulted, rounds_left};
 
 use crate::ends::{EndFault, Input, Output};
-use crate::machine::Machine;
 use crate::replies::settle;
 use crate::sends::show;
-use crate::tracing::Extent;
 use block_buffers::Device;
+use machine::{Extent, Machine};
 use plain_rows::parts::Request;
 
 /// Which end failed.

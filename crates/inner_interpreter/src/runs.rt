@@ -10,13 +10,12 @@ ghost use Rattle.inner_interpreter.specs.Served.{HasNotFailed};
 ghost use Rattle.inner_interpreter.specs.Tracing.{line_next, IsDue, Finishes, EndsTraced, EndsCutTraced, EndsFaultedTraced, EndsUntraced};
 ghost use Rattle.inner_interpreter.specs.Worlds.{IsAt, Ends, EndsCut, EndsFaulted};
 
-use crate::act::Cause;
 use crate::ends::{EndFault, Input, Output};
-use crate::machine::Machine;
 use crate::rounds::{Failed, make_rounds};
 use crate::stop::Stop;
 use crate::tracing::{Nowhere, Tracer, Untraced};
 use block_buffers::Device;
+use machine::{Cause, Machine};
 use memory::OutOfMemory;
 use std::alloc::Global;
 

@@ -7,9 +7,8 @@ ghost use Rattle.inner_interpreter.specs.Ends.{Marks};
 ghost use Rattle.inner_interpreter.specs.Moves.{shown_bytes};
 ghost use Rattle.inner_interpreter.specs.Sent.{AppendsPart};
 
-use crate::act::Shown;
 use crate::ends::{EndFault, Output};
-use crate::machine::Machine;
+use machine::{Machine, Shown};
 use plain_rows::parts::Span;
 
 /// Sends all of the bytes, or a front of them where the writer fails.

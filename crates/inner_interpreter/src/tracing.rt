@@ -1,33 +1,7 @@
 //! What is traced of a run.
 
-ghost use Rattle.std.specs.Prelude.{◌≡◌, nat_le, nat_lt, ◌&&◌};
-
 use crate::ends::{EndFault, Output};
-use crate::machine::Machine;
-
-/// The addresses from `from` up to `end`: none where `end` isn't above `from`.
-#[derive(Clone, Copy, Debug, PartialEq, Eq)]
-pub struct Extent {
-    pub from: u16,
-    pub end: u16,
-}
-
-impl Extent {
-    /// Whether an address lies in it.
-    #[inline(always)]
-    pub fn contains(self, at: u16) -> bool
-        ensures { result ≡ (nat_le self.from at && nat_lt at self.end) }
-    {
-        self.from <= at && at < self.end
-    }
-
-    /// Whether it has no address.
-    pub fn is_empty(self) -> bool
-        ensures { result ≡ nat_le self.end self.from }
-    {
-        self.end <= self.from
-    }
-}
+use machine::{Extent, Machine};
 
 /// Writes a line before each tick whose token is taken through `ip` in an extent.
 pub trait Tracer {
@@ -36,7 +10,7 @@ pub trait Tracer {
     ghost use Rattle.plain_rows.specs.Whole.{Whole};
     ghost use Rattle.inner_interpreter.specs.Ends.{Marks};
     ghost use Rattle.inner_interpreter.specs.Sent.{AppendsPart};
-    ghost use Rattle.inner_interpreter.specs.declared.tracing.Extent.{Extent as Addresses};
+    ghost use Rattle.machine.specs.declared.extent.Extent.{Extent as Addresses};
 
     /// The addresses of the tokens that are traced.
     ghost extent: { Self → Addresses };

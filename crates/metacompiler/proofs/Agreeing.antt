@@ -8,12 +8,12 @@ use Rattle.memory.proofs.Limits.{limit_most}
 use Rattle.memory.specs.declared.limit.TheConstants.{GREATEST_LIMIT}
 use Rattle.block_buffers.specs.Disks.{Disk}
 use Rattle.block_buffers.proofs.Kept.{length-start}
-use Rattle.inner_interpreter.specs.Entering.{can_save, saved}
+use Rattle.machine.specs.Entering.{can_save, saved}
 use Rattle.dictionary.specs.Search.{by_address}
 use Rattle.colon_bodies.specs.Code.{all_size}
 use Rattle.image_loader.specs.Files.{Contents, IsImage}
 use Rattle.plain_rows.specs.Whole.{Whole}
-use Rattle.inner_interpreter.specs.State.{start}
+use Rattle.machine.specs.State.{start}
 use Rattle.source_words.specs.declared.modes.Mode.TheVariants.{Outside}
 use Rattle.source_words.specs.Words.{SourceWord, words_of_screens, source_words}
 use Rattle.image_builder.specs.Sources.{source_of}

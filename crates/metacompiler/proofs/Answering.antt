@@ -3,14 +3,14 @@ use Rattle.std.proofs.Common.{◌≡◌, ◌≢◌, ℕ, List, Option, Some, fal
 use Rattle.std.specs.Prelude.{◌+◌, ◌-◌, IfOk, IsFalse, Result, Ok, Err, if◌then◌else◌}
 use Rattle.block_buffers.specs.Disks.{Disk}
 use Rattle.image_loader.specs.Files.{Contents}
-use Rattle.inner_interpreter.specs.State.{State}
+use Rattle.machine.specs.State.{State}
 use Rattle.metacompiler.specs.Rounds.{Stop, Ended, Out}
 use Rattle.metacompiler.specs.Rounds as rounds
 use Rattle.metacompiler.specs.Loaded.{LoadFault, NotFound, ChainTooLong, Fault, Halted, Asked, Limit, Unfinished, BadSize, OutOfMemory, refused, restored, ended, fault_of, by_out, IsSaved, IsLoaded}
 use Rattle.metacompiler.specs.Making.{StopsAt}
 use Rattle.metacompiler.specs.Moved.{Stage, stage, is_stopped, AreRead, HasStopped}
 use Rattle.metacompiler.specs.Rounds.{is_end}
-use Rattle.inner_interpreter.specs.Entering.{can_save, saved}
+use Rattle.machine.specs.Entering.{can_save, saved}
 use Rattle.memory.specs.Bytes.{cell}
 use Rattle.memory.specs.declared.system.TheConstants.{STATE}
 use Rattle.plain_rows.specs.Whole.{Whole}

@@ -5,12 +5,12 @@ use Rattle.block_buffers.specs.Disks.{Disk}
 use Rattle.plain_rows.specs.Whole.{Whole}
 use Rattle.plain_rows.specs.declared.parts.Request.{Request}
 use Rattle.plain_rows.specs.declared.parts.Request.TheVariants as request
-use Rattle.inner_interpreter.specs.declared.act.Cause.TheVariants as cause
-use Rattle.inner_interpreter.specs.declared.act.Event.{Event}
-use Rattle.inner_interpreter.specs.declared.act.Event.TheVariants as event
-use Rattle.inner_interpreter.specs.State.{State}
-use Rattle.inner_interpreter.specs.Tick.{ticked}
-use Rattle.inner_interpreter.specs.Answer.{answer_of}
+use Rattle.machine.specs.declared.act.Cause.TheVariants as cause
+use Rattle.machine.specs.declared.act.Event.{Event}
+use Rattle.machine.specs.declared.act.Event.TheVariants as event
+use Rattle.machine.specs.State.{State}
+use Rattle.machine.specs.Tick.{ticked}
+use Rattle.machine.specs.Answer.{answer_of}
 use Rattle.inner_interpreter.specs.Runs.{served}
 use Rattle.metacompiler.specs.Rounds.{Stop, Ended, Limit, Fault, Halted, Asked, Out, out, is_ended, went, stopped, by_answer, by_device, by_request, by_tick, rounds, entered, by_stop, then_screens, screens}
 

@@ -6,7 +6,7 @@ use Rattle.std.proofs.lemmas.List.{get_or-take, length-take-le}
 use Rattle.memory.specs.Bytes.{IsCount, limit_of, byte, cell, put_byte, put_cell}
 use Rattle.memory.specs.declared.limit.TheConstants.{GREATEST_LIMIT}
 use Rattle.memory.proofs.Limits.{limit_is}
-use Rattle.inner_interpreter.specs.Entering.{can_save}
+use Rattle.machine.specs.Entering.{can_save}
 use Rattle.memory.proofs.Kept.{wrap_small, byte_set, byte_here, byte_cell, length_byte, length_cell}
 use Rattle.memory.proofs.Same.{cell_by}
 use Rattle.block_buffers.specs.Disks.{Disk, called}
@@ -15,7 +15,7 @@ use Rattle.block_buffers.specs.Entries.{holds, has_updated, start as start_buffe
 use Rattle.dictionary.specs.Search.{head_of}
 use Rattle.image_loader.specs.Files.{Contents}
 use Rattle.plain_rows.specs.Whole.{Whole}
-use Rattle.inner_interpreter.specs.State.{start}
+use Rattle.machine.specs.State.{start}
 use Rattle.source_words.specs.declared.modes.Mode.TheVariants.{Outside}
 use Rattle.source_words.specs.Words.{SourceWord, words_of_screens}
 use Rattle.resident_bodies.specs.Definitions.{Agrees}

@@ -8,15 +8,15 @@ use Rattle.plain_rows.specs.Row.{After}
 use Rattle.plain_rows.specs.declared.parts.Outcome.TheVariants.{Done, Show, Byte as ByteOut, Ask as AskOut, Fault as FaultOut, Abort, Halt as HaltOut}
 use Rattle.plain_rows.specs.declared.parts.Request.{Request}
 use Rattle.plain_rows.specs.declared.parts.Request.TheVariants as request
-use Rattle.inner_interpreter.specs.declared.act.Act.{Act}
-use Rattle.inner_interpreter.specs.declared.act.Event.{Event}
-use Rattle.inner_interpreter.specs.declared.act.Event.TheVariants as event
-use Rattle.inner_interpreter.specs.declared.act.Cause.TheVariants as cause
-use Rattle.inner_interpreter.specs.declared.act.Shown.{Shown}
-use Rattle.inner_interpreter.specs.State.{State}
-use Rattle.inner_interpreter.specs.Tick.{Runs, taken, executed, by_fault, concluded, ticked, quiet}
-use Rattle.inner_interpreter.specs.Answer as answering
-use Rattle.inner_interpreter.specs.Answer.{Reply, asked_by, answered, answer_of, key_answered, line_answered, read_answered, write_answered}
+use Rattle.machine.specs.declared.act.Act.{Act}
+use Rattle.machine.specs.declared.act.Event.{Event}
+use Rattle.machine.specs.declared.act.Event.TheVariants as event
+use Rattle.machine.specs.declared.act.Cause.TheVariants as cause
+use Rattle.machine.specs.declared.act.Shown.{Shown}
+use Rattle.machine.specs.State.{State}
+use Rattle.machine.specs.Tick.{Runs, taken, executed, by_fault, concluded, ticked, quiet}
+use Rattle.machine.specs.Answer as answering
+use Rattle.machine.specs.Answer.{Reply, asked_by, answered, answer_of, key_answered, line_answered, read_answered, write_answered}
 use Rattle.inner_interpreter.specs.Served.{Serves}
 use Rattle.inner_interpreter.specs.Runs.{served}
 use Rattle.metacompiler.specs.Rounds.{is_end, Stop, Ended, Limit, Fault, Halted, Asked, Out, out, is_ended, stop_by, went, by_answer, by_device, by_request, by_tick, rounds, entered, then_screens, screens}

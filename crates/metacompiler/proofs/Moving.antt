@@ -4,12 +4,12 @@ use Rattle.std.specs.Prelude.{Result, Ok, Err, IfOk, IfErr}
 use Rattle.image_loader.specs.Files.{Contents}
 use Rattle.plain_rows.specs.declared.parts.Request.{Request}
 use Rattle.plain_rows.specs.declared.parts.Request.TheVariants as request
-use Rattle.inner_interpreter.specs.declared.act.Act.{Act}
-use Rattle.inner_interpreter.specs.declared.act.Event.{Event}
-use Rattle.inner_interpreter.specs.declared.act.Event.TheVariants as event
-use Rattle.inner_interpreter.specs.State.{State}
-use Rattle.inner_interpreter.specs.Tick.{Runs, ticked, IsTicked}
-use Rattle.inner_interpreter.specs.Answer.{answer_of, asked_by}
+use Rattle.machine.specs.declared.act.Act.{Act}
+use Rattle.machine.specs.declared.act.Event.{Event}
+use Rattle.machine.specs.declared.act.Event.TheVariants as event
+use Rattle.machine.specs.State.{State}
+use Rattle.machine.specs.Tick.{Runs, ticked, IsTicked}
+use Rattle.machine.specs.Answer.{answer_of, asked_by}
 use Rattle.inner_interpreter.specs.Moves.{Turn, Tick, Answer, Accepts}
 use Rattle.inner_interpreter.specs.Served.{HasActed}
 use Rattle.metacompiler.specs.Rounds.{Stop, Ended, Limit, Asked, is_end, stop_by}

@@ -23,7 +23,7 @@ use Rattle.input_source.specs.Words.{parsed, parsed_in, IsTaken, IsNextWord}
 use Rattle.input_source.proofs.WordLaw.{word_law, taken-parsed}
 use Rattle.plain_rows.specs.Table.{row_in}
 use Rattle.primitives.specs.Table.{row, input}
-use Rattle.inner_interpreter.specs.Tick.{ticked}
+use Rattle.machine.specs.Tick.{ticked}
 use Rattle.source_words.specs.declared.modes.Mode.{Mode}
 use Rattle.source_words.specs.Modes.{is_name_due, begins_comment}
 use Rattle.source_words.specs.Words.{SourceWord, words_at, screen_words, after_words, words_of_screens}

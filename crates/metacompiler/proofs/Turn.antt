@@ -9,8 +9,8 @@ use Rattle.plain_rows.specs.declared.parts.Request.TheVariants.{Read}
 use Rattle.primitives.specs.Table.{row}
 use Rattle.cells.specs.Cell.{wrap}
 use Rattle.memory.specs.Bytes.{cell, with_page}
-use Rattle.inner_interpreter.specs.Answer.{answer_of, answered, read_answered}
-use Rattle.inner_interpreter.specs.Tick.{ticked, running, quiet}
+use Rattle.machine.specs.Answer.{answer_of, answered, read_answered}
+use Rattle.machine.specs.Tick.{ticked, running, quiet}
 use Rattle.metacompiler.specs.Loop.{Words, Thread}
 use Rattle.metacompiler.specs.Rounds.{rounds, Goes, at, due, is_ended, out, Ended, by_device, by_tick, Out}
 use Rattle.metacompiler.proofs.Step.{stepped, stepped_due, waiting, row_39, row_39_zero, row_8, row_8_zero, row_77_minus, row_77_one, row_7, row_15, row_5, row_1}

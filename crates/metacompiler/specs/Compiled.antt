@@ -5,7 +5,7 @@ use Rattle.block_buffers.specs.Disks.{Disk}
 use Rattle.image_loader.specs.Files.{Contents, IsImage}
 use Rattle.memory.specs.Bytes.{cell, limit_of}
 use Rattle.memory.specs.declared.system.TheConstants.{CONTEXT, CURRENT}
-use Rattle.inner_interpreter.specs.State.{start}
+use Rattle.machine.specs.State.{start}
 use Rattle.image_builder.specs.Sources.{source_of, AreThere}
 use Rattle.metacompiler.specs.Loop.{Words}
 use Rattle.metacompiler.specs.Resident.{Resident}

@@ -7,8 +7,8 @@ use Rattle.memory.specs.Bytes.{byte, cell, put_cell}
 use Rattle.memory.specs.declared.system.TheConstants.{STATE, DP, BLK, TO_IN, CONTEXT}
 use Rattle.plain_rows.specs.Whole.{Whole}
 use Rattle.plain_rows.specs.declared.faults.TheConstants.{BLOCK_ZERO}
-use Rattle.inner_interpreter.specs.State.{start}
-use Rattle.inner_interpreter.specs.Entering.{can_save, saved}
+use Rattle.machine.specs.State.{start}
+use Rattle.machine.specs.Entering.{can_save, saved}
 use Rattle.metacompiler.specs.Rounds.{Stop, Ended, Out, screens}
 use Rattle.metacompiler.specs.Rounds as rounds
 pub use Rattle.metacompiler.specs.declared.load.LoadFault.{LoadFault}

@@ -4,8 +4,8 @@ use Rattle.block_buffers.specs.Disks.{Disk}
 use Rattle.plain_rows.specs.Whole.{Whole}
 use Rattle.plain_rows.specs.declared.parts.Request.{Request}
 use Rattle.plain_rows.specs.declared.parts.Request.TheVariants.{Read, Write}
-use Rattle.inner_interpreter.specs.State.{State}
-use Rattle.inner_interpreter.specs.Tick.{Runs, ticked}
+use Rattle.machine.specs.State.{State}
+use Rattle.machine.specs.Tick.{Runs, ticked}
 use Rattle.metacompiler.specs.Rounds.{Stop, Ended, Asked, Out, out, by_request, by_tick, rounds, screens}
 use Rattle.metacompiler.specs.Moved.{Stage, ComesTo, AreRead}
 

@@ -4,11 +4,11 @@ use Rattle.image_loader.specs.Files.{Contents}
 use Rattle.memory.specs.Bytes.{front_put, zeros}
 use Rattle.plain_rows.specs.declared.faults.TheConstants.{BLOCK_ZERO}
 use Rattle.plain_rows.specs.declared.parts.Request.TheVariants.{Read, Write}
-use Rattle.inner_interpreter.specs.declared.act.Event.{Event}
-use Rattle.inner_interpreter.specs.declared.act.Event.TheVariants as event
-use Rattle.inner_interpreter.specs.State.{State, start}
-use Rattle.inner_interpreter.specs.Tick.{running, ticked}
-use Rattle.inner_interpreter.specs.Answer.{answer_of}
+use Rattle.machine.specs.declared.act.Event.{Event}
+use Rattle.machine.specs.declared.act.Event.TheVariants as event
+use Rattle.machine.specs.State.{State, start}
+use Rattle.machine.specs.Tick.{running, ticked}
+use Rattle.machine.specs.Answer.{answer_of}
 use Rattle.inner_interpreter.specs.Moves.{Turn, Tick, Answer, turned, Accepts, device_call}
 use Rattle.metacompiler.specs.Rounds.{Stop, Ended, Limit, is_end, stop_by, entered}
 use Rattle.metacompiler.specs.Loaded as loaded

@@ -6,12 +6,12 @@ use Rattle.memory.specs.declared.system.TheConstants.{TO_IN, BLK}
 use Rattle.plain_rows.specs.Whole.{Whole}
 use Rattle.plain_rows.specs.declared.parts.Request.{Request}
 use Rattle.plain_rows.specs.declared.parts.Request.TheVariants.{Read, Write}
-use Rattle.inner_interpreter.specs.declared.act.Cause.TheVariants as cause
-use Rattle.inner_interpreter.specs.declared.act.Event.{Event}
-use Rattle.inner_interpreter.specs.declared.act.Event.TheVariants as event
-use Rattle.inner_interpreter.specs.State.{State}
-use Rattle.inner_interpreter.specs.Tick.{ticked}
-use Rattle.inner_interpreter.specs.Answer.{answer_of}
+use Rattle.machine.specs.declared.act.Cause.TheVariants as cause
+use Rattle.machine.specs.declared.act.Event.{Event}
+use Rattle.machine.specs.declared.act.Event.TheVariants as event
+use Rattle.machine.specs.State.{State}
+use Rattle.machine.specs.Tick.{ticked}
+use Rattle.machine.specs.Answer.{answer_of}
 use Rattle.inner_interpreter.specs.Runs.{served}
 pub use Rattle.metacompiler.specs.declared.rounds.Stop.{Stop}
 pub use Rattle.metacompiler.specs.declared.rounds.Stop.TheVariants.{Ended, Limit, Fault, Halted, Asked}

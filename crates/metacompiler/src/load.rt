@@ -3,7 +3,7 @@
 ghost use Rattle.std.specs.Prelude.{◌≡◌, ◌+◌, ◌-◌, Some, Err, IfOk, IfErr};
 ghost use Rattle.block_buffers.specs.Disks.{Disk};
 ghost use Rattle.memory.specs.Bytes.{put_cell};
-ghost use Rattle.inner_interpreter.specs.Tick.{Runs};
+ghost use Rattle.machine.specs.Tick.{Runs};
 ghost use Rattle.metacompiler.specs.Rounds.{entered, rounds, screens};
 ghost use Rattle.metacompiler.specs.Loaded.{interpret_in, ended, fault_of, loaded_on, loaded_by_machine, IsLoaded, IsSaved};
 ghost use Rattle.metacompiler.specs.Moved.{stage, at_screen, AreRead, word_on, word_of, HasRead, HasLoaded, HasStopped};

@@ -2,8 +2,8 @@
 
 ghost use Rattle.std.specs.Prelude.{◌≡◌, ◌+◌, None, Some};
 ghost use Rattle.block_buffers.specs.Disks.{Disk};
-ghost use Rattle.inner_interpreter.specs.Answer.{asked_by};
-ghost use Rattle.inner_interpreter.specs.Tick.{Runs};
+ghost use Rattle.machine.specs.Answer.{asked_by};
+ghost use Rattle.machine.specs.Tick.{Runs};
 ghost use Rattle.metacompiler.specs.Rounds.{is_end, is_ended, stopped, stop_by, rounds};
 ghost use Rattle.metacompiler.specs.Moved.{stage};
 ghost use Rattle.metacompiler.specs.Making.{IsSettled, IsSettledBy, IsRound, IsLed, StopsAt};

@@ -2,7 +2,7 @@
 use Rattle.std.specs.Prelude.{◌⊎◌, ℕ, List, Vec}
 use Rattle.std.specs.declared.alloc.Global.{Global}
 use Rattle.memory.specs.Bytes.{IsCount, limit_of}
-use Rattle.inner_interpreter.specs.State.{start}
+use Rattle.machine.specs.State.{start}
 use Rattle.image_builder.specs.Items.{Items}
 use Rattle.block_buffers.specs.Disks.{Disk}
 use Rattle.image_loader.specs.Files.{Contents, IsWritten}

@@ -2,7 +2,7 @@ use Rattle.std.proofs.Common.{◌≡◌, ◌∙◌, ℕ, List, refl, ap, subst, 
 use Rattle.std.specs.Prelude.{IfSome}
 use Rattle.std.proofs.lemmas.Result.{IfOk-weaker}
 use Rattle.debug_tracer.specs.Debugged.{debugged, line_from}
-use Rattle.inner_interpreter.specs.State.{State, start}
+use Rattle.machine.specs.State.{State, start}
 use Rattle.inner_interpreter.specs.Tracing.{EndsTraced, EndsCutTraced, EndsFaultedTraced, EndsUntraced}
 use Rattle.inner_interpreter.proofs.Loading.{start_not_failed}
 use Rattle.inner_interpreter.specs.Worlds.{loaded}

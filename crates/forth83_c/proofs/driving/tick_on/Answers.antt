@@ -1,5 +1,5 @@
 use Rattle.std.proofs.Common.{rules, ◌≡◌}
-use Rattle.inner_interpreter.specs.Tick.{ran}
+use Rattle.machine.specs.Tick.{ran}
 use Rattle.forth83_c.proofs.Turning.{ticked_on}
 use Rattle.forth83_c.proofs.driving.tick_on.Goals as goal
 

@@ -1,6 +1,6 @@
 use Rattle.std.proofs.Common.{◌≡◌, ◌≤◌, ◌-◌, true, length, take, drop}
 use Rattle.std.specs.List.{list_all}
-use Rattle.inner_interpreter.specs.Answer.{is_typed}
+use Rattle.machine.specs.Answer.{is_typed}
 use Rattle.inner_interpreter.specs.Lines.{line_of, with_front}
 use Rattle.forth83_c.proofs.lines.whole_line.Given as goal
 

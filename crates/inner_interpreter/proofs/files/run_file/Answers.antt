@@ -4,7 +4,7 @@ use Rattle.image_loader.specs.Files.{Contents}
 use Rattle.image_loader.specs.declared.fault.ImageFault.TheVariants as ImageFault
 use Rattle.inner_interpreter.specs.Files.{HasRunFrom}
 use Rattle.inner_interpreter.specs.Moves.{HasRun}
-use Rattle.inner_interpreter.specs.State.{State, start}
+use Rattle.machine.specs.State.{State, start}
 use Rattle.inner_interpreter.specs.Worlds.{OfImage, EndsFrom, EndsCutFrom, EndsFaultedFrom, loaded}
 use Rattle.inner_interpreter.proofs.Loading.{loaded_at, start_not_failed}
 use Rattle.inner_interpreter.proofs.files.run_file.Goals as goal

@@ -1,4 +1,4 @@
-use Rattle.inner_interpreter.specs.State.{start}
+use Rattle.machine.specs.State.{start}
 use Rattle.inner_interpreter.proofs.Hosting as law
 use Rattle.inner_interpreter.proofs.laws.history_law.Goals as goal
 

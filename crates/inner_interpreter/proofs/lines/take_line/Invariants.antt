@@ -1,6 +1,6 @@
 use Rattle.std.proofs.Common.{◌≡◌, ◌≤◌, ◌-◌, ◌++◌, ℕ, List, Some, true, vec_len, vec_capacity}
 use Rattle.std.specs.List.{list_all}
-use Rattle.inner_interpreter.specs.Answer.{is_typed}
+use Rattle.machine.specs.Answer.{is_typed}
 use Rattle.inner_interpreter.specs.Lines.{line_of, with_front}
 use Rattle.inner_interpreter.proofs.lines.take_line.Given as goal
 

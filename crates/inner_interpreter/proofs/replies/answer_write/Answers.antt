@@ -1,5 +1,5 @@
 use Rattle.std.proofs.Common.{refl}
-use Rattle.inner_interpreter.specs.Answer as answering
+use Rattle.machine.specs.Answer as answering
 use Rattle.inner_interpreter.proofs.Faultless.{told_ok}
 use Rattle.inner_interpreter.proofs.replies.answer_write.Goals as goal
 

@@ -1,5 +1,5 @@
 use Rattle.std.proofs.Common.{rules, ◌≡◌, None, Some}
-use Rattle.inner_interpreter.specs.Answer.{asked_by}
+use Rattle.machine.specs.Answer.{asked_by}
 use Rattle.inner_interpreter.proofs.Faultless.{went_read}
 use Rattle.inner_interpreter.proofs.Moving.{moved_none, moved_still, moved_answer, moved_went}
 use Rattle.inner_interpreter.proofs.Running.{asked_none, runs_running, went_at, went_cut, answer_at, answer_cut, flush_cut, kept_at, faulted_at, on_ok_then}

@@ -2,8 +2,8 @@ use Rattle.std.proofs.Common.{◌≡◌, ◌∙◌, length, Some, inl, refl, ap,
 use Rattle.std.specs.Prelude.{IfOk, IfErr, Err}
 use Rattle.std.proofs.lemmas.Result.{IfOk-weaker}
 use Rattle.block_buffers.specs.Disks.{Disk}
-use Rattle.inner_interpreter.specs.State.{State, start}
-use Rattle.inner_interpreter.specs.Tick.{Runs}
+use Rattle.machine.specs.State.{State, start}
+use Rattle.machine.specs.Tick.{Runs}
 use Rattle.metacompiler.specs.Loaded.{interpret_in, by_interpret, loaded_by_machine, IsLoaded}
 use Rattle.metacompiler.specs.Moved.{stage, word_for, HasRead}
 use Rattle.metacompiler.proofs.Agreeing.{compiles_by}

@@ -1,6 +1,6 @@
 use Rattle.std.proofs.Common.{◌≡◌, Some, None}
 use Rattle.block_buffers.specs.Disks.{Disk}
-use Rattle.inner_interpreter.specs.Tick.{Runs}
+use Rattle.machine.specs.Tick.{Runs}
 use Rattle.metacompiler.specs.Rounds.{rounds}
 use Rattle.metacompiler.specs.Moved.{stage}
 use Rattle.metacompiler.specs.Making.{IsSoFar, IsLed}

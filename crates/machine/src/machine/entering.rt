@@ -1,0 +1,70 @@
+//! What a host does with a machine beside its moves: a word is entered, a cell is written, memory is saved as an image.
+
+ghost use Rattle.std.specs.Prelude.{◌≡◌, None, IsSome, IsTrue, IsFalse, IfOk, IfErr, OnErr, IsErrOf};
+ghost use Rattle.machine.specs.Tick.{Runs, is_running};
+ghost use Rattle.machine.specs.Entering.{entered, with_parts, with_cell, can_save, saved};
+
+use super::Machine;
+use crate::act::Refused;
+use image_loader::Image;
+use memory::system::DP;
+use std::alloc::Global;
+
+/// Why memory can't be saved as an image.
+#[derive(Clone, Copy, Debug, PartialEq, Eq)]
+pub enum SaveRefused {
+    /// HERE is below 256, or behind where the block buffers begin.
+    BadSize,
+    OutOfMemory,
+}
+
+impl Machine {
+    /// Enters a word: the return stack is emptied, `ip` is 0, and the word comes next. `Halted` where the machine is, else
+    /// `Waiting` where a request stands; it is then unchanged.
+    pub fn enter(&mut self, word: u16) -> Result<(), Refused>
+        ensures entered { IfOk result (λ _. self.new ≡ with_parts self.old (entered self.old.parts word)) }
+        ensures runs { IfOk result (λ _. Runs self.new) }
+        ensures halted { IsSome self.old.halt → IsErrOf result Refused.Halted }
+        ensures waiting { self.old.halt ≡ None → IsSome self.old.wait → IsErrOf result Refused.Waiting }
+        ensures stays { OnErr result (IsFalse (is_running self.old) × (self.new ≡ self.old)) }
+    {
+        if self.halt.is_some() {
+            return Err(Refused::Halted);
+        }
+        if self.wait.is_some() {
+            return Err(Refused::Waiting);
+        }
+        self.parts.returns.clear();
+        self.parts.ip = 0;
+        self.parts.pending = Some(word);
+        Ok(())
+    }
+
+    /// Writes a cell of memory, and nothing else.
+    pub fn set_cell(&mut self, address: u16, x: u16)
+        ensures { self.new ≡ with_cell self.old address x }
+    {
+        self.parts.set_cell(address, x);
+    }
+
+    /// Memory up to HERE as an image with as many block buffers, which starts with the word at `entry`. `BadSize` where
+    /// HERE is no size of such an image.
+    #[tactic(auto, unfolding(crate::specs::Entering::can_save))]
+    pub fn save(&self, alloc: Global, entry: u16) -> Result<Image, SaveRefused>
+        ensures saved { IfOk result (λ image. image ≡ saved self.now.parts entry) }
+        ensures fits { IfOk result (λ _. IsTrue (can_save self.now.parts)) }
+        ensures size { IsFalse (can_save self.now.parts) → IsErrOf result SaveRefused.BadSize }
+        ensures room { IfErr result (λ e. e ≡ SaveRefused.BadSize → IsFalse (can_save self.now.parts)) }
+    {
+        let here = self.parts.memory.cell(DP);
+        let limit = self.parts.buffers.limit();
+        if here < 256 || here > limit {
+            return Err(SaveRefused::BadSize);
+        }
+        let memory = self.parts.memory.as_slice();
+        match memory[..here as usize].to_vec(alloc) {
+            Ok(bytes) => Ok(Image::new(self.parts.buffers.count(), entry, bytes)),
+            Err(_) => Err(SaveRefused::OutOfMemory),
+        }
+    }
+}
