@@ -3,7 +3,7 @@ use Rattle.std.proofs.Common.{◌≡◌, ℕ, List, ◌++◌, length, sym, ◌�
 use Rattle.std.specs.Prelude.{drop, Result, Ok, Err}
 use Rattle.memory.specs.Bytes.{front_put, zeros}
 use Rattle.dictionary.specs.Order.{headers}
-use Rattle.plain_rows.specs.Whole.{Whole}
+use Rattle.machine_parts.specs.Whole.{Whole}
 use Rattle.machine.specs.declared.extent.Extent.{Extent}
 use Rattle.debug_tracer.specs.declared.fault.DebugFault.{DebugFault}
 use Rattle.debug_tracer.specs.Lines.{line}

@@ -7,7 +7,7 @@ use Rattle.dictionary.specs.Header.{compilation_address}
 use Rattle.dictionary.specs.Order.{headers, is_beyond_limit}
 use Rattle.dictionary.specs.Search.{Sought, Found, Nowhere, TooLong, sought}
 use Rattle.block_buffers.specs.Disks.{Disk}
-use Rattle.plain_rows.specs.Whole.{Whole}
+use Rattle.machine_parts.specs.Whole.{Whole}
 use Rattle.inner_interpreter.specs.declared.stop.Stop.{Stop}
 use Rattle.machine.specs.State.{State}
 use Rattle.inner_interpreter.specs.Runs.{World}

@@ -6,7 +6,7 @@ use Rattle.cells.specs.Cell.{signed}
 use Rattle.memory.specs.Bytes.{cell}
 use Rattle.dictionary.specs.Header.{name_of}
 use Rattle.dictionary.specs.Extents.{header_at}
-use Rattle.plain_rows.specs.Whole.{Whole}
+use Rattle.machine_parts.specs.Whole.{Whole}
 
 -- a header's name in memory m, or `?`
 abbrev pub name_if : List ℕ → Option ℕ → List ℕ

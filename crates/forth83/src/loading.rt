@@ -4,13 +4,13 @@ use block_buffers::{BLOCK_SIZE, Device, MemoryDevice};
 use command_words::{LoadWords, ScreenRange};
 use inner_interpreter::{Machine, Writing};
 use load_subcommand::do_load;
+use machine_parts::faults::{BAD_LENGTH, NOT_FOUND};
 use memory::system::{BLK, TO_IN};
 use metacompiler::{LoadFault, load_on};
 use named_files::{
     blocks_of, image_bytes, keep_apart, keep_image, read_screen, run_blocks, show_line,
     standard_output, word_before, word_behind, write_made,
 };
-use plain_rows::faults::{BAD_LENGTH, NOT_FOUND};
 use std::io::IsTerminal;
 use subcommands::Ended;
 

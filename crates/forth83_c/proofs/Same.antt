@@ -8,7 +8,7 @@ use Rattle.dictionary.specs.Header.{compilation_address}
 use Rattle.dictionary.specs.Search.{Sought, Found, sought}
 use Rattle.dictionary.proofs.Unnamed.{name_never}
 use Rattle.stacks.specs.Cells.{first_of}
-use Rattle.plain_rows.specs.Whole.{Whole}
+use Rattle.machine_parts.specs.Whole.{Whole}
 use Rattle.machine.specs.State.{State}
 use Rattle.forth83_c.specs.declared.record.Forth83.{Forth83}
 use Rattle.forth83_c.specs.Called.{HasFound}

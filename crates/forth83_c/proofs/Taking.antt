@@ -3,7 +3,7 @@ use Rattle.std.proofs.Common.{◌≡◌, ℕ, suc, ◌+◌, ◌-◌, ◌<◌, Li
 use Rattle.std.proofs.lemmas.List.{take_more}
 use Rattle.std.specs.List.{list_all}
 use Rattle.block_buffers.specs.Disks.{Disk}
-use Rattle.plain_rows.specs.declared.parts.Request.TheVariants as request
+use Rattle.machine_parts.specs.declared.parts.Request.TheVariants as request
 use Rattle.machine.specs.Answer.{Key, Line, InputEnd, is_return, is_typed}
 use Rattle.inner_interpreter.specs.Lines.{Taken, line_of, line_reply, with_front}
 use Rattle.inner_interpreter.specs.Runs.{served, key_served}

@@ -1,7 +1,7 @@
 -- Rounds that a call makes.
 use Rattle.std.proofs.Common.{◌≡◌, ℕ, ◌+◌, ◌-◌, ◌<◌, ◌++◌, List, [], None, Some, refl, sym, ap, ◌∙◌, arith}
 use Rattle.block_buffers.specs.Disks.{Disk}
-use Rattle.plain_rows.specs.declared.parts.Request.{Request}
+use Rattle.machine_parts.specs.declared.parts.Request.{Request}
 use Rattle.machine.specs.declared.act.Act.{Act}
 use Rattle.machine.specs.Answer.{Reply, answer_of, asked_by}
 use Rattle.inner_interpreter.specs.Moves.{shown_bytes, answer_move}

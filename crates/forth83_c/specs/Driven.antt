@@ -2,8 +2,8 @@
 use Rattle.std.specs.Prelude.{◌≡◌, ℕ, ◌<◌, true, List, [], length, None, Some, IsSome}
 use Rattle.std.specs.List.{list_all}
 use Rattle.block_buffers.specs.Disks.{Disk}
-use Rattle.plain_rows.specs.declared.parts.Request.{Request}
-use Rattle.plain_rows.specs.declared.parts.Request.TheVariants.{Key, Line, Read, Write}
+use Rattle.machine_parts.specs.declared.parts.Request.{Request}
+use Rattle.machine_parts.specs.declared.parts.Request.TheVariants.{Key, Line, Read, Write}
 use Rattle.machine.specs.Answer.{asked_by, is_typed}
 use Rattle.inner_interpreter.specs.Requests.{asks_device}
 use Rattle.inner_interpreter.specs.Runs.{World, rounds}

@@ -3,8 +3,8 @@ use Rattle.std.specs.Prelude.{◌≡◌, ℕ, ◌≤◌, ◌==◌, nat_le, List,
 use Rattle.std.specs.List.{list_all}
 use Rattle.block_buffers.specs.declared.entry.Entry.{Entry}
 use Rattle.block_buffers.specs.Entries.{AreBuffers}
-use Rattle.plain_rows.specs.declared.parts.Request.{Request}
-use Rattle.plain_rows.specs.declared.parts.Request.TheVariants.{Key, Line, Read, Write}
+use Rattle.machine_parts.specs.declared.parts.Request.{Request}
+use Rattle.machine_parts.specs.declared.parts.Request.TheVariants.{Key, Line, Read, Write}
 use Rattle.machine.specs.declared.act.Cause.{Cause}
 use Rattle.machine.specs.declared.act.Cause.TheVariants.{Bye, InputEnded, InputFault, Fault}
 use Rattle.machine.specs.State.{State}

@@ -2,7 +2,7 @@
 
 ghost use Rattle.std.specs.Prelude.{◌≡◌, ◌≤◌, ◌<◌, ◌+◌, ◌-◌, ℕ, List, length, take, drop, Some, None, true, IfSome, IsNone};
 ghost use Rattle.std.specs.List.{list_all};
-ghost use Rattle.plain_rows.specs.declared.parts.Request.TheVariants as request;
+ghost use Rattle.machine_parts.specs.declared.parts.Request.TheVariants as request;
 ghost use Rattle.machine.specs.Answer.{answer_of, asked_by, is_typed};
 ghost use Rattle.inner_interpreter.specs.Lines.{line_reply};
 ghost use Rattle.machine.specs.Tick.{Runs};
@@ -13,7 +13,7 @@ use crate::lines::whole_line;
 use crate::showing::{ROOM, show};
 use crate::stop::Stop;
 use inner_interpreter::{Act, Answer, Machine};
-use plain_rows::parts::Request;
+use machine_parts::parts::Request;
 
 /// How far a call is: how many typed bytes were read and how many bytes shown, and how many ticks are left.
 #[derive(Clone, Copy, Debug)]

@@ -9,9 +9,9 @@ use crate::record::{Forth83, Forth83Buffer};
 use arrayvec::ArrayVec;
 use block_buffers::{Buffers, Entry};
 use inner_interpreter::{Cause, Machine};
+use machine_parts::parts::{Parts, Request};
 use memory::{Memory, OutOfMemory};
 use name_index::NameIndex;
-use plain_rows::parts::{Parts, Request};
 use stacks::Stack;
 use std::alloc::Global;
 

@@ -4,7 +4,7 @@ ghost use Rattle.std.specs.Prelude.{◌≡◌, ◌≤◌, ◌<◌, length, take,
 ghost use Rattle.std.specs.List.{list_all};
 ghost use Rattle.machine.specs.Answer.{is_return, is_typed};
 ghost use Rattle.inner_interpreter.specs.Lines.{line_of};
-ghost use Rattle.plain_rows.specs.declared.parts.Request.TheVariants as request;
+ghost use Rattle.machine_parts.specs.declared.parts.Request.TheVariants as request;
 ghost use Rattle.forth83_c.specs.Driven.{AreTooFew};
 
 /// A line at the front of the typed bytes: how many bytes it has, whether a return ended it, and where the bytes behind it

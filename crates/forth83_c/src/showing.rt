@@ -5,7 +5,7 @@ ghost use Rattle.memory.specs.Bytes.{bytes};
 ghost use Rattle.inner_interpreter.specs.Moves.{shown_bytes};
 
 use inner_interpreter::{Machine, Shown};
-use plain_rows::parts::Span;
+use machine_parts::parts::Span;
 
 /// Room for what any act shows.
 pub const ROOM: usize = 65536;

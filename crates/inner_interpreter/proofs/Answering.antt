@@ -1,7 +1,7 @@
 -- Requests that were answered.
 use Rattle.std.proofs.Common.{◌≡◌, List, ℕ, Option}
 use Rattle.block_buffers.specs.Disks.{Disk}
-use Rattle.plain_rows.specs.declared.parts.Request.{Request}
+use Rattle.machine_parts.specs.declared.parts.Request.{Request}
 use Rattle.machine.specs.declared.act.Act.{Act}
 use Rattle.machine.specs.State.{State}
 use Rattle.inner_interpreter.specs.Served.{Serves}

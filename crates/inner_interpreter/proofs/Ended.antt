@@ -3,8 +3,8 @@ use Rattle.std.proofs.Common.{◌≡◌, ℕ, ◌+◌, ◌<◌, Bool, true, fals
 use Rattle.std.specs.Prelude.{IsSome}
 use Rattle.std.specs.Io.KnownBytes.{Appends, Keeps}
 use Rattle.block_buffers.specs.Disks.{Disk}
-use Rattle.plain_rows.specs.Whole.{Whole}
-use Rattle.plain_rows.specs.declared.parts.Request.{Request}
+use Rattle.machine_parts.specs.Whole.{Whole}
+use Rattle.machine_parts.specs.declared.parts.Request.{Request}
 use Rattle.machine.specs.declared.act.Cause.{Cause}
 use Rattle.machine.specs.declared.act.Cause.TheVariants as causes
 use Rattle.inner_interpreter.specs.declared.stop.Stop.{Stop}

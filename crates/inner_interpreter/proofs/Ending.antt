@@ -3,8 +3,8 @@ use Rattle.std.proofs.Common.{◌≡◌, ℕ, zero, suc, ◌<◌, ◌≤◌, ◌
 use Rattle.std.specs.Prelude.{IsSome}
 use Rattle.memory.specs.Bytes.{cell}
 use Rattle.memory.specs.declared.system.TheConstants.{FAULT}
-use Rattle.plain_rows.specs.Whole.{Whole}
-use Rattle.plain_rows.specs.declared.parts.Request.{Request}
+use Rattle.machine_parts.specs.Whole.{Whole}
+use Rattle.machine_parts.specs.declared.parts.Request.{Request}
 use Rattle.machine.specs.declared.act.Cause.{Cause}
 use Rattle.machine.specs.declared.act.Shown.{Shown}
 use Rattle.inner_interpreter.specs.declared.stop.Stop.{Stop}

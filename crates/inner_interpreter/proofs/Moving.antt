@@ -1,8 +1,8 @@
 -- Moves that were made.
 use Rattle.std.proofs.Common.{◌≡◌, ℕ, zero, suc, ◌+◌, ◌-◌, ◌≤◌, List, [], ◌∷◌, ◌++◌, Option, Some, None, Bool, true, false, not, refl, sym, ap, subst, ◌∙◌, arith, append-nil, append_assoc, if◌then◌else◌}
 use Rattle.std.proofs.lemmas.List.Sums.{sum_by-cons, sum_by-append}
-use Rattle.plain_rows.specs.Whole.{Whole}
-use Rattle.plain_rows.specs.declared.parts.Request.{Request}
+use Rattle.machine_parts.specs.Whole.{Whole}
+use Rattle.machine_parts.specs.declared.parts.Request.{Request}
 use Rattle.machine.specs.declared.act.Act.{Act}
 use Rattle.inner_interpreter.specs.declared.stop.Stop.{Stop}
 use Rattle.inner_interpreter.specs.declared.stop.Stop.TheVariants.{Limit}

@@ -1,8 +1,8 @@
 -- Acts that show nothing and go on.
 use Rattle.std.proofs.Common.{◌≡◌, ℕ, ◌==◌, [], refl, List, Bool, true, false}
-use Rattle.plain_rows.specs.Whole.{Whole}
-use Rattle.plain_rows.specs.declared.parts.Outcome.TheVariants.{Done, Show, Byte as ByteOut, Ask as AskOut, Fault as FaultOut, Abort, Halt as HaltOut}
-use Rattle.plain_rows.specs.Row.{After}
+use Rattle.machine_parts.specs.Whole.{Whole}
+use Rattle.machine_parts.specs.declared.parts.Outcome.TheVariants.{Done, Show, Byte as ByteOut, Ask as AskOut, Fault as FaultOut, Abort, Halt as HaltOut}
+use Rattle.machine_parts.specs.Row.{After}
 use Rattle.memory.specs.Bytes.{cell}
 use Rattle.machine.specs.declared.act.Act.{Act}
 use Rattle.machine.specs.declared.act.Shown.{Shown}

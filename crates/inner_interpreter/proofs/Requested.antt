@@ -11,13 +11,13 @@ use Rattle.memory.specs.Bytes.{cell, with_page, limit_of}
 use Rattle.memory.specs.declared.system.TheConstants.{BLK, SCR, FAULT}
 use Rattle.memory.proofs.Limits.{limit_is}
 use Rattle.memory.proofs.Pages.{cell_below, length-with_page}
-use Rattle.plain_rows.specs.Whole.{Whole}
-use Rattle.plain_rows.specs.Row.{After}
-use Rattle.plain_rows.specs.declared.parts.Outcome.{Outcome}
-use Rattle.plain_rows.specs.declared.parts.Outcome.TheVariants.{Done, Show, Byte as ByteOut, Ask as AskOut, Fault as FaultOut, Abort, Halt as HaltOut}
-use Rattle.plain_rows.specs.declared.parts.Request.{Request}
-use Rattle.plain_rows.specs.declared.parts.Request.TheVariants as request
-use Rattle.plain_rows.proofs.Shapes.{by_room, by_room_r}
+use Rattle.machine_parts.specs.Whole.{Whole}
+use Rattle.machine_parts.specs.Row.{After}
+use Rattle.machine_parts.specs.declared.parts.Outcome.{Outcome}
+use Rattle.machine_parts.specs.declared.parts.Outcome.TheVariants.{Done, Show, Byte as ByteOut, Ask as AskOut, Fault as FaultOut, Abort, Halt as HaltOut}
+use Rattle.machine_parts.specs.declared.parts.Request.{Request}
+use Rattle.machine_parts.specs.declared.parts.Request.TheVariants as request
+use Rattle.machine_parts.proofs.Shapes.{by_room, by_room_r}
 use Rattle.primitives.specs.Needs.{most_requests}
 use Rattle.primitives.specs.Stops.{Keeps, StopsKeeping}
 use Rattle.primitives.specs.Table.{row}

@@ -3,10 +3,10 @@ use Rattle.std.proofs.Common.{◌≡◌, ◌⊎◌, ℕ, suc, ◌+◌, ◌-◌, 
 use Rattle.std.specs.Prelude.{IsSome}
 use Rattle.std.specs.Io.KnownBytes.{Appends, Keeps}
 use Rattle.block_buffers.specs.Disks.{Disk}
-use Rattle.plain_rows.specs.declared.parts.Request.{Request}
+use Rattle.machine_parts.specs.declared.parts.Request.{Request}
 use Rattle.machine.specs.declared.act.Act.{Act}
 use Rattle.machine.specs.State.{State}
-use Rattle.plain_rows.specs.Whole.{Whole}
+use Rattle.machine_parts.specs.Whole.{Whole}
 use Rattle.inner_interpreter.specs.declared.stop.Stop.{Stop}
 use Rattle.machine.specs.declared.extent.Extent.{Extent}
 use Rattle.machine.specs.Tick.{ran, running, ticked}

@@ -1,6 +1,6 @@
 -- A stretch of ticks is as many rounds.
 use Rattle.std.proofs.Common.{◌≡◌, ℕ, zero, suc, ◌+◌, ◌-◌, ◌<◌, ◌≤◌, ◌++◌, List, Bool, true, false, None, refl, sym, ap, ◌∙◌, append-nil, append_assoc, arith, Option, Some, [], if◌then◌else◌, is_none}
-use Rattle.plain_rows.specs.Whole.{Whole}
+use Rattle.machine_parts.specs.Whole.{Whole}
 use Rattle.machine.specs.declared.act.Act.{Act}
 use Rattle.machine.specs.State.{State}
 use Rattle.machine.specs.Tick.{ran, ticked, is_quiet, running, quiet}

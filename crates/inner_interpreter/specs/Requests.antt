@@ -2,8 +2,8 @@
 use Rattle.std.specs.Prelude.{ℕ, ◌+◌, ◌≡◌, ◌<◌, ◌≤◌, All, List, [], ◌∷◌, Option, Some, Bool, true, false, IsTrue, IsFalse, length}
 use Rattle.memory.specs.Bytes.{cell}
 use Rattle.block_buffers.specs.Entries.{limit, holds, AreBuffers, HasNoBlockTwice}
-use Rattle.plain_rows.specs.declared.parts.Request.{Request}
-use Rattle.plain_rows.specs.declared.parts.Request.TheVariants as request
+use Rattle.machine_parts.specs.declared.parts.Request.{Request}
+use Rattle.machine_parts.specs.declared.parts.Request.TheVariants as request
 use Rattle.machine.specs.State.{State}
 use Rattle.machine.specs.Tick.{Runs, taken}
 use Rattle.machine.specs.Answer.{Reply, ReadOk, WriteOk, asked_by}

@@ -1,7 +1,7 @@
 -- A request that was answered.
 use Rattle.std.specs.Prelude.{◌≡◌, ℕ, true, false, Bool, List, ◌++◌, Option, Some}
 use Rattle.block_buffers.specs.Disks.{Disk}
-use Rattle.plain_rows.specs.declared.parts.Request.{Request}
+use Rattle.machine_parts.specs.declared.parts.Request.{Request}
 use Rattle.machine.specs.declared.act.Act.{Act}
 use Rattle.machine.specs.declared.act.Cause.{Cause}
 use Rattle.machine.specs.declared.act.Cause.TheVariants.{InputFault as InputFaulted}

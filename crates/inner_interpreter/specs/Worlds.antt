@@ -1,7 +1,7 @@
 -- Where a run is, by what its machine and its ends tell.
 use Rattle.std.specs.Prelude.{◌≡◌, ◌<◌, ◌⊎◌, ℕ, suc, length, ◌+◌, ◌*◌, true, List, ◌++◌, Option, None, Some, IsSome}
 use Rattle.block_buffers.specs.Disks.{Disk}
-use Rattle.plain_rows.specs.declared.parts.Request.{Request}
+use Rattle.machine_parts.specs.declared.parts.Request.{Request}
 use Rattle.machine.specs.declared.act.Act.{Act}
 use Rattle.inner_interpreter.specs.declared.stop.Stop.{Stop}
 use Rattle.image_loader.specs.Files.{Contents, IsFile}

@@ -11,7 +11,7 @@ use crate::ends::{EndFault, Input};
 use crate::lines::take_line;
 use block_buffers::Device;
 use machine::{Act, Answer, Machine};
-use plain_rows::parts::Request;
+use machine_parts::parts::Request;
 
 /// Answers a `Key`. Where the reader fails, the machine is told so.
 pub fn answer_key<R: Input>(machine: &mut Machine, reader: &mut R) -> Result<Act, EndFault>

@@ -18,7 +18,7 @@ use crate::replies::settle;
 use crate::sends::show;
 use block_buffers::Device;
 use machine::{Extent, Machine};
-use plain_rows::parts::Request;
+use machine_parts::parts::Request;
 
 /// Which end failed.
 #[derive(Clone, Copy, Debug, PartialEq, Eq)]

@@ -9,7 +9,7 @@ ghost use Rattle.inner_interpreter.specs.Sent.{AppendsPart};
 
 use crate::ends::{EndFault, Output};
 use machine::{Machine, Shown};
-use plain_rows::parts::Span;
+use machine_parts::parts::Span;
 
 /// Sends all of the bytes, or a front of them where the writer fails.
 pub fn send_all<W: Output>(writer: &mut W, bytes: &[u8]) -> Result<(), EndFault>

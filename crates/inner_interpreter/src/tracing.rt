@@ -7,7 +7,7 @@ use machine::{Extent, Machine};
 pub trait Tracer {
     ghost use Rattle.std.specs.Prelude.{◌≡◌, ℕ, List, OnOk, OnErr};
     ghost use Rattle.std.specs.Io.KnownBytes.{Appends};
-    ghost use Rattle.plain_rows.specs.Whole.{Whole};
+    ghost use Rattle.machine_parts.specs.Whole.{Whole};
     ghost use Rattle.inner_interpreter.specs.Ends.{Marks};
     ghost use Rattle.inner_interpreter.specs.Sent.{AppendsPart};
     ghost use Rattle.machine.specs.declared.extent.Extent.{Extent as Addresses};

@@ -4,10 +4,10 @@ use Rattle.std.specs.List.{list_all}
 use Rattle.block_buffers.specs.Entries.{address_of, victim, assigned, unmarked, slot_of}
 use Rattle.memory.specs.Bytes.{put_cell, put_bytes, page, with_page}
 use Rattle.memory.specs.declared.system.TheConstants.{SPAN}
-use Rattle.plain_rows.specs.Whole.{Whole}
-use Rattle.plain_rows.specs.declared.faults.TheConstants.{DATA_UNDERFLOW, DATA_OVERFLOW, READ_FAILED, WRITE_FAILED}
-use Rattle.plain_rows.specs.declared.parts.Request.{Request}
-use Rattle.plain_rows.specs.declared.parts.Request.TheVariants as request
+use Rattle.machine_parts.specs.Whole.{Whole}
+use Rattle.machine_parts.specs.declared.faults.TheConstants.{DATA_UNDERFLOW, DATA_OVERFLOW, READ_FAILED, WRITE_FAILED}
+use Rattle.machine_parts.specs.declared.parts.Request.{Request}
+use Rattle.machine_parts.specs.declared.parts.Request.TheVariants as request
 use Rattle.machine.specs.declared.act.Act.{Act}
 use Rattle.machine.specs.declared.act.Answer.{Answer}
 use Rattle.machine.specs.declared.act.Answer.TheVariants as answer

@@ -3,7 +3,7 @@ use Rattle.std.specs.Prelude.{ℕ, [], length, take, Some, Bool, nat_le, ◌&&�
 use Rattle.image_loader.specs.Files.{Contents}
 use Rattle.memory.specs.Bytes.{cell, put_cell, limit_of}
 use Rattle.memory.specs.declared.system.TheConstants.{DP}
-use Rattle.plain_rows.specs.Whole.{Whole}
+use Rattle.machine_parts.specs.Whole.{Whole}
 use Rattle.machine.specs.State.{State}
 
 -- a word is entered: the return stack is empty, ip is 0, and the word comes next

@@ -1,6 +1,6 @@
 //! What a move shows and comes to, and what the world answers.
 
-use plain_rows::parts::{Request, Span};
+use machine_parts::parts::{Request, Span};
 
 /// The bytes that a move shows.
 #[derive(Clone, Copy, Debug, PartialEq, Eq)]

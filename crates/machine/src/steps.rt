@@ -1,12 +1,12 @@
 //! The two steps of a tick: a token is taken, and what it means is done.
 
-#![tactic(auto, unfolding(plain_rows::specs::Row::room, plain_rows::specs::Row::room_r))]
+#![tactic(auto, unfolding(machine_parts::specs::Row::room, machine_parts::specs::Row::room_r))]
 
 ghost use Rattle.std.specs.Prelude.{◌≡◌};
 ghost use Rattle.machine.specs.Tick.{taken, executed, thread};
 
-use plain_rows::faults::{DATA_OVERFLOW, RETURN_OVERFLOW};
-use plain_rows::parts::{Outcome, Parts};
+use machine_parts::faults::{DATA_OVERFLOW, RETURN_OVERFLOW};
+use machine_parts::parts::{Outcome, Parts};
 use primitives::row;
 
 /// Takes the token.

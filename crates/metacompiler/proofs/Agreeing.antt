@@ -12,7 +12,7 @@ use Rattle.machine.specs.Entering.{can_save, saved}
 use Rattle.dictionary.specs.Search.{by_address}
 use Rattle.colon_bodies.specs.Code.{all_size}
 use Rattle.image_loader.specs.Files.{Contents, IsImage}
-use Rattle.plain_rows.specs.Whole.{Whole}
+use Rattle.machine_parts.specs.Whole.{Whole}
 use Rattle.machine.specs.State.{start}
 use Rattle.source_words.specs.declared.modes.Mode.TheVariants.{Outside}
 use Rattle.source_words.specs.Words.{SourceWord, words_of_screens, source_words}

@@ -13,7 +13,7 @@ use Rattle.metacompiler.specs.Rounds.{is_end}
 use Rattle.machine.specs.Entering.{can_save, saved}
 use Rattle.memory.specs.Bytes.{cell}
 use Rattle.memory.specs.declared.system.TheConstants.{STATE}
-use Rattle.plain_rows.specs.Whole.{Whole}
+use Rattle.machine_parts.specs.Whole.{Whole}
 
 -- a refusal
 refusal : (from : Disk) (c : LoadFault) (a : Result Contents LoadFault) (d : Disk) (disk : Option Disk) → a ≡ Err c → disk ≡ Some d → IsLoaded from (record { answer = a; disk = d }) (Err c) disk

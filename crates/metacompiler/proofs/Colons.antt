@@ -13,9 +13,9 @@ use Rattle.dictionary.specs.Adding.{site_of, header_bytes}
 use Rattle.dictionary.specs.declared.site.Site.{Site as Where}
 use Rattle.dictionary.proofs.Fronted.{Fronted}
 use Rattle.compiling_words.specs.Definitions.{begun, begun_writes}
-use Rattle.plain_rows.specs.Whole.{Whole}
-use Rattle.plain_rows.specs.Row.{After}
-use Rattle.plain_rows.specs.declared.parts.Outcome.TheVariants.{Done}
+use Rattle.machine_parts.specs.Whole.{Whole}
+use Rattle.machine_parts.specs.Row.{After}
+use Rattle.machine_parts.specs.declared.parts.Outcome.TheVariants.{Done}
 use Rattle.input_source.specs.declared.words.Word.{Word}
 use Rattle.input_source.specs.Words.{IsNextWord}
 use Rattle.input_source.proofs.WordLaw.{word_law}

@@ -3,7 +3,7 @@ use Rattle.std.proofs.Common.{◌≡◌, ℕ, zero, suc, ◌+◌, ◌≤◌, Lis
 use Rattle.std.specs.Prelude.{◌==◌}
 use Rattle.block_buffers.specs.Disks.{Disk, block_at, called}
 use Rattle.memory.specs.Bytes.{IsCount, limit_of, put_cell}
-use Rattle.plain_rows.specs.Whole.{Whole}
+use Rattle.machine_parts.specs.Whole.{Whole}
 use Rattle.input_source.specs.Words.{parsed, IsNextWord}
 use Rattle.input_source.proofs.WordLaw.{word_law}
 use Rattle.source_words.specs.declared.modes.Mode.TheVariants.{Outside}

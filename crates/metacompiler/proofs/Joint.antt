@@ -17,10 +17,10 @@ use Rattle.dictionary.specs.Search.{Found, Nowhere, sought}
 use Rattle.compiling_words.specs.Code.{literal_code}
 use Rattle.number_text.specs.Base.{has_base}
 use Rattle.number_text.specs.Numbers.{is_number, is_double, number_value}
-use Rattle.plain_rows.specs.Whole.{Whole}
-use Rattle.plain_rows.specs.Row.{After}
-use Rattle.plain_rows.specs.declared.parts.Outcome.TheVariants.{Ask}
-use Rattle.plain_rows.specs.declared.parts.Request.TheVariants.{Read}
+use Rattle.machine_parts.specs.Whole.{Whole}
+use Rattle.machine_parts.specs.Row.{After}
+use Rattle.machine_parts.specs.declared.parts.Outcome.TheVariants.{Ask}
+use Rattle.machine_parts.specs.declared.parts.Request.TheVariants.{Read}
 use Rattle.input_source.specs.declared.words.Stream.{Stream}
 use Rattle.input_source.specs.declared.words.Word.{Word}
 use Rattle.input_source.specs.Streams.{stream_of, stream_at, stream_size}

@@ -2,9 +2,9 @@
 use Rattle.std.proofs.Common.{◌≡◌, ℕ, zero, suc, ◌+◌, refl, arith, Bool, true, false, sym, ◌∙◌, inl, inr, ◌⊎◌, [], if◌then◌else◌}
 use Rattle.std.specs.Prelude.{◌==◌}
 use Rattle.block_buffers.specs.Disks.{Disk}
-use Rattle.plain_rows.specs.Whole.{Whole}
-use Rattle.plain_rows.specs.declared.parts.Request.{Request}
-use Rattle.plain_rows.specs.declared.parts.Request.TheVariants as request
+use Rattle.machine_parts.specs.Whole.{Whole}
+use Rattle.machine_parts.specs.declared.parts.Request.{Request}
+use Rattle.machine_parts.specs.declared.parts.Request.TheVariants as request
 use Rattle.machine.specs.declared.act.Cause.TheVariants as cause
 use Rattle.machine.specs.declared.act.Event.{Event}
 use Rattle.machine.specs.declared.act.Event.TheVariants as event

@@ -14,7 +14,7 @@ use Rattle.block_buffers.proofs.Kept.{are_started, length-start}
 use Rattle.block_buffers.specs.Entries.{holds, has_updated, start as start_buffers}
 use Rattle.dictionary.specs.Search.{head_of}
 use Rattle.image_loader.specs.Files.{Contents}
-use Rattle.plain_rows.specs.Whole.{Whole}
+use Rattle.machine_parts.specs.Whole.{Whole}
 use Rattle.machine.specs.State.{start}
 use Rattle.source_words.specs.declared.modes.Mode.TheVariants.{Outside}
 use Rattle.source_words.specs.Words.{SourceWord, words_of_screens}

@@ -1,7 +1,7 @@
 -- A body that the machine reads, word by word, over screens.
 use Rattle.std.specs.Prelude.{◌≡◌, ◌≤◌, ◌+◌, ◌==◌, ◌++◌, ◌∷◌, [], ℕ, true, false, List, length, Some}
 use Rattle.block_buffers.specs.Disks.{Disk, block_at}
-use Rattle.plain_rows.specs.Whole.{Whole}
+use Rattle.machine_parts.specs.Whole.{Whole}
 use Rattle.colon_bodies.specs.declared.words.Half.{Half}
 use Rattle.colon_bodies.specs.Tokens.{Token, SEMI, AreShort, laid}
 use Rattle.colon_bodies.specs.Tree.{Body as Tree, Definition, all_depth}

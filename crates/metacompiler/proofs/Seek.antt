@@ -13,10 +13,10 @@ use Rattle.block_buffers.specs.Entries.{holds, has_updated, victim, address_of, 
 use Rattle.block_buffers.proofs.Kept.{are_assigned, length-assigned}
 use Rattle.dictionary.specs.Header.{compilation_address, is_immediate}
 use Rattle.dictionary.specs.Search.{Found, sought}
-use Rattle.plain_rows.specs.Whole.{Whole}
-use Rattle.plain_rows.specs.Row.{After, done}
-use Rattle.plain_rows.specs.declared.parts.Outcome.TheVariants.{Done}
-use Rattle.plain_rows.specs.declared.parts.Request.TheVariants.{Read}
+use Rattle.machine_parts.specs.Whole.{Whole}
+use Rattle.machine_parts.specs.Row.{After, done}
+use Rattle.machine_parts.specs.declared.parts.Outcome.TheVariants.{Done}
+use Rattle.machine_parts.specs.declared.parts.Request.TheVariants.{Read}
 use Rattle.input_source.specs.declared.words.Stream.{Stream}
 use Rattle.input_source.specs.declared.words.Word.{Word}
 use Rattle.input_source.specs.Words.{parsed, parsed_in, IsTaken, IsNextWord}

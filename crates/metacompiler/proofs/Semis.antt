@@ -12,8 +12,8 @@ use Rattle.compiling_words.specs.Code.{runtime}
 use Rattle.compiling_words.specs.Laying.{laid}
 use Rattle.dictionary.specs.Newest.{newest_count, revealed}
 use Rattle.compiling_words.specs.Definitions.{begun, ended}
-use Rattle.plain_rows.specs.Whole.{Whole}
-use Rattle.plain_rows.specs.declared.parts.Outcome.TheVariants.{Done}
+use Rattle.machine_parts.specs.Whole.{Whole}
+use Rattle.machine_parts.specs.declared.parts.Outcome.TheVariants.{Done}
 use Rattle.primitives.specs.Table.{row}
 use Rattle.colon_bodies.specs.declared.words.Half.{Half}
 use Rattle.colon_bodies.specs.Tree.{Body as Tree, Definition}

@@ -3,9 +3,9 @@ use Rattle.std.proofs.Common.{◌≡◌, ℕ, suc, ◌+◌, ◌<◌, ◌≤◌, 
 use Rattle.std.specs.Prelude.{nat_lt, ◌==◌}
 use Rattle.block_buffers.specs.Disks.{Disk, succeeds, block_at, called}
 use Rattle.block_buffers.specs.Entries.{address_of, victim, assigned}
-use Rattle.plain_rows.specs.Whole.{Whole}
-use Rattle.plain_rows.specs.declared.parts.Outcome.TheVariants.{Done}
-use Rattle.plain_rows.specs.declared.parts.Request.TheVariants.{Read}
+use Rattle.machine_parts.specs.Whole.{Whole}
+use Rattle.machine_parts.specs.declared.parts.Outcome.TheVariants.{Done}
+use Rattle.machine_parts.specs.declared.parts.Request.TheVariants.{Read}
 use Rattle.primitives.specs.Table.{row}
 use Rattle.cells.specs.Cell.{wrap}
 use Rattle.memory.specs.Bytes.{cell, with_page}

@@ -8,9 +8,9 @@ use Rattle.memory.proofs.Same.{bytes_by}
 use Rattle.block_buffers.specs.Disks.{Disk, block_at}
 use Rattle.block_buffers.specs.Entries.{address_of, slot_of}
 use Rattle.compiling_words.specs.Laying.{laid}
-use Rattle.plain_rows.specs.Whole.{Whole}
-use Rattle.plain_rows.specs.Row.{room}
-use Rattle.plain_rows.specs.declared.parts.Outcome.TheVariants.{Done}
+use Rattle.machine_parts.specs.Whole.{Whole}
+use Rattle.machine_parts.specs.Row.{room}
+use Rattle.machine_parts.specs.declared.parts.Outcome.TheVariants.{Done}
 use Rattle.input_source.specs.declared.words.Word.{Word}
 use Rattle.primitives.specs.DictionaryRows.{leaves_past}
 use Rattle.primitives.specs.Interpret.{compiles_past}

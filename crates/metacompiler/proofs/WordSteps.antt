@@ -12,9 +12,9 @@ use Rattle.dictionary.specs.Search.{Found, Nowhere, sought, sought_from}
 use Rattle.compiling_words.specs.Code.{runtime, literal_code, text_code}
 use Rattle.compiling_words.specs.Laying.{laid}
 use Rattle.number_text.specs.Numbers.{is_number, is_double, number_value}
-use Rattle.plain_rows.specs.Whole.{Whole}
-use Rattle.plain_rows.specs.Row.{After, needs, done, has_room}
-use Rattle.plain_rows.specs.declared.parts.Outcome.TheVariants.{Done}
+use Rattle.machine_parts.specs.Whole.{Whole}
+use Rattle.machine_parts.specs.Row.{After, needs, done, has_room}
+use Rattle.machine_parts.specs.declared.parts.Outcome.TheVariants.{Done}
 use Rattle.input_source.specs.declared.words.Stream.{Stream}
 use Rattle.input_source.specs.declared.words.Word.{Word}
 use Rattle.input_source.specs.Words.{parsed, parsed_in, bytes_in, bytes_of}

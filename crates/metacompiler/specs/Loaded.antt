@@ -5,8 +5,8 @@ use Rattle.dictionary.specs.Search.{Sought, Found, Nowhere, TooLong, sought, by_
 use Rattle.image_loader.specs.Files.{Contents}
 use Rattle.memory.specs.Bytes.{byte, cell, put_cell}
 use Rattle.memory.specs.declared.system.TheConstants.{STATE, DP, BLK, TO_IN, CONTEXT}
-use Rattle.plain_rows.specs.Whole.{Whole}
-use Rattle.plain_rows.specs.declared.faults.TheConstants.{BLOCK_ZERO}
+use Rattle.machine_parts.specs.Whole.{Whole}
+use Rattle.machine_parts.specs.declared.faults.TheConstants.{BLOCK_ZERO}
 use Rattle.machine.specs.State.{start}
 use Rattle.machine.specs.Entering.{can_save, saved}
 use Rattle.metacompiler.specs.Rounds.{Stop, Ended, Out, screens}

@@ -1,9 +1,9 @@
 -- One round, and the rounds of screens, by what the machine and its device tell, and by moves.
 use Rattle.std.specs.Prelude.{◌≡◌, ℕ, None, Some, Option}
 use Rattle.block_buffers.specs.Disks.{Disk}
-use Rattle.plain_rows.specs.Whole.{Whole}
-use Rattle.plain_rows.specs.declared.parts.Request.{Request}
-use Rattle.plain_rows.specs.declared.parts.Request.TheVariants.{Read, Write}
+use Rattle.machine_parts.specs.Whole.{Whole}
+use Rattle.machine_parts.specs.declared.parts.Request.{Request}
+use Rattle.machine_parts.specs.declared.parts.Request.TheVariants.{Read, Write}
 use Rattle.machine.specs.State.{State}
 use Rattle.machine.specs.Tick.{Runs, ticked}
 use Rattle.metacompiler.specs.Rounds.{Stop, Ended, Asked, Out, out, by_request, by_tick, rounds, screens}

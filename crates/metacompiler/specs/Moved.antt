@@ -2,8 +2,8 @@
 use Rattle.std.specs.Prelude.{◌≡◌, ◌<◌, ℕ, zero, suc, ◌+◌, ◌-◌, ◌==◌, ◌&&◌, ◌⊎◌, nat_le, if◌then◌else◌, Bool, true, false, IsFalse, List, [], ◌∷◌, ◌++◌, Option, None, MatchOption, Result, Ok, Err}
 use Rattle.image_loader.specs.Files.{Contents}
 use Rattle.memory.specs.Bytes.{front_put, zeros}
-use Rattle.plain_rows.specs.declared.faults.TheConstants.{BLOCK_ZERO}
-use Rattle.plain_rows.specs.declared.parts.Request.TheVariants.{Read, Write}
+use Rattle.machine_parts.specs.declared.faults.TheConstants.{BLOCK_ZERO}
+use Rattle.machine_parts.specs.declared.parts.Request.TheVariants.{Read, Write}
 use Rattle.machine.specs.declared.act.Event.{Event}
 use Rattle.machine.specs.declared.act.Event.TheVariants as event
 use Rattle.machine.specs.State.{State, start}

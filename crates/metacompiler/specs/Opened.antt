@@ -4,7 +4,7 @@ use Rattle.memory.specs.Bytes.{byte, cell}
 use Rattle.memory.specs.declared.limit.TheConstants.{GREATEST_LIMIT}
 use Rattle.dictionary.proofs.Fronted.{Fronted}
 use Rattle.block_buffers.specs.Disks.{Disk}
-use Rattle.plain_rows.specs.Whole.{Whole}
+use Rattle.machine_parts.specs.Whole.{Whole}
 use Rattle.colon_bodies.specs.declared.words.Half.{Half}
 use Rattle.colon_bodies.specs.Tree.{Body}
 use Rattle.colon_bodies.specs.Open.{Outer, open_size}

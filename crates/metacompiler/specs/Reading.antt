@@ -5,7 +5,7 @@ use Rattle.input_source.specs.declared.words.Word.{Word}
 use Rattle.input_source.specs.declared.words.Stream.{Stream}
 use Rattle.input_source.specs.Words.{word_at, bytes_of}
 use Rattle.memory.specs.Bytes.{IsCount, cell, bytes}
-use Rattle.plain_rows.specs.Whole.{Whole}
+use Rattle.machine_parts.specs.Whole.{Whole}
 
 -- screen b is in a buffer, and was referenced last; its text is read from p on
 pub record Reading (u : Whole) (b p : ℕ) (text : List ℕ) : Type 0 where

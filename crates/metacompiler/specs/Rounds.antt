@@ -3,9 +3,9 @@ use Rattle.std.specs.Prelude.{ℕ, zero, suc, ◌+◌, ◌==◌, ◌≡◌, List
 use Rattle.block_buffers.specs.Disks.{Disk}
 use Rattle.memory.specs.Bytes.{put_cell}
 use Rattle.memory.specs.declared.system.TheConstants.{TO_IN, BLK}
-use Rattle.plain_rows.specs.Whole.{Whole}
-use Rattle.plain_rows.specs.declared.parts.Request.{Request}
-use Rattle.plain_rows.specs.declared.parts.Request.TheVariants.{Read, Write}
+use Rattle.machine_parts.specs.Whole.{Whole}
+use Rattle.machine_parts.specs.declared.parts.Request.{Request}
+use Rattle.machine_parts.specs.declared.parts.Request.TheVariants.{Read, Write}
 use Rattle.machine.specs.declared.act.Cause.TheVariants as cause
 use Rattle.machine.specs.declared.act.Event.{Event}
 use Rattle.machine.specs.declared.act.Event.TheVariants as event

@@ -3,7 +3,7 @@ use Rattle.std.specs.Prelude.{◌≡◌, ◌≢◌, ◌≤◌, ◌<◌, ◌+◌,
 use Rattle.memory.specs.Bytes.{byte, cell, limit_of}
 use Rattle.block_buffers.specs.Disks.{Disk, next_fails, block_at}
 use Rattle.block_buffers.specs.Entries.{holds, has_updated, AreBuffers}
-use Rattle.plain_rows.specs.Whole.{Whole}
+use Rattle.machine_parts.specs.Whole.{Whole}
 use Rattle.source_words.specs.declared.modes.Mode.{Mode}
 use Rattle.source_words.specs.Words.{SourceWord, words_at, after_words, words_of_screens}
 use Rattle.metacompiler.specs.Loop.{Words}

@@ -2,8 +2,8 @@
 use Rattle.std.specs.Prelude.{◌≡◌, ◌≤◌, ◌<◌, ℕ, ◌+◌, ◌∷◌, List, [], length, true, nat_lt}
 use Rattle.memory.specs.Bytes.{cell}
 use Rattle.block_buffers.specs.Disks.{Disk}
-use Rattle.plain_rows.specs.Whole.{Whole}
-use Rattle.plain_rows.specs.declared.parts.Outcome.TheVariants.{Done}
+use Rattle.machine_parts.specs.Whole.{Whole}
+use Rattle.machine_parts.specs.declared.parts.Outcome.TheVariants.{Done}
 use Rattle.primitives.specs.Table.{row}
 use Rattle.metacompiler.specs.Loop.{Words, Thread}
 use Rattle.metacompiler.specs.Rounds.{Goes, at, out, rounds, Ended}

@@ -15,8 +15,8 @@ use block_buffers::Device;
 use dictionary::find;
 use image_loader::Image;
 use inner_interpreter::{Machine, SaveRefused};
+use machine_parts::faults::BLOCK_ZERO;
 use memory::system::{BLK, STATE, TO_IN};
-use plain_rows::faults::BLOCK_ZERO;
 use std::alloc::Global;
 use thiserror::Error;
 

@@ -10,7 +10,7 @@ ghost use Rattle.metacompiler.specs.Making.{IsSettled, IsSettledBy, IsRound, IsL
 
 use block_buffers::Device;
 use inner_interpreter::{Cause, Event, Machine, answer_read, answer_write};
-use plain_rows::parts::Request;
+use machine_parts::parts::Request;
 
 /// Why the rounds of a screen stop.
 #[derive(Clone, Copy, Debug, PartialEq, Eq)]

@@ -1,9 +1,9 @@
 -- Plain rows: by the shape of each row.
 use Rattle.std.proofs.Common.{ℕ, List, Bool, refl, rules, if◌then◌else◌}
-use Rattle.plain_rows.specs.Whole.{Whole}
-use Rattle.plain_rows.specs.Row.{After, takes1, takes2, takes3, takes4, takes6, takes_r1, takes_r3, takes_r4, fault, room, room_r}
+use Rattle.machine_parts.specs.Whole.{Whole}
+use Rattle.machine_parts.specs.Row.{After, takes1, takes2, takes3, takes4, takes6, takes_r1, takes_r3, takes_r4, fault, room, room_r}
 use Rattle.plain_rows.specs.Plain.{IsPlain}
-use Rattle.plain_rows.proofs.Shapes.{by_if, by_room, by_room_r, by_takes1, by_takes2, by_takes3, by_takes4, by_takes6, by_takes_r1, by_takes_r3, by_takes_r4}
+use Rattle.machine_parts.proofs.Shapes.{by_if, by_room, by_room_r, by_takes1, by_takes2, by_takes3, by_takes4, by_takes6, by_takes_r1, by_takes_r3, by_takes_r4}
 use Rattle.plain_rows.specs.Table.{control_rows, control, stack_rows, stack, cell_rows, cells, double_rows, doubles, memory_rows, memory}
 use Rattle.plain_rows.proofs.Tables.{Each, by_rows}
 

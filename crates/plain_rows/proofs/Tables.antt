@@ -1,10 +1,10 @@
 -- What holds of each row of a table holds of the row of any number.
 use Rattle.std.proofs.Common.{◌≡◌, ◌≢◌, ◌∙◌, ℕ, zero, suc, ◌+◌, ◌<◌, ◌≤◌, ◌==◌, List, [], ◌∷◌, take, drop, length, Bool, true, false, refl, subst, sym, arith, if◌then◌else◌}
 use Rattle.std.proofs.lemmas.Bool.{eqb-true, eqb-false}
-use Rattle.plain_rows.specs.Whole.{Whole}
-use Rattle.plain_rows.specs.Row.{After, fault}
+use Rattle.machine_parts.specs.Whole.{Whole}
+use Rattle.machine_parts.specs.Row.{After, fault}
 use Rattle.plain_rows.specs.Table.{row_in}
-use Rattle.plain_rows.specs.declared.faults.TheConstants.{UNKNOWN_CODE}
+use Rattle.machine_parts.specs.declared.faults.TheConstants.{UNKNOWN_CODE}
 
 -- P of each row, with its number
 unfoldable pub Each : (ℕ → After → Type 0) → List (ℕ × (Whole → After)) → Whole → Type 0

@@ -1,5 +1,3 @@
-pub mod Whole
-pub mod Row
 pub mod Control
 pub mod Stack
 pub mod Cell

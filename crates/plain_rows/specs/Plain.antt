@@ -1,8 +1,8 @@
 -- What rows do that need nothing but memory and stacks.
 use Rattle.std.specs.Prelude.{◌≡◌}
-use Rattle.plain_rows.specs.Whole.{Whole}
-use Rattle.plain_rows.specs.Row.{After}
-use Rattle.plain_rows.specs.declared.parts.Outcome.TheVariants.{Fault, Abort, Ask}
+use Rattle.machine_parts.specs.Whole.{Whole}
+use Rattle.machine_parts.specs.Row.{After}
+use Rattle.machine_parts.specs.declared.parts.Outcome.TheVariants.{Fault, Abort, Ask}
 
 -- a plain row asks nothing and leaves the buffers as they are; where it ends with a fault or with an abort, all is as it
 -- was

@@ -1,16 +1,16 @@
 //! Rows 80 to 90: doubles.
 
-#![tactic(auto, using(crate::proofs::Takes::takes))]
+#![tactic(auto, using(machine_parts::proofs::Takes::takes))]
 
 ghost use Rattle.std.specs.Prelude.{◌≡◌, ◌≤◌, length, drop};
-ghost use Rattle.plain_rows.specs.Row.{leaves, double, ◌▸▸◌};
+ghost use Rattle.machine_parts.specs.Row.{leaves, double, ◌▸▸◌};
 ghost use Rattle.plain_rows.specs.Double.{d_magnitude, d_halved, d_least, d_greatest, d_plus, d_minus, d_negate, d_absolute, d_two_slash, d_min, d_max, d_equals, d_zero_equals, d_less, du_less};
 
 use crate::cell::flag;
 use crate::ending::{from_one, from_two};
-use crate::faults::DATA_UNDERFLOW;
-use crate::leaves;
-use crate::parts::{Outcome, Parts};
+use machine_parts::faults::DATA_UNDERFLOW;
+use machine_parts::leaves;
+use machine_parts::parts::{Outcome, Parts};
 
 /// The double of a low and a high cell.
 pub fn double_of(low: u16, high: u16) -> u32

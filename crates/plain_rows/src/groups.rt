@@ -3,9 +3,9 @@
 ghost use Rattle.std.specs.Prelude.{◌≡◌};
 ghost use Rattle.plain_rows.specs.Table.{control, stack, cells, memory, doubles};
 
-use crate::faults::UNKNOWN_CODE;
-use crate::parts::{Outcome, Parts};
 use crate::{cell, control, double, memory_rows, stack};
+use machine_parts::faults::UNKNOWN_CODE;
+use machine_parts::parts::{Outcome, Parts};
 
 /// Rows 1 to 27.
 #[tactic(auto, unfolding(crate::specs::Table::row_in, crate::specs::Table::control))]

@@ -5,15 +5,11 @@ mod cell;
 mod control;
 mod double;
 mod ending;
-pub mod faults;
 mod groups;
 pub mod laws;
 mod memory_rows;
-pub mod parts;
 mod stack;
-mod writing;
 
 pub use cell::{flag, greater_of, halved, lesser, magnitude};
 pub use double::double_of;
-pub use ending::leave;
 pub use groups::{cell_row, control_row, double_row, memory_row, stack_row};

@@ -1,13 +1,13 @@
 //! Rows 96 to 107: memory.
 
-#![tactic(auto, using(crate::proofs::Takes::takes))]
+#![tactic(auto, using(machine_parts::proofs::Takes::takes))]
 
 ghost use Rattle.std.specs.Prelude.{◌≡◌};
 ghost use Rattle.plain_rows.specs.MemoryRows.{fetch, store, plus_store, two_store, cmove, dash_trailing, trimmed, c_fetch, c_store, two_fetch, cmove_down, fill, count};
 
-use crate::faults::DATA_UNDERFLOW;
-use crate::leaves;
-use crate::parts::{Outcome, Parts};
+use machine_parts::faults::DATA_UNDERFLOW;
+use machine_parts::leaves;
+use machine_parts::parts::{Outcome, Parts};
 use memory::Memory;
 
 #[tactic(auto, using(crate::proofs::Trimmed::trimmed_none, crate::proofs::Trimmed::trimmed_more))]

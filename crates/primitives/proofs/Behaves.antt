@@ -8,14 +8,14 @@ use Rattle.input_source.specs.declared.words.Stream.{Stream}
 use Rattle.input_source.specs.Streams.{stream_of}
 use Rattle.memory.specs.Bytes.{cell}
 use Rattle.memory.specs.declared.system.TheConstants.{BLK}
-use Rattle.plain_rows.specs.Whole.{Whole}
-use Rattle.plain_rows.specs.Row.{After, takes1, takes2, takes3, fault, room}
+use Rattle.machine_parts.specs.Whole.{Whole}
+use Rattle.machine_parts.specs.Row.{After, takes1, takes2, takes3, fault, room}
 use Rattle.plain_rows.specs.Plain.{IsPlain}
-use Rattle.plain_rows.specs.declared.parts.Outcome.{Outcome}
-use Rattle.plain_rows.specs.declared.parts.Outcome.TheVariants as outcome
-use Rattle.plain_rows.specs.declared.parts.Request.TheVariants as request
-use Rattle.plain_rows.specs.declared.parts.Span.{Span}
-use Rattle.plain_rows.proofs.Shapes.{by_if, by_room, by_takes1, by_takes2, by_takes3}
+use Rattle.machine_parts.specs.declared.parts.Outcome.{Outcome}
+use Rattle.machine_parts.specs.declared.parts.Outcome.TheVariants as outcome
+use Rattle.machine_parts.specs.declared.parts.Request.TheVariants as request
+use Rattle.machine_parts.specs.declared.parts.Span.{Span}
+use Rattle.machine_parts.proofs.Shapes.{by_if, by_room, by_takes1, by_takes2, by_takes3}
 use Rattle.primitives.specs.Blocks.{has_block, without_block, write_of, with_block, fetches}
 use Rattle.primitives.specs.Devices.{saves_victim, saves}
 use Rattle.primitives.specs.Names.{searches, forgets}

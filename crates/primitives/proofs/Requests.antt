@@ -8,11 +8,11 @@ use Rattle.block_buffers.proofs.Blocks.{holds_assigned, touched_block}
 use Rattle.block_buffers.proofs.Kept.{are_unmarked}
 use Rattle.memory.specs.Bytes.{cell}
 use Rattle.memory.specs.declared.system.TheConstants.{BLK, SCR}
-use Rattle.plain_rows.specs.Whole.{Whole}
-use Rattle.plain_rows.specs.Row.{After}
-use Rattle.plain_rows.specs.declared.parts.Outcome.{Outcome}
-use Rattle.plain_rows.specs.declared.parts.Outcome.TheVariants as outcome
-use Rattle.plain_rows.specs.declared.parts.Request.TheVariants as request
+use Rattle.machine_parts.specs.Whole.{Whole}
+use Rattle.machine_parts.specs.Row.{After}
+use Rattle.machine_parts.specs.declared.parts.Outcome.{Outcome}
+use Rattle.machine_parts.specs.declared.parts.Outcome.TheVariants as outcome
+use Rattle.machine_parts.specs.declared.parts.Request.TheVariants as request
 use Rattle.primitives.specs.Blocks.{has_block, without_block, write_of, with_block}
 use Rattle.primitives.specs.Needs.{reads_stream, is_about_screen, stream_needs, needed, most_requests}
 use Rattle.primitives.proofs.Behaves.{AreOrderly, asks_device, missing, given, saved, orderly_moved}

@@ -4,10 +4,10 @@ use Rattle.std.proofs.lemmas.Bool.{cases_lt}
 use Rattle.block_buffers.specs.Entries.{address_of, holds, slot_of, victim, assigned, unassigned}
 use Rattle.input_source.specs.declared.words.Word.{Word}
 use Rattle.memory.specs.Bytes.{Write}
-use Rattle.plain_rows.specs.Whole.{Whole}
-use Rattle.plain_rows.specs.Row.{After, done, fault, takes1}
-use Rattle.plain_rows.proofs.Shapes.{by_if, by_room_or, by_takes1}
-use Rattle.plain_rows.proofs.Takes.{takes2_none, takes2_deep}
+use Rattle.machine_parts.specs.Whole.{Whole}
+use Rattle.machine_parts.specs.Row.{After, done, fault, takes1}
+use Rattle.machine_parts.proofs.Shapes.{by_if, by_room_or, by_takes1}
+use Rattle.machine_parts.proofs.Takes.{takes2_none, takes2_deep}
 use Rattle.stacks.specs.Cells.{◌▸◌}
 use Rattle.plain_rows.proofs.Plain.{plain_control, plain_stack, plain_cells, plain_doubles, plain_memory}
 use Rattle.primitives.specs.Blocks.{with_block, fetches}

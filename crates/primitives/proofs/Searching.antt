@@ -4,8 +4,8 @@ use Rattle.std.specs.Prelude.{Result, Ok, Err}
 use Rattle.dictionary.specs.declared.fault.ForgetFault.{ForgetFault}
 use Rattle.dictionary.specs.declared.fault.ForgetFault.TheVariants.{NameLength, NotFound, ChainTooLong}
 use Rattle.dictionary.specs.Search.{Sought, Found, Nowhere, TooLong}
-use Rattle.plain_rows.specs.Whole.{Whole}
-use Rattle.plain_rows.specs.Row.{After, fault}
+use Rattle.machine_parts.specs.Whole.{Whole}
+use Rattle.machine_parts.specs.Row.{After, fault}
 use Rattle.primitives.specs.Names.{searches, forgets}
 
 pub searches_found : (s : Whole) (x : Sought) (l : ℕ) (nowhere : After) (found : ℕ → After) → x ≡ Found l → searches s x nowhere found ≡ found l

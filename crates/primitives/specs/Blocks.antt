@@ -1,11 +1,11 @@
 -- A block that a row needs.
 use Rattle.std.specs.Prelude.{◌≡◌, ℕ, ◌<◌, length, nat_lt, ◌&&◌, Bool, if◌then◌else◌, unwrap_or, IsTrue, IsFalse, Result, Ok, Err}
-use Rattle.plain_rows.specs.Whole.{Whole}
-use Rattle.plain_rows.specs.declared.parts.Outcome.{Outcome}
-use Rattle.plain_rows.specs.declared.parts.Outcome.TheVariants.{Fault, Ask}
-use Rattle.plain_rows.specs.declared.parts.Request.TheVariants.{Read, Write}
-use Rattle.plain_rows.specs.declared.faults.TheConstants.{NO_BLOCK}
-use Rattle.plain_rows.specs.Row.{After}
+use Rattle.machine_parts.specs.Whole.{Whole}
+use Rattle.machine_parts.specs.declared.parts.Outcome.{Outcome}
+use Rattle.machine_parts.specs.declared.parts.Outcome.TheVariants.{Fault, Ask}
+use Rattle.machine_parts.specs.declared.parts.Request.TheVariants.{Read, Write}
+use Rattle.machine_parts.specs.declared.faults.TheConstants.{NO_BLOCK}
+use Rattle.machine_parts.specs.Row.{After}
 use Rattle.block_buffers.specs.declared.entry.Entry.{Entry}
 use Rattle.block_buffers.specs.Entries.{holds, slot_of, victim, moved_front}
 

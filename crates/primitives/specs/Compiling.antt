@@ -6,10 +6,10 @@ use Rattle.compiling_words.specs.Definitions.{ended}
 use Rattle.compiling_words.specs.Laying.{laid, can_allot, allotted, resolved}
 use Rattle.memory.specs.Bytes.{cell, put_cell, cell_bytes}
 use Rattle.memory.specs.declared.system.TheConstants.{STATE, DP}
-use Rattle.plain_rows.specs.declared.faults.TheConstants.{DICTIONARY_FULL}
+use Rattle.machine_parts.specs.declared.faults.TheConstants.{DICTIONARY_FULL}
 use Rattle.stacks.specs.Cells.{◌▸◌}
-use Rattle.plain_rows.specs.Whole.{Whole}
-use Rattle.plain_rows.specs.Row.{After, done, takes1, takes2, needs, leaves, room, has_room}
+use Rattle.machine_parts.specs.Whole.{Whole}
+use Rattle.machine_parts.specs.Row.{After, done, takes1, takes2, needs, leaves, room, has_room}
 
 -- lays the bytes, and leaves d on the data stack
 unfoldable pub compiles : Whole → List ℕ → List ℕ → After

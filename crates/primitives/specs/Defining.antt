@@ -6,9 +6,9 @@ use Rattle.dictionary.specs.Laying.{laid_at}
 use Rattle.input_source.specs.declared.words.Word.{Word}
 use Rattle.memory.specs.Bytes.{cell, put_cell, cell_bytes, PutCell}
 use Rattle.memory.specs.declared.system.TheConstants.{STATE, TO_IN, DP, CONTEXT, CURRENT}
-use Rattle.plain_rows.specs.Whole.{Whole}
-use Rattle.plain_rows.specs.Row.{After, done, takes1, needs, has_room}
-use Rattle.plain_rows.specs.declared.faults.TheConstants.{DICTIONARY_FULL, BAD_LENGTH}
+use Rattle.machine_parts.specs.Whole.{Whole}
+use Rattle.machine_parts.specs.Row.{After, done, takes1, needs, has_room}
+use Rattle.machine_parts.specs.declared.faults.TheConstants.{DICTIONARY_FULL, BAD_LENGTH}
 use Rattle.primitives.specs.DictionaryRows.{creates}
 use Rattle.primitives.specs.Names.{reads_name, parses, reads_word}
 

@@ -1,9 +1,9 @@
 use Rattle.std.specs.Prelude.{◌%◌, ◌==◌, nat_lt, if◌then◌else◌}
-use Rattle.plain_rows.specs.Whole.{Whole}
-use Rattle.plain_rows.specs.declared.parts.Outcome.TheVariants.{Byte, Show, Ask}
-use Rattle.plain_rows.specs.declared.parts.Request.TheVariants.{Key, Line}
-use Rattle.plain_rows.specs.Row.{After, done, takes1, takes2, room, needs}
-use Rattle.plain_rows.specs.declared.faults.TheConstants.{NO_BLOCK}
+use Rattle.machine_parts.specs.Whole.{Whole}
+use Rattle.machine_parts.specs.declared.parts.Outcome.TheVariants.{Byte, Show, Ask}
+use Rattle.machine_parts.specs.declared.parts.Request.TheVariants.{Key, Line}
+use Rattle.machine_parts.specs.Row.{After, done, takes1, takes2, room, needs}
+use Rattle.machine_parts.specs.declared.faults.TheConstants.{NO_BLOCK}
 use Rattle.block_buffers.specs.Entries.{address_of, holds, slot_of, victim, assigned, front_marked, has_updated, first_updated, unassigned}
 use Rattle.memory.specs.Bytes.{put_cell}
 use Rattle.memory.specs.declared.system.TheConstants.{SPAN}

@@ -10,9 +10,9 @@ use Rattle.input_source.specs.declared.words.Word.{Word}
 use Rattle.memory.specs.Bytes.{cell, put_cell, Write, PutCell, written}
 use Rattle.memory.specs.declared.system.TheConstants.{TO_IN, DP, CONTEXT, CURRENT, VOC_LINK}
 use Rattle.number_text.specs.Picture.{pad}
-use Rattle.plain_rows.specs.Whole.{Whole}
-use Rattle.plain_rows.specs.declared.parts.Outcome.{Outcome}
-use Rattle.plain_rows.specs.Row.{After, done, takes1, leaves, room}
+use Rattle.machine_parts.specs.Whole.{Whole}
+use Rattle.machine_parts.specs.declared.parts.Outcome.{Outcome}
+use Rattle.machine_parts.specs.Row.{After, done, takes1, leaves, room}
 use Rattle.primitives.specs.Names.{counted_string, name_word, name_in, reads_name, searches, reads_word, forgets, admits_header}
 use Rattle.stacks.specs.Cells.{◌▸◌}
 

@@ -6,8 +6,8 @@ use Rattle.block_buffers.specs.Screens.{blank_line, blank_screen, line_start, wi
 use Rattle.input_source.specs.declared.words.Stream.{Stream}
 use Rattle.memory.specs.Bytes.{bytes, cell, front_put, page, put_cell, with_page}
 use Rattle.memory.specs.declared.system.TheConstants.{TO_IN, SCR}
-use Rattle.plain_rows.specs.Whole.{Whole}
-use Rattle.plain_rows.specs.Row.{After, done, takes1, leaves}
+use Rattle.machine_parts.specs.Whole.{Whole}
+use Rattle.machine_parts.specs.Row.{After, done, takes1, leaves}
 use Rattle.primitives.specs.Blocks.{fetches}
 use Rattle.primitives.specs.declared.editor.Edit.{Edit}
 use Rattle.primitives.specs.declared.editor.Edit.TheVariants.{Put, Insert}

@@ -8,9 +8,9 @@ use Rattle.memory.specs.Bytes.{cell, put_cell, cell_bytes}
 use Rattle.memory.specs.declared.system.TheConstants.{STATE, BASE, TO_IN, DP}
 use Rattle.number_text.specs.Base.{has_base}
 use Rattle.number_text.specs.Numbers.{is_number, is_double, number_value}
-use Rattle.plain_rows.specs.Whole.{Whole}
-use Rattle.plain_rows.specs.Row.{After, done, needs, room, ◌▸▸◌, has_room}
-use Rattle.plain_rows.specs.declared.faults.TheConstants.{DICTIONARY_FULL, BAD_BASE, NOT_FOUND}
+use Rattle.machine_parts.specs.Whole.{Whole}
+use Rattle.machine_parts.specs.Row.{After, done, needs, room, ◌▸▸◌, has_room}
+use Rattle.machine_parts.specs.declared.faults.TheConstants.{DICTIONARY_FULL, BAD_BASE, NOT_FOUND}
 use Rattle.primitives.specs.DictionaryRows.{leaves_past}
 use Rattle.primitives.specs.Names.{reads_name, searches}
 use Rattle.stacks.specs.Cells.{◌▸◌}

@@ -9,10 +9,10 @@ use Rattle.input_source.specs.declared.words.Stream.{Stream}
 use Rattle.input_source.specs.declared.words.Word.{Word}
 use Rattle.input_source.specs.Words.{word_in, parsed_in, bytes_in}
 use Rattle.memory.specs.Bytes.{byte, bytes}
-use Rattle.plain_rows.specs.Whole.{Whole}
-use Rattle.plain_rows.specs.declared.parts.Outcome.{Outcome}
-use Rattle.plain_rows.specs.Row.{After, fault, needs, has_room}
-use Rattle.plain_rows.specs.declared.faults.TheConstants.{DICTIONARY_FULL, CHAIN_TOO_LONG, NOT_FOUND, BAD_LENGTH}
+use Rattle.machine_parts.specs.Whole.{Whole}
+use Rattle.machine_parts.specs.declared.parts.Outcome.{Outcome}
+use Rattle.machine_parts.specs.Row.{After, fault, needs, has_room}
+use Rattle.machine_parts.specs.declared.faults.TheConstants.{DICTIONARY_FULL, CHAIN_TOO_LONG, NOT_FOUND, BAD_LENGTH}
 use Rattle.primitives.specs.Streams.{reads}
 
 -- the next word with delimiter 32, and its bytes

@@ -4,7 +4,7 @@ use Rattle.std.specs.List.{list_any}
 use Rattle.block_buffers.specs.Entries.{is_updated}
 use Rattle.memory.specs.Bytes.{cell}
 use Rattle.memory.specs.declared.system.TheConstants.{BLK, SCR}
-use Rattle.plain_rows.specs.Whole.{Whole}
+use Rattle.machine_parts.specs.Whole.{Whole}
 
 -- WORD ( .( ' (INTERPRET) CREATE FORGET VOCABULARY : ['] [COMPILE] ." ABORT" CONSTANT VARIABLE PUT INSERT read the input
 -- stream

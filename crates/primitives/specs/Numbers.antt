@@ -1,7 +1,7 @@
 use Rattle.std.specs.Prelude.{◌/◌, ◌%◌}
-use Rattle.plain_rows.specs.Whole.{Whole}
-use Rattle.plain_rows.specs.Row.{After, done, takes1, takes3, takes_double, leaves, needs, double, ◌▸▸◌}
-use Rattle.plain_rows.specs.declared.faults.TheConstants.{BAD_BASE}
+use Rattle.machine_parts.specs.Whole.{Whole}
+use Rattle.machine_parts.specs.Row.{After, done, takes1, takes3, takes_double, leaves, needs, double, ◌▸▸◌}
+use Rattle.machine_parts.specs.declared.faults.TheConstants.{BAD_BASE}
 use Rattle.stacks.specs.Cells.{◌▸◌}
 use Rattle.cells.specs.Cell.{difference}
 use Rattle.memory.specs.Bytes.{cell}

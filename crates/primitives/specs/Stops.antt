@@ -1,9 +1,9 @@
 -- What a row that stops leaves as it was.
 use Rattle.std.specs.Prelude.{◌≡◌}
 use Rattle.block_buffers.specs.Entries.{IsReordered}
-use Rattle.plain_rows.specs.Whole.{Whole}
-use Rattle.plain_rows.specs.Row.{After}
-use Rattle.plain_rows.specs.declared.parts.Outcome.TheVariants.{Fault, Abort, Ask}
+use Rattle.machine_parts.specs.Whole.{Whole}
+use Rattle.machine_parts.specs.Row.{After}
+use Rattle.machine_parts.specs.declared.parts.Outcome.TheVariants.{Fault, Abort, Ask}
 
 -- all but the order of the buffers is the same
 pub record Keeps (old new : Whole) : Type 0 where

@@ -10,11 +10,11 @@ use Rattle.input_source.specs.Words.{word_in, parsed_in}
 use Rattle.input_source.specs.Placing.{with_word}
 use Rattle.memory.specs.Bytes.{cell, put_cell}
 use Rattle.memory.specs.declared.system.TheConstants.{BLK, TO_IN, DP}
-use Rattle.plain_rows.specs.Whole.{Whole}
-use Rattle.plain_rows.specs.declared.parts.Outcome.{Outcome}
-use Rattle.plain_rows.specs.declared.parts.Outcome.TheVariants.{Show}
-use Rattle.plain_rows.specs.Row.{After, done, takes1, needs}
-use Rattle.plain_rows.specs.declared.faults.TheConstants.{BAD_LENGTH}
+use Rattle.machine_parts.specs.Whole.{Whole}
+use Rattle.machine_parts.specs.declared.parts.Outcome.{Outcome}
+use Rattle.machine_parts.specs.declared.parts.Outcome.TheVariants.{Show}
+use Rattle.machine_parts.specs.Row.{After, done, takes1, needs}
+use Rattle.machine_parts.specs.declared.faults.TheConstants.{BAD_LENGTH}
 use Rattle.stacks.specs.Cells.{◌▸◌}
 use Rattle.primitives.specs.Blocks.{has_block, without_block}
 

@@ -4,8 +4,8 @@ ghost use Rattle.std.specs.Prelude.{◌≡◌};
 ghost use Rattle.primitives.specs.Blocks.{IsFetched, write_of, without_block};
 
 use block_buffers::entry::Entry;
-use plain_rows::faults::NO_BLOCK;
-use plain_rows::parts::{Outcome, Parts, Request};
+use machine_parts::faults::NO_BLOCK;
+use machine_parts::parts::{Outcome, Parts, Request};
 
 /// References block `u`, and gives its slot; or says what stops the row, which is then unchanged: fault 7, or the
 /// request that comes first.

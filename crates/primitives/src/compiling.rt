@@ -1,20 +1,20 @@
 //! Rows 169 to 197: the words that lay code, but for those that take names or texts out of the stream.
 
-#![tactic(auto, using(plain_rows::proofs::Takes::takes, name_index::proofs::Writes::writes))]
+#![tactic(auto, using(machine_parts::proofs::Takes::takes, name_index::proofs::Writes::writes))]
 
 ghost use Rattle.std.specs.Prelude.{◌≡◌, ◌≤◌, ◌++◌, length, drop};
 ghost use Rattle.primitives.specs.Compiling.{compiles, resolves, ahead, semicolon, left_bracket, right_bracket, comma, c_comma, allot, literal, compile_does, if_row, else_row, then_row, begin, until, while_row, repeat, again, do_row, loop_row, plus_loop, mark_back, resolve_back, mark_forward, resolve_forward};
 
 use crate::writing::end_definition;
 use compiling_words::{Control, control_code, literal_code, runtime};
+use machine_parts::faults::{DATA_OVERFLOW, DATA_UNDERFLOW, DICTIONARY_FULL};
+use machine_parts::leaves;
+use machine_parts::parts::{Outcome, Parts};
 use memory::cell_bytes;
 use memory::system::{DP, STATE};
-use plain_rows::faults::{DATA_OVERFLOW, DATA_UNDERFLOW, DICTIONARY_FULL};
-use plain_rows::leaves;
-use plain_rows::parts::{Outcome, Parts};
 
 /// Lays bytes, and puts the cells `given`, the new top first, in place of the `taken` top cells.
-#[tactic(auto, unfolding(plain_rows::specs::Row::room, crate::specs::Compiling::compiles))]
+#[tactic(auto, unfolding(machine_parts::specs::Row::room, crate::specs::Compiling::compiles))]
 pub fn compile(parts: &mut Parts, bytes: &[u8], taken: usize, given: &[u16]) -> Outcome
     requires { taken ≤ length parts.old.values }
     ensures { (parts.new, result) ≡ compiles parts.old bytes.now (given.now ++ drop taken parts.old.values) }
@@ -31,7 +31,7 @@ pub fn compile(parts: &mut Parts, bytes: &[u8], taken: usize, given: &[u16]) -> 
 }
 
 /// The same, and then the cell at `a` is the new HERE.
-#[tactic(auto, unfolding(plain_rows::specs::Row::room, crate::specs::Compiling::resolves))]
+#[tactic(auto, unfolding(machine_parts::specs::Row::room, crate::specs::Compiling::resolves))]
 fn resolve(parts: &mut Parts, bytes: &[u8], a: u16, taken: usize, given: &[u16]) -> Outcome
     requires { taken ≤ length parts.old.values }
     ensures { (parts.new, result) ≡ resolves parts.old bytes.now a (given.now ++ drop taken parts.old.values) }

@@ -1,6 +1,6 @@
 //! Compiling rows that need the input stream: 168, 176, 177 and 190 to 193.
 
-#![tactic(auto, using(plain_rows::proofs::Takes::takes, crate::proofs::Searching::searching))]
+#![tactic(auto, using(machine_parts::proofs::Takes::takes, crate::proofs::Searching::searching))]
 
 ghost use Rattle.std.specs.Prelude.{◌≡◌};
 ghost use Rattle.primitives.specs.Defining.{colon, lays_past, bracket_tick, bracket_compile, quotes, dot_quote, abort_quote, constant, variable};
@@ -12,10 +12,10 @@ use crate::writing::lay_text;
 use compiling_words::{TextWord, literal_code, runtime_of};
 use dictionary::code_fields::{COLON, CONSTANT, VARIABLE};
 use input_source::{Word, parse_to, word_bytes};
+use machine_parts::faults::{BAD_LENGTH, DATA_UNDERFLOW, DICTIONARY_FULL};
+use machine_parts::parts::{Outcome, Parts};
 use memory::cell_bytes;
 use memory::system::{CONTEXT, CURRENT, DP, STATE};
-use plain_rows::faults::{BAD_LENGTH, DATA_UNDERFLOW, DICTIONARY_FULL};
-use plain_rows::parts::{Outcome, Parts};
 
 /// 168 `:` ( -- )
 #[tactic(auto, unfolding(memory::specs::Bytes::written))]

@@ -1,14 +1,14 @@
 //! Rows 112 to 121: blocks, keys, lines and showing bytes.
 
-#![tactic(auto, using(plain_rows::proofs::Takes::takes))]
+#![tactic(auto, using(machine_parts::proofs::Takes::takes))]
 
 ghost use Rattle.std.specs.Prelude.{◌≡◌};
 ghost use Rattle.primitives.specs.Devices.{block, buffer, update, save_buffers, flush, empty_buffers, key, expect, emit, type_out};
 
 use crate::blocks::{fetch, write_of};
+use machine_parts::faults::{DATA_OVERFLOW, DATA_UNDERFLOW, NO_BLOCK};
+use machine_parts::parts::{Outcome, Parts, Request, Span};
 use memory::system::SPAN;
-use plain_rows::faults::{DATA_OVERFLOW, DATA_UNDERFLOW, NO_BLOCK};
-use plain_rows::parts::{Outcome, Parts, Request, Span};
 
 /// 112 `BLOCK` ( u -- a )
 pub fn block(parts: &mut Parts) -> Outcome
@@ -29,7 +29,7 @@ pub fn block(parts: &mut Parts) -> Outcome
 }
 
 /// 113 `BUFFER` ( u -- a )
-#[tactic(auto, using(plain_rows::proofs::Takes::takes), unfolding(crate::specs::Devices::saves_victim))]
+#[tactic(auto, using(machine_parts::proofs::Takes::takes), unfolding(crate::specs::Devices::saves_victim))]
 pub fn buffer(parts: &mut Parts) -> Outcome
     ensures { (parts.new, result) ≡ buffer parts.old }
 {
@@ -99,7 +99,7 @@ pub fn empty_buffers(parts: &mut Parts) -> Outcome
 }
 
 /// 118 `KEY` ( -- c )
-#[tactic(auto, unfolding(plain_rows::specs::Row::room))]
+#[tactic(auto, unfolding(machine_parts::specs::Row::room))]
 pub fn key(parts: &mut Parts) -> Outcome
     ensures { (parts.new, result) ≡ key parts.old }
 {

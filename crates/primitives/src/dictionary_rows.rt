@@ -1,6 +1,6 @@
 //! Rows 147 to 157, but for (INTERPRET): names, new headers, vocabularies, FORGET.
 
-#![tactic(auto, using(plain_rows::proofs::Takes::takes, crate::proofs::Searching::searching))]
+#![tactic(auto, using(machine_parts::proofs::Takes::takes, crate::proofs::Searching::searching))]
 
 ghost use Rattle.std.specs.Prelude.{◌≡◌, ◌≤◌, [], ◌++◌, length, drop, false};
 ghost use Rattle.primitives.specs.DictionaryRows.{find, leaves_past, tick, creates, IsHeaderMade, create, immediate, forget, to_body, here, pad_row, vocabulary, definitions};
@@ -15,12 +15,12 @@ use dictionary::{
     set_immediate,
 };
 use input_source::{Stream, Word, next_word, word_bytes};
-use memory::system::{CONTEXT, CURRENT, DP, VOC_LINK};
-use plain_rows::faults::{
+use machine_parts::faults::{
     BAD_LENGTH, CHAIN_TOO_LONG, DATA_OVERFLOW, DATA_UNDERFLOW, DICTIONARY_FULL, NOT_FOUND,
 };
-use plain_rows::leaves;
-use plain_rows::parts::{Outcome, Parts};
+use machine_parts::leaves;
+use machine_parts::parts::{Outcome, Parts};
+use memory::system::{CONTEXT, CURRENT, DP, VOC_LINK};
 
 /// 147 `FIND` ( a -- a 0, w -1, w 1 )
 pub fn find(parts: &mut Parts) -> Outcome
@@ -45,7 +45,7 @@ pub fn find(parts: &mut Parts) -> Outcome
 }
 
 /// Leaves cells on the data stack, the first of them on top, and makes `>IN` the place behind a word.
-#[tactic(auto, unfolding(plain_rows::specs::Row::room, crate::specs::DictionaryRows::leaves_past))]
+#[tactic(auto, unfolding(machine_parts::specs::Row::room, crate::specs::DictionaryRows::leaves_past))]
 pub fn leave_past(parts: &mut Parts, word: Word, cells: &[u16]) -> Outcome
     ensures { (parts.new, result) ≡ leaves_past parts.old word (cells.now ++ parts.old.values) }
 {

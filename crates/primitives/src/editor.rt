@@ -1,6 +1,6 @@
 //! Rows 200 to 204: the line editor, on the screen that SCR names.
 
-#![tactic(auto, using(plain_rows::proofs::Takes::takes))]
+#![tactic(auto, using(machine_parts::proofs::Takes::takes))]
 
 ghost use Rattle.std.specs.Prelude.{◌≡◌, ◌<◌, ◌≤◌, ◌+◌, length};
 ghost use Rattle.block_buffers.specs.Entries.{address_of};
@@ -13,11 +13,11 @@ use crate::blocks::fetch;
 use crate::streams::open;
 use block_buffers::{BLOCK_SIZE, delete_line, insert_line, put_line};
 use input_source::{Stream, Word, word_bytes};
+use machine_parts::faults::DATA_UNDERFLOW;
+use machine_parts::leaves;
+use machine_parts::parts::{Outcome, Parts};
 use memory::Memory;
 use memory::system::{SCR, TO_IN};
-use plain_rows::faults::DATA_UNDERFLOW;
-use plain_rows::leaves;
-use plain_rows::parts::{Outcome, Parts};
 
 /// What a line's text does to the screen.
 #[derive(Clone, Copy)]

@@ -13,14 +13,14 @@ use crate::streams::open;
 use compiling_words::literal_code;
 use dictionary::{compilation_address, is_immediate};
 use input_source::{Stream, Word, next_word};
+use machine_parts::faults::{BAD_BASE, CHAIN_TOO_LONG, DATA_OVERFLOW, DICTIONARY_FULL, NOT_FOUND};
+use machine_parts::parts::{Outcome, Parts};
 use memory::system::{BASE, DP, STATE, TO_IN};
 use memory::{Memory, cell_bytes};
 use number_text::Number;
-use plain_rows::faults::{BAD_BASE, CHAIN_TOO_LONG, DATA_OVERFLOW, DICTIONARY_FULL, NOT_FOUND};
-use plain_rows::parts::{Outcome, Parts};
 
 /// Lays bytes, leaves -1, and makes `>IN` the place behind a word.
-#[tactic(auto, unfolding(plain_rows::specs::Row::room, crate::specs::Interpret::compiles_past))]
+#[tactic(auto, unfolding(machine_parts::specs::Row::room, crate::specs::Interpret::compiles_past))]
 fn compile_past(parts: &mut Parts, word: Word, bytes: &[u8]) -> Outcome
     ensures { (parts.new, result) ≡ compiles_past parts.old word bytes.now }
 {

@@ -2,7 +2,7 @@
 
 ghost use Rattle.std.specs.Prelude.{ℕ};
 ghost use Rattle.primitives.specs.Stops.{StopsKeeping};
-ghost use Rattle.plain_rows.specs.Whole.{Whole};
+ghost use Rattle.machine_parts.specs.Whole.{Whole};
 ghost use Rattle.primitives.specs.Table.{row};
 
 /// A row that ends with a fault, with an abort or with a request leaves memory, both stacks, `ip` and `pending` as

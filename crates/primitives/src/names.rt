@@ -13,11 +13,11 @@ use crate::streams::open;
 use crate::text::Text;
 use dictionary::{ChainTooLong, ForgetFault, compilation_address, forget_target};
 use input_source::{Stream, Word, next_word};
+use machine_parts::faults::{BAD_LENGTH, CHAIN_TOO_LONG, NOT_FOUND};
+use machine_parts::parts::{Outcome, Parts};
 use memory::Memory;
 use name_index::find_indexed;
 use number_text::{Number, number};
-use plain_rows::faults::{BAD_LENGTH, CHAIN_TOO_LONG, NOT_FOUND};
-use plain_rows::parts::{Outcome, Parts};
 
 /// The same of a name that goes on at address 0.
 #[inline(never)]

@@ -1,6 +1,6 @@
 //! Rows 128 to 134: pictures of numbers, and numbers that are read.
 
-#![tactic(auto, using(plain_rows::proofs::Takes::takes, crate::proofs::Beside::holding))]
+#![tactic(auto, using(machine_parts::proofs::Takes::takes, crate::proofs::Beside::holding))]
 
 ghost use Rattle.std.specs.Prelude.{◌≡◌};
 ghost use Rattle.cells.specs.Cell.{difference};
@@ -8,11 +8,12 @@ ghost use Rattle.memory.specs.Bytes.{cell};
 ghost use Rattle.memory.specs.declared.system.TheConstants.{HLD};
 ghost use Rattle.primitives.specs.Numbers.{open_picture, picture_digit, picture_digits, close_picture, hold, sign, convert};
 
+use machine_parts::faults::{BAD_BASE, DATA_UNDERFLOW};
+use machine_parts::leaves;
+use machine_parts::parts::{Outcome, Parts};
 use memory::Memory;
 use memory::system::HLD;
-use plain_rows::faults::{BAD_BASE, DATA_UNDERFLOW};
-use plain_rows::parts::{Outcome, Parts};
-use plain_rows::{double_of, leaves};
+use plain_rows::double_of;
 
 /// How many digits a double has at most: in base 2.
 const MOST_DIGITS: u16 = 32;

@@ -1,6 +1,6 @@
 //! Rows 144 to 146, and what every row does that needs the input stream.
 
-#![tactic(auto, using(plain_rows::proofs::Takes::takes))]
+#![tactic(auto, using(machine_parts::proofs::Takes::takes))]
 
 ghost use Rattle.std.specs.Prelude.{◌≡◌};
 ghost use Rattle.primitives.specs.Streams.{IsOpened, past, word, paren, dot_paren};
@@ -8,9 +8,9 @@ ghost use Rattle.primitives.specs.Streams.{IsOpened, past, word, paren, dot_pare
 use crate::blocks::without_block;
 use crate::writing::place_word;
 use input_source::{Stream, Word, next_word, parse_to, stream};
+use machine_parts::faults::{BAD_LENGTH, DATA_UNDERFLOW, NO_BLOCK};
+use machine_parts::parts::{Outcome, Parts, Span};
 use memory::system::{BLK, TO_IN};
-use plain_rows::faults::{BAD_LENGTH, DATA_UNDERFLOW, NO_BLOCK};
-use plain_rows::parts::{Outcome, Parts, Span};
 
 /// References the stream's block, and gives the stream; or says what stops the row, which is then unchanged.
 #[tactic(auto, unfolding(crate::specs::Streams::has_stream, crate::specs::Streams::stream_buffers, crate::specs::Blocks::has_block, crate::specs::Blocks::without_block, input_source::specs::Streams::needs_block))]

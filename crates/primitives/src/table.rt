@@ -4,8 +4,8 @@ ghost use Rattle.std.specs.Prelude.{◌≡◌};
 ghost use Rattle.primitives.specs.Table.{devices, numbers, input, compiling, editor, row};
 
 use crate::{compiling, defining, devices, dictionary_rows, editor, interpret, numbers, streams};
-use plain_rows::faults::UNKNOWN_CODE;
-use plain_rows::parts::{Outcome, Parts};
+use machine_parts::faults::UNKNOWN_CODE;
+use machine_parts::parts::{Outcome, Parts};
 use plain_rows::{cell_row, control_row, double_row, memory_row, stack_row};
 
 /// Rows 112 to 121.

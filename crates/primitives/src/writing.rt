@@ -14,9 +14,9 @@ ghost use Rattle.name_index.specs.Index.{Holds};
 use compiling_words::Full;
 use dictionary::{Site, newest_count};
 use input_source::{Stream, TooLong, Word};
+use machine_parts::parts::Parts;
 use memory::system::DP;
 use name_index::NameIndex;
-use plain_rows::parts::Parts;
 
 /// The bytes of a header besides its name: view, link, count byte and code field.
 const FIXED_SIZE: u16 = 7;

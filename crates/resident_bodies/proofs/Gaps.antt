@@ -2,10 +2,10 @@
 use Rattle.std.proofs.Common.{◌≡◌, ℕ, ◌+◌, ◌<◌, ◌≤◌, ◌⊎◌, length, inl, inr, arith}
 use Rattle.std.proofs.lemmas.Bool.{cases_lt}
 use Rattle.std.specs.Prelude.{true}
-use Rattle.plain_rows.specs.Whole.{Whole}
-use Rattle.plain_rows.specs.Row.{fault}
+use Rattle.machine_parts.specs.Whole.{Whole}
+use Rattle.machine_parts.specs.Row.{fault}
 use Rattle.plain_rows.specs.Table.{row_in, control_rows, control, stack_rows, stack, cell_rows, cells, double_rows, doubles, memory_rows, memory}
-use Rattle.plain_rows.specs.declared.faults.TheConstants.{UNKNOWN_CODE}
+use Rattle.machine_parts.specs.declared.faults.TheConstants.{UNKNOWN_CODE}
 use Rattle.plain_rows.proofs.Tables.{lacks_before, lacks_behind}
 use Rattle.primitives.specs.Table.{device_rows, devices, number_rows, numbers, input_rows, input, compiling_rows, compiling, editor_rows, editor, row}
 use Rattle.image_builder.specs.Grammar.{is_gap}

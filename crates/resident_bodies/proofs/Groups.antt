@@ -1,8 +1,8 @@
 -- The groups of the table: where a number's row stands, and which numbers each group has.
 use Rattle.std.proofs.Common.{◌≡◌, ℕ, ◌<◌, ◌≤◌, Bool, true, false, refl, arith, rules, if◌then◌else◌}
 use Rattle.std.specs.Prelude.{nat_lt}
-use Rattle.plain_rows.specs.Whole.{Whole}
-use Rattle.plain_rows.specs.Row.{After}
+use Rattle.machine_parts.specs.Whole.{Whole}
+use Rattle.machine_parts.specs.Row.{After}
 use Rattle.plain_rows.specs.Table.{control_rows, control, stack_rows, stack, cell_rows, cells, double_rows, doubles, memory_rows, memory}
 use Rattle.plain_rows.proofs.Tables.{AreFrom}
 use Rattle.primitives.specs.Table.{device_rows, devices, number_rows, numbers, input_rows, input, compiling_rows, compiling, editor_rows, editor, row}

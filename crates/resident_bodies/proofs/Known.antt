@@ -5,14 +5,14 @@ use Rattle.dictionary.specs.declared.fault.ForgetFault.TheVariants.{NameLength, 
 use Rattle.dictionary.specs.Search.{Sought, Found, Nowhere, TooLong}
 use Rattle.input_source.specs.declared.words.Word.{Word}
 use Rattle.memory.specs.Bytes.{Write}
-use Rattle.plain_rows.specs.Whole.{Whole}
-use Rattle.plain_rows.specs.Row.{After, takes1, takes2, takes3, takes4, takes6, takes_r1, takes_r3, takes_r4, fault, room, room_r}
-use Rattle.plain_rows.specs.declared.faults.TheConstants.{UNKNOWN_CODE}
-use Rattle.plain_rows.specs.declared.parts.Outcome.{Outcome}
-use Rattle.plain_rows.specs.declared.parts.Outcome.TheVariants as outcome
-use Rattle.plain_rows.specs.declared.parts.Request.{Request}
-use Rattle.plain_rows.specs.declared.parts.Span.{Span}
-use Rattle.plain_rows.proofs.Shapes.{by_if, by_room, by_room_r, by_takes1, by_takes2, by_takes3, by_takes4, by_takes6, by_takes_r1, by_takes_r3, by_takes_r4}
+use Rattle.machine_parts.specs.Whole.{Whole}
+use Rattle.machine_parts.specs.Row.{After, takes1, takes2, takes3, takes4, takes6, takes_r1, takes_r3, takes_r4, fault, room, room_r}
+use Rattle.machine_parts.specs.declared.faults.TheConstants.{UNKNOWN_CODE}
+use Rattle.machine_parts.specs.declared.parts.Outcome.{Outcome}
+use Rattle.machine_parts.specs.declared.parts.Outcome.TheVariants as outcome
+use Rattle.machine_parts.specs.declared.parts.Request.{Request}
+use Rattle.machine_parts.specs.declared.parts.Span.{Span}
+use Rattle.machine_parts.proofs.Shapes.{by_if, by_room, by_room_r, by_takes1, by_takes2, by_takes3, by_takes4, by_takes6, by_takes_r1, by_takes_r3, by_takes_r4}
 use Rattle.plain_rows.specs.Table.{control_rows, control, stack_rows, stack, cell_rows, cells, double_rows, doubles, memory_rows, memory}
 use Rattle.plain_rows.proofs.Tables.{Each, has_between, of_parts}
 use Rattle.primitives.specs.Blocks.{without_block}

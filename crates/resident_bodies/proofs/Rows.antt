@@ -4,9 +4,9 @@ use Rattle.std.specs.Prelude.{true, false, nat_lt, Option}
 use Rattle.memory.specs.Bytes.{cell, put_cell, cell_bytes}
 use Rattle.dictionary.specs.Laying.{fits}
 use Rattle.block_buffers.specs.Entries.{limit}
-use Rattle.plain_rows.specs.Whole.{Whole}
-use Rattle.plain_rows.specs.declared.parts.Outcome.TheVariants.{Done}
-use Rattle.plain_rows.specs.Row.{After, takes1, takes2, room, has_room}
+use Rattle.machine_parts.specs.Whole.{Whole}
+use Rattle.machine_parts.specs.declared.parts.Outcome.TheVariants.{Done}
+use Rattle.machine_parts.specs.Row.{After, takes1, takes2, room, has_room}
 use Rattle.primitives.specs.Compiling.{compiles, resolves}
 use Rattle.plain_rows.specs.Table.{row_in}
 use Rattle.primitives.specs.Table.{row, compiling}

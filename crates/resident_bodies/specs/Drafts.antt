@@ -6,7 +6,7 @@ use Rattle.memory.specs.declared.system.TheConstants.{DP}
 use Rattle.memory.proofs.Same.{Stands}
 use Rattle.stacks.specs.Cells.{◌▸◌}
 use Rattle.compiling_words.specs.Code.{runtime}
-use Rattle.plain_rows.specs.Whole.{Whole}
+use Rattle.machine_parts.specs.Whole.{Whole}
 use Rattle.colon_bodies.specs.declared.words.Half.{Half}
 use Rattle.colon_bodies.specs.Tokens.{Token, laid_by}
 use Rattle.colon_bodies.specs.Tree.{Body, Definition}

@@ -6,7 +6,7 @@ use Rattle.memory.specs.declared.system.TheConstants.{DP, TO_IN}
 use Rattle.block_buffers.specs.Entries.{limit}
 use Rattle.dictionary.specs.Laying.{laid_at}
 use Rattle.input_source.specs.declared.words.Word.{Word}
-use Rattle.plain_rows.specs.Whole.{Whole}
+use Rattle.machine_parts.specs.Whole.{Whole}
 use Rattle.stacks.specs.Cells.{◌▸◌}
 use Rattle.compiling_words.specs.Code.{runtime, control_code, literal_code, text_code}
 use Rattle.compiling_words.specs.Laying.{laid, resolved}

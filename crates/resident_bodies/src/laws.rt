@@ -7,10 +7,10 @@ ghost use Rattle.memory.specs.declared.system.TheConstants.{BLK, DP, TO_IN, FENC
 ghost use Rattle.compiling_words.specs.Code.{runtime, literal_code, text_code};
 ghost use Rattle.compiling_words.specs.Definitions.{ended};
 ghost use Rattle.compiling_words.specs.Laying.{laid};
-ghost use Rattle.plain_rows.specs.Whole.{Whole};
-ghost use Rattle.plain_rows.specs.Row.{fault};
-ghost use Rattle.plain_rows.specs.declared.faults.TheConstants.{UNKNOWN_CODE};
-ghost use Rattle.plain_rows.specs.declared.parts.Outcome.TheVariants.{Done, Fault};
+ghost use Rattle.machine_parts.specs.Whole.{Whole};
+ghost use Rattle.machine_parts.specs.Row.{fault};
+ghost use Rattle.machine_parts.specs.declared.faults.TheConstants.{UNKNOWN_CODE};
+ghost use Rattle.machine_parts.specs.declared.parts.Outcome.TheVariants.{Done, Fault};
 ghost use Rattle.primitives.specs.Table.{row};
 ghost use Rattle.primitives.specs.Interpret.{compiles_past};
 ghost use Rattle.primitives.specs.Defining.{lays_past};

@@ -6,9 +6,9 @@ ghost use Rattle.machine.specs.Answer.{fits_request, seen, IsSpelled, answered, 
 
 use super::{Machine, quiet};
 use crate::act::{Act, Answer, Cause, Event, Refused, Shown};
+use machine_parts::faults::{DATA_OVERFLOW, DATA_UNDERFLOW, READ_FAILED, WRITE_FAILED};
+use machine_parts::parts::{Request, Span};
 use memory::system::SPAN;
-use plain_rows::faults::{DATA_OVERFLOW, DATA_UNDERFLOW, READ_FAILED, WRITE_FAILED};
-use plain_rows::parts::{Request, Span};
 
 /// Whether a line's bytes fit a request for at most `n`.
 #[tactic(auto, unfolding(crate::specs::Answer::is_line))]

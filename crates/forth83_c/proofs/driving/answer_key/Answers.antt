@@ -1,5 +1,5 @@
 use Rattle.std.proofs.Common.{rules, arith, ◌≡◌, get_or}
-use Rattle.plain_rows.specs.declared.parts.Request.TheVariants as request
+use Rattle.machine_parts.specs.declared.parts.Request.TheVariants as request
 use Rattle.machine.specs.Answer.{Key, answer_of}
 use Rattle.forth83_c.proofs.Taking.{key_here}
 use Rattle.forth83_c.proofs.Turning.{answered_on}

@@ -1,6 +1,6 @@
 use Rattle.std.proofs.Common.{◌≡◌, ◌+◌, ◌∙◌, sym, ap, subst, drop, take}
 use Rattle.std.proofs.lemmas.List.{drop-drop}
-use Rattle.plain_rows.specs.declared.parts.Request.TheVariants as request
+use Rattle.machine_parts.specs.declared.parts.Request.TheVariants as request
 use Rattle.inner_interpreter.specs.Lines.{line_reply}
 use Rattle.forth83_c.specs.Driven.{IsDriven}
 use Rattle.forth83_c.proofs.Taking.{line_there}

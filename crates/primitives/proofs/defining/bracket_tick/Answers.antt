@@ -1,6 +1,6 @@
 use Rattle.std.proofs.Common.{ap, sym, ◌∙◌}
 use Rattle.compiling_words.specs.Code.{literal_code}
-use Rattle.plain_rows.specs.Whole.{Whole}
+use Rattle.machine_parts.specs.Whole.{Whole}
 use Rattle.primitives.specs.Defining.{lays_past}
 use Rattle.primitives.proofs.defining.bracket_tick.Goals as goal
 

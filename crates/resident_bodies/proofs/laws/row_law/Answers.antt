@@ -1,6 +1,6 @@
 use Rattle.std.proofs.Common.{◌≡◌, ◌≤◌, ℕ, Some, length, arith}
-use Rattle.plain_rows.specs.Whole.{Whole}
-use Rattle.plain_rows.specs.declared.parts.Outcome.TheVariants.{Done}
+use Rattle.machine_parts.specs.Whole.{Whole}
+use Rattle.machine_parts.specs.declared.parts.Outcome.TheVariants.{Done}
 use Rattle.primitives.specs.Table.{row}
 use Rattle.colon_bodies.specs.declared.words.Half.TheVariants.{Free, Compiling}
 use Rattle.colon_bodies.specs.Tokens.{Token, NAME, FORCE, laid_by}

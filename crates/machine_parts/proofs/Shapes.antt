@@ -2,9 +2,9 @@
 use Rattle.std.proofs.Common.{◌≡◌, ℕ, ◌≤◌, arith, refl, List, length, nat_lt, Bool, true, false, inl, inr, if◌then◌else◌}
 use Rattle.std.proofs.lemmas.Bool.{cases_lt}
 use Rattle.std.proofs.lemmas.Grind.{common_steps}
-use Rattle.plain_rows.specs.Whole.{Whole}
-use Rattle.plain_rows.specs.Row.{After, takes1, takes2, takes3, takes4, takes6, takes_r1, takes_r3, takes_r4, fault, room, room_r}
-use Rattle.plain_rows.proofs.Takes.{takes1_none, takes1_deep, takes2_none, takes2_deep, takes3_none, takes3_deep, takes4_none, takes4_deep, takes6_none, takes6_deep, takes_r1_none, takes_r1_deep, takes_r3_none, takes_r3_deep, takes_r4_none, takes_r4_deep}
+use Rattle.machine_parts.specs.Whole.{Whole}
+use Rattle.machine_parts.specs.Row.{After, takes1, takes2, takes3, takes4, takes6, takes_r1, takes_r3, takes_r4, fault, room, room_r}
+use Rattle.machine_parts.proofs.Takes.{takes1_none, takes1_deep, takes2_none, takes2_deep, takes3_none, takes3_deep, takes4_none, takes4_deep, takes6_none, takes6_deep, takes_r1_none, takes_r1_deep, takes_r3_none, takes_r3_deep, takes_r4_none, takes_r4_deep}
 
 pub by_if : (P : After → Type 0) (b : Bool) (x y : After) → P x → P y → P (if b then x else y)
 by_if P true x y h k = h

@@ -1,6 +1,6 @@
 use Rattle.std.proofs.Common.{◌≡◌, ℕ, ◌<◌, ◌≤◌, List, [], ◌∷◌, length, drop, slice_index, refl, arith}
-use Rattle.plain_rows.specs.Whole.{Whole}
-use Rattle.plain_rows.specs.Row.{takes1, takes2, takes3, takes4, takes6, takes_r1, takes_r3, takes_r4, fault, After}
+use Rattle.machine_parts.specs.Whole.{Whole}
+use Rattle.machine_parts.specs.Row.{takes1, takes2, takes3, takes4, takes6, takes_r1, takes_r3, takes_r4, fault, After}
 
 at_takes1_none : (s : Whole) (d : List ℕ) → s.values ≡ d → (f : (ℕ → List ℕ → After)) → length d < 1 → takes1 s f ≡ fault s 1
 unfolding takes1

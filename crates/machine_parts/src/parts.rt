@@ -1,7 +1,7 @@
 //! What the rows read and write, and what they answer.
 
 ghost use Rattle.std.specs.Prelude.{◌≡◌, ◌≤◌, IsTrue};
-ghost use Rattle.plain_rows.specs.Row.{has_room};
+ghost use Rattle.machine_parts.specs.Row.{has_room};
 
 use block_buffers::buffers::Buffers;
 use dictionary::fits;
@@ -70,7 +70,7 @@ impl Model for Parts {
     ghost use Rattle.std.specs.Prelude.{◌≡◌};
     ghost use Rattle.block_buffers.specs.Entries.{limit as limit_by};
     ghost use Rattle.name_index.specs.Index.{Holds};
-    ghost use Rattle.plain_rows.specs.Whole.{Whole};
+    ghost use Rattle.machine_parts.specs.Whole.{Whole};
 
     ghost Value = { Whole };
 
