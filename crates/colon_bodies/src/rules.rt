@@ -5,7 +5,7 @@ ghost use Rattle.std.specs.Option.{option_map};
 ghost use Rattle.memory.specs.Controls.{number_of};
 ghost use Rattle.colon_bodies.specs.Tokens.{DOES, SEMI, IsShort, control};
 ghost use Rattle.colon_bodies.specs.Rules.{IsKnown, HasCell, suits, half_after};
-ghost use Rattle.colon_bodies.specs.Open.{read, past_after};
+ghost use Rattle.colon_bodies.specs.Open.{past_after};
 ghost use Rattle.colon_bodies.specs.Draft.{token, opener};
 ghost use Rattle.colon_bodies.specs.declared.words.Half.{Half};
 ghost use Rattle.colon_bodies.specs.declared.words.Half.TheVariants.{Free};

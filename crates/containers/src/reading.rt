@@ -1,7 +1,7 @@
 //! Screens read of a container.
 
 ghost use Rattle.std.specs.Prelude.{◌≡◌, ◌<◌, ◌≤◌, None, IfOk, MatchResult, true};
-ghost use Rattle.containers.specs.Containers.{IsRead, IsWhy, capacity, first_open, is_ended, is_whole, open_cause, screens, sectors, unread};
+ghost use Rattle.containers.specs.Containers.{IsRead, IsWhy, capacity, first_open, is_ended, is_whole, screens, sectors, unread};
 
 use crate::cause::Cause;
 use crate::layout::{Layout, SCREEN};

@@ -2,7 +2,7 @@
 
 ghost use Rattle.std.specs.Prelude.{◌≡◌, ◌≤◌, None, IfOk, MatchResult, OnOk, Some};
 ghost use Rattle.std.specs.Prelude.{◌++◌, replicate};
-ghost use Rattle.containers.specs.Containers.{IsWritten, blank_sectors, new_container, tracks_for, unwritten};
+ghost use Rattle.containers.specs.Containers.{IsWritten, new_container, tracks_for, unwritten};
 
 use crate::cause::Cause;
 use crate::layout::{Layout, SCREEN};

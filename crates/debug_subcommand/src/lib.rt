@@ -1,7 +1,9 @@
-//! What `debug` does, prints and ends with.
+//! What `debug` does, prints and ends with; and over the files that the command line names.
 #![tactic(auto)]
 
 mod cause;
 mod debug_command;
+mod tracing;
 
 pub use debug_command::do_debug;
+pub use tracing::debug_word;

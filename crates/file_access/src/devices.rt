@@ -1,7 +1,9 @@
-//! A device over a file.
+//! A device over a file, or over none.
 
-ghost use Rattle.std.specs.Prelude.{◌≤◌, None};
+ghost use Rattle.std.specs.Prelude.{◌≡◌, ◌≤◌, None, []};
+ghost use Rattle.std.specs.Option.{ForNone, ForSome};
 ghost use Rattle.file_access.specs.Streams.{IsApart};
+ghost use Rattle.file_access.specs.Told.{told};
 
 use crate::guards::{Unopened, is_in_use};
 use crate::opening::open_apart;
@@ -10,14 +12,29 @@ use std::fs::{File, OpenOptions};
 use std::io;
 use std::io::{Read, Seek, SeekFrom, Write};
 
-/// A device over an open file, which stands in for no standard stream.
+/// A device over an open file, which stands in for no standard stream, or over no file: then it has no blocks.
 #[derive(Drop)]
 pub struct FileDevice {
-    file: File,
+    file: Option<File>,
     count: u32,
     log: CallLog,
     ghost few: { count ≤ 65536 },
-    ghost apart: { IsApart file },
+    ghost apart: { ForSome file IsApart },
+    ghost empty: { ForNone file (count ≡ 0) },
+}
+
+impl FileDevice {
+    /// The device of a run without a file of blocks.
+    pub fn without_file() -> FileDevice
+        ensures told { ⟦<FileDevice as Device>⟧.disk result ≡ told None }
+        ensures uncalled { ⟦<FileDevice as Device>⟧.calls result ≡ [] }
+    {
+        FileDevice {
+            file: None,
+            count: 0,
+            log: CallLog::new(),
+        }
+    }
 }
 
 /// Opens a file of blocks for reading and writing, and holds it against other runs. `CannotOpen`: the system refuses it;
@@ -25,7 +42,7 @@ pub struct FileDevice {
 pub fn open_device(rt: &HostRuntime, name: &str) -> Result<FileDevice, Unopened> {
     match open_blocks(rt, OpenOptions::new().read(true).write(true), name) {
         Some(device) => {
-            if is_in_use(&device.file) {
+            if device.file.as_ref().is_some_and(is_in_use) {
                 return Err(Unopened::InUse);
             }
             Ok(device)
@@ -45,7 +62,7 @@ fn open_blocks(rt: &HostRuntime, options: &OpenOptions, name: &str) -> Option<Fi
     let blocks = length / 1024;
     let count = if blocks > 65536 { 65536 } else { blocks as u32 };
     Some(FileDevice {
-        file,
+        file: Some(file),
         count,
         log: CallLog::new(),
     })
@@ -64,7 +81,7 @@ fn write_page(mut file: &File, at: u64, page: &[u8; 1024]) -> io::Result<()> {
 }
 
 impl Device for FileDevice {
-    ghost disk = { λ _. None };
+    ghost disk = { λ d. told d.file };
 
     ghost calls = { λ d. d.log.calls };
 
@@ -75,8 +92,8 @@ impl Device for FileDevice {
     }
 
     fn read(&mut self, block: u16, page: &mut [u8; 1024]) -> Result<(), DeviceFault> {
-        if u32::from(block) < self.count {
-            let done = read_page(&self.file, u64::from(block) * 1024, page);
+        if let (Some(file), true) = (&self.file, u32::from(block) < self.count) {
+            let done = read_page(file, u64::from(block) * 1024, page);
             if let Ok(()) = done {
                 self.log = CallLog::succeeded(&self.log);
                 return Ok(());
@@ -87,8 +104,8 @@ impl Device for FileDevice {
     }
 
     fn write(&mut self, block: u16, page: &[u8; 1024]) -> Result<(), DeviceFault> {
-        if u32::from(block) < self.count {
-            let done = write_page(&self.file, u64::from(block) * 1024, page);
+        if let (Some(file), true) = (&self.file, u32::from(block) < self.count) {
+            let done = write_page(file, u64::from(block) * 1024, page);
             if let Ok(()) = done {
                 self.log = CallLog::succeeded(&self.log);
                 return Ok(());

@@ -1,19 +1,16 @@
 //! A Forth-83 system with block storage.
 #![tactic(auto)]
 
-mod loading;
-mod tracing;
-
-use command_words::{BuildWords, ContainerWords, Parsed, RunWords, ScreenRange, Words};
+use command_words::{BuildWords, ContainerWords, LoadWords, Parsed, RunWords, ScreenRange, Words};
+use debug_subcommand::debug_word;
 use file_subcommands::{
     Disk, Screens, build_image, export_screens, import_screens, print_text, see_word,
     upgrade_image, view_word, write_kernel, write_new, write_screens,
 };
-use loading::load_screens;
+use load_subcommand::{Load, load_screens};
 use named_files::out_of_memory;
 use session_runs::{Session, run_image};
 use std::process::ExitCode;
-use tracing::debug_word;
 
 /// The screens that words name.
 fn screens_of(words: &ScreenRange) -> Screens<'_> {
@@ -47,6 +44,19 @@ fn obey_build(rt: &HostRuntime, words: &BuildWords) -> Result<u8, u8> {
     )
 }
 
+/// What the words of `load` name.
+fn load_of(words: &LoadWords) -> Load<'_> {
+    Load {
+        image: words.image.as_str(),
+        blocks: words.screens.blocks.as_str(),
+        from: words.screens.from,
+        to: words.screens.to,
+        out: words.out.as_str(),
+        limit: words.limit,
+        shows_place: words.shows_place,
+    }
+}
+
 /// What the words of `run` want beside the run.
 fn session_of(words: &RunWords) -> Session<'_> {
     Session {
@@ -61,7 +71,7 @@ fn obey(rt: &HostRuntime, words: Words) -> Result<u8, u8> {
     match words {
         Words::Kernel { blocks } => write_kernel(rt, blocks.as_str()),
         Words::Build(words) => obey_build(rt, &words),
-        Words::Load(words) => load_screens(rt, &words),
+        Words::Load(words) => load_screens(rt, load_of(&words)),
         Words::Upgrade {
             image,
             out,

@@ -16,7 +16,7 @@ ghost use Rattle.image_builder.specs.declared.entry.Lead.TheVariants as l;
 use crate::cause::Cause;
 use crate::entry::{Kind, Lead, Sign, find_name};
 use crate::header::here;
-use crate::make::{allot, char_comma, comma, set_boot, set_definitions, set_immediate};
+use crate::make::{allot, char_comma, comma, set_definitions, set_immediate};
 use crate::spot::{Sort, Spot};
 use crate::state::{Begun, Build, Site};
 

@@ -68,7 +68,14 @@ fn send_line<N: Tracer, T: Output>(
     Ok(())
 }
 
-/// `run_traced`, with its line buffer.
+/// Room for a line that is typed.
+fn line_room(alloc: Global) -> Result<Vec<u8>, OutOfMemory>
+    ensures { IfOk result (λ line. 65535 ≤ vec_capacity line) }
+{
+    Vec::with_capacity(alloc, LINE_SIZE).map_err(|_| OutOfMemory)
+}
+
+/// A run with its trace, by room for a line.
 fn run_with<R: Input, W: Output, D: Device, N: Tracer, T: Output>(
     line: &mut Vec<u8>,
     machine: &mut Machine,
@@ -193,15 +200,10 @@ pub fn run_traced<R: Input, W: Output, D: Device, N: Tracer, T: Output>(
     ensures device { OnErr result (device.new ≡ device.old) }
     ensures lines { OnErr result (trace.new ≡ trace.old) }
 {
-    match Vec::with_capacity(alloc, LINE_SIZE) {
-        Ok(line) => {
-            let mut line = line;
-            Ok(run_with(
-                &mut line, machine, reader, writer, device, tracer, trace, limit,
-            ))
-        }
-        Err(_) => Err(OutOfMemory),
-    }
+    let mut line = line_room(alloc)?;
+    Ok(run_with(
+        &mut line, machine, reader, writer, device, tracer, trace, limit,
+    ))
 }
 
 /// Runs the machine until it halts, `limit` ticks are done or an end fails, and answers why it stopped. All that the
@@ -258,8 +260,9 @@ pub fn run<R: Input, W: Output, D: Device>(
     ensures writer { OnErr result (writer.new ≡ writer.old) }
     ensures device { OnErr result (device.new ≡ device.old) }
 {
-    run_traced(
-        alloc,
+    let mut room = line_room(alloc)?;
+    Ok(run_with(
+        &mut room,
         machine,
         reader,
         writer,
@@ -267,5 +270,5 @@ pub fn run<R: Input, W: Output, D: Device>(
         &Untraced,
         &mut Nowhere,
         limit,
-    )
+    ))
 }

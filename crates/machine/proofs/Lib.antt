@@ -1,3 +1,4 @@
 pub mod Ran
 pub mod Passing
 pub mod Kept
+pub mod Stepped

@@ -14,7 +14,7 @@ use Rattle.inner_interpreter.specs.Moves.{Turn, Tick, Answer, Accepts}
 use Rattle.inner_interpreter.specs.Served.{HasActed}
 use Rattle.metacompiler.specs.Rounds.{Stop, Ended, Limit, Asked, is_end, stop_by}
 use Rattle.metacompiler.specs.Loaded as loaded
-use Rattle.metacompiler.specs.Loaded.{LoadFault, NotFound, ChainTooLong, Unfinished, BadSize, OutOfMemory, answered, ended, restored, fault_of, IsSaved}
+use Rattle.metacompiler.specs.Loaded.{LoadFault, NotFound, ChainTooLong, Unfinished, BadSize, OutOfMemory, IsSaved}
 use Rattle.metacompiler.specs.Moved.{Stage, stage, behind, stop_by_tick, stop_behind, AreRounds, at_screen, AreRead, HasLoaded}
 use Rattle.metacompiler.specs.Making.{GoesOn, LeadsTo, IsLed, IsSettledBy, IsReadOn}
 use Rattle.metacompiler.proofs.Making.{NoAsk, Tells, ticked_told, answer_told, stop_goes}

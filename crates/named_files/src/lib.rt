@@ -10,8 +10,7 @@ mod streams;
 
 pub use keeping::{keep_absent, keep_apart, keep_blocks, keep_image, keep_trace};
 pub use opening::{
-    file_bytes, held, image_bytes, no_blocks, old_blocks, old_file, read_alone, run_blocks,
-    write_made,
+    file_bytes, held, image_bytes, old_blocks, old_file, read_alone, run_blocks, write_made,
 };
 pub use places::{blocks_of, read_screen, say_missing, show_line, word_before, word_behind};
 pub use refusals::{out_of_memory, refuse_use, say};

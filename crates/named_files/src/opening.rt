@@ -2,7 +2,6 @@
 
 use crate::keeping::keep_blocks;
 use crate::refusals::{cannot_open, out_of_memory, refuse_blocks, refuse_file};
-use block_buffers::MemoryDevice;
 use file_access::{
     FileDevice, hold, open_device, open_to_read, read_blocks, read_file, read_image, write_file,
 };
@@ -18,8 +17,12 @@ pub fn image_bytes(rt: &HostRuntime, image: &str) -> Result<Vec<u8>, u8> {
     }
 }
 
-/// The file of blocks of a run. Where it can't be opened that is printed, and the status is the error.
-pub fn run_blocks(rt: &HostRuntime, blocks: &str) -> Result<FileDevice, u8> {
+/// The blocks of a run: those of the file, or none where it has no file. Where the file can't be opened that is printed, and the
+/// status is the error.
+pub fn run_blocks(rt: &HostRuntime, blocks: Option<&str>) -> Result<FileDevice, u8> {
+    let Some(blocks) = blocks else {
+        return Ok(FileDevice::without_file());
+    };
     keep_blocks(rt, blocks)?;
     match open_device(rt, blocks) {
         Ok(device) => Ok(device),
@@ -34,11 +37,6 @@ pub fn read_alone(rt: &HostRuntime, blocks: &str) -> Result<FileDevice, u8> {
         Some(device) => Ok(device),
         None => Err(cannot_open(rt, blocks)),
     }
-}
-
-/// The device of a run without a file of blocks.
-pub fn no_blocks(rt: &HostRuntime) -> MemoryDevice {
-    MemoryDevice::new(Vec::new(rt.alloc()), Vec::new(rt.alloc()))
 }
 
 /// The bytes of a file. Where it can't be read that is printed, and the status is the error.

@@ -7,7 +7,7 @@ ghost use Rattle.machine_parts.specs.Row.{leaves, double, ◌▸▸◌};
 ghost use Rattle.plain_rows.specs.Double.{d_magnitude, d_halved, d_least, d_greatest, d_plus, d_minus, d_negate, d_absolute, d_two_slash, d_min, d_max, d_equals, d_zero_equals, d_less, du_less};
 
 use crate::cell::flag;
-use crate::ending::{from_one, from_two};
+use crate::ending::from_two;
 use machine_parts::faults::DATA_UNDERFLOW;
 use machine_parts::leaves;
 use machine_parts::parts::{Outcome, Parts};

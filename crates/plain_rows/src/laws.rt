@@ -1,6 +1,6 @@
 //! Laws of the rows.
 
-ghost use Rattle.std.specs.Prelude.{◌≡◌, ℕ, List};
+ghost use Rattle.std.specs.Prelude.{ℕ, List};
 ghost use Rattle.plain_rows.specs.MemoryRows.{trimmed, IsTrimmed};
 ghost use Rattle.plain_rows.specs.Plain.{IsPlain};
 ghost use Rattle.plain_rows.specs.Table.{control, stack, cells, doubles, memory};

@@ -13,3 +13,4 @@ mod stack;
 pub use cell::{flag, greater_of, halved, lesser, magnitude};
 pub use double::double_of;
 pub use groups::{cell_row, control_row, double_row, memory_row, stack_row};
+pub use machine_parts::parts::{Outcome, Parts, Request, Span};

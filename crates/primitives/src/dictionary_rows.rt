@@ -138,6 +138,7 @@ pub fn immediate(parts: &mut Parts) -> Outcome
 }
 
 /// 152 `FORGET` ( -- )
+#[inline(never)]
 #[tactic(auto, using(crate::proofs::Searching::searching), unfolding(memory::specs::Bytes::written))]
 pub fn forget(parts: &mut Parts) -> Outcome
     ensures { (parts.new, result) ≡ forget parts.old }

@@ -5,7 +5,7 @@ use Rattle.std.proofs.Math.Seq.{set-append_seam}
 use Rattle.std.proofs.lemmas.Bool.{eqb-true, eq-eqb}
 use Rattle.std.proofs.lemmas.List.{drop-drop, length-replicate}
 use Rattle.cells.specs.Cell.{wrap}
-use Rattle.memory.specs.Bytes.{byte, cell, put_byte, put_cell, put_bytes, cell_bytes, front_put, written}
+use Rattle.memory.specs.Bytes.{cell, put_byte, put_cell, put_bytes, cell_bytes, front_put, written}
 use Rattle.memory.specs.Bytes as memory
 use Rattle.memory.proofs.Kept.{wrap_small}
 use Rattle.dictionary.specs.Search.{head_of}

@@ -1,6 +1,6 @@
 //! Lines with bytes that are no text.
 
-ghost use Rattle.std.specs.Prelude.{◌≡◌, ◌≤◌, ◌<◌, IfOk, MatchOption, OnOk, ◌++◌, fold, true, false};
+ghost use Rattle.std.specs.Prelude.{◌≡◌, ◌≤◌, ◌<◌, IfOk, MatchOption, OnOk, ◌++◌, true, false};
 ghost use Rattle.screen_text.specs.Escapes.{Unescaped, digit, escaped, escaped_byte, has_sign, is_plain, is_whole, unescaped, value, with_character};
 
 use crate::bytes::is_text;

@@ -19,7 +19,7 @@ use colon_bodies::BodyWord;
 use dictionary::code_fields::COLON;
 use dictionary::{ChainTooLong, HeadersFault, compilation_address, headers_in_order, search};
 use memory::Memory;
-use std::alloc::{AllocError, Global};
+use std::alloc::Global;
 
 /// The words of a definition, as text.
 fn show(

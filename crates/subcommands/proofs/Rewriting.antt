@@ -1,5 +1,5 @@
 -- A text of screens, written back.
-use Rattle.std.proofs.Common.{◌≡◌, ◌∙◌, ℕ, zero, suc, ◌+◌, ◌-◌, ◌*◌, ◌<◌, ◌≤◌, List, [], ◌∷◌, ◌++◌, length, take, drop, fold, flat_map, Result, Ok, Err, append_assoc, append-nil, length-append, arith, refl, ap, sym, subst}
+use Rattle.std.proofs.Common.{◌≡◌, ◌∙◌, ℕ, zero, suc, ◌+◌, ◌-◌, ◌*◌, ◌<◌, ◌≤◌, List, [], ◌∷◌, ◌++◌, length, take, drop, fold, Result, Ok, Err, append_assoc, append-nil, length-append, arith, refl, ap, sym, subst}
 use Rattle.std.specs.Prelude.{All}
 use Rattle.std.proofs.Math.Seq.{drop-append_seam, drop-append-add, take-append_seam, take-append-add}
 use Rattle.std.proofs.lemmas.List.Elements.{All-head, All-tail}
@@ -8,7 +8,7 @@ use Rattle.device_text.specs.Pages.{AreBlocks, IsBlock, pages, screens_at}
 use Rattle.device_text.proofs.Screens.{last_there, rest_read, text_so, writable_so}
 use Rattle.screen_text.specs.Bytes.{blanks, padded}
 use Rattle.screen_text.specs.Blocks.{with_screen, with_screens}
-use Rattle.screen_text.specs.Reading.{State, IsRead, read, whole}
+use Rattle.screen_text.specs.Reading.{State, IsRead, read}
 use Rattle.screen_text.specs.Screens.{Screen, IsWritable, AreWritable, bytes_of, numbers_of, screens_of, text_of}
 use Rattle.screen_text.specs.declared.cause.TextFault.{TextFault}
 use Rattle.screen_text.proofs.Kept.{reread}

@@ -1,9 +1,8 @@
-//! `load`.
+//! `load` over the files that the command line names.
 
+use crate::load_command::do_load;
 use block_buffers::{BLOCK_SIZE, Device, MemoryDevice};
-use command_words::{LoadWords, ScreenRange};
 use inner_interpreter::{Machine, Writing};
-use load_subcommand::do_load;
 use machine_parts::faults::{BAD_LENGTH, NOT_FOUND};
 use memory::system::{BLK, TO_IN};
 use metacompiler::{LoadFault, load_on};
@@ -52,17 +51,37 @@ fn show_stop(
     }
 }
 
-/// Lets the image that `load` names compile screens, and writes the image that results.
-pub fn load_screens(rt: &HostRuntime, words: &LoadWords) -> Result<u8, u8> {
-    let ScreenRange { from, to, .. } = words.screens;
-    let blocks = words.screens.blocks.as_str();
-    let (out, limit) = (words.out.as_str(), words.limit);
+/// What `load` names: the image, the screens from the first to the last of a file of blocks, the image that is made, and the most
+/// ticks.
+#[derive(Clone, Copy)]
+pub struct Load<'a> {
+    pub image: &'a str,
+    pub blocks: &'a str,
+    pub from: u16,
+    pub to: u16,
+    pub out: &'a str,
+    pub limit: u64,
+    /// Whether it is shown where the screens stopped, also if standard error is no terminal.
+    pub shows_place: bool,
+}
+
+/// Lets the image that `load` names compile screens, and writes the image that results. Where that can't begin it is printed why, and
+/// the status is the error.
+pub fn load_screens(rt: &HostRuntime, load: Load<'_>) -> Result<u8, u8> {
+    let Load {
+        blocks,
+        from,
+        to,
+        out,
+        limit,
+        ..
+    } = load;
     keep_apart(rt, blocks, out, "the blocks and the new image")?;
     keep_image(rt, out)?;
-    let bytes = image_bytes(rt, words.image.as_str())?;
+    let bytes = image_bytes(rt, load.image)?;
     let bytes = bytes.as_slice();
-    let mut device = run_blocks(rt, blocks)?;
-    let mut before = if words.shows_place || rt.stderr().is_terminal() {
+    let mut device = run_blocks(rt, Some(blocks))?;
+    let mut before = if load.shows_place || rt.stderr().is_terminal() {
         blocks_of(rt.alloc(), &mut device)
     } else {
         None
