@@ -3,7 +3,7 @@
 
 mod cause;
 mod debug_command;
-mod tracing;
+mod over_files;
 
 pub use debug_command::do_debug;
-pub use tracing::debug_word;
+pub use over_files::debug_word;

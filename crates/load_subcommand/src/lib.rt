@@ -3,7 +3,7 @@
 
 mod cause;
 mod load_command;
-mod loading;
+mod over_files;
 
 pub use load_command::do_load;
-pub use loading::{Load, load_screens};
+pub use over_files::{Load, load_screens};
