@@ -1,24 +1,23 @@
 -- How many calls of a device failed.
-use Rattle.std.proofs.Common.{◌≡◌, ◌+◌, Bool, true, false, List, [], ◌∷◌, ◌++◌, Ok, Err, refl, ap, ◌∙◌, arith, if◌then◌else◌}
+use Rattle.std.proofs.Common.{◌≡◌, ◌+◌, Bool, true, false, List, [], ◌∷◌, ◌++◌, refl, ap, ◌∙◌, arith, if◌then◌else◌}
 use Rattle.std.proofs.lemmas.List.Sums.{sum_by-append}
-use Rattle.block_buffers.specs.declared.devices.DeviceFault.{DeviceFault}
-use Rattle.block_buffers.specs.Calls.{Logs, failures}
+use Rattle.block_buffers.specs.DeviceCalls.{DeviceCall}
+use Rattle.block_buffers.specs.Calls.{has_failed, failures}
 
-failures-append : (xs ys : List Bool) → failures (xs ++ ys) ≡ failures xs + failures ys
+failures-append : (xs ys : List DeviceCall) → failures (xs ++ ys) ≡ failures xs + failures ys
 unfolding failures
-failures-append xs ys = sum_by-append (λ failed. if failed then 1 else 0) xs ys
+failures-append xs ys = sum_by-append (λ c. if has_failed c then 1 else 0) xs ys
 
-one_failed : failures (true ∷ []) ≡ 1
+failures_one : (c : DeviceCall) (b : Bool) → has_failed c ≡ b → failures (c ∷ []) ≡ (if b then 1 else 0)
 unfolding failures
-one_failed = refl
-
-none_failed : failures (false ∷ []) ≡ 0
-unfolding failures
-none_failed = refl
+failures_one c b q = rw q (by_test b) where
+  by_test : (b : Bool) → 0 + (if b then 1 else 0) ≡ (if b then 1 else 0)
+  by_test true = refl
+  by_test false = refl
 
 -- of a call that succeeds, none more; of one that fails, one
-pub succeeded : (old new : List Bool) (u : Unit) → Logs old new (Ok u) → failures new ≡ failures old
-succeeded old new u h = ap failures h ∙ failures-append old (false ∷ []) ∙ omega (arith, none_failed)
+pub succeeded : (old new : List DeviceCall) (c : DeviceCall) → new ≡ old ++ c ∷ [] → has_failed c ≡ false → failures new ≡ failures old
+succeeded old new c h q = ap failures h ∙ failures-append old (c ∷ []) ∙ omega (arith, failures_one c false q)
 
-pub failed : (old new : List Bool) (e : DeviceFault) → Logs old new (Err e) → failures new ≡ failures old + 1
-failed old new e h = ap failures h ∙ failures-append old (true ∷ []) ∙ omega (arith, one_failed)
+pub failed : (old new : List DeviceCall) (c : DeviceCall) → new ≡ old ++ c ∷ [] → has_failed c ≡ true → failures new ≡ failures old + 1
+failed old new c h q = ap failures h ∙ failures-append old (c ∷ []) ∙ omega (arith, failures_one c true q)

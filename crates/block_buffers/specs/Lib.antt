@@ -1,5 +1,9 @@
+pub mod DeviceCalls
+pub mod Noted
 pub mod Calls
 pub mod Disks
+pub mod Likeness
+pub mod ReadPages
 pub mod Entries
 pub mod Screens
 pub mod Stamps

@@ -1,5 +1,5 @@
 //! Devices of blocks.
-ghost use Rattle.std.specs.Prelude.{◌≡◌, ◌≤◌, ℕ, Bool, List, Option, length, IfSome, OnErr};
+ghost use Rattle.std.specs.Prelude.{◌≡◌, ◌++◌, ◌∷◌, [], ◌<◌, ◌≤◌, ℕ, List, Option, length, IfSome, OnErr, OnOk};
 
 /// How many bytes a block has.
 pub const BLOCK_SIZE: usize = 1024;
@@ -9,18 +9,19 @@ pub const BLOCK_SIZE: usize = 1024;
 pub struct DeviceFault;
 
 /// Blocks of 1,024 bytes, numbered from 0. A device may tell its blocks to contracts, as a
-/// [`crate::MemoryDevice`] does; a file doesn't. Every device keeps for them which of its calls failed.
+/// [`crate::MemoryDevice`] does; a file does not. Every device keeps its calls for contracts, with their pages.
 pub trait Device {
     ghost use Rattle.block_buffers.specs.Disks.{Disk};
-    ghost use Rattle.block_buffers.specs.Calls.{Logs, Reads, Writes, KeepsBlocks};
+    ghost use Rattle.block_buffers.specs.Calls.{Reads, Writes, KeepsBlocks, read_call, write_call};
+    ghost use Rattle.block_buffers.specs.DeviceCalls.{DeviceCall};
 
     // its blocks and its coming results, where it tells them
     ghost disk: { Self → Option Disk };
 
-    // for each call so far, in order, whether it failed
-    ghost calls: { Self → List Bool };
+    // its calls so far, in order
+    ghost calls: { Self → List DeviceCall };
 
-    // how many blocks it has
+    // how many blocks it has, which no call changes
     ghost block_count: { Self → ℕ };
 
     /// How many blocks there are, at most 65,536.
@@ -33,11 +34,15 @@ pub trait Device {
     fn read(&mut self, block: u16, page: &mut [u8; BLOCK_SIZE]) -> Result<(), DeviceFault>
         ensures told { IfSome (disk self.old) (λ d. Reads d block (disk self.new) page.new result) }
         ensures kept { KeepsBlocks (disk self.old) (disk self.new) }
-        ensures logged { Logs (calls self.old) (calls self.new) result };
+        ensures counted { block_count self.new ≡ block_count self.old }
+        ensures there { OnOk result (block < block_count self.old) }
+        ensures logged { calls self.new ≡ calls self.old ++ read_call block page.new result ∷ [] };
 
     /// Writes `page` to a block. Where it fails, no block has changed.
     fn write(&mut self, block: u16, page: &[u8; BLOCK_SIZE]) -> Result<(), DeviceFault>
         ensures told { IfSome (disk self.old) (λ d. Writes d block page.now (disk self.new) result) }
         ensures kept { OnErr result (KeepsBlocks (disk self.old) (disk self.new)) }
-        ensures logged { Logs (calls self.old) (calls self.new) result };
+        ensures counted { block_count self.new ≡ block_count self.old }
+        ensures there { OnOk result (block < block_count self.old) }
+        ensures logged { calls self.new ≡ calls self.old ++ write_call block page.now result ∷ [] };
 }

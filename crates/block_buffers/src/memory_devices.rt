@@ -2,8 +2,8 @@
 ghost use Rattle.std.specs.Prelude.{◌≡◌, ◌≤◌, Some, [], drop, vec_len, IsSomeAnd};
 ghost use Rattle.block_buffers.specs.Disks.{next_fails};
 
-use crate::call_log::CallLog;
 use crate::devices::{BLOCK_SIZE, Device, DeviceFault};
+use crate::page_log::{Called, PageLog};
 
 /// The results of the coming calls. `true` fails; where none is left, a call doesn't fail.
 #[derive(Drop)]
@@ -33,7 +33,7 @@ impl Coming {
 pub struct MemoryDevice {
     blocks: Vec<[u8; BLOCK_SIZE]>,
     coming: Coming,
-    log: CallLog,
+    log: PageLog,
     ghost few: { vec_len blocks ≤ 65536 },
 }
 
@@ -52,7 +52,7 @@ impl MemoryDevice {
                 results: coming,
                 next: 0,
             },
-            log: CallLog::new(),
+            log: PageLog::new(),
         }
     }
 
@@ -79,11 +79,11 @@ impl Device for MemoryDevice {
         let fails = self.coming.take();
         let at = block as usize;
         if fails || at >= self.blocks.len() {
-            self.log = CallLog::failed(&self.log);
+            self.log = self.log.then(&Called::ReadFailed { block });
             return Err(DeviceFault);
         }
         *page = self.blocks[at];
-        self.log = CallLog::succeeded(&self.log);
+        self.log = self.log.then(&Called::Read { block, page });
         Ok(())
     }
 
@@ -91,11 +91,11 @@ impl Device for MemoryDevice {
         let fails = self.coming.take();
         let at = block as usize;
         if fails || at >= self.blocks.len() {
-            self.log = CallLog::failed(&self.log);
+            self.log = self.log.then(&Called::WriteFailed { block, page });
             return Err(DeviceFault);
         }
         self.blocks[at] = *page;
-        self.log = CallLog::succeeded(&self.log);
+        self.log = self.log.then(&Called::Written { block, page });
         Ok(())
     }
 }

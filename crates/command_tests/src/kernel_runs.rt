@@ -47,7 +47,7 @@ impl Device for Watched {
 }
 
 /// A device with these bytes as its blocks, whose first calls fail where `coming` says so.
-fn device(alloc: Global, bytes: &[u8], coming: &[bool]) -> Result<MemoryDevice, Fail> {
+pub fn device(alloc: Global, bytes: &[u8], coming: &[bool]) -> Result<MemoryDevice, Fail> {
     let mut blocks = Vec::new(alloc);
     for piece in bytes.chunks(1024) {
         let mut block = [b' '; 1024];

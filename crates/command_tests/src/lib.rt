@@ -23,3 +23,5 @@ mod round_trip_tests;
 mod run_tests;
 #[cfg(test)]
 mod see_tests;
+#[cfg(test)]
+mod session_tests;

@@ -1,5 +1,8 @@
 //! The words of `import` and `export`.
 
+ghost use Rattle.std.specs.Prelude.{◌≡◌, codes, IfOk, IfSome};
+ghost use Rattle.command_words.specs.Typed.{AreContained, Says, name_of};
+
 use crate::{Words, copied, word};
 use clap::{Arg, ArgAction, ArgMatches, Command, value_parser};
 use std::alloc::{AllocError, Global};
@@ -100,7 +103,10 @@ fn container_words(
     alloc: Global,
     inner: &ArgMatches<'_>,
     cleans: bool,
-) -> Result<Option<ContainerWords>, AllocError> {
+) -> Result<Option<ContainerWords>, AllocError>
+    ensures typed { IfOk result (λ r. IfSome r (AreContained inner.now)) }
+    ensures cleans { IfOk result (λ r. IfSome r (λ w. w.cleans ≡ cleans)) }
+{
     let Some(container) = copied(alloc, inner, "CONTAINER")? else {
         return Ok(None);
     };
@@ -122,7 +128,10 @@ fn container_words(
 }
 
 /// The words of `import`.
-pub fn import_words(alloc: Global, inner: &ArgMatches<'_>) -> Result<Option<Words>, AllocError> {
+pub fn import_words(alloc: Global, inner: &ArgMatches<'_>) -> Result<Option<Words>, AllocError>
+    ensures said { IfOk result (λ r. IfSome r (Says inner.now)) }
+    ensures named { IfOk result (λ r. IfSome r (λ w. name_of w ≡ codes "import")) }
+{
     match container_words(alloc, inner, inner.get_flag("clean"))? {
         Some(words) => Ok(Some(Words::Import(words))),
         None => Ok(None),
@@ -130,7 +139,10 @@ pub fn import_words(alloc: Global, inner: &ArgMatches<'_>) -> Result<Option<Word
 }
 
 /// The words of `export`.
-pub fn export_words(alloc: Global, inner: &ArgMatches<'_>) -> Result<Option<Words>, AllocError> {
+pub fn export_words(alloc: Global, inner: &ArgMatches<'_>) -> Result<Option<Words>, AllocError>
+    ensures said { IfOk result (λ r. IfSome r (Says inner.now)) }
+    ensures named { IfOk result (λ r. IfSome r (λ w. name_of w ≡ codes "export")) }
+{
     match container_words(alloc, inner, false)? {
         Some(words) => Ok(Some(Words::Export(words))),
         None => Ok(None),

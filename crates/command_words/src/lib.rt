@@ -3,6 +3,9 @@
 
 mod containers;
 
+ghost use Rattle.std.specs.Prelude.{◌≡◌, codes, IfOk, IfSome};
+ghost use Rattle.command_words.specs.Typed.{AreScreens, IsTyped, IsTypedIfGiven, Says, name_of};
+
 use clap::error::ErrorKind;
 use clap::{Arg, ArgAction, ArgMatches, Command, value_parser};
 pub use containers::ContainerWords;
@@ -288,14 +291,20 @@ fn command<'a>(alloc: Global) -> Result<Command<'a>, AllocError> {
         .subcommand(view_command(alloc)?)
 }
 
-fn copied(alloc: Global, matches: &ArgMatches<'_>, id: &str) -> Result<Option<String>, AllocError> {
+/// The text that was typed for an argument, if it was given.
+fn copied(alloc: Global, matches: &ArgMatches<'_>, id: &str) -> Result<Option<String>, AllocError>
+    ensures { IfOk result (λ r. IsTypedIfGiven matches.now id.now r) }
+{
     match matches.get_str(id) {
         None => Ok(None),
         Some(text) => Ok(Some(String::from_str(alloc, text)?)),
     }
 }
 
-fn kernel_words(alloc: Global, inner: &ArgMatches<'_>) -> Result<Option<Words>, AllocError> {
+fn kernel_words(alloc: Global, inner: &ArgMatches<'_>) -> Result<Option<Words>, AllocError>
+    ensures said { IfOk result (λ r. IfSome r (Says inner.now)) }
+    ensures named { IfOk result (λ r. IfSome r (λ w. name_of w ≡ codes "kernel")) }
+{
     match copied(alloc, inner, "BLOCKS")? {
         None => Ok(None),
         Some(blocks) => Ok(Some(Words::Kernel { blocks })),
@@ -303,7 +312,9 @@ fn kernel_words(alloc: Global, inner: &ArgMatches<'_>) -> Result<Option<Words>, 
 }
 
 /// The screens that BLOCKS, FROM and TO name.
-fn screen_range(alloc: Global, inner: &ArgMatches<'_>) -> Result<Option<ScreenRange>, AllocError> {
+fn screen_range(alloc: Global, inner: &ArgMatches<'_>) -> Result<Option<ScreenRange>, AllocError>
+    ensures { IfOk result (λ r. IfSome r (AreScreens inner.now)) }
+{
     let Some(blocks) = copied(alloc, inner, "BLOCKS")? else {
         return Ok(None);
     };
@@ -313,7 +324,10 @@ fn screen_range(alloc: Global, inner: &ArgMatches<'_>) -> Result<Option<ScreenRa
     Ok(Some(ScreenRange { blocks, from, to }))
 }
 
-fn build_words(alloc: Global, inner: &ArgMatches<'_>) -> Result<Option<Words>, AllocError> {
+fn build_words(alloc: Global, inner: &ArgMatches<'_>) -> Result<Option<Words>, AllocError>
+    ensures said { IfOk result (λ r. IfSome r (Says inner.now)) }
+    ensures named { IfOk result (λ r. IfSome r (λ w. name_of w ≡ codes "build")) }
+{
     let Some(screens) = screen_range(alloc, inner)? else {
         return Ok(None);
     };
@@ -329,7 +343,10 @@ fn build_words(alloc: Global, inner: &ArgMatches<'_>) -> Result<Option<Words>, A
     })))
 }
 
-fn load_words(alloc: Global, inner: &ArgMatches<'_>) -> Result<Option<Words>, AllocError> {
+fn load_words(alloc: Global, inner: &ArgMatches<'_>) -> Result<Option<Words>, AllocError>
+    ensures said { IfOk result (λ r. IfSome r (Says inner.now)) }
+    ensures named { IfOk result (λ r. IfSome r (λ w. name_of w ≡ codes "load")) }
+{
     let Some(image) = copied(alloc, inner, "IMAGE")? else {
         return Ok(None);
     };
@@ -349,7 +366,10 @@ fn load_words(alloc: Global, inner: &ArgMatches<'_>) -> Result<Option<Words>, Al
     })))
 }
 
-fn upgrade_words(alloc: Global, inner: &ArgMatches<'_>) -> Result<Option<Words>, AllocError> {
+fn upgrade_words(alloc: Global, inner: &ArgMatches<'_>) -> Result<Option<Words>, AllocError>
+    ensures said { IfOk result (λ r. IfSome r (Says inner.now)) }
+    ensures named { IfOk result (λ r. IfSome r (λ w. name_of w ≡ codes "upgrade")) }
+{
     let Some(image) = copied(alloc, inner, "IMAGE")? else {
         return Ok(None);
     };
@@ -364,14 +384,20 @@ fn upgrade_words(alloc: Global, inner: &ArgMatches<'_>) -> Result<Option<Words>,
     }))
 }
 
-fn text_words(alloc: Global, inner: &ArgMatches<'_>) -> Result<Option<Words>, AllocError> {
+fn text_words(alloc: Global, inner: &ArgMatches<'_>) -> Result<Option<Words>, AllocError>
+    ensures said { IfOk result (λ r. IfSome r (Says inner.now)) }
+    ensures named { IfOk result (λ r. IfSome r (λ w. name_of w ≡ codes "text")) }
+{
     match screen_range(alloc, inner)? {
         Some(screens) => Ok(Some(Words::Text(screens))),
         None => Ok(None),
     }
 }
 
-fn screens_words(alloc: Global, inner: &ArgMatches<'_>) -> Result<Option<Words>, AllocError> {
+fn screens_words(alloc: Global, inner: &ArgMatches<'_>) -> Result<Option<Words>, AllocError>
+    ensures said { IfOk result (λ r. IfSome r (Says inner.now)) }
+    ensures named { IfOk result (λ r. IfSome r (λ w. name_of w ≡ codes "screens")) }
+{
     let Some(text) = copied(alloc, inner, "TEXT")? else {
         return Ok(None);
     };
@@ -381,7 +407,10 @@ fn screens_words(alloc: Global, inner: &ArgMatches<'_>) -> Result<Option<Words>,
     Ok(Some(Words::Screens { text, blocks }))
 }
 
-fn new_words(alloc: Global, inner: &ArgMatches<'_>) -> Result<Option<Words>, AllocError> {
+fn new_words(alloc: Global, inner: &ArgMatches<'_>) -> Result<Option<Words>, AllocError>
+    ensures said { IfOk result (λ r. IfSome r (Says inner.now)) }
+    ensures named { IfOk result (λ r. IfSome r (λ w. name_of w ≡ codes "new")) }
+{
     let Some(blocks) = copied(alloc, inner, "BLOCKS")? else {
         return Ok(None);
     };
@@ -391,7 +420,10 @@ fn new_words(alloc: Global, inner: &ArgMatches<'_>) -> Result<Option<Words>, All
     Ok(Some(Words::New { blocks, count }))
 }
 
-fn run_words(alloc: Global, inner: &ArgMatches<'_>) -> Result<Option<Words>, AllocError> {
+fn run_words(alloc: Global, inner: &ArgMatches<'_>) -> Result<Option<Words>, AllocError>
+    ensures said { IfOk result (λ r. IfSome r (Says inner.now)) }
+    ensures named { IfOk result (λ r. IfSome r (λ w. name_of w ≡ codes "run")) }
+{
     let Some(image) = copied(alloc, inner, "IMAGE")? else {
         return Ok(None);
     };
@@ -407,7 +439,10 @@ fn run_words(alloc: Global, inner: &ArgMatches<'_>) -> Result<Option<Words>, All
     })))
 }
 
-fn debug_words(alloc: Global, inner: &ArgMatches<'_>) -> Result<Option<Words>, AllocError> {
+fn debug_words(alloc: Global, inner: &ArgMatches<'_>) -> Result<Option<Words>, AllocError>
+    ensures said { IfOk result (λ r. IfSome r (Says inner.now)) }
+    ensures named { IfOk result (λ r. IfSome r (λ w. name_of w ≡ codes "debug")) }
+{
     let Some((image, name)) = image_and_name(alloc, inner)? else {
         return Ok(None);
     };
@@ -429,7 +464,10 @@ fn debug_words(alloc: Global, inner: &ArgMatches<'_>) -> Result<Option<Words>, A
 fn image_and_name(
     alloc: Global,
     inner: &ArgMatches<'_>,
-) -> Result<Option<(String, String)>, AllocError> {
+) -> Result<Option<(String, String)>, AllocError>
+    ensures { IfOk result (λ r. IfSome r (λ words. IsTyped inner.now (codes "IMAGE") words.0 ×
+        IsTyped inner.now (codes "NAME") words.1)) }
+{
     let Some(image) = copied(alloc, inner, "IMAGE")? else {
         return Ok(None);
     };
@@ -439,14 +477,20 @@ fn image_and_name(
     Ok(Some((image, name)))
 }
 
-fn see_words(alloc: Global, inner: &ArgMatches<'_>) -> Result<Option<Words>, AllocError> {
+fn see_words(alloc: Global, inner: &ArgMatches<'_>) -> Result<Option<Words>, AllocError>
+    ensures said { IfOk result (λ r. IfSome r (Says inner.now)) }
+    ensures named { IfOk result (λ r. IfSome r (λ w. name_of w ≡ codes "see")) }
+{
     match image_and_name(alloc, inner)? {
         Some((image, name)) => Ok(Some(Words::See { image, name })),
         None => Ok(None),
     }
 }
 
-fn view_words(alloc: Global, inner: &ArgMatches<'_>) -> Result<Option<Words>, AllocError> {
+fn view_words(alloc: Global, inner: &ArgMatches<'_>) -> Result<Option<Words>, AllocError>
+    ensures said { IfOk result (λ r. IfSome r (Says inner.now)) }
+    ensures named { IfOk result (λ r. IfSome r (λ w. name_of w ≡ codes "view")) }
+{
     match image_and_name(alloc, inner)? {
         Some((image, name)) => Ok(Some(Words::View { image, name })),
         None => Ok(None),

@@ -1,11 +1,11 @@
 //! The ends of a run: blocks whose calls are noted, and a reader and a writer that may fail.
 
-ghost use Rattle.std.specs.Prelude.{false, None};
+ghost use Rattle.std.specs.Prelude.{false, true, None};
 
 use crate::numbers::{byte, number};
 use anyhow::{Context, Result, bail};
 use block_buffers::{Device, DeviceFault, MemoryDevice};
-use inner_interpreter::{EndFault, Input, Output};
+use inner_interpreter::{EndFault, Given, Input, Output, ReadLog};
 use std::alloc::Global;
 
 /// What is said of the ends.
@@ -167,6 +167,7 @@ pub struct Breaking {
     typed: Vec<u8>,
     next: usize,
     has_failed: bool,
+    log: ReadLog,
 }
 
 impl Breaking {
@@ -175,6 +176,7 @@ impl Breaking {
             typed,
             next: 0,
             has_failed: false,
+            log: ReadLog::new(),
         }
     }
 }
@@ -182,11 +184,14 @@ impl Breaking {
 impl Input for Breaking {
     ghost unread = { λ _. None };
 
+    ghost reads = { λ r. r.log.reads };
+
     ghost failed = { λ r. r.has_failed };
 
     fn byte(&mut self) -> Result<Option<u8>, EndFault> {
         if let Some(&byte) = self.typed.get(self.next) {
             self.next = self.next.saturating_add(1);
+            self.log = self.log.then(&Given::Byte(byte));
             return Ok(Some(byte));
         }
         self.has_failed = true;
@@ -219,6 +224,8 @@ impl Filling {
 
 impl Output for Filling {
     ghost sent = { λ _. None };
+
+    ghost passed = { λ _. true };
 
     ghost failed = { λ w. w.has_failed };
 

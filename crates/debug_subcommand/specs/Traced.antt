@@ -5,7 +5,7 @@ use Rattle.debug_tracer.specs.Debugged.{EndsDebugged, debugged}
 use Rattle.debug_tracer.specs.declared.fault.DebugFault.{DebugFault}
 use Rattle.debug_tracer.specs.declared.fault.DebugFault.TheVariants as debug
 use Rattle.image_loader.specs.Files.{Contents, IsFile}
-use Rattle.inner_interpreter.specs.Moves.{HasRun}
+use Rattle.inner_interpreter.specs.Moves.{HasRun, Logs}
 use Rattle.inner_interpreter.specs.Runs.{World, stop_by}
 use Rattle.machine.specs.State.{State, start}
 use Rattle.inner_interpreter.specs.declared.stop.Stop.{Stop}
@@ -43,16 +43,16 @@ abbrev pub AreKept : {R D T : Type 0} → (reader reader' : R) → (device devic
 AreKept reader reader' device device' trace trace' = (reader' ≡ reader) × (device' ≡ device) × (trace' ≡ trace)
 
 -- an image that was loaded, for a device of so many blocks, was run with a trace
-pub record HasTracedFrom (image : Contents) (blocks : ℕ) (calls calls' : List Bool) (limit : ℕ) (reader writer trace : Bool) (stop : Stop) : Type 0 where
+pub record HasTracedFrom (image : Contents) (blocks : ℕ) (log log' : Logs) (limit : ℕ) (reader writer trace : Bool) (stop : Stop) : Type 0 where
   pub state : State
-  pub run : HasRun (start image blocks) state calls calls' limit stop
+  pub run : HasRun (start image blocks) state log log' limit stop
   pub ended : reader ≡ false → writer ≡ false → trace ≡ false → stop_by state.halt 0 ≡ Some stop
 
 -- the same, with the status of its stop
-pub record HasTracedWith (status : ℕ) (image : Contents) (blocks : ℕ) (calls calls' : List Bool) (limit : ℕ) (reader writer trace : Bool) : Type 0 where
+pub record HasTracedWith (status : ℕ) (image : Contents) (blocks : ℕ) (log log' : Logs) (limit : ℕ) (reader writer trace : Bool) : Type 0 where
   pub stop : Stop
   pub status_is : status ≡ status_of stop
-  pub run : HasTracedFrom image blocks calls calls' limit reader writer trace stop
+  pub run : HasTracedFrom image blocks log log' limit reader writer trace stop
 
 -- the run ends here, with the status of its stop, and the trace of the word of this name was sent
 pub record EndsTracedWith (status : ℕ) (w : World) (name : List ℕ) (unread : Option (List ℕ)) (disk : Option Disk) (sent : Option (List ℕ)) (old new : Option (List ℕ)) : Type 0 where

@@ -8,6 +8,7 @@ ghost use Rattle.subcommands.specs.Causes.{IsNoFile};
 ghost use Rattle.subcommands.specs.Ends.{IsRefusal};
 ghost use Rattle.subcommands.specs.Lines.{OfImageFile, PrintsNoImage, PrintsOutOfMemory, PrintsRefusal, memory_of};
 ghost use Rattle.image_loader.specs.declared.fault.ImageFault.{ImageFault};
+ghost use Rattle.inner_interpreter.specs.Moves.{logs};
 ghost use Rattle.inner_interpreter.specs.Worlds.{OfFile, OfImage};
 
 use crate::cause::NotTraced;
@@ -22,6 +23,7 @@ use subcommands::{Ended, end_with, print_out_of_memory, refuse, refuse_image, st
 fn refuse_debug<W: Output>(name: &str, why: DebugFault, writer: &mut W) -> Ended
     ensures printed { W.failed writer.new ≡ false →
         PrintsUntraced name.now why result.status (W.sent writer.old) (W.sent writer.new) }
+    ensures passed { W.failed writer.new ≡ false → W.passed writer.new ≡ true }
     ensures cut { W.failed writer.old ≡ false → W.failed writer.new ≡ true → result.status ≡ 5 }
     ensures status { IsRefusal result.status (W.failed writer.new) }
     ensures file { IsNone result.file }
@@ -72,8 +74,11 @@ fn load_and_debug<R: Input, W: Output, D: Device, T: Output>(
         OfImage image.now (R.unread reader.old) (D.disk device.old) (W.sent writer.old) limit
         (λ w. EndsUntracedDebugged w name.now (R.unread reader.new) (D.disk device.new) (W.sent writer.new)
         (T.sent trace.old) (T.sent trace.new))) }
-    ensures moved { IfOk result (λ stop. HasTracedFrom image.now (D.block_count device.old) (D.calls device.old)
-        (D.calls device.new) limit (R.failed reader.new) (W.failed writer.new) (T.failed trace.new) stop) }
+    ensures passed { IfOk result (λ stop. W.failed writer.new ≡ false → T.failed trace.new ≡ false →
+        (W.passed writer.new ≡ true) × (R.failed reader.new ≡ false → T.passed trace.new ≡ true)) }
+    ensures moved { IfOk result (λ stop. HasTracedFrom image.now (D.block_count device.old)
+        (logs (D.calls device.old) (W.sent writer.old) (R.reads reader.old))
+        (logs (D.calls device.new) (W.sent writer.new) (R.reads reader.new)) limit (R.failed reader.new) (W.failed writer.new) (T.failed trace.new) stop) }
     ensures reader { OnErr result (reader.new ≡ reader.old) }
     ensures writer { OnErr result (writer.new ≡ writer.old) }
     ensures device { OnErr result (device.new ≡ device.old) }
@@ -139,6 +144,8 @@ pub fn do_debug<R: Input, W: Output, D: Device, T: Output>(
         T.failed trace.old ≡ false → T.failed trace.new ≡ false → result.status ≢ 5 }
     ensures one { R.failed reader.old ≡ false → R.failed reader.new ≡ true →
         W.failed writer.new ≡ W.failed writer.old }
+    // Where no writer fails, all that was printed was passed on.
+    ensures passed { W.failed writer.new ≡ false → T.failed trace.new ≡ false → W.passed writer.new ≡ true }
     // Where the writer fails, some first rounds were made and traced, up to the first that shows more than was sent; or
     // memory ran out, and nothing was run.
     ensures cut { W.failed writer.old ≡ false → W.failed writer.new ≡ true →
@@ -159,7 +166,9 @@ pub fn do_debug<R: Input, W: Output, D: Device, T: Output>(
         (T.sent trace.old) (T.sent trace.new)) }
     // Whatever the ends are, the machine that was loaded moved by ticks and answers alone; or memory ran out.
     ensures moved { OfImageFile image.now (λ file. IsOk (debugged (memory_of file) name.now) →
-        HasTracedWith result.status file (D.block_count device.old) (D.calls device.old) (D.calls device.new) limit
+        HasTracedWith result.status file (D.block_count device.old)
+        (logs (D.calls device.old) (W.sent writer.old) (R.reads reader.old))
+        (logs (D.calls device.new) (W.sent writer.new) (R.reads reader.new)) limit
         (R.failed reader.new) (W.failed writer.new) (T.failed trace.new) ⊎
         IsUnmarked result.status (W.failed writer.new) reader.old reader.new device.old device.new trace.old
         trace.new) }

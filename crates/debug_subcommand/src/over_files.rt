@@ -1,5 +1,7 @@
 //! `debug` over the files that the command line names.
 
+ghost use Rattle.std.specs.Prelude.{◌<◌, IfErr};
+
 use crate::debug_command::do_debug;
 use inner_interpreter::{Reading, Writing};
 use named_files::{
@@ -16,7 +18,9 @@ pub fn debug_word(
     trace: &str,
     blocks: Option<&str>,
     limit: u64,
-) -> Result<u8, u8> {
+) -> Result<u8, u8>
+    ensures { IfErr result (λ status. 0 < status) }
+{
     keep_apart(rt, image, trace, "the image and the trace")?;
     if let Some(file) = blocks {
         keep_apart(rt, file, trace, "the blocks and the trace")?;

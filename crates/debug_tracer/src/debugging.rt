@@ -2,7 +2,7 @@
 
 ghost use Rattle.std.specs.Prelude.{◌≡◌, ◌≢◌, ◌↔◌, Ok, Some, false, true, IsOk, IfOk, IfErr, OnErr};
 ghost use Rattle.machine.specs.declared.extent.Extent.{Extent};
-ghost use Rattle.inner_interpreter.specs.Moves.{HasRun};
+ghost use Rattle.inner_interpreter.specs.Moves.{HasRun, logs};
 ghost use Rattle.inner_interpreter.specs.Runs.{World, stop_by};
 ghost use Rattle.inner_interpreter.specs.Served.{HasNotFailed};
 ghost use Rattle.inner_interpreter.specs.Tracing.{EndsTraced, EndsCutTraced, EndsFaultedTraced, EndsUntraced};
@@ -88,10 +88,16 @@ pub fn debug<R: Input, W: Output, D: Device, T: Output>(
         EndsUntraced e (line_from machine.old.parts.memory) w machine.new (R.unread reader.new) (D.disk device.new)
         (W.sent writer.new) (T.sent trace.old) (T.sent trace.new)) }
 
-    // Whatever the ends are: the machine moved by ticks and answers alone, at most `limit` and one more; and it was told
-    // of a device fault just where the very call of its device failed.
+    // Where no writer fails, all that was sent was passed on.
+    ensures passed { IfOk result (λ stop. W.failed writer.new ≡ false → T.failed trace.new ≡ false →
+        (W.passed writer.new ≡ true) × (R.failed reader.new ≡ false → T.passed trace.new ≡ true)) }
+
+    // Whatever the ends are: the machine moved by ticks and answers alone, at most `limit` and one more; its reader gave just
+    // what it was answered with, its device was given just the calls that it asked for, with their pages, and its writer was
+    // sent just what it showed.
     ensures moved { IfOk result (λ stop.
-        HasRun machine.old machine.new (D.calls device.old) (D.calls device.new) limit stop) }
+        HasRun machine.old machine.new (logs (D.calls device.old) (W.sent writer.old) (R.reads reader.old))
+        (logs (D.calls device.new) (W.sent writer.new) (R.reads reader.new)) limit stop) }
 {
     let word = match word_of(alloc, machine.memory(), name) {
         Ok(word) => word,

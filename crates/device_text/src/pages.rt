@@ -3,8 +3,9 @@
 ghost use Rattle.std.specs.Prelude.{◌≡◌, ◌+◌, ◌-◌, IfErr, IfOk, Ok, Some};
 ghost use Rattle.block_buffers.specs.Calls.{KeepsBlocks};
 ghost use Rattle.block_buffers.specs.Disks.{Disk, called};
+ghost use Rattle.block_buffers.specs.Likeness.{DidAs, IsLike};
 ghost use Rattle.device_text.specs.declared.pages.PageCause.{PageCause};
-ghost use Rattle.device_text.specs.Pages.{IsWhy, page, pages};
+ghost use Rattle.device_text.specs.Pages.{Asks, IsTextOfRead, IsWhy, page, pages};
 
 use block_buffers::{BLOCK_SIZE, Device};
 use screen_text::screen_text;
@@ -41,11 +42,19 @@ fn wanting(screen: u16) -> Unprinted
 
 /// The text of a screen of a device.
 fn page_text<D: Device>(alloc: Global, device: &mut D, screen: u16) -> Result<Vec<u8>, Unprinted>
-    ensures text { IfOk result (λ v. (d : Disk) → D.disk device.old ≡ Some d → page d screen ≡ Ok v.items) }
-    ensures refused { IfErr result (λ why. (d : Disk) → D.disk device.old ≡ Some d → IsWhy (page d screen) why) }
-    ensures disk { (d : Disk) → D.disk device.old ≡ Some d → D.disk device.new ≡ Some (called d) }
+    ensures text { IfOk result (λ v. (d e : Disk) →
+        DidAs d e (D.block_count device.old) (D.calls device.old) (D.calls device.new) → page d screen ≡ Ok v.items) }
+    ensures refused { IfErr result (λ why. (d e : Disk) →
+        DidAs d e (D.block_count device.old) (D.calls device.old) (D.calls device.new) → IsWhy (page d screen) why) }
+    ensures left { (d e : Disk) → DidAs d e (D.block_count device.old) (D.calls device.old) (D.calls device.new) →
+        e ≡ called d }
+    ensures like { (d : Disk) → D.disk device.old ≡ Some d →
+        IsLike d (D.disk device.new) (D.block_count device.old) (D.calls device.old) (D.calls device.new) }
+    ensures asked { Asks screen (D.block_count device.old) result (D.calls device.old) (D.calls device.new) }
+    ensures counted { D.block_count device.new ≡ D.block_count device.old }
     ensures kept { KeepsBlocks (D.disk device.old) (D.disk device.new) }
 {
+    let _ = device.count();
     let mut bytes = [b' '; BLOCK_SIZE];
     match device.read(screen, &mut bytes) {
         Ok(()) => match screen_text(alloc, screen, &bytes) {
@@ -74,12 +83,22 @@ pub fn pages_text<D: Device>(
     from: u16,
     to: u16,
 ) -> Result<Vec<u8>, Unprinted>
-    ensures text { IfOk result (λ v. (d : Disk) → D.disk device.old ≡ Some d →
+    // Whatever the device is: the text is that of the pages that were read, each screen once, in order.
+    ensures read { IfOk result (λ v. IsTextOfRead from (to + 1 - from) (D.block_count device.old) v.items
+        (D.calls device.old) (D.calls device.new)) }
+    // For each disk as which the device did, the text, or the refusal, is that of this disk's screens.
+    ensures text { IfOk result (λ v. (d e : Disk) →
+        DidAs d e (D.block_count device.old) (D.calls device.old) (D.calls device.new) →
         pages d from (to + 1 - from) ≡ Ok v.items) }
-    ensures refused { IfErr result (λ why.
-        (d : Disk) → D.disk device.old ≡ Some d → IsWhy (pages d from (to + 1 - from)) why) }
+    ensures refused { IfErr result (λ why. (d e : Disk) →
+        DidAs d e (D.block_count device.old) (D.calls device.old) (D.calls device.new) →
+        IsWhy (pages d from (to + 1 - from)) why) }
+    // A device that tells its disk did as that disk, and its blocks stay as they were.
+    ensures like { (d : Disk) → D.disk device.old ≡ Some d →
+        IsLike d (D.disk device.new) (D.block_count device.old) (D.calls device.old) (D.calls device.new) }
     ensures kept { KeepsBlocks (D.disk device.old) (D.disk device.new) }
 {
+    let _ = device.count();
     let mut text = Vec::new(alloc);
     for index in 0..count_of(from, to) {
         let screen = from + index as u16;

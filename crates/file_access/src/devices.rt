@@ -7,7 +7,7 @@ ghost use Rattle.file_access.specs.Told.{told};
 
 use crate::guards::{Unopened, is_in_use};
 use crate::opening::open_apart;
-use block_buffers::{CallLog, Device, DeviceFault};
+use block_buffers::{Called, Device, DeviceFault, PageLog};
 use std::fs::{File, OpenOptions};
 use std::io;
 use std::io::{Read, Seek, SeekFrom, Write};
@@ -17,7 +17,7 @@ use std::io::{Read, Seek, SeekFrom, Write};
 pub struct FileDevice {
     file: Option<File>,
     count: u32,
-    log: CallLog,
+    log: PageLog,
     ghost few: { count ≤ 65536 },
     ghost apart: { ForSome file IsApart },
     ghost empty: { ForNone file (count ≡ 0) },
@@ -32,7 +32,7 @@ impl FileDevice {
         FileDevice {
             file: None,
             count: 0,
-            log: CallLog::new(),
+            log: PageLog::new(),
         }
     }
 }
@@ -64,7 +64,7 @@ fn open_blocks(rt: &HostRuntime, options: &OpenOptions, name: &str) -> Option<Fi
     Some(FileDevice {
         file: Some(file),
         count,
-        log: CallLog::new(),
+        log: PageLog::new(),
     })
 }
 
@@ -95,11 +95,11 @@ impl Device for FileDevice {
         if let (Some(file), true) = (&self.file, u32::from(block) < self.count) {
             let done = read_page(file, u64::from(block) * 1024, page);
             if let Ok(()) = done {
-                self.log = CallLog::succeeded(&self.log);
+                self.log = self.log.then(&Called::Read { block, page });
                 return Ok(());
             }
         }
-        self.log = CallLog::failed(&self.log);
+        self.log = self.log.then(&Called::ReadFailed { block });
         Err(DeviceFault)
     }
 
@@ -107,11 +107,11 @@ impl Device for FileDevice {
         if let (Some(file), true) = (&self.file, u32::from(block) < self.count) {
             let done = write_page(file, u64::from(block) * 1024, page);
             if let Ok(()) = done {
-                self.log = CallLog::succeeded(&self.log);
+                self.log = self.log.then(&Called::Written { block, page });
                 return Ok(());
             }
         }
-        self.log = CallLog::failed(&self.log);
+        self.log = self.log.then(&Called::WriteFailed { block, page });
         Err(DeviceFault)
     }
 }

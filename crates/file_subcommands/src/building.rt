@@ -1,6 +1,6 @@
 //! `build` and `upgrade`.
 
-ghost use Rattle.std.specs.Prelude.{◌≡◌, ◌↔◌, true};
+ghost use Rattle.std.specs.Prelude.{◌≡◌, ◌↔◌, true, ◌<◌, IfErr};
 ghost use Rattle.memory.specs.Bytes.{IsCount};
 
 use crate::screens::Screens;
@@ -54,7 +54,9 @@ pub fn build_image(
     image: &str,
     buffers: u16,
     shows_place: bool,
-) -> Result<u8, u8> {
+) -> Result<u8, u8>
+    ensures { IfErr result (λ status. 0 < status) }
+{
     if !is_count(buffers) {
         return Err(2);
     }
@@ -76,7 +78,9 @@ pub fn upgrade_image(
     image: &str,
     out: &str,
     buffers: Option<u16>,
-) -> Result<u8, u8> {
+) -> Result<u8, u8>
+    ensures { IfErr result (λ status. 0 < status) }
+{
     if let Some(count) = buffers {
         if !is_count(count) {
             return Err(2);

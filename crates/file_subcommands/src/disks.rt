@@ -1,5 +1,7 @@
 //! `import` and `export`.
 
+ghost use Rattle.std.specs.Prelude.{◌<◌, IfErr, IfOk};
+
 use crate::screens::MOST_BLOCKS;
 use containers::{Cause, Layout, named, new_container};
 use inner_interpreter::Writing;
@@ -26,13 +28,18 @@ pub struct Disk<'a> {
 }
 
 /// Prints why a container isn't read or written, and answers the status.
-fn refuse_cause(rt: &HostRuntime, why: Cause) -> Result<u8, u8> {
+fn refuse_cause(rt: &HostRuntime, why: Cause) -> Result<u8, u8>
+    ensures refused { IfOk result (λ status. 0 < status) }
+    ensures failed { IfErr result (λ status. 0 < status) }
+{
     let mut writer = Writing::new(standard_output(rt)?);
     Ok(refuse_container(why, &mut writer).status)
 }
 
 /// How screens lie in the container. Where nothing can lie so it is printed why, and the status is the error.
-fn layout_of(rt: &HostRuntime, disk: Disk<'_>) -> Result<Layout, u8> {
+fn layout_of(rt: &HostRuntime, disk: Disk<'_>) -> Result<Layout, u8>
+    ensures { IfErr result (λ status. 0 < status) }
+{
     let Some(format) = named(disk.format) else {
         return Err(refuse_use(
             rt,
@@ -48,7 +55,9 @@ fn layout_of(rt: &HostRuntime, disk: Disk<'_>) -> Result<Layout, u8> {
 }
 
 /// Writes the new file of blocks that `import` names; one that is there is left alone. `cleans`: what is read is made text.
-pub fn import_screens(rt: &HostRuntime, disk: Disk<'_>, cleans: bool) -> Result<u8, u8> {
+pub fn import_screens(rt: &HostRuntime, disk: Disk<'_>, cleans: bool) -> Result<u8, u8>
+    ensures { IfErr result (λ status. 0 < status) }
+{
     let Disk {
         container,
         blocks,
@@ -69,12 +78,9 @@ pub fn import_screens(rt: &HostRuntime, disk: Disk<'_>, cleans: bool) -> Result<
 }
 
 /// The bytes of the container that `export` names, or of a new one for so many bytes of screens.
-fn old_container(
-    rt: &HostRuntime,
-    layout: &Layout,
-    name: &str,
-    bytes: usize,
-) -> Result<Vec<u8>, u8> {
+fn old_container(rt: &HostRuntime, layout: &Layout, name: &str, bytes: usize) -> Result<Vec<u8>, u8>
+    ensures { IfErr result (λ status. 0 < status) }
+{
     if let Some(old) = old_file(rt, name)? {
         return Ok(old);
     }
@@ -88,7 +94,9 @@ fn old_container(
 }
 
 /// Writes the container that `export` names: the old one with the screens of the blocks, or a new one.
-pub fn export_screens(rt: &HostRuntime, disk: Disk<'_>) -> Result<u8, u8> {
+pub fn export_screens(rt: &HostRuntime, disk: Disk<'_>) -> Result<u8, u8>
+    ensures { IfErr result (λ status. 0 < status) }
+{
     let Disk {
         container,
         blocks,

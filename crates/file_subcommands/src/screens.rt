@@ -1,5 +1,7 @@
 //! `kernel`, `text`, `screens` and `new`.
 
+ghost use Rattle.std.specs.Prelude.{◌<◌, IfErr};
+
 use inner_interpreter::Writing;
 use named_files::{
     file_bytes, held, keep_absent, keep_apart, keep_blocks, old_blocks, read_alone, say,
@@ -19,7 +21,9 @@ pub struct Screens<'a> {
 }
 
 /// Writes the new file that `kernel` names.
-pub fn write_kernel(rt: &HostRuntime, blocks: &str) -> Result<u8, u8> {
+pub fn write_kernel(rt: &HostRuntime, blocks: &str) -> Result<u8, u8>
+    ensures { IfErr result (λ status. 0 < status) }
+{
     let _held = held(rt, blocks)?;
     let mut writer = Writing::new(standard_output(rt)?);
     let Ended { status, file } = do_kernel(rt.alloc(), &mut writer);
@@ -27,7 +31,9 @@ pub fn write_kernel(rt: &HostRuntime, blocks: &str) -> Result<u8, u8> {
 }
 
 /// Prints the screens that `text` names.
-pub fn print_text(rt: &HostRuntime, screens: Screens<'_>) -> Result<u8, u8> {
+pub fn print_text(rt: &HostRuntime, screens: Screens<'_>) -> Result<u8, u8>
+    ensures { IfErr result (λ status. 0 < status) }
+{
     let Screens { blocks, from, to } = screens;
     let mut device = read_alone(rt, blocks)?;
     let mut writer = Writing::new(standard_output(rt)?);
@@ -35,7 +41,9 @@ pub fn print_text(rt: &HostRuntime, screens: Screens<'_>) -> Result<u8, u8> {
 }
 
 /// Writes the screens of the text that `screens` names. A text isn't written over by its screens.
-pub fn write_screens(rt: &HostRuntime, text: &str, blocks: &str) -> Result<u8, u8> {
+pub fn write_screens(rt: &HostRuntime, text: &str, blocks: &str) -> Result<u8, u8>
+    ensures { IfErr result (λ status. 0 < status) }
+{
     keep_apart(rt, text, blocks, "the text and the blocks")?;
     let bytes = file_bytes(rt, text)?;
     keep_blocks(rt, blocks)?;
@@ -47,7 +55,9 @@ pub fn write_screens(rt: &HostRuntime, text: &str, blocks: &str) -> Result<u8, u
 }
 
 /// Writes the new file that `new` names; one that is there is left alone.
-pub fn write_new(rt: &HostRuntime, blocks: &str, count: u32) -> Result<u8, u8> {
+pub fn write_new(rt: &HostRuntime, blocks: &str, count: u32) -> Result<u8, u8>
+    ensures { IfErr result (λ status. 0 < status) }
+{
     if count > MOST_BLOCKS {
         return Err(say(rt, "error: a file has at most 65536 blocks", "", 2));
     }

@@ -1,6 +1,6 @@
 -- Bytes of memory, and bytes that are put one behind the other.
-use Rattle.std.proofs.Common.{◌≡◌, ℕ, ◌+◌, ◌-◌, ◌≤◌, List, length, arith, take, drop, replicate, [], ◌++◌, ap, ◌∙◌, append-nil, append_assoc}
-use Rattle.std.proofs.lemmas.List.{drop-replicate}
+use Rattle.std.proofs.Common.{◌≡◌, sym, subst, ℕ, ◌+◌, ◌-◌, ◌≤◌, List, length, arith, take, drop, replicate, [], ◌++◌, ap, ◌∙◌, append-nil, append_assoc}
+use Rattle.std.proofs.lemmas.List.{drop-replicate, drop-drop}
 use Rattle.std.proofs.lemmas.Grind.{common_steps}
 use Rattle.memory.specs.Bytes.{front_put, zeros}
 
@@ -18,3 +18,12 @@ put_behind xs bs at end e fits = grind (arith, common_steps)
 
 pub append_both : (a b c xs ys zs : List ℕ) → b ≡ a ++ xs → c ≡ b ++ ys → xs ++ ys ≡ zs → c ≡ a ++ zs
 append_both a b c xs ys zs e f g = f ∙ ap (λ v. v ++ ys) e ∙ append_assoc a xs ys ∙ ap (λ v. a ++ v) g
+
+drop_on : (a b : List ℕ) (m n : ℕ) → m ≤ n → drop m a ≡ drop m b → drop n a ≡ drop n b
+drop_on a b m n most e =
+    let sum : m + (n - m) ≡ n = omega arith in
+    subst (λ k. drop k a ≡ drop k b) sum (sym (drop-drop (n - m) m a) ∙ ap (drop (n - m)) e ∙ drop-drop (n - m) m b)
+
+-- what is beyond the second of two pieces is beyond the first, too
+pub beyond_both : (a b c : List ℕ) (m n : ℕ) → m ≤ n → drop m b ≡ drop m a → drop n c ≡ drop n b → drop n c ≡ drop n a
+beyond_both a b c m n most e f = f ∙ drop_on b a m n most e

@@ -1,5 +1,5 @@
 -- How far a call drives a machine: rounds of a run, up to where its host is needed.
-use Rattle.std.specs.Prelude.{◌≡◌, ℕ, ◌<◌, true, List, [], length, None, Some, IsSome}
+use Rattle.std.specs.Prelude.{◌≡◌, ℕ, ◌<◌, ◌≤◌, true, List, [], length, None, Some, IsSome}
 use Rattle.std.specs.List.{list_all}
 use Rattle.block_buffers.specs.Disks.{Disk}
 use Rattle.machine_parts.specs.declared.parts.Request.{Request}
@@ -38,6 +38,7 @@ AreTooFew (Write u) unread = ⊥
 abbrev pub HasStopped : Stop → State → (unread : List ℕ) → (left room : ℕ) → Type 0
 HasStopped Halted s unread left room = IsSome s.halt
 HasStopped Limit s unread left room = (s.halt ≡ None) × (left ≡ 0)
-HasStopped Room s unread left room = (s.halt ≡ None) × (room < 65536)
-HasStopped Typed s unread left room = (s.halt ≡ None) × ((r : Request) × (asked_by s.wait ≡ Some r) × AreTooFew r unread)
-HasStopped Block s unread left room = (s.halt ≡ None) × (asks_device (asked_by s.wait) ≡ true)
+HasStopped Room s unread left room = (s.halt ≡ None) × (0 < left) × (room < 65536)
+HasStopped Typed s unread left room =
+    (s.halt ≡ None) × (0 < left) × (65536 ≤ room) × ((r : Request) × (asked_by s.wait ≡ Some r) × AreTooFew r unread)
+HasStopped Block s unread left room = (s.halt ≡ None) × (0 < left) × (65536 ≤ room) × (asks_device (asked_by s.wait) ≡ true)

@@ -39,6 +39,8 @@ fn tick_on(machine: &mut Machine, out: &mut [u8], course: &mut Course)
     ensures on { (unread : List ℕ) → DrivesOn machine.old unread (take course.old.shown out.old) course.old.left
         machine.new unread (take course.new.shown out.new) course.new.left }
     ensures read { course.new.read ≡ course.old.read }
+    ensures beyond { drop course.new.shown out.new ≡ drop course.new.shown out.old }
+    ensures more { course.old.shown ≤ course.new.shown }
     ensures shown { course.new.shown ≤ length out.new }
     ensures fewer { course.new.left < course.old.left }
     ensures len { length out.new ≡ length out.old }
@@ -67,6 +69,8 @@ fn answer_key(
     ensures settled { IsNone result → machine.new.wait ≡ None }
     ensures left { course.new.left ≡ course.old.left }
     ensures read { course.new.read ≤ length typed.now }
+    ensures beyond { drop course.new.shown out.new ≡ drop course.new.shown out.old }
+    ensures more { course.old.shown ≤ course.new.shown }
     ensures shown { course.new.shown ≤ length out.new }
     ensures len { length out.new ≡ length out.old }
 {
@@ -127,6 +131,8 @@ fn answer_line(
     ensures settled { IsNone result → machine.new.wait ≡ None }
     ensures left { course.new.left ≡ course.old.left }
     ensures read { course.new.read ≤ length typed.now }
+    ensures beyond { drop course.new.shown out.new ≡ drop course.new.shown out.old }
+    ensures more { course.old.shown ≤ course.new.shown }
     ensures shown { course.new.shown ≤ length out.new }
     ensures len { length out.new ≡ length out.old }
 {
@@ -154,6 +160,8 @@ fn step(machine: &mut Machine, typed: &[u8], out: &mut [u8], course: &mut Course
         rounds_left course.new.left machine.new.wait < rounds_left course.old.left machine.old.wait }
     ensures left { course.new.left ≤ course.old.left }
     ensures read { course.new.read ≤ length typed.now }
+    ensures beyond { drop course.new.shown out.new ≡ drop course.new.shown out.old }
+    ensures more { course.old.shown ≤ course.new.shown }
     ensures shown { course.new.shown ≤ length out.new }
     ensures len { length out.new ≡ length out.old }
 {
@@ -180,6 +188,7 @@ fn step(machine: &mut Machine, typed: &[u8], out: &mut [u8], course: &mut Course
 
 /// Drives a machine by typed bytes, for at most `limit` ticks, up to where its host is needed: how far that is, and why it
 /// ended there.
+#[tactic(auto, using(crate::proofs::Bytes::beyond_both))]
 pub fn drive(machine: &mut Machine, typed: &[u8], out: &mut [u8], limit: u64) -> (Course, Stop)
     ensures driven { IsDriven machine.old typed.now limit machine.new (drop result.0.read typed.now)
         (take result.0.shown out.new) result.0.left }
@@ -187,6 +196,7 @@ pub fn drive(machine: &mut Machine, typed: &[u8], out: &mut [u8], limit: u64) ->
         (length out.new - result.0.shown) }
     ensures left { result.0.left ≤ limit }
     ensures read { result.0.read ≤ length typed.now }
+    ensures beyond { drop result.0.shown out.new ≡ drop result.0.shown out.old }
     ensures shown { result.0.shown ≤ length out.new }
     ensures len { length out.new ≡ length out.old }
 {

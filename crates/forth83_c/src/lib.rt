@@ -12,7 +12,7 @@ mod showing;
 mod status;
 mod stop;
 
-ghost use Rattle.std.specs.Prelude.{◌≡◌, ◌≢◌, ◌<◌, ◌≤◌, ◌⊎◌, length, take, IsTrue};
+ghost use Rattle.std.specs.Prelude.{◌≡◌, ◌≢◌, ◌<◌, ◌≤◌, ◌⊎◌, length, take, drop, IsTrue};
 ghost use Rattle.dictionary.specs.Adding.{is_name};
 ghost use Rattle.image_loader.specs.Files.{Contents, IsFile, IsCutShort, IsFollowed, HasBadMagic, HasBadVersion, HasBadBuffers, HasBadSize};
 ghost use Rattle.machine.specs.State.{start};
@@ -67,6 +67,7 @@ pub extern "C" fn forth83_run(
     end: &mut Forth83End,
 ) -> u32
     ensures ran { result ≡ 0 → HasRun machine.old machine.new typed.now shown.new limit end.new }
+    ensures beyond { result ≡ 0 → drop end.new.shown shown.new ≡ drop end.new.shown shown.old }
 
     // It is refused where there is too little room, where the record keeps no machine, or where memory runs out; all is then
     // as it was.
@@ -191,6 +192,7 @@ pub extern "C" fn forth83_push(machine: &mut Forth83, x: u16) -> u32
     ensures waiting { machine.old.asks ≢ 0 → result ≡ 11 }
     ensures no_machine { machine.old.asks ≡ 0 → TellsMachine machine.old result }
     ensures why { machine.old.asks ≡ 0 → TellsByCode WhyNotPushed machine.old result }
+    ensures known { result ≢ 2 }
     ensures stays { result ≢ 0 → machine.new ≡ machine.old }
 {
     running::push(machine, x).code()
@@ -204,6 +206,7 @@ pub extern "C" fn forth83_pop(machine: &mut Forth83, x: &mut u16) -> u32
     ensures waiting { machine.old.asks ≢ 0 → result ≡ 11 }
     ensures no_machine { machine.old.asks ≡ 0 → TellsMachine machine.old result }
     ensures why { machine.old.asks ≡ 0 → TellsByCode WhyNotPopped machine.old result }
+    ensures known { result ≢ 2 }
     ensures stays { result ≢ 0 → machine.new ≡ machine.old }
     ensures untold { result ≢ 0 → x.new ≡ x.old }
 {
@@ -222,6 +225,8 @@ pub extern "C" fn forth83_save(
     size: &mut usize,
 ) -> u32
     ensures saved { result ≡ 0 → HasSaved machine.now entry (take size.new file.new) }
+    ensures fits { result ≡ 0 → size.new ≤ length file.new }
+    ensures beyond { result ≡ 0 → drop size.new file.new ≡ drop size.new file.old }
     ensures no_machine { TellsMachine machine.now result }
     ensures why { TellsByCode (WhyNotSaved entry (length file.old)) machine.now result }
     ensures stays { result ≢ 0 → file.new ≡ file.old }

@@ -1,6 +1,6 @@
 //! Loading and running of a machine that is kept.
 
-ghost use Rattle.std.specs.Prelude.{◌≡◌, ◌≢◌, ◌<◌, ◌≤◌, ◌⊎◌, length, take};
+ghost use Rattle.std.specs.Prelude.{◌≡◌, ◌≢◌, ◌<◌, ◌≤◌, ◌⊎◌, length, take, drop};
 ghost use Rattle.image_loader.specs.Files.{Contents, IsFile, IsCutShort, IsFollowed, HasBadMagic, HasBadVersion, HasBadBuffers, HasBadSize};
 ghost use Rattle.machine.specs.State.{start};
 ghost use Rattle.forth83_c.specs.declared.status.Status.TheVariants as status;
@@ -60,6 +60,7 @@ pub fn run(
     end: &mut Forth83End,
 ) -> Status
     ensures ran { result ≡ status.Done → HasRun kept.old kept.new typed.now shown.new limit end.new }
+    ensures beyond { result ≡ status.Done → drop end.new.shown shown.new ≡ drop end.new.shown shown.old }
     ensures refused { (result ≡ status.Done) ⊎ ((result ≡ status.NoMachine) ⊎
         ((result ≡ status.OutOfMemory) ⊎ (result ≡ status.ShortRoom))) }
     ensures room { length shown.old < 65536 → result ≡ status.ShortRoom }
@@ -176,6 +177,7 @@ pub fn push(kept: &mut Forth83, x: u16) -> Status
     ensures waiting { kept.old.asks ≢ 0 → result ≡ status.Waiting }
     ensures no_machine { kept.old.asks ≡ 0 → TellsMachine kept.old (code_of result) }
     ensures why { kept.old.asks ≡ 0 → Tells WhyNotPushed kept.old result }
+    ensures known { result ≢ status.OutOfMemory }
     ensures stays { result ≢ status.Done → kept.new ≡ kept.old }
 {
     if kept.asks != 0 {
@@ -201,6 +203,7 @@ pub fn pop(kept: &mut Forth83, x: &mut u16) -> Status
     ensures waiting { kept.old.asks ≢ 0 → result ≡ status.Waiting }
     ensures no_machine { kept.old.asks ≡ 0 → TellsMachine kept.old (code_of result) }
     ensures why { kept.old.asks ≡ 0 → Tells WhyNotPopped kept.old result }
+    ensures known { result ≢ status.OutOfMemory }
     ensures stays { result ≢ status.Done → kept.new ≡ kept.old }
     ensures untold { result ≢ status.Done → x.new ≡ x.old }
 {
@@ -225,6 +228,8 @@ pub fn pop(kept: &mut Forth83, x: &mut u16) -> Status
 /// Puts the file of the image that the machine of a record is saved as into `file`, and how many bytes it has into `size`.
 pub fn save(alloc: Global, kept: &Forth83, entry: u16, file: &mut [u8], size: &mut usize) -> Status
     ensures saved { result ≡ status.Done → HasSaved kept.now entry (take size.new file.new) }
+    ensures fits { result ≡ status.Done → size.new ≤ length file.new }
+    ensures beyond { result ≡ status.Done → drop size.new file.new ≡ drop size.new file.old }
     ensures no_machine { TellsMachine kept.now (code_of result) }
     ensures why { Tells (WhyNotSaved entry (length file.old)) kept.now result }
     ensures stays { result ≢ status.Done → file.new ≡ file.old }

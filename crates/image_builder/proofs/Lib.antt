@@ -12,7 +12,9 @@ pub mod Looping
 pub mod Single
 pub mod Held
 pub mod Midways
+pub mod Pages
 pub mod Screens
 pub mod Refusing
 pub mod Headers
 pub mod Chained
+pub mod Disks

@@ -8,7 +8,9 @@ use Rattle.std.specs.Prelude.{Result, OnOk, Option, Bool, true, false, ◌&&◌}
 use Rattle.std.specs.Result.{is_err}
 use Rattle.std.proofs.lemmas.Bool.{ltb-true}
 use Rattle.block_buffers.specs.Disks.{Disk, block_at}
-use Rattle.block_buffers.specs.Calls.{Reads, Logs}
+use Rattle.block_buffers.specs.Calls.{Reads}
+use Rattle.block_buffers.specs.DeviceCalls.{DeviceCall, WasRead, ReadFailed}
+use Rattle.block_buffers.specs.Calls.{read_call}
 use Rattle.block_buffers.proofs.Failures.{succeeded, failed}
 use Rattle.block_buffers.specs.declared.devices.DeviceFault.{DeviceFault}
 use Rattle.image_builder.proofs.Held.{held_own}
@@ -21,7 +23,7 @@ use Rattle.image_builder.specs.declared.reading.Stop.TheVariants as stop
 use Rattle.image_builder.specs.declared.cause.BuildFault.{BuildFault}
 use Rattle.image_builder.specs.Faults.{IsFault}
 use Rattle.image_builder.specs.Spelled.{all_placed}
-use Rattle.image_builder.specs.Reading.{Holds, IsHeld, IsFaultOf, TakesAll, TakesScreen, HasRead, HasFailed, Midway}
+use Rattle.image_builder.specs.Reading.{Asks, Holds, IsHeld, IsFaultOf, TakesAll, TakesScreen, HasRead, HasFailed, Midway}
 
 -- no word is taken yet
 pub none_taken : {limit : ℕ} (m : Mode) (words : List SourceWord) (k : Compilation) (scanner : Scanner) → words_left scanner ≡ words → scanner.mode ≡ m → Midway limit m words k k scanner
@@ -66,14 +68,14 @@ left_true : (a b : Bool) → (a && b) ≡ true → a ≡ true
 left_true true b e = refl
 left_true false b e = e
 
-pub read_done : (d : Disk) (s : ℕ) (r : Result Unit DeviceFault) (page : List ℕ) (new : Option Disk) (before after : List Bool) → is_err r ≡ false → Reads d s new page r → Logs before after r → HasRead d s (done_of new before after) × (page ≡ block_at d.blocks s)
-read_done d s (Ok u) page new before after e x n = (record { there = ltb-true s (length d.blocks) (left_true _ _ x.0); disk = x.1; failures = succeeded before after u n }, x.2)
+pub read_done : (d : Disk) (s : ℕ) (r : Result Unit DeviceFault) (page : List ℕ) (new : Option Disk) (before after : List DeviceCall) → is_err r ≡ false → Reads d s new page r → after ≡ before ++ read_call s page r ∷ [] → HasRead d s (done_of new before after) × (page ≡ block_at d.blocks s)
+read_done d s (Ok u) page new before after e x n = (record { there = ltb-true s (length d.blocks) (left_true _ _ x.0); disk = x.1; failures = succeeded before after (WasRead s page) n refl }, x.2)
 read_done d s (Err u) page new before after e x n = cc
 
 -- a screen that the device has, and failed to read
-pub read_failed : (d : Disk) (s : ℕ) (r : Result Unit DeviceFault) (page : List ℕ) (new : Option Disk) (before after : List Bool) → is_err r ≡ true → s < length d.blocks → Reads d s new page r → Logs before after r → HasFailed d s (done_of new before after)
+pub read_failed : (d : Disk) (s : ℕ) (r : Result Unit DeviceFault) (page : List ℕ) (new : Option Disk) (before after : List DeviceCall) → is_err r ≡ true → s < length d.blocks → Reads d s new page r → after ≡ before ++ read_call s page r ∷ [] → HasFailed d s (done_of new before after)
 read_failed d s (Ok u) page new before after e l x n = cc
-read_failed d s (Err u) page new before after e l x n = record { there = l; fails = x.0; disk = x.1; failures = failed before after u n }
+read_failed d s (Err u) page new before after e l x n = record { there = l; fails = x.0; disk = x.1; failures = failed before after (ReadFailed s) n refl }
 
 -- a screen that was read, and its words
 pub screen_taken : {limit : ℕ} (d : Disk) (s : ℕ) (m : Mode) (front : List SourceWord) (r : Result Mode Stop) (old new : Compilation) (done : Done) → Holds limit old front → HasRead d s done → TakesAll limit m front (screen_words m s (block_at d.blocks s)) r new → TakesScreen limit d s m front r old new done
@@ -88,3 +90,9 @@ held_after m ws (Err e) old new i t = tt
 -- some words are taken on the way
 pub held_midway : (m : Mode) (words : List SourceWord) (old mid : Compilation) (scanner : Scanner) → IsHeld old.build.limit old → ((limit : ℕ) → Midway limit m words old mid scanner) → IsHeld mid.build.limit mid
 held_midway m words old mid scanner i h = let w = h old.build.limit in held_own mid (record { front = i.front ++ w.done; holds = w.took i.front i.holds })
+
+-- a read that succeeded, whatever came of its words
+pub asked_then : (s count : ℕ) (r : Result Mode Stop) (page : List ℕ) (o : Result Unit DeviceFault) (before after : List DeviceCall) → s < count → is_err o ≡ false → after ≡ before ++ read_call s page o ∷ [] → Asks s count r before after
+asked_then s count (Ok next) page (Ok u) before after l e q = (page, q, l)
+asked_then s count (Err why) page (Ok u) before after l e q = (WasRead s page ∷ [], q)
+asked_then s count r page (Err u) before after l e q = cc

@@ -2,7 +2,10 @@
 use Rattle.std.proofs.Common.{◌≡◌, ℕ, ◌+◌, ◌-◌, ◌<◌, ◌≤◌, ◌∙◌, List, [], ◌∷◌, ◌++◌, length, drop, slice_index_or, length-drop, arith, refl, ap, sym, subst, Some, Ok, Err, inl, inr}
 use Rattle.std.proofs.lemmas.Bool.{cases_lt}
 use Rattle.std.proofs.lemmas.List.{take_more, get_or-drop, drop-drop, length-take-le}
+use Rattle.block_buffers.specs.DeviceCalls.{DeviceCall}
 use Rattle.block_buffers.specs.Disks.{Disk, block_at, called}
+use Rattle.block_buffers.specs.Likeness.{DidAs}
+use Rattle.block_buffers.proofs.Likeness.{both_of, none_made}
 use Rattle.source_words.specs.declared.modes.Mode.{Mode}
 use Rattle.source_words.specs.declared.modes.Mode.TheVariants.{Outside}
 use Rattle.source_words.specs.Words.{SourceWord, screen_words, after_words, words_of_screens, source_words}
@@ -10,9 +13,11 @@ use Rattle.source_words.proofs.Joining.{after_append, words_snoc}
 use Rattle.image_builder.specs.declared.reading.Compilation.{Compilation}
 use Rattle.image_builder.specs.declared.reading.Stop.{Stop}
 use Rattle.image_builder.specs.declared.reading.Stop.TheVariants as stop
-use Rattle.image_builder.specs.Sources.{after_reads, screens, Done}
-use Rattle.image_builder.specs.Reading.{Holds, IsFaultOf, TakesScreen, TookAll, Stopped, Underway}
+use Rattle.image_builder.specs.Sources.{after_reads, done_of, screens, Done}
+use Rattle.block_buffers.specs.ReadPages.{AreReadFrom, reads_of}
+use Rattle.image_builder.specs.Reading.{Asks, Holds, IsFaultOf, TakesScreen, TookAll, Stopped, Underway}
 use Rattle.image_builder.proofs.Held.{faultless}
+use Rattle.image_builder.proofs.Pages.{screen_before}
 
 screens-more : (d : Disk) (from s : ℕ) → from ≤ s → s < length d.blocks → screens d from (s + 1 - from) ≡ screens d from (s - from) ++ block_at d.blocks s ∷ []
 screens-more d from s h k =
@@ -36,10 +41,13 @@ words-more d from s m h k q =
 reads-more : (d : Disk) (from s : ℕ) → from ≤ s → called (after_reads (s - from) d) ≡ after_reads (s + 1 - from) d
 reads-more d from s h = ap (λ c. record { blocks = d.blocks; coming = c }) (drop-drop 1 (s - from) d.coming ∙ ap (λ n. drop n d.coming) (omega arith))
 
+some_injective : {A : Type 0} {x y : A} → Some x ≡ Some y → x ≡ y
+some_injective e = cc
+
 -- the screens before the first of them are none
-pub none_underway : {limit : ℕ} (d : Disk) (from : ℕ) (kp : Compilation) (done : Done) → Holds limit kp [] → done.disk ≡ Some d → done.after ≡ done.before → Underway limit d from from Outside kp done
+begun_underway : {limit : ℕ} (d : Disk) (from : ℕ) (kp : Compilation) (done : Done) → Holds limit kp [] → done.disk ≡ Some d → done.after ≡ done.before → Underway limit d from from Outside kp done
 unfolding words_of_screens after_words
-none_underway d from kp done h q f =
+begun_underway d from kp done h q f =
     let none : from - from ≡ 0 = omega arith in
     record {
       above = omega arith;
@@ -49,6 +57,9 @@ none_underway d from kp done h q f =
       disk = rw none q;
       failures = f;
     }
+
+pub none_underway : {limit : ℕ} (d e : Disk) (from count : ℕ) (kp : Compilation) (calls : List DeviceCall) → Holds limit kp [] → DidAs d e count calls calls → Underway limit d from from Outside kp (done_of (Some e) calls calls)
+none_underway d e from count kp calls h did = begun_underway d from kp (done_of (Some e) calls calls) h (ap Some (none_made d e count calls did)) refl
 
 -- one screen more is taken
 pub screen_more : {limit : ℕ} (d : Disk) (from s : ℕ) (m next : Mode) (old new : Compilation) (done step : Done) → Underway limit d from s m old done →
@@ -98,6 +109,31 @@ screen_stops {limit} d from s to m (stop.Word fault) old new done step h k t f =
       disk = t.1.disk ∙ ap Some (reads-more d from s h.above);
       because = (t.1.failures ∙ f ∙ h.failures, rw last (faultless old _ t.0), subst P (sym words) t.2);
     }
+
+-- the same, by what a device did
+pub screens_more_read : {limit : ℕ} (d e : Disk) (from s n count count' : ℕ) (m next : Mode) (old new : Compilation) (a b c : List DeviceCall) → count' ≡ count → AreReadFrom from n count a b → Asks s count' (Ok next) b c
+    → ((d m' : Disk) → DidAs d m' count a b → Underway limit d from s m old (done_of (Some m') a b))
+    → ((d e : Disk) → DidAs d e count' b c → (limit : ℕ) (front : List SourceWord) → Holds limit old front → TakesScreen limit d s m front (Ok next) old new (done_of (Some e) b c))
+    → DidAs d e count a c → Underway limit d from (s + 1) next new (done_of (Some e) a c)
+screens_more_read {limit} d e from s n count count' m next old new a b c q read asks before takes did =
+    let both = screen_before d e from s n count count' next a b c read asks did in
+    let h = before d both.mid both.first in
+    let same : both.mid ≡ after_reads (s - from) d = some_injective h.disk in
+    let front = source_words from (screens d from (s - from)) in
+    let t = takes both.mid e (subst (λ k. DidAs both.mid e k b c) (sym q) both.second) limit front h.took in
+    screen_more d from s m next old new (done_of (Some both.mid) a b) (done_of (Some e) b c) h (subst (λ x. TakesScreen limit x s m front (Ok next) old new (done_of (Some e) b c)) same t) refl
+
+pub screens_stop : {limit : ℕ} (d e : Disk) (from s to n count count' : ℕ) (m : Mode) (why : Stop) (old new : Compilation) (a b c : List DeviceCall) → s ≤ to → count' ≡ count → AreReadFrom from n count a b → Asks s count' (Err why) b c
+    → ((d m' : Disk) → DidAs d m' count a b → Underway limit d from s m old (done_of (Some m') a b))
+    → ((d e : Disk) → DidAs d e count' b c → (limit : ℕ) (front : List SourceWord) → Holds limit old front → TakesScreen limit d s m front (Err why) old new (done_of (Some e) b c))
+    → DidAs d e count a c → Stopped limit d from to why (done_of (Some e) a c)
+screens_stop {limit} d e from s to n count count' m why old new a b c last q read asks before takes did =
+    let both = both_of d e count a b c (reads_of from read.pages) asks.0 read.read asks.1 did in
+    let h = before d both.mid both.first in
+    let same : both.mid ≡ after_reads (s - from) d = some_injective h.disk in
+    let front = source_words from (screens d from (s - from)) in
+    let t = takes both.mid e (subst (λ k. DidAs both.mid e k b c) (sym q) both.second) limit front h.took in
+    screen_stops d from s to m why old new (done_of (Some both.mid) a b) (done_of (Some e) b c) h last (subst (λ x. TakesScreen limit x s m front (Err why) old new (done_of (Some e) b c)) same t) refl
 
 -- all were taken
 pub all_screens : {limit : ℕ} (d : Disk) (from s to : ℕ) (m : Mode) (kp : Compilation) (done : Done) → Underway limit d from s m kp done → s - from ≡ to + 1 - from → (from ≤ to → to < s) → TookAll limit d from to kp done

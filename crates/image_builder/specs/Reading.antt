@@ -1,5 +1,6 @@
 -- How far the screens of a source are read. No public clause speaks of it.
 use Rattle.std.specs.Prelude.{◌≡◌, ℕ, false, ◌+◌, ◌-◌, ◌<◌, ◌≤◌, ◌⊎◌, List, ◌++◌, ◌∷◌, [], length, Some, Result, Ok, Err}
+use Rattle.block_buffers.specs.DeviceCalls.{DeviceCall, WasRead}
 use Rattle.block_buffers.specs.Disks.{Disk, block_at, called, succeeds}
 use Rattle.source_words.specs.declared.modes.Mode.{Mode}
 use Rattle.source_words.specs.declared.modes.Mode.TheVariants.{Outside}
@@ -73,6 +74,11 @@ pub record IsNotThere (d : Disk) (s : ℕ) (done : Done) : Type 0 where
   pub past : length d.blocks ≤ s
   pub disk : done.disk ≡ Some d
   pub failures : done.after ≡ done.before
+
+-- a screen that the device has was read; or it stopped there, after some calls
+abbrev pub Asks : (screen count : ℕ) → Result Mode Stop → (calls calls' : List DeviceCall) → Type 0
+Asks s count (Ok next) calls calls' = (page : List ℕ) × (calls' ≡ calls ++ WasRead s page ∷ []) × (s < count)
+Asks s count (Err why) calls calls' = (made : List DeviceCall) × (calls' ≡ calls ++ made)
 
 -- one screen more
 abbrev pub TakesScreen : ℕ → Disk → ℕ → Mode → List SourceWord → Result Mode Stop → (old new : Compilation) → Done → Type 0

@@ -1,7 +1,9 @@
 -- A whole source on a device: what is built of it, and why it is refused.
 use Rattle.std.specs.Prelude.{◌≡◌, ℕ, Bool, false, ◌+◌, ◌-◌, ◌<◌, ◌≤◌, ◌⊎◌, List, ◌++◌, length, take, drop, Option, Some}
 use Rattle.block_buffers.specs.Calls.{failures}
+use Rattle.block_buffers.specs.DeviceCalls.{DeviceCall}
 use Rattle.block_buffers.specs.Disks.{Disk, succeeds}
+use Rattle.block_buffers.specs.ReadPages.{AreReadFrom}
 use Rattle.image_loader.specs.Files.{Contents}
 use Rattle.memory.specs.Bytes.{limit_of}
 use Rattle.source_words.specs.Words.{SourceWord, source_words}
@@ -41,7 +43,7 @@ pub record Done : Type 0 where
   pub after : ℕ
 
 -- the same by what the device tells: its disk after, and its calls before and after
-abbrev pub done_of : Option Disk → (calls calls' : List Bool) → Done
+abbrev pub done_of : Option Disk → (calls calls' : List DeviceCall) → Done
 done_of disk calls calls' = record { disk = disk; before = failures calls; after = failures calls' }
 
 -- nothing is wrong with these words, whatever comes behind them
@@ -50,6 +52,18 @@ pub record IsFaultless (limit : ℕ) (source : List SourceWord) : Type 0 where
   pub words : List Place
   pub stage : Stage
   pub front : IsFront limit (all_placed source) items words stage
+
+-- the source on these pages is good, and its image for so many buffers is this one
+pub record IsBuiltOfPages (buffers from : ℕ) (pages : List (List ℕ)) (built : Contents) : Type 0 where
+  pub for_buffers : built.buffers ≡ buffers
+  pub items : Items
+  pub good : IsGood (limit_of buffers) (all_placed (source_words from pages)) items built.entry
+  pub is : built.bytes ≡ image items
+
+-- the screens from..to of a device of so many blocks were read, and the image is that of their pages
+pub record IsBuiltOfRead (buffers count from to : ℕ) (built : Contents) (calls calls' : List DeviceCall) : Type 0 where
+  pub are : AreReadFrom from (to + 1 - from) count calls calls'
+  pub is : IsBuiltOfPages buffers from are.pages built
 
 -- the source is good, its image for so many buffers is this one, and each of its screens was read once
 pub record IsBuiltOf (count : ℕ) (d : Disk) (from to : ℕ) (built : Contents) (done : Done) : Type 0 where

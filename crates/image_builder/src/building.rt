@@ -2,13 +2,14 @@
 
 ghost use Rattle.std.specs.Prelude.{◌≡◌, ℕ, ◌≤◌, ◌⊎◌, [], List, Some, IfOk, IfErr, vec_len};
 ghost use Rattle.block_buffers.specs.Disks.{Disk};
+ghost use Rattle.block_buffers.specs.Likeness.{DidAs, IsLike};
 ghost use Rattle.memory.specs.Bytes.{IsCount, limit_of};
 ghost use Rattle.image_builder.specs.Places.{Place};
 ghost use Rattle.image_builder.specs.Faults.{IsFault};
 ghost use Rattle.image_builder.specs.Grammar.{IsLimit};
 ghost use Rattle.image_builder.specs.Built.{Building};
 ghost use Rattle.image_builder.specs.State.{IsRead, IsBuilt, tells_whole};
-ghost use Rattle.image_builder.specs.Sources.{IsBuiltOf, IsRefused, done_of};
+ghost use Rattle.image_builder.specs.Sources.{IsBuiltOf, IsBuiltOfRead, IsRefused, done_of};
 ghost use Rattle.image_builder.specs.Reading.{Holds};
 ghost use Rattle.image_builder.specs.declared.cause.Cause.TheVariants as c;
 
@@ -91,13 +92,22 @@ pub fn build<D: Device>(
     count: u16,
 ) -> Result<Image, BuildFault>
     requires { IsCount count }
-    ensures built { (d : Disk) → D.disk device.old ≡ Some d →
-        IfOk result
-        (λ i. IsBuiltOf count d from to i (done_of (D.disk device.new) (D.calls device.old) (D.calls device.new))) }
-    ensures refused { (d : Disk) → D.disk device.old ≡ Some d →
-        IfErr result (λ e. IsRefused (limit_of count) d from to e
-        (done_of (D.disk device.new) (D.calls device.old) (D.calls device.new))) }
+    // Whatever the device is: its image is that of the pages that were read, each screen once, in order.
+    ensures read { IfOk result (λ i.
+        IsBuiltOfRead count (D.block_count device.old) from to i (D.calls device.old) (D.calls device.new)) }
+
+    // For each disk as which the device did, the image, or the refusal, is that of this disk's screens.
+    ensures built { (d e : Disk) → DidAs d e (D.block_count device.old) (D.calls device.old) (D.calls device.new) →
+        IfOk result (λ i. IsBuiltOf count d from to i (done_of (Some e) (D.calls device.old) (D.calls device.new))) }
+    ensures refused { (d e : Disk) → DidAs d e (D.block_count device.old) (D.calls device.old) (D.calls device.new) →
+        IfErr result (λ f. IsRefused (limit_of count) d from to f
+        (done_of (Some e) (D.calls device.old) (D.calls device.new))) }
+
+    // A device that tells its disk did as that disk.
+    ensures like { (d : Disk) → D.disk device.old ≡ Some d →
+        IsLike d (D.disk device.new) (D.block_count device.old) (D.calls device.old) (D.calls device.new) }
 {
+    let _ = device.count();
     let mut compilation = match begin(alloc, limit_of(count)) {
         Ok(compilation) => compilation,
         Err(_) => {

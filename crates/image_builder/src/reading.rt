@@ -1,11 +1,13 @@
 //! The screens of a source, read one at a time, and their words taken one by one.
 
-ghost use Rattle.std.specs.Prelude.{◌≡◌, ℕ, ◌<◌, [], List, Some, length, OnOk};
+ghost use Rattle.std.specs.Prelude.{◌≡◌, ℕ, ◌+◌, ◌-◌, ◌<◌, [], List, Some, length, OnOk};
 ghost use Rattle.block_buffers.specs.Disks.{Disk};
+ghost use Rattle.block_buffers.specs.Likeness.{DidAs, IsLike};
 ghost use Rattle.source_words.specs.Words.{SourceWord, screen_words};
 ghost use Rattle.source_words.specs.Scanned.{source_word};
+ghost use Rattle.block_buffers.specs.ReadPages.{AreReadFrom};
 ghost use Rattle.image_builder.specs.Sources.{done_of};
-ghost use Rattle.image_builder.specs.Reading.{Holds, IsHeld, Takes, TakesAll, TakesScreen, TakesScreens, refusal, settled};
+ghost use Rattle.image_builder.specs.Reading.{Asks, Holds, IsHeld, Takes, TakesAll, TakesScreen, TakesScreens, refusal, settled};
 ghost use Rattle.image_builder.specs.declared.reading.Stop.TheVariants as stop;
 
 use crate::cause::{BuildFault, Cause};
@@ -113,10 +115,14 @@ fn take_screen<D: Device>(
     mode: Mode,
 ) -> Result<Mode, Stop>
     requires { IsHeld compilation.old.build.limit compilation.old }
-    ensures taken { (d : Disk) → D.disk device.old ≡ Some d → (limit : ℕ) (front : List SourceWord) →
-        Holds limit compilation.old front →
+    ensures taken { (d e : Disk) → DidAs d e (D.block_count device.old) (D.calls device.old) (D.calls device.new) →
+        (limit : ℕ) (front : List SourceWord) → Holds limit compilation.old front →
         TakesScreen limit d screen mode front result compilation.old compilation.new
-        (done_of (D.disk device.new) (D.calls device.old) (D.calls device.new)) }
+        (done_of (Some e) (D.calls device.old) (D.calls device.new)) }
+    ensures like { (d : Disk) → D.disk device.old ≡ Some d →
+        IsLike d (D.disk device.new) (D.block_count device.old) (D.calls device.old) (D.calls device.new) }
+    ensures asked { Asks screen (D.block_count device.old) result (D.calls device.old) (D.calls device.new) }
+    ensures counted { D.block_count device.new ≡ D.block_count device.old }
     ensures held { OnOk result (IsHeld compilation.old.build.limit compilation.new) }
 {
     let count = device.count();
@@ -137,11 +143,16 @@ pub fn take_screens<D: Device>(
     to: u16,
 ) -> Result<(), Stop>
     requires { Holds compilation.old.build.limit compilation.old [] }
-    ensures taken { (d : Disk) → D.disk device.old ≡ Some d →
+    ensures taken { (d e : Disk) → DidAs d e (D.block_count device.old) (D.calls device.old) (D.calls device.new) →
         TakesScreens compilation.old.build.limit d from to result compilation.new
-        (done_of (D.disk device.new) (D.calls device.old) (D.calls device.new)) }
+        (done_of (Some e) (D.calls device.old) (D.calls device.new)) }
+    ensures like { (d : Disk) → D.disk device.old ≡ Some d →
+        IsLike d (D.disk device.new) (D.block_count device.old) (D.calls device.old) (D.calls device.new) }
+    ensures read { OnOk result (AreReadFrom from (to + 1 - from) (D.block_count device.old) (D.calls device.old)
+        (D.calls device.new)) }
     ensures held { OnOk result (IsHeld compilation.old.build.limit compilation.new) }
 {
+    let _ = device.count();
     let mut page = [b' '; BLOCK_SIZE];
     let mut mode = Mode::Outside;
     for screen in from..=to {

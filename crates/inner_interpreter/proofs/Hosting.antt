@@ -14,22 +14,23 @@ use Rattle.machine.specs.State.{State}
 use Rattle.machine.specs.Tick.{Runs, running, is_quiet, ran, ticked, IsRefused}
 use Rattle.machine.specs.Answer.{asked_by, is_answer}
 use Rattle.inner_interpreter.specs.Moves.{Turn, Tick, Answer, shown_bytes}
-use Rattle.inner_interpreter.specs.Histories.{Made, Call, Ticked, Answered, ManyTicked, Ensures, IsHistory, acted, behind, made, moves_of, moves_made, seen_bytes, seen_events, takes, told_event}
+use Rattle.inner_interpreter.proofs.HostCalls.{Call, Ticked, Answered, ManyTicked, Ensures, moves_of, seen_bytes, seen_events}
+use Rattle.inner_interpreter.specs.Histories.{Made, acted, behind, made, takes, told_event}
 use Rattle.inner_interpreter.proofs.Quiet.{ticked_runs, quiet_shows}
 use Rattle.machine.proofs.Ran.{ran_quiet, ran_loud}
 
-taken_move : (s : State) (t : Turn) (ts : List Turn) → takes s t ≡ true → made s (t ∷ ts) ≡ behind (shown_bytes (acted s t).0.parts.memory (acted s t).1.shown) (told_event (acted s t).1.event) (made (acted s t).0 ts)
+pub taken_move : (s : State) (t : Turn) (ts : List Turn) → takes s t ≡ true → made s (t ∷ ts) ≡ behind (shown_bytes (acted s t).0.parts.memory (acted s t).1.shown) (told_event (acted s t).1.event) (made (acted s t).0 ts)
 unfolding made
 taken_move s t ts h = rw h refl
 
-left_move : (s : State) (t : Turn) (ts : List Turn) → takes s t ≡ false → made s (t ∷ ts) ≡ made s ts
+pub left_move : (s : State) (t : Turn) (ts : List Turn) → takes s t ≡ false → made s (t ∷ ts) ≡ made s ts
 unfolding made
 left_move s t ts h = rw h refl
 
-tick_taken : (s : State) → Runs s → takes s Tick ≡ true
+pub tick_taken : (s : State) → Runs s → takes s Tick ≡ true
 tick_taken s h = rw (h.0, h.1) refl
 
-tick_left : (s : State) (t : State) (refused : Refused) → IsRefused s t refused → takes s Tick ≡ false
+pub tick_left : (s : State) (t : State) (refused : Refused) → IsRefused s t refused → takes s Tick ≡ false
 tick_left s t Halted h = by_halt s.halt h.0 where
   by_halt : (o : Option Cause) → IsSome o → (is_none o && is_none s.wait) ≡ false
   by_halt (Some c) q = refl
@@ -41,7 +42,7 @@ tick_left s t Waiting h = by_wait s.wait h.1 where
 tick_left s t NotAsked h = absurd h
 
 -- a refused move leaves the state
-stays_refused : (s t : State) (refused : Refused) → IsRefused s t refused → t ≡ s
+pub stays_refused : (s t : State) (refused : Refused) → IsRefused s t refused → t ≡ s
 stays_refused s t Halted h = h.1
 stays_refused s t Waiting h = h.2
 stays_refused s t NotAsked h = absurd h
@@ -93,7 +94,7 @@ runs_running : (s : State) → Runs s → s ≡ running s.parts
 runs_running s h = rw (h.0, h.1) refl
 
 -- what a call's host sees is what its moves leave
-one_call : (s t : State) (c : Call) (ts : List Turn) → Ensures s c t → made s (moves_of c ++ ts) ≡ behind (seen_bytes t c) (seen_events c) (made t ts)
+pub one_call : (s t : State) (c : Call) (ts : List Turn) → Ensures s c t → made s (moves_of c ++ ts) ≡ behind (seen_bytes t c) (seen_events c) (made t ts)
 one_call s t (Ticked (Ok act)) ts h =
     let P : State × Act → Type 0 = λ x. made s (Tick ∷ ts) ≡ behind (shown_bytes x.0.parts.memory x.1.shown) (told_event x.1.event) (made x.0 ts) in
     subst P (sym h.1) (taken_move s Tick ts (tick_taken s h.0))
@@ -121,10 +122,3 @@ one_call s t (ManyTicked n (Ok r)) ts h =
     (ap (λ (k : ℕ). made s (replicate k Tick ++ ts)) count
     ∙ ap (λ u. made u (replicate m.ticks Tick ++ ts)) (runs_running s h.0) ∙ m.leave)
 one_call s t (ManyTicked n (Err refused)) ts h = ap (λ u. made u ts) (sym (stays_refused s t refused h))
-
--- and so it is for all calls
-pub history_law : (calls : List Call) (s : State) (m : Made) → IsHistory s calls m → m ≡ made s (moves_made calls)
-unfolding IsHistory made
-history_law [] s m h = h
-history_law (c ∷ cs) s m h =
-    h.4 ∙ ap (behind (seen_bytes h.0 c) (seen_events c)) (history_law cs h.0 h.1 h.3) ∙ sym (one_call s h.0 c (moves_made cs) h.2)

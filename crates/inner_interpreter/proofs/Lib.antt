@@ -13,4 +13,10 @@ pub mod Orderly
 pub mod Requested
 pub mod Ending
 pub mod Faultless
+mod HostCalls
 pub mod Hosting
+mod Walks
+pub mod Slicing
+mod Making
+mod Givens
+mod Tying

@@ -25,7 +25,7 @@ use Rattle.machine.specs.State.{State, start}
 use Rattle.machine.specs.Tick.{taken, thread, executed, faulted, by_fault, concluded, ticked, shown_span}
 use Rattle.machine.specs.Answer as answering
 use Rattle.machine.specs.Answer.{Reply, block_of, answered, answer_of, asked_by, is_answer, fits_request, key_answered, line_answered, read_answered, write_answered}
-use Rattle.inner_interpreter.specs.Moves.{Turn, Tick, Answer, Accepts, turned}
+use Rattle.inner_interpreter.specs.Moves.{Turn, Tick, Answer, Enter, Accepts, turned}
 use Rattle.inner_interpreter.specs.Requests.{IsOrderly}
 use Rattle.inner_interpreter.proofs.Shapes.{either, by_answer, is_taken}
 
@@ -145,6 +145,14 @@ answer_orderly s reply f h =
 pub moved_orderly : (s : State) (t : Turn) → Accepts s t → IsOrderly s → IsOrderly (turned s t)
 moved_orderly s Tick a h = ticked_orderly s.parts (record { buffers = h.buffers; once = h.once })
 moved_orderly s (Answer reply) a h = answer_orderly s reply a.2 h
+moved_orderly s (Enter word) a h = record {
+  buffers = h.buffers;
+  once = h.once;
+  absent = h.absent;
+  held = h.held;
+  room = h.room;
+  two = h.two;
+}
 
 pub start_orderly : (image : Contents) (block_count : ℕ) → IsImage image → IsOrderly (start image block_count)
 start_orderly image block_count h = unasked _ None (record { buffers = are_started image.buffers h.buffers; once = blocks_started image.buffers })

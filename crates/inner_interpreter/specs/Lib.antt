@@ -1,11 +1,16 @@
 pub mod Ends
+pub mod Given
+pub mod Reads
+pub mod Failing
 pub mod Files
 pub mod Moves
 pub mod Histories
+pub mod Hosts
 pub mod Requests
 pub mod Lines
 pub mod Sent
 pub mod Runs
+pub mod Slices
 pub mod Served
 pub mod Worlds
 pub mod Tracing

@@ -1,5 +1,6 @@
 -- A request that was answered.
-use Rattle.std.specs.Prelude.{◌≡◌, ℕ, true, false, Bool, List, ◌++◌, Option, Some}
+use Rattle.std.specs.Prelude.{◌≡◌, ℕ, true, false, Bool, List, ◌++◌, Option, Some, Result, Ok, Err}
+use Rattle.inner_interpreter.specs.declared.ends.EndFault.{EndFault}
 use Rattle.block_buffers.specs.Disks.{Disk}
 use Rattle.machine_parts.specs.declared.parts.Request.{Request}
 use Rattle.machine.specs.declared.act.Act.{Act}
@@ -8,6 +9,8 @@ use Rattle.machine.specs.declared.act.Cause.TheVariants.{InputFault as InputFaul
 use Rattle.machine.specs.State.{State}
 use Rattle.machine.specs.Answer.{Reply, InputFault, answer_of, asked_by, is_answer}
 use Rattle.inner_interpreter.specs.Moves.{Move, answer_move, Answer, Accepts, device_call}
+use Rattle.block_buffers.specs.DeviceCalls.{DeviceCall}
+use Rattle.inner_interpreter.specs.Reads.{IsGiven}
 use Rattle.inner_interpreter.specs.Runs.{served}
 
 -- the request was answered from these typed bytes and this device
@@ -31,6 +34,15 @@ pub record Faults (s after : State) : Type 0 where
   pub asked : is_answer (asked_by s.wait) InputFault ≡ true
   pub state_is : after ≡ (answer_of s InputFault).0
 
+-- the same, and it was told so by an answer that it accepted; the device was given no call
+pub record HasFaulted (old new : State) (calls calls' : List DeviceCall) (reads reads' : List (Option ℕ)) : Type 0 where
+  pub accepted : Accepts old (Answer InputFault)
+  pub state_is : new ≡ (answer_of old InputFault).0
+  pub calls_are : calls' ≡ calls
+  pub given : List (Option ℕ)
+  pub reads_are : reads' ≡ reads ++ given
+  pub is_given : IsGiven (asked_by old.wait) InputFault given
+
 -- whether a machine halted for a failed reader
 unfoldable pub is_input_fault : Option Cause → Bool
 is_input_fault (Some InputFaulted) = true
@@ -41,16 +53,17 @@ abbrev pub HasNotFailed : State → Type 0
 HasNotFailed s = is_input_fault s.halt ≡ false
 
 -- the machine was given an answer that it accepted; where it comes from a call of the device, the device was given that
--- call, which failed exactly where the machine was told so
-pub record HasAnswered (old new : State) (calls calls' : List Bool) : Type 0 where
-  pub reply : Reply
-  pub accepted : Accepts old (Answer reply)
-  pub state_is : new ≡ (answer_of old reply).0
-  pub calls_are : calls' ≡ calls ++ device_call (Answer reply)
-
--- the same, with the machine's act
-pub record HasActed (old new : State) (calls calls' : List Bool) (act : Act) : Type 0 where
+-- call, which failed exactly where the machine was told so; and where it comes from the reader, the reader gave it
+pub record HasActed (old new : State) (calls calls' : List DeviceCall) (reads reads' : List (Option ℕ)) (act : Act) : Type 0 where
   pub reply : Reply
   pub accepted : Accepts old (Answer reply)
   pub acts : (new, act) ≡ answer_of old reply
-  pub calls_are : calls' ≡ calls ++ device_call (Answer reply)
+  pub calls_are : calls' ≡ calls ++ device_call old (Answer reply)
+  pub given : List (Option ℕ)
+  pub reads_are : reads' ≡ reads ++ given
+  pub is_given : IsGiven (asked_by old.wait) reply given
+
+-- a request was settled: with an act, or the machine was told that the reader failed
+abbrev pub HasSettled : (old new : State) → (calls calls' : List DeviceCall) → (reads reads' : List (Option ℕ)) → Result Act EndFault → Type 0
+HasSettled old new calls calls' reads reads' (Ok act) = HasActed old new calls calls' reads reads' act
+HasSettled old new calls calls' reads reads' (Err fault) = HasFaulted old new calls calls' reads reads'

@@ -1,6 +1,6 @@
 //! The ends of a run: where typed bytes come from, and where shown bytes go.
 
-ghost use Rattle.std.specs.Prelude.{◌<◌, ◌≤◌, ℕ, Bool, List, Option, length, IfOk};
+ghost use Rattle.std.specs.Prelude.{◌≡◌, ◌<◌, ◌≤◌, ℕ, Bool, true, List, Option, length, IfOk, OnOk};
 
 mod failing;
 
@@ -13,9 +13,13 @@ pub struct EndFault;
 /// Gives bytes one at a time, and then tells the end.
 pub trait Input {
     ghost use Rattle.inner_interpreter.specs.Ends.{TakesByte, Marks};
+    ghost use Rattle.inner_interpreter.specs.Reads.{Gives};
 
     /// The bytes that are left, where the reader tells them.
     ghost unread: { Self → Option (List ℕ) };
+
+    /// What its calls gave so far: bytes, and ends.
+    ghost reads: { Self → List (Option ℕ) };
 
     /// Whether a call has failed.
     ghost failed: { Self → Bool };
@@ -23,6 +27,7 @@ pub trait Input {
     /// The next byte, or `None` at the end.
     fn byte(&mut self) -> Result<Option<u8>, EndFault>
         ensures bytes { TakesByte (unread self.old) (unread self.new) result }
+        ensures logged { Gives (reads self.old) (reads self.new) result }
         ensures mark { Marks (failed self.old) (failed self.new) result };
 }
 
@@ -33,6 +38,9 @@ pub trait Output {
 
     /// The bytes that were taken, where the writer tells them.
     ghost sent: { Self → Option (List ℕ) };
+
+    /// Whether all of them were passed on by a flush.
+    ghost passed: { Self → Bool };
 
     /// Whether a call has failed.
     ghost failed: { Self → Bool };
@@ -48,5 +56,6 @@ pub trait Output {
     /// Passes on what was taken.
     fn flush(&mut self) -> Result<(), EndFault>
         ensures bytes { Keeps (sent self.old) (sent self.new) }
+        ensures passed { OnOk result (passed self.new ≡ true) }
         ensures mark { Marks (failed self.old) (failed self.new) result };
 }

@@ -3,6 +3,7 @@
 ghost use Rattle.std.specs.Prelude.{◌≡◌, ◌≢◌, ◌↔◌, false, true, IfOk, IfErr, IsErrOf, OnErr};
 ghost use Rattle.image_loader.specs.Files.{Contents, IsFile, IsCutShort, IsFollowed, HasBadMagic, HasBadVersion, HasBadBuffers, HasBadSize};
 ghost use Rattle.inner_interpreter.specs.Files.{HasRunFrom};
+ghost use Rattle.inner_interpreter.specs.Moves.{logs};
 ghost use Rattle.inner_interpreter.specs.Worlds.{OfFile, EndsFrom, EndsCutFrom, EndsFaultedFrom};
 
 use crate::ends::{Input, Output};
@@ -48,11 +49,15 @@ pub fn run_file<R: Input, W: Output, D: Device>(
         W.failed writer.new ≡ W.failed writer.old) }
     ensures told { IfOk result (λ stop. R.failed reader.new ≡ false → stop ≢ Stop.InputFault) }
 
-    // Whatever the ends are: the machine that was loaded moved by ticks and answers alone, at most `limit` and one more; and
-    // it was told of a device fault just where the very call of its device failed.
+    // Where the writer doesn't fail, all that was sent was passed on.
+    ensures passed { IfOk result (λ stop. W.failed writer.new ≡ false → W.passed writer.new ≡ true) }
+
+    // Whatever the ends are: the machine that was loaded moved by ticks and answers alone, at most `limit` and one more; its
+    // reader gave just what it was answered with, its device was given just the calls that it asked for, with their pages, each
+    // of which failed exactly where the machine was told so; and its writer was sent just what it showed.
     ensures moved { IfOk result (λ stop. (image : Contents) → IsFile bytes.now image →
-        HasRunFrom image (D.block_count device.old) (D.calls device.old) (D.calls device.new) limit
-        (R.failed reader.new) (W.failed writer.new) stop) }
+        HasRunFrom image (D.block_count device.old) (logs (D.calls device.old) (W.sent writer.old) (R.reads reader.old))
+        (logs (D.calls device.new) (W.sent writer.new) (R.reads reader.new)) limit (R.failed reader.new) (W.failed writer.new) stop) }
 
     // It is no traced run.
     ensures untraced { IfOk result (λ stop. stop ≢ Stop.TraceFault) }

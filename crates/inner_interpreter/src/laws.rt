@@ -1,12 +1,13 @@
 //! Laws of machines and of runs.
 
-ghost use Rattle.std.specs.Prelude.{◌≡◌, ◌≢◌, ℕ, ◌≤◌, List, Some, IsSome, All, length};
+ghost use Rattle.std.specs.Prelude.{◌≡◌, ◌≢◌, ℕ, ◌≤◌, ◌-◌, List, Some, IsSome, All, length};
 ghost use Rattle.image_loader.specs.Files.{Contents, IsImage};
 ghost use Rattle.primitives.specs.Needs.{most_requests};
-ghost use Rattle.inner_interpreter.specs.Histories.{Call, Made, IsHistory, made, moves_made};
-ghost use Rattle.inner_interpreter.specs.Moves.{Turn, Accepts, turned};
+ghost use Rattle.inner_interpreter.specs.Histories.{made};
+ghost use Rattle.inner_interpreter.specs.Moves.{Turn, Accepts, AreAccepted, after, shown_by, turned};
 ghost use Rattle.inner_interpreter.specs.Requests.{IsOrderly, AreAsked, IsPage, OfNextCode};
 ghost use Rattle.inner_interpreter.specs.Runs.{World, rounds, stops};
+ghost use Rattle.inner_interpreter.specs.Slices.{with_left};
 ghost use Rattle.machine.specs.State.{State, start};
 ghost use Rattle.inner_interpreter.specs.Worlds.{rounds_left};
 
@@ -22,6 +23,13 @@ pub fn end_law()
 pub fn one_end_law()
     ensures { (w : World) (n m : ℕ) (s t : Stop) → stops (rounds n w) ≡ Some s → stops (rounds m w) ≡ Some t →
         rounds n w ≡ rounds m w }
+{}
+
+/// A run that stopped for want of its ticks, and went on with those that were kept back, is one run: what a slice leaves are
+/// some first rounds of the whole run.
+pub fn slices_law()
+    ensures { (w : World) (a n : ℕ) → a ≤ w.left → stops (rounds n (with_left a w)) ≡ Some Stop.Limit →
+        (m : ℕ) × (rounds m w ≡ with_left (w.left - a) (rounds n (with_left a w))) }
 {}
 
 /// Where no reader fails, a run stops with `InputFault` only where the machine had halted so before.
@@ -42,10 +50,8 @@ pub fn requests_law()
     ensures { (s : State) (pages : List (List ℕ)) →
         OfNextCode s (λ code. All IsPage pages → AreAsked s pages → length pages ≤ most_requests code s.parts) }
 {}
-
-/// What a host sees of a machine is what the written moves leave: whatever calls it makes of `tick`, `answer` and
-/// `ticks`, in any order and with any answers, from a loaded image on.
-pub fn history_law()
-    ensures { (image : Contents) (block_count : ℕ) (calls : List Call) (seen : Made) →
-        IsHistory (start image block_count) calls seen → seen ≡ made (start image block_count) (moves_made calls) }
+/// The moves of a run are such a list: where each is accepted, what they leave and show is what `made` says.
+pub fn moves_law()
+    ensures { (s : State) (ts : List Turn) → AreAccepted s ts →
+        ((made s ts).state ≡ after s ts) × ((made s ts).shown ≡ shown_by s ts) }
 {}

@@ -1,10 +1,13 @@
 //! The inner interpreter: runs of a machine over a reader, a writer and a device.
 #![tactic(auto)]
 
+mod byte_log;
 pub mod ends;
 mod files;
+mod hosts;
 pub mod laws;
 mod lines;
+mod read_log;
 mod reading;
 mod replies;
 mod rounds;
@@ -14,12 +17,15 @@ mod stop;
 mod tracing;
 mod writing;
 
+pub use byte_log::ByteLog;
 pub use ends::{EndFault, Input, Output};
 pub use files::run_file;
+pub use hosts::{Move, make_moves, make_ticks};
 pub use machine::{Act, Answer, Cause, Event, Extent, Machine, Refused, SaveRefused, Shown};
+pub use read_log::{Given, ReadLog};
 pub use reading::Reading;
 pub use replies::{answer_read, answer_write};
-pub use runs::{run, run_traced};
+pub use runs::{line_room, run, run_traced, run_with};
 pub use sends::send_all;
 pub use stop::Stop;
 pub use tracing::{Nowhere, Tracer, Untraced};

@@ -1,10 +1,11 @@
 //! Taking a line of typed bytes.
 
-ghost use Rattle.std.specs.Prelude.{ℕ, List, ◌≡◌, ◌≤◌, ◌<◌, true, vec_len, vec_capacity, IfOk, IfErr, Some};
+ghost use Rattle.std.specs.Prelude.{ℕ, List, Option, ◌++◌, ◌≡◌, ◌≤◌, ◌<◌, true, vec_len, vec_capacity, IfOk, IfErr, Some};
 ghost use Rattle.std.specs.List.{list_all};
 ghost use Rattle.machine.specs.Answer.{is_typed, is_return};
 ghost use Rattle.inner_interpreter.specs.Ends.{Marks};
 ghost use Rattle.inner_interpreter.specs.Lines.{IsBegun, IsLine};
+ghost use Rattle.inner_interpreter.specs.Reads.{IsLineGiven, as_given};
 
 use crate::ends::{EndFault, Input};
 
@@ -22,6 +23,9 @@ pub fn take_line<R: Input>(line: &mut Vec<u8>, reader: &mut R, n: u16) -> Result
         IfOk result (λ returned. IsLine n typed line.new.items returned (R.unread reader.new)) }
     ensures begun { (typed : List ℕ) → R.unread reader.old ≡ Some typed →
         IfErr result (λ _. IsBegun n typed (R.unread reader.new)) }
+    ensures given { IfOk result (λ returned. (given : List (Option ℕ)) × (R.reads reader.new ≡ R.reads reader.old ++ given) ×
+        IsLineGiven n line.new.items returned given) }
+    ensures unfinished { IfErr result (λ _. R.reads reader.new ≡ R.reads reader.old ++ as_given line.new.items) }
     ensures typed { list_all is_typed line.new.items ≡ true }
     ensures fewer { IfOk result (λ returned. returned ≡ true → vec_len line.new < n) }
     ensures bound { vec_len line.new ≤ n }

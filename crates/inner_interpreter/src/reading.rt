@@ -1,10 +1,11 @@
 //! A reader of `std` as an end.
 
-ghost use Rattle.std.specs.Prelude.{◌≡◌, false};
+ghost use Rattle.std.specs.Prelude.{◌≡◌, [], false};
 ghost use Rattle.std.specs.Io.{ReadsAtMost};
 ghost use Rattle.std.specs.Io.KnownBytes.{ReadConsumes};
 
 use crate::ends::{EndFault, Input};
+use crate::read_log::{Given, ReadLog};
 use std::io::{ErrorKind, Read};
 
 /// A reader of `std` as an `Input`. It tells its bytes where the reader does.
@@ -12,17 +13,20 @@ use std::io::{ErrorKind, Read};
 pub struct Reading<R> {
     reader: R,
     has_failed: bool,
+    log: ReadLog,
 }
 
 impl<R: Read> Reading<R> {
     /// The reader, of which no call has failed.
     pub fn new(reader: R) -> Reading<R>
         ensures bytes { ⟦<Reading<R> as Input>⟧.unread result ≡ R.remaining reader }
+        ensures uncalled { ⟦<Reading<R> as Input>⟧.reads result ≡ [] }
         ensures mark { ⟦<Reading<R> as Input>⟧.failed result ≡ false }
     {
         Reading {
             reader,
             has_failed: false,
+            log: ReadLog::new(),
         }
     }
 }
@@ -30,13 +34,21 @@ impl<R: Read> Reading<R> {
 impl<R: Read> Input for Reading<R> {
     ghost unread = { λ r. R.remaining r.reader };
 
+    ghost reads = { λ r. r.log.reads };
+
     ghost failed = { λ r. r.has_failed };
 
     fn byte(&mut self) -> Result<Option<u8>, EndFault> {
         let mut byte = [0u8; 1];
         match read_once(&mut self.reader, &mut byte) {
-            Ok(0) => Ok(None),
-            Ok(_) => Ok(Some(byte[0])),
+            Ok(0) => {
+                self.log = self.log.then(&Given::End);
+                Ok(None)
+            }
+            Ok(_) => {
+                self.log = self.log.then(&Given::Byte(byte[0]));
+                Ok(Some(byte[0]))
+            }
             Err(fault) => {
                 self.has_failed = true;
                 Err(fault)

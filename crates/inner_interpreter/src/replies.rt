@@ -1,11 +1,12 @@
 //! Answering what a machine asks, by a reader and a device.
 
-ghost use Rattle.std.specs.Prelude.{◌≡◌, ◌≤◌, ℕ, List, Some, None, vec_capacity, IfOk, IfErr, OnOk, Bool};
+ghost use Rattle.std.specs.Prelude.{◌≡◌, ◌≤◌, ℕ, List, Option, Some, None, vec_capacity, IfOk, IfErr, OnOk};
 ghost use Rattle.block_buffers.specs.Disks.{Disk};
+ghost use Rattle.block_buffers.specs.DeviceCalls.{DeviceCall};
 ghost use Rattle.machine.specs.Answer.{asked_by};
 ghost use Rattle.inner_interpreter.specs.Ends.{Marks};
 ghost use Rattle.inner_interpreter.specs.Lines.{IsBegun, IsLeft};
-ghost use Rattle.inner_interpreter.specs.Served.{Serves, Faults, HasActed, HasAnswered, HasNotFailed};
+ghost use Rattle.inner_interpreter.specs.Served.{Serves, Faults, HasActed, HasSettled, HasNotFailed};
 
 use crate::ends::{EndFault, Input};
 use crate::lines::take_line;
@@ -22,7 +23,8 @@ pub fn answer_key<R: Input>(machine: &mut Machine, reader: &mut R) -> Result<Act
         (Some disk) act) }
     ensures left { (typed : List ℕ) → R.unread reader.old ≡ Some typed →
         IfErr result (λ _. R.unread reader.new ≡ Some typed) }
-    ensures answered { (calls : List Bool) → HasAnswered machine.old machine.new calls calls }
+    ensures answered { (calls : List DeviceCall) → HasSettled machine.old machine.new calls calls
+        (R.reads reader.old) (R.reads reader.new) result }
     ensures settled { machine.new.wait ≡ None }
     ensures read { OnOk result (HasNotFailed machine.new) }
     ensures fault { IfErr result (λ _. Faults machine.old machine.new) }
@@ -54,7 +56,8 @@ pub fn answer_line<R: Input>(
         (Some disk) act) }
     ensures begun { (typed : List ℕ) → R.unread reader.old ≡ Some typed →
         IfErr result (λ _. IsBegun n typed (R.unread reader.new)) }
-    ensures answered { (calls : List Bool) → HasAnswered machine.old machine.new calls calls }
+    ensures answered { (calls : List DeviceCall) → HasSettled machine.old machine.new calls calls
+        (R.reads reader.old) (R.reads reader.new) result }
     ensures settled { machine.new.wait ≡ None }
     ensures room { 65535 ≤ vec_capacity line.new }
     ensures read { OnOk result (HasNotFailed machine.new) }
@@ -82,7 +85,8 @@ pub fn answer_read<D: Device>(machine: &mut Machine, device: &mut D, block: u16)
     requires goes { machine.old.halt ≡ None }
     ensures told { (disk : Disk) → D.disk device.old ≡ Some disk → (typed : List ℕ) →
         Serves machine.old (Request.Read block) typed disk machine.new (Some typed) (D.disk device.new) result }
-    ensures answered { HasActed machine.old machine.new (D.calls device.old) (D.calls device.new) result }
+    ensures answered { (reads : List (Option ℕ)) → HasActed machine.old machine.new (D.calls device.old)
+        (D.calls device.new) reads reads result }
     ensures settled { machine.new.wait ≡ None }
     ensures read { HasNotFailed machine.new }
 {
@@ -99,7 +103,8 @@ pub fn answer_write<D: Device>(machine: &mut Machine, device: &mut D, block: u16
     requires goes { machine.old.halt ≡ None }
     ensures told { (disk : Disk) → D.disk device.old ≡ Some disk → (typed : List ℕ) →
         Serves machine.old (Request.Write block) typed disk machine.new (Some typed) (D.disk device.new) result }
-    ensures answered { HasActed machine.old machine.new (D.calls device.old) (D.calls device.new) result }
+    ensures answered { (reads : List (Option ℕ)) → HasActed machine.old machine.new (D.calls device.old)
+        (D.calls device.new) reads reads result }
     ensures settled { machine.new.wait ≡ None }
     ensures read { HasNotFailed machine.new }
 {
@@ -127,7 +132,8 @@ pub fn settle<R: Input, D: Device>(
         D.disk device.old ≡ Some disk →
         IfOk result (λ act. Serves machine.old request typed disk machine.new (R.unread reader.new)
         (D.disk device.new) act) }
-    ensures answered { HasAnswered machine.old machine.new (D.calls device.old) (D.calls device.new) }
+    ensures answered { HasSettled machine.old machine.new (D.calls device.old) (D.calls device.new)
+        (R.reads reader.old) (R.reads reader.new) result }
     ensures settled { machine.new.wait ≡ None }
     ensures room { 65535 ≤ vec_capacity line.new }
     ensures read { OnOk result (HasNotFailed machine.new) }

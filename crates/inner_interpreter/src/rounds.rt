@@ -1,16 +1,17 @@
 //! The rounds of a run.
 
-ghost use Rattle.std.specs.Prelude.{◌≡◌, ◌≤◌, ◌<◌, ◌-◌, ℕ, List, Some, None, true, vec_capacity, OnOk, OnErr, IsErrOf};
+ghost use Rattle.std.specs.Prelude.{◌≡◌, ◌≤◌, ◌<◌, ◌-◌, ℕ, List, [], Some, None, true, vec_capacity, OnOk, OnErr, IsErrOf};
 ghost use Rattle.std.specs.Io.KnownBytes.{Appends, Keeps};
 ghost use Rattle.block_buffers.specs.Disks.{Disk};
 ghost use Rattle.machine.specs.Answer.{InputFault, asked_by, is_answer};
 ghost use Rattle.inner_interpreter.specs.Ends.{Marks};
 ghost use Rattle.inner_interpreter.specs.Lines.{IsLeft};
-ghost use Rattle.inner_interpreter.specs.Moves.{HasMoved};
+ghost use Rattle.inner_interpreter.specs.Moves.{HasMoved, logs};
 ghost use Rattle.inner_interpreter.specs.Runs.{World};
 ghost use Rattle.inner_interpreter.specs.Sent.{AppendsPart};
-ghost use Rattle.inner_interpreter.specs.Served.{Answered, served_move, Faults, HasAnswered, HasNotFailed};
+ghost use Rattle.inner_interpreter.specs.Served.{Answered, served_move, Faults, HasNotFailed};
 ghost use Rattle.inner_interpreter.specs.Tracing.{Reached, ReachedCut};
+ghost use Rattle.inner_interpreter.specs.Failing.{sends_all};
 ghost use Rattle.inner_interpreter.specs.Worlds.{IsAt, IsFaulted, rounds_left};
 
 use crate::ends::{EndFault, Input, Output};
@@ -39,9 +40,11 @@ fn make_answer<R: Input, W: Output, D: Device>(
     requires waits { asked_by machine.old.wait ≡ Some request }
     requires goes { machine.old.halt ≡ None }
     requires room { 65535 ≤ vec_capacity line.old }
+    requires passed { is_answer (Some request) InputFault ≡ true → W.passed writer.old ≡ true }
     ensures settled { machine.new.wait ≡ None }
     ensures room { 65535 ≤ vec_capacity line.new }
-    ensures answered { HasAnswered machine.old machine.new (D.calls device.old) (D.calls device.new) }
+    ensures moved { HasMoved machine.old machine.new (logs (D.calls device.old) (W.sent writer.old) (R.reads reader.old))
+        (logs (D.calls device.new) (W.sent writer.new) (R.reads reader.new)) (sends_all result) [] 0 }
     ensures ok { OnOk result ((typed : List ℕ) → R.unread reader.old ≡ Some typed → (disk : Disk) →
         D.disk device.old ≡ Some disk → Answered machine.old request typed disk machine.new (R.unread reader.new)
         (D.disk device.new) × Appends (W.sent writer.old) (W.sent writer.new)
@@ -59,6 +62,7 @@ fn make_answer<R: Input, W: Output, D: Device>(
         (R.failed reader.new ≡ true) × (W.failed writer.new ≡ W.failed writer.old) }
     ensures writer { IsErrOf result Failed.Writer →
         (W.failed writer.new ≡ true) × (R.failed reader.new ≡ R.failed reader.old) }
+    ensures passed { IsErrOf result Failed.Reader → W.passed writer.new ≡ true }
     ensures good { OnOk result ((R.failed reader.new ≡ R.failed reader.old) × (W.failed writer.new ≡ W.failed writer.old)) }
     ensures read { OnOk result (HasNotFailed machine.new) }
 {
@@ -71,10 +75,11 @@ fn make_answer<R: Input, W: Output, D: Device>(
     }
 }
 
-/// What is shown so far stands before the program waits for typed bytes.
+/// What was shown so far is passed on before the program waits for typed bytes.
 fn flush_before<W: Output>(writer: &mut W, request: Request) -> Result<(), EndFault>
     ensures bytes { Keeps (W.sent writer.old) (W.sent writer.new) }
     ensures asked { OnErr result (is_answer (Some request) InputFault ≡ true) }
+    ensures passed { OnOk result (is_answer (Some request) InputFault ≡ true → W.passed writer.new ≡ true) }
     ensures mark { Marks (W.failed writer.old) (W.failed writer.new) result }
 {
     match request {
@@ -100,7 +105,8 @@ pub fn make_rounds<R: Input, W: Output, D: Device>(
     requires room { 65535 ≤ vec_capacity line.old }
     ensures room { 65535 ≤ vec_capacity line.new }
     ensures fewer { OnOk result (rounds_left left.new machine.new.wait < rounds_left left.old machine.old.wait) }
-    ensures moved { HasMoved machine.old machine.new (D.calls device.old) (D.calls device.new) (left.old - left.new) }
+    ensures moved { HasMoved machine.old machine.new (logs (D.calls device.old) (W.sent writer.old) (R.reads reader.old))
+        (logs (D.calls device.new) (W.sent writer.new) (R.reads reader.new)) (sends_all result) [] (left.old - left.new) }
     ensures left { left.new ≤ left.old }
     ensures read { OnOk result (HasNotFailed machine.new) }
     ensures ok { OnOk result ((w : World) → IsAt w machine.old (R.unread reader.old) (D.disk device.old)
@@ -114,6 +120,7 @@ pub fn make_rounds<R: Input, W: Output, D: Device>(
         IsFaulted w machine.new (R.unread reader.new) (D.disk device.new) (W.sent writer.new) }
     ensures reader { IsErrOf result Failed.Reader →
         (R.failed reader.new ≡ true) × (W.failed writer.new ≡ W.failed writer.old) }
+    ensures passed { IsErrOf result Failed.Reader → W.passed writer.new ≡ true }
     ensures writer { IsErrOf result Failed.Writer →
         (W.failed writer.new ≡ true) × (R.failed reader.new ≡ R.failed reader.old) }
     ensures good { OnOk result ((R.failed reader.new ≡ R.failed reader.old) × (W.failed writer.new ≡ W.failed writer.old)) }

@@ -3,7 +3,7 @@
 ghost use Rattle.std.specs.Prelude.{◌≡◌, ◌≢◌, ◌↔◌, ◌≤◌, Some, false, true, vec_capacity, IfOk, OnOk, OnErr};
 ghost use Rattle.std.specs.Io.KnownBytes.{Appends, Keeps};
 ghost use Rattle.inner_interpreter.specs.Ends.{Marks};
-ghost use Rattle.inner_interpreter.specs.Moves.{HasRun};
+ghost use Rattle.inner_interpreter.specs.Moves.{HasRun, logs};
 ghost use Rattle.inner_interpreter.specs.Runs.{World, stop_by, stop_of};
 ghost use Rattle.inner_interpreter.specs.Sent.{AppendsPart};
 ghost use Rattle.inner_interpreter.specs.Served.{HasNotFailed};
@@ -37,6 +37,8 @@ fn stop_by_cause(cause: Cause) -> Stop
 fn finish<W: Output, T: Output>(writer: &mut W, trace: &mut T, stop: Stop) -> Stop
     ensures bytes { Keeps (W.sent writer.old) (W.sent writer.new) }
     ensures lines { Keeps (T.sent trace.old) (T.sent trace.new) }
+    ensures passed { W.failed writer.new ≡ false → W.passed writer.new ≡ true }
+    ensures traced { W.failed writer.new ≡ false → T.failed trace.new ≡ false → T.passed trace.new ≡ true }
     ensures done { Finishes result stop (W.failed writer.old) (W.failed writer.new) (T.failed trace.old)
         (T.failed trace.new) }
 {
@@ -69,14 +71,14 @@ fn send_line<N: Tracer, T: Output>(
 }
 
 /// Room for a line that is typed.
-fn line_room(alloc: Global) -> Result<Vec<u8>, OutOfMemory>
+pub fn line_room(alloc: Global) -> Result<Vec<u8>, OutOfMemory>
     ensures { IfOk result (λ line. 65535 ≤ vec_capacity line) }
 {
     Vec::with_capacity(alloc, LINE_SIZE).map_err(|_| OutOfMemory)
 }
 
 /// A run with its trace, by room for a line.
-fn run_with<R: Input, W: Output, D: Device, N: Tracer, T: Output>(
+pub fn run_with<R: Input, W: Output, D: Device, N: Tracer, T: Output>(
     line: &mut Vec<u8>,
     machine: &mut Machine,
     reader: &mut R,
@@ -87,6 +89,7 @@ fn run_with<R: Input, W: Output, D: Device, N: Tracer, T: Output>(
     limit: u64,
 ) -> Stop
     requires room { 65535 ≤ vec_capacity line.old }
+    ensures room { 65535 ≤ vec_capacity line.new }
     ensures whole { R.failed reader.new ≡ false → W.failed writer.new ≡ false → T.failed trace.new ≡ false →
         (w : World) → IsAt w machine.old (R.unread reader.old) (D.disk device.old) (W.sent writer.old) limit →
         EndsTraced (N.extent tracer.now) (N.line tracer.now) w machine.new (R.unread reader.new) (D.disk device.new)
@@ -107,11 +110,14 @@ fn run_with<R: Input, W: Output, D: Device, N: Tracer, T: Output>(
         W.failed writer.new ≡ W.failed writer.old }
     ensures told { HasNotFailed machine.old → R.failed reader.new ≡ false → result ≢ Stop.InputFault }
     ensures trace { T.failed trace.old ≡ false → (result ≡ Stop.TraceFault) ↔ (T.failed trace.new ≡ true) }
+    ensures passed { W.failed writer.new ≡ false → T.failed trace.new ≡ false →
+        (W.passed writer.new ≡ true) × (R.failed reader.new ≡ false → T.passed trace.new ≡ true) }
     ensures untraced { T.failed trace.old ≡ false → T.failed trace.new ≡ true → (w : World) →
         IsAt w machine.old (R.unread reader.old) (D.disk device.old) (W.sent writer.old) limit →
         EndsUntraced (N.extent tracer.now) (N.line tracer.now) w machine.new (R.unread reader.new) (D.disk device.new)
         (W.sent writer.new) (T.sent trace.old) (T.sent trace.new) }
-    ensures moved { HasRun machine.old machine.new (D.calls device.old) (D.calls device.new) limit result }
+    ensures moved { HasRun machine.old machine.new (logs (D.calls device.old) (W.sent writer.old) (R.reads reader.old))
+        (logs (D.calls device.new) (W.sent writer.new) (R.reads reader.new)) limit result }
 {
     let mut left = limit;
     loop {
@@ -188,10 +194,16 @@ pub fn run_traced<R: Input, W: Output, D: Device, N: Tracer, T: Output>(
         EndsUntraced (N.extent tracer.now) (N.line tracer.now) w machine.new (R.unread reader.new) (D.disk device.new)
         (W.sent writer.new) (T.sent trace.old) (T.sent trace.new)) }
 
-    // Whatever the ends are: the machine moved by ticks and answers alone, at most `limit` and one more; and it was told
-    // of a device fault just where the very call of its device failed.
+    // Where no writer fails, all that was sent was passed on.
+    ensures passed { IfOk result (λ stop. W.failed writer.new ≡ false → T.failed trace.new ≡ false →
+        (W.passed writer.new ≡ true) × (R.failed reader.new ≡ false → T.passed trace.new ≡ true)) }
+
+    // Whatever the ends are: the machine moved by ticks and answers alone, at most `limit` and one more; its reader gave just
+    // what it was answered with, its device was given just the calls that it asked for, with their pages, each of which failed
+    // exactly where the machine was told so; and its writer was sent just what it showed.
     ensures moved { IfOk result (λ stop.
-        HasRun machine.old machine.new (D.calls device.old) (D.calls device.new) limit stop) }
+        HasRun machine.old machine.new (logs (D.calls device.old) (W.sent writer.old) (R.reads reader.old))
+        (logs (D.calls device.new) (W.sent writer.new) (R.reads reader.new)) limit stop) }
 
     // On want of memory nothing was done.
     ensures machine { OnErr result (machine.new ≡ machine.old) }
@@ -246,10 +258,15 @@ pub fn run<R: Input, W: Output, D: Device>(
     ensures told { IfOk result (λ stop. HasNotFailed machine.old → R.failed reader.new ≡ false →
         stop ≢ Stop.InputFault) }
 
-    // Whatever the ends are: the machine moved by ticks and answers alone, at most `limit` and one more; and it was told
-    // of a device fault just where the very call of its device failed.
+    // Where the writer doesn't fail, all that was sent was passed on.
+    ensures passed { IfOk result (λ stop. W.failed writer.new ≡ false → W.passed writer.new ≡ true) }
+
+    // Whatever the ends are: the machine moved by ticks and answers alone, at most `limit` and one more; its reader gave just
+    // what it was answered with, its device was given just the calls that it asked for, with their pages, each of which failed
+    // exactly where the machine was told so; and its writer was sent just what it showed.
     ensures moved { IfOk result (λ stop.
-        HasRun machine.old machine.new (D.calls device.old) (D.calls device.new) limit stop) }
+        HasRun machine.old machine.new (logs (D.calls device.old) (W.sent writer.old) (R.reads reader.old))
+        (logs (D.calls device.new) (W.sent writer.new) (R.reads reader.new)) limit stop) }
 
     // It is no traced run.
     ensures untraced { IfOk result (λ stop. stop ≢ Stop.TraceFault) }

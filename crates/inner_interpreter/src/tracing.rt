@@ -54,9 +54,11 @@ impl Tracer for Untraced {
 pub struct Nowhere;
 
 impl Output for Nowhere {
-    ghost use Rattle.std.specs.Prelude.{None, false};
+    ghost use Rattle.std.specs.Prelude.{None, true, false};
 
     ghost sent = { λ _. None };
+
+    ghost passed = { λ _. true };
 
     ghost failed = { λ _. false };
 

@@ -1,41 +1,61 @@
 //! A writer of `std` as an end.
 
-ghost use Rattle.std.specs.Prelude.{◌≡◌, false};
+ghost use Rattle.std.specs.Prelude.{◌≡◌, [], Some, true, false};
 ghost use Rattle.std.specs.Io.{WritesAtMost};
 ghost use Rattle.std.specs.Io.KnownBytes.{Keeps, WriteAppends};
 
+use crate::byte_log::ByteLog;
 use crate::ends::{EndFault, Output};
 use std::io::{ErrorKind, Write};
 
 /// A writer of `std` as an `Output`. It tells its bytes where the writer does. A write that takes no byte fails.
 #[derive(Drop)]
-pub struct Writing<W> {
+pub struct Writing<W: Write> {
     writer: W,
     has_failed: bool,
+    log: ByteLog,
+    ghost told: { log.tells ≡ true → W.contents writer ≡ Some log.bytes },
 }
 
 impl<W: Write> Writing<W> {
     /// The writer, of which no call has failed.
     pub fn new(writer: W) -> Writing<W>
-        ensures bytes { ⟦<Writing<W> as Output>⟧.sent result ≡ W.contents writer }
+        ensures bytes { ⟦<Writing<W> as Output>⟧.sent result ≡ Some [] }
         ensures mark { ⟦<Writing<W> as Output>⟧.failed result ≡ false }
     {
         Writing {
             writer,
             has_failed: false,
+            log: ByteLog::new(),
+        }
+    }
+
+    /// A writer that tells its bytes, of which it has none yet.
+    pub fn telling(writer: W) -> Writing<W>
+        requires { W.contents writer ≡ Some [] }
+        ensures bytes { ⟦<Writing<W> as Output>⟧.sent result ≡ Some [] }
+        ensures mark { ⟦<Writing<W> as Output>⟧.failed result ≡ false }
+        ensures tells { result.log.tells ≡ true }
+    {
+        Writing {
+            writer,
+            has_failed: false,
+            log: ByteLog::told(),
         }
     }
 
     /// The writer, with what it was sent.
     pub fn into_inner(self) -> W
-        ensures { ⟦<Writing<W> as Output>⟧.sent self ≡ W.contents result }
+        ensures { self.log.tells ≡ true → ⟦<Writing<W> as Output>⟧.sent self ≡ W.contents result }
     {
         self.writer
     }
 }
 
 impl<W: Write> Output for Writing<W> {
-    ghost sent = { λ w. W.contents w.writer };
+    ghost sent = { λ w. Some w.log.bytes };
+
+    ghost passed = { λ w. w.log.passed };
 
     ghost failed = { λ w. w.has_failed };
 
@@ -46,6 +66,7 @@ impl<W: Write> Output for Writing<W> {
                     self.has_failed = true;
                     return Err(EndFault);
                 }
+                self.log = ByteLog::grown(&self.log, &bytes[..count]);
                 Ok(count)
             }
             Err(fault) => {
@@ -57,7 +78,10 @@ impl<W: Write> Output for Writing<W> {
 
     fn flush(&mut self) -> Result<(), EndFault> {
         match flush_once(&mut self.writer) {
-            Ok(()) => Ok(()),
+            Ok(()) => {
+                self.log = ByteLog::flushed(&self.log);
+                Ok(())
+            }
             Err(fault) => {
                 self.has_failed = true;
                 Err(fault)

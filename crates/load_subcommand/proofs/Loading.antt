@@ -1,6 +1,7 @@
 -- What `load` ends with, by what loading answers.
 use Rattle.std.proofs.Common.{◌≡◌, ℕ, Bool, false, List, Option, Some, None, Result, Ok, Err, inr, refl, subst}
 use Rattle.std.specs.Prelude.{IfErr, IfOk, IfSome, IsNone, MatchOption}
+use Rattle.block_buffers.specs.DeviceCalls.{DeviceCall}
 use Rattle.block_buffers.specs.Disks.{Disk}
 use Rattle.image_loader.specs.Files.{Contents}
 use Rattle.metacompiler.specs.Loaded.{IsLoaded, IsSaved, loaded_by_machine}
@@ -22,11 +23,11 @@ loaded_so read old d from to limit answer disk ended failed sent sent' same is e
     record { answer = answer; is_loaded = subst (λ i. IsLoaded d (loaded_by_machine i d from to limit) answer disk) same is; ends = ends }
 
 -- for want of memory nothing was read, and no call made
-pub none_unread : (word : Result ℕ LoadFault) (calls : List Bool) → IfErr word (λ why. IsSaved (Err why) (Err OutOfMemory) × (calls ≡ calls))
+pub none_unread : (word : Result ℕ LoadFault) (calls : List DeviceCall) → IfErr word (λ why. IsSaved (Err why) (Err OutOfMemory) × (calls ≡ calls))
 none_unread (Ok word) calls = tt
 none_unread (Err why) calls = (tt, refl)
 
-pub none_read : (word : Result ℕ LoadFault) (image : Contents) (count from to limit : ℕ) (calls : List Bool)
+pub none_read : (word : Result ℕ LoadFault) (image : Contents) (count from to limit : ℕ) (calls : List DeviceCall)
     → IfOk word (λ w. HasLoaded w image count from to limit calls calls (Err OutOfMemory))
 none_read (Ok word) image count from to limit calls = inr (refl, refl)
 none_read (Err why) image count from to limit calls = tt

@@ -1,5 +1,6 @@
 -- What `load` prints, and the file that it makes.
 use Rattle.std.specs.Prelude.{◌≡◌, ℕ, Bool, false, List, ◌++◌, Option, Some, Result, Ok, Err, IfErr, IfOk, IsNone, MatchOption, codes, decimal}
+use Rattle.block_buffers.specs.DeviceCalls.{DeviceCall}
 use Rattle.block_buffers.specs.Disks.{Disk}
 use Rattle.image_loader.specs.Files.{Contents, IsFile}
 use Rattle.metacompiler.specs.Loaded.{Loaded, IsLoaded, IsSaved, loaded_by_machine}
@@ -40,7 +41,7 @@ pub record EndsLoaded (d : Disk) (o : Loaded) (disk : Option Disk) (ended : Ende
   pub ends : failed ≡ false → EndsAnswered answer ended old new
 
 -- what follows from the moves that the machine made is answered, whatever the device is
-pub record EndsMoved (image : Contents) (count from to limit : ℕ) (calls calls' : List Bool) (ended : Ended) (failed : Bool)
+pub record EndsMoved (image : Contents) (count from to limit : ℕ) (calls calls' : List DeviceCall) (ended : Ended) (failed : Bool)
     (old new : Option (List ℕ)) : Type 0 where
   pub answer : Result Contents LoadFault
   pub unread : IfErr (word_of image from to) (λ why. IsSaved (Err why) answer × (calls' ≡ calls))

@@ -18,6 +18,7 @@ use subcommands::{Ended, end_with_made, print_out_of_memory, refuse, refuse_imag
 fn refuse_load<W: Output>(why: LoadFault, writer: &mut W) -> Ended
     ensures printed { W.failed writer.new ≡ false →
         PrintsUnloaded why result.status (W.sent writer.old) (W.sent writer.new) }
+    ensures passed { W.failed writer.new ≡ false → W.passed writer.new ≡ true }
     ensures cut { W.failed writer.old ≡ false → W.failed writer.new ≡ true → result.status ≡ 5 }
     ensures status { IsRefusal result.status (W.failed writer.new) }
     ensures file { IsNone result.file }
@@ -55,6 +56,7 @@ pub fn do_load<W: Output, D: Device>(
     ensures refused { W.failed writer.new ≡ false →
         PrintsNoImage image.now result.status (W.sent writer.old) (W.sent writer.new) }
     ensures untouched { (fault : ImageFault) → IsNoFile image.now fault → device.new ≡ device.old }
+    ensures passed { W.failed writer.new ≡ false → W.passed writer.new ≡ true }
     ensures cut { W.failed writer.old ≡ false → W.failed writer.new ≡ true → (result.status ≡ 5) × IsNone result.file }
 {
     let image = match image_loader::read(alloc, image) {

@@ -1,5 +1,7 @@
 //! `load` over the files that the command line names.
 
+ghost use Rattle.std.specs.Prelude.{◌<◌, IfErr};
+
 use crate::load_command::do_load;
 use block_buffers::{BLOCK_SIZE, Device, MemoryDevice};
 use inner_interpreter::{Machine, Writing};
@@ -67,7 +69,9 @@ pub struct Load<'a> {
 
 /// Lets the image that `load` names compile screens, and writes the image that results. Where that can't begin it is printed why, and
 /// the status is the error.
-pub fn load_screens(rt: &HostRuntime, load: Load<'_>) -> Result<u8, u8> {
+pub fn load_screens(rt: &HostRuntime, load: Load<'_>) -> Result<u8, u8>
+    ensures { IfErr result (λ status. 0 < status) }
+{
     let Load {
         blocks,
         from,

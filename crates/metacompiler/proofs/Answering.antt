@@ -1,6 +1,7 @@
 -- What loading answers, by where its rounds stop.
 use Rattle.std.proofs.Common.{◌≡◌, ◌≢◌, ℕ, List, Option, Some, false, true, inr, refl, ap, sym, ◌∙◌, ◌==◌, Bool}
 use Rattle.std.specs.Prelude.{◌+◌, ◌-◌, IfOk, IsFalse, Result, Ok, Err, if◌then◌else◌}
+use Rattle.block_buffers.specs.DeviceCalls.{DeviceCall}
 use Rattle.block_buffers.specs.Disks.{Disk}
 use Rattle.image_loader.specs.Files.{Contents}
 use Rattle.machine.specs.State.{State}
@@ -62,7 +63,7 @@ saved_loaded from entry before o new disk left r s x =
     rw (s.stop_is) (answer_loaded from r (ended entry (restored before new.parts)) s.told disk s.disk_is x)
 
 -- where the machine is, when rounds stop before the end of a screen
-pub stopped_there : (word from to : ℕ) (p : Stage) (machine : State) (calls : List Bool) (left : ℕ) (y : Stop)
+pub stopped_there : (word from to : ℕ) (p : Stage) (machine : State) (calls : List DeviceCall) (left : ℕ) (y : Stop)
     → AreRead word (to + 1 - from) from p (stage machine calls left) y → IsFalse (is_end y) → HasStopped word from to p machine calls (Err (fault_of y))
 unfolding HasStopped
 stopped_there word from to p machine calls left y read goes = λ _. (left, y, read, goes, refl)
@@ -90,12 +91,12 @@ saved_goes entry s r is q = by_answer (cell s.memory STATE == 0) (can_save s) r 
   by_answer true false (Err Limit) h t = cc
   by_answer false fits (Err Limit) h t = cc
 
-pub saved_there : (word from to entry : ℕ) (s : Whole) (p : Stage) (machine : State) (calls : List Bool) (r : Result Contents LoadFault)
+pub saved_there : (word from to entry : ℕ) (s : Whole) (p : Stage) (machine : State) (calls : List DeviceCall) (r : Result Contents LoadFault)
     → IsSaved (ended entry s) r → HasStopped word from to p machine calls r
 unfolding HasStopped
 saved_there word from to entry s p machine calls r is = λ q. absurd (saved_goes entry s r is q)
 
-pub saved_stays : (word : Result ℕ LoadFault) (from to entry : ℕ) (s : Whole) (p : Stage) (machine : State) (calls : List Bool) (r : Result Contents LoadFault)
+pub saved_stays : (word : Result ℕ LoadFault) (from to entry : ℕ) (s : Whole) (p : Stage) (machine : State) (calls : List DeviceCall) (r : Result Contents LoadFault)
     → IsSaved (ended entry s) r → IfOk word (λ w. HasStopped w from to p machine calls r)
 saved_stays (Ok w) from to entry s p machine calls r is = saved_there w from to entry s p machine calls r is
 saved_stays (Err c) from to entry s p machine calls r is = tt

@@ -1,5 +1,5 @@
 -- Rounds and screens by the moves that the machine makes, whatever its device is.
-use Rattle.std.proofs.Common.{◌≡◌, ℕ, suc, ◌+◌, ◌-◌, ◌<◌, ◌∷◌, [], List, Option, Some, None, Bool, IsFalse, inl, inr, refl, ap, sym, subst, ◌∙◌, arith}
+use Rattle.std.proofs.Common.{◌≡◌, ℕ, suc, ◌+◌, ◌-◌, ◌<◌, ◌∷◌, [], List, Option, Some, None, false, IsFalse, inl, inr, refl, ap, sym, subst, ◌∙◌, arith}
 use Rattle.std.specs.Prelude.{Result, Ok, Err, IfOk, IfErr}
 use Rattle.image_loader.specs.Files.{Contents}
 use Rattle.machine_parts.specs.declared.parts.Request.{Request}
@@ -10,7 +10,8 @@ use Rattle.machine.specs.declared.act.Event.TheVariants as event
 use Rattle.machine.specs.State.{State}
 use Rattle.machine.specs.Tick.{Runs, ticked, IsTicked}
 use Rattle.machine.specs.Answer.{answer_of, asked_by}
-use Rattle.inner_interpreter.specs.Moves.{Turn, Tick, Answer, Accepts}
+use Rattle.block_buffers.specs.DeviceCalls.{DeviceCall}
+use Rattle.inner_interpreter.specs.Moves.{Turn, Tick, Answer, Accepts, is_entry}
 use Rattle.inner_interpreter.specs.Served.{HasActed}
 use Rattle.metacompiler.specs.Rounds.{Stop, Ended, Limit, Asked, is_end, stop_by}
 use Rattle.metacompiler.specs.Loaded as loaded
@@ -20,10 +21,10 @@ use Rattle.metacompiler.specs.Making.{GoesOn, LeadsTo, IsLed, IsSettledBy, IsRea
 use Rattle.metacompiler.proofs.Making.{NoAsk, Tells, ticked_told, answer_told, stop_goes}
 
 -- one move, and what comes behind it
-one_move : (p : Stage) (t : Turn) (o : Option Stop) → 0 < p.left → Accepts p.machine t → stop_behind p.machine t ≡ o → LeadsTo p (behind p t) o
+one_move : (p : Stage) (t : Turn) (o : Option Stop) → 0 < p.left → is_entry t ≡ false → Accepts p.machine t → stop_behind p.machine t ≡ o → LeadsTo p (behind p t) o
 unfolding AreRounds
-one_move p t None some ok e = λ r y h. record { moves = t ∷ h.moves; rounds = (some, ok, rw e h.rounds) }
-one_move p t (Some z) some ok e = record { moves = t ∷ []; rounds = (some, ok, rw e (refl, refl, refl)) }
+one_move p t None some own ok e = λ r y h. record { moves = t ∷ h.moves; rounds = (some, own, ok, rw e h.rounds) }
+one_move p t (Some z) some own ok e = record { moves = t ∷ []; rounds = (some, own, ok, rw e (refl, refl, refl)) }
 
 led_then : (p m q : Stage) (y : Option Stop) → LeadsTo p m None → LeadsTo m q y → LeadsTo p q y
 led_then p m q None f g = λ r z h. f r z (g r z h)
@@ -41,14 +42,14 @@ silent s (event.Ask r) h = absurd h
 silent s (event.Fault f) h = refl
 silent s (event.Halt c) h = refl
 
-tick_leads : (s new : State) (c : List Bool) (n : ℕ) (act : Act) → IsTicked s new act → LeadsTo (stage s c (n + 1)) (stage new c n) (stop_by_tick new act.event)
+tick_leads : (s new : State) (c : List DeviceCall) (n : ℕ) (act : Act) → IsTicked s new act → LeadsTo (stage s c (n + 1)) (stage new c n) (stop_by_tick new act.event)
 tick_leads s new c n act t =
     let e : new ≡ (ticked s.parts).0 = ap (λ v. v.0) t.1 in
     let a : act ≡ (ticked s.parts).1 = ap (λ v. v.1) t.1 in
     let less : n ≡ n + 1 - 1 = omega arith in
     let q : stage new c n ≡ behind (stage s c (n + 1)) Tick = ap (λ v. stage v c n) e ∙ ap (λ k. stage (ticked s.parts).0 c k) less in
     let y : stop_by_tick new act.event ≡ stop_behind s Tick = ap (λ v. stop_by_tick v act.event) e ∙ ap (λ (v : Act). stop_by_tick (ticked s.parts).0 v.event) a in
-    let base : LeadsTo (stage s c (n + 1)) (behind (stage s c (n + 1)) Tick) (stop_behind s Tick) = one_move (stage s c (n + 1)) Tick (stop_behind s Tick) (omega arith) t.0 refl in
+    let base : LeadsTo (stage s c (n + 1)) (behind (stage s c (n + 1)) Tick) (stop_behind s Tick) = one_move (stage s c (n + 1)) Tick (stop_behind s Tick) (omega arith) refl t.0 refl in
     subst (λ v. LeadsTo (stage s c (n + 1)) v (stop_by_tick new act.event)) (sym q) (subst (λ o. LeadsTo (stage s c (n + 1)) (behind (stage s c (n + 1)) Tick) o) (sym y) base)
 
 tick_tells : (s new : State) (act : Act) → IsTicked s new act → Tells new act.event
@@ -57,14 +58,14 @@ tick_tells s new act t =
     let a : act ≡ (ticked s.parts).1 = ap (λ v. v.1) t.1 in
     subst (λ v. Tells v act.event) (sym e) (subst (λ (v : Act). Tells (ticked s.parts).0 v.event) (sym a) (ticked_told s.parts))
 
-pub tick_led : (s new : State) (c : List Bool) (n : ℕ) (act : Act) (y : Option Stop) → IsTicked s new act → NoAsk act.event → y ≡ stop_by new act.event → IsLed (stage s c (n + 1)) (stage new c n) y
+pub tick_led : (s new : State) (c : List DeviceCall) (n : ℕ) (act : Act) (y : Option Stop) → IsTicked s new act → NoAsk act.event → y ≡ stop_by new act.event → IsLed (stage s c (n + 1)) (stage new c n) y
 tick_led s new c n act y t none e =
     let goes : GoesOn new (stop_by new act.event) = stop_goes new act.event (tick_tells s new act t) in
     let leads : LeadsTo (stage s c (n + 1)) (stage new c n) (stop_by new act.event) = subst (λ o. LeadsTo (stage s c (n + 1)) (stage new c n) o) (silent new act.event none) (tick_leads s new c n act t) in
     subst (λ o. IsLed (stage s c (n + 1)) (stage new c n) o) (sym e) (record { goes = goes; leads = leads })
 
 -- a tick that asked, and what was done behind it
-pub asked_led : (s mid new : State) (c c' : List Bool) (n : ℕ) (act : Act) (r : Request) (y : Option Stop) → IsTicked s mid act → act.event ≡ event.Ask r → IsSettledBy r (stage mid c n) (stage new c' n) y → IsLed (stage s c (n + 1)) (stage new c' n) y
+pub asked_led : (s mid new : State) (c c' : List DeviceCall) (n : ℕ) (act : Act) (r : Request) (y : Option Stop) → IsTicked s mid act → act.event ≡ event.Ask r → IsSettledBy r (stage mid c n) (stage new c' n) y → IsLed (stage s c (n + 1)) (stage new c' n) y
 asked_led s mid new c c' n act r y t e h = by_request r (subst (λ v. LeadsTo (stage s c (n + 1)) (stage mid c n) (stop_by_tick mid v)) e (tick_leads s mid c n act t)) h where
   by_request : (r : Request) → LeadsTo (stage s c (n + 1)) (stage mid c n) (stop_by_tick mid (event.Ask r)) → IsSettledBy r (stage mid c n) (stage new c' n) y → IsLed (stage s c (n + 1)) (stage new c' n) y
   by_request (request.Read u) f h = record { goes = h.goes; leads = led_then (stage s c (n + 1)) (stage mid c n) (stage new c' n) y f h.leads }
@@ -73,13 +74,13 @@ asked_led s mid new c c' n act r y t e h = by_request r (subst (λ v. LeadsTo (s
   by_request (request.Line k) f h = subst (λ o. IsLed (stage s c (n + 1)) (stage new c' n) o) (sym h.1) (record { goes = tt; leads = subst (λ v. LeadsTo (stage s c (n + 1)) v (Some Asked)) (sym h.0) f })
 
 -- an answer
-pub answer_led : (s new : State) (c c' : List Bool) (n : ℕ) (act : Act) (r : Request) → asked_by s.wait ≡ Some r → 0 < n → HasActed s new c c' act → IsLed (stage s c n) (stage new c' n) (stop_by new act.event)
-answer_led s new c c' n act r asks some h =
+pub answer_led : (s new : State) (c c' : List DeviceCall) (reads reads' : List (Option ℕ)) (n : ℕ) (act : Act) (r : Request) → asked_by s.wait ≡ Some r → 0 < n → HasActed s new c c' reads reads' act → IsLed (stage s c n) (stage new c' n) (stop_by new act.event)
+answer_led s new c c' reads reads' n act r asks some h =
     let t = answer_of s h.reply in
     let e : new ≡ t.0 = ap (λ v. v.0) h.acts in
     let a : act ≡ t.1 = ap (λ v. v.1) h.acts in
     let base : IsLed (stage s c n) (behind (stage s c n) (Answer h.reply)) (stop_by t.0 t.1.event) =
-    record { goes = stop_goes t.0 t.1.event (answer_told s r h.reply asks); leads = one_move (stage s c n) (Answer h.reply) (stop_by t.0 t.1.event) some h.accepted refl } in
+    record { goes = stop_goes t.0 t.1.event (answer_told s r h.reply asks); leads = one_move (stage s c n) (Answer h.reply) (stop_by t.0 t.1.event) some refl h.accepted refl } in
     rw (e, a, h.calls_are) base
 
 -- rounds so far, and what comes behind them
@@ -119,6 +120,6 @@ pub unloaded : (o : Result ℕ LoadFault) (P : Type 0) → P → IfErr o (λ c. 
 unloaded (Ok w) P p = tt
 unloaded (Err c) P p = (tt, p)
 
-pub not_read : (o : Result ℕ LoadFault) (image : Contents) (count from to ticks : ℕ) (calls : List Bool) → IfOk o (λ word. HasLoaded word image count from to ticks calls calls (Err OutOfMemory))
+pub not_read : (o : Result ℕ LoadFault) (image : Contents) (count from to ticks : ℕ) (calls : List DeviceCall) → IfOk o (λ word. HasLoaded word image count from to ticks calls calls (Err OutOfMemory))
 not_read (Ok w) image count from to ticks calls = inr (refl, refl)
 not_read (Err c) image count from to ticks calls = tt

@@ -9,25 +9,26 @@ use Rattle.machine.specs.declared.act.Event.TheVariants as event
 use Rattle.machine.specs.State.{State, start}
 use Rattle.machine.specs.Tick.{running, ticked}
 use Rattle.machine.specs.Answer.{answer_of}
-use Rattle.inner_interpreter.specs.Moves.{Turn, Tick, Answer, turned, Accepts, device_call}
+use Rattle.block_buffers.specs.DeviceCalls.{DeviceCall}
+use Rattle.inner_interpreter.specs.Moves.{Turn, Tick, Answer, Enter, turned, Accepts, device_call, is_entry}
 use Rattle.metacompiler.specs.Rounds.{Stop, Ended, Limit, is_end, stop_by, entered}
 use Rattle.metacompiler.specs.Loaded as loaded
 use Rattle.metacompiler.specs.Loaded.{LoadFault, Asked, Fault, Halted, OutOfMemory, interpret_in, answered, fault_of, IsSaved}
 
--- how far loading has come: the machine, the calls that its device was given, each with whether it failed, and how many
--- ticks are left
+-- how far loading has come: the machine, the calls that its device was given, and how many ticks are left
 pub record Stage : Type 0 where
   pub machine : State
-  pub calls : List Bool
+  pub calls : List DeviceCall
   pub left : ℕ
 
-abbrev pub stage : State → List Bool → ℕ → Stage
+abbrev pub stage : State → List DeviceCall → ℕ → Stage
 stage s calls left = record { machine = s; calls = calls; left = left }
 
--- behind a tick, or an answer, which may tell of a call
+-- after a move: a tick, or an answer, which may come from a call
 abbrev pub behind : Stage → Turn → Stage
 behind p Tick = stage (turned p.machine Tick) p.calls (p.left - 1)
-behind p (Answer reply) = stage (turned p.machine (Answer reply)) (p.calls ++ device_call (Answer reply)) p.left
+behind p (Answer reply) = stage (turned p.machine (Answer reply)) (p.calls ++ device_call p.machine (Answer reply)) p.left
+behind p (Enter word) = stage (turned p.machine (Enter word)) p.calls p.left
 
 -- why rounds stop behind a tick with this event, if they do: where the device is asked they go on
 abbrev pub stop_by_tick : State → Event → Option Stop
@@ -38,13 +39,14 @@ stop_by_tick s e = stop_by s e
 abbrev pub stop_behind : State → Turn → Option Stop
 stop_behind s Tick = let t = ticked s.parts in stop_by_tick t.0 t.1.event
 stop_behind s (Answer reply) = let t = answer_of s reply in stop_by t.0 t.1.event
+stop_behind s (Enter word) = None
 
 -- these moves are the rounds of a screen, which come from p to q and stop there for this: while a tick is left the
--- machine makes a move that it accepts, up to the first behind which they stop
+-- machine makes a tick or takes an answer, up to the first after which they stop; no word is entered
 unfoldable pub AreRounds : List Turn → (p q : Stage) → Stop → Type 0
 AreRounds [] p q y = (p.left ≡ 0) × (q ≡ p) × (y ≡ Limit)
 AreRounds (t ∷ ts) p q y =
-    (0 < p.left) × Accepts p.machine t
+    (0 < p.left) × (is_entry t ≡ false) × Accepts p.machine t
     × MatchOption (stop_behind p.machine t) (AreRounds ts (behind p t) q y) (λ z. (ts ≡ []) × (q ≡ behind p t) × (y ≡ z))
 
 -- so the rounds of a screen come from p to q
@@ -77,7 +79,7 @@ abbrev pub word_of : Contents → (from to : ℕ) → Result ℕ LoadFault
 word_of image from to = word_for from to (interpret_in (front_put image.bytes zeros))
 
 -- screens were read by this word, and what is answered follows from where that stopped
-pub record HasRead (word entry from to : ℕ) (p : Stage) (calls : List Bool) (result : Result Contents LoadFault)
+pub record HasRead (word entry from to : ℕ) (p : Stage) (calls : List DeviceCall) (result : Result Contents LoadFault)
     : Type 0 where
   pub machine : State
   pub left : ℕ
@@ -94,13 +96,13 @@ is_stopped (Err loaded.Limit) = true
 is_stopped _ = false
 
 -- where screens that are read by this word stop before the end of one, the machine is as its rounds left it
-unfoldable pub HasStopped : (word from to : ℕ) → (p : Stage) → State → (calls : List Bool) → Result Contents LoadFault → Type 0
+unfoldable pub HasStopped : (word from to : ℕ) → (p : Stage) → State → (calls : List DeviceCall) → Result Contents LoadFault → Type 0
 HasStopped word from to p machine calls result =
     is_stopped result ≡ true → (left : ℕ) × (stop : Stop)
     × AreRead word (to + 1 - from) from p (stage machine calls left) stop × IsFalse (is_end stop) × (result ≡ Err (fault_of stop))
 
 -- so it is on an image, with at most so many ticks; or memory for the machine was not found, and no call was made
-abbrev pub HasLoaded : (word : ℕ) → Contents → (count from to ticks : ℕ) → (calls calls' : List Bool) → Result Contents LoadFault → Type 0
+abbrev pub HasLoaded : (word : ℕ) → Contents → (count from to ticks : ℕ) → (calls calls' : List DeviceCall) → Result Contents LoadFault → Type 0
 HasLoaded word image count from to ticks calls calls' result =
     HasRead word image.entry from to (stage (start image count) calls ticks) calls' result
     ⊎ ((result ≡ Err OutOfMemory) × (calls' ≡ calls))

@@ -1,12 +1,16 @@
 //! What is seen to before a file is written: that nothing that is to be kept is lost.
 
+ghost use Rattle.std.specs.Prelude.{◌<◌, IfErr};
+
 use crate::refusals::{out_of_memory, refuse_file, refuse_use};
 use file_access::{Holding, look_into};
 use std::io::ErrorKind;
 use std::{fs, io};
 
 /// What a file holds. Want of memory is printed, and the status is the error.
-fn found_in(rt: &HostRuntime, name: &str) -> Result<Holding, u8> {
+fn found_in(rt: &HostRuntime, name: &str) -> Result<Holding, u8>
+    ensures { IfErr result (λ status. 0 < status) }
+{
     match look_into(rt, name) {
         Ok(holding) => Ok(holding),
         Err(_) => Err(out_of_memory(rt)),
@@ -14,7 +18,9 @@ fn found_in(rt: &HostRuntime, name: &str) -> Result<Holding, u8> {
 }
 
 /// Sees to it that an image isn't taken for a file of blocks. Where it would be that is printed, and the status is the error.
-pub fn keep_blocks(rt: &HostRuntime, blocks: &str) -> Result<(), u8> {
+pub fn keep_blocks(rt: &HostRuntime, blocks: &str) -> Result<(), u8>
+    ensures { IfErr result (λ status. 0 < status) }
+{
     match found_in(rt, blocks)? {
         Holding::Image => Err(refuse_use(rt, blocks, "is an image, and no file of blocks")),
         Holding::Blocks | Holding::Other => Ok(()),
@@ -22,7 +28,9 @@ pub fn keep_blocks(rt: &HostRuntime, blocks: &str) -> Result<(), u8> {
 }
 
 /// Sees to it that an image isn't written over blocks. Where it would be that is printed, and the status is the error.
-pub fn keep_image(rt: &HostRuntime, image: &str) -> Result<(), u8> {
+pub fn keep_image(rt: &HostRuntime, image: &str) -> Result<(), u8>
+    ensures { IfErr result (λ status. 0 < status) }
+{
     match found_in(rt, image)? {
         Holding::Blocks => Err(refuse_use(rt, image, "is there already, and is no image")),
         Holding::Image | Holding::Other => Ok(()),
@@ -31,7 +39,9 @@ pub fn keep_image(rt: &HostRuntime, image: &str) -> Result<(), u8> {
 
 /// Sees to it that a trace isn't written over blocks or an image. Where it would be that is printed, and the status is the
 /// error.
-pub fn keep_trace(rt: &HostRuntime, trace: &str) -> Result<(), u8> {
+pub fn keep_trace(rt: &HostRuntime, trace: &str) -> Result<(), u8>
+    ensures { IfErr result (λ status. 0 < status) }
+{
     match found_in(rt, trace)? {
         Holding::Blocks | Holding::Image => Err(refuse_use(
             rt,
@@ -44,7 +54,9 @@ pub fn keep_trace(rt: &HostRuntime, trace: &str) -> Result<(), u8> {
 
 /// Sees to it that a new file isn't written over one that is there. Where it would be that is printed, and the status is the
 /// error.
-pub fn keep_absent(rt: &HostRuntime, name: &str) -> Result<(), u8> {
+pub fn keep_absent(rt: &HostRuntime, name: &str) -> Result<(), u8>
+    ensures { IfErr result (λ status. 0 < status) }
+{
     match fs::exists(rt, name) {
         Ok(false) => Ok(()),
         Ok(true) => Err(refuse_use(rt, name, "is there already")),
@@ -67,7 +79,9 @@ fn is_one_file(rt: &HostRuntime, name: &str, other: &str) -> io::Result<bool> {
 
 /// Sees to it that a file isn't written over one that is read. Where they are one file that is printed, with what they are,
 /// and the status is the error.
-pub fn keep_apart(rt: &HostRuntime, read: &str, written: &str, files: &str) -> Result<(), u8> {
+pub fn keep_apart(rt: &HostRuntime, read: &str, written: &str, files: &str) -> Result<(), u8>
+    ensures { IfErr result (λ status. 0 < status) }
+{
     match is_one_file(rt, read, written) {
         Ok(false) => Ok(()),
         Ok(true) => Err(refuse_use(rt, files, "are one file")),

@@ -1,15 +1,19 @@
 //! Files that are opened, read and written as they are named.
 
+ghost use Rattle.std.specs.Prelude.{◌≡◌, ◌<◌, IfErr, IsNone, OnErr, OnOk};
+
 use crate::keeping::keep_blocks;
 use crate::refusals::{cannot_open, out_of_memory, refuse_blocks, refuse_file};
 use file_access::{
     FileDevice, hold, open_device, open_to_read, read_blocks, read_file, read_image, write_file,
 };
-use std::fs;
 use std::fs::File;
+use std::{fs, io};
 
 /// The bytes of an image's file. Where there are none it is printed why, and the status is the error.
-pub fn image_bytes(rt: &HostRuntime, image: &str) -> Result<Vec<u8>, u8> {
+pub fn image_bytes(rt: &HostRuntime, image: &str) -> Result<Vec<u8>, u8>
+    ensures { IfErr result (λ status. 0 < status) }
+{
     match read_image(rt, image) {
         Ok(Some(bytes)) => Ok(bytes),
         Ok(None) => Err(cannot_open(rt, image)),
@@ -19,7 +23,9 @@ pub fn image_bytes(rt: &HostRuntime, image: &str) -> Result<Vec<u8>, u8> {
 
 /// The blocks of a run: those of the file, or none where it has no file. Where the file can't be opened that is printed, and the
 /// status is the error.
-pub fn run_blocks(rt: &HostRuntime, blocks: Option<&str>) -> Result<FileDevice, u8> {
+pub fn run_blocks(rt: &HostRuntime, blocks: Option<&str>) -> Result<FileDevice, u8>
+    ensures { IfErr result (λ status. 0 < status) }
+{
     let Some(blocks) = blocks else {
         return Ok(FileDevice::without_file());
     };
@@ -31,7 +37,9 @@ pub fn run_blocks(rt: &HostRuntime, blocks: Option<&str>) -> Result<FileDevice, 
 }
 
 /// The file of blocks that is only read. Where it can't be opened that is printed, and the status is the error.
-pub fn read_alone(rt: &HostRuntime, blocks: &str) -> Result<FileDevice, u8> {
+pub fn read_alone(rt: &HostRuntime, blocks: &str) -> Result<FileDevice, u8>
+    ensures { IfErr result (λ status. 0 < status) }
+{
     keep_blocks(rt, blocks)?;
     match open_to_read(rt, blocks) {
         Some(device) => Ok(device),
@@ -40,7 +48,9 @@ pub fn read_alone(rt: &HostRuntime, blocks: &str) -> Result<FileDevice, u8> {
 }
 
 /// The bytes of a file. Where it can't be read that is printed, and the status is the error.
-pub fn file_bytes(rt: &HostRuntime, name: &str) -> Result<Vec<u8>, u8> {
+pub fn file_bytes(rt: &HostRuntime, name: &str) -> Result<Vec<u8>, u8>
+    ensures { IfErr result (λ status. 0 < status) }
+{
     match read_file(rt, name) {
         Ok(bytes) => Ok(bytes),
         Err(error) => Err(refuse_file(rt, &error, name)),
@@ -48,7 +58,9 @@ pub fn file_bytes(rt: &HostRuntime, name: &str) -> Result<Vec<u8>, u8> {
 }
 
 /// The bytes of a file, if it is there. Where they can't be read that is printed, and the status is the error.
-pub fn old_file(rt: &HostRuntime, name: &str) -> Result<Option<Vec<u8>>, u8> {
+pub fn old_file(rt: &HostRuntime, name: &str) -> Result<Option<Vec<u8>>, u8>
+    ensures { IfErr result (λ status. 0 < status) }
+{
     match fs::exists(rt, name) {
         Ok(false) => Ok(None),
         Ok(true) => Ok(Some(file_bytes(rt, name)?)),
@@ -58,7 +70,9 @@ pub fn old_file(rt: &HostRuntime, name: &str) -> Result<Option<Vec<u8>>, u8> {
 
 /// The bytes of a file of blocks that is to be replaced; none where it isn't there. Where they can't be read that is printed,
 /// and the status is the error.
-pub fn old_blocks(rt: &HostRuntime, blocks: &str) -> Result<Vec<u8>, u8> {
+pub fn old_blocks(rt: &HostRuntime, blocks: &str) -> Result<Vec<u8>, u8>
+    ensures { IfErr result (λ status. 0 < status) }
+{
     match read_blocks(rt, blocks) {
         Ok(old) => Ok(old),
         Err(error) => Err(refuse_file(rt, &error, blocks)),
@@ -67,20 +81,34 @@ pub fn old_blocks(rt: &HostRuntime, blocks: &str) -> Result<Vec<u8>, u8> {
 
 /// A file that is to be replaced, held against other runs for as long as it is open; none where it isn't there. Where another
 /// run has it that is printed, and the status is the error.
-pub fn held(rt: &HostRuntime, name: &str) -> Result<Option<File>, u8> {
+pub fn held(rt: &HostRuntime, name: &str) -> Result<Option<File>, u8>
+    ensures { IfErr result (λ status. 0 < status) }
+{
     match hold(rt, name) {
         Ok(file) => Ok(file),
         Err(why) => Err(refuse_blocks(rt, name, why)),
     }
 }
 
-/// Writes the file that a subcommand made, if it made one, and answers the status.
-pub fn write_made(rt: &HostRuntime, status: u8, file: Option<Vec<u8>>, name: &str) -> u8 {
-    let Some(file) = file else {
-        return status;
-    };
-    match write_file(rt, name, file.as_slice()) {
+/// The status after a file was written, or could not be: then that is printed, and the status is not 0.
+fn status_after(rt: &HostRuntime, done: io::Result<()>, status: u8, name: &str) -> u8
+    ensures written { OnOk done (result ≡ status) }
+    ensures unwritten { OnErr done (0 < result) }
+{
+    match done {
         Ok(()) => status,
         Err(error) => refuse_file(rt, &error, name),
     }
+}
+
+/// Writes the file that a subcommand made, if it made one, and answers the status.
+pub fn write_made(rt: &HostRuntime, status: u8, file: Option<Vec<u8>>, name: &str) -> u8
+    ensures none { IsNone file → result ≡ status }
+    ensures failed { 0 < status → 0 < result }
+{
+    let Some(file) = file else {
+        return status;
+    };
+    let done = write_file(rt, name, file.as_slice());
+    status_after(rt, done, status, name)
 }

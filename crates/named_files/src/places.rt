@@ -1,7 +1,11 @@
 //! A place in a screen, shown to people on standard error: the line, and a mark below it.
 
+ghost use Rattle.std.specs.Prelude.{◌≡◌, ◌<◌, ◌++◌, ◌∷◌, [], IfSome};
+ghost use Rattle.block_buffers.specs.Calls.{KeepsBlocks};
+ghost use Rattle.block_buffers.specs.DeviceCalls.{WasRead};
+ghost use Rattle.block_buffers.specs.ReadPages.{AreReadFrom};
+
 use block_buffers::{BLOCK_SIZE, Device, LINE_SIZE, MemoryDevice, screen_line};
-use file_access::FileDevice;
 use std::alloc::{AllocError, Global};
 use std::fmt::Display;
 
@@ -68,13 +72,35 @@ pub fn read_screen<D: Device>(
     }
 }
 
-/// The blocks of a file, to try a load on. `None`: they can't be read, or memory ran out.
-pub fn blocks_of(alloc: Global, device: &mut FileDevice) -> Option<MemoryDevice> {
+/// The bytes of a block. `None`: it can't be read.
+fn block_in<D: Device>(device: &mut D, block: u16) -> Option<[u8; BLOCK_SIZE]>
+    ensures kept { KeepsBlocks (D.disk device.old) (D.disk device.new) }
+    ensures counted { D.block_count device.new ≡ D.block_count device.old }
+    ensures read { IfSome result (λ page. (D.calls device.new ≡ D.calls device.old ++ WasRead block page ∷ []) ×
+        (block < D.block_count device.old)) }
+{
+    let mut page = [0; BLOCK_SIZE];
+    match device.read(block, &mut page) {
+        Ok(()) => Some(page),
+        Err(_) => None,
+    }
+}
+
+/// The blocks of a device, each of which is read once, to try a load on. `None`: one can't be read, or memory ran out.
+pub fn blocks_of<D: Device>(alloc: Global, device: &mut D) -> Option<MemoryDevice>
+    ensures kept { KeepsBlocks (D.disk device.old) (D.disk device.new) }
+    ensures read { IfSome result (λ _. AreReadFrom 0 (D.block_count device.old) (D.block_count device.old)
+        (D.calls device.old) (D.calls device.new)) }
+{
     let mut blocks = Vec::new(alloc);
-    for number in 0..device.count().min(65536) {
-        let mut page = [0; BLOCK_SIZE];
-        device.read(number as u16, &mut page).ok()?;
-        blocks.push(page).ok()?;
+    for number in 0..device.count() {
+        let Some(page) = block_in(device, number as u16) else {
+            return None;
+        };
+        match blocks.push(page) {
+            Ok(()) => {}
+            Err(_) => return None,
+        }
     }
     if blocks.len() > 65536 {
         return None;

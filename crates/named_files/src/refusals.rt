@@ -1,11 +1,15 @@
 //! What is printed where a file can't be used as it is named.
 
+ghost use Rattle.std.specs.Prelude.{◌≡◌, ◌<◌, ◌⊎◌};
+
 use file_access::Unopened;
 use std::io;
 use std::io::ErrorKind;
 
 /// Prints a line of the program's own, and answers the status: 5 where it can't be written.
-pub fn say<R: Print>(rt: &R, text: &str, name: &str, status: u8) -> u8 {
+pub fn say<R: Print>(rt: &R, text: &str, name: &str, status: u8) -> u8
+    ensures { (result ≡ status) ⊎ (result ≡ 5) }
+{
     match println!(rt; "{text}{name}") {
         Ok(()) => status,
         Err(_) => 5,
@@ -13,17 +17,23 @@ pub fn say<R: Print>(rt: &R, text: &str, name: &str, status: u8) -> u8 {
 }
 
 /// Prints that a file can't be opened, and answers the status.
-pub fn cannot_open<R: Print>(rt: &R, name: &str) -> u8 {
+pub fn cannot_open<R: Print>(rt: &R, name: &str) -> u8
+    ensures { 0 < result }
+{
     say(rt, "cannot open ", name, 1)
 }
 
 /// Prints that memory ran out, and answers the status.
-pub fn out_of_memory<R: Print>(rt: &R) -> u8 {
+pub fn out_of_memory<R: Print>(rt: &R) -> u8
+    ensures { 0 < result }
+{
     say(rt, "out of memory", "", 1)
 }
 
 /// Prints why a file isn't used as it is named, and answers the status.
-pub fn refuse_use(rt: &HostRuntime, name: &str, why: &str) -> u8 {
+pub fn refuse_use(rt: &HostRuntime, name: &str, why: &str) -> u8
+    ensures { 0 < result }
+{
     match println!(rt; "error: {name} {why}") {
         Ok(()) => 2,
         Err(_) => 5,
@@ -31,7 +41,9 @@ pub fn refuse_use(rt: &HostRuntime, name: &str, why: &str) -> u8 {
 }
 
 /// Prints why a file of blocks isn't opened, and answers the status.
-pub fn refuse_blocks(rt: &HostRuntime, blocks: &str, why: Unopened) -> u8 {
+pub fn refuse_blocks(rt: &HostRuntime, blocks: &str, why: Unopened) -> u8
+    ensures { 0 < result }
+{
     match why {
         Unopened::CannotOpen => cannot_open(rt, blocks),
         Unopened::OutOfMemory => out_of_memory(rt),
@@ -44,7 +56,9 @@ pub fn refuse_blocks(rt: &HostRuntime, blocks: &str, why: Unopened) -> u8 {
 }
 
 /// Prints why a file isn't read or written, and answers the status.
-pub fn refuse_file(rt: &HostRuntime, error: &io::Error, name: &str) -> u8 {
+pub fn refuse_file(rt: &HostRuntime, error: &io::Error, name: &str) -> u8
+    ensures { 0 < result }
+{
     if error.kind() == ErrorKind::OutOfMemory {
         return out_of_memory(rt);
     }

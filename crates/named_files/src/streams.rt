@@ -1,5 +1,7 @@
 //! The standard streams and the file of a trace, with what is gathered before it is written.
 
+ghost use Rattle.std.specs.Prelude.{◌<◌, IfErr};
+
 use crate::refusals::{cannot_open, out_of_memory};
 use file_access::TraceFile;
 use std::io::{BufReader, BufWriter, IsTerminal, Stdin, Stdout};
@@ -15,7 +17,9 @@ fn is_closed(rt: &HostRuntime) -> bool {
 
 /// Standard output. What a terminal is shown is written at once, so that a run can be watched, and stopped at any time;
 /// where it is closed, that too is seen at once. Want of memory is printed, and the status is the error.
-pub fn standard_output(rt: &HostRuntime) -> Result<BufWriter<Stdout>, u8> {
+pub fn standard_output(rt: &HostRuntime) -> Result<BufWriter<Stdout>, u8>
+    ensures { IfErr result (λ status. 0 < status) }
+{
     let gathered = if rt.stdout().is_terminal() || is_closed(rt) {
         0
     } else {
@@ -28,7 +32,9 @@ pub fn standard_output(rt: &HostRuntime) -> Result<BufWriter<Stdout>, u8> {
 }
 
 /// Standard input. Want of memory is printed, and the status is the error.
-pub fn standard_input(rt: &HostRuntime) -> Result<BufReader<Stdin>, u8> {
+pub fn standard_input(rt: &HostRuntime) -> Result<BufReader<Stdin>, u8>
+    ensures { IfErr result (λ status. 0 < status) }
+{
     match BufReader::new(rt.alloc(), rt.stdin()) {
         Ok(reader) => Ok(reader),
         Err(_) => Err(out_of_memory(rt)),
@@ -37,7 +43,9 @@ pub fn standard_input(rt: &HostRuntime) -> Result<BufReader<Stdin>, u8> {
 
 /// The file of a trace, which is emptied where the run begins. What a terminal is shown is written at once. Where the file
 /// can't be opened that is printed, and the status is the error.
-pub fn trace_file(rt: &HostRuntime, name: &str) -> Result<BufWriter<TraceFile>, u8> {
+pub fn trace_file(rt: &HostRuntime, name: &str) -> Result<BufWriter<TraceFile>, u8>
+    ensures { IfErr result (λ status. 0 < status) }
+{
     let Ok(file) = TraceFile::open(rt, name) else {
         return Err(cannot_open(rt, name));
     };

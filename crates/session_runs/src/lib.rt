@@ -1,8 +1,16 @@
-//! Runs of images over files and terminals: to their end, or in slices, so that they can be broken off, and save what was changed.
+//! Runs of images over files and terminals: to their end, or as sessions, which can be interrupted and save what was changed.
 #![tactic(auto)]
 
+mod break_file;
+pub mod hosts;
 mod runs;
+mod saving;
 mod sessions;
+mod slices;
 
-pub use runs::run_image;
-pub use sessions::Session;
+pub use break_file::BreakFile;
+pub use hosts::{SessionHost, Wish};
+pub use runs::{Session, run_image};
+pub use saving::{keep_blocks, save_blocks};
+pub use sessions::{Wanted, do_session};
+pub use slices::{Ending, run_sliced};

@@ -1,113 +1,216 @@
-//! Runs for people who sit before them: such a run can be broken off, and keeps changed blocks where it ends.
-//!
-//! It is made in slices, and between two of them a file is looked for.
+//! A session, over values: an image that is run for someone at a terminal, or for a script.
 
+ghost use Rattle.std.specs.Prelude.{◌≡◌, ◌⊎◌, ◌<◌, ◌++◌, [], false, true, IsNone, IfOk, OnErr, if◌then◌else◌};
+ghost use Rattle.session_runs.specs.Saving.{kept_blocks};
+ghost use Rattle.image_loader.specs.declared.fault.ImageFault.{ImageFault};
+ghost use Rattle.inner_interpreter.specs.Moves.{logs};
+ghost use Rattle.session_runs.specs.Sitting.{HasFinished, HasSession, IsUnsat, Saves, break_word, ending_status, host_log, is_over};
+ghost use Rattle.session_runs.specs.Wishes.{IsSame};
+ghost use Rattle.subcommands.specs.Causes.{IsNoFile};
+ghost use Rattle.subcommands.specs.Lines.{OfImageFile, PrintsNoImage};
+
+use crate::hosts::SessionHost;
+use crate::saving::{both, keep_blocks, save_blocks};
+use crate::slices::{Ending, run_sliced};
 use block_buffers::Device;
 use dictionary::find;
-use image_loader::ImageFault;
-use inner_interpreter::{Input, Machine, Output, Stop, run};
-use std::fs;
-use subcommands::{Ended, refuse_image, status_of};
+use image_loader::Image;
+use inner_interpreter::{Input, Machine, Output, Stop};
+use memory::{Memory, OutOfMemory};
+use std::alloc::Global;
+use subcommands::{Ended, end_with, print_out_of_memory, refuse_image, status_of};
 
-/// How many ticks a slice has: less than a thousandth of a second, and where each shows a byte at a terminal, less than one.
-const SLICE: u64 = 250_000;
+/// The status of a session that its host ended.
+const ASKED: u8 = 6;
 
-/// The word that a run goes on with where it is broken off.
-const BREAK: &[u8] = b"BREAK";
-
-/// What is wanted of a run beside what its image does.
-#[derive(Clone, Copy)]
-pub struct Session<'a> {
-    /// The file that asks for the run to be broken off.
-    pub break_file: Option<&'a str>,
-    /// Whether changed blocks are written where the run ends by BYE, at the end of input, or because input or output failed, as
-    /// when a terminal is closed.
+/// What a session is started for.
+#[derive(Clone, Copy, Debug)]
+pub struct Wanted {
+    /// The most ticks.
+    pub limit: u64,
+    /// The ticks of a slice, at least 1: after each the host is asked what it wants.
+    pub slice: u64,
+    /// Whether changed blocks are written where the session is over: by BYE, at the end of input, or because input or output failed,
+    /// as when a terminal is closed.
     pub saves: bool,
+    /// Whether the host is given the changed blocks where the session ends otherwise, or where one of them can't be written.
+    pub keeps: bool,
 }
 
-/// Where the file is there that asks for it, it is removed, and the machine goes on with the word. Where the machine takes no word
-/// now, the file stays for the next slice.
-fn break_off(rt: &HostRuntime, machine: &mut Machine, file: &str, word: u16) {
-    if matches!(fs::exists(rt, file), Ok(true)) && machine.enter(word).is_ok() {
-        let _gone = fs::remove_file(rt, file);
+/// The word that an interrupted session goes on with, where the image has it.
+fn break_word(memory: &Memory) -> Option<u16>
+    ensures { result ≡ break_word memory.now }
+{
+    match find(memory, b"BREAK") {
+        Ok(Some(word)) => Some(word),
+        Ok(None) => None,
+        Err(_) => None,
     }
 }
 
-/// Runs a machine for at most `limit` ticks, slice by slice; `asked` is the file and the word of `break_off`. `None`: memory ran
-/// out.
-fn run_by_slices<R: Input, W: Output, D: Device>(
-    rt: &HostRuntime,
-    machine: &mut Machine,
+/// Whether the user ended the session.
+fn is_over(ending: Ending) -> bool
+    ensures { result ≡ is_over ending }
+{
+    match ending {
+        Ending::Stopped(Stop::Bye) => true,
+        Ending::Stopped(Stop::InputEnded) => true,
+        Ending::Stopped(Stop::InputFault) => true,
+        Ending::Stopped(Stop::OutputFault) => true,
+        _ => false,
+    }
+}
+
+/// The status of a session that ended so.
+fn ending_status(ending: Ending) -> u8
+    ensures { result ≡ ending_status ending }
+{
+    match ending {
+        Ending::Stopped(stop) => status_of(stop),
+        Ending::Asked => ASKED,
+    }
+}
+
+/// Writes the changed blocks, where that is wanted, and answers whether none is left.
+fn save_at_end<D: Device, H: SessionHost>(
+    machine: &Machine,
+    device: &mut D,
+    host: &mut H,
+    saves: bool,
+) -> bool
+    ensures saved { Saves saves machine.now.parts (D.calls device.old) (D.calls device.new) result }
+    ensures kept { H.kept host.new ≡ H.kept host.old }
+    ensures same { IsSame (H.interruptions host.old) (H.interruptions host.new) (H.ended host.old) (H.ended host.new) }
+{
+    if saves {
+        return save_blocks(machine, device, host);
+    }
+    true
+}
+
+/// Gives the changed blocks to the host, where that is wanted.
+fn keep_at_end<H: SessionHost>(machine: &Machine, host: &mut H, keeps: bool)
+    ensures kept { H.kept host.new ≡ H.kept host.old ++ (if keeps then kept_blocks machine.now.parts else []) }
+    ensures same { IsSame (H.interruptions host.old) (H.interruptions host.new) (H.ended host.old) (H.ended host.new) }
+{
+    if keeps {
+        keep_blocks(machine, host);
+    }
+}
+
+/// The status of a session that ended so, by whether each changed block that was to be written is written.
+fn status_after(all: bool, ending: Ending) -> u8
+    ensures { result ≡ (if all then ending_status ending else 1) }
+{
+    if !all {
+        return 1;
+    }
+    ending_status(ending)
+}
+
+/// Sees to what a session changed, and answers the status: 1 where a changed block could not be written.
+fn finish<D: Device, H: SessionHost>(
+    machine: &Machine,
+    device: &mut D,
+    host: &mut H,
+    wanted: Wanted,
+    ending: Ending,
+) -> u8
+    ensures finished { HasFinished machine.now.parts wanted.saves wanted.keeps ending (D.calls device.old)
+        (D.calls device.new) (H.kept host.old) (H.kept host.new) result }
+    ensures same { IsSame (H.interruptions host.old) (H.interruptions host.new) (H.ended host.old) (H.ended host.new) }
+{
+    let over = is_over(ending);
+    let all = save_at_end(machine, device, host, both(wanted.saves, over));
+    keep_at_end(machine, host, both(wanted.keeps, !both(over, all)));
+    status_after(all, ending)
+}
+
+/// Loads an image, and runs it as a session.
+fn sit<R: Input, W: Output, D: Device, H: SessionHost>(
+    alloc: Global,
+    image: &Image,
+    device: &mut D,
+    wanted: Wanted,
     reader: &mut R,
     writer: &mut W,
-    device: &mut D,
-    limit: u64,
-    asked: Option<(&str, u16)>,
-) -> Option<Stop> {
-    let mut left = limit;
-    for _ in 0..u64::MAX {
-        let slice = left.min(SLICE);
-        let stop = run(rt.alloc(), machine, reader, writer, device, slice).ok()?;
-        left -= slice;
-        if stop != Stop::Limit || left == 0 {
-            return Some(stop);
-        }
-        if let Some((file, word)) = asked {
-            break_off(rt, machine, file, word);
-        }
-    }
-    Some(Stop::Limit)
+    host: &mut H,
+) -> Result<u8, OutOfMemory>
+    requires { 0 < wanted.slice }
+    ensures moved { IfOk result (λ status. R.failed reader.old ≡ false → W.failed writer.old ≡ false →
+        HasSession image.now (D.block_count device.old)
+        (record { limit = wanted.limit; saves = wanted.saves; keeps = wanted.keeps })
+        (logs (D.calls device.old) (W.sent writer.old) (R.reads reader.old))
+        (logs (D.calls device.new) (W.sent writer.new) (R.reads reader.new))
+        (host_log (H.interruptions host.old) (H.ended host.old) (H.kept host.old))
+        (host_log (H.interruptions host.new) (H.ended host.new) (H.kept host.new))
+        (R.failed reader.new) (W.failed writer.new) status) }
+    ensures passed { IfOk result (λ _. W.failed writer.new ≡ false → W.passed writer.new ≡ true) }
+    ensures reader { OnErr result (reader.new ≡ reader.old) }
+    ensures writer { OnErr result (writer.new ≡ writer.old) }
+    ensures device { OnErr result (device.new ≡ device.old) }
+{
+    let Ok(mut machine) = Machine::load(alloc, image, device.count()) else {
+        return Err(OutOfMemory);
+    };
+    let word = break_word(machine.memory());
+    let ending = run_sliced(
+        alloc,
+        &mut machine,
+        reader,
+        writer,
+        device,
+        host,
+        word,
+        wanted.slice,
+        wanted.limit,
+    )?;
+    Ok(finish(&machine, device, host, wanted, ending))
 }
 
-/// Writes the blocks that were changed and not written, and answers whether all were.
-fn save_blocks<D: Device>(rt: &HostRuntime, machine: &Machine, device: &mut D) -> bool {
-    let buffers = machine.buffers();
-    let mut is_saved = true;
-    for place in 0..usize::from(buffers.count()) {
-        let entry = buffers.entry(place);
-        if let (Some(block), true) = (entry.block, entry.updated) {
-            let page = machine.memory().page(buffers.address_of(entry.slot));
-            if device.write(block, page).is_err() {
-                is_saved = false;
-                let _said = eprintln!(rt; "screen {block} was changed, and can't be written");
-            }
-        }
-    }
-    is_saved
-}
-
-/// Loads an image and runs it as `do_run` does, with what the session wants beside. Where its file is there, it is removed, and
-/// the machine goes on with the word BREAK that the image has, if it has one. Statuses are those of `do_run`; 1 also where a
-/// changed block can't be written, which is told on standard error.
-pub fn run_session<R: Input, W: Output, D: Device>(
-    rt: &HostRuntime,
+/// Loads an image and runs it as a session, for at most `wanted.limit` ticks. Between two slices the host is asked what it wants:
+/// it may interrupt the session, which goes on with the image's word BREAK then, or end it. Status 0: BYE or the end of input; 1: the
+/// bytes are no image (`image: CAUSE` is printed), memory ran out, or a changed block could not be written; 3: a fault; 4: the limit;
+/// 5: an end failed; 6: the host ended the session.
+pub fn do_session<R: Input, W: Output, D: Device, H: SessionHost>(
+    alloc: Global,
     image: &[u8],
     device: &mut D,
-    limit: u64,
-    session: Session<'_>,
+    wanted: Wanted,
     reader: &mut R,
     writer: &mut W,
-) -> Ended {
-    let alloc = rt.alloc();
+    host: &mut H,
+) -> Ended
+    requires { 0 < wanted.slice }
+    // Where the bytes are an image's file: whatever the ends are, the machine that was loaded moved by ticks, answers and as many
+    // entries of BREAK as the host asked for interruptions at most; its reader gave just what it was answered with, its writer was
+    // sent just what it showed, and its device was given just the calls that it asked for, with their pages, and after them those
+    // that write the changed blocks, where the session is over; or memory ran out, and nothing was run.
+    ensures moved { R.failed reader.old ≡ false → W.failed writer.old ≡ false → OfImageFile image.now
+        (λ file. HasSession file (D.block_count device.old)
+        (record { limit = wanted.limit; saves = wanted.saves; keeps = wanted.keeps })
+        (logs (D.calls device.old) (W.sent writer.old) (R.reads reader.old))
+        (logs (D.calls device.new) (W.sent writer.new) (R.reads reader.new))
+        (host_log (H.interruptions host.old) (H.ended host.old) (H.kept host.old))
+        (host_log (H.interruptions host.new) (H.ended host.new) (H.kept host.new))
+        (R.failed reader.new) (W.failed writer.new) result.status ⊎
+        IsUnsat result.status (W.failed writer.new) reader.old reader.new device.old device.new (W.sent writer.old)
+        (W.sent writer.new)) }
+    // Where they are none, that is printed, and no other end is touched.
+    ensures refused { W.failed writer.new ≡ false →
+        PrintsNoImage image.now result.status (W.sent writer.old) (W.sent writer.new) }
+    ensures unrun { (fault : ImageFault) → IsNoFile image.now fault →
+        (reader.new ≡ reader.old) × (device.new ≡ device.old) × (H.kept host.new ≡ H.kept host.old) }
+    // Where the writer doesn't fail, all that was printed was passed on.
+    ensures passed { W.failed writer.new ≡ false → W.passed writer.new ≡ true }
+    ensures file { IsNone result.file }
+{
     let image = match image_loader::read(alloc, image) {
         Ok(image) => image,
         Err(fault) => return refuse_image(fault, writer),
     };
-    let Ok(mut machine) = Machine::load(alloc, &image, device.count()) else {
-        return refuse_image(ImageFault::OutOfMemory, writer);
-    };
-    let word = find(machine.memory(), BREAK).ok().flatten();
-    let asked = session.break_file.zip(word);
-    let Some(stop) = run_by_slices(rt, &mut machine, reader, writer, device, limit, asked) else {
-        return refuse_image(ImageFault::OutOfMemory, writer);
-    };
-    let is_over = matches!(
-        stop,
-        Stop::Bye | Stop::InputEnded | Stop::InputFault | Stop::OutputFault
-    );
-    let is_kept = !(session.saves && is_over) || save_blocks(rt, &machine, device);
-    Ended {
-        status: if is_kept { status_of(stop) } else { 1 },
-        file: None,
+    match sit(alloc, &image, device, wanted, reader, writer, host) {
+        Ok(status) => end_with(status),
+        Err(_) => print_out_of_memory(writer),
     }
 }

@@ -1,3 +1,4 @@
 pub mod Building
 pub mod Rewriting
 pub mod Told
+pub mod Printing

@@ -4,15 +4,22 @@ use Rattle.std.specs.declared.alloc.Global.{Global}
 use Rattle.memory.specs.Bytes.{IsCount, limit_of}
 use Rattle.machine.specs.State.{start}
 use Rattle.image_builder.specs.Items.{Items}
+use Rattle.block_buffers.specs.DeviceCalls.{DeviceCall}
 use Rattle.block_buffers.specs.Disks.{Disk}
 use Rattle.image_loader.specs.Files.{Contents, IsWritten}
-use Rattle.image_builder.specs.Sources.{Done, IsBuiltOf, IsRefused}
+use Rattle.image_builder.specs.Sources.{Done, IsBuiltOf, IsBuiltOfRead, IsRefused}
 use Rattle.image_builder.specs.declared.cause.BuildFault.{BuildFault}
 
 -- the file is that of the image for so many buffers that is built of the screens from..to
 pub record IsBuiltFile (count : ℕ) (d : Disk) (from to : ℕ) (done : Done) (file : Vec ℕ Global) : Type 0 where
   pub image : Contents
   pub is_built : IsBuiltOf count d from to image done
+  pub is_file : IsWritten file.items image
+
+-- the screens from..to of a device of so many blocks were read, and the file is that of the image of their pages
+pub record IsFileOfRead (buffers count from to : ℕ) (file : Vec ℕ Global) (calls calls' : List DeviceCall) : Type 0 where
+  pub image : Contents
+  pub is_built : IsBuiltOfRead buffers count from to image calls calls'
   pub is_file : IsWritten file.items image
 
 -- so much was done for an image for so many buffers that is built of the screens from..to, or for refusing them

@@ -5,6 +5,7 @@ use Rattle.inner_interpreter.specs.declared.stop.Stop.{Stop}
 use Rattle.inner_interpreter.specs.declared.stop.Stop.TheVariants as stop
 use Rattle.image_loader.specs.Files.{Contents}
 use Rattle.inner_interpreter.specs.Files.{HasRunFrom}
+use Rattle.inner_interpreter.specs.Moves.{Logs}
 use Rattle.inner_interpreter.specs.Runs.{World}
 use Rattle.inner_interpreter.specs.Worlds.{EndsFrom}
 
@@ -25,7 +26,7 @@ pub record EndsWith (status : ℕ) (w : World) (unread : Option (List ℕ)) (dis
   pub ends : EndsFrom w unread disk sent stop
 
 -- an image that was loaded, for a device of so many blocks, was run, with the status of its stop
-pub record HasRunWith (status : ℕ) (image : Contents) (blocks : ℕ) (calls calls' : List Bool) (limit : ℕ) (reader writer : Bool) : Type 0 where
+pub record HasRunWith (status : ℕ) (image : Contents) (blocks : ℕ) (log log' : Logs) (limit : ℕ) (reader writer : Bool) : Type 0 where
   pub stop : Stop
   pub status_is : status ≡ status_of stop
-  pub run : HasRunFrom image blocks calls calls' limit reader writer stop
+  pub run : HasRunFrom image blocks log log' limit reader writer stop

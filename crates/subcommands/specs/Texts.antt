@@ -1,7 +1,9 @@
 -- Screens printed as text, and texts written into a block file.
 use Rattle.std.specs.Prelude.{◌≡◌, ◌⊎◌, ℕ, ◌+◌, ◌-◌, List, ◌++◌, flat_map, Option, Result, Ok, Err, codes, decimal}
+use Rattle.std.specs.Io.KnownBytes.{Appends}
+use Rattle.block_buffers.specs.DeviceCalls.{DeviceCall}
 use Rattle.block_buffers.specs.Disks.{Disk}
-use Rattle.device_text.specs.Pages.{pages}
+use Rattle.device_text.specs.Pages.{IsTextOfRead, pages}
 use Rattle.device_text.specs.declared.pages.PageCause.{PageCause}
 use Rattle.device_text.specs.declared.pages.PageCause.TheVariants as page
 use Rattle.device_text.specs.declared.pages.Unprinted.{Unprinted}
@@ -40,6 +42,12 @@ PrintsText (Err why) status old new = Prints (screen_line why.screen why.line (p
 -- what `text` prints of the screens from..to, or that memory ran out
 abbrev pub EndsText : Disk → (from to : ℕ) → (status : ℕ) → (old new : Option (List ℕ)) → Type 0
 EndsText d from to status old new = PrintsText (pages d from (to + 1 - from)) status old new ⊎ PrintsOutOfMemory status old new
+
+-- n screens from a number on were read, and just the text of their pages was printed
+pub record HasPrinted (from n count : ℕ) (calls calls' : List DeviceCall) (old new : Option (List ℕ)) : Type 0 where
+  pub text : List ℕ
+  pub is : IsTextOfRead from n count text calls calls'
+  pub printed : Appends old new text
 
 -- the block file with the screens that were read of a text
 abbrev pub HasScreens : Result State TextFault → (old new : List ℕ) → Type 0

@@ -4,8 +4,9 @@ ghost use Rattle.std.specs.Prelude.{◌≡◌, ◌≢◌, ◌⊎◌, ◌<◌, co
 ghost use Rattle.std.specs.Io.KnownBytes.{Appends};
 ghost use Rattle.image_builder.specs.Sources.{done_of};
 ghost use Rattle.block_buffers.specs.Disks.{Disk};
+ghost use Rattle.block_buffers.specs.Likeness.{DidAs, IsLike};
 ghost use Rattle.subcommands.specs.Kernel.{filled, blocks_of};
-ghost use Rattle.subcommands.specs.Images.{IsBuilding, IsBuiltFile};
+ghost use Rattle.subcommands.specs.Images.{IsBuilding, IsBuiltFile, IsFileOfRead};
 ghost use Rattle.subcommands.specs.Causes.{IsNoFile, build_cause, image_cause};
 ghost use Rattle.subcommands.specs.Ends.{IsRefusal, IsUnrun};
 ghost use Rattle.subcommands.specs.Lines.{EndsUnbuilt, EndsViewed, IsFileOf, IsTold, OfImageFile, Prints, PrintsNoImage, PrintsFault, PrintsOutOfMemory, PrintsRefusal, fault_line, image_line, line};
@@ -13,6 +14,7 @@ ghost use Rattle.subcommands.specs.Statuses.{status_of, EndsWith, HasRunWith};
 ghost use Rattle.image_loader.specs.Files.{IsWritten};
 ghost use Rattle.image_loader.specs.declared.fault.ImageFault.{ImageFault};
 ghost use Rattle.inner_interpreter.specs.Ends.{Marks};
+ghost use Rattle.inner_interpreter.specs.Moves.{logs};
 ghost use Rattle.inner_interpreter.specs.Worlds.{EndsCutFrom, EndsFaultedFrom, OfFile};
 ghost use Rattle.memory.specs.Bytes.{IsCount};
 
@@ -70,6 +72,7 @@ pub fn status_of(stop: Stop) -> u8
 pub fn print<W: Output>(writer: &mut W, text: &[u8], status: u8) -> Ended
     ensures printed { W.failed writer.new ≡ false →
         Prints text.now status result.status (W.sent writer.old) (W.sent writer.new) }
+    ensures passed { W.failed writer.new ≡ false → W.passed writer.new ≡ true }
     ensures cut { W.failed writer.old ≡ false → W.failed writer.new ≡ true → result.status ≡ 5 }
     ensures status { (result.status ≡ status) ⊎ ((result.status ≡ 5) × (W.failed writer.new ≡ true)) }
     ensures file { IsNone result.file }
@@ -84,6 +87,7 @@ pub fn print<W: Output>(writer: &mut W, text: &[u8], status: u8) -> Ended
 pub fn print_out_of_memory<W: Output>(writer: &mut W) -> Ended
     ensures printed { W.failed writer.new ≡ false →
         PrintsOutOfMemory result.status (W.sent writer.old) (W.sent writer.new) }
+    ensures passed { W.failed writer.new ≡ false → W.passed writer.new ≡ true }
     ensures cut { W.failed writer.old ≡ false → W.failed writer.new ≡ true → result.status ≡ 5 }
     ensures status { IsRefusal result.status (W.failed writer.new) }
     ensures file { IsNone result.file }
@@ -95,6 +99,7 @@ pub fn print_out_of_memory<W: Output>(writer: &mut W) -> Ended
 pub fn refuse<C: Reason + Drop, W: Output>(what: &str, why: C, writer: &mut W) -> Ended
     ensures printed { W.failed writer.new ≡ false →
         PrintsRefusal what.now (C.spelling why) result.status (W.sent writer.old) (W.sent writer.new) }
+    ensures passed { W.failed writer.new ≡ false → W.passed writer.new ≡ true }
     ensures cut { W.failed writer.old ≡ false → W.failed writer.new ≡ true → result.status ≡ 5 }
     ensures status { IsRefusal result.status (W.failed writer.new) }
     ensures file { IsNone result.file }
@@ -109,6 +114,7 @@ pub fn refuse_image<W: Output>(fault: ImageFault, writer: &mut W) -> Ended
         PrintsRefusal (codes "image") (image_cause fault) result.status (W.sent writer.old) (W.sent writer.new) }
     ensures out_of_memory { W.failed writer.new ≡ false → fault ≡ ImageFault.OutOfMemory →
         PrintsOutOfMemory result.status (W.sent writer.old) (W.sent writer.new) }
+    ensures passed { W.failed writer.new ≡ false → W.passed writer.new ≡ true }
     ensures cut { W.failed writer.old ≡ false → W.failed writer.new ≡ true → result.status ≡ 5 }
     ensures status { IsRefusal result.status (W.failed writer.new) }
     ensures file { IsNone result.file }
@@ -128,6 +134,7 @@ pub fn do_kernel<W: Output>(alloc: Global, writer: &mut W) -> Ended
     ensures silent { IsSome result.file → writer.new ≡ writer.old }
     ensures wanting { W.failed writer.new ≡ false → IsNone result.file →
         PrintsOutOfMemory result.status (W.sent writer.old) (W.sent writer.new) }
+    ensures passed { W.failed writer.new ≡ false → IsNone result.file → W.passed writer.new ≡ true }
     ensures cut { W.failed writer.old ≡ false → W.failed writer.new ≡ true → (result.status ≡ 5) × IsNone result.file }
 {
     match kernel_file(alloc) {
@@ -141,6 +148,7 @@ pub fn do_kernel<W: Output>(alloc: Global, writer: &mut W) -> Ended
 fn send_fault<W: Output>(writer: &mut W, fault: &BuildFault) -> Result<(), EndFault>
     ensures sent { OnOk result (Appends (W.sent writer.old) (W.sent writer.new)
         (fault_line fault.now.screen fault.now.offset (build_cause fault.now.cause))) }
+    ensures passed { OnOk result (W.passed writer.new ≡ true) }
     ensures mark { Marks (W.failed writer.old) (W.failed writer.new) result }
 {
     send_numbered(writer, b"screen ", fault.screen)?;
@@ -154,6 +162,7 @@ fn send_fault<W: Output>(writer: &mut W, fault: &BuildFault) -> Result<(), EndFa
 fn refuse_source<W: Output>(fault: BuildFault, writer: &mut W) -> Ended
     ensures printed { W.failed writer.new ≡ false →
         PrintsFault fault.screen fault.offset fault.cause result.status (W.sent writer.old) (W.sent writer.new) }
+    ensures passed { W.failed writer.new ≡ false → W.passed writer.new ≡ true }
     ensures cut { W.failed writer.old ≡ false → W.failed writer.new ≡ true → result.status ≡ 5 }
     ensures status { IsRefusal result.status (W.failed writer.new) }
     ensures file { IsNone result.file }
@@ -169,6 +178,7 @@ fn refuse_source<W: Output>(fault: BuildFault, writer: &mut W) -> Ended
 #[tactic(auto, using(inner_interpreter::proofs::Sending::appends_both))]
 fn send_made<W: Output>(writer: &mut W, image: &Image) -> Result<(), EndFault>
     ensures sent { OnOk result (Appends (W.sent writer.old) (W.sent writer.new) (image_line image.now)) }
+    ensures passed { OnOk result (W.passed writer.new ≡ true) }
     ensures mark { Marks (W.failed writer.old) (W.failed writer.new) result }
 {
     send_all(writer, b"size ")?;
@@ -186,6 +196,7 @@ pub fn end_with_made<W: Output>(alloc: Global, image: &Image, writer: &mut W) ->
     ensures file { IfSome result.file (λ file. IsWritten file.items image.now) }
     ensures wanting { W.failed writer.new ≡ false → IsNone result.file →
         PrintsOutOfMemory result.status (W.sent writer.old) (W.sent writer.new) }
+    ensures passed { W.failed writer.new ≡ false → W.passed writer.new ≡ true }
     ensures cut { W.failed writer.old ≡ false → W.failed writer.new ≡ true → (result.status ≡ 5) × IsNone result.file }
 {
     let Ok(file) = image_loader::write(alloc, image) else {
@@ -210,19 +221,27 @@ pub fn do_build<W: Output, D: Device>(
 ) -> Ended
     requires { IsCount buffers }
     ensures status { MatchOption result.file (0 < result.status) (λ _. result.status ≡ 0) }
-    ensures file { (d : Disk) → D.disk device.old ≡ Some d →
+    // Whatever the device is, the file is that of the image of the pages that were read, each screen once, in order.
+    ensures read { IfSome result.file (λ file.
+        IsFileOfRead buffers (D.block_count device.old) from to file (D.calls device.old) (D.calls device.new)) }
+    // For each disk as which the device did, the image is that of this disk's screens.
+    ensures file { (d e : Disk) → DidAs d e (D.block_count device.old) (D.calls device.old) (D.calls device.new) →
         IfSome result.file
-        (IsBuiltFile buffers d from to (done_of (D.disk device.new) (D.calls device.old) (D.calls device.new))) }
+        (IsBuiltFile buffers d from to (done_of (Some e) (D.calls device.old) (D.calls device.new))) }
     // Whether a line can be printed or not, the device is as building the screens, or refusing them, leaves it.
-    ensures device { (d : Disk) → D.disk device.old ≡ Some d →
-        IsBuilding buffers d from to (done_of (D.disk device.new) (D.calls device.old) (D.calls device.new)) }
+    ensures device { (d e : Disk) → DidAs d e (D.block_count device.old) (D.calls device.old) (D.calls device.new) →
+        IsBuilding buffers d from to (done_of (Some e) (D.calls device.old) (D.calls device.new)) }
+    // A device that tells its disk did as that disk.
+    ensures like { (d : Disk) → D.disk device.old ≡ Some d →
+        IsLike d (D.disk device.new) (D.block_count device.old) (D.calls device.old) (D.calls device.new) }
     // Where there is a file, its line is printed; where there is none, it is printed why.
     ensures told { W.failed writer.new ≡ false →
         IfSome result.file (λ file. IsTold file.items (W.sent writer.old) (W.sent writer.new)) }
-    ensures refused { W.failed writer.new ≡ false → IsNone result.file → (d : Disk) → D.disk device.old ≡ Some d →
-        EndsUnbuilt buffers d from to (done_of (D.disk device.new) (D.calls device.old) (D.calls device.new))
-        result.status (W.sent writer.old) (W.sent writer.new) }
+    ensures refused { W.failed writer.new ≡ false → IsNone result.file →
+        (d e : Disk) → DidAs d e (D.block_count device.old) (D.calls device.old) (D.calls device.new) →
+        EndsUnbuilt buffers d from to (done_of (Some e) (D.calls device.old) (D.calls device.new)) result.status (W.sent writer.old) (W.sent writer.new) }
     // Where a line can't be printed, there is no file.
+    ensures passed { W.failed writer.new ≡ false → W.passed writer.new ≡ true }
     ensures cut { W.failed writer.old ≡ false → W.failed writer.new ≡ true → (result.status ≡ 5) × IsNone result.file }
 {
     match build(alloc, device, from, to, buffers) {
@@ -235,6 +254,7 @@ pub fn do_build<W: Output, D: Device>(
 #[tactic(auto, using(inner_interpreter::proofs::Sending::appends_both))]
 fn send_number<W: Output>(writer: &mut W, number: u16) -> Result<(), EndFault>
     ensures sent { OnOk result (Appends (W.sent writer.old) (W.sent writer.new) (line (decimal number))) }
+    ensures passed { OnOk result (W.passed writer.new ≡ true) }
     ensures mark { Marks (W.failed writer.old) (W.failed writer.new) result }
 {
     send_decimal(writer, number)?;
@@ -245,6 +265,7 @@ fn send_number<W: Output>(writer: &mut W, number: u16) -> Result<(), EndFault>
 fn print_number<W: Output>(number: u16, writer: &mut W) -> Ended
     ensures printed { W.failed writer.new ≡ false →
         Prints (line (decimal number)) 0 result.status (W.sent writer.old) (W.sent writer.new) }
+    ensures passed { W.failed writer.new ≡ false → W.passed writer.new ≡ true }
     ensures cut { W.failed writer.old ≡ false → W.failed writer.new ≡ true → result.status ≡ 5 }
     ensures file { IsNone result.file }
 {
@@ -262,6 +283,7 @@ pub fn do_view<W: Output>(alloc: Global, image: &[u8], name: &str, writer: &mut 
     // Where they are none, it is printed why.
     ensures refused { W.failed writer.new ≡ false →
         PrintsNoImage image.now result.status (W.sent writer.old) (W.sent writer.new) }
+    ensures passed { W.failed writer.new ≡ false → W.passed writer.new ≡ true }
     ensures cut { W.failed writer.old ≡ false → W.failed writer.new ≡ true → result.status ≡ 5 }
     ensures file { IsNone result.file }
 {
@@ -310,6 +332,8 @@ pub fn do_run<R: Input, W: Output, D: Device>(
         result.status ≢ 5 }
     ensures one { R.failed reader.old ≡ false → R.failed reader.new ≡ true →
         W.failed writer.new ≡ W.failed writer.old }
+    // Where the writer doesn't fail, all that was printed was passed on.
+    ensures passed { W.failed writer.new ≡ false → W.passed writer.new ≡ true }
     // Where the writer fails, some first rounds were made, up to the first that shows more than was sent; or memory ran out,
     // and nothing was run.
     ensures cut { W.failed writer.old ≡ false → W.failed writer.new ≡ true →
@@ -320,9 +344,13 @@ pub fn do_run<R: Input, W: Output, D: Device>(
     ensures faulted { R.failed reader.old ≡ false → R.failed reader.new ≡ true →
         OfFile image.now (R.unread reader.old) (D.disk device.old) (W.sent writer.old) limit
         (λ w. EndsFaultedFrom w (R.unread reader.new) (D.disk device.new) (W.sent writer.new)) }
-    // Whatever the ends are, the machine that was loaded moved by ticks and answers alone; or memory ran out.
+    // Whatever the ends are, the machine that was loaded moved by ticks and answers alone: its reader gave just what it was
+    // answered with, its device was given just the calls that it asked for, with their pages, and its writer was sent just
+    // what it showed; or memory ran out.
     ensures moved { OfImageFile image.now
-        (λ file. HasRunWith result.status file (D.block_count device.old) (D.calls device.old) (D.calls device.new)
+        (λ file. HasRunWith result.status file (D.block_count device.old)
+        (logs (D.calls device.old) (W.sent writer.old) (R.reads reader.old))
+        (logs (D.calls device.new) (W.sent writer.new) (R.reads reader.new))
         limit (R.failed reader.new) (W.failed writer.new) ⊎
         IsUnrun result.status (W.failed writer.new) reader.old reader.new device.old device.new) }
     ensures file { IsNone result.file }

@@ -37,6 +37,7 @@ pub fn refuse_container<W: Output>(why: Cause, writer: &mut W) -> Ended
         PrintsRefusal (codes "container") (container_cause why) result.status (W.sent writer.old) (W.sent writer.new) }
     ensures wanting { W.failed writer.new ≡ false → why ≡ Cause.OutOfMemory →
         PrintsOutOfMemory result.status (W.sent writer.old) (W.sent writer.new) }
+    ensures passed { W.failed writer.new ≡ false → W.passed writer.new ≡ true }
     ensures cut { W.failed writer.old ≡ false → W.failed writer.new ≡ true → result.status ≡ 5 }
     ensures status { IsRefusal result.status (W.failed writer.new) }
     ensures file { IsNone result.file }
@@ -79,6 +80,7 @@ pub fn do_import<W: Output>(
     ensures silent { IsSome result.file → writer.new ≡ writer.old }
     ensures refused { W.failed writer.new ≡ false → IsNone result.file →
         EndsUnread (unread layout.now container.now) result.status (W.sent writer.old) (W.sent writer.new) }
+    ensures passed { W.failed writer.new ≡ false → IsNone result.file → W.passed writer.new ≡ true }
     ensures cut { W.failed writer.old ≡ false → W.failed writer.new ≡ true → (result.status ≡ 5) × IsNone result.file }
 {
     match imported(alloc, layout, container, cleans) {
@@ -102,6 +104,7 @@ pub fn do_export<W: Output>(
     ensures silent { IsSome result.file → writer.new ≡ writer.old }
     ensures refused { W.failed writer.new ≡ false → IsNone result.file →
         EndsUnread (unwritten layout.now screens.now container.items) result.status (W.sent writer.old) (W.sent writer.new) }
+    ensures passed { W.failed writer.new ≡ false → IsNone result.file → W.passed writer.new ≡ true }
     ensures cut { W.failed writer.old ≡ false → W.failed writer.new ≡ true → (result.status ≡ 5) × IsNone result.file }
 {
     match write_screens(layout, screens, container) {

@@ -16,6 +16,7 @@ use std::alloc::Global;
 fn refuse_see<W: Output>(name: &str, why: SeeRefused, writer: &mut W) -> Ended
     ensures printed { W.failed writer.new ≡ false →
         PrintsSeen name.now (Err why) result.status (W.sent writer.old) (W.sent writer.new) }
+    ensures passed { W.failed writer.new ≡ false → W.passed writer.new ≡ true }
     ensures cut { W.failed writer.old ≡ false → W.failed writer.new ≡ true → result.status ≡ 5 }
     ensures file { IsNone result.file }
 {
@@ -29,6 +30,7 @@ fn refuse_see<W: Output>(name: &str, why: SeeRefused, writer: &mut W) -> Ended
 #[tactic(auto, using(inner_interpreter::proofs::Sending::appends_both))]
 fn send_definition<W: Output>(writer: &mut W, text: &[u8]) -> Result<(), EndFault>
     ensures sent { OnOk result (Appends (W.sent writer.old) (W.sent writer.new) (line text.now)) }
+    ensures passed { OnOk result (W.passed writer.new ≡ true) }
     ensures mark { Marks (W.failed writer.old) (W.failed writer.new) result }
 {
     send_all(writer, text)?;
@@ -39,6 +41,7 @@ fn send_definition<W: Output>(writer: &mut W, text: &[u8]) -> Result<(), EndFaul
 fn print_definition<W: Output>(text: &[u8], writer: &mut W) -> Ended
     ensures printed { W.failed writer.new ≡ false →
         Prints (line text.now) 0 result.status (W.sent writer.old) (W.sent writer.new) }
+    ensures passed { W.failed writer.new ≡ false → W.passed writer.new ≡ true }
     ensures cut { W.failed writer.old ≡ false → W.failed writer.new ≡ true → result.status ≡ 5 }
     ensures file { IsNone result.file }
 {
@@ -55,6 +58,7 @@ pub fn do_see<W: Output>(alloc: Global, image: &[u8], name: &str, writer: &mut W
     // Where they are none, it is printed why.
     ensures refused { W.failed writer.new ≡ false →
         PrintsNoImage image.now result.status (W.sent writer.old) (W.sent writer.new) }
+    ensures passed { W.failed writer.new ≡ false → W.passed writer.new ≡ true }
     ensures cut { W.failed writer.old ≡ false → W.failed writer.new ≡ true → result.status ≡ 5 }
     ensures file { IsNone result.file }
 {

@@ -1,6 +1,6 @@
 //! Sending lines piece by piece, so that no memory is wanted for them.
 
-ghost use Rattle.std.specs.Prelude.{◌≡◌, ◌++◌, ◌∷◌, [], IsNone, OnErr, OnOk};
+ghost use Rattle.std.specs.Prelude.{◌≡◌, ◌++◌, ◌∷◌, [], true, IsNone, OnErr, OnOk};
 ghost use Rattle.std.specs.Io.KnownBytes.{Appends};
 ghost use Rattle.inner_interpreter.specs.Ends.{Marks};
 ghost use Rattle.subcommands.specs.Lines.{refusal};
@@ -36,6 +36,7 @@ pub fn send_numbered<I: Integer, W: Output>(
 /// Ends a line, and passes it on.
 pub fn end_line<W: Output>(writer: &mut W) -> Result<(), EndFault>
     ensures sent { OnOk result (Appends (W.sent writer.old) (W.sent writer.new) (10 ∷ [])) }
+    ensures passed { OnOk result (W.passed writer.new ≡ true) }
     ensures mark { Marks (W.failed writer.old) (W.failed writer.new) result }
 {
     send_all(writer, b"\n")?;
@@ -50,6 +51,7 @@ pub fn send_refusal<C: Reason, W: Output>(
     why: &C,
 ) -> Result<(), EndFault>
     ensures sent { OnOk result (Appends (W.sent writer.old) (W.sent writer.new) (refusal what.now (C.spelling why.now))) }
+    ensures passed { OnOk result (W.passed writer.new ≡ true) }
     ensures mark { Marks (W.failed writer.old) (W.failed writer.new) result }
 {
     send_all(writer, what.as_bytes())?;

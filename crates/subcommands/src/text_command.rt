@@ -1,9 +1,10 @@
 //! The subcommands that print screens as text, and write a text into a block file.
 
-ghost use Rattle.std.specs.Prelude.{◌≡◌, ◌≢◌, ◌<◌, ◌≤◌, ◌*◌, IfOk, IsNone, IsSome, MatchOption, OnOk, Some, false, true};
+ghost use Rattle.std.specs.Prelude.{◌≡◌, ◌≢◌, ◌<◌, ◌≤◌, ◌+◌, ◌-◌, ◌*◌, IfOk, IsNone, IsSome, MatchOption, OnOk, Some, false, true};
 ghost use Rattle.std.specs.Io.KnownBytes.{Appends};
 ghost use Rattle.block_buffers.specs.Calls.{KeepsBlocks};
 ghost use Rattle.block_buffers.specs.Disks.{Disk};
+ghost use Rattle.block_buffers.specs.Likeness.{DidAs, IsLike};
 ghost use Rattle.device_text.specs.declared.pages.PageCause.{PageCause};
 ghost use Rattle.screen_text.specs.Reading.{read};
 ghost use Rattle.subcommands.specs.Kernel.{blanks};
@@ -11,7 +12,7 @@ ghost use Rattle.screen_text.specs.declared.cause.Cause.{Cause};
 ghost use Rattle.inner_interpreter.specs.Ends.{Marks};
 ghost use Rattle.subcommands.specs.Ends.{IsRefusal};
 ghost use Rattle.subcommands.specs.Lines.{Prints, PrintsOutOfMemory};
-ghost use Rattle.subcommands.specs.Texts.{EndsText, EndsUnwritten, HasScreens, numbered_line, page_cause, screen_line, text_cause};
+ghost use Rattle.subcommands.specs.Texts.{EndsText, EndsUnwritten, HasPrinted, HasScreens, numbered_line, page_cause, screen_line, text_cause};
 
 use crate::causes::Reason;
 use crate::commands::{Ended, end_with_file, print, print_out_of_memory};
@@ -56,6 +57,7 @@ impl Reason for Cause {
 fn send_unprinted<W: Output>(writer: &mut W, why: &Unprinted) -> Result<(), EndFault>
     ensures sent { OnOk result (Appends (W.sent writer.old) (W.sent writer.new)
         (screen_line why.now.screen why.now.line (page_cause why.now.cause))) }
+    ensures passed { OnOk result (W.passed writer.new ≡ true) }
     ensures mark { Marks (W.failed writer.old) (W.failed writer.new) result }
 {
     send_numbered(writer, b"screen ", why.screen)?;
@@ -73,6 +75,7 @@ fn refuse_page<W: Output>(why: Unprinted, writer: &mut W) -> Ended
         (W.sent writer.new) }
     ensures wanting { W.failed writer.new ≡ false → why.cause ≡ PageCause.OutOfMemory →
         PrintsOutOfMemory result.status (W.sent writer.old) (W.sent writer.new) }
+    ensures passed { W.failed writer.new ≡ false → W.passed writer.new ≡ true }
     ensures cut { W.failed writer.old ≡ false → W.failed writer.new ≡ true → result.status ≡ 5 }
     ensures status { IsRefusal result.status (W.failed writer.new) }
     ensures file { IsNone result.file }
@@ -93,8 +96,18 @@ pub fn do_text<W: Output, D: Device>(
     to: u16,
     writer: &mut W,
 ) -> Ended
-    ensures printed { W.failed writer.new ≡ false → (d : Disk) → D.disk device.old ≡ Some d →
+    // Whatever the device is: with status 0 the text of the pages that were read is printed, each screen once, in order.
+    ensures read { W.failed writer.new ≡ false → result.status ≡ 0 →
+        HasPrinted from (to + 1 - from) (D.block_count device.old) (D.calls device.old) (D.calls device.new)
+        (W.sent writer.old) (W.sent writer.new) }
+    // For each disk as which the device did, the text, or the refusal, is that of this disk's screens.
+    ensures printed { W.failed writer.new ≡ false →
+        (d e : Disk) → DidAs d e (D.block_count device.old) (D.calls device.old) (D.calls device.new) →
         EndsText d from to result.status (W.sent writer.old) (W.sent writer.new) }
+    // A device that tells its disk did as that disk.
+    ensures like { (d : Disk) → D.disk device.old ≡ Some d →
+        IsLike d (D.disk device.new) (D.block_count device.old) (D.calls device.old) (D.calls device.new) }
+    ensures passed { W.failed writer.new ≡ false → W.passed writer.new ≡ true }
     ensures cut { W.failed writer.old ≡ false → W.failed writer.new ≡ true → result.status ≡ 5 }
     // The device's blocks stay as they were.
     ensures kept { KeepsBlocks (D.disk device.old) (D.disk device.new) }
@@ -111,6 +124,7 @@ pub fn do_text<W: Output, D: Device>(
 fn send_unwritten<W: Output>(writer: &mut W, fault: &TextFault) -> Result<(), EndFault>
     ensures sent { OnOk result (Appends (W.sent writer.old) (W.sent writer.new)
         (numbered_line fault.now.line (text_cause fault.now.cause))) }
+    ensures passed { OnOk result (W.passed writer.new ≡ true) }
     ensures mark { Marks (W.failed writer.old) (W.failed writer.new) result }
 {
     send_all(writer, b"line ")?;
@@ -127,6 +141,7 @@ fn refuse_text<W: Output>(fault: TextFault, writer: &mut W) -> Ended
         (W.sent writer.new) }
     ensures wanting { W.failed writer.new ≡ false → fault.cause ≡ Cause.OutOfMemory →
         PrintsOutOfMemory result.status (W.sent writer.old) (W.sent writer.new) }
+    ensures passed { W.failed writer.new ≡ false → W.passed writer.new ≡ true }
     ensures cut { W.failed writer.old ≡ false → W.failed writer.new ≡ true → result.status ≡ 5 }
     ensures status { IsRefusal result.status (W.failed writer.new) }
     ensures file { IsNone result.file }
@@ -148,6 +163,7 @@ pub fn do_screens<W: Output>(alloc: Global, blocks: Vec<u8>, text: &[u8], writer
     ensures silent { IsSome result.file → writer.new ≡ writer.old }
     ensures refused { W.failed writer.new ≡ false → IsNone result.file →
         EndsUnwritten (read text.now) result.status (W.sent writer.old) (W.sent writer.new) }
+    ensures passed { W.failed writer.new ≡ false → IsNone result.file → W.passed writer.new ≡ true }
     ensures cut { W.failed writer.old ≡ false → W.failed writer.new ≡ true → (result.status ≡ 5) × IsNone result.file }
 {
     let screens = match read_text(alloc, text) {
@@ -179,6 +195,7 @@ pub fn do_new<W: Output>(alloc: Global, count: u32, writer: &mut W) -> Ended
     ensures silent { IsSome result.file → writer.new ≡ writer.old }
     ensures wanting { W.failed writer.new ≡ false → IsNone result.file →
         PrintsOutOfMemory result.status (W.sent writer.old) (W.sent writer.new) }
+    ensures passed { W.failed writer.new ≡ false → IsNone result.file → W.passed writer.new ≡ true }
     ensures cut { W.failed writer.old ≡ false → W.failed writer.new ≡ true → (result.status ≡ 5) × IsNone result.file }
 {
     match blank_blocks(alloc, count) {

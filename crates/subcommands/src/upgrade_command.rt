@@ -18,6 +18,7 @@ use std::alloc::Global;
 #[tactic(auto, using(inner_interpreter::proofs::Sending::appends_both))]
 fn send_upgraded<W: Output>(writer: &mut W, image: &Image) -> Result<(), EndFault>
     ensures sent { OnOk result (Appends (W.sent writer.old) (W.sent writer.new) (upgrade_line image.now)) }
+    ensures passed { OnOk result (W.passed writer.new ≡ true) }
     ensures mark { Marks (W.failed writer.old) (W.failed writer.new) result }
 {
     send_all(writer, b"size ")?;
@@ -32,6 +33,7 @@ fn refuse_upgrade<W: Output>(fault: UpgradeFault, writer: &mut W) -> Ended
         PrintsTooLarge result.status (W.sent writer.old) (W.sent writer.new) }
     ensures out_of_memory { W.failed writer.new ≡ false → fault ≡ UpgradeFault.OutOfMemory →
         PrintsOutOfMemory result.status (W.sent writer.old) (W.sent writer.new) }
+    ensures passed { W.failed writer.new ≡ false → W.passed writer.new ≡ true }
     ensures cut { W.failed writer.old ≡ false → W.failed writer.new ≡ true → result.status ≡ 5 }
     ensures status { IsRefusal result.status (W.failed writer.new) }
     ensures file { IsNone result.file }
@@ -71,6 +73,7 @@ fn refuse_unread<W: Output>(file: &[u8], buffers: Option<u16>, writer: &mut W) -
     ensures out_of_memory { W.failed writer.new ≡ false →
         OfImageFile file.now (λ old. HasRoom old buffers →
         PrintsOutOfMemory result.status (W.sent writer.old) (W.sent writer.new)) }
+    ensures passed { W.failed writer.new ≡ false → W.passed writer.new ≡ true }
     ensures cut { W.failed writer.old ≡ false → W.failed writer.new ≡ true → result.status ≡ 5 }
     ensures status { IsRefusal result.status (W.failed writer.new) }
     ensures file { IsNone result.file }
@@ -91,6 +94,7 @@ fn end_with_upgraded<W: Output>(alloc: Global, image: &Image, writer: &mut W) ->
         IfSome result.file (λ file. IsUpgraded file.items image.now (W.sent writer.old) (W.sent writer.new)) }
     ensures wanting { W.failed writer.new ≡ false → IsNone result.file →
         PrintsOutOfMemory result.status (W.sent writer.old) (W.sent writer.new) }
+    ensures passed { W.failed writer.new ≡ false → W.passed writer.new ≡ true }
     ensures cut { W.failed writer.old ≡ false → W.failed writer.new ≡ true → (result.status ≡ 5) × IsNone result.file }
 {
     let Ok(file) = image_loader::write(alloc, image) else {
@@ -130,6 +134,7 @@ pub fn do_upgrade<W: Output>(
     // Where they are none, it is printed why.
     ensures refused { W.failed writer.new ≡ false →
         PrintsNoImage image.now result.status (W.sent writer.old) (W.sent writer.new) }
+    ensures passed { W.failed writer.new ≡ false → W.passed writer.new ≡ true }
     ensures cut { W.failed writer.old ≡ false → W.failed writer.new ≡ true → (result.status ≡ 5) × IsNone result.file }
 {
     let image = match image_loader::read(alloc, image) {

@@ -1,10 +1,11 @@
 //! Ends that fail, to try with them what a host does where an end fails. They take no memory.
 
-ghost use Rattle.std.specs.Prelude.{◌≡◌, ◌≤◌, ◌<◌, ◌+◌, ◌-◌, ◌++◌, ◌∷◌, ◌↔◌, ◌≢◌, [], Some, length, min, false, IsOk, IfOk};
+ghost use Rattle.std.specs.Prelude.{◌≡◌, ◌≤◌, ◌<◌, ◌+◌, ◌-◌, ◌++◌, ◌∷◌, ◌↔◌, ◌≢◌, [], Some, length, min, true, false, IsOk, IfOk, OnOk};
 ghost use Rattle.std.specs.Io.KnownBytes.{Keeps, WriteAppends};
 ghost use Rattle.inner_interpreter.specs.Ends.{TakesByte, Marks};
 
 use crate::ends::{EndFault, Input, Output};
+use crate::read_log::{Given, ReadLog};
 use std::marker::Model;
 
 /// Up to 256 bytes.
@@ -111,6 +112,8 @@ impl FailingWriter {
 impl Output for FailingWriter {
     ghost sent = { λ w. Some w.taken };
 
+    ghost passed = { λ _. true };
+
     ghost failed = { λ w. w.failed };
 
     fn send(&mut self, bytes: &[u8]) -> Result<usize, EndFault>
@@ -134,6 +137,7 @@ impl Output for FailingWriter {
 
     fn flush(&mut self) -> Result<(), EndFault>
         ensures bytes { Keeps (Some self.old.taken) (Some self.new.taken) }
+        ensures passed { OnOk result (⟦<FailingWriter as Output>⟧.passed self.new ≡ true) }
         ensures mark { Marks self.old.failed self.new.failed result }
         ensures room { self.new.room ≡ self.old.room }
         ensures takes { IsOk result ↔ (length self.old.taken < self.old.room) }
@@ -151,6 +155,7 @@ impl Output for FailingWriter {
 pub struct FailingReader {
     first: Option<u8>,
     has_failed: bool,
+    log: ReadLog,
 }
 
 impl FailingReader {
@@ -162,26 +167,35 @@ impl FailingReader {
         FailingReader {
             first: Some(byte),
             has_failed: false,
+            log: ReadLog::new(),
         }
     }
 }
 
 impl Input for FailingReader {
     ghost use Rattle.inner_interpreter.specs.Ends.{left_of};
+    ghost use Rattle.inner_interpreter.specs.Reads.{Gives};
 
     ghost unread = { λ r. Some (left_of r.first) };
+
+    ghost reads = { λ r. r.log.reads };
 
     ghost failed = { λ r. r.has_failed };
 
     fn byte(&mut self) -> Result<Option<u8>, EndFault>
         ensures bytes { TakesByte (⟦<FailingReader as Input>⟧.unread self.old)
             (⟦<FailingReader as Input>⟧.unread self.new) result }
+        ensures logged { Gives (⟦<FailingReader as Input>⟧.reads self.old)
+            (⟦<FailingReader as Input>⟧.reads self.new) result }
         ensures mark { Marks (⟦<FailingReader as Input>⟧.failed self.old)
             (⟦<FailingReader as Input>⟧.failed self.new) result }
         ensures gives { IsOk result ↔ (⟦<FailingReader as Input>⟧.unread self.old ≢ Some []) }
     {
         match self.first.take() {
-            Some(byte) => Ok(Some(byte)),
+            Some(byte) => {
+                self.log = self.log.then(&Given::Byte(byte));
+                Ok(Some(byte))
+            }
             None => {
                 self.has_failed = true;
                 Err(EndFault)

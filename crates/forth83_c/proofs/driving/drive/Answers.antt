@@ -7,6 +7,7 @@ loop-stop-init c = record {
   driven = none_driven c.args.machine.now c.args.typed.now c.args.limit;
   left = omega arith;
   read = omega arith;
+  beyond = refl;
   shown = omega arith;
   len = refl;
 }

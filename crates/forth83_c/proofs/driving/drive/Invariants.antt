@@ -9,6 +9,7 @@ invariant-loop-stop l = record {
   driven : IsDriven l.fn.machine l.typed l.fn.limit l.machine (drop l.course.read l.typed) (take l.course.shown l.out) l.course.left;
   left : l.course.left ≤ l.fn.limit;
   read : l.course.read ≤ length l.typed;
+  beyond : drop l.course.shown l.out ≡ drop l.course.shown l.fn.out;
   shown : l.course.shown ≤ length l.out;
   len : length l.out ≡ length l.fn.out;
 }

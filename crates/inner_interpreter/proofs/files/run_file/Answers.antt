@@ -3,7 +3,7 @@ use Rattle.std.proofs.lemmas.Result.{err_from_is_err_and}
 use Rattle.image_loader.specs.Files.{Contents}
 use Rattle.image_loader.specs.declared.fault.ImageFault.TheVariants as ImageFault
 use Rattle.inner_interpreter.specs.Files.{HasRunFrom}
-use Rattle.inner_interpreter.specs.Moves.{HasRun}
+use Rattle.inner_interpreter.specs.Moves.{HasRun, logs}
 use Rattle.machine.specs.State.{State, start}
 use Rattle.inner_interpreter.specs.Worlds.{OfImage, EndsFrom, EndsCutFrom, EndsFaultedFrom, loaded}
 use Rattle.inner_interpreter.proofs.Loading.{loaded_at, start_not_failed}
@@ -69,11 +69,11 @@ returns-in-Ok-run-clause-told g c = λ fine. c.in-Ok-run.ensures.told (start_not
 
 pub returns-in-Ok-run-clause-moved : goal.returns-in-Ok-run-clause-moved
 returns-in-Ok-run-clause-moved g c = λ image f.
-    subst (λ (i : Contents). HasRunFrom i (g.D.Device.block_count c.args.device.now) (g.D.Device.calls c.args.device.now) (g.D.Device.calls c.run.new.device) c.args.limit (g.R.Input.failed c.run.new.reader) (g.W.Output.failed c.run.new.writer) c.in-Ok-run.stop)
+    subst (λ (i : Contents). HasRunFrom i (g.D.Device.block_count c.args.device.now) (logs (g.D.Device.calls c.args.device.now) (g.W.Output.sent c.args.writer.now) (g.R.Input.reads c.args.reader.now)) (logs (g.D.Device.calls c.run.new.device) (g.W.Output.sent c.run.new.writer) (g.R.Input.reads c.run.new.reader)) c.args.limit (g.R.Input.failed c.run.new.reader) (g.W.Output.failed c.run.new.writer) c.in-Ok-run.stop)
     (c.in_ok-image.ensures.accepted image f)
     (record {
       state = c.run.new.machine;
-      run = subst (λ (m : State). HasRun m c.run.new.machine (g.D.Device.calls c.args.device.now) (g.D.Device.calls c.run.new.device) c.args.limit c.in-Ok-run.stop)
+      run = subst (λ (m : State). HasRun m c.run.new.machine (logs (g.D.Device.calls c.args.device.now) (g.W.Output.sent c.args.writer.now) (g.R.Input.reads c.args.reader.now)) (logs (g.D.Device.calls c.run.new.device) (g.W.Output.sent c.run.new.writer) (g.R.Input.reads c.run.new.reader)) c.args.limit c.in-Ok-run.stop)
           (c.in-Ok.ensures ∙ ap (start c.in_ok-image.image) c.count.ensures.value) c.in-Ok-run.ensures.moved;
       ended = c.in-Ok-run.ensures.ended;
     })

@@ -1,6 +1,7 @@
 use Rattle.std.proofs.Common.{◌≡◌, ◌++◌, ◌∷◌, [], arith, refl, true, false, ◌∙◌, rules}
 use Rattle.machine.specs.Answer.{is_return}
 use Rattle.inner_interpreter.proofs.Lining.{at_end, took, line_ends, returned_here, more_here, is_taken, typed_more, read_more, begun, kept_unread, if_err}
+use Rattle.inner_interpreter.proofs.Givens.{longer, given_more, given_return, given_end, given_full}
 use Rattle.inner_interpreter.proofs.lines.take_line.Goals as goal
 
 pub returns-in_default-clause-told : goal.returns-in_default-clause-told
@@ -31,6 +32,8 @@ loop-preserved g c =
           (step.0, step.2, rw pushed (before.2 ∙ read_more c.loop.line.items before.0 step.0 c.in-Some.byte step.1));
       typed = rw pushed (typed_more c.loop.line.items c.in-Some.byte c.loop.invariant.typed typed_byte);
       count = omega (arith, c.push.ensures.len);
+      full = longer _ _ _ _ pushed c.loop.invariant.full;
+      given = given_more _ _ _ _ _ _ _ c.in-Some.is pushed c.loop.invariant.given c.in_ok-byte.ensures.logged;
       room = search rules;
       mark = c.in_ok-byte.ensures.mark ∙ c.loop.invariant.mark;
     }

@@ -1,7 +1,8 @@
-use Rattle.std.proofs.Common.{rules, arith, ◌≡◌, None, Some, ap, Err, ◌∙◌}
+use Rattle.std.proofs.Common.{rules, arith, ◌≡◌, None, Some, true, false, ap, Err, ◌∙◌}
 use Rattle.inner_interpreter.specs.declared.stop.Stop.TheVariants as stop
 use Rattle.inner_interpreter.specs.Tracing.{EndsTraced}
-use Rattle.inner_interpreter.proofs.Moving.{moved_none, moved_still, moved_on, has_run}
+use Rattle.inner_interpreter.proofs.Moving.{appends_none, moved_none, moved_still, moved_on, moved_as, has_run, has_run_kept}
+use Rattle.inner_interpreter.specs.Failing.{sends_all}
 use Rattle.inner_interpreter.proofs.Ended.{none_made, more_made, made_cause, made_limit, made_cut, made_untraced, line_untraced, rounds_cut, rounds_faulted, done_so, not_limit, not_input_fault}
 use Rattle.inner_interpreter.proofs.runs.run_with.Goals as goal
 
@@ -13,7 +14,7 @@ loop-cause-init g c = record {
   trace = search rules;
   few = omega arith;
   read = λ h. h;
-  moved = moved_still _ _ _ _ _ (moved_none _ _);
+  moved = moved_still _ _ _ _ _ _ (moved_none _ _ _ _ _ _ (appends_none _));
   made = λ w at. none_made _ _ w _ _ _ _ _ _ at;
 }
 
@@ -61,7 +62,7 @@ loop-cause-preserved g c = record {
   trace = search rules;
   few = omega (arith, c.loop-cause.invariant.few, c.make_rounds.ensures.left);
   read = λ h. search rules;
-  moved = moved_on _ _ _ _ _ _ _ _ _ c.loop-cause.invariant.few c.make_rounds.ensures.left c.loop-cause.invariant.moved c.make_rounds.ensures.moved;
+  moved = moved_on _ _ _ _ _ _ _ _ _ _ c.loop-cause.invariant.few c.make_rounds.ensures.left c.loop-cause.invariant.moved c.in-Ok-make_rounds.ensures.moved;
   made = λ w at. more_made _ _ w _ _ _ _ _ _ _ _ _ _ _ _ _ (search rules) (omega arith) (search rules) (λ v here. rw (← c.extent-extent.ensures) (c.in-Ok-make_rounds.ensures.ok v here)) (c.loop-cause.invariant.made w at);
 }
 
@@ -79,13 +80,15 @@ returns-in-Err-Writer-clause-cut g c = λ fine fails w at.
 
 pub returns-in-Err-Reader-clause-moved : goal.returns-in-Err-Reader-clause-moved
 returns-in-Err-Reader-clause-moved g c =
+    let told = moved_as _ true (ap sends_all (c.in-Err-Reader.is ∙ ap Err c.in-Err-Reader.field-0-is)) c.make_rounds.ensures.moved in
     has_run _ _ _ _ _ _ _ (omega (arith, c.loop-cause.invariant.few, c.make_rounds.ensures.left)) (λ q. cc)
-    (moved_on _ _ _ _ _ _ _ _ _ c.loop-cause.invariant.few c.make_rounds.ensures.left c.loop-cause.invariant.moved c.make_rounds.ensures.moved)
+    (moved_on _ _ _ _ _ _ _ _ _ _ c.loop-cause.invariant.few c.make_rounds.ensures.left c.loop-cause.invariant.moved told)
 
 pub returns-in-Err-Writer-clause-moved : goal.returns-in-Err-Writer-clause-moved
 returns-in-Err-Writer-clause-moved g c =
+    let told = moved_as _ false (ap sends_all (c.in-Err-Writer.is ∙ ap Err c.in-Err-Writer.field-0-is)) c.make_rounds.ensures.moved in
     has_run _ _ _ _ _ _ _ (omega (arith, c.loop-cause.invariant.few, c.make_rounds.ensures.left)) (λ q. cc)
-    (moved_on _ _ _ _ _ _ _ _ _ c.loop-cause.invariant.few c.make_rounds.ensures.left c.loop-cause.invariant.moved c.make_rounds.ensures.moved)
+    (moved_on _ _ _ _ _ _ _ _ _ _ c.loop-cause.invariant.few c.make_rounds.ensures.left c.loop-cause.invariant.moved told)
 
 pub returns-in-Err-clause-moved : goal.returns-in-Err-clause-moved
 returns-in-Err-clause-moved g c =
@@ -93,10 +96,11 @@ returns-in-Err-clause-moved g c =
 
 pub returns-in-Some-clause-moved : goal.returns-in-Some-clause-moved
 returns-in-Some-clause-moved g c =
-    has_run _ _ _ _ _ _ _ c.loop-cause.invariant.few (λ q. absurd (not_limit c.in-Some.cause _ _ _ _ _ _ c.stop_by_cause.ensures c.finish.ensures.done q)) c.loop-cause.invariant.moved
+    has_run_kept _ _ _ _ _ _ _ _ _ _ _ _ c.loop-cause.invariant.few (λ q. absurd (not_limit c.in-Some.cause _ _ _ _ _ _ c.stop_by_cause.ensures c.finish.ensures.done q)) c.finish.ensures.bytes c.loop-cause.invariant.moved
 
 pub returns-then-left-eq0-clause-moved : goal.returns-then-left-eq0-clause-moved
-returns-then-left-eq0-clause-moved g c = has_run _ _ _ _ _ _ _ c.loop-cause.invariant.few (λ q. c.if-left-eq0.true) c.loop-cause.invariant.moved
+returns-then-left-eq0-clause-moved g c =
+    has_run_kept _ _ _ _ _ _ _ _ _ _ _ _ c.loop-cause.invariant.few (λ q. c.if-left-eq0.true) c.finish-then-left-eq0.ensures.bytes c.loop-cause.invariant.moved
 
 pub returns-in-Some-clause-told : goal.returns-in-Some-clause-told
 returns-in-Some-clause-told g c = λ h fine q.

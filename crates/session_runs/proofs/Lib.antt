@@ -1,0 +1,4 @@
+mod Breaking
+mod Working
+mod Storing
+mod Sitting

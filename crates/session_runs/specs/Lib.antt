@@ -1,0 +1,4 @@
+pub mod Wishes
+pub mod Interrupted
+pub mod Saving
+pub mod Sitting
