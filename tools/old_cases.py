@@ -1,0 +1,126 @@
+"""Cases of old programs, as tools/old_cases.txt has them, and how they are run by the built program.
+
+A case has a dialect, a title, a reason, screens, and steps: first the load of screen 1, then typed lines. Each step has what must be
+shown, or a text that must be in it.
+"""
+import pathlib
+import re
+from typing import Dict, List, Optional
+
+from sessions import ROOT, Folder
+
+CASES = ROOT / "tools/old_cases.txt"
+# The first screen of each dialect, and of the preludes that are loaded after one: "f79+mms".
+FIRST = {"fig": 1001, "f79": 1021, "f83": 1041, "poly": 1061, "mms": 1081, "volks": 1083, "hs": 1084, "rsc": 1085, "ports": 1086}
+
+
+class Step:
+    """A line that is typed, the lines that answer it, and what must be shown."""
+
+    def __init__(self, typed: str) -> None:
+        self.typed = typed
+        self.answers: List[str] = []
+        self.shown: Optional[str] = None
+        self.told: Optional[str] = None
+
+    def lines(self) -> str:
+        return "".join(f"{line}\n" for line in [self.typed, *self.answers])
+
+    def fails(self, output: str) -> Optional[str]:
+        """What is wrong with what was shown, if anything."""
+        got = " ".join(output.split())
+        for answer in self.answers:
+            got = (got[len(answer):] if got.startswith(answer) else got).strip()
+        if self.told is not None:
+            return None if " ".join(self.told.split()) in got else f"wanted .. {self.told} ..\n  got    {got:.300}"
+        wanted = f"{self.shown} ok" if self.shown else "ok"
+        return None if self.shown is None and got.endswith("ok") or got == wanted else f"wanted {wanted}\n  got    {got:.300}"
+
+
+class Case:
+    """An old program, and what it shows."""
+
+    def __init__(self, dialect: str, title: str) -> None:
+        self.dialect, self.title = dialect, title
+        self.reason = ""
+        self.screens: Dict[int, List[str]] = {1: [f"( {title.replace(')', '')[:60]} )"]}
+        self.steps = [Step("1 LOAD")]
+
+    def take(self, line: str) -> None:
+        """Takes a line of the case's block."""
+        sign, _, rest = line.partition(" ")
+        if sign == "#":
+            self.reason = rest
+        elif sign.startswith("|"):
+            self.screens.setdefault(int(sign[1:] or 1), []).append(rest)
+        elif sign == ">":
+            self.steps.append(Step(rest))
+        elif sign == ">>":
+            self.steps[-1].answers.append(rest)
+        elif sign == "<":
+            self.steps[-1].shown = rest
+        elif sign == "!":
+            self.steps[-1].told = rest
+        else:
+            raise ValueError(f"{CASES.name}: {line}")
+
+    def text(self) -> str:
+        """Its screens as a text."""
+        return "".join(f"% screen {number}\n" + "".join(f"{line}\n" for line in lines) for number, lines in self.screens.items())
+
+    def dialects(self) -> List[str]:
+        """The texts that are loaded before it."""
+        return [name for name in self.dialect.split("+") if name != "none"]
+
+    def is_whole(self) -> bool:
+        """Whether it has a reason, and something that must be shown."""
+        return bool(self.reason) and any(step.shown is not None or step.told is not None for step in self.steps)
+
+
+def read_cases(text: str) -> List[Case]:
+    """The cases of a text; what is before the first one is a comment."""
+    cases: List[Case] = []
+    for block in text.split("\n\n"):
+        first, *lines = block.strip("\n").split("\n")
+        match = re.fullmatch(r"case ([\w+]+) (.+)", first)
+        if match is None:
+            if cases:
+                raise ValueError(f"{CASES.name}: {first}")
+            continue
+        if any(name != "none" and name not in FIRST for name in match[1].split("+")):
+            raise ValueError(f"{CASES.name}: {match[1]} is no dialect")
+        cases.append(Case(match[1], match[2]))
+        for line in lines:
+            cases[-1].take(line)
+    return cases
+
+
+def shown_after(steps: List[Step], output: str) -> List[str]:
+    """What was shown after each line that was typed."""
+    shown, at = [], 0
+    for step, following in zip(steps, [*steps[1:], None]):
+        start = output.find(step.typed, at) + len(step.typed)
+        end = output.find(f"\n{following.typed} ", start) if following else len(output)
+        end = len(output) if end < 0 else end
+        shown.append(output[start:end])
+        at = end
+    return shown
+
+
+def run_case(folder: Folder, case: Case) -> List[str]:
+    """What is wrong with a case, run in a folder of its own file."""
+    room = pathlib.Path(folder.room)
+    (room / "case.txt").write_text(case.text(), encoding="ascii")
+    (room / "case.blk").unlink(missing_ok=True)
+    said = folder.run(["./forth83", "new", "case.blk", "8"])
+    said += folder.run(["./forth83", "screens", "case.txt", "case.blk"])
+    loads = []
+    for name in case.dialects():
+        said += folder.run(["./forth83", "screens", f"dialects/{name}.txt", "case.blk"])
+        loads.append(Step(f"{FIRST[name]} LOAD"))
+    steps = [*loads, *case.steps]
+    if said:
+        return [said]
+    output = folder.run(["./forth83", "run", "--limit", "100000000", "tools", "case.blk"], "".join(step.lines() for step in steps))
+    output = re.sub(r"\x1b\[[0-9;]*[A-Za-z]", "", output)
+    return [wrong for step, got in zip(steps, shown_after(steps, output)) if (wrong := step.fails(got)) is not None]
