@@ -9,6 +9,7 @@ import os
 import shutil
 import subprocess
 import tempfile
+import time
 
 OPTIONS = ("--headless", "--no-sandbox", "--disable-gpu", "--hide-scrollbars", "--remote-debugging-pipe",
            "--disable-background-networking")
@@ -51,7 +52,16 @@ class Browser:
         self.running.wait()
         os.close(self.out)
         os.close(self.back)
-        self.room.cleanup()
+        self.remove_room()
+
+    def remove_room(self):
+        """Removes the browser's folder, into which its processes may write a moment longer than it lives."""
+        for _ in range(50):
+            try:
+                self.room.cleanup()
+                return
+            except OSError:
+                time.sleep(0.1)
 
     def receive(self):
         while b"\0" not in self.rest:

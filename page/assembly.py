@@ -1,0 +1,54 @@
+"""Puts the page's files together into one HTML file."""
+import base64
+import hashlib
+import html
+import json
+import pathlib
+import re
+from typing import Dict, List
+
+HERE = pathlib.Path(__file__).resolve().parent
+FIRST = "main.js"
+POLICY = "default-src 'none'; script-src '{script}' 'wasm-unsafe-eval'; style-src 'unsafe-inline'; img-src data: blob:"
+IMPORT = re.compile(r'^import \{[^}]*\} from "\./([\w-]+\.js)";\n', re.M)
+
+
+def text_of(name: str) -> str:
+    return (HERE / name).read_text(encoding="utf-8")
+
+
+def in_order(name: str, found: List[str]) -> List[str]:
+    """The modules that a module imports, and then itself, each once."""
+    for other in IMPORT.findall(text_of(name)):
+        if other not in found:
+            in_order(other, found)
+    found.append(name)
+    return found
+
+
+def bundle(first: str = FIRST) -> str:
+    """All modules as one script: they have no name twice, so that imports and exports only have to go."""
+    parts = [re.sub(r"^export ", "", IMPORT.sub("", text_of(name)), flags=re.M) for name in in_order(first, [])]
+    return '"use strict";\n' + "\n".join(parts)
+
+
+def sum_for_policy(text: str) -> str:
+    """How a policy names the only script that may run."""
+    return "sha256-" + base64.b64encode(hashlib.sha256(text.encode()).digest()).decode()
+
+
+def filled(template: str, values: Dict[str, str]) -> str:
+    """The template with each {{NAME}} replaced by its value."""
+    return re.sub(r"\{\{([A-Z0-9]+)\}\}", lambda found: values[found[1]], template)
+
+
+def page(data: Dict[str, object], facts: Dict[str, str]) -> str:
+    """The page with its data. FACTS are TITLE, VERSION, SHA256 and PROVED, as texts."""
+    script = bundle()
+    values = {name: html.escape(text) for name, text in facts.items()}
+    values["HELP"] = filled(text_of("help.html"), values)
+    values["STYLE"] = text_of("page.css")
+    values["SCRIPT"] = script
+    values["POLICY"] = POLICY.format(script=sum_for_policy(script))
+    values["DATA"] = json.dumps(data, ensure_ascii=False).replace("</", "<\\/").replace("<!--", "<\\u0021--")
+    return filled(text_of("index.html"), values)

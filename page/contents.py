@@ -1,0 +1,189 @@
+"""What the page carries besides the machine: the course's lessons, the manual, and its disks."""
+import base64
+import html
+import pathlib
+import re
+import sys
+from typing import Dict, List, Optional
+
+ROOT = pathlib.Path(__file__).resolve().parent.parent
+sys.path.insert(0, str(ROOT / "teaching"))
+
+import canvas  # noqa: E402
+import images  # noqa: E402
+
+ROW = re.compile(r"^\| `(\S+)` \| `([^`]*)` \| (?:yes)? ?\| (.+) \|$", re.M)
+# Chapters of docs/WORDS.md whose words the page doesn't need: it edits lines and screens itself.
+CHAPTERS_LEFT_OUT = ("A line by KEY", "The screen editor", "Lines of a pipe", "Starting", "The line editor")
+SCREENS, PAGE, WIDTH = 64, 1024, 64
+EXAMPLES = ("kiln", "life", "gold", "sieve")
+COURSE, FIRST = "course.blk", 20
+
+
+def inline(text: str) -> str:
+    """A paragraph as HTML: code, strong text, and of links their words."""
+    text = html.escape(text, quote=False)
+    text = re.sub(r"`([^`]+)`", r"<code>\1</code>", text)
+    text = re.sub(r"\[([^]]+)\]\([^)]*\)", r"\1", text)
+    return re.sub(r"\*\*([^*]+)\*\*", r"<strong>\1</strong>", text)
+
+
+def button(attribute: str, value: str, text: str) -> str:
+    return f'<button type="button" data-{attribute}="{html.escape(value)}">{html.escape(text)}</button>'
+
+
+def typed(line: str) -> Optional[str]:
+    """The button of a line that is typed in a session, or None for one that means nothing in the page: the shell's lines except films,
+    BYE, and the loading of the course's disk."""
+    film = re.match(r"\$ \./forth film (\S+)(?: '([^']*)')?", line)
+    if film:
+        return button("film", film[2] or film[1], f"▶ the steps of {film[2] or film[1]}")
+    if line.startswith("$ ") or line in ("> BYE", "> 1 LOAD"):
+        return None
+    return button("line", line[2:], line[2:])
+
+
+def session(lines: List[str]) -> str:
+    """A session of the course: what is typed as buttons, and what the Forth shows below each."""
+    made, is_shown = [], True
+    for line in lines:
+        if line.startswith(("> ", "$ ")):
+            one = typed(line)
+            is_shown = one is not None and line.startswith("> ")
+            made += [one] if one else []
+        elif is_shown and line.strip() != "ok":
+            made.append(f"<pre>{html.escape(line)}</pre>")
+    return f'<div class="typing">{"".join(made)}</div>' if made else ""
+
+
+def for_page(paragraph: str) -> str:
+    """A paragraph without what only holds at a terminal."""
+    return re.sub(r" \(`21 EDIT` shows it\s+in a frame[^)]*\)", " (`21 EDIT` shows it in the editor beside.)", paragraph)
+
+
+def disk_of_lesson(body: str) -> str:
+    """The disk that a lesson's first session starts the Forth with."""
+    found = re.search(r"^\$ \./forth (\w+\.blk)$", body, re.M)
+    return found[1] if found else COURSE
+
+
+def lessons(text: str) -> List[Dict[str, object]]:
+    """The course's lessons: of each its number, title, HTML and disk, and the pupil's screen, or None for one that nothing checks."""
+    made = []
+    for number, part in enumerate(re.split(r"^## ", text, flags=re.M)[1:], 1):
+        title, _, body = part.partition("\n")
+        disk = disk_of_lesson(body)
+        made.append({"number": number, "title": title, "disk": disk, "screen": FIRST + number if disk == COURSE else None,
+                     "html": f"<h2>{inline(title)}</h2>" + body_of_lesson(body)})
+    return made
+
+
+def body_of_lesson(body: str) -> str:
+    """A lesson's paragraphs and sessions as HTML."""
+    pieces = []
+    for at, piece in enumerate(re.split(r"^```\n", body, flags=re.M)):
+        if at % 2:
+            pieces.append(session(piece.rstrip("\n").split("\n")))
+        else:
+            paragraphs = (for_page(one) for one in re.split(r"\n\s*\n", piece) if one.strip())
+            pieces += [f"<p>{inline(' '.join(one.split()))}</p>" for one in paragraphs]
+    return "".join(pieces).replace("</pre><pre>", "\n")
+
+
+def inner_words(start: str) -> List[str]:
+    """The words that the tools keep in the vocabulary TOOLS, which nobody types."""
+    return " ".join(re.findall(r"^: INNER\d (.*?) ;$", start, re.M | re.S)).split()
+
+
+def manual(words: str, start: str) -> List[List[str]]:
+    """What docs/WORDS.md says of each word: its name, stack effect, chapter and description."""
+    inner, made = set(inner_words(start)), {}
+    for part in re.split(r"^### \d+\. ", words, flags=re.M)[1:]:
+        chapter = part.partition("\n")[0].partition(":")[0]
+        if not chapter.startswith(CHAPTERS_LEFT_OUT):
+            made.update({name: [name, effect, chapter, inline(says)] for name, effect, says in ROW.findall(part) if name not in inner})
+    return list(made.values())
+
+
+def text_of(name: str) -> str:
+    return (ROOT / name).read_text(encoding="utf-8")
+
+
+def disk_of_text(text: str, count: int = SCREENS) -> Dict[str, object]:
+    return {"count": count, "text": text}
+
+
+def disk_of_blocks(content: bytes) -> Dict[str, object]:
+    """A disk of these blocks: as a text of its screens where that has all of it, since it is shorter, or else as bytes."""
+    if any(not 32 <= byte <= 126 for byte in content):
+        return {"bytes": base64.b64encode(content).decode()}
+    text = content.decode("ascii")
+    blocks = [text[at:at + PAGE] for at in range(0, len(text), PAGE)]
+    screens = [f"% screen {number}\n{lines_of(block)}" for number, block in enumerate(blocks) if block.strip()]
+    return disk_of_text("".join(screens) or "% screen 0\n", len(blocks))
+
+
+def lines_of(block: str) -> str:
+    """A block's lines as a text of screens has them."""
+    lines = [block[at:at + WIDTH].rstrip() for at in range(0, PAGE, WIDTH)]
+    return re.sub("^%", "%%", "\n".join(lines).rstrip(), flags=re.M) + "\n"
+
+
+def disks(kernel: str) -> Dict[str, Dict[str, object]]:
+    """The disks of every page: the kernel's sources, the course, examples and dialects. KERNEL is the text of the kernel's screens."""
+    found = {"forth.blk": disk_of_text(kernel), COURSE: disk_of_text(text_of("teaching/course.txt"))}
+    found.update({f"{name}.blk": disk_of_text(text_of(f"examples/{name}.txt")) for name in EXAMPLES})
+    found["draw.blk"] = disk_of_text(text_of("examples/draw.txt"), canvas.FIRST + canvas.BLOCKS)
+    for file in sorted((ROOT / "dialects").glob("*.txt")):
+        found[f"dialect {file.stem}.blk"] = disk_of_text(file.read_text(encoding="utf-8"))
+    return found
+
+
+FORMAT = re.compile(r"^\| (`[a-z0-9`, -]+`) \| ([^|]+) \| ([\d,]+|the same) \| ([\d,]+) \| ([^|]+) \|$", re.M)
+
+
+def formats(page: str) -> List[Dict[str, object]]:
+    """The formats of containers, as docs/OLD-SOURCES.md has them: name, what it is, bytes before it, a sector's bytes, their order."""
+    found: List[Dict[str, object]] = []
+    for names, what, offset, sector, order in FORMAT.findall(page):
+        numbers = [int(it) for it in re.findall(r"\d+", order)]
+        places = [it - min(numbers) for it in numbers] or (found[-1]["order"] if "same" in order else [0])
+        for name in re.findall(r"`([^`]+)`", names):
+            words = re.sub(r"[`*]", "", what.partition(";")[0])
+            found.append({"name": name, "what": words, "offset": number_of(offset), "sector": number_of(sector), "order": places})
+    return found
+
+
+def number_of(text: str) -> int:
+    return int(text.replace(",", ""))
+
+
+# A dialect's first lines: its screen, and a title with its name, and perhaps which dialect is loaded before it.
+DIALECT = re.compile(r"% screen (\d+)\n\( ([^:\n]+): (?:.*?, (\d+) LOAD)?.*\n")
+DEFINED = re.compile(r"(?:^: |\b(?:VARIABLE|CONSTANT|CREATE) )(\S+)", re.M)
+FORTH_CHAINS = range(42, 50, 2)
+
+
+def dialects() -> List[Dict[str, object]]:
+    """The dialects of old sources: of each its key, name and first screen, the screen that is loaded before it, and the names it defines."""
+    found: List[Dict[str, object]] = []
+    for file in sorted((ROOT / "dialects").glob("*.txt")):
+        text = file.read_text(encoding="ascii")
+        head = DIALECT.match(text)
+        if head:
+            names = set(DEFINED.findall(text))
+            found.append({"key": file.stem, "name": head[2], "first": int(head[1]), "after": int(head[3]) if head[3] else None, "names": sorted(names)})
+    return found
+
+
+def names_of_image(image: bytes) -> List[str]:
+    """The names of an image's vocabulary FORTH, read from its headers."""
+    memory = images.parse(image).memory
+    names = set()
+    for chain in FORTH_CHAINS:
+        link = memory.cell(chain)
+        while link:
+            size = memory.byte(link + 2) & 31
+            names.add(bytes(memory.byte(link + 3 + at) for at in range(size)).decode("latin-1"))
+            link = memory.cell(link)
+    return sorted(names)

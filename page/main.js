@@ -1,0 +1,41 @@
+// Starts the page.
+
+import { fromBase64 } from "./bytes.js";
+import { Canvas } from "./canvas.js";
+import { ClassList } from "./class.js";
+import { Course } from "./course.js";
+import { DATA } from "./data.js";
+import { Editor } from "./editor.js";
+import { Film } from "./film.js";
+import { Manual } from "./manual.js";
+import { MemoryMap } from "./map.js";
+import { OldDisk } from "./olddisk.js";
+import { Page } from "./page.js";
+import { by, parts } from "./parts.js";
+import { Session } from "./session.js";
+import { Store } from "./store.js";
+import { Transcript } from "./transcript.js";
+
+async function begin() {
+  const { instance } = await WebAssembly.instantiate(fromBase64(DATA.wasm), {}), calls = instance.exports;
+  const page = new Page(new Transcript(by("transcript")), await Store.open(DATA.place));
+  page.session = new Session(calls, DATA.layout, fromBase64(DATA.image), page);
+  page.editor = new Editor(page.session, parts("screen-text", "screen-gutter", "screen-mark", "screen-number", "screen-count", "screen-back",
+    "screen-on", "screen-shadow", "screen-load", "screen-index", "screen-said", "screen-find", "screen-found"));
+  page.film = new Film(page.session, calls, parts("film-form", "film-line", "film-slider", "film-back", "film-on", "film-play", "film-base", "film-system", "film-show",
+    "film-word", "film-words", "film-thread", "film-values", "film-returns", "film-output", "film-number", "film-said"));
+  page.map = new MemoryMap(page, parts("map-bar", "map-parts", "map-words", "map-none", "map-again", "map-said"));
+  page.canvas = new Canvas(page, parts("canvas-picture", "canvas-none", "canvas-save"));
+  page.oldDisk = new OldDisk(page, parts("old-choose", "old-file", "old-format", "old-clean", "old-said", "old-screen", "old-preview",
+    "old-insert", "old-dialect", "old-shown"));
+  page.course = new Course(page, parts("course-lesson", "course-text", "course-check", "course-back", "course-on", "course-mine", "course-disk"));
+  page.classList = new ClassList(page, calls, parts("class-choose", "class-files", "class-said", "class-table", "class-head",
+    "class-rows", "class-csv"));
+  page.manual = new Manual(parts("words-sought", "words-table"), (word) => page.take(word));
+  await page.begin();
+  Object.assign(window, { page, ready: performance.now() }); // for those who look inside, and for tests
+}
+
+begin().catch((error) => {
+  by("transcript").textContent = `The page can't start: ${error.message}. It needs a browser of 2021 or later.`;
+});

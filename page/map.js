@@ -1,0 +1,75 @@
+// The map of the machine's memory: its parts from address 0 up, your words with their sizes, and the block buffers.
+
+import { element, hexadecimal } from "./bytes.js";
+import { MEMORY, PAGE_SIZE, SYSTEM } from "./machine.js";
+
+const TIB = 128, DICTIONARY = 256;
+const KINDS = { 1: "colon word", 2: "variable", 3: "constant", 4: "vocabulary" };
+
+export class MemoryMap {
+  constructor(page, parts) {
+    Object.assign(this, { page, parts });
+    parts.again.addEventListener("click", () => this.draw());
+    parts.words.addEventListener("click", (event) => this.see(event.target.closest("button")));
+  }
+
+  get machine() { return this.page.session.machine; }
+
+  see(button) {
+    if (button) this.page.enter(`SEE ${button.textContent}`);
+  }
+
+  draw() {
+    const { session } = this.page;
+    if (session.isRunning) return void (this.parts.said.textContent = "The Forth is busy: stop it to see its memory.");
+    this.parts.said.textContent = "";
+    this.drawParts();
+    this.drawWords(session.places.fence);
+  }
+
+  // All of memory in few parts, each with its addresses.
+  regions() {
+    const { machine } = this, here = machine.cell(SYSTEM.here), { fence } = this.page.session.places;
+    const buffers = machine.buffers.sort((a, b) => a.place - b.place), limit = buffers.length ? buffers[0].place : MEMORY;
+    const rows = [["system cells", 0, TIB, "system"], ["the line that is typed (TIB)", TIB, DICTIONARY, "system"],
+      ["the Forth's own words", DICTIONARY, fence, "own"], ["your words", fence, Math.max(fence, here), "yours"], ["free", Math.max(fence, here), limit, "free"]];
+    for (const one of buffers) {
+      const what = one.block === null ? "empty" : `block ${one.block}${one.updated ? ", changed" : ""}`;
+      rows.push([`buffer ${one.slot}: ${what}`, one.place, one.place + PAGE_SIZE, "buffer"]);
+    }
+    return rows.filter(([, from, to]) => to > from);
+  }
+
+  drawParts() {
+    const regions = this.regions();
+    this.parts.bar.replaceChildren(...regions.map(([what, from, to, kind]) => {
+      const part = element("span", "", { class: kind, title: `${what}: ${to - from} bytes` });
+      part.style.flexGrow = to - from;
+      return part;
+    }));
+    this.parts.parts.replaceChildren(...regions.map(([what, from, to, kind]) => {
+      const row = element("tr");
+      row.append(element("td", "", { class: `key ${kind}` }), element("td", what), element("td", hexadecimal(from)), element("td", hexadecimal(to - 1)),
+        element("td", String(to - from)));
+      return row;
+    }));
+  }
+
+  // Your words, the newest first.
+  drawWords(fence) {
+    const words = this.machine.words(), here = this.machine.cell(SYSTEM.here);
+    const rows = words.map((word, at) => this.row(word, words[at + 1] ? words[at + 1].header - 2 : here, fence)).filter((row) => row).reverse();
+    this.parts.words.replaceChildren(...rows);
+    this.parts.none.hidden = rows.length > 0;
+  }
+
+  row(word, end, fence) {
+    if (word.header < fence) return null;
+    const code = this.machine.cell(word.word), row = element("tr"), name = element("td");
+    name.append(element("button", word.name, { type: "button", title: `SEE ${word.name}` }));
+    const kind = KINDS[code] || (code < 256 ? `primitive ${code}` : "made by a word with DOES>");
+    row.append(name, element("td", hexadecimal(word.header)), element("td", String(end - word.header + 2)), element("td", kind),
+      element("td", word.view ? `screen ${word.view}` : "typed"));
+    return row;
+  }
+}

@@ -1,0 +1,95 @@
+// Old disks: a file of another system is shown by a format, its screens are put in as a disk, and its dialect is named.
+
+import { DATA } from "./data.js";
+import { blocksOf, guess } from "./containers.js";
+import { Disk, linesOf } from "./disk.js";
+import { PAGE_SIZE } from "./machine.js";
+import { Survey } from "./survey.js";
+
+const MOST_UNKNOWN = 12, MOST_OTHERS = 3;
+
+export class OldDisk {
+  constructor(page, parts) {
+    Object.assign(this, { page, parts, name: "", container: null, blocks: null });
+    parts.format.append(...DATA.formats.map((one) => new Option(`${one.name}: ${one.what}`, one.name)));
+    parts.choose.addEventListener("click", () => parts.file.click());
+    parts.file.addEventListener("change", () => this.read(parts.file.files[0]));
+    for (const control of [parts.format, parts.clean]) control.addEventListener("change", () => this.draw());
+    parts.screen.addEventListener("input", () => this.show());
+    parts.insert.addEventListener("click", () => this.insert());
+    parts.dialect.addEventListener("click", () => this.load());
+  }
+
+  async read(file) {
+    this.parts.file.value = "";
+    if (file) this.open(file.name, new Uint8Array(await file.arrayBuffer()));
+  }
+
+  open(name, container) {
+    Object.assign(this, { name, container });
+    this.parts.format.value = guess(container);
+    this.parts.shown.hidden = false;
+    this.draw();
+  }
+
+  // Reads the container by the chosen format.
+  draw() {
+    if (!this.container) return;
+    const { format, clean, said, screen, insert } = this.parts, chosen = DATA.formats.find((one) => one.name === format.value);
+    const made = blocksOf(this.container, chosen, clean.checked);
+    this.blocks = made.bytes || null;
+    insert.disabled = !this.blocks;
+    const size = `${this.name}, ${this.container.length.toLocaleString("en")} bytes`;
+    if (made.wrong) said.textContent = `${size}: not in this format, ${made.wrong}.`;
+    else {
+      const count = this.blocks.length / PAGE_SIZE;
+      said.textContent = `${size}: ${count} screens. ${this.advice()}`;
+      screen.max = count - 1;
+      screen.value = this.firstScreen(count);
+    }
+    this.show();
+  }
+
+  pageAt(block) { return this.blocks.subarray(block * PAGE_SIZE, (block + 1) * PAGE_SIZE); }
+
+  // The first screen that has something in it.
+  firstScreen(count) {
+    for (let block = 0; block < count; block++) if (linesOf(this.pageAt(block)).some((line) => line && /[^\xe5]/.test(line))) return block;
+    return 0;
+  }
+
+  show() {
+    const { preview, screen } = this.parts, block = Math.floor(Number(screen.value));
+    const isThere = this.blocks && block >= 0 && block < this.blocks.length / PAGE_SIZE;
+    preview.textContent = isThere ? linesOf(this.pageAt(block)).map((line, at) => `${String(at).padStart(2)} ${line}`).join("\n") : "";
+  }
+
+  // Which dialect knows most of their words.
+  advice() {
+    const pages = Array.from({ length: this.blocks.length / PAGE_SIZE }, (_, block) => this.pageAt(block));
+    const { alone, ranks } = new Survey(pages, new Set(DATA.known), DATA.dialects).ranks(), [{ dialect, unknown }, ...others] = ranks;
+    this.best = alone.length ? dialect : null;
+    this.parts.dialect.disabled = !this.best;
+    if (!this.best) return "The Forth knows all words of their sources.";
+    const more = unknown.length > MOST_UNKNOWN ? " …" : "", words = unknown.length ? ` (${unknown.slice(0, MOST_UNKNOWN).join(" ")}${more})` : "";
+    const rest = others.slice(0, MOST_OTHERS).map((one) => `${one.dialect.name} ${one.unknown.length}`).join(", ");
+    return `Fewest words stay unknown with ${dialect.name}: ${unknown.length}${words}. With ${rest}; without a dialect ${alone.length}. ` +
+      "Load the dialect, and then put this in as a disk.";
+  }
+
+  // Loads the words of the dialect from its disk, after those of the dialect that it needs.
+  async load() {
+    const base = DATA.dialects.find((one) => one.first === this.best.after);
+    for (const dialect of base ? [base, this.best] : [this.best]) {
+      const name = `dialect ${dialect.key}.blk`;
+      if (this.page.session.disk.name !== name && !(await this.page.files.insertNamed(name))) return;
+      this.page.enter(`${dialect.first} LOAD`);
+      await this.page.idle();
+    }
+  }
+
+  async insert() {
+    const name = `${this.name.replace(/\.[^.]*$/, "")}.blk`;
+    if (await this.page.files.insert(new Disk(name, this.blocks.slice()))) this.page.tab("screens");
+  }
+}

@@ -1,0 +1,309 @@
+// A session: a machine with a disk. It runs in slices of time, so that the page answers meanwhile, and any program can be stopped.
+
+import { encode } from "./bytes.js";
+import { Disk } from "./disk.js";
+import { ASKS, Machine, PAGE_SIZE, STOP, SYSTEM } from "./machine.js";
+
+const SLICE = 12, UNDOS = 100, LONG = 2000;
+// Places of the cells that page/paged.txt notes for the page.
+const NOTES = { faults: 0, block: 2, byte: 4, edits: 6 };
+
+export class Session {
+  // view: show(bytes, isTyped), note(text), begun(), changed(), fault(notes), edit(screen), retype(screen, line), looks(), keeps(),
+  // mark() and back(mark)
+  constructor(calls, layout, image, view) {
+    Object.assign(this, { image, view, layout, machine: new Machine(calls, layout) });
+    this.lines = []; // typed lines that aren't read yet
+    this.keys = []; // bytes for KEY that aren't read yet
+    this.undos = [];
+    this.ticks = 200000;
+    this.isStopped = false;
+    this.isRunning = false;
+  }
+
+  // Starts a machine as the image has it.
+  start(disk) {
+    if (this.waits(() => this.start(disk))) return;
+    this.disk = disk;
+    this.faults = 0;
+    this.undos = [];
+    this.machine.load(this.image, disk.count);
+    this.learn();
+    this.go();
+  }
+
+  // Goes on with a machine and a disk that were kept; whether they are good. A record that isn't a machine's is refused by its first run.
+  resume(kept) {
+    const before = { record: this.machine.copy(), disk: this.disk, places: this.places };
+    try {
+      if (kept.record.length !== this.layout.size || kept.disk.length % PAGE_SIZE !== 0) throw new Error("other sizes");
+      this.disk = new Disk(String(kept.name), kept.disk);
+      this.places = Object.fromEntries(Object.entries(kept.places).map(([name, place]) => [name, Number(place)]));
+      this.machine.restore(kept.record);
+      this.machine.run(new Uint8Array(0), 0);
+    } catch {
+      this.machine.restore(before.record);
+      Object.assign(this, { disk: before.disk, places: before.places });
+      return false;
+    }
+    this.machine.blockCount = this.disk.count;
+    this.interrupt();
+    this.faults = this.notes.faults;
+    this.undos = [];
+    this.go();
+    return true;
+  }
+
+  kept() { return { name: this.disk.name, disk: this.disk.bytes.slice(), record: this.machine.copy(), places: { ...this.places } }; }
+
+  // Where the image has what the page reads. They are sought in the fresh image, before anyone can give these names to other words.
+  learn() {
+    const found = new Map(this.machine.words().map((one) => [one.name, one.word]));
+    this.places = { break: found.get("BREAK"), notes: found.get("NOTES") + 2, shadow: found.get("SHADOW") + 2, retyped: found.get("RETYPED") + 2,
+      fence: this.machine.cell(SYSTEM.here) };
+  }
+
+  // What the Forth notes for the page: how many faults it reported, where the last one was, and whether SCR is to be edited.
+  get notes() {
+    return Object.fromEntries(Object.entries(NOTES).map(([name, place]) => [name, this.machine.cell(this.places.notes + place)]));
+  }
+
+  get waitsForLine() { return !this.isRunning && this.machine.asks === ASKS.LINE; }
+  get waitsForKey() { return !this.isRunning && this.machine.asks === ASKS.KEY; }
+  // Whether a program asks for the line, and not the Forth itself, whose return stack always has the same depth then.
+  get waitsForAnswer() { return this.waitsForLine && this.machine.returns.length > this.places.depth; }
+
+  // Types lines, one after the other; a fault drops the lines after it.
+  type(lines) {
+    if (this.waitsForLine) this.remember();
+    this.lines.push(...lines);
+    this.go();
+  }
+
+  press(bytes) {
+    this.keys.push(...bytes);
+    this.go();
+  }
+
+  stop() {
+    this.drop("");
+    if (this.isRunning) this.isStopped = true;
+    else if (this.waitsForKey) this.answerAndInterrupt([3]);
+    else if (this.waitsForAnswer) this.answerAndInterrupt([10]);
+  }
+
+  // What a program waits for is given, and the program is interrupted before it does anything with it.
+  answerAndInterrupt(bytes) {
+    this.machine.run(Uint8Array.from(bytes), 1);
+    this.interrupt();
+    this.go();
+  }
+
+  drop(why) {
+    const count = this.lines.length;
+    if (count && why) this.view.note(`${count} more ${count === 1 ? "line was" : "lines were"} not interpreted: ${why}.`);
+    this.lines = [];
+    this.keys = [];
+  }
+
+  // The next bytes for what is asked.
+  next() {
+    if (this.machine.asks === ASKS.KEY) {
+      if (!this.keys.length && this.lines.length) this.keys.push(...encode(this.lines.shift() + "\n"));
+      return Uint8Array.from(this.keys.splice(0, 1));
+    }
+    this.keys = [];
+    if (this.machine.asks !== ASKS.LINE || !this.lines.length) return new Uint8Array(0);
+    return this.nextLine();
+  }
+
+  nextLine() {
+    const bytes = encode(this.lines[0]), most = this.machine.field("asked");
+    if (bytes.length > most) {
+      this.drop(`a line here has at most ${most} characters, and this one has ${bytes.length}`);
+      return new Uint8Array(0);
+    }
+    this.lines.shift();
+    this.view.begun(this.machine.returns.length > this.places.depth);
+    this.echo = bytes.length;
+    // A line as long as was asked for ends without a return.
+    return bytes.length < most ? Uint8Array.from([...bytes, 10]) : bytes;
+  }
+
+  // Goes on until a person is needed. After each slice of time the page draws and takes events.
+  async go() {
+    if (this.isRunning) return;
+    this.isRunning = true;
+    this.view.changed();
+    let since = performance.now(), typed = new Uint8Array(0), kept = since;
+    while (typed) {
+      typed = this.advance(typed);
+      if (performance.now() - since < SLICE) continue;
+      await pause();
+      since = performance.now();
+      this.view.looks();
+      if (this.wish) break;
+      if (this.isStopped) this.interrupt();
+      if (since - kept > LONG) {
+        kept = since;
+        this.view.keeps();
+      }
+    }
+    this.end();
+  }
+
+  // One call of the machine, and what it asks for; the bytes that come next, or null where a person is needed.
+  advance(typed) {
+    const began = performance.now(), ended = this.machine.run(typed, this.ticks);
+    this.show(ended.shown);
+    if (ended.stop === STOP.BLOCK) this.serve();
+    else if (ended.stop === STOP.HALTED) this.restart();
+    else if (ended.stop === STOP.LIMIT) this.measure(performance.now() - began);
+    else if (ended.stop === STOP.TYPED) return this.feed();
+    return typed.subarray(ended.read);
+  }
+
+  feed() {
+    this.places.depth ??= this.machine.returns.length;
+    if (this.look()) this.drop("there was a fault");
+    const typed = this.next();
+    return typed.length ? typed : null;
+  }
+
+  end() {
+    this.isRunning = false;
+    this.isStopped = false;
+    const { wish } = this;
+    this.wish = null;
+    if (wish) wish();
+    this.view.changed();
+  }
+
+  // As many ticks in one call as take a slice of time.
+  measure(took) {
+    this.ticks = Math.round(Math.min(20e6, Math.max(10000, this.ticks * Math.min(2, SLICE / Math.max(took, 0.5)))));
+  }
+
+  // Whether something has to wait until the run has stopped. It doesn't need BREAK, which may be gone where memory was overwritten.
+  waits(wish) {
+    if (!this.isRunning) return false;
+    this.drop("");
+    this.wish = wish;
+    return true;
+  }
+
+  // What is shown begins with the line that was typed.
+  show(bytes) {
+    const echo = Math.min(this.echo || 0, bytes.length);
+    if (echo) this.view.show(bytes.subarray(0, echo), true);
+    this.echo -= echo;
+    if (bytes.length > echo) this.view.show(bytes.subarray(echo), false);
+  }
+
+  interrupt() {
+    this.isStopped = false;
+    if (this.machine.asks === ASKS.NOTHING && !this.machine.halted) this.machine.enter(this.places.break);
+  }
+
+  serve() {
+    const block = this.machine.field("asked");
+    if (block >= this.disk.count) this.machine.answerFailed();
+    else if (this.machine.asks === ASKS.READ) this.machine.answerRead(this.disk.page(block));
+    else this.write(block, this.machine.answerWritten());
+  }
+
+  write(block, page) {
+    this.disk.put(block, page);
+    this.saved = null;
+  }
+
+  // Looks whether a fault was reported since the last look, and whether the Forth asks for the editor or for a line to be typed anew.
+  look() {
+    const notes = this.notes, isFault = notes.faults !== this.faults, retyped = this.machine.cell(this.places.retyped);
+    this.faults = notes.faults;
+    if (isFault) this.view.fault(notes);
+    if (notes.edits) {
+      this.machine.setCell(this.places.notes + NOTES.edits, 0);
+      this.view.edit(this.machine.cell(SYSTEM.scr));
+    }
+    if (retyped) {
+      this.machine.setCell(this.places.retyped, 0);
+      this.view.retype(this.machine.cell(SYSTEM.scr), retyped - 1);
+    }
+    return isFault;
+  }
+
+  // BYE, or a fault that nothing handles: changed screens are kept, and a new machine starts.
+  restart() {
+    this.drop("the Forth had ended");
+    this.settle();
+    this.faults = 0;
+    this.machine.load(this.image, this.disk.count);
+    this.view.note("The Forth ended and started again: its words are gone, the screens are kept.");
+  }
+
+  // What is shown of a block, and edited: the bytes of its buffer, if one has it.
+  page(block) {
+    const buffer = this.machine.buffers.find((one) => one.block === block);
+    return buffer ? buffer.bytes : this.disk.page(block);
+  }
+
+  // Puts a block's bytes where the disk and the machine have them.
+  put(block, page) {
+    const what = `screen ${block}`;
+    if (this.undos.length === 0 || this.undos[this.undos.length - 1].what !== what) this.remember(what);
+    this.page(block).set(page);
+    this.write(block, page);
+  }
+
+  // Writes changed buffers to the disk.
+  settle() {
+    for (const buffer of this.machine.buffers) {
+      if (buffer.updated && buffer.block < this.disk.count) this.write(buffer.block, buffer.bytes);
+      if (buffer.updated) this.machine.settle(buffer);
+    }
+  }
+
+  // Another disk is put in; the machine and its words stay.
+  change(disk) {
+    this.settle();
+    for (const buffer of this.machine.buffers) this.machine.release(buffer);
+    this.disk = disk;
+    this.saved = null;
+    this.machine.blockCount = disk.count;
+    this.view.changed();
+  }
+
+  // Keeps all as it is, for Undo: before a line, and before a screen is edited. States with the same disk share one copy of it.
+  remember(what) {
+    this.saved ??= this.disk.bytes.slice();
+    this.undos.push({ what, record: this.machine.copy(), disk: this.disk, bytes: this.saved, mark: this.view.mark(), faults: this.faults });
+    if (this.undos.length > UNDOS) this.undos.shift();
+  }
+
+  // All is as before the last line that was typed, or the last screen that was edited.
+  undo() {
+    if (!this.undos.length || this.waits(() => this.undo())) return;
+    const before = this.undos.pop();
+    this.machine.restore(before.record);
+    this.disk = before.disk;
+    this.disk.bytes = before.bytes.slice();
+    this.saved = before.bytes;
+    this.faults = before.faults;
+    this.view.back(before.mark);
+    this.view.changed();
+  }
+}
+
+// Lets the page draw and take events; a timer would wait some milliseconds.
+let channel = null, goesOn = null;
+function pause() {
+  if (!channel) {
+    channel = new MessageChannel();
+    channel.port1.onmessage = () => goesOn();
+  }
+  return new Promise((resolve) => {
+    goesOn = resolve;
+    channel.port2.postMessage(0);
+  });
+}

@@ -1,0 +1,31 @@
+"""The canvas of examples/draw.txt: 320 by 200 points of 16 colors, in 32 blocks, as a picture file."""
+import struct
+import zlib
+from typing import List, Tuple
+
+WIDTH, HEIGHT, PAGE, BLOCKS, FIRST = 320, 200, 1024, 32, 96
+# Black, the dark colors, and the light ones up to white, as color displays of the eighties had them.
+PALETTE: List[Tuple[int, int, int]] = [
+    (0, 0, 0), (0, 0, 170), (0, 170, 0), (0, 170, 170), (170, 0, 0), (170, 0, 170), (170, 85, 0), (170, 170, 170),
+    (85, 85, 85), (85, 85, 255), (85, 255, 85), (85, 255, 255), (255, 85, 85), (255, 85, 255), (255, 255, 85), (255, 255, 255),
+]
+
+
+def chunk(kind: bytes, content: bytes) -> bytes:
+    """A part of a PNG file."""
+    return struct.pack(">I", len(content)) + kind + content + struct.pack(">I", zlib.crc32(kind + content))
+
+
+def png(canvas: bytes) -> bytes:
+    """The canvas as a PNG file, whose points have four bits as here: each row follows a byte that says that it is as it is."""
+    row = WIDTH // 2
+    rows = b"".join(b"\0" + canvas[at:at + row] for at in range(0, row * HEIGHT, row))
+    head = struct.pack(">IIBBBBB", WIDTH, HEIGHT, 4, 3, 0, 0, 0)
+    colors = b"".join(bytes(color) for color in PALETTE)
+    return (b"\x89PNG\r\n\x1a\n" + chunk(b"IHDR", head) + chunk(b"PLTE", colors) + chunk(b"IDAT", zlib.compress(rows, 9)) + chunk(b"IEND", b""))
+
+
+def canvas_of(blocks: bytes, first: int) -> bytes:
+    """The canvas that begins at a block, or no bytes where the file ends before its end."""
+    content = blocks[first * PAGE:(first + BLOCKS) * PAGE]
+    return content if len(content) == BLOCKS * PAGE else b""

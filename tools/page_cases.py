@@ -1,0 +1,262 @@
+"""Cases of the parts of page/ that need no program, with results that were worked out by hand; and pages that are handed out."""
+import json
+import pathlib
+import re
+import shutil
+import subprocess
+import sys
+import tempfile
+import zlib
+from typing import Callable, List
+
+from page_trials import Cases, Trial
+
+ROOT = pathlib.Path(__file__).resolve().parent.parent
+PAGE = ROOT / "page"
+sys.path.insert(0, str(PAGE))
+
+import assembly  # noqa: E402
+import contents  # noqa: E402
+import records  # noqa: E402
+import retarget  # noqa: E402
+
+LAYOUT = "e-m:e-p:32:32"
+# Lines of a module, and what they become for 32 bits.
+NARROWED = [
+    ("  %r1 = alloca ptr, align 8", ["  %r1 = alloca i64, align 8"]),
+    ("  store ptr %a0, ptr %r1, align 8", ["  %narrow.1 = ptrtoint ptr %a0 to i64", "  store i64 %narrow.1, ptr %r1, align 8"]),
+    ('  store ptr @"a, b::<c>", ptr %r1, align 8', ['  %narrow.1 = ptrtoint ptr @"a, b::<c>" to i64', "  store i64 %narrow.1, ptr %r1, align 8"]),
+    ("  %r2 = load ptr, ptr %r1, align 8, !noundef !1",
+     ["  %narrow.1.number = load i64, ptr %r1, align 8", "  %r2 = inttoptr i64 %narrow.1.number to ptr"]),
+    ("  %r4 = ptrtoaddr ptr %r3 to i64", ["  %r4 = ptrtoint ptr %r3 to i64"]),
+    ("  %r5 = load i64, ptr %r4, align 8, !range !2", ["  %r5 = load i64, ptr %r4, align 8, !range !2"]),
+    ('  %r6 = call i8 @"forth83_c::running::load"(ptr %r12, i64 %r18)', ['  %r6 = call i8 @"forth83_c::running::load"(ptr %r12, i64 %r18)']),
+    ("  %r7 = load { ptr, i64 }, ptr %r6, align 8",
+     ["  %narrow.1.at = getelementptr i8, ptr %r6, i64 8", "  %narrow.1.a.number = load i64, ptr %r6, align 8",
+      "  %narrow.1.a = inttoptr i64 %narrow.1.a.number to ptr", "  %narrow.1.b = load i64, ptr %narrow.1.at, align 8",
+      "  %narrow.1.one = insertvalue { ptr, i64 } poison, ptr %narrow.1.a, 0",
+      "  %r7 = insertvalue { ptr, i64 } %narrow.1.one, i64 %narrow.1.b, 1"]),
+]
+# Lines that might count on pointers of 8 bytes, or that nobody has looked at.
+REFUSED = [
+    "  %r1 = load { i8, [2 x ptr] }, ptr %r0, align 8",
+    "  store { ptr, i64 } %r0, ptr %r1, align 8",
+    "  %r1 = alloca [2 x ptr], align 8",
+    "  %r1 = alloca { i64, ptr }, align 8",
+    "  %r1 = getelementptr ptr, ptr %r0, i64 1",
+    "  %r1 = getelementptr { i64, ptr }, ptr %r0, i64 1",
+    "  %r1 = load volatile ptr, ptr %r0, align 8",
+    "  %r1 = atomicrmw add ptr %r0, i64 1 seq_cst",
+    "  %r1 = va_arg ptr %r0, i64",
+    "  %r1 = call ptr @llvm.ptrmask.p0.i64(ptr %r0, i64 7)",
+    "  %r1 = load ptr, ptr %r0",
+    "@table = private constant [2 x ptr] [ptr @a, ptr @b]",
+    "@table = global i64 0",
+    "module asm \"nop\"",
+]
+
+
+def rewritten(line: str) -> List[str]:
+    return list(retarget.rewritten([line], LAYOUT, "wasm32"))
+
+
+def check_retarget(cases: Cases) -> None:
+    """The lines that are rewritten, kept and refused."""
+    for line, wanted in NARROWED:
+        cases.must(rewritten(line) == wanted, f"retarget: {line} became {rewritten(line)}")
+    for line in REFUSED:
+        try:
+            told = str(rewritten(line))
+        except retarget.Unknown as error:
+            told = f"refused: {error}"
+        cases.must(told.startswith("refused: ") and line.strip() in told, f"retarget doesn't refuse {line}: {told}")
+    cases.must(rewritten('target datalayout = "e-i64"') == [f'target datalayout = "{LAYOUT}"'], "the layout")
+    cases.must(rewritten('attributes #0 = { nounwind sanitize_address "frame-pointer"="all" }') == ["attributes #0 = { nounwind }"], "attributes")
+    cases.must(rewritten("declare void @rattle_dealloc(ptr noundef) #2") == [], "the heap's declarations")
+    program = ['define i32 @main() #0 {', '  ret i32 0', '}', 'define internal noundef i32 @"c::forth83_run"(ptr %a0) #0 {', "}"]
+    kept = [retarget.rename(line, "c::") for line in retarget.without_main(program, "c::")]
+    cases.must(kept == ["define noundef i32 @forth83_run(ptr %a0) #0 {", "}"], f"the exports: {kept}")
+
+
+RECORDS = """pub struct Small {
+    pub one: u8,
+    pub two: u16,
+}
+
+pub struct Big {
+    pub count: u32,
+    pub smalls: [Small; 3],
+    pub end: usize,
+}
+"""
+CALLS = 'pub extern "C" fn forth83_go(alloc: Global, big: &mut Big, text: &[u8], n: u16) -> u32\n'
+
+
+def check_records(cases: Cases) -> None:
+    """Records by the rules of C, and what calls want."""
+    with tempfile.TemporaryDirectory() as name:
+        (pathlib.Path(name) / "src").mkdir()
+        (pathlib.Path(name) / "src/record.rt").write_text(RECORDS, encoding="utf-8")
+        (pathlib.Path(name) / "src/lib.rt").write_text(CALLS, encoding="utf-8")
+        found, calls = records.records(pathlib.Path(name)), records.calls(pathlib.Path(name))
+    cases.must(found["Small"].size == 4 and [it.place for it in found["Small"].fields] == [0, 2], f"Small: {found['Small']}")
+    cases.must(found["Big"].size == 24 and [it.place for it in found["Big"].fields] == [0, 4, 16], f"Big: {found['Big']}")
+    wanted = "record::Big { count: 0, smalls: [record::Small { one: 0, two: 0 }; 3], end: 0 }"
+    cases.must(records.zero("Big", found) == wanted, f"zeros: {records.zero('Big', found)}")
+    cases.must(calls == [records.Call("forth83_go", ["Global", "&mut Big", "&[u8]", "u16"])], f"calls: {calls}")
+
+
+LESSONS = """# A course
+
+## 1. First `lines`
+
+Text with **weight**
+and [a link](X.md).
+
+```
+$ ./forth course.blk
+> 1 LOAD
+ready ok
+> 3 4 + .
+7  ok
+$ ./forth film SQUARES '5 SQUARES'
+made
+> BYE
+```
+"""
+FIRST = ('<h2>1. First <code>lines</code></h2><p>Text with <strong>weight</strong> and a link.</p><div class="typing">'
+         '<button type="button" data-line="3 4 + .">3 4 + .</button><pre>7  ok</pre>'
+         '<button type="button" data-film="5 SQUARES">▶ the steps of 5 SQUARES</button></div>')
+WORDS = """### 1. The data stack
+
+| `DUP` | `( x -- x x )` |  | Copies the `top`. |
+| `INSIDE` | `( -- )` |  | For others. |
+
+### 19. A line by KEY, at a terminal
+
+| `STROKE` | `( k -- )` |  | One key. |
+"""
+
+
+def check_contents(cases: Cases) -> None:
+    """The lessons and the manual."""
+    made = contents.lessons(LESSONS)
+    cases.must(made == [{"number": 1, "title": "1. First `lines`", "disk": "course.blk", "screen": 21, "html": FIRST}], f"a lesson: {made}")
+    words = contents.manual(WORDS, ": INNER1 ( -- ) INSIDE\n  OTHER ;")
+    cases.must(words == [["DUP", "( x -- x x )", "The data stack", "Copies the <code>top</code>."]], f"the manual: {words}")
+    block = "% AT".ljust(64) + " " * 64 + "B".ljust(896)
+    cases.must(contents.disk_of_blocks((" " * 1024 + block).encode()) == {"count": 2, "text": "% screen 1\n%% AT\n\nB\n"}, "a disk of text")
+    cases.must(contents.disk_of_blocks(bytes(1024)) == {"bytes": "A" * 1366 + "=="}, "a disk of zeros")
+    cases.must(len(contents.lessons(contents.text_of("docs/COURSE.md"))) >= 12, "the course has fewer than twelve lessons")
+
+
+def check_canvas(cases: Cases) -> None:
+    """A picture file has the rows of the canvas, and the palette; a file without a whole canvas has none."""
+    blocks = bytes(1024) + b"\xf4" + bytes(32 * 1024 - 1)
+    content = contents.canvas.canvas_of(blocks, 1)
+    picture = contents.canvas.png(content)
+    at = picture.index(b"IDAT")
+    rows = zlib.decompress(picture[at + 4:at + 4 + int.from_bytes(picture[at - 4:at], "big")])
+    cases.must(len(rows) == 200 * 161 and rows[:3] == b"\0\xf4\0" and rows[161] == 0, f"the rows of a picture: {rows[:4]!r}")
+    cases.must(picture[16:24] == bytes([0, 0, 1, 64, 0, 0, 0, 200]) and picture[24:26] == b"\4\3", "the head of a picture")
+    palette = picture[picture.index(b"PLTE") + 4:]
+    cases.must(palette[:3] == bytes(3) and palette[45:48] == b"\xff" * 3, "the palette of a picture")
+    cases.must(contents.canvas.canvas_of(blocks, 2) == b"", "a canvas after the end of the file")
+
+
+def check_assembly(cases: Cases) -> None:
+    """The modules in one script: each after those that it imports, with no name twice; data that can't end the script."""
+    order = assembly.in_order("main.js", [])
+    cases.must(set(order) == {file.name for file in PAGE.glob("*.js")}, f"modules that main.js doesn't use: {order}")
+    for at, name in enumerate(order):
+        later = [it for it in assembly.IMPORT.findall(assembly.text_of(name)) if it not in order[:at]]
+        cases.must(not later, f"{name} comes before {later}")
+    script = assembly.bundle()
+    names = re.findall(r"^(?:async )?(?:function\*?|class) (\w+)", script, re.M)
+    for line in re.findall(r"^(?:const|let) .*(?:,\n .*)*", script, re.M):
+        names += re.findall(r"(?:^const |^let |, |\n *)(\w+) = ", line)
+    cases.must(len(names) == len(set(names)), f"names twice: {sorted({it for it in names if names.count(it) > 1})}")
+    cases.must(not re.search(r"^(import|export)\b", script, re.M), "imports or exports are left")
+    text = assembly.page({"text": "</script><!--"}, {"TITLE": "A & B", "VERSION": "v", "SHA256": "s", "PROVED": "p"})
+    cases.must("</script><!--" not in text and "<title>A &amp; B</title>" in text, "the data end the script")
+    cases.must("{{" not in re.sub(r"<script>.*</script>", "", text, flags=re.S), "a place of the template isn't filled")
+
+
+# Node runs the modules that need no browser.
+NODE = """
+import { linesOf, pageOf, screensOf, textOf, search, Disk } from "./disk.js";
+import { Terminal } from "./terminal.js";
+const told = [];
+const disk = Disk.ofText("d", 2, "% screen 1\\n( T )\\n%~~C3~A4~7E\\n%%x\\n");
+told.push(linesOf(disk.page(1)).slice(0, 3), textOf(disk));
+told.push(pageOf(["x".repeat(65)]).wrong, pageOf(Array(17).fill("y")).wrong, screensOf("x\\n").wrong, screensOf("% screen 70000\\n").wrong,
+  screensOf("% screen 1\\n%~~A\\n").wrong);
+told.push(search(2, (block) => disk.page(block), "t )"));
+const terminal = new Terminal();
+terminal.take("lost\\x1b[2J\\x1b[2;3HAB\\x1b[1");
+terminal.take(";1HC\\n\\x1b[KD\\x1b[10CE");
+told.push(terminal.text());
+console.log(JSON.stringify(told));
+"""
+TOLD = [["( T )", "\u00e4~", "%x"], "% screen 0\n% screen 1\n( T )\n%~~C3~A4~7E\n%%x\n", "line 0 has 65 characters; 64 fit",
+        "a screen has 16 lines, and this one has 17", "line 1 of the file is no line of a screen: x",
+        "line 1 of the file: screens have numbers from 0 to 65535",
+        "line 2 of the file has a ~ without two digits, 0 to 9 and A to F", [{"block": 1, "line": 0, "column": 2, "text": "( T )"}],
+        "C\nD          E\n"]
+
+
+def check_modules(cases: Cases) -> None:
+    """The modules of the page that need no browser, in node."""
+    node = shutil.which("node")
+    if not node:
+        print("check-page: there is no node here; the page's modules are tried in the browser alone")
+        return
+    with tempfile.TemporaryDirectory() as name:
+        for file in PAGE.glob("*.js"):
+            shutil.copy(file, pathlib.Path(name) / file.name)
+        (pathlib.Path(name) / "package.json").write_text('{"type": "module"}', encoding="utf-8")
+        (pathlib.Path(name) / "case.mjs").write_text(NODE, encoding="utf-8")
+        done = subprocess.run([node, pathlib.Path(name) / "case.mjs"], capture_output=True, text=True, check=False)
+    got = json.loads(done.stdout) if done.returncode == 0 else done.stderr
+    cases.must(got == TOLD, f"the modules in node: {got}")
+
+
+def check(cases: Cases) -> None:
+    """All that needs no program."""
+    for part in (check_retarget, check_records, check_contents, check_canvas, check_assembly, check_modules):
+        part(cases)
+
+
+LESSON = """% screen 1
+2 LOAD
+% screen 2
+: GREETING ( -- ) ." Good morning" CR ;
+: CHECK ( n -- ) DUP 20 + LOAD 5 = IF ." five " THEN . ;
+% screen 21
+( Lesson 1: numbers <5> )
+( leave a 5 )
+5
+"""
+
+
+def check_handed_out(trial: Trial, program: pathlib.Path, room: pathlib.Path, make: Callable[..., None]) -> None:
+    """A page with a disk of its own, that starts with a word; its work doesn't mix with that of other pages."""
+    (room / "lesson.txt").write_text(LESSON, encoding="ascii")
+    for words in (["new", room / "lesson.blk", "64"], ["screens", room / "lesson.txt", room / "lesson.blk"]):
+        subprocess.run([program, *words], check=True, stdout=subprocess.DEVNULL)
+    make(room / "lesson.html", room / "lesson.blk", "--start", "GREETING", "--title", "A lesson")
+    own = Trial(trial.browser, room / "lesson.html", trial.cases)
+    own.open()
+    own.must("1 LOAD  ok\nGREETING Good morning\n ok" in own.shown(), f"a page with --start shows {own.shown()!r}")
+    own.must(own.value("page.course.lesson.title") == "1. numbers <5> (lesson.blk)", "a lesson of its own")
+    own.must("leave a 5Your screen is 21" in own.text("course-text"), f"its text: {own.text('course-text')!r}")
+    own.value("document.getElementById('course-check').click()")
+    own.idle()
+    own.must("1 CHECK five 1  ok" in own.shown(), f"its CHECK: {own.shown()[-60:]!r}")
+    own.must(own.value("document.title + ' ' + page.session.disk.name") == "A lesson lesson.blk", "its title and disk")
+    own.type(": MINE 5 ;")
+    own.open()
+    own.must("5  ok" in own.type("MINE ."), "its work is gone after a reload")
+    own.must(own.shown().count("Good morning") == 1, "it starts anew after a reload")
+    trial.open()
+    trial.must("Good morning" not in trial.shown(), "two pages have one work")

@@ -1,0 +1,62 @@
+"""Compares the page's films with what `forth83 debug` writes: each step's place and both stacks."""
+import base64
+import json
+import pathlib
+import shutil
+import subprocess
+from typing import List
+
+import page_modules
+from page_trials import Trial, squeezed
+
+SCREEN = 30
+# A word, its source, and a line with it: loops, recursion, DOES>, choices, a fault, blocks.
+WORDS = [
+    ("SQUARES", ": SQUARES ( n -- ) 0 ?DO I DUP * . LOOP ;", "5 SQUARES"),
+    ("GCD", ": GCD ( a b -- c ) BEGIN ?DUP WHILE SWAP OVER MOD REPEAT ;", "54 24 GCD ."),
+    ("DOUBLINGS", ": DOUBLINGS ( n -- ) 1 SWAP 0 ?DO DUP . 2* LOOP DROP ;", "6 DOUBLINGS"),
+    ("PARITY", ': PARITY ( n -- ) 2 MOD IF ." odd " ELSE ." even " THEN ;', "7 PARITY 10 PARITY"),
+    ("UNIT", ": UNIT ( n -- ) CREATE , DOES> @ * ;", "10 UNIT CM 5 CM ."),
+    ("FIB", ": FIB DUP 1 > IF DUP 1- RECURSE SWAP 2- RECURSE + THEN ;", "6 FIB ."),
+    ("BAD", ": BAD ( -- ) 3 0 DO I 1- 10 SWAP / . LOOP ;", "BAD"),
+    ("SHOW", ": SHOW ( n -- ) DUP BLOCK 16 TYPE DROP ;", "30 SHOW"),
+]
+STEPS = """page.film.made.filter((one) => one.word.name === %s)
+  .map((one) => one.ip + " | " + one.values.map(signed).join(" ") + " | " + one.returns.join(" "))"""
+
+
+def debugged(program: pathlib.Path, image: pathlib.Path, kernel: pathlib.Path, room: pathlib.Path, word, source: str, line: str) -> List[str]:
+    """The steps as the program writes them, over the page's own image."""
+    blocks, text, own = room / "film.blk", room / "film.txt", room / "film.img"
+    text.write_text(f"% screen {SCREEN}\n{source}\n", encoding="ascii")
+    shutil.copy(kernel, blocks)
+    for words in (["screens", text, blocks], ["load", image, blocks, SCREEN, SCREEN, own]):
+        page_modules.run([program, *words])
+    subprocess.run([program, "debug", own, word, room / "film.steps", blocks], input=(line + "\n").encode(), stdout=subprocess.DEVNULL, check=False)
+    steps = (room / "film.steps").read_text(encoding="ascii").splitlines()
+    return [squeezed(one.split(None, 1)[0] + " |" + one.split("|", 1)[1]) for one in steps]
+
+
+def filmed(trial: Trial, word: str, source: str, line: str) -> List[str]:
+    """The steps that the page shows."""
+    trial.value("page.session.start(page.files.builtIn('forth.blk')); 0")
+    trial.idle()
+    trial.value(f"page.session.put({SCREEN}, pageOf([{json.dumps(source)}]).page); page.enter('{SCREEN} LOAD'); 0")
+    trial.idle()
+    trial.value(f"page.film.last = null; page.film.make({json.dumps(line)}); 0")
+    trial.wait("!!page.film.last", 20)
+    return [squeezed(one) for one in trial.value(STEPS % json.dumps(word))]
+
+
+def check(trial: Trial, program: pathlib.Path, room: pathlib.Path) -> int:
+    """Films of all the words: how many steps were compared."""
+    trial.open()
+    image, kernel, count = room / "page.img", room / "kernel.blk", 0
+    image.write_bytes(base64.b64decode(trial.value("DATA.image")))
+    page_modules.run([program, "kernel", kernel])
+    for word, source, line in WORDS:
+        wanted, got = debugged(program, image, kernel, room, word, source, line), filmed(trial, word, source, line)
+        differ = [pair for pair in zip(wanted, got) if pair[0] != pair[1]]
+        trial.must(len(wanted) > 3 and wanted == got, f"the film of {word}: {len(wanted)} steps wanted, {len(got)} got, first {differ[:1]}")
+        count += len(wanted)
+    return count

@@ -1,0 +1,489 @@
+"""Tries the page in a headless Chromium, as a person would: by keys, clicks, files and reloads."""
+import base64
+import json
+import pathlib
+import re
+import subprocess
+import sys
+import time
+from typing import List
+
+import browser as browsers
+
+PASTE = ("{ const data = new DataTransfer(); data.setData('text', %s); document.getElementById('line').dispatchEvent("
+         "new ClipboardEvent('paste', { clipboardData: data, bubbles: true, cancelable: true })) }")
+NAMED = ("button", "textbox", "combobox", "listbox", "slider", "spinbutton", "tab", "tabpanel", "log", "checkbox", "searchbox")
+TABS = ("screens", "disk", "course", "film", "map", "canvas", "words", "help")
+CONTROL = 2
+
+
+class Cases:
+    """Counts what is right, and reports what is wrong."""
+
+    def __init__(self) -> None:
+        self.right = self.wrong = 0
+
+    def must(self, is_so: object, what: str) -> None:
+        if is_so:
+            self.right += 1
+        else:
+            self.wrong += 1
+            print(f"check-page: {what}", file=sys.stderr, flush=True)
+
+
+class Trial:
+    """A browser with the page."""
+
+    def __init__(self, browser: browsers.Browser, page: pathlib.Path, cases: Cases) -> None:
+        self.browser, self.page, self.cases = browser, page, cases
+        self.must = cases.must
+
+    def value(self, expression: str):
+        return self.browser.value(expression)
+
+    def wait(self, expression: str, seconds: float = 10) -> bool:
+        until = time.time() + seconds
+        while time.time() < until:
+            if self.value(expression):
+                return True
+            time.sleep(0.02)
+        return False
+
+    def idle(self, seconds: float = 10) -> bool:
+        return self.wait("page.session.waitsForLine || page.session.waitsForKey", seconds)
+
+    def open(self) -> None:
+        self.browser.open(self.page)
+        self.must(self.wait("!!(window.page && page.isKeeping && page.session.waitsForLine)"), "the page doesn't start")
+
+    def keys(self, text: str) -> None:
+        self.value("document.getElementById('line').focus()")
+        self.browser.call("Input.insertText", text=text)
+
+    def enter(self, line: str) -> None:
+        self.keys(line)
+        self.press("Enter", 13, text="\r")
+
+    def type(self, line: str) -> str:
+        """Types a line, waits for its end, and gives what was shown since."""
+        self.enter(line)
+        self.idle()
+        shown = self.shown()
+        return shown[max(0, shown.rfind(line.strip())):]
+
+    def press(self, key: str, code: int, modifiers: int = 0, text: str = "") -> None:
+        words = {"key": key, "code": key, "windowsVirtualKeyCode": code, "modifiers": modifiers}
+        if text:
+            words["text"] = text
+        self.browser.call("Input.dispatchKeyEvent", type="keyDown" if text else "rawKeyDown", **words)
+        self.browser.call("Input.dispatchKeyEvent", type="keyUp", **words)
+
+    def shown(self) -> str:
+        return self.value("page.transcript.text()")
+
+    def text(self, name: str) -> str:
+        return self.value(f"document.getElementById('{name}').textContent")
+
+    def click(self, name: str) -> None:
+        self.wait(f"!document.getElementById('{name}').disabled", 15)
+        self.value(f"document.getElementById('{name}').click()")
+
+    def file(self, name: str, content: str) -> None:
+        """Opens a file whose content is this expression."""
+        self.value(f"window.opened = false; page.files.open(new File([{content}], {json.dumps(name)})).then(() => (window.opened = true)); 0")
+        self.wait("window.opened")
+        self.idle()
+
+    def screens(self) -> str:
+        return self.value("textOf(page.session.disk)")
+
+
+def lines(trial: Trial) -> None:
+    """Lines, faults, the stack, history, SEE and F1."""
+    trial.must("7  ok" in trial.type("3 4 + ."), "3 4 + .")
+    trial.type(": squares 0 ?do i dup * . loop ;")
+    trial.must("0 1 4 9 16  ok" in trial.type("5 squares"), "a definition in small letters")
+    fault = trial.type("1 0 /")
+    trial.must("division by 0" in fault and "(fault 5) at /" in fault, f"a fault: {fault!r}")
+    trial.must(trial.value("document.querySelectorAll('#transcript .fault').length") == 1, "a fault isn't colored")
+    trial.type("1 2 3")
+    trial.must(trial.wait("document.getElementById('stack').textContent === '1 2 3'", 15), f"the stack: {trial.text('stack')!r}")
+    trial.must(": squares" in trial.type("see squares"), "SEE")
+    trial.must("proved" in trial.type("version") and "page" in trial.type("VERSION"), "VERSION")
+    for key, code, wanted in (("ArrowUp", 38, "VERSION"), ("ArrowUp", 38, "version"), ("ArrowDown", 40, "VERSION"), ("ArrowDown", 40, "")):
+        trial.press(key, code)
+        got = trial.value("document.getElementById('line').value")
+        trial.must(got == wanted, f"{key}: {got!r} in place of {wanted!r}")
+    trial.must("at most 127 characters" in trial.type("1 " * 70), "a line that is too long")
+    trial.keys("5 swap")
+    trial.press("F1", 112)
+    found = trial.value("document.body.dataset.tab + ' ' + document.querySelector('#words-table button').textContent")
+    trial.must(found == "words SWAP", f"F1 explains {found!r}")
+    trial.value("document.getElementById('line').value = ''; 0")
+    trial.must("The tab Words explains it.\n ok" in trial.type("help dup"), "HELP with a word")
+    found = trial.value("document.body.dataset.tab + ' ' + document.querySelector('#words-table button').textContent")
+    trial.must(found == "words DUP", f"HELP explains {found!r}")
+    trial.value(PASTE % json.dumps(": P1 1 ;\n: P2 2 ;\nP1 P2 + .\n"))
+    trial.idle()
+    trial.must("P1 P2 + . 3  ok" in trial.shown(), "a paste of lines")
+    trial.value(PASTE % json.dumps("1 .\nNOWORD\n2 .\n3 .\n"))
+    trial.idle()
+    trial.must("2 more lines were not interpreted" in trial.shown(), "a fault in a paste")
+
+
+def stops(trial: Trial) -> None:
+    """Loops, floods of output and loops over blocks: the page answers, and Stop ends them."""
+    for program, what in ((": L BEGIN AGAIN ; L", "a loop"), (": F BEGIN 42 EMIT AGAIN ; F", "a flood"),
+                          (": Z BEGIN FLUSH 1 BLOCK DROP AGAIN ; Z", "a loop over blocks"), (": C BEGIN CR 1 . AGAIN ; C", "a flood of lines")):
+        trial.enter(program)
+        time.sleep(0.4)
+        before = time.time()
+        trial.must(trial.value("page.session.isRunning") and time.time() - before < 2, f"{what} doesn't run, or the page doesn't answer")
+        trial.press("Escape", 27) if what == "a loop" else trial.click("stop")
+        trial.must(trial.idle(15) and "interrupted" in trial.shown(), f"{what} isn't stopped")
+        trial.must(len(trial.shown()) < 80000, f"the output of {what} isn't cut")
+        trial.must("0 1 4 9 16  ok" in trial.type("5 squares"), f"words after {what}")
+
+
+def undo(trial: Trial) -> None:
+    """Undo gives back what a line has forgotten, or overwritten, even where BREAK is gone."""
+    trial.type("FORGET squares 99")
+    trial.click("undo")
+    trial.must("0 1 4  ok" in trial.type("3 squares"), "Undo of FORGET")
+    for spoils in ("256 65000 255 FILL", "0 65000 0 FILL", "40 0 OVER ! 16 30 65 FILL", "' OUTER 2 - 300 0 FILL 1 0 /"):
+        trial.enter(spoils)
+        time.sleep(0.3)
+        trial.value("document.getElementById('stop').click()")
+        time.sleep(0.1)
+        trial.click("undo")
+        trial.must(trial.idle(15), f"Undo of {spoils}")
+        trial.must("0 1 4 9 16  ok" in trial.type("5 squares"), f"words after Undo of {spoils}")
+
+
+def questions(trial: Trial) -> None:
+    """KEY and EXPECT, and Stop at both."""
+    trial.enter("KEY . KEY .")
+    trial.must(trial.wait("page.session.waitsForKey"), "KEY doesn't wait")
+    trial.keys("A")
+    trial.wait("page.session.waitsForKey")
+    trial.press("ArrowUp", 38)
+    trial.idle()
+    trial.must("65 27" in trial.shown(), f"keys: {trial.shown()[-40:]!r}")
+    trial.type("CREATE B 20 ALLOT")
+    trial.enter("B 10 EXPECT SPAN @ . B SPAN @ TYPE")
+    trial.wait("page.session.waitsForAnswer")
+    trial.must("hello 5 hello" in trial.type("hello") or "hello 5 hello" in trial.shown(), "EXPECT")
+    for program, asked in (("KEY", "page.session.waitsForKey"), (": ASK PAD 10 EXPECT 99 . ; ASK", "page.session.waitsForAnswer")):
+        trial.enter(program)
+        trial.must(trial.wait(asked), f"{program} doesn't ask")
+        trial.click("stop")
+        trial.must(trial.wait("page.session.waitsForLine && !page.session.waitsForAnswer", 15), f"Stop at {program}")
+        trial.must(trial.shown().endswith("interrupted\n"), f"what Stop at {program} shows: {trial.shown()[-40:]!r}")
+
+
+def cursor(trial: Trial) -> None:
+    """A program that moves the cursor has a screen of its own."""
+    trial.type(': PLACES 27 EMIT ." [2J" 10 5 AT ." HERE" 2 1 AT ." UP" 0 7 AT ;')
+    trial.type("PLACES")
+    rows = trial.value("[...document.querySelectorAll('#transcript .screen')].pop().textContent").split("\n")
+    places = [(number, row.index(word)) for word in ("UP", "HERE") for number, row in enumerate(rows) if word in row]
+    trial.must(len(places) == 2 and places[0][0] < places[1][0] and places[1][1] - places[0][1] == 8, f"AT: {rows}")
+    trial.must("7  ok" in trial.type("3 4 + ."), "a line after AT")
+    trial.must(not trial.shown().endswith("UP"), "the next line is on the program's screen")
+
+
+def editor(trial: Trial) -> None:
+    """The editor of screens: LOAD, the mark of a fault, PUT, EDIT, RETYPE, lines that are too long, the index and the search."""
+    trial.value("page.tab('screens'); page.editor.go(30); document.getElementById('screen-text').focus()")
+    trial.browser.call("Input.insertText", text="( Stars )\n: STARS ( n -- ) 0 DO 42 EMIT LOOP ;\n: ROWS ( n -- ) 0 DO CR I 1+ STARS LOP ;\n")
+    trial.press("Enter", 13, CONTROL)
+    trial.wait("!!document.querySelector('#screen-gutter .at-fault')", 15)
+    trial.must("LOP is unknown (fault 13)" in trial.shown() and "screen 30 line 2" in trial.shown(), "a screen's fault isn't reported")
+    trial.must(trial.value("(document.querySelector('#screen-gutter .at-fault') || {}).textContent") == "2", "its line isn't marked")
+    trial.must(trial.value("document.querySelector('#screen-mark mark').textContent") == "LOP", "its word isn't marked")
+    trial.value("{ const t = document.getElementById('screen-text'); t.value = t.value.replace('LOP', 'LOOP'); t.dispatchEvent(new Event('input')) }")
+    trial.click("screen-load")
+    trial.idle()
+    trial.must("*\n**\n***" in trial.type("3 ROWS"), "the corrected screen")
+    trial.type("30 SCR ! 5 PUT 3 ROWS")
+    trial.must(trial.wait("document.getElementById('screen-text').value.includes('3 ROWS')", 15), "PUT isn't seen in the editor")
+    trial.type("2 RETYPE")
+    trial.must(trial.value("document.getElementById('line').value").startswith("2 PUT : ROWS ( n -- )"), "RETYPE")
+    trial.value("document.getElementById('line').value = ''; 0")
+    trial.type("12 EDIT")
+    trial.must(trial.value("page.editor.block") == 12, "EDIT doesn't open the editor")
+    trial.value("page.editor.go(31); document.getElementById('screen-text').focus()")
+    trial.browser.call("Input.insertText", text="X" * 70)
+    trial.must("line 0 has 70 characters" in trial.text("screen-said"), "a line that is too long is kept")
+    trial.value("{ const u = document.getElementById('screen-text'); u.value = '( corrected )'; u.dispatchEvent(new Event('input')) }")
+    trial.value("{ const f = document.getElementById('screen-find'); f.value = 'stars lo'; f.dispatchEvent(new Event('input')) }")
+    trial.must(trial.text("screen-found").startswith("30 line 2: : ROWS"), f"the search: {trial.text('screen-found')[:60]!r}")
+    trial.value("document.querySelector('#screen-found button').click()")
+    trial.must(trial.value("page.editor.block") == 30, "the search doesn't go to its place")
+    trial.value("{ const f = document.getElementById('screen-find'); f.value = ''; f.dispatchEvent(new Event('input')) }")
+    titles = trial.value("[...document.getElementById('screen-index').options].map((one) => one.textContent.trim()).join('|')")
+    trial.must("30  ( Stars )" in titles and "31  ( corrected )" in titles, "the index")
+
+
+def reloads(trial: Trial) -> None:
+    """What was typed and written is there after a reload, also one in the middle of a loop."""
+    time.sleep(0.5)
+    trial.open()
+    trial.must("*\n**\n***" in trial.shown(), "the transcript is gone after a reload")
+    trial.must("*\n**( Stars )" in trial.type("2 ROWS 30 BLOCK 64 TYPE"), "words or blocks are gone after a reload")
+    trial.must("( corrected )" in trial.screens(), "an edited screen is gone after a reload")
+    trial.enter(": L2 BEGIN AGAIN ; L2")
+    time.sleep(0.5)
+    trial.open()
+    trial.must("*\n**" in trial.type("2 ROWS"), "words are gone after a reload in a loop")
+    trial.type(": AT-ONCE 123 . ;")
+    trial.open()
+    trial.must("123  ok" in trial.type("AT-ONCE"), "a word is gone that was typed just before a reload")
+
+
+def other_version(trial: Trial) -> None:
+    """What another version of the page has kept: its words are gone, and its screens are here."""
+    trial.value("page.isKeeping = false; localStorage.removeItem('forth/last/'); window.put = false; "
+                "page.store.get('session/').then((one) => page.store.put('session/', { ...one, when: Date.now(), record: new Uint8Array(9) }))"
+                ".then(() => (window.put = true)); 0")
+    trial.wait("window.put")
+    trial.open()
+    trial.must("are gone. The screens are here" in trial.shown() and "( corrected )" in trial.screens(), "screens of another version are gone")
+
+
+def files(trial: Trial, program: pathlib.Path, room: pathlib.Path) -> None:
+    """Blocks, screens as text, texts of lines and whole sessions go in and out; wrong files change nothing."""
+    trial.file("mine.blk", "page.session.disk.bytes.slice()")
+    trial.must(trial.value("page.session.disk.name") == "mine.blk", "a file of blocks isn't another disk")
+    trial.file("t.txt", "'% screen 40\\n( from a text )\\n%% x\\n%~~C3~A4\\n'")
+    trial.must(trial.value("linesOf(page.session.page(40)).slice(0, 3).join('|')") == "( from a text )|% x|\u00e4", "screens as text don't come in")
+    blocks = base64.b64decode(trial.value("toBase64(page.session.disk.bytes)"))
+    (room / "saved.blk").write_bytes(blocks)
+    printed = subprocess.run([program, "text", room / "saved.blk", "0", str(len(blocks) // 1024 - 1)], stdout=subprocess.PIPE, check=True).stdout
+    trial.must(printed.decode() == trial.screens(), "the page's text of screens isn't that of the program")
+    trial.file("lines.fs", "'1 2 + .\\n4 5 * .\\n'")
+    trial.must("4 5 * . 20  ok" in trial.shown(), "other texts aren't typed")
+    trial.type(": MINE 77 ; 1 2 3")
+    trial.value("window.whole = page.files.wholeSession(); 0")
+    trial.type("FORGET MINE SCLEAR")
+    trial.file("home.forth", "window.whole")
+    trial.must(trial.value("page.session.machine.values.join()") == "1,2,3", "a whole session has another stack")
+    trial.must("77  ok" in trial.type("SCLEAR MINE ."), "a whole session has lost its words")
+    spoilt = "JSON.stringify({ ...JSON.parse(window.whole), record: btoa('x'.repeat(DATA.layout.size)) })"
+    for what, content in {"cut.forth": "window.whole.slice(0, 5000)", "spoilt.forth": spoilt, "odd.blk": "new Uint8Array(1000)", "empty": "''",
+                          "late.txt": "'% screen 1\\n% x\\n'", "long.txt": "'% screen 1\\n' + 'x'.repeat(65)"}.items():
+        before = len(trial.shown())
+        trial.file(what, content)
+        trial.must(what in trial.shown()[before:], f"the wrong file {what} isn't refused")
+    trial.must("77  ok" in trial.type("MINE ."), "a wrong file changed something")
+
+
+def saved(trial: Trial, folder: pathlib.Path) -> None:
+    """What the page saves as files, byte for byte."""
+    trial.browser.call("Page.setDownloadBehavior", behavior="allow", downloadPath=str(folder))
+    for button, ending in (("save-blocks", "blk"), ("save-text", "txt"), ("save-all", "forth")):
+        trial.click(button)
+        until = time.time() + 5
+        while not (folder / f"mine.{ending}").is_file() and time.time() < until:
+            time.sleep(0.05)
+    time.sleep(0.2)
+    found = {one.name: one.read_bytes() for one in folder.iterdir()}
+    trial.must(set(found) == {"mine.blk", "mine.txt", "mine.forth"}, f"saved files: {sorted(found)}")
+    trial.must(found.get("mine.blk") == base64.b64decode(trial.value("toBase64(page.session.disk.bytes)")), "the saved blocks")
+    trial.must(found.get("mine.txt", b"").decode() == trial.screens(), "the saved text")
+    trial.must(json.loads(found.get("mine.forth", b"{}")).get("name") == "mine.blk", "the saved session")
+
+
+def disks(trial: Trial) -> None:
+    """Several disks and several people's work under their names."""
+    trial.value("window.prompt = () => 'second.blk'; window.confirm = () => true; page.files.newDisk()")
+    trial.must(trial.wait("page.session.disk.name === 'second.blk'", 15), "a new disk")
+    trial.type("3 SCR ! 0 PUT ( of the second disk )")
+    trial.value("page.files.insertNamed('mine.blk')")
+    trial.must(trial.wait("page.session.disk.name === 'mine.blk'", 15) and "from a text" in trial.screens(), "a disk isn't as it was left")
+    trial.value("page.files.insertNamed('second.blk')")
+    trial.must(trial.wait("page.session.disk.name === 'second.blk'", 15) and "of the second disk" in trial.screens(), "the second disk isn't as it was left")
+    trial.value("window.prompt = () => 'renamed.blk'; page.files.renameDisk()")
+    trial.must(trial.wait("[...document.getElementById('disks').options].some((one) => one.value === 'renamed.blk' && one.selected)", 15), "a new name")
+    trial.value("window.prompt = () => 'Ada'; page.newWork()")
+    trial.must(trial.wait("page.work === 'Ada' && page.isKeeping && page.session.waitsForLine", 15), "another person's work")
+    trial.must("unknown" in trial.type("MINE ."), "another person has the first one's words")
+    trial.type(": ADAS 7 ;")
+    trial.value("page.changeWork('')")
+    trial.must(trial.wait("page.work === '' && page.isKeeping && page.session.waitsForLine", 15) and "77  ok" in trial.type("MINE ."), "the first person's work is gone")
+    trial.must("unknown" in trial.type("ADAS"), "the first person has the other one's words")
+
+
+def film(trial: Trial) -> None:
+    """The steps of a line; the map of the memory; the manual."""
+    trial.type(": SQUARES 0 ?DO I DUP * . LOOP ;")
+    trial.type(": AFTER 1 ;")
+    trial.value("page.tab('film'); document.getElementById('film-line').value = '3 SQUARES'; document.getElementById('film-form').requestSubmit()")
+    trial.must(trial.wait("/steps/.test(document.getElementById('film-said').textContent)", 20), "no film is made")
+    trial.must(trial.text("film-word") == ": SQUARES", "the film's word")
+    trial.must(trial.text("film-thread").strip().endswith("2DROP ;"), f"the film's thread: {trial.text('film-thread')!r}")
+    trial.value("document.getElementById('film-show').focus()")
+    trial.press("End", 35)
+    trial.must(trial.text("film-word") == "The end" and "0 1 4" in trial.text("film-output"), "the film's end")
+    trial.press("Home", 36)
+    trial.press("ArrowRight", 39)
+    trial.must(trial.text("film-number").startswith("step 2 of"), "an arrow in the film")
+    trial.must(not trial.shown().rstrip().endswith("3 SQUARES"), "the film changed the session")
+    trial.value("page.tab('map')")
+    trial.must("SQUARES" in trial.text("map-words") and "your words" in trial.text("map-parts"), "the map")
+    seek = "{ const s = document.getElementById('words-sought'); s.value = '%s'; s.dispatchEvent(new Event('input')) }"
+    trial.value("page.tab('words'); " + seek % "swap")
+    trial.must(trial.value("document.querySelector('#words-table button').textContent") == "SWAP", "a word isn't found in the manual")
+    trial.value("document.querySelector('#words-table button').click()")
+    trial.must(trial.value("document.getElementById('line').value") == "SWAP ", "a word of the manual isn't taken into the line")
+    trial.value("document.getElementById('line').value = ''; " + seek % "")
+    unknown = trial.value("DATA.manual.map((one) => one[0]).filter((name) => !page.session.machine.words().some((one) => one.name === name))")
+    trial.must(not unknown, f"words of the manual that the Forth doesn't have: {unknown[:5]}")
+
+
+def class_list(trial: Trial) -> None:
+    """A class list: the course's solutions are right, and files with trouble are what they are."""
+    root = pathlib.Path(__file__).resolve().parent.parent
+    solved = json.dumps((root / "teaching/solutions.txt").read_text(encoding="ascii"))
+    course = "page.files.builtIn('course.blk')"
+    trial.value(f"window.solved = {course}; for (const one of screensOf({solved}).screens) solved.put(one.block, one.page); "
+                f"window.looping = {course}; looping.put(21, pageOf([': L BEGIN AGAIN ; L']).page); looping.put(22, pageOf(['KEY']).page); "
+                "looping.put(23, pageOf([': CUBE DUP * ;', ': TWIST SWAP ROT ;', ': SUMSQ DUP * SWAP DUP * + ;']).page); "
+                f"window.checked = false; page.classList.check([new File([solved.bytes], 'ada.blk'), new File([{course}.bytes], 'bob.blk'), "
+                "new File([looping.bytes], 'eve.blk'), new File(['x'], 'odd.txt')]).then(() => (window.checked = true)); 0")
+    trial.must(trial.wait("window.checked", 60), "a class list isn't made")
+    rows = trial.value("[...document.querySelectorAll('#class-rows tr')].map((row) => [...row.children].map((cell) => cell.textContent).join(' '))")
+    wanted = ["ada.blk ✓ ✓ ✓ ✓ ✓ ✓ ✓ ✓ ✓ ✓ ✓ ✓ 12", "bob.blk · · · · · · · · · · · · 0", "eve.blk ∞ ∞ ✗ · · · · · · · · · 0",
+              "odd.txt neither blocks nor a whole session"]
+    trial.must(rows == wanted, f"the class list: {rows}")
+    told = trial.value("document.querySelectorAll('#class-rows tr')[2].children[3].title")
+    trial.must("CUBE leaves" in told and "is wanted" in told, f"what is wrong in a pupil's lesson: {told!r}")
+    trial.must(trial.value("page.classList.csv().split('\\r\\n')[3]").startswith('"eve.blk","endless","endless","wrong","empty"'), "the list as CSV")
+
+
+POINTS = """[[0, 0], [1, 0], [2, 0], [0, 1], [319, 199]].map(([x, y]) =>
+  [...document.getElementById("canvas-picture").getContext("2d").getImageData(x, y, 1, 1).data].slice(0, 3).join())"""
+
+
+def canvas(trial: Trial) -> None:
+    """The words of draw.blk draw on the page's canvas, and sound."""
+    trial.value("page.course.find('13. Pictures and tones'); page.course.insert()")
+    trial.wait("page.session.disk.name === 'draw.blk'")
+    trial.idle()
+    trial.value("page.tab('canvas'); window.heard = []; page.canvas.sound = (hertz, seconds) => heard.push([hertz, seconds]); 0")
+    trial.type("CLEAR 15 COLOR 0 0 PLOT 4 COLOR 1 0 PLOT 10 COLOR 0 1 PLOT")
+    trial.type("9 COLOR 319 199 PLOT -1 0 PLOT 320 0 PLOT 0 200 PLOT 440 250 TONE")
+    wanted = ["255,255,255", "170,0,0", "0,0,0", "85,255,85", "85,85,255"]
+    trial.must(trial.wait(f"JSON.stringify({POINTS}) === {json.dumps(json.dumps(wanted, separators=(',', ':')))}", 15), f"points: {trial.value(POINTS)}")
+    trial.must(trial.wait("heard.length === 1", 15) and trial.value("heard[0]") == [440, 0.25], f"tones: {trial.value('heard')}")
+    trial.value("page.files.insertNamed('mine.blk')")
+    trial.wait("page.session.disk.name === 'mine.blk'")
+    trial.must(trial.wait("!document.getElementById('canvas-none').hidden", 15), "a canvas on a disk without one")
+
+
+def widths(trial: Trial) -> None:
+    """Nothing is wider than the window, from 360 to 2,560 pixels."""
+    for width, height in ((360, 740), (390, 780), (800, 600), (1366, 650), (2560, 1300)):
+        trial.browser.size(width, height)
+        for tab in ("forth", *TABS):
+            trial.value(f"page.tab('{tab}')")
+            wide = trial.value("document.documentElement.scrollWidth")
+            trial.must(wide <= width, f"{tab} has {wide} of {width} pixels")
+    trial.browser.size(1280, 900)
+
+
+def names(trial: Trial) -> None:
+    """Each control has a name for screen readers, and the keyboard alone reaches it."""
+    trial.browser.call("Accessibility.enable")
+    trial.value("document.querySelectorAll('details').forEach((one) => (one.open = true))")
+    for tab in TABS:
+        trial.value(f"page.tab('{tab}')")
+        nodes = trial.browser.call("Accessibility.getFullAXTree")["nodes"]
+        nameless = [one["role"]["value"] for one in nodes if not one.get("ignored") and one.get("role", {}).get("value") in NAMED
+                    and not one.get("name", {}).get("value")]
+        trial.must(not nameless, f"controls without a name in {tab}: {nameless[:4]}")
+        wanted = trial.value(f"[...document.querySelectorAll('#{tab} button, #{tab} input, #{tab} select, #{tab} textarea')].filter((one) => "
+                             "one.offsetParent && !one.disabled && !one.closest('table, article')).map((one) => one.id).filter((id) => id)")
+        trial.value("document.getElementById('line').focus()")
+        reached = set()
+        for _ in range(40):
+            trial.press("Tab", 9)
+            reached.add(trial.value("document.activeElement.id"))
+        trial.must(set(wanted) <= reached, f"the Tab key doesn't reach {sorted(set(wanted) - reached)}")
+
+
+CONTRAST = """(() => {
+  const channel = (part) => (part /= 255, part <= 0.03928 ? part / 12.92 : ((part + 0.055) / 1.055) ** 2.4);
+  const numbers = (text) => (text.match(/[\\d.]+/g) || [0, 0, 0, 0]).map(Number);
+  const light = (color) => { const [r, g, b] = numbers(color).map(channel); return 0.2126 * r + 0.7152 * g + 0.0722 * b };
+  const behind = (one) => { for (; one; one = one.parentElement) { const color = getComputedStyle(one).backgroundColor, parts = numbers(color);
+    if (parts.length === 3 || parts[3] > 0) return color; } return "rgb(255, 255, 255)" };
+  const low = [];
+  for (const one of document.querySelectorAll("body *")) {
+    if (!one.offsetParent || one.closest("[aria-hidden], option") || ![...one.childNodes].some((it) => it.nodeType === 3 && it.textContent.trim())) continue;
+    const pair = [light(getComputedStyle(one).color), light(behind(one))].sort((a, b) => b - a), ratio = (pair[0] + 0.05) / (pair[1] + 0.05);
+    if (ratio < 4.5) low.push(`${one.tagName} ${one.id} ${one.className} ${ratio.toFixed(1)}`);
+  }
+  return [...new Set(low)];
+})()"""
+
+
+def contrast(trial: Trial) -> None:
+    """Text has a contrast of 4.5 to 1 at least, in both colors (AA)."""
+    for scheme in ("light", "dark"):
+        trial.browser.call("Emulation.setEmulatedMedia", features=[{"name": "prefers-color-scheme", "value": scheme}])
+        for tab in TABS:
+            trial.value(f"page.tab('{tab}')")
+            low = trial.value(CONTRAST)
+            trial.must(not low, f"contrast in {tab}, {scheme}: {low[:4]}")
+    trial.browser.call("Emulation.setEmulatedMedia", features=[{"name": "prefers-color-scheme", "value": "light"}])
+
+
+def undo_of_edit(trial: Trial) -> None:
+    """Undo takes back an edit alone, and then the line before it."""
+    trial.type("SCLEAR")
+    trial.value("page.tab('screens'); page.editor.go(33)")
+    trial.type("4 5")
+    trial.value("{ const t = document.getElementById('screen-text'); t.value = '( edited )'; t.dispatchEvent(new Event('input')) }")
+    trial.must("( edited )" in trial.screens(), "an edit isn't kept")
+    trial.click("undo")
+    trial.must("( edited )" not in trial.screens() and trial.value("page.session.machine.values.length") == 2, "Undo of an edit")
+    trial.click("undo")
+    trial.must(trial.value("page.session.machine.values.length") == 0, "Undo of the line before the edit")
+
+
+def speed(trial: Trial) -> str:
+    """How many ticks a second the page does, and how soon it is ready."""
+    trial.type(": IN 1000 0 DO I DROP LOOP ; : T 20000 0 DO IN LOOP ;")
+    trial.value("window.began = performance.now(); page.enter('T'); 0")
+    trial.idle(60)
+    took = trial.value("performance.now() - window.began") / 1000
+    return f"{60.1 / took:.0f} million ticks a second"
+
+
+def first_prompt(trial: Trial) -> str:
+    """How long the page takes from its opening to the first prompt, as the page's clock has it."""
+    trial.browser.open(trial.page)
+    trial.must(trial.wait("!!window.page"), "the page doesn't start")
+    return f"first prompt after {trial.value('Math.round(window.ready)')} ms"
+
+
+def all_of(trial: Trial, program: pathlib.Path, room: pathlib.Path) -> List[str]:
+    """All trials, in an order in which each uses what those before it left; measured numbers."""
+    trial.open()
+    for part in (lines, stops, undo, questions, cursor, editor, reloads):
+        part(trial)
+    other_version(trial)
+    files(trial, program, room)
+    (room / "downloads").mkdir()
+    saved(trial, room / "downloads")
+    for part in (disks, film, canvas, class_list, widths, names, contrast, undo_of_edit):
+        part(trial)
+    measured = [speed(trial), first_prompt(trial)]
+    trial.must(not trial.browser.errors, f"errors in the page: {trial.browser.errors[:3]}")
+    trial.must(not trial.browser.asked, f"asked of the network: {trial.browser.asked[:3]}")
+    return measured
+
+
+def squeezed(text: str) -> str:
+    return re.sub(r"\s+", " ", text).strip()
