@@ -7,51 +7,75 @@ here=$(cd "$(dirname "$(readlink -f "${BASH_SOURCE[0]}")")" && pwd)
 forth83=$here/crates/forth83/out/forth83
 kept=$here/workbench/out
 names=(plain tools piped quiet)
-saved=
 building=
-child=
-killed=
-hung_up=
-broken=
-keyed=
-interrupt_key=
 feeder=
 door=
+texts=()
+lines=()
 wanted=
 unproved=
+size=
 is_new=
 
 say() {
   echo "forth: $1" >&2
 }
 
-# usage STATUS [WHAT]: shows how the Forth is started, and below it what was wrong.
+# Shows how the Forth is started.
 usage() {
-  cat >&2 << 'END'
-usage: ./forth [BLOCKS]                      works on the file BLOCKS, forth.blk where none is named, and makes it where it isn't there
+  cat << 'END'
+usage: ./forth [TEXT..] [BLOCKS]             loads each TEXT, a file of Forth such as NAME.fs, and works on the file BLOCKS (forth.blk if none is named), which it makes if it does not exist
        ./forth --kernel-of SOURCES [BLOCKS]  does so with a kernel built of screens 1 to 20 of SOURCES
        ./forth --kernel [BLOCKS]             does so with the kernel alone, whose output is exactly what the machine shows
-       ./forth --quiet [BLOCKS]              does the lines of its input, and shows only what they show; it has no blocks but BLOCKS
+       ./forth --quiet [TEXT..] [BLOCKS]     does the lines of TEXT, or of its input, and shows only what they show; it has no blocks except BLOCKS
+       ./forth -e WORDS [TEXT..] [BLOCKS]    does the lines of TEXT, then WORDS, in the same way; -e may be given several times
        ./forth --image OWN FROM TO [BLOCKS]  makes of the screens FROM to TO the image OWN, which starts with their program
        ./forth --proved [BLOCKS]             waits for the proved program, where it isn't there yet
        ./forth --unproved [BLOCKS]           runs the program without proofs, and has nothing proved
        ./forth --on DEVICE [--speed N] [..]  takes a serial port, or another terminal, as its console, with what else is named
        ./forth --status                      says which program is there, and how far its proof is
+       ./forth --version                     prints the version of the program, and whether it is proved
        ./forth where IMAGE [BLOCKS]          runs an image, and tells at which word of which screen its fault comes
+       ./forth page [BLOCKS] -o OUT.html     makes the Forth as one page for any browser; page --help says more
+       ./forth picture [BLOCKS] [FIRST]      makes a picture of what the words of examples/draw.txt drew
        ./forth film NAME [LINE]              makes a page that shows each step of the word NAME; film --help tells more
        ./forth map IMAGE [OTHER]             makes a map of an image's memory
        ./forth print [BLOCKS] [FROM TO]      makes pages of screens, to be printed
        ./forth survey BLOCKS [FROM TO]       tells what old screens are, which dialect fits, and which words nobody knows
-A name that begins with - is written as ./-NAME, a block file that is called where, film, map, print or survey as ./film.
+       ./forth import CONTAINER BLOCKS [..]  makes a file of blocks of an old disk, file or text; import --help tells more
+       ./forth export BLOCKS CONTAINER [..]  writes the screens back into it
+A name that begins with - is written as ./-NAME, a block file that is called where, film, map, print, survey, import or export as
+./film.
 END
-  [ $# -eq 1 ] || say "$2"
-  exit "$1"
+}
+
+# misused WHAT: ends with status 2, since the command line is wrong.
+misused() {
+  say "$1"
+  say "./forth --help shows the usage"
+  exit 2
 }
 
 # Ends with status 1 and the reason.
 refuse() {
   say "$1"
   exit 1
+}
+
+# need_python WHAT: refuses what needs Python, if there is none.
+need_python() {
+  command -v python3 > /dev/null || refuse "$1 needs python3, which is not installed"
+}
+
+# The version of the program that would run now; one that isn't made yet has that of its sources.
+show_version() {
+  if "$here/workbench/is-proved"; then
+    echo "$("$forth83" --version), proved"
+  elif [ -x "$kept/unproved" ]; then
+    "$kept/unproved" --version
+  else
+    sed -n 's/^const VERSION: &str = "\(.*\)";$/forth83 \1, not made yet/p' "$here/crates/command_words/src/lib.rt"
+  fi
 }
 
 # are_kept: the images are there, and nothing that they are made of is newer.
@@ -139,7 +163,9 @@ find_unproved() {
 
 # Has the proof made in the background, behind this session.
 begin_proof() {
-  if "$here/workbench/prove" --meanwhile < /dev/null > /dev/null 2> "$room/said"; then
+  if ! command -v python3 > /dev/null; then
+    say "this program isn't proved, and python3, which its proof needs, is not installed."
+  elif "$here/workbench/prove" --meanwhile < /dev/null > /dev/null 2> "$room/said"; then
     : > "$kept/awaited"
     say "this program isn't proved yet. Its proof is being made meanwhile; ./forth --status tells how far it is."
   else
@@ -193,7 +219,8 @@ make_blocks() {
   folder=$(dirname -- "$blocks")
   [ -d "$folder" ] || refuse "$blocks can't be made: there is no folder $folder"
   [ -w "$folder" ] || refuse "$blocks can't be made: the folder $folder can't be written; name a file elsewhere, as ./forth ~/my.blk"
-  said=$("$forth83" kernel "$room/new.blk") || refuse "$blocks can't be made: $said"
+  said=$("$forth83" kernel "$room/new.blk") ||
+    refuse "$blocks can't be made: no file can be written in ${TMPDIR:-/tmp}; make room there, or set TMPDIR to another folder ($said)"
   said=$({ cp -- "$room/new.blk" "$blocks.$$" && mv -n -- "$blocks.$$" "$blocks"; } 2>&1) || {
     rm -f -- "$blocks.$$"
     refuse "$blocks can't be made: $said"
@@ -210,6 +237,12 @@ holder() {
   [ -z "$pid" ] || echo " (process $pid)"
 }
 
+# Whether the file isn't a text by its contents: a file that isn't called NAME.blk and has many line ends may be one.
+is_by_screens() {
+  case $blocks in *.blk) return ;; esac
+  [ "$(head -c 1024 -- "$blocks" | tr -dc '\n' | wc -c)" -lt 8 ]
+}
+
 # Refuses a block file that can't be used, with the reason and what to do. The file stays open for the session, so that it's found
 # again where another takes its place meanwhile.
 open_blocks() {
@@ -218,10 +251,12 @@ open_blocks() {
   [ -f "$blocks" ] || refuse "$blocks is no file of blocks"
   [ -r "$blocks" ] || refuse "$blocks can't be read: its permissions don't allow it; chmod u+r $blocks"
   [ -w "$blocks" ] || refuse "$blocks can't be written: it is read-only; chmod u+w $blocks, or work on a copy: cp $blocks my.blk && chmod u+w my.blk"
-  [ "$(head -c 8 -- "$blocks" | tr -d '\0')" != FTH83IMG ] || refuse "$blocks is an image, and no file of blocks; ./forth83 run $blocks runs it"
-  [ $(($(stat -L -c %s -- "$blocks") % 1024)) -eq 0 ] ||
-    refuse "$blocks has $(stat -L -c %s -- "$blocks") bytes, which are no whole blocks; ./forth < $blocks does the lines of a script, ./forth83 screens $blocks NEW makes blocks of a text"
-  [ "$(stat -L -c %s -- "$blocks")" -ge 1024 ] || say "$blocks has no screen; ./forth83 new NAME 64 makes a file of 64 blank ones"
+  ! begins "$blocks" FTH83IMG || refuse "$blocks is an image, and no file of blocks; ./forth83 run $blocks runs it"
+  size=$(stat -L -c %s -- "$blocks")
+  [ $((size % 1024)) -eq 0 ] ||
+    refuse "$blocks has $size bytes, which are no whole blocks; ./forth < $blocks does the lines of a script, also ./forth $blocks if it is called NAME.fs, and ./forth83 screens $blocks NEW makes blocks of a text"
+  is_by_screens || refuse "$blocks has line ends, as a text, and blocks have none; call it NAME.fs if it is a text of Forth, and NAME.blk if it has blocks"
+  [ "$size" -ge 1024 ] || say "$blocks has no screen; ./forth83 new NAME 64 makes a file of 64 blank ones"
   exec 9<> "$blocks"
   if command -v flock > /dev/null; then
     flock -n 9 || refuse "$blocks is in use by another run$(holder); leave that by BYE, or work on a copy"
@@ -245,123 +280,48 @@ keep_session() {
   fi
 }
 
-# The terminal as the tools need it: it neither echoes nor edits, and ^S doesn't stop it.
-by_key() {
-  stty -icanon -echo -ixon min 1 time 0
-  keyed=
+# begins FILE TEXT: whether the file begins with these letters.
+begins() {
+  local start LC_ALL=C
+  IFS= read -r -N ${#2} start < "$1" 2> /dev/null
+  [ "$start" = "$2" ]
 }
 
-# Whether the program waits for a key: it is in the system's call `read` of its standard input; where the system doesn't tell
-# calls, whether it sleeps.
-is_waiting() {
-  local call=
-  if { read -r call < "/proc/$child/syscall"; } 2> /dev/null && [ -n "$call" ]; then
-    [ "${call:0:6}" = '0 0x0 ' ]
-  else
-    { read -r call < "/proc/$child/stat"; } 2> /dev/null
-    [[ $call == *') S '* ]]
-  fi
+# is_text NAME: whether the file is a text of Forth, by its name or by a first line that begins with #!.
+is_text() {
+  case $1 in
+    *.fs | *.fth | *.4th | *.frt | *.f) [ -f "$1" ] || refuse "there is no file $1" ;;
+    *) [ -f "$1" ] && begins "$1" '#!' ;;
+  esac
 }
 
-# While the program waits for a key, ^C is a key, which the tools take as the end of a line or of what asks; a wish to break off
-# that came late is taken back. While the program computes, ^C is a signal to the launcher.
-watch_keys() {
-  local now
-  exec 7<> <(:)
-  while kill -0 "$child" 2> /dev/null; do
-    if is_waiting; then
-      now=undef
-      [ ! -e "$room/break" ] || rm -f "$room/break"
-    else
-      now=$interrupt_key
-    fi
-    if [ "$now" != "$keyed" ]; then
-      stty intr "$now"
-      keyed=$now
-    fi
-    if [ -n "$hung_up" ] && [ $((SECONDS - hung_up)) -ge 3 ]; then
-      killed=1
-      kill "$child" 2> /dev/null
-    fi
-    read -r -t 0.05 -u 7
-  done
-}
-
-# The terminal is gone: the program finds that out where it reads or shows, and keeps what was changed. What computes is broken off
-# for that; what hasn't ended some seconds later is killed.
-hang_up() {
-  hung_up=${hung_up:-$SECONDS}
-  : > "$room/break"
-}
-
-# ^C while the program computes: it is asked to break off; where it hasn't by the next one, it ends.
-interrupt() {
-  if [ -e "$room/break" ]; then
-    broken=1
-    kill "$child" 2> /dev/null
-  else
-    : > "$room/break"
-  fi
-}
-
-# ^Z: the terminal is as before while the run is stopped. The program stops first: until then it would read what the shell is typed.
-stop() {
-  local tries
-  stty "$saved"
-  for ((tries = 0; tries < 100; tries++)); do
-    case $(cat "/proc/$child/stat" 2> /dev/null) in '' | *') T '*) break ;; esac
-    sleep 0.02
-  done
-  kill -STOP $$
-  by_key
+# The folder of this run.
+make_room() {
+  room=$(mktemp -d 2> /dev/null) || refuse "no folder can be made in ${TMPDIR:-/tmp}: make room there, or set TMPDIR to another folder"
 }
 
 leave() {
   trap '' HUP INT TERM
   [ -z "$building" ] || kill -- "-$building" 2> /dev/null
   [ -z "$feeder" ] || kill -PIPE -- "-$feeder" 2> /dev/null
-  [ -z "$saved" ] || stty "$saved" 2> /dev/null
   rm -rf "$room"
 }
 
-# Waits until the child has ended. A signal to the launcher ends one wait with a status of its own, which doesn't count where the
-# child lives on; a launcher that was killed has killed its child.
-ended() {
-  wait "$child" || status=$?
-  while kill -0 "$child" 2> /dev/null; do
-    status=0
-    wait "$child" || status=$?
-  done
-  [ -z "$broken" ] || status=130
-  [ -z "$killed" ] || status=143
+# hand_over: what workbench/session needs, each with a 0 byte after it; the room is the session's from here on.
+hand_over() {
+  printf '%s\0' "$forth83" "$images/tools.img" "$blocks" "$room" \
+    "$blocks, $((size / 1024)) screens$is_new. WORDS and HELP tell more." \
+    "BYE or ^D saves changed screens and leaves; ^C breaks off what goes on." "${texts[@]}" &&
+    trap - EXIT
 }
 
-# Runs the tools' image at the terminal. The program is a child that is watched, so that signals are seen meanwhile; it takes no
-# notice of ^C, nor of a terminal that is closed but by its reads. Where the system's `env` can't give it back its other signals, it is simply called.
+# Becomes the session at the terminal: workbench/session owns the terminal from here on. It starts while all is prepared.
+# The system's own Python is taken first: what PATH has may be a script that looks for another one, which takes longer.
 run_at_terminal() {
-  saved=$(stty -g)
-  interrupt_key=$(stty -a | sed -n 's/.*intr = \([^;]*\);.*/\1/p')
-  case $interrupt_key in '' | '<'*) interrupt_key=undef ;; esac
-  trap : INT QUIT
-  by_key
-  say "$blocks, $(($(stat -L -c %s -- "$blocks") / 1024)) screens$is_new. WORDS and HELP tell more."
-  say "BYE or ^D saves changed screens and leaves; ^C breaks off what goes on."
-  if env --default-signal=INT,QUIT,TSTP true 2> /dev/null; then
-    trap interrupt INT
-    trap stop TSTP
-    trap by_key CONT
-    trap 'killed=1; [ -z "$child" ] || kill "$child"' TERM
-    trap hang_up HUP
-    env --ignore-signal=INT,HUP --default-signal=QUIT,TSTP "$forth83" run --save --break "$room/break" -- "$images/tools.img" "$blocks" <&0 9>&- &
-    child=$!
-    [ -z "$killed" ] || kill "$child"
-    watch_keys
-    ended
-  else
-    stty susp undef
-    "$forth83" run --save -- "$images/tools.img" "$blocks" 9>&- || status=$?
-  fi
-  echo
+  local python=/usr/bin/python3
+  [ -x "$python" ] || { python=python3 && need_python "a session at a terminal"; }
+  exec 8< <(prepare && hand_over)
+  exec "$python" -I -S -B "$here/workbench/session" 8 $!
 }
 
 # Passes standard input on to descriptor 8, with a return behind a last line that has none: lines of a pipe come by KEY.
@@ -369,6 +329,16 @@ feed() {
   local last
   last=$(tee /dev/fd/7 7>&1 >&8 | tail -c 1 | od -A n -t u1)
   case $last in '' | *' 10') ;; *) echo >&8 ;; esac
+}
+
+# The texts, the lines of -e, and what else comes from standard input; with --quiet that isn't read.
+input() {
+  local name
+  for name in "${texts[@]}"; do
+    awk 'NR == 1 && /^#!/ { $0 = "" } { print }' < "$name"
+  done
+  [ "${#lines[@]}" -eq 0 ] || printf '%s\n' "${lines[@]}"
+  [ "$door" = quiet ] || cat
 }
 
 # Whether the input has a return at its end, or can't be known to want one.
@@ -447,17 +417,52 @@ make_own() {
   fi
 }
 
+# All that comes before a run: the program, its images, and the block file.
+prepare() {
+  make_room
+  trap leave EXIT
+  find_program
+  [ -z "$unproved" ] || "$forth83" --version > /dev/null || exit 1
+  if [ -n "$sources" ]; then
+    { [ -f "$sources" ] && [ -r "$sources" ]; } || refuse "$sources isn't there, or can't be read"
+    images=$room
+    make_images "$sources" "$room" || exit 1
+  else
+    find_images
+  fi
+  [ -z "$own" ] || [ -e "$blocks" ] || refuse "there is no $blocks of which an image can be made"
+  [ -z "$blocks" ] || open_blocks
+}
+
 sources=
 case ${1:-} in
   --on) exec "$here/workbench/on" "${@:2}" ;;
-  film | map | print | survey)
-    command -v python3 > /dev/null || refuse "$1 needs python3, which isn't there"
-    case $1 in survey) script=$here/dialects/survey ;; *) script=$here/teaching/$1 ;; esac
-    exec python3 -B "$script" "${@:2}"
+  film | map | print | survey | import | export)
+    need_python "$1"
+    case $1 in
+      survey) exec python3 -B "$here/dialects/survey" "${@:2}" ;;
+      import | export) exec python3 -B "$here/dialects/bring" "$@" ;;
+    esac
+    exec python3 -B "$here/teaching/$1" "${@:2}"
+    ;;
+  page | picture)
+    need_python "$1"
+    [ "$1" = page ] || exec python3 -B "$here/teaching/picture" "${@:2}"
+    case " ${*:2} " in
+      *' -h '* | *' --help '* | '  ') exec python3 -B "$here/page/make" --program - --help ;;
+      *' --proved '*) wanted=proved ;;
+      *' --unproved '*) wanted=unproved ;;
+    esac
+    python3 -B "$here/page/make" --program - --look "${@:2}" || exit
+    make_room
+    trap leave EXIT
+    find_program
+    python3 -B "$here/page/make" --program "$forth83" "${@:2}"
+    exit
     ;;
   where)
-    { [ $# -eq 2 ] || [ $# -eq 3 ]; } || usage 2 'where wants an IMAGE, and the BLOCKS that it works on'
-    room=$(mktemp -d) || exit 1
+    { [ $# -eq 2 ] || [ $# -eq 3 ]; } || misused 'where wants an IMAGE, and the BLOCKS that it works on'
+    make_room
     trap leave EXIT
     find_program
     "$here/workbench/where" "$forth83" "${@:2}"
@@ -467,61 +472,69 @@ esac
 own=
 while [ $# -gt 0 ]; do
   case $1 in
-    -h | --help) usage 0 ;;
-    --status) [ $# -eq 1 ] || usage 2 '--status stands alone'; exec "$here/workbench/prove" --status ;;
+    -h | --help) usage; exit ;;
+    --version) show_version; exit ;;
+    --status)
+      [ $# -eq 1 ] || misused '--status takes no other option and no file'
+      need_python --status
+      exec "$here/workbench/prove" --status
+      ;;
     --proved | --unproved) wanted=${1#--}; shift ;;
     --quiet | --kernel)
-      [ "${door:-${1#--}}" = "${1#--}" ] || usage 2 '--quiet and --kernel exclude each other'
+      [ "${door:-${1#--}}" = "${1#--}" ] || misused '--quiet and --kernel exclude each other'
       door=${1#--}
       shift
       ;;
     --image)
-      { [ $# -ge 4 ] && [ -n "$2" ]; } || usage 2 '--image wants the name OWN of an image, and screens FROM TO'
+      { [ $# -ge 4 ] && [ -n "$2" ]; } || misused '--image wants the name OWN of an image, and screens FROM TO'
       own=$2 from=$3 to=$4
       shift 4
       ;;
-    --kernel-of) [ -n "${2:-}" ] || usage 2 '--kernel-of wants the name of a file'; sources=$2; shift 2 ;;
-    -*) usage 2 "$1 is no option" ;;
-    *) break ;;
+    --kernel-of) [ -n "${2:-}" ] || misused '--kernel-of wants the name of a file'; sources=$2; shift 2 ;;
+    -e)
+      [ $# -ge 2 ] || misused '-e wants some words of Forth'
+      [ "${door:-quiet}" = quiet ] || misused '-e and --kernel exclude each other'
+      door=quiet
+      lines+=("$2")
+      shift 2
+      ;;
+    -*) misused "$1 is no option" ;;
+    *)
+      is_text "$1" || break
+      texts+=("$1")
+      shift
+      ;;
   esac
 done
-[ $# -le 1 ] || usage 2 "one file of blocks at a time, and no option behind it: $*"
-case "$own $sources" in -* | *' -'*) usage 2 'a name that begins with - is written as ./-NAME' ;; esac
+[ $# -le 1 ] || misused "one file of blocks at a time, and no option behind it: $*"
+case "$own $sources" in -* | *' -'*) misused 'a name that begins with - is written as ./-NAME' ;; esac
+[ "${#texts[@]}" -eq 0 ] || { [ "$door" != kernel ] && [ -z "$own" ]; } || misused "a text goes neither with --kernel nor with --image"
 if [ -n "$own" ]; then
   [[ $from =~ ^[0-9]{1,5}$ && $to =~ ^[0-9]{1,5}$ && $((10#$from)) -le 65535 && $((10#$to)) -le 65535 ]] ||
-    usage 2 "FROM and TO are numbers of screens, 0 to 65535, and not $from $to"
+    misused "FROM and TO are numbers of screens, 0 to 65535, and not $from $to"
   from=$((10#$from)) to=$((10#$to))
 fi
-[ $# -eq 0 ] || [ -n "$1" ] || usage 2 'the name of the file of blocks is empty'
+[ $# -eq 0 ] || [ -n "$1" ] || misused 'the name of the file of blocks is empty'
 blocks=${1:-$sources}
 if [ -z "$blocks" ] && { [ "$door" != quiet ] || [ -n "$own" ]; }; then
   blocks=forth.blk
 fi
-room=$(mktemp -d) || exit 1
-trap leave EXIT
-find_program
-"$forth83" --version > /dev/null || exit 1
-if [ -n "$sources" ]; then
-  { [ -f "$sources" ] && [ -r "$sources" ]; } || refuse "$sources isn't there, or can't be read"
-  images=$room
-  make_images "$sources" "$room" || exit 1
-else
-  find_images
+if [ -z "$door$own" ] && [ -t 0 ] && { [ -t 1 ] || [ -p /dev/stdout ]; }; then
+  run_at_terminal
 fi
-[ -z "$own" ] || [ -e "$blocks" ] || refuse "there is no $blocks of which an image can be made"
-[ -z "$blocks" ] || open_blocks
+prepare
 if [ -n "$own" ]; then
   make_own
   exit
 fi
 status=0
+if [ "${#texts[@]}${#lines[@]}" != 00 ]; then
+  exec < <(input)
+fi
 if [ "$door" = kernel ]; then
   run_in_pipe "$images/plain.img"
 elif [ "$door" = quiet ]; then
   run_in_pipe "$images/quiet.img"
-elif [ -t 0 ] && [ -t 1 ]; then
-  door=terminal
-  run_at_terminal
 elif [ -t 0 ]; then
   door=terminal
   run_in_pipe "$images/tools.img"
@@ -534,11 +547,10 @@ case $door:$status in
   *:3) say "a fault ended it, that no fault thread handles" ;;
   *:4) say "the limit of ticks ended it" ;;
   *:5) say "standard input or output failed" ;;
-  *:130) say "broken off" ;;
 esac
 [ -n "$blocks" ] || exit "$status"
 keep_session
 case $door:$status in
-  kernel:3 | terminal:3 | *:4 | *:130 | *:131 | *:143) say "screens that were changed since the last SAVE may not be in $blocks" ;;
+  kernel:3 | terminal:3 | *:4) say "screens that were changed since the last SAVE may not be in $blocks" ;;
 esac
 exit "$status"

@@ -42,7 +42,7 @@ def steps_of(text):
 
 def behind(text):
     """The lines that are shown behind what was typed, without the blanks that part them from it."""
-    first, *rest = [line.rstrip() for line in text.removesuffix("\n").split("\n")]
+    first, *rest = [line.rstrip() for line in (text[:-1] if text.endswith("\n") else text).split("\n")]
     return [first.lstrip(), *rest] if first else rest
 
 

@@ -1,0 +1,110 @@
+"""Text files that the Forth asks for: lines of Forth, one at a time, as INCLUDE wants them.
+
+The Forth asks by an escape sequence in its output, ESC _ f83, a letter, a text, ESC \\ , which is not shown. The answer is
+typed: the byte 30, a byte for its kind (`=` here it is, `.` no more, `!` a message), a text, and 10.
+"""
+from __future__ import annotations
+
+import os
+
+ANSWER = b"\x1e"
+LINE = 127  # bytes that a line may have
+BEGIN, END = b"\x1b_f83", b"\x1b\\"
+LONGEST = 512  # bytes of a request
+PAGE = BEGIN + b"J"  # a request that has a screen: its number, the low byte first, and its 1,024 bytes
+PAGE_SIZE = 2 + 1024
+
+
+class Requests:
+    """Finds the requests in the Forth's output."""
+
+    def __init__(self) -> None:
+        self._held = b""
+
+    def passes(self, piece: bytes) -> tuple[bytes, list[bytes]]:
+        """What is shown of a piece of output, and the requests in it, each a letter and its text."""
+        if not self._held and BEGIN[:1] not in piece:
+            return piece, []
+        text, shown, requests = self._held + piece, b"", []
+        self._held = b""
+        while True:
+            start = text.find(BEGIN)
+            if start < 0:
+                cut = self._unfinished(text)
+                self._held = text[len(text) - cut :]
+                return shown + text[: len(text) - cut], requests
+            is_page = text.startswith(PAGE, start)
+            end = text.find(END, start + (len(PAGE) + PAGE_SIZE if is_page else 0))
+            if end < 0 and len(text) - start < LONGEST + PAGE_SIZE * is_page:
+                self._held = text[start:]
+                return shown + text[:start], requests
+            shown += text[:start]
+            if end < 0:
+                return shown + text[start:], requests
+            requests.append(text[start + len(BEGIN) : end])
+            text = text[end + len(END) :]
+
+    @staticmethod
+    def _unfinished(text: bytes) -> int:
+        """How many bytes at the end may begin a request."""
+        return next((size for size in range(len(BEGIN) - 1, 0, -1) if text.endswith(BEGIN[:size])), 0)
+
+
+def answer(kind: bytes, text: bytes = b"") -> bytes:
+    """An answer, as it is typed."""
+    return ANSWER + kind + text[:LINE] + b"\n"
+
+
+class Text:
+    """A text file, line by line."""
+
+    def __init__(self, name: str) -> None:
+        self.name, self.number = name, 0
+        with open(name, "rb") as file:
+            self._lines = file.read().splitlines()
+        if self._lines and self._lines[0].startswith(b"#!"):
+            self._lines[0] = b""
+
+    def next(self) -> bytes:
+        """The answer with its next line."""
+        if self.number == len(self._lines):
+            return answer(b".")
+        line = self._lines[self.number]
+        self.number += 1
+        if len(line) > LINE:
+            said = f"line {self.number} of {self.name} has {len(line)} bytes, and {LINE} fit"
+            return answer(b"!", said.encode())
+        return answer(b"=", line)
+
+
+class Files:
+    """The text files that are being included, one by another."""
+
+    def __init__(self) -> None:
+        self._open: list[Text] = []
+
+    def answer(self, request: bytes) -> bytes:
+        """The answer to a request; nothing if it wants none."""
+        verb, text = request[:1], request[1:]
+        if verb == b"I":
+            return self._include(os.fsdecode(text))
+        if verb == b"N" and self._open:
+            return self._next()
+        if verb == b"C":
+            self._open.clear()
+        return b""
+
+    def _include(self, name: str) -> bytes:
+        beside = os.path.join(os.path.dirname(self._open[-1].name), name) if self._open else name
+        found = beside if os.path.exists(beside) else os.path.expanduser(name)
+        try:
+            self._open.append(Text(found))
+        except OSError as error:
+            return answer(b"!", f"{name} can't be read: {error.strerror}".encode())
+        return answer(b"=")
+
+    def _next(self) -> bytes:
+        given = self._open[-1].next()
+        if given == answer(b"."):
+            self._open.pop()
+        return given

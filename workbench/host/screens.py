@@ -1,0 +1,46 @@
+"""Screens as text, which RELOAD takes into a session: the program itself makes blocks of them, as `forth83 screens` does."""
+from __future__ import annotations
+
+import os
+import re
+import subprocess
+
+from host.keeping import SCREEN
+
+HEADING = re.compile(rb"^% screen ([0-9]+)$", re.M)
+
+
+def numbers_of(text: bytes) -> list[int]:
+    """The screens that a text names, in order; without a heading before its first line that is screen 1."""
+    named = {int(number) for number in HEADING.findall(text)}
+    if text and not HEADING.match(text):
+        named.add(1)
+    return sorted(named)
+
+
+def run(words: list[str]) -> str:
+    """Runs the program; what it said if it refused."""
+    done = subprocess.run(words, stdin=subprocess.DEVNULL, capture_output=True, check=False)
+    said = (done.stdout + done.stderr).decode(errors="replace").strip()
+    return said or f"status {done.returncode}" if done.returncode else ""
+
+
+def read_screens(forth83: str, name: str, count: int, room: str) -> tuple[list[tuple[int, bytes]], str]:
+    """The screens of a text, each with its number, for a file of so many blocks; or why they can't be taken."""
+    made = os.path.join(room, "text.blk")
+    try:
+        with open(name, "rb") as file:
+            numbers = numbers_of(file.read())
+    except OSError as error:
+        return [], f"{name} can't be read: {error.strerror}"
+    if numbers and numbers[-1] >= count:
+        return [], f"{name} has screen {numbers[-1]}, and the block file has screens 0 to {count - 1}"
+    said = run([forth83, "new", made, str(count)]) or run([forth83, "screens", "--", name, made])
+    pages: list[tuple[int, bytes]] = []
+    if not said:
+        with open(made, "rb") as file:
+            blocks = file.read()
+        pages = [(number, blocks[number * SCREEN : (number + 1) * SCREEN]) for number in numbers]
+    if os.path.exists(made):
+        os.unlink(made)
+    return pages, f"{name}: {said}" if said else ""
