@@ -1,9 +1,11 @@
--- What was typed on the command line, as its words have it.
-use Rattle.std.specs.Prelude.{◌≡◌, ℕ, Bool, true, false, List, Option, Some, None, String, option_map, codes}
+-- What the words of a subcommand say, by the rows that clap finds for its arguments.
+use Rattle.std.specs.Prelude.{◌≡◌, ◌⊎◌, ℕ, Bool, true, false, List, map, Option, Some, None, option_map, codes, String}
 use Rattle.std.specs.declared.alloc.Global.{Global}
 use Rattle.std.specs.String.{string_bytes}
-use Rattle.clap.specs.Words.{found_of, first_value, one_text}
-use Rattle.clap.specs.declared.parser.matches.ArgMatches.{ArgMatches}
+use Rattle.std.specs.Str.Parse.{digits_value, without_leading_plus}
+use Rattle.clap.specs.Walk.{Row, Text, first_of, one_of}
+use Rattle.clap.specs.Simple.{subcommand_of}
+use Rattle.command_words.specs.CommandLine.{forth83}
 use Rattle.command_words.specs.declared.BuildWords.{BuildWords}
 use Rattle.command_words.specs.declared.LoadWords.{LoadWords}
 use Rattle.command_words.specs.declared.RunWords.{RunWords}
@@ -12,57 +14,78 @@ use Rattle.command_words.specs.declared.containers.ContainerWords.{ContainerWord
 use Rattle.command_words.specs.declared.Words.{Words}
 use Rattle.command_words.specs.declared.Words.TheVariants as words
 
--- this text was typed for the argument of this name
-abbrev pub IsTyped : ArgMatches → (name : List ℕ) → String Global → Type 0
-IsTyped m name text = Some (string_bytes text) ≡ first_value (found_of m) name
+-- the text of an argument
+abbrev pub IsText : List Row → (name : Text) → String Global → Type 0
+IsText rows name text = first_of name rows ≡ Some (string_bytes text)
 
--- this text was typed for the argument of this name, or it was not given
-abbrev pub IsTypedIfGiven : ArgMatches → (name : List ℕ) → Option (String Global) → Type 0
-IsTypedIfGiven m name text = option_map string_bytes text ≡ first_value (found_of m) name
+-- the text of an argument that may be left out
+abbrev pub IsTextIfGiven : List Row → (name : Text) → Option (String Global) → Type 0
+IsTextIfGiven rows name text = first_of name rows ≡ option_map string_bytes text
 
--- whether the flag of this name was given
-pub record IsFlag (m : ArgMatches) (name : List ℕ) (given : Bool) : Type 0 where
-  pub absent : one_text (found_of m) name ≡ None → given ≡ false
-  pub yes : one_text (found_of m) name ≡ Some (codes "true") → given ≡ true
-  pub no : one_text (found_of m) name ≡ Some (codes "false") → given ≡ false
+-- the number that an argument's text writes, in decimal digits
+abbrev pub number_in : Text → List Row → Option ℕ
+number_in name rows = option_map (λ text. digits_value 10 (without_leading_plus text)) (one_of name rows)
 
--- each file is the one that was typed in its place
-abbrev pub AreScreens : ArgMatches → ScreenRange → Type 0
-AreScreens m w = IsTyped m (codes "BLOCKS") w.blocks
+-- whether a flag was given
+pub record IsFlag (rows : List Row) (name : Text) (given : Bool) : Type 0 where
+  pub absent : one_of name rows ≡ None → given ≡ false
+  pub yes : one_of name rows ≡ Some (codes "true") → given ≡ true
+  pub no : one_of name rows ≡ Some (codes "false") → given ≡ false
 
-abbrev pub AreBuilt : ArgMatches → BuildWords → Type 0
-AreBuilt m w = AreScreens m w.screens × IsTyped m (codes "IMAGE") w.image × IsFlag m (codes "where") w.shows_place
+pub record AreScreens (rows : List Row) (w : ScreenRange) : Type 0 where
+  pub blocks : IsText rows (codes "BLOCKS") w.blocks
+  pub from : number_in (codes "FROM") rows ≡ Some w.from
+  pub to : number_in (codes "TO") rows ≡ Some w.to
 
-abbrev pub AreLoaded : ArgMatches → LoadWords → Type 0
-AreLoaded m w = IsTyped m (codes "IMAGE") w.image × AreScreens m w.screens × IsTyped m (codes "OUT") w.out × IsFlag m (codes "where") w.shows_place
+pub record IsBuild (rows : List Row) (w : BuildWords) : Type 0 where
+  pub screens : AreScreens rows w.screens
+  pub image : IsText rows (codes "IMAGE") w.image
+  pub buffers : number_in (codes "buffers") rows ≡ Some w.buffers
+  pub place : IsFlag rows (codes "where") w.shows_place
 
-abbrev pub AreRun : ArgMatches → RunWords → Type 0
-AreRun m w =
-    IsTyped m (codes "IMAGE") w.image × IsTypedIfGiven m (codes "BLOCKS") w.blocks × IsTypedIfGiven m (codes "break") w.break_file
-    × IsFlag m (codes "save") w.saves
+pub record IsLoad (rows : List Row) (w : LoadWords) : Type 0 where
+  pub image : IsText rows (codes "IMAGE") w.image
+  pub screens : AreScreens rows w.screens
+  pub out : IsText rows (codes "OUT") w.out
+  pub limit : number_in (codes "limit") rows ≡ Some w.limit
+  pub place : IsFlag rows (codes "where") w.shows_place
 
-abbrev pub AreContained : ArgMatches → ContainerWords → Type 0
-AreContained m w = IsTyped m (codes "CONTAINER") w.container × IsTyped m (codes "BLOCKS") w.blocks × IsTyped m (codes "format") w.format
+pub record IsRun (rows : List Row) (w : RunWords) : Type 0 where
+  pub image : IsText rows (codes "IMAGE") w.image
+  pub blocks : IsTextIfGiven rows (codes "BLOCKS") w.blocks
+  pub limit : number_in (codes "limit") rows ≡ Some w.limit
+  pub break : IsTextIfGiven rows (codes "break") w.break_file
+  pub saves : IsFlag rows (codes "save") w.saves
 
--- and each option is the one that was given
-abbrev pub Says : ArgMatches → Words → Type 0
-Says m (words.Kernel blocks) = IsTyped m (codes "BLOCKS") blocks
-Says m (words.Build w) = AreBuilt m w
-Says m (words.Upgrade image out buffers) = IsTyped m (codes "IMAGE") image × IsTyped m (codes "OUT") out
-Says m (words.Load w) = AreLoaded m w
-Says m (words.Text w) = AreScreens m w
-Says m (words.Screens text blocks) = IsTyped m (codes "TEXT") text × IsTyped m (codes "BLOCKS") blocks
-Says m (words.New blocks count) = IsTyped m (codes "BLOCKS") blocks
-Says m (words.Import w) = AreContained m w × IsFlag m (codes "clean") w.cleans
-Says m (words.Export w) = AreContained m w
-Says m (words.Run w) = AreRun m w
-Says m (words.Debug image name trace blocks limit) =
-    IsTyped m (codes "IMAGE") image × IsTyped m (codes "NAME") name × IsTyped m (codes "TRACE") trace × IsTypedIfGiven m (codes "BLOCKS") blocks
-Says m (words.See image name) = IsTyped m (codes "IMAGE") image × IsTyped m (codes "NAME") name
-Says m (words.View image name) = IsTyped m (codes "IMAGE") image × IsTyped m (codes "NAME") name
+pub record IsContainer (rows : List Row) (w : ContainerWords) : Type 0 where
+  pub container : IsText rows (codes "CONTAINER") w.container
+  pub blocks : IsText rows (codes "BLOCKS") w.blocks
+  pub format : IsText rows (codes "format") w.format
+  pub offset : number_in (codes "offset") rows ≡ w.offset
+  pub sector : number_in (codes "sector") rows ≡ w.sector
+  pub skew : IsTextIfGiven rows (codes "skew") w.skew
+
+-- each file and option is the one that was given in its place
+abbrev pub Says : List Row → Words → Type 0
+Says rows (words.Kernel blocks) = IsText rows (codes "BLOCKS") blocks
+Says rows (words.Build w) = IsBuild rows w
+Says rows (words.Upgrade image out buffers) =
+    IsText rows (codes "IMAGE") image × IsText rows (codes "OUT") out × (number_in (codes "buffers") rows ≡ buffers)
+Says rows (words.Load w) = IsLoad rows w
+Says rows (words.Text w) = AreScreens rows w
+Says rows (words.Screens text blocks) = IsText rows (codes "TEXT") text × IsText rows (codes "BLOCKS") blocks
+Says rows (words.New blocks count) = IsText rows (codes "BLOCKS") blocks × (number_in (codes "N") rows ≡ Some count)
+Says rows (words.Import w) = IsContainer rows w × IsFlag rows (codes "clean") w.cleans
+Says rows (words.Export w) = IsContainer rows w
+Says rows (words.Run w) = IsRun rows w
+Says rows (words.Debug image name trace blocks limit) =
+    IsText rows (codes "IMAGE") image × IsText rows (codes "NAME") name × IsText rows (codes "TRACE") trace
+    × IsTextIfGiven rows (codes "BLOCKS") blocks × (number_in (codes "limit") rows ≡ Some limit)
+Says rows (words.See image name) = IsText rows (codes "IMAGE") image × IsText rows (codes "NAME") name
+Says rows (words.View image name) = IsText rows (codes "IMAGE") image × IsText rows (codes "NAME") name
 
 -- the subcommand of this name
-abbrev pub name_of : Words → List ℕ
+abbrev pub name_of : Words → Text
 name_of (words.Kernel blocks) = codes "kernel"
 name_of (words.Build w) = codes "build"
 name_of (words.Upgrade image out buffers) = codes "upgrade"
@@ -76,3 +99,17 @@ name_of (words.Run w) = codes "run"
 name_of (words.Debug image name trace blocks limit) = codes "debug"
 name_of (words.See image name) = codes "see"
 name_of (words.View image name) = codes "view"
+
+-- w is of the subcommand of this name, and says what was found for its arguments
+pub record AreOf (name : Text) (rows : List Row) (w : Words) : Type 0 where
+  pub named : name_of w ≡ name
+  pub said : Says rows w
+
+-- w is the subcommand that was entered, by its name and by what was found for its arguments
+abbrev pub Means : Option (Text × List Row) → Words → Type 0
+Means None w = ⊥
+Means (Some (name, rows)) w = AreOf name rows w
+
+-- w is what was typed, of which the first word is the program's name
+abbrev pub IsTyped : (typed : List Text) → Words → Type 0
+IsTyped typed w = Means (subcommand_of forth83 typed) w

@@ -21,10 +21,10 @@ pub struct Disk<'a> {
     pub blocks: &'a str,
     /// The name of the format.
     pub format: &'a str,
-    /// One's own numbers in place of the format's; no skew where it is empty.
+    /// Numbers in place of the format's own. Commas separate those of a skew.
     pub offset: Option<u32>,
     pub sector: Option<u16>,
-    pub skew: &'a [usize],
+    pub skew: Option<&'a str>,
 }
 
 /// Prints why a container isn't read or written, and answers the status.
@@ -34,6 +34,29 @@ fn refuse_cause(rt: &HostRuntime, why: Cause) -> Result<u8, u8>
 {
     let mut writer = Writing::new(standard_output(rt)?);
     Ok(refuse_container(why, &mut writer).status)
+}
+
+/// The numbers of a skew, or none if it is not given. If one is no number of 16 bits, that is printed, and the status is the error.
+fn skew_of(rt: &HostRuntime, skew: Option<&str>) -> Result<Vec<usize>, u8>
+    ensures { IfErr result (λ status. 0 < status) }
+{
+    let mut numbers = Vec::new(rt.alloc());
+    let Some(skew) = skew else {
+        return Ok(numbers);
+    };
+    for number in skew.split(',') {
+        let Ok(number) = number.parse::<u16>() else {
+            return Err(refuse_use(
+                rt,
+                "--skew",
+                "takes numbers from 0 to 65535, with commas between them",
+            ));
+        };
+        if numbers.push(usize::from(number)).is_err() {
+            return Err(out_of_memory(rt));
+        }
+    }
+    Ok(numbers)
 }
 
 /// How screens lie in the container. Where nothing can lie so it is printed why, and the status is the error.
@@ -48,7 +71,8 @@ fn layout_of(rt: &HostRuntime, disk: Disk<'_>) -> Result<Layout, u8>
         ));
     };
     let sector = disk.sector.map(usize::from);
-    match format.layout(rt.alloc(), disk.offset, sector, disk.skew) {
+    let skew = skew_of(rt, disk.skew)?;
+    match format.layout(rt.alloc(), disk.offset, sector, skew.as_slice()) {
         Ok(layout) => Ok(layout),
         Err(why) => Err(refuse_cause(rt, why)?),
     }

@@ -1,6 +1,9 @@
 //! A Forth-83 system with block storage.
 #![tactic(auto)]
 
+ghost use Rattle.std.specs.Prelude.{◌≡◌, ◌<◌, IfErr, option_map};
+ghost use Rattle.std.specs.String.{string_bytes};
+
 use command_words::{BuildWords, ContainerWords, LoadWords, Parsed, RunWords, ScreenRange, Words};
 use debug_subcommand::debug_word;
 use file_subcommands::{
@@ -13,7 +16,10 @@ use session_runs::{Session, run_image};
 use std::process::ExitCode;
 
 /// The screens that words name.
-fn screens_of(words: &ScreenRange) -> Screens<'_> {
+fn screens_of(words: &ScreenRange) -> Screens<'_>
+    ensures blocks { result.blocks.now ≡ string_bytes words.now.blocks }
+    ensures range { (result.from ≡ words.now.from) × (result.to ≡ words.now.to) }
+{
     Screens {
         blocks: words.blocks.as_str(),
         from: words.from,
@@ -22,19 +28,26 @@ fn screens_of(words: &ScreenRange) -> Screens<'_> {
 }
 
 /// The container and the file of blocks that words name.
-fn disk_of(words: &ContainerWords) -> Disk<'_> {
+fn disk_of(words: &ContainerWords) -> Disk<'_>
+    ensures files { (result.container.now ≡ string_bytes words.now.container) × (result.blocks.now ≡ string_bytes words.now.blocks) }
+    ensures format { result.format.now ≡ string_bytes words.now.format }
+    ensures numbers { (result.offset ≡ words.now.offset) × (result.sector ≡ words.now.sector) }
+    ensures skew { option_map (λ text. text.now) result.skew ≡ option_map string_bytes words.now.skew }
+{
     Disk {
         container: words.container.as_str(),
         blocks: words.blocks.as_str(),
         format: words.format.as_str(),
         offset: words.offset,
         sector: words.sector,
-        skew: words.skew.as_slice(),
+        skew: words.skew.as_deref(),
     }
 }
 
 /// Does what the words of `build` say.
-fn obey_build(rt: &HostRuntime, words: &BuildWords) -> Result<u8, u8> {
+fn obey_build(rt: &HostRuntime, words: &BuildWords) -> Result<u8, u8>
+    ensures { IfErr result (λ status. 0 < status) }
+{
     build_image(
         rt,
         screens_of(&words.screens),
@@ -45,7 +58,12 @@ fn obey_build(rt: &HostRuntime, words: &BuildWords) -> Result<u8, u8> {
 }
 
 /// What the words of `load` name.
-fn load_of(words: &LoadWords) -> Load<'_> {
+fn load_of(words: &LoadWords) -> Load<'_>
+    ensures files { (result.image.now ≡ string_bytes words.now.image) × (result.out.now ≡ string_bytes words.now.out) }
+    ensures blocks { result.blocks.now ≡ string_bytes words.now.screens.blocks }
+    ensures range { (result.from ≡ words.now.screens.from) × (result.to ≡ words.now.screens.to) }
+    ensures options { (result.limit ≡ words.now.limit) × (result.shows_place ≡ words.now.shows_place) }
+{
     Load {
         image: words.image.as_str(),
         blocks: words.screens.blocks.as_str(),
@@ -58,16 +76,20 @@ fn load_of(words: &LoadWords) -> Load<'_> {
 }
 
 /// What the words of `run` want beside the run.
-fn session_of(words: &RunWords) -> Session<'_> {
+fn session_of(words: &RunWords) -> Session<'_>
+    ensures asked { option_map (λ text. text.now) result.break_file ≡ option_map string_bytes words.now.break_file }
+    ensures saves { result.saves ≡ words.now.saves }
+{
     Session {
         break_file: words.break_file.as_deref(),
         saves: words.saves,
     }
 }
 
-/// Does what the words say, and answers the status. Where a subcommand can't begin it is printed why, and the status is the
-/// error.
-fn obey(rt: &HostRuntime, words: Words) -> Result<u8, u8> {
+/// Does what the words say, and answers the status. If a subcommand cannot start, the reason is printed, and the status is the error.
+fn obey(rt: &HostRuntime, words: Words) -> Result<u8, u8>
+    ensures { IfErr result (λ status. 0 < status) }
+{
     match words {
         Words::Kernel { blocks } => write_kernel(rt, blocks.as_str()),
         Words::Build(words) => obey_build(rt, &words),

@@ -1,6 +1,6 @@
 //! A place in a screen, shown to people on standard error: the line, and a mark below it.
 
-ghost use Rattle.std.specs.Prelude.{◌≡◌, ◌<◌, ◌++◌, ◌∷◌, [], IfSome};
+ghost use Rattle.std.specs.Prelude.{◌≡◌, ◌<◌, ◌++◌, ◌∷◌, ◌&&◌, [], IfSome, if◌then◌else◌, nat_le, nat_lt};
 ghost use Rattle.block_buffers.specs.Calls.{KeepsBlocks};
 ghost use Rattle.block_buffers.specs.DeviceCalls.{WasRead};
 ghost use Rattle.block_buffers.specs.ReadPages.{AreReadFrom};
@@ -10,7 +10,9 @@ use std::alloc::{AllocError, Global};
 use std::fmt::Display;
 
 /// A byte of a screen's line as a terminal can show it.
-fn shown(byte: u8) -> char {
+fn shown(byte: u8) -> char
+    ensures { result ≡ (if nat_le 32 byte && nat_lt byte 127 then byte else 63) }
+{
     if (b' '..0x7F).contains(&byte) {
         char::from(byte)
     } else {
@@ -55,23 +57,6 @@ pub fn show_line<C: Display + Drop>(
     }
 }
 
-/// The bytes of a screen. Where it can't be read that is said.
-pub fn read_screen<D: Device>(
-    rt: &HostRuntime,
-    name: &str,
-    device: &mut D,
-    number: u16,
-) -> Option<[u8; BLOCK_SIZE]> {
-    let mut screen = [b' '; BLOCK_SIZE];
-    match device.read(number, &mut screen) {
-        Ok(()) => Some(screen),
-        Err(_) => {
-            say_missing(rt, name, number);
-            None
-        }
-    }
-}
-
 /// The bytes of a block. `None`: it can't be read.
 fn block_in<D: Device>(device: &mut D, block: u16) -> Option<[u8; BLOCK_SIZE]>
     ensures kept { KeepsBlocks (D.disk device.old) (D.disk device.new) }
@@ -84,6 +69,24 @@ fn block_in<D: Device>(device: &mut D, block: u16) -> Option<[u8; BLOCK_SIZE]>
         Ok(()) => Some(page),
         Err(_) => None,
     }
+}
+
+/// The bytes of a screen. If it cannot be read, that is shown.
+pub fn read_screen<D: Device>(
+    rt: &HostRuntime,
+    name: &str,
+    device: &mut D,
+    number: u16,
+) -> Option<[u8; BLOCK_SIZE]>
+    ensures kept { KeepsBlocks (D.disk device.old) (D.disk device.new) }
+    ensures counted { D.block_count device.new ≡ D.block_count device.old }
+    ensures read { IfSome result (λ page. D.calls device.new ≡ D.calls device.old ++ WasRead number page ∷ []) }
+{
+    let screen = block_in(device, number);
+    if screen.is_none() {
+        say_missing(rt, name, number);
+    }
+    screen
 }
 
 /// The blocks of a device, each of which is read once, to try a load on. `None`: one can't be read, or memory ran out.

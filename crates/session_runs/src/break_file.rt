@@ -4,6 +4,8 @@
 //! anything but BYE, the end of its input or a stream that failed, or that can't write its changed blocks then, writes them into that
 //! file, so that they can be put into a copy of the block file: `kept`, then for each its number (the low byte first) and its 1,024 bytes, then `done`.
 
+ghost use Rattle.std.specs.Prelude.{◌≡◌, [], false};
+
 use crate::hosts::{SessionHost, Wish};
 use inner_interpreter::ByteLog;
 use std::fs;
@@ -28,7 +30,10 @@ pub struct BreakFile<'a> {
 
 impl<'a> BreakFile<'a> {
     /// A host that looks for a file of this name, if it is given one.
-    pub fn new(rt: &'a HostRuntime, name: Option<&'a str>) -> BreakFile<'a> {
+    pub fn new(rt: &'a HostRuntime, name: Option<&'a str>) -> BreakFile<'a>
+        ensures kept { ⟦<BreakFile<'a> as SessionHost>⟧.kept result ≡ [] }
+        ensures asked { (⟦<BreakFile<'a> as SessionHost>⟧.interruptions result ≡ 0) × (⟦<BreakFile<'a> as SessionHost>⟧.ended result ≡ false) }
+    {
         BreakFile {
             rt,
             name,

@@ -6,7 +6,6 @@ use crate::break_file::BreakFile;
 use crate::sessions::{Wanted, do_session};
 use inner_interpreter::{Reading, Writing};
 use named_files::{image_bytes, run_blocks, standard_input, standard_output};
-use subcommands::do_run;
 
 /// How many ticks a slice has: less than a thousandth of a second of computing, and less than a second where each tick shows a byte at
 /// a terminal.
@@ -21,8 +20,8 @@ pub struct Session<'a> {
     pub saves: bool,
 }
 
-/// Opens what `run` names, and runs the image over it, and over standard input and output: as a session, where one is wanted. Where
-/// it can't begin it is printed why, and the status, which is not 0, is the error.
+/// Opens what `run` names, and runs the image as a session over it, and over standard input and output. If it cannot start, the reason
+/// is printed, and the status, which is not 0, is the error.
 pub fn run_image(
     rt: &HostRuntime,
     image: &str,
@@ -37,17 +36,6 @@ pub fn run_image(
     let mut device = run_blocks(rt, blocks)?;
     let mut reader = Reading::new(standard_input(rt)?);
     let mut writer = Writing::new(standard_output(rt)?);
-    if !session.saves && session.break_file.is_none() {
-        let ended = do_run(
-            rt.alloc(),
-            image,
-            &mut device,
-            limit,
-            &mut reader,
-            &mut writer,
-        );
-        return Ok(ended.status);
-    }
     let wanted = Wanted {
         limit,
         slice: SLICE,

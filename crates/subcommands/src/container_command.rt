@@ -1,9 +1,9 @@
 //! The subcommands that read the screens of a container, and write screens into one.
 
-ghost use Rattle.std.specs.Prelude.{◌≡◌, ◌≢◌, ◌<◌, codes, IfErr, IfOk, IsNone, IsSome, MatchOption, false, true};
-ghost use Rattle.containers.specs.Containers.{IsWhy, IsWritten, unread, unwritten};
+ghost use Rattle.std.specs.Prelude.{◌≡◌, ◌≢◌, ◌<◌, codes, IfErr, IfOk, IsNone, IsSome, MatchOption, None, false, true};
+ghost use Rattle.containers.specs.Containers.{IsCause, IsWritten, unread, unwritten};
 ghost use Rattle.containers.specs.declared.cause.Cause.{Cause};
-ghost use Rattle.subcommands.specs.Disks.{EndsUnread, IsImported, container_cause};
+ghost use Rattle.subcommands.specs.Disks.{PrintsUnread, IsImported, container_cause};
 ghost use Rattle.subcommands.specs.Ends.{IsRefusal};
 ghost use Rattle.subcommands.specs.Lines.{PrintsOutOfMemory, PrintsRefusal};
 
@@ -56,7 +56,7 @@ fn imported(
     cleans: bool,
 ) -> Result<Vec<u8>, Cause>
     ensures screens { IfOk result (λ v. IsImported layout.now container.now cleans v.items) }
-    ensures cause { IfErr result (IsWhy (unread layout.now container.now)) }
+    ensures cause { IfErr result (IsCause (unread layout.now container.now)) }
 {
     let mut screens = read_screens(alloc, layout, container)?;
     if cleans {
@@ -79,7 +79,7 @@ pub fn do_import<W: Output>(
     // Beside the file nothing is printed; where there is none, it is printed why.
     ensures silent { IsSome result.file → writer.new ≡ writer.old }
     ensures refused { W.failed writer.new ≡ false → IsNone result.file →
-        EndsUnread (unread layout.now container.now) result.status (W.sent writer.old) (W.sent writer.new) }
+        PrintsUnread (unread layout.now container.now) result.status (W.sent writer.old) (W.sent writer.new) }
     ensures passed { W.failed writer.new ≡ false → IsNone result.file → W.passed writer.new ≡ true }
     ensures cut { W.failed writer.old ≡ false → W.failed writer.new ≡ true → (result.status ≡ 5) × IsNone result.file }
 {
@@ -100,10 +100,12 @@ pub fn do_export<W: Output>(
 ) -> Ended
     ensures file { MatchOption result.file (0 < result.status)
         (λ file. (result.status ≡ 0) × IsWritten layout.now screens.now container.items file.items) }
+    // A file is made unless something is wrong.
+    ensures done { unwritten layout.now screens.now container.items ≡ None → IsSome result.file }
     // Beside the file nothing is printed; where there is none, it is printed why.
     ensures silent { IsSome result.file → writer.new ≡ writer.old }
     ensures refused { W.failed writer.new ≡ false → IsNone result.file →
-        EndsUnread (unwritten layout.now screens.now container.items) result.status (W.sent writer.old) (W.sent writer.new) }
+        PrintsUnread (unwritten layout.now screens.now container.items) result.status (W.sent writer.old) (W.sent writer.new) }
     ensures passed { W.failed writer.new ≡ false → IsNone result.file → W.passed writer.new ≡ true }
     ensures cut { W.failed writer.old ≡ false → W.failed writer.new ≡ true → (result.status ≡ 5) × IsNone result.file }
 {

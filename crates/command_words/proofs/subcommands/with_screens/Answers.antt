@@ -1,0 +1,13 @@
+use Rattle.std.proofs.Common.{rules, ◌≡◌, ◌++◌, ◌∙◌, ap, refl, IfOk, ℕ, Bool, true, false, List, [], ◌∷◌}
+use Rattle.clap.specs.Simple.{app_of, app_of_fields, on_top}
+use Rattle.clap.specs.declared.builder.command.Command.TheViews.{out-Command as fields_of}
+use Rattle.command_words.proofs.Adding.{about, grown, if_ok_then, joined, passed}
+use Rattle.command_words.specs.CommandLine as line
+use Rattle.command_words.proofs.subcommands.with_screens.Goals as goal
+
+pub returns : goal.returns
+returns c =
+    let s0 : line.IsRead (app_of c.args.command) (fields_of c.args.command).has_globals c.args.command = record { app = refl; local = refl } in
+    let s1 = grown _ _ c.args.command c.word.result _ _ s0 c.word.ensures.rule c.word.ensures.local c.in_ok-arg.ensures in
+    let s2 = grown _ _ _ c.screen.result _ _ s1 c.screen.ensures.rule c.screen.ensures.local c.in_ok-arg-2.ensures in
+    if_ok_then c.arg-3.result _ _ (λ d h. grown _ _ _ c.screen-2.result _ d s2 c.screen-2.ensures.rule c.screen-2.ensures.local h) c.arg-3.ensures

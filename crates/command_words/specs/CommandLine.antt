@@ -1,0 +1,137 @@
+-- The command line: each subcommand with its arguments, in their order.
+use Rattle.std.specs.Prelude.{◌≡◌, ℕ, Bool, List, [], ◌∷◌, ◌++◌, Some, true, false, codes, pos}
+use Rattle.clap.specs.Walk.{Rule, Text}
+use Rattle.clap.specs.Simple.{App, Shape, app_of, new_shape, with_rule}
+pub use Rattle.clap.specs.Simple.{new_rule}
+use Rattle.clap.specs.declared.builder.command.Command.TheViews.{out-Command as fields_of}
+use Rattle.clap.specs.declared.builder.action.ArgAction.TheVariants.{SetTrue}
+use Rattle.clap.specs.declared.builder.command.Command.{Command}
+use Rattle.clap.specs.declared.builder.value_parser.ValueParser.TheVariants as value
+
+-- a word that must be given
+abbrev pub word : Text → Rule
+word id = record (new_rule id) { required = true }
+
+-- the number of a screen, which must be given
+abbrev pub screen : Text → Rule
+screen id = record (word id) { parser = Some (value.Signed (pos 0) (pos 65535)) }
+
+-- `--ID VALUE`
+abbrev pub option : Text → Rule
+option id = record (new_rule id) { long = Some id; value_names = 1 }
+
+-- `--ID`
+abbrev pub flag : Text → Rule
+flag id = record (new_rule id) { long = Some id; action = Some SetTrue }
+
+abbrev pub buffers : Rule
+buffers = record (option (codes "buffers")) { parser = Some (value.Signed (pos 2) (pos 16)) }
+
+-- of `build`
+abbrev pub four_buffers : Rule
+four_buffers = record buffers { defaults = codes "4" ∷ [] }
+
+abbrev pub limit : Rule
+limit = record (option (codes "limit")) {
+  parser = Some (value.Unsigned 0 18446744073709551615);
+  defaults = codes "1000000000000" ∷ [];
+}
+
+abbrev pub show_place : Rule
+show_place = flag (codes "where")
+
+abbrev pub sub : Text → List Rule → Shape
+sub name rules = record (new_shape name) { rules = rules }
+
+abbrev pub kernel : Shape
+kernel = sub (codes "kernel") (word (codes "BLOCKS") ∷ [])
+
+-- the screens FROM to TO of BLOCKS
+abbrev pub screens_rules : List Rule
+screens_rules = word (codes "BLOCKS") ∷ screen (codes "FROM") ∷ screen (codes "TO") ∷ []
+
+abbrev pub build : Shape
+build = sub (codes "build") (screens_rules
+    ++ word (codes "IMAGE") ∷ four_buffers ∷ show_place ∷ [])
+
+abbrev pub load : Shape
+load = sub (codes "load") (word (codes "IMAGE") ∷ (screens_rules ++ word (codes "OUT") ∷ limit ∷ show_place ∷ []))
+
+abbrev pub upgrade : Shape
+upgrade = sub (codes "upgrade") (word (codes "IMAGE") ∷ word (codes "OUT") ∷ buffers ∷ [])
+
+abbrev pub text : Shape
+text = sub (codes "text") screens_rules
+
+abbrev pub screens : Shape
+screens = sub (codes "screens") (word (codes "TEXT") ∷ word (codes "BLOCKS") ∷ [])
+
+-- how many blocks
+abbrev pub count : Rule
+count = record (word (codes "N")) { parser = Some (value.Signed (pos 0) (pos 4294967295)) }
+
+abbrev pub new : Shape
+new = sub (codes "new") (word (codes "BLOCKS") ∷ count ∷ [])
+
+-- how screens lie in a container: its format, and numbers in place of the format's
+abbrev pub format : Rule
+format = record (option (codes "format")) { defaults = codes "blocks" ∷ [] }
+
+abbrev pub offset : Rule
+offset = record (option (codes "offset")) { parser = Some (value.Signed (pos 0) (pos 4294967295)) }
+
+abbrev pub sector : Rule
+sector = record (option (codes "sector")) { parser = Some (value.Signed (pos 0) (pos 65535)) }
+
+abbrev pub layout_rules : List Rule
+layout_rules = format ∷ offset ∷ sector ∷ option (codes "skew") ∷ []
+
+abbrev pub import : Shape
+import = sub (codes "import") (word (codes "CONTAINER") ∷ word (codes "BLOCKS") ∷ flag (codes "clean") ∷ layout_rules)
+
+abbrev pub export : Shape
+export = sub (codes "export") (word (codes "BLOCKS") ∷ word (codes "CONTAINER") ∷ layout_rules)
+
+abbrev pub run : Shape
+run = sub (codes "run") (word (codes "IMAGE") ∷ new_rule (codes "BLOCKS") ∷ limit ∷ option (codes "break") ∷ flag (codes "save") ∷ [])
+
+abbrev pub see : Shape
+see = sub (codes "see") (word (codes "IMAGE") ∷ word (codes "NAME") ∷ [])
+
+abbrev pub debug : Shape
+debug = sub (codes "debug") (word (codes "IMAGE") ∷ word (codes "NAME") ∷ word (codes "TRACE") ∷ new_rule (codes "BLOCKS") ∷ limit ∷ [])
+
+abbrev pub view : Shape
+view = sub (codes "view") (word (codes "IMAGE") ∷ word (codes "NAME") ∷ [])
+
+abbrev pub subcommands : List Shape
+subcommands = kernel ∷ build ∷ load ∷ upgrade ∷ text ∷ screens ∷ new ∷ import ∷ export ∷ run ∷ see ∷ debug ∷ view ∷ []
+
+abbrev pub forth83 : App
+forth83 = record {
+  top = record (new_shape (codes "forth83")) {
+    has_version = true;
+    subcommand_required = true;
+    arg_required_else_help = true;
+    is_leaf = false;
+  };
+  subs = subcommands;
+}
+
+-- a command with these arguments after its own
+abbrev pub with_rules : List Rule → App → App
+with_rules [] a = a
+with_rules (rule ∷ rules) a = with_rules rules (with_rule a rule)
+
+-- clap reads words by this command, of whose arguments none is global but where `globals` says so
+pub record IsRead (a : App) (globals : Bool) (c : Command) : Type 0 where
+  pub app : app_of c ≡ a
+  pub local : (fields_of c).has_globals ≡ globals
+
+-- c is this subcommand
+abbrev pub IsSubcommand : Shape → Command → Type 0
+IsSubcommand shape c = IsRead (record { top = shape; subs = [] }) false c
+
+-- c is the command `old` with these arguments after its own
+abbrev pub Adds : List Rule → (old c : Command) → Type 0
+Adds rules old c = IsRead (with_rules rules (app_of old)) (fields_of old).has_globals c

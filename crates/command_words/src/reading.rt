@@ -1,0 +1,273 @@
+//! What was typed, read from what `clap` found.
+
+ghost use Rattle.std.specs.Prelude.{◌≡◌, Some, None, IfOk, codes};
+ghost use Rattle.clap.specs.Walk.{rows_of};
+ghost use Rattle.clap.specs.Matches.{found_of};
+ghost use Rattle.clap.specs.Simple.{subcommand_rows_of};
+ghost use Rattle.command_words.specs.Typed as typed;
+
+use crate::{BuildWords, ContainerWords, LoadWords, RunWords, ScreenRange, Words};
+use clap::ArgMatches;
+use std::alloc::{AllocError, Global};
+
+/// Why what `clap` found makes no words.
+#[derive(Clone, Copy, Debug, PartialEq, Eq)]
+pub enum Unread {
+    OutOfMemory,
+    /// An argument that `clap` wants isn't there, or is no number.
+    Missing,
+}
+
+impl From<AllocError> for Unread {
+    fn from(_: AllocError) -> Unread {
+        Unread::OutOfMemory
+    }
+}
+
+/// The text that was typed for an argument, or stands for one that was left out.
+fn text(alloc: Global, matches: &ArgMatches<'_>, name: &str) -> Result<String, Unread>
+    ensures { IfOk result (typed.IsText (rows_of (found_of matches.now)) name.now) }
+{
+    match matches.get_str(name) {
+        None => Err(Unread::Missing),
+        Some(text) => Ok(String::from_str(alloc, text)?),
+    }
+}
+
+/// The text that was typed for an argument, if one was.
+fn text_if_given(
+    alloc: Global,
+    matches: &ArgMatches<'_>,
+    name: &str,
+) -> Result<Option<String>, Unread>
+    ensures { IfOk result (typed.IsTextIfGiven (rows_of (found_of matches.now)) name.now) }
+{
+    match matches.get_str(name) {
+        None => Ok(None),
+        Some(text) => Ok(Some(String::from_str(alloc, text)?)),
+    }
+}
+
+/// A number of 16 bits, if one was typed.
+fn number_if_given(matches: &ArgMatches<'_>, name: &str) -> Result<Option<u16>, Unread>
+    ensures { IfOk result (λ n. typed.number_in name.now (rows_of (found_of matches.now)) ≡ n) }
+{
+    match matches.try_get_one::<u16>(name) {
+        Ok(number) => Ok(number),
+        Err(_) => Err(Unread::Missing),
+    }
+}
+
+/// A number of 16 bits.
+fn number(matches: &ArgMatches<'_>, name: &str) -> Result<u16, Unread>
+    ensures { IfOk result (λ n. typed.number_in name.now (rows_of (found_of matches.now)) ≡ Some n) }
+{
+    match number_if_given(matches, name)? {
+        Some(number) => Ok(number),
+        None => Err(Unread::Missing),
+    }
+}
+
+/// Whether a flag was typed.
+fn is_given(matches: &ArgMatches<'_>, name: &str) -> bool
+    ensures { typed.IsFlag (rows_of (found_of matches.now)) name.now result }
+{
+    matches.get_flag(name)
+}
+
+/// The screens that BLOCKS, FROM and TO name.
+fn screens(alloc: Global, matches: &ArgMatches<'_>) -> Result<ScreenRange, Unread>
+    ensures { IfOk result (typed.AreScreens (rows_of (found_of matches.now))) }
+{
+    Ok(ScreenRange {
+        blocks: text(alloc, matches, "BLOCKS")?,
+        from: number(matches, "FROM")?,
+        to: number(matches, "TO")?,
+    })
+}
+
+/// A limit of ticks.
+fn limit(matches: &ArgMatches<'_>) -> Result<u64, Unread>
+    ensures { IfOk result (λ n. typed.number_in (codes "limit") (rows_of (found_of matches.now)) ≡ Some n) }
+{
+    match matches.try_get_one::<u64>("limit") {
+        Ok(Some(limit)) => Ok(limit),
+        _ => Err(Unread::Missing),
+    }
+}
+
+/// A number of blocks.
+fn count(matches: &ArgMatches<'_>) -> Result<u32, Unread>
+    ensures { IfOk result (λ n. typed.number_in (codes "N") (rows_of (found_of matches.now)) ≡ Some n) }
+{
+    match matches.try_get_one::<u32>("N") {
+        Ok(Some(count)) => Ok(count),
+        _ => Err(Unread::Missing),
+    }
+}
+
+/// The bytes before a container's first sector, if they were typed.
+fn offset(matches: &ArgMatches<'_>) -> Result<Option<u32>, Unread>
+    ensures { IfOk result (λ n. typed.number_in (codes "offset") (rows_of (found_of matches.now)) ≡ n) }
+{
+    match matches.try_get_one::<u32>("offset") {
+        Ok(offset) => Ok(offset),
+        Err(_) => Err(Unread::Missing),
+    }
+}
+
+fn build_words(alloc: Global, matches: &ArgMatches<'_>) -> Result<BuildWords, Unread>
+    ensures { IfOk result (typed.IsBuild (rows_of (found_of matches.now))) }
+{
+    Ok(BuildWords {
+        screens: screens(alloc, matches)?,
+        image: text(alloc, matches, "IMAGE")?,
+        buffers: number(matches, "buffers")?,
+        shows_place: is_given(matches, "where"),
+    })
+}
+
+fn load_words(alloc: Global, matches: &ArgMatches<'_>) -> Result<LoadWords, Unread>
+    ensures { IfOk result (typed.IsLoad (rows_of (found_of matches.now))) }
+{
+    Ok(LoadWords {
+        image: text(alloc, matches, "IMAGE")?,
+        screens: screens(alloc, matches)?,
+        out: text(alloc, matches, "OUT")?,
+        limit: limit(matches)?,
+        shows_place: is_given(matches, "where"),
+    })
+}
+
+fn upgrade_words(alloc: Global, matches: &ArgMatches<'_>) -> Result<Words, Unread>
+    ensures { IfOk result (typed.AreOf (codes "upgrade") (rows_of (found_of matches.now))) }
+{
+    Ok(Words::Upgrade {
+        image: text(alloc, matches, "IMAGE")?,
+        out: text(alloc, matches, "OUT")?,
+        buffers: number_if_given(matches, "buffers")?,
+    })
+}
+
+fn screens_words(alloc: Global, matches: &ArgMatches<'_>) -> Result<Words, Unread>
+    ensures { IfOk result (typed.AreOf (codes "screens") (rows_of (found_of matches.now))) }
+{
+    Ok(Words::Screens {
+        text: text(alloc, matches, "TEXT")?,
+        blocks: text(alloc, matches, "BLOCKS")?,
+    })
+}
+
+fn new_words(alloc: Global, matches: &ArgMatches<'_>) -> Result<Words, Unread>
+    ensures { IfOk result (typed.AreOf (codes "new") (rows_of (found_of matches.now))) }
+{
+    Ok(Words::New {
+        blocks: text(alloc, matches, "BLOCKS")?,
+        count: count(matches)?,
+    })
+}
+
+/// What `import` and `export` name.
+fn container_words(
+    alloc: Global,
+    matches: &ArgMatches<'_>,
+    cleans: bool,
+) -> Result<ContainerWords, Unread>
+    ensures typed { IfOk result (typed.IsContainer (rows_of (found_of matches.now))) }
+    ensures cleans { IfOk result (λ w. w.cleans ≡ cleans) }
+{
+    Ok(ContainerWords {
+        container: text(alloc, matches, "CONTAINER")?,
+        blocks: text(alloc, matches, "BLOCKS")?,
+        format: text(alloc, matches, "format")?,
+        offset: offset(matches)?,
+        sector: number_if_given(matches, "sector")?,
+        skew: text_if_given(alloc, matches, "skew")?,
+        cleans,
+    })
+}
+
+fn run_words(alloc: Global, matches: &ArgMatches<'_>) -> Result<RunWords, Unread>
+    ensures { IfOk result (typed.IsRun (rows_of (found_of matches.now))) }
+{
+    Ok(RunWords {
+        image: text(alloc, matches, "IMAGE")?,
+        blocks: text_if_given(alloc, matches, "BLOCKS")?,
+        limit: limit(matches)?,
+        break_file: text_if_given(alloc, matches, "break")?,
+        saves: is_given(matches, "save"),
+    })
+}
+
+fn debug_words(alloc: Global, matches: &ArgMatches<'_>) -> Result<Words, Unread>
+    ensures { IfOk result (typed.AreOf (codes "debug") (rows_of (found_of matches.now))) }
+{
+    Ok(Words::Debug {
+        image: text(alloc, matches, "IMAGE")?,
+        name: text(alloc, matches, "NAME")?,
+        trace: text(alloc, matches, "TRACE")?,
+        blocks: text_if_given(alloc, matches, "BLOCKS")?,
+        limit: limit(matches)?,
+    })
+}
+
+fn see_words(alloc: Global, matches: &ArgMatches<'_>) -> Result<Words, Unread>
+    ensures { IfOk result (typed.AreOf (codes "see") (rows_of (found_of matches.now))) }
+{
+    Ok(Words::See {
+        image: text(alloc, matches, "IMAGE")?,
+        name: text(alloc, matches, "NAME")?,
+    })
+}
+
+fn view_words(alloc: Global, matches: &ArgMatches<'_>) -> Result<Words, Unread>
+    ensures { IfOk result (typed.AreOf (codes "view") (rows_of (found_of matches.now))) }
+{
+    Ok(Words::View {
+        image: text(alloc, matches, "IMAGE")?,
+        name: text(alloc, matches, "NAME")?,
+    })
+}
+
+fn kernel_words(alloc: Global, matches: &ArgMatches<'_>) -> Result<Words, Unread>
+    ensures { IfOk result (typed.AreOf (codes "kernel") (rows_of (found_of matches.now))) }
+{
+    Ok(Words::Kernel {
+        blocks: text(alloc, matches, "BLOCKS")?,
+    })
+}
+
+/// The words of the subcommand of this name.
+fn words_of(alloc: Global, name: &str, matches: &ArgMatches<'_>) -> Result<Words, Unread>
+    ensures { IfOk result (typed.AreOf name.now (rows_of (found_of matches.now))) }
+{
+    match name {
+        "kernel" => kernel_words(alloc, matches),
+        "build" => Ok(Words::Build(build_words(alloc, matches)?)),
+        "load" => Ok(Words::Load(load_words(alloc, matches)?)),
+        "upgrade" => upgrade_words(alloc, matches),
+        "text" => Ok(Words::Text(screens(alloc, matches)?)),
+        "screens" => screens_words(alloc, matches),
+        "new" => new_words(alloc, matches),
+        "import" => {
+            let cleans = is_given(matches, "clean");
+            Ok(Words::Import(container_words(alloc, matches, cleans)?))
+        }
+        "export" => Ok(Words::Export(container_words(alloc, matches, false)?)),
+        "run" => Ok(Words::Run(run_words(alloc, matches)?)),
+        "debug" => debug_words(alloc, matches),
+        "see" => see_words(alloc, matches),
+        "view" => view_words(alloc, matches),
+        _ => Err(Unread::Missing),
+    }
+}
+
+/// The words of the subcommand that was typed.
+pub fn words_in(alloc: Global, matches: &ArgMatches<'_>) -> Result<Words, Unread>
+    ensures { IfOk result (typed.Means (subcommand_rows_of matches.now)) }
+{
+    match matches.subcommand() {
+        Some((name, inner)) => words_of(alloc, name, inner),
+        None => Err(Unread::Missing),
+    }
+}

@@ -1,0 +1,214 @@
+//! The subcommands and their arguments, as `clap` reads them.
+
+ghost use Rattle.std.specs.Prelude.{◌≡◌, ◌++◌, IfOk};
+ghost use Rattle.clap.specs.Simple.{app_of};
+ghost use Rattle.command_words.specs.CommandLine as line;
+
+use crate::VERSION;
+use crate::arguments::{
+    buffers, count, flag, format, four_buffers, limit, may_be, offset, option, screen, sector,
+    show_place, word,
+};
+use clap::Command;
+use std::alloc::{AllocError, Global};
+
+fn kernel_command<'a>(alloc: Global) -> Result<Command<'a>, AllocError>
+    ensures { IfOk result (line.IsSubcommand line.kernel) }
+{
+    Command::new(alloc, "kernel")
+        .about("Write a new file of blocks with the sources of a Forth-83 system")
+        .arg(word(alloc, "BLOCKS", "The new file"))
+}
+
+/// Gives a command BLOCKS, FROM and TO, in this order.
+fn with_screens<'a>(alloc: Global, command: Command<'a>) -> Result<Command<'a>, AllocError>
+    ensures { IfOk result (line.Adds line.screens_rules command.entry) }
+{
+    command
+        .arg(word(alloc, "BLOCKS", "A file of blocks of 1,024 bytes"))?
+        .arg(screen(alloc, "FROM", "The first screen, 0 to 65535"))?
+        .arg(screen(alloc, "TO", "The last screen, 0 to 65535"))
+}
+
+fn build_command<'a>(alloc: Global) -> Result<Command<'a>, AllocError>
+    ensures { IfOk result (line.IsSubcommand line.build) }
+{
+    let command = Command::new(alloc, "build").about("Build the source in screens to an image");
+    with_screens(alloc, command)?
+        .arg(word(alloc, "IMAGE", "The new image file"))?
+        .arg(four_buffers(alloc))?
+        .arg(show_place(alloc))
+}
+
+fn load_command<'a>(alloc: Global) -> Result<Command<'a>, AllocError>
+    ensures { IfOk result (line.IsSubcommand line.load) }
+{
+    let command = Command::new(alloc, "load")
+        .about("Let an image compile screens, and write the image that results")
+        .arg(word(alloc, "IMAGE", "The image file"))?;
+    with_screens(alloc, command)?
+        .arg(word(alloc, "OUT", "The new image file"))?
+        .arg(limit(alloc))?
+        .arg(show_place(alloc))
+}
+
+fn upgrade_command<'a>(alloc: Global) -> Result<Command<'a>, AllocError>
+    ensures { IfOk result (line.IsSubcommand line.upgrade) }
+{
+    Command::new(alloc, "upgrade")
+        .about("Write an image anew for another number of block buffers")
+        .arg(word(alloc, "IMAGE", "The image file"))?
+        .arg(word(alloc, "OUT", "The new image file"))?
+        .arg(buffers(alloc, "Block buffers, 2 to 16 (as many as the image has)"))
+}
+
+fn text_command<'a>(alloc: Global) -> Result<Command<'a>, AllocError>
+    ensures { IfOk result (line.IsSubcommand line.text) }
+{
+    with_screens(
+        alloc,
+        Command::new(alloc, "text").about("Print screens as text"),
+    )
+}
+
+fn screens_command<'a>(alloc: Global) -> Result<Command<'a>, AllocError>
+    ensures { IfOk result (line.IsSubcommand line.screens) }
+{
+    Command::new(alloc, "screens")
+        .about("Write the screens of a text into a file of blocks")
+        .arg(word(alloc, "TEXT", "The text"))?
+        .arg(word(
+            alloc,
+            "BLOCKS",
+            "A file of blocks of 1,024 bytes, or a new one",
+        ))
+}
+
+fn new_command<'a>(alloc: Global) -> Result<Command<'a>, AllocError>
+    ensures { IfOk result (line.IsSubcommand line.new) }
+{
+    Command::new(alloc, "new")
+        .about("Write a new file of blank blocks")
+        .arg(word(alloc, "BLOCKS", "The new file"))?
+        .arg(count(alloc))
+}
+
+/// Gives a command the options that say how screens lie in a container.
+fn with_layout<'a>(alloc: Global, command: Command<'a>) -> Result<Command<'a>, AllocError>
+    ensures { IfOk result (line.Adds line.layout_rules command.entry) }
+{
+    command
+        .arg(format(alloc))?
+        .arg(offset(alloc))?
+        .arg(sector(alloc))?
+        .arg(option(
+            alloc,
+            "skew",
+            "N,N,..",
+            "A track's sectors as they are read (the format's)",
+        ))
+}
+
+fn import_command<'a>(alloc: Global) -> Result<Command<'a>, AllocError>
+    ensures { IfOk result (line.IsSubcommand line.import) }
+{
+    let command = Command::new(alloc, "import")
+        .about("Write a new file of blocks with the screens of a container")
+        .arg(word(alloc, "CONTAINER", "A disk or a file of another system"))?
+        .arg(word(alloc, "BLOCKS", "The new file"))?
+        .arg(flag(
+            alloc,
+            "clean",
+            "Without high bits, and blanks for tabs, NULs and other bytes that are no text",
+        ))?;
+    with_layout(alloc, command)
+}
+
+fn export_command<'a>(alloc: Global) -> Result<Command<'a>, AllocError>
+    ensures { IfOk result (line.IsSubcommand line.export) }
+{
+    let command = Command::new(alloc, "export")
+        .about("Write the screens of a file of blocks into a container")
+        .arg(word(alloc, "BLOCKS", "A file of blocks of 1,024 bytes"))?
+        .arg(word(
+            alloc,
+            "CONTAINER",
+            "A disk or a file of another system, or a new one",
+        ))?;
+    with_layout(alloc, command)
+}
+
+fn run_command<'a>(alloc: Global) -> Result<Command<'a>, AllocError>
+    ensures { IfOk result (line.IsSubcommand line.run) }
+{
+    Command::new(alloc, "run")
+        .about("Run an image over standard input and output")
+        .arg(word(alloc, "IMAGE", "The image file"))?
+        .arg(may_be(alloc, "BLOCKS", "A file of blocks of 1,024 bytes"))?
+        .arg(limit(alloc))?
+        .arg(option(
+            alloc,
+            "break",
+            "FILE",
+            "Remove FILE as soon as it is there, and go on with the word BREAK",
+        ))?
+        .arg(flag(
+            alloc,
+            "save",
+            "Write changed blocks at BYE and at the end of input",
+        ))
+}
+
+fn debug_command<'a>(alloc: Global) -> Result<Command<'a>, AllocError>
+    ensures { IfOk result (line.IsSubcommand line.debug) }
+{
+    Command::new(alloc, "debug")
+        .about("Run an image, and write a line before each step of a word")
+        .arg(word(alloc, "IMAGE", "The image file"))?
+        .arg(word(alloc, "NAME", "The word"))?
+        .arg(word(alloc, "TRACE", "The new file of the lines"))?
+        .arg(may_be(alloc, "BLOCKS", "A file of blocks of 1,024 bytes"))?
+        .arg(limit(alloc))
+}
+
+fn see_command<'a>(alloc: Global) -> Result<Command<'a>, AllocError>
+    ensures { IfOk result (line.IsSubcommand line.see) }
+{
+    Command::new(alloc, "see")
+        .about("Print the definition of a colon word")
+        .arg(word(alloc, "IMAGE", "The image file"))?
+        .arg(word(alloc, "NAME", "The word"))
+}
+
+fn view_command<'a>(alloc: Global) -> Result<Command<'a>, AllocError>
+    ensures { IfOk result (line.IsSubcommand line.view) }
+{
+    Command::new(alloc, "view")
+        .about("Print the number of the screen in which a word was made")
+        .arg(word(alloc, "IMAGE", "The image file"))?
+        .arg(word(alloc, "NAME", "The word"))
+}
+
+/// The program's command line.
+pub fn command<'a>(alloc: Global) -> Result<Command<'a>, AllocError>
+    ensures { IfOk result (λ c. app_of c ≡ line.forth83) }
+{
+    Command::new(alloc, "forth83")
+        .about("A Forth-83 system with block storage")
+        .version(VERSION)
+        .subcommand_required(true)
+        .arg_required_else_help(true)
+        .subcommand(kernel_command(alloc)?)?
+        .subcommand(build_command(alloc)?)?
+        .subcommand(load_command(alloc)?)?
+        .subcommand(upgrade_command(alloc)?)?
+        .subcommand(text_command(alloc)?)?
+        .subcommand(screens_command(alloc)?)?
+        .subcommand(new_command(alloc)?)?
+        .subcommand(import_command(alloc)?)?
+        .subcommand(export_command(alloc)?)?
+        .subcommand(run_command(alloc)?)?
+        .subcommand(see_command(alloc)?)?
+        .subcommand(debug_command(alloc)?)?
+        .subcommand(view_command(alloc)?)
+}
