@@ -1,11 +1,10 @@
 //! `build` and `upgrade`.
 
 ghost use Rattle.std.specs.Prelude.{◌≡◌, ◌↔◌, true, ◌<◌, IfErr};
-ghost use Rattle.block_buffers.specs.Calls.{KeepsBlocks};
 ghost use Rattle.memory.specs.Bytes.{IsCount};
 
 use crate::screens::Screens;
-use block_buffers::Device;
+use file_access::FileDevice;
 use image_builder::{Cause, build};
 use inner_interpreter::Writing;
 use named_files::{
@@ -22,17 +21,16 @@ fn is_count(buffers: u16) -> bool
     (2..=16).contains(&buffers)
 }
 
-/// Shows on standard error where and why the source in the screens from the first to the last is refused, with that line of
-/// the screen and a mark below the place. If that cannot be found out or shown, nothing is.
-fn show_place<D: Device>(
+/// Says on standard error where and why the source in the screens from the first to the last is refused, with that line of
+/// the screen and a mark below the place. Where it can't be found out, or can't be said, nothing is.
+fn show_place(
     rt: &HostRuntime,
     name: &str,
-    device: &mut D,
+    device: &mut FileDevice,
     screens: (u16, u16),
     buffers: u16,
 )
     requires { IsCount buffers }
-    ensures kept { KeepsBlocks (D.disk device.old) (D.disk device.new) }
 {
     let (from, to) = screens;
     if let Err(fault) = build(rt.alloc(), device, from, to, buffers) {
