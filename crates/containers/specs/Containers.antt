@@ -69,11 +69,6 @@ unwritten_by None l screens container =
 unfoldable pub unwritten : Layout → (screens container : List ℕ) → Option Cause
 unwritten l screens container = unwritten_by (unread l container) l screens container
 
--- this is why it isn't done; memory ran out if nothing else was wrong
-abbrev pub IsCause : Option Cause → Cause → Type 0
-IsCause None cause = cause ≡ OutOfMemory
-IsCause (Some why) cause = cause ≡ why
-
 -- this is why it isn't done, or memory ran out
 abbrev pub IsWhy : Option Cause → Cause → Type 0
 IsWhy why cause = (why ≡ Some cause) ⊎ (cause ≡ OutOfMemory)

@@ -1,7 +1,7 @@
 //! Screens read of a container.
 
-ghost use Rattle.std.specs.Prelude.{◌≡◌, ◌<◌, ◌≤◌, None, IfOk, MatchResult, true};
-ghost use Rattle.containers.specs.Containers.{IsCause, IsRead, capacity, first_open, is_ended, is_whole, screens, sectors, unread};
+ghost use Rattle.std.specs.Prelude.{◌≡◌, ◌<◌, ◌≤◌, None, IfOk, MatchResult, true, unwrap_or};
+ghost use Rattle.containers.specs.Containers.{IsRead, capacity, first_open, is_ended, is_whole, screens, sectors, unread};
 
 use crate::cause::Cause;
 use crate::layout::{Layout, SCREEN};
@@ -106,7 +106,8 @@ fn gathered(alloc: Global, layout: &Layout, container: &[u8]) -> Result<Vec<u8>,
 /// The screens that lie in a container, as the bytes of a block file. An error: why it isn't read, or memory ran out.
 pub fn read_screens(alloc: Global, layout: &Layout, container: &[u8]) -> Result<Vec<u8>, Cause>
     ensures screens { IfOk result (λ v. IsRead layout.now container.now v.items) }
-    ensures cause { MatchResult result (λ _. unread layout.now container.now ≡ None) (IsCause (unread layout.now container.now)) }
+    ensures cause { MatchResult result (λ _. unread layout.now container.now ≡ None) (λ why.
+        why ≡ unwrap_or (unread layout.now container.now) Cause.OutOfMemory) }
 {
     if let Some(cause) = unread(layout, container) {
         return Err(cause);

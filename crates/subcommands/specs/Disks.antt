@@ -1,5 +1,5 @@
 -- Screens read of containers, and written into them.
-use Rattle.std.specs.Prelude.{◌≡◌, ℕ, List, ◌++◌, Bool, Option, None, Some, codes, decimal, if◌then◌else◌}
+use Rattle.std.specs.Prelude.{◌≡◌, ℕ, List, ◌++◌, Bool, Option, None, Some, codes, decimal, if◌then◌else◌, unwrap_or}
 use Rattle.containers.specs.Cleaning.{cleaned}
 use Rattle.containers.specs.Containers.{IsRead}
 use Rattle.containers.specs.Layouts.{Layout}
@@ -17,10 +17,14 @@ container_cause container.CutBlock = codes "CutBlock"
 container_cause container.NoRoom = codes "NoRoom"
 container_cause container.OutOfMemory = codes "out of memory"
 
--- why it isn't done was printed, as `container: CAUSE`; if nothing is wrong, that memory ran out
+-- this cause was printed, as `container: CAUSE`, or that memory ran out
+abbrev pub PrintsCause : Cause → (status : ℕ) → (old new : Option (List ℕ)) → Type 0
+PrintsCause container.OutOfMemory status old new = PrintsOutOfMemory status old new
+PrintsCause cause status old new = PrintsRefusal (codes "container") (container_cause cause) status old new
+
+-- why it isn't done was printed; if nothing is wrong, that memory ran out
 abbrev pub PrintsUnread : Option Cause → (status : ℕ) → (old new : Option (List ℕ)) → Type 0
-PrintsUnread None status old new = PrintsOutOfMemory status old new
-PrintsUnread (Some cause) status old new = PrintsRefusal (codes "container") (container_cause cause) status old new
+PrintsUnread why status old new = PrintsCause (unwrap_or why container.OutOfMemory) status old new
 
 -- these bytes are the screens that lie in the container, made text where that is wanted
 pub record IsImported (l : Layout) (container : List ℕ) (cleans : Bool) (bytes : List ℕ) : Type 0 where

@@ -1,11 +1,10 @@
 //! The subcommands that read the screens of a container, and write screens into one.
 
-ghost use Rattle.std.specs.Prelude.{◌≡◌, ◌≢◌, ◌<◌, codes, IfErr, IfOk, IsNone, IsSome, MatchOption, None, false, true};
-ghost use Rattle.containers.specs.Containers.{IsCause, IsWritten, unread, unwritten};
+ghost use Rattle.std.specs.Prelude.{◌≡◌, ◌≢◌, ◌<◌, codes, IfErr, IfOk, IsNone, IsSome, MatchOption, None, unwrap_or, false, true};
+ghost use Rattle.containers.specs.Containers.{IsWritten, unread, unwritten};
 ghost use Rattle.containers.specs.declared.cause.Cause.{Cause};
-ghost use Rattle.subcommands.specs.Disks.{PrintsUnread, IsImported, container_cause};
+ghost use Rattle.subcommands.specs.Disks.{PrintsCause, PrintsUnread, IsImported, container_cause};
 ghost use Rattle.subcommands.specs.Ends.{IsRefusal};
-ghost use Rattle.subcommands.specs.Lines.{PrintsOutOfMemory, PrintsRefusal};
 
 use crate::causes::Reason;
 use crate::commands::{Ended, end_with_file, print_out_of_memory, refuse};
@@ -31,12 +30,11 @@ impl Reason for Cause {
     }
 }
 
-/// Prints why a container isn't read or written: `container: CAUSE`.
+/// Prints why a container isn't read or written: `container: CAUSE`, or `out of memory`.
+#[tactic(auto, using(crate::proofs::Refusing::cause_printed, crate::proofs::Refusing::memory_printed))]
 pub fn refuse_container<W: Output>(why: Cause, writer: &mut W) -> Ended
-    ensures printed { W.failed writer.new ≡ false → why ≢ Cause.OutOfMemory →
-        PrintsRefusal (codes "container") (container_cause why) result.status (W.sent writer.old) (W.sent writer.new) }
-    ensures wanting { W.failed writer.new ≡ false → why ≡ Cause.OutOfMemory →
-        PrintsOutOfMemory result.status (W.sent writer.old) (W.sent writer.new) }
+    ensures printed { W.failed writer.new ≡ false →
+        PrintsCause why result.status (W.sent writer.old) (W.sent writer.new) }
     ensures passed { W.failed writer.new ≡ false → W.passed writer.new ≡ true }
     ensures cut { W.failed writer.old ≡ false → W.failed writer.new ≡ true → result.status ≡ 5 }
     ensures status { IsRefusal result.status (W.failed writer.new) }
@@ -56,7 +54,7 @@ fn imported(
     cleans: bool,
 ) -> Result<Vec<u8>, Cause>
     ensures screens { IfOk result (λ v. IsImported layout.now container.now cleans v.items) }
-    ensures cause { IfErr result (IsCause (unread layout.now container.now)) }
+    ensures cause { IfErr result (λ why. why ≡ unwrap_or (unread layout.now container.now) Cause.OutOfMemory) }
 {
     let mut screens = read_screens(alloc, layout, container)?;
     if cleans {
@@ -67,6 +65,7 @@ fn imported(
 
 /// Reads the screens of a container as the bytes of a file of blocks, made text where that is wanted. Status 0, with these bytes. Without a file 1: the
 /// container isn't read (`container: CAUSE` is printed) or memory ran out; 5: that can't be printed.
+#[tactic(auto, using(crate::proofs::Refusing::unread_printed))]
 pub fn do_import<W: Output>(
     alloc: Global,
     layout: &Layout,
@@ -91,6 +90,7 @@ pub fn do_import<W: Output>(
 
 /// Writes the bytes of a file of blocks into those of a container, where all else stays. Status 0, with the bytes of the
 /// container. Without a file 1: they aren't written (`container: CAUSE` is printed); 5: that can't be printed.
+#[tactic(auto, using(crate::proofs::Refusing::unwritten_printed))]
 pub fn do_export<W: Output>(
     alloc: Global,
     layout: &Layout,
