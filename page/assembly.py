@@ -5,6 +5,7 @@ import html
 import json
 import pathlib
 import re
+import zlib
 from typing import Dict, List
 
 HERE = pathlib.Path(__file__).resolve().parent
@@ -42,13 +43,21 @@ def filled(template: str, values: Dict[str, str]) -> str:
     return re.sub(r"\{\{([A-Z0-9]+)\}\}", lambda found: values[found[1]], template)
 
 
-def page(data: Dict[str, object], facts: Dict[str, str]) -> str:
-    """The page with its data. FACTS are TITLE, VERSION, SHA256 and PROVED, as texts."""
+def packed(name: str, content: bytes) -> str:
+    """An element with these bytes, packed as page/inflate.js unpacks them."""
+    packing = zlib.compressobj(9, zlib.DEFLATED, -15)
+    text = base64.b64encode(packing.compress(content) + packing.flush()).decode()
+    return f'<script type="text/plain" id="{name}" data-size="{len(content)}">{text}</script>'
+
+
+def page(data: Dict[str, object], files: Dict[str, bytes], facts: Dict[str, str]) -> str:
+    """The page with its data. FILES are the machine's `module` and the `image`; FACTS are TITLE, VERSION, SHA256 and PROVED, as texts."""
     script = bundle()
     values = {name: html.escape(text) for name, text in facts.items()}
     values["HELP"] = filled(text_of("help.html"), values)
     values["STYLE"] = text_of("page.css")
     values["SCRIPT"] = script
     values["POLICY"] = POLICY.format(script=sum_for_policy(script))
-    values["DATA"] = json.dumps(data, ensure_ascii=False).replace("</", "<\\/").replace("<!--", "<\\u0021--")
+    everything = {"data": json.dumps(data, ensure_ascii=False).encode(), **files}
+    values["PACKED"] = "\n".join(packed(name, content) for name, content in everything.items())
     return filled(text_of("index.html"), values)

@@ -50,7 +50,7 @@ export class ClassList {
     if (bytes.length < (block + 1) * PAGE_SIZE) return { mark: "empty", text: "the file ends before this screen" };
     disk.put(block, bytes.subarray(block * PAGE_SIZE, (block + 1) * PAGE_SIZE));
     if (linesOf(disk.page(block)).join("\n") === original) return { mark: "empty", text: "nothing was written" };
-    this.machine.load(fromBase64(DATA.image), disk.count);
+    this.machine.load(DATA.image, disk.count);
     await this.run(disk, "");
     await this.run(disk, "1 LOAD\n");
     const said = await this.run(disk, `${lesson} CHECK\n`);

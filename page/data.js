@@ -1,3 +1,12 @@
-// What page/make puts into the page: the machine's module, the image, disks, lessons and the manual.
+// What page/make puts into the page: the machine's module and the image as bytes; disks, lessons, the manual and the rest as values.
 
-export const DATA = JSON.parse(document.getElementById("data").textContent);
+import { decode, fromBase64 } from "./bytes.js";
+import { inflate } from "./inflate.js";
+
+// Each is packed, in base64, with the number of its bytes.
+function packed(id) {
+  const { textContent, dataset } = document.getElementById(id);
+  return inflate(fromBase64(textContent), Number(dataset.size));
+}
+
+export const DATA = { ...JSON.parse(decode(packed("data"))), wasm: packed("module"), image: packed("image") };

@@ -31,7 +31,7 @@ export class Editor {
 
   // The screen beside this one: as far away as SHADOW says, or else half of the disk.
   shadowed() {
-    const far = this.session.machine.cell(this.session.places.shadow) || Math.floor(this.session.disk.count / 2);
+    const { machine, places, disk, isForeign } = this.session, far = (isForeign ? 0 : machine.cell(places.shadow)) || Math.floor(disk.count / 2);
     return this.block < far ? this.block + far : this.block - far;
   }
 

@@ -1,12 +1,16 @@
 // Files and disks: what is opened, dropped on the page, saved and printed, and the disks under their names.
 
-import { decode, element, fromBase64, toBase64 } from "./bytes.js";
+import { decode, element, fromBase64 } from "./bytes.js";
 import { DATA } from "./data.js";
 import { Disk, isScreens, screensOf, textOf } from "./disk.js";
+import { isImage } from "./image.js";
 import { PAGE_SIZE } from "./machine.js";
 import { by } from "./parts.js";
+import { withBytes, withTexts } from "./store.js";
 
 const SESSION = '{"format":"forth83"', MOST_TEXT = 200000;
+
+const asFileName = (name) => name.replace(/[/\\]/g, "-").slice(0, 60);
 
 export class Files {
   constructor(page) { this.page = page; }
@@ -38,13 +42,14 @@ export class Files {
     if (event.type === "drop") this.open(event.dataTransfer.files[0]);
   }
 
-  // Files: blocks are another disk, screens as text go onto this one, other texts are typed.
+  // Files: blocks are another disk, images run, screens as text go onto this disk, other texts are typed.
   async open(file) {
     by("file").value = "";
     if (!file) return;
     const bytes = new Uint8Array(await file.arrayBuffer()), text = decode(bytes);
     if (this.session.isRunning) this.page.note("The Forth is busy: stop it first.");
     else if (text.startsWith(SESSION)) await this.resume(file.name, text);
+    else if (isImage(bytes)) this.runImage(file.name, bytes);
     else if (isScreens(text)) await this.merge(file.name, text);
     else if (bytes.length && bytes.length % PAGE_SIZE === 0) await this.insert(new Disk(file.name, bytes));
     else if (bytes.length && bytes.length < MOST_TEXT && !text.includes("\0")) this.page.enter(...text.replace(/\r/g, "").replace(/\n$/, "").split("\n"));
@@ -60,17 +65,31 @@ export class Files {
     this.page.oldDisk.open(name, bytes);
   }
 
+  // Runs the program of an image.
+  runImage(name, image) {
+    if (!this.session.runImage(name, image)) return this.page.note(`${name} is an image that this machine can't run: it is damaged, or not complete.`);
+    this.page.tab("forth", true);
+    by("line").focus();
+  }
+
+  // Saves an image of the Forth with your words.
+  saveImage() {
+    const name = prompt("Which word does the program start with? Leave this empty for the Forth itself.", "");
+    if (name === null) return;
+    const made = this.session.saved(name.trim());
+    if (made.wrong) this.page.note(`No image was saved: ${made.wrong}.`);
+    else this.saveBlob("img", new Blob([made.image]), name.trim().toLowerCase());
+  }
+
   // The whole session as a text, to go on with elsewhere.
   wholeSession() {
-    const { name, disk, record, places } = this.session.kept();
-    return JSON.stringify({ format: "forth83", name, disk: toBase64(disk), record: toBase64(record), places, texts: this.page.transcript.mark() });
+    return JSON.stringify({ format: "forth83", ...withTexts(this.session.kept()), texts: this.page.transcript.mark() });
   }
 
   async resume(name, text) {
     let kept = null;
     try {
-      const read = JSON.parse(text);
-      kept = { ...read, disk: fromBase64(read.disk), record: fromBase64(read.record) };
+      kept = withBytes(JSON.parse(text));
     } catch {
       // What is wrong is reported below.
     }
@@ -156,7 +175,7 @@ export class Files {
 
   askForName(question, given) {
     const name = (prompt(question, given) || "").trim();
-    return name.replace(/[/\\]/g, "-").slice(0, 60);
+    return asFileName(name);
   }
 
   save(ending, content) {
@@ -164,8 +183,8 @@ export class Files {
     this.saveBlob(ending, new Blob([content()]));
   }
 
-  saveBlob(ending, blob) {
-    const link = document.createElement("a"), stem = this.session.disk.name.replace(/\.(blk|txt)$/i, "");
+  saveBlob(ending, blob, name) {
+    const link = document.createElement("a"), stem = name ? asFileName(name) : this.session.disk.name.replace(/\.(blk|txt)$/i, "");
     link.href = URL.createObjectURL(blob);
     link.download = `${this.page.work ? `${this.page.work} ` : ""}${stem}.${ending}`;
     link.click();

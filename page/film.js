@@ -1,7 +1,9 @@
 // The film of a line: each step of your words, on a copy of the machine and of the disk, forward and back.
 
 import { decode, element, encode, hexadecimal, signed } from "./bytes.js";
-import { ASKS, Machine, PAGE_SIZE, STOP, SYSTEM } from "./machine.js";
+import { COLUMNS, linesOf } from "./disk.js";
+import { ASKS, Machine, PAGE_SIZE, STACK, STOP, SYSTEM } from "./machine.js";
+import { around, definitionOf, placesIn } from "./source.js";
 
 const MOST_TICKS = 200000, MOST_STEPS = 5000, MOST_CELLS = 12;
 
@@ -34,12 +36,15 @@ export class Film {
   // Types the line at the copy, tick by tick.
   async make(line) {
     if (!this.session.waitsForLine) return this.say("The Forth is busy. Make the film when it waits for a line.");
+    if (this.session.isForeign) return this.say(`${this.session.program} runs, and films are of the Forth's words. End it first.`);
     this.stopPlaying();
     const film = new Filming(this.machine, this.session, line);
     while (film.goesOn())
       if (film.ticks % 500 === 0) await new Promise((resolve) => setTimeout(resolve));
-    Object.assign(this, { last: film.last(), made: film.steps, words: film.words, fence: film.fence, end: film.end });
-    this.loopEnds = new Set(film.mine.flatMap((word) => threadOf(this.machine, this.words, word)).map((token) => token.loopEnd));
+    film.learn();
+    Object.assign(this, { line, last: film.last(), made: film.steps, words: film.words, fence: film.fence, here: film.here });
+    this.loopEnds = new Set(film.mine.flatMap((word) => threadOf(this.machine, this.words, word, this.here)).map((token) => token.loopEnd));
+    this.definitions = new Map([...new Set(film.steps.map((step) => step.word))].map((word) => [word, this.definition(word)]));
     this.base = Math.min(...film.steps.map((step) => step.returns.length));
     const none = `No word of yours is done in this line${film.why}. The Forth's own words have no film here.`;
     this.say(this.made.length ? `${this.made.length} steps of your words, in ${film.ticks} ticks${film.why}.` : none);
@@ -82,15 +87,45 @@ export class Film {
     const step = this.steps[this.at], before = this.steps[this.at - 1] || step, { parts } = this;
     parts.slider.value = this.at;
     parts.number.textContent = `step ${this.at + 1} of ${this.steps.length}`;
-    parts.word.textContent = step.isLast ? "The end" : `: ${step.word.name}`;
+    parts.word.textContent = step.isLast ? "The end" : `${step.word.name}, ${step.word.view ? `screen ${step.word.view}` : "typed"}`;
+    this.showLine(step);
+    this.showSource(step);
     parts.thread.replaceChildren(...(step.isLast ? [] : this.tokens(step)));
     this.showStack(parts.values, step.values, before.values, 0);
     this.showStack(parts.returns, step.returns, before.returns, parts.system.checked ? 0 : this.base);
     parts.output.textContent = step.output;
   }
 
+  // A word's definition, from its screen or from the lines that were typed, with the words that its thread was compiled of; null where
+  // it isn't there, or has changed since.
+  definition(word) {
+    const { disk, view } = this.session, thread = threadOf(this.machine, this.words, word, this.here);
+    const plain = new Set(this.words.filter((one) => !one.isImmediate).map((one) => one.name.toUpperCase()));
+    const text = word.view === 0 ? [...view.history, this.line].join("\n") : word.view < disk.count ? linesOf(this.session.page(word.view)).join("\n") : "";
+    const found = definitionOf(text, word.name), places = found && placesIn(found, thread, word.name, (name) => plain.has(name));
+    return places && { ...found, places };
+  }
+
+  // The line of the film, or of the screen that it loads, with the word that is done.
+  showLine({ line }) {
+    const { typed } = this.parts;
+    typed.hidden = !line;
+    if (line) typed.replaceChildren(line.where, ...marked(line.text, [{ ...line, isNext: true }]));
+  }
+
+  // The source of the step's word, with the word of the step, and those of the structures around it.
+  showSource({ word, ip }) {
+    const { source, where } = this.parts, found = word && this.definitions.get(word);
+    source.hidden = !found;
+    where.textContent = found ? "compiled as" : "";
+    if (!found) return;
+    const at = found.places.get(ip), outer = around(found.words, at);
+    const spans = found.words.map((one, number) => ({ ...one, isNext: number === at, isAround: outer.has(number) }));
+    source.replaceChildren(...marked(found.text, spans.filter((one) => one.isNext || one.isAround)));
+  }
+
   tokens(step) {
-    return threadOf(this.machine, this.words, step.word).flatMap((token) => {
+    return threadOf(this.machine, this.words, step.word, this.here).flatMap((token) => {
       const isNext = token.at === step.ip, span = element("span", token.text);
       span.classList.toggle("next", isNext);
       if (isNext) span.setAttribute("aria-current", "step");
@@ -110,31 +145,51 @@ export class Film {
   cell(cell, isNew, isReturn) {
     const row = element("li", String(this.parts.base.checked ? hexadecimal(cell) : signed(cell)), { class: isNew ? "new" : "" });
     const word = isReturn && cell >= this.fence ? this.words.filter((one) => one.word < cell).pop() : null;
-    if (word && cell < this.end) row.append(element("small", this.loopEnds.has(cell) ? "the loop's end" : `back to ${word.name}`));
+    if (word && cell < this.here) row.append(element("small", this.loopEnds.has(cell) ? "the loop's end" : `back to ${word.name}`));
     return row;
   }
 
   say(text) { this.parts.said.textContent = text; }
 }
 
+// A text in which some places are marked.
+function marked(text, places) {
+  const made = [];
+  let at = 0;
+  for (const { from, to, isNext, isAround } of places) {
+    const span = element("span", text.slice(from, to), { class: `${isNext ? "next" : ""} ${isAround ? "around" : ""}`.trim() });
+    if (isNext) span.setAttribute("aria-current", "step");
+    made.push(text.slice(at, from), span);
+    at = to;
+  }
+  return [...made, text.slice(at)];
+}
+
 // A film while it is made.
 class Filming {
   constructor(machine, session, line) {
-    Object.assign(this, { machine, disk: session.disk.bytes.slice(), steps: [], ticks: 0, output: "", why: "" });
+    Object.assign(this, { machine, line, disk: session.disk.bytes.slice(), steps: [], ticks: 0, output: "", why: "", words: [], depth: STACK });
     machine.restore(session.machine.copy());
-    this.words = machine.words();
     this.fence = machine.cell(SYSTEM.fence);
-    this.mine = this.words.filter((one) => one.word >= this.fence);
-    this.end = machine.cell(SYSTEM.here);
+    this.learn();
     this.faults = session.notes.faults;
     this.noted = session.places.notes;
     this.typed = Uint8Array.from([...encode(line).subarray(0, Math.max(0, machine.field("asked") - 1)), 10]);
   }
 
+  // The words, also those that the line has made by now.
+  learn() {
+    const { machine, fence } = this, known = new Map(this.words.map((one) => [`${one.word} ${one.name}`, one]));
+    this.words = machine.words().map((one) => known.get(`${one.word} ${one.name}`) || one);
+    this.mine = this.words.filter((one) => one.word >= fence);
+    this.here = machine.cell(SYSTEM.here);
+  }
+
   // Does a tick; whether there is more.
   goesOn() {
-    const step = this.step(), { machine } = this;
-    if (step) this.steps.push(step);
+    const { machine } = this, depth = machine.depth, step = this.step();
+    this.isBetween ||= depth < this.depth;
+    if (step) this.keep(step, depth);
     const ended = machine.run(this.typed, 1);
     this.typed = this.typed.subarray(ended.read);
     this.output += decode(ended.shown);
@@ -165,17 +220,38 @@ class Filming {
   step() {
     const { machine } = this, ip = machine.field("ip");
     if (machine.asks !== ASKS.NOTHING || machine.field("has_pending") || ip < this.fence || ip >= machine.cell(SYSTEM.here)) return null;
+    if (machine.cell(SYSTEM.here) !== this.here) this.learn();
     const word = this.mine.filter((one) => one.word < ip).pop();
     return word && { ip, word, output: this.output, values: machine.values, returns: machine.returns };
+  }
+
+  // Keeps a step with the word of the line that is done. Where the return stack was shallower since the last step, that is another word.
+  keep(step, depth) {
+    if (this.isBetween) Object.assign(this, { depth, isBetween: false, place: this.interpreted() });
+    this.steps.push({ ...step, line: this.place });
+  }
+
+  // The word that is interpreted, and the line or the screen's line in which it is.
+  interpreted() {
+    const { machine } = this, blk = machine.cell(SYSTEM.blk), end = machine.cell(SYSTEM.toIn);
+    const number = blk ? Math.floor(Math.max(0, end - 1) / COLUMNS) : 0, to = end - COLUMNS * number;
+    const text = blk ? linesOf(this.pageOf(blk))[number] || "" : this.line, word = /(\S+)\s*$/.exec(text.slice(0, to));
+    return { text, from: word ? word.index : 0, to: word ? word.index + word[1].length : 0, where: blk ? `screen ${blk} line ${number}: ` : "" };
+  }
+
+  pageOf(block) {
+    const buffer = this.machine.buffers.find((one) => one.block === block);
+    return buffer ? buffer.bytes : this.disk.subarray(block * PAGE_SIZE, (block + 1) * PAGE_SIZE);
   }
 }
 
 const WITH_CELL = /^(\(LIT\)|COMPILE|BRANCH|\?BRANCH|\(DO\)|\(LOOP\)|\(\+LOOP\))$/, WITH_TEXT = /^\((\.|ABORT|SAY)"\)$/;
 const SHOWN_AS = { "(LOOP)": "LOOP", "(+LOOP)": "+LOOP", EXIT: ";" };
 
-// The thread of a word, token by token: of each its address, and what stands for it. The next header begins with a cell for VIEW.
-export function threadOf(machine, words, word) {
-  const next = words[words.indexOf(word) + 1], end = next ? next.header - 2 : machine.cell(SYSTEM.here);
+// The thread of a word, token by token: of each its address, its word's name, and how a source has it. The next header begins with a
+// cell for VIEW; the last word ends at here.
+export function threadOf(machine, words, word, here) {
+  const next = words[words.indexOf(word) + 1], end = next ? next.header - 2 : here;
   const names = new Map(words.map((one) => [one.word, one.name])), tokens = [];
   for (let at = word.word + 2; at < end && tokens.length < 200; ) {
     const token = tokenAt(machine, names, at);
@@ -189,11 +265,11 @@ function tokenAt(machine, names, at) {
   const token = machine.cell(at), name = names.get(token) ?? String(token);
   if (WITH_TEXT.test(name)) {
     const size = machine.byte(at + 2), letters = Uint8Array.from({ length: size }, (_, i) => machine.byte(at + 3 + i));
-    return { at, size: 3 + size, text: `${name === '(ABORT")' ? 'ABORT"' : '."'} ${decode(letters)}"` };
+    return { at, name, size: 3 + size, text: `${name === '(ABORT")' ? 'ABORT"' : '."'} ${decode(letters)}"` };
   }
-  const cell = machine.cell(at + 2), size = WITH_CELL.test(name) ? 4 : 2;
-  if (name === "(LIT)") return { at, size, text: String(signed(cell)) };
-  if (name === "(DO)") return { at, size, text: "DO", loopEnd: cell };
-  if (name === "COMPILE") return { at, size, text: `COMPILE ${names.get(cell) ?? cell}` };
-  return { at, size, text: SHOWN_AS[name] ?? name };
+  const cell = machine.cell(at + 2), one = { at, name, size: WITH_CELL.test(name) ? 4 : 2 };
+  if (name === "(LIT)") return { ...one, text: String(signed(cell)) };
+  if (name === "(DO)") return { ...one, text: "DO", loopEnd: cell };
+  if (name === "COMPILE") return { ...one, text: `COMPILE ${names.get(cell) ?? cell}` };
+  return { ...one, text: SHOWN_AS[name] ?? name };
 }

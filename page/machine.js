@@ -7,7 +7,7 @@ export const ASKS = { NOTHING: 0, KEY: 1, LINE: 2, READ: 3, WRITE: 4 };
 export const PAGE_SIZE = 1024, MEMORY = 65536, STACK = 256;
 const ROOM = 131072, TYPED_ROOM = 4096;
 // Cells of the system in the machine's memory.
-export const SYSTEM = { state: 16, here: 28, scr: 38, vocLink: 52, fence: 54 };
+export const SYSTEM = { state: 16, toIn: 20, blk: 22, here: 28, scr: 38, vocLink: 52, fence: 54 };
 
 export class Machine {
   // calls: what the module exports. layout: where the fields of its records are.
@@ -91,6 +91,7 @@ export class Machine {
     const cells = this.stack("values", "values_top");
     return this.asks === ASKS.LINE ? cells.slice(0, -2) : cells;
   }
+  get depth() { return STACK - this.field("returns_top"); }
   get returns() { return this.stack("returns", "returns_top"); }
 
   // The block buffers: of each its bytes in memory, the number of its block (null for none), and whether that was changed.

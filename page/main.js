@@ -1,6 +1,5 @@
 // Starts the page.
 
-import { fromBase64 } from "./bytes.js";
 import { Canvas } from "./canvas.js";
 import { ClassList } from "./class.js";
 import { Course } from "./course.js";
@@ -17,13 +16,13 @@ import { Store } from "./store.js";
 import { Transcript } from "./transcript.js";
 
 async function begin() {
-  const { instance } = await WebAssembly.instantiate(fromBase64(DATA.wasm), {}), calls = instance.exports;
+  const { instance } = await WebAssembly.instantiate(DATA.wasm, {}), calls = instance.exports;
   const page = new Page(new Transcript(by("transcript")), await Store.open(DATA.place));
-  page.session = new Session(calls, DATA.layout, fromBase64(DATA.image), page);
+  page.session = new Session(calls, DATA.layout, DATA.image, page);
   page.editor = new Editor(page.session, parts("screen-text", "screen-gutter", "screen-mark", "screen-number", "screen-count", "screen-back",
     "screen-on", "screen-shadow", "screen-load", "screen-index", "screen-said", "screen-find", "screen-found"));
   page.film = new Film(page.session, calls, parts("film-form", "film-line", "film-slider", "film-back", "film-on", "film-play", "film-base", "film-system", "film-show",
-    "film-word", "film-words", "film-thread", "film-values", "film-returns", "film-output", "film-number", "film-said"));
+    "film-typed", "film-word", "film-source", "film-where", "film-words", "film-thread", "film-values", "film-returns", "film-output", "film-number", "film-said"));
   page.map = new MemoryMap(page, parts("map-bar", "map-parts", "map-words", "map-none", "map-again", "map-said"));
   page.canvas = new Canvas(page, parts("canvas-picture", "canvas-none", "canvas-save"));
   page.oldDisk = new OldDisk(page, parts("old-choose", "old-file", "old-format", "old-clean", "old-said", "old-screen", "old-preview",

@@ -1,12 +1,13 @@
 // The page: what is pressed and typed, its tabs, and what the browser keeps.
 
-import { decode, encode, fromBase64, signed, toBase64 } from "./bytes.js";
+import { decode, encode, signed } from "./bytes.js";
 import { DATA } from "./data.js";
 import { Disk, textOf } from "./disk.js";
 import { Files } from "./files.js";
 import { PAGE_SIZE } from "./machine.js";
 import { wordAt } from "./manual.js";
 import { by } from "./parts.js";
+import { withBytes, withTexts } from "./store.js";
 
 const MOST_LINES = 200, KEEP_AFTER = 300;
 const NARROW = "(max-width: 60rem)";
@@ -48,7 +49,7 @@ export class Page {
   // What was kept last: as the page was closed, or before.
   newest(kept, last) {
     if (!last || (kept && kept.when >= last.when)) return kept;
-    return { ...last, record: fromBase64(last.record), disk: fromBase64(last.disk) };
+    return withBytes(last);
   }
 
   startNew() {
@@ -122,6 +123,7 @@ export class Page {
     by("stack").textContent = isBusy ? "running" : cells.slice(-16).map(signed).join(" ") || "empty";
     by("asks").textContent = isBusy ? "…" : session.waitsForKey ? "key" : session.waitsForAnswer ? "?" : "›";
     by("line").placeholder = session.waitsForKey ? "the program waits for a key" : "";
+    by("program").textContent = session.program ? `${session.program} runs` : "";
     by("disk-name").textContent = `${session.disk.name}, ${session.disk.count} screens`;
     if (!isBusy) this.editor.refresh();
     if (!isBusy && document.body.dataset.tab === "map") this.map.draw();
@@ -165,7 +167,7 @@ export class Page {
       smaller: () => this.size(this.points - 2), open: () => by("file").click(), "new-disk": () => files.newDisk(),
       "rename-disk": () => files.renameDisk(), "remove-disk": () => files.removeDisk(), "new-work": () => this.newWork(),
       "print-screens": () => files.print(), "save-blocks": () => files.save("blk", () => this.session.disk.bytes),
-      "save-text": () => files.save("txt", () => textOf(this.session.disk)), "save-all": () => files.save("forth", () => files.wholeSession()) };
+      "save-text": () => files.save("txt", () => textOf(this.session.disk)), "save-all": () => files.save("forth", () => files.wholeSession()), "save-image": () => files.saveImage() };
     for (const [id, act] of Object.entries(acts)) by(id).addEventListener("click", act);
     by("file").addEventListener("change", (event) => files.open(event.target.files[0]));
     by("disks").addEventListener("change", (event) => files.insertNamed(event.target.value));
@@ -347,8 +349,7 @@ export class Page {
   // The page is closed or hidden: what the database may not take any more is kept in a smaller place.
   keepAtOnce() {
     if (!this.isKeeping) return;
-    const state = this.state();
-    this.store.putLast(this.work, { ...state, record: toBase64(state.record), disk: toBase64(state.disk) });
+    this.store.putLast(this.work, withTexts(this.state()));
     this.keep();
   }
 

@@ -2,11 +2,15 @@
 
 import { encode } from "./bytes.js";
 import { Disk } from "./disk.js";
+import { entryOf, imageOf } from "./image.js";
 import { ASKS, Machine, PAGE_SIZE, STOP, SYSTEM } from "./machine.js";
 
 const SLICE = 12, UNDOS = 100, LONG = 2000;
-// Places of the cells that page/paged.txt notes for the page.
+// Places of the cells that page/paged.txt notes for the page, and the words of its image that the page uses.
 const NOTES = { faults: 0, block: 2, byte: 4, edits: 6 };
+const OWN = { BREAK: ["break", 0], NOTES: ["notes", 2], SHADOW: ["shadow", 2], RETYPED: ["retyped", 2], "'BOOT": ["boot", 2] };
+
+const numbers = (places) => Object.fromEntries(Object.entries(places).map(([name, place]) => [name, Number(place)]));
 
 export class Session {
   // view: show(bytes, isTyped), note(text), begun(), changed(), fault(notes), edit(screen), retype(screen, line), looks(), keeps(),
@@ -19,59 +23,130 @@ export class Session {
     this.ticks = 200000;
     this.isStopped = false;
     this.isRunning = false;
+    // Where the image has what the page reads. It is sought here, before anyone can give these names to other words.
+    this.machine.load(image, 1);
+    this.own = this.placesOf(OWN);
   }
 
   // Starts a machine as the image has it.
   start(disk) {
     if (this.waits(() => this.start(disk))) return;
     this.disk = disk;
-    this.faults = 0;
     this.undos = [];
-    this.machine.load(this.image, disk.count);
-    this.learn();
+    this.load();
     this.go();
+  }
+
+  load() {
+    Object.assign(this, { faults: 0, places: { ...this.own }, outer: null, program: "" });
+    this.machine.load(this.image, this.disk.count);
+  }
+
+  // Runs an image in place of the Forth, which goes on where it was when that ends; whether it is an image.
+  runImage(program, image) {
+    this.settle();
+    this.remember();
+    const { record } = this.undos[this.undos.length - 1], outer = this.outer || { record, places: this.places };
+    try {
+      this.machine.load(image, this.disk.count);
+    } catch {
+      this.machine.restore(record);
+      this.undos.pop();
+      return false;
+    }
+    Object.assign(this, { faults: 0, outer, program, places: this.placesOfImage(image) });
+    this.view.note(`${program} runs now. Stop interrupts it. When it ends, or after Undo, the Forth goes on where it was.`);
+    this.go();
+    return true;
+  }
+
+  // The program has ended, and the Forth before it goes on. A record that isn't a machine's is refused, and a new Forth starts.
+  leave(why) {
+    const { program, outer } = this;
+    this.settle();
+    try {
+      this.machine.restore(outer.record);
+      this.machine.run(new Uint8Array(0), 0);
+      Object.assign(this, { places: outer.places, outer: null, program: "" });
+      this.faults = this.notes.faults;
+      for (const buffer of this.machine.buffers) this.machine.release(buffer);
+      this.machine.blockCount = this.disk.count;
+    } catch {
+      this.load();
+    }
+    this.view.note(`${program} ${why}. The Forth goes on where it was.`);
   }
 
   // Goes on with a machine and a disk that were kept; whether they are good. A record that isn't a machine's is refused by its first run.
   resume(kept) {
-    const before = { record: this.machine.copy(), disk: this.disk, places: this.places };
+    const { disk, places, outer, program } = this, before = { disk, places, outer, program }, record = this.machine.copy();
     try {
-      if (kept.record.length !== this.layout.size || kept.disk.length % PAGE_SIZE !== 0) throw new Error("other sizes");
-      this.disk = new Disk(String(kept.name), kept.disk);
-      this.places = Object.fromEntries(Object.entries(kept.places).map(([name, place]) => [name, Number(place)]));
-      this.machine.restore(kept.record);
+      this.take(kept);
       this.machine.run(new Uint8Array(0), 0);
     } catch {
-      this.machine.restore(before.record);
-      Object.assign(this, { disk: before.disk, places: before.places });
+      this.machine.restore(record);
+      Object.assign(this, before);
       return false;
     }
     this.machine.blockCount = this.disk.count;
-    this.interrupt();
+    if (this.machine.asks === ASKS.NOTHING) this.interrupt();
     this.faults = this.notes.faults;
     this.undos = [];
     this.go();
     return true;
   }
 
-  kept() { return { name: this.disk.name, disk: this.disk.bytes.slice(), record: this.machine.copy(), places: { ...this.places } }; }
-
-  // Where the image has what the page reads. They are sought in the fresh image, before anyone can give these names to other words.
-  learn() {
-    const found = new Map(this.machine.words().map((one) => [one.name, one.word]));
-    this.places = { break: found.get("BREAK"), notes: found.get("NOTES") + 2, shadow: found.get("SHADOW") + 2, retyped: found.get("RETYPED") + 2,
-      fence: this.machine.cell(SYSTEM.here) };
+  // Takes what was kept; it throws where sizes are others.
+  take({ name, disk, record, places, outer, program }) {
+    const { size } = this.layout;
+    if (record.length !== size || disk.length % PAGE_SIZE || (outer && outer.record.length !== size)) throw new Error("other sizes");
+    Object.assign(this, { disk: new Disk(String(name), disk), places: numbers(places), program: String(program || ""),
+      outer: outer ? { record: outer.record, places: numbers(outer.places) } : null });
+    this.machine.restore(record);
   }
+
+  kept() {
+    const { disk, machine, places, outer, program } = this;
+    return { name: disk.name, disk: disk.bytes.slice(), record: machine.copy(), places: { ...places }, outer, program };
+  }
+
+  // The places of these words in the machine, of the newest of each name; and where its words end.
+  placesOf(names) {
+    const found = new Map(this.machine.words().map((one) => [one.name, one.word])), places = { fence: this.machine.cell(SYSTEM.here) };
+    for (const [name, [place, offset]] of Object.entries(names)) if (found.has(name)) places[place] = found.get(name) + offset;
+    return places;
+  }
+
+  // The same for an image that was just loaded. One that this page has saved has the page's words where the page's image has them.
+  placesOfImage(image) {
+    const words = new Map(this.machine.words().map((one) => [one.word, one.name]));
+    const isOwn = entryOf(image) === entryOf(this.image) && Object.entries(OWN).every(([name, [place, offset]]) => words.get(this.own[place] - offset) === name);
+    return isOwn ? { ...this.own } : this.placesOf({ BREAK: OWN.BREAK });
+  }
+
+  // An image of the Forth with its words, which starts with a word, or with the Forth itself where none is named: { image } or { wrong }.
+  saved(name) {
+    const { machine, places } = this, sought = name.toUpperCase();
+    if (!this.waitsForLine || this.waitsForAnswer || this.isForeign) return { wrong: "the Forth must wait for a line" };
+    if (machine.cell(SYSTEM.state)) return { wrong: "a definition is unfinished" };
+    const word = name && machine.words().filter((one) => one.name.toUpperCase() === sought).pop();
+    if (name && !word) return { wrong: `there is no word ${name}` };
+    return { image: imageOf(this.image, machine.memory.slice(0, machine.cell(SYSTEM.here)), { [places.boot]: word ? word.word : 0 }) };
+  }
+
+  // Whether an image runs that knows nothing of the page. What it reads by KEY is typed in whole lines, as at a terminal.
+  get isForeign() { return this.places.notes === undefined; }
 
   // What the Forth notes for the page: how many faults it reported, where the last one was, and whether SCR is to be edited.
   get notes() {
+    if (this.isForeign) return { faults: 0 };
     return Object.fromEntries(Object.entries(NOTES).map(([name, place]) => [name, this.machine.cell(this.places.notes + place)]));
   }
 
-  get waitsForLine() { return !this.isRunning && this.machine.asks === ASKS.LINE; }
-  get waitsForKey() { return !this.isRunning && this.machine.asks === ASKS.KEY; }
+  get waitsForLine() { return !this.isRunning && (this.machine.asks === ASKS.LINE || (this.isForeign && this.machine.asks === ASKS.KEY)); }
+  get waitsForKey() { return !this.isRunning && !this.isForeign && this.machine.asks === ASKS.KEY; }
   // Whether a program asks for the line, and not the Forth itself, whose return stack always has the same depth then.
-  get waitsForAnswer() { return this.waitsForLine && this.machine.returns.length > this.places.depth; }
+  get waitsForAnswer() { return this.waitsForLine && (this.isForeign || this.machine.returns.length > this.places.depth); }
 
   // Types lines, one after the other; a fault drops the lines after it.
   type(lines) {
@@ -94,7 +169,7 @@ export class Session {
 
   // What a program waits for is given, and the program is interrupted before it does anything with it.
   answerAndInterrupt(bytes) {
-    this.machine.run(Uint8Array.from(bytes), 1);
+    if (this.canBreak) this.machine.run(Uint8Array.from(bytes), 1);
     this.interrupt();
     this.go();
   }
@@ -108,6 +183,7 @@ export class Session {
 
   // The next bytes for what is asked.
   next() {
+    if (this.machine.asks === ASKS.KEY && this.isForeign) return this.nextOfTerminal();
     if (this.machine.asks === ASKS.KEY) {
       if (!this.keys.length && this.lines.length) this.keys.push(...encode(this.lines.shift() + "\n"));
       return Uint8Array.from(this.keys.splice(0, 1));
@@ -115,6 +191,15 @@ export class Session {
     this.keys = [];
     if (this.machine.asks !== ASKS.LINE || !this.lines.length) return new Uint8Array(0);
     return this.nextLine();
+  }
+
+  // A line for KEY, which is shown as a terminal shows it.
+  nextOfTerminal() {
+    if (!this.lines.length) return new Uint8Array(0);
+    const bytes = encode(this.lines.shift() + "\n");
+    this.view.begun(true);
+    this.view.show(bytes, true);
+    return bytes;
   }
 
   nextLine() {
@@ -143,7 +228,10 @@ export class Session {
       since = performance.now();
       this.view.looks();
       if (this.wish) break;
-      if (this.isStopped) this.interrupt();
+      if (this.isStopped) {
+        typed = new Uint8Array(0);
+        this.interrupt();
+      }
       if (since - kept > LONG) {
         kept = since;
         this.view.keeps();
@@ -156,8 +244,11 @@ export class Session {
   advance(typed) {
     const began = performance.now(), ended = this.machine.run(typed, this.ticks);
     this.show(ended.shown);
+    if (ended.stop === STOP.HALTED) {
+      this.restart();
+      return new Uint8Array(0);
+    }
     if (ended.stop === STOP.BLOCK) this.serve();
-    else if (ended.stop === STOP.HALTED) this.restart();
     else if (ended.stop === STOP.LIMIT) this.measure(performance.now() - began);
     else if (ended.stop === STOP.TYPED) return this.feed();
     return typed.subarray(ended.read);
@@ -200,9 +291,13 @@ export class Session {
     if (bytes.length > echo) this.view.show(bytes.subarray(echo), false);
   }
 
+  get canBreak() { return this.places.break !== undefined; }
+
+  // Goes on with the word BREAK. A program without it ends.
   interrupt() {
     this.isStopped = false;
-    if (this.machine.asks === ASKS.NOTHING && !this.machine.halted) this.machine.enter(this.places.break);
+    if (!this.canBreak) this.leave("was stopped");
+    else if (this.machine.asks === ASKS.NOTHING && !this.machine.halted) this.machine.enter(this.places.break);
   }
 
   serve() {
@@ -214,11 +309,12 @@ export class Session {
 
   write(block, page) {
     this.disk.put(block, page);
-    this.saved = null;
+    this.before = null;
   }
 
   // Looks whether a fault was reported since the last look, and whether the Forth asks for the editor or for a line to be typed anew.
   look() {
+    if (this.isForeign) return false;
     const notes = this.notes, isFault = notes.faults !== this.faults, retyped = this.machine.cell(this.places.retyped);
     this.faults = notes.faults;
     if (isFault) this.view.fault(notes);
@@ -236,9 +332,9 @@ export class Session {
   // BYE, or a fault that nothing handles: changed screens are kept, and a new machine starts.
   restart() {
     this.drop("the Forth had ended");
+    if (this.outer) return this.leave("ended");
     this.settle();
-    this.faults = 0;
-    this.machine.load(this.image, this.disk.count);
+    this.load();
     this.view.note("The Forth ended and started again: its words are gone, the screens are kept.");
   }
 
@@ -269,15 +365,16 @@ export class Session {
     this.settle();
     for (const buffer of this.machine.buffers) this.machine.release(buffer);
     this.disk = disk;
-    this.saved = null;
+    this.before = null;
     this.machine.blockCount = disk.count;
     this.view.changed();
   }
 
   // Keeps all as it is, for Undo: before a line, and before a screen is edited. States with the same disk share one copy of it.
   remember(what) {
-    this.saved ??= this.disk.bytes.slice();
-    this.undos.push({ what, record: this.machine.copy(), disk: this.disk, bytes: this.saved, mark: this.view.mark(), faults: this.faults });
+    this.before ??= this.disk.bytes.slice();
+    const { disk, places, outer, program, faults } = this;
+    this.undos.push({ what, record: this.machine.copy(), bytes: this.before, mark: this.view.mark(), own: { disk, places, outer, program, faults } });
     if (this.undos.length > UNDOS) this.undos.shift();
   }
 
@@ -286,10 +383,9 @@ export class Session {
     if (!this.undos.length || this.waits(() => this.undo())) return;
     const before = this.undos.pop();
     this.machine.restore(before.record);
-    this.disk = before.disk;
+    Object.assign(this, before.own);
     this.disk.bytes = before.bytes.slice();
-    this.saved = before.bytes;
-    this.faults = before.faults;
+    this.before = before.bytes;
     this.view.back(before.mark);
     this.view.changed();
   }

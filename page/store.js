@@ -1,4 +1,13 @@
-// What the browser keeps, by names: plain values with their bytes, in IndexedDB.
+// What the browser keeps, by names: plain values with their bytes, in IndexedDB. And states of sessions as texts.
+
+import { fromBase64, toBase64 } from "./bytes.js";
+
+const converted = (state, convert) => ({ ...state, record: convert(state.record), disk: convert(state.disk),
+  outer: state.outer ? { ...state.outer, record: convert(state.outer.record) } : null });
+
+// A state of a session with its bytes in base64, and back.
+export const withTexts = (state) => converted(state, toBase64);
+export const withBytes = (state) => converted(state, fromBase64);
 
 export class Store {
   // place: which page's values these are, so that pages that were handed out separately don't mix.

@@ -1,6 +1,8 @@
 """Cases of the parts of page/ that need no program, with results that were worked out by hand; and pages that are handed out."""
+import base64
 import json
 import pathlib
+import random
 import re
 import shutil
 import subprocess
@@ -177,7 +179,7 @@ def check_assembly(cases: Cases) -> None:
         names += re.findall(r"(?:^const |^let |, |\n *)(\w+) = ", line)
     cases.must(len(names) == len(set(names)), f"names twice: {sorted({it for it in names if names.count(it) > 1})}")
     cases.must(not re.search(r"^(import|export)\b", script, re.M), "imports or exports are left")
-    text = assembly.page({"text": "</script><!--"}, {"TITLE": "A & B", "VERSION": "v", "SHA256": "s", "PROVED": "p"})
+    text = assembly.page({"text": "</script><!--"}, {}, {"TITLE": "A & B", "VERSION": "v", "SHA256": "s", "PROVED": "p"})
     cases.must("</script><!--" not in text and "<title>A &amp; B</title>" in text, "the data end the script")
     cases.must("{{" not in re.sub(r"<script>.*</script>", "", text, flags=re.S), "a place of the template isn't filled")
 
@@ -205,25 +207,74 @@ TOLD = [["( T )", "\u00e4~", "%x"], "% screen 0\n% screen 1\n( T )\n%~~C3~A4~7E\
         "C\nD          E\n"]
 
 
-def check_modules(cases: Cases) -> None:
-    """The modules of the page that need no browser, in node."""
+# Node unpacks what Python packs: { packed, size } of each; what it throws is its answer.
+UNPACKING = """
+import { readFileSync } from "node:fs";
+import { fromBase64, toBase64 } from "./bytes.js";
+import { inflate } from "./inflate.js";
+const answer = ([packed, size]) => {
+  try {
+    return toBase64(inflate(fromBase64(packed), size));
+  } catch (error) {
+    return error.message;
+  }
+};
+console.log(JSON.stringify(JSON.parse(readFileSync(0)).map(answer)));
+"""
+
+
+def in_node(script: str, given: str = "") -> object:
+    """What a script with the page's modules prints in node, as JSON; or its errors. None where there is no node."""
     node = shutil.which("node")
     if not node:
-        print("check-page: there is no node here; the page's modules are tried in the browser alone")
-        return
+        return None
     with tempfile.TemporaryDirectory() as name:
         for file in PAGE.glob("*.js"):
             shutil.copy(file, pathlib.Path(name) / file.name)
         (pathlib.Path(name) / "package.json").write_text('{"type": "module"}', encoding="utf-8")
-        (pathlib.Path(name) / "case.mjs").write_text(NODE, encoding="utf-8")
-        done = subprocess.run([node, pathlib.Path(name) / "case.mjs"], capture_output=True, text=True, check=False)
-    got = json.loads(done.stdout) if done.returncode == 0 else done.stderr
-    cases.must(got == TOLD, f"the modules in node: {got}")
+        (pathlib.Path(name) / "case.mjs").write_text(script, encoding="utf-8")
+        done = subprocess.run([node, pathlib.Path(name) / "case.mjs"], input=given, capture_output=True, text=True, check=False)
+    return json.loads(done.stdout) if done.returncode == 0 else done.stderr
+
+
+def packed(content: bytes, level: int, strategy: int) -> bytes:
+    packing = zlib.compressobj(level, zlib.DEFLATED, -15, 9, strategy)
+    return packing.compress(content) + packing.flush()
+
+
+def check_unpacking(cases: Cases) -> None:
+    """Bytes stored as they are, in the fixed codes and in codes of their own; and what is cut or damaged."""
+    dice = random.Random(5)
+    contents_ = [b"", b"a", b"abcabcabcabcabcabc", bytes(70000), dice.randbytes(70000), (PAGE / "page.js").read_bytes(),
+                 bytes(dice.randrange(3) for _ in range(40000)), b"x" * 258 + dice.randbytes(32768) + b"x" * 258]
+    asked, wanted = [], []
+    for content in contents_:
+        for level, strategy in ((0, 0), (9, zlib.Z_FIXED), (1, 0), (9, 0), (9, zlib.Z_HUFFMAN_ONLY)):
+            asked.append((base64.b64encode(packed(content, level, strategy)).decode(), len(content)))
+            wanted.append(base64.b64encode(content).decode())
+    whole = packed(contents_[5], 9, 0)
+    for spoilt, size, says in ((whole[:-9], len(contents_[5]), "end too soon"), (whole, 7, "are damaged"), (b"\7", 1, "are damaged"),
+                               (b"\1\1\0\0\0x", 1, "are damaged")):
+        asked.append((base64.b64encode(spoilt).decode(), size))
+        wanted.append(f"the page's data {says}")
+    got = in_node(UNPACKING, json.dumps(asked))
+    if got is not None:
+        differ = [at for at, one in enumerate(wanted) if not isinstance(got, list) or got[at] != one]
+        cases.must(not differ, f"unpacking differs in {differ}, {got if not isinstance(got, list) else got[-4:]}")
+
+
+def check_modules(cases: Cases) -> None:
+    """The modules of the page that need no browser, in node."""
+    got = in_node(NODE)
+    if got is None:
+        print("check-page: there is no node here; the page's modules are tried in the browser alone")
+    else:
+        cases.must(got == TOLD, f"the modules in node: {got}")
 
 
 def check(cases: Cases) -> None:
     """All that needs no program."""
-    for part in (check_retarget, check_records, check_contents, check_canvas, check_assembly, check_modules):
+    for part in (check_retarget, check_records, check_contents, check_canvas, check_assembly, check_unpacking, check_modules):
         part(cases)
 
 

@@ -52,7 +52,7 @@ def check(trial: Trial, program: pathlib.Path, room: pathlib.Path) -> int:
     """Films of all the words: how many steps were compared."""
     trial.open()
     image, kernel, count = room / "page.img", room / "kernel.blk", 0
-    image.write_bytes(base64.b64decode(trial.value("DATA.image")))
+    image.write_bytes(base64.b64decode(trial.value("toBase64(DATA.image)")))
     page_modules.run([program, "kernel", kernel])
     for word, source, line in WORDS:
         wanted, got = debugged(program, image, kernel, room, word, source, line), filmed(trial, word, source, line)

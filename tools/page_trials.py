@@ -314,13 +314,58 @@ def disks(trial: Trial) -> None:
     trial.must("unknown" in trial.type("ADAS"), "the first person has the other one's words")
 
 
+MARKED = """['film-typed', 'film-source', 'film-thread'].map((id) => (document.querySelector(`#${id} .next`) || {}).textContent || "")"""
+AROUND = "[...document.querySelectorAll('#film-source .around')].map((one) => one.textContent).join(' ')"
+# Definitions, a line, and for some of its steps the word of the line and of the source that is done, and the structures around it.
+SOURCES = [
+    (": PARITY ( n -- ) 2 MOD IF .\" odd \" ELSE .\" even \" THEN ;", "7 PARITY 10 PARITY",
+     {0: ("PARITY", "2", ""), 2: ("PARITY", "IF", "IF ELSE THEN"), 3: ("PARITY", '." odd "', "IF ELSE THEN"), 4: ("PARITY", "ELSE", "IF ELSE THEN"),
+      5: ("PARITY", ";", ""), 9: ("PARITY", '." even "', "IF ELSE THEN")}),
+    (": ADDED ( n -- n2 ) 0 SWAP 1+ 0 ?DO ( each ) I + LOOP ;", "2 ADDED DUP .",
+     {0: ("ADDED", "0", ""), 2: ("ADDED", "1+", ""), 4: ("ADDED", "?DO", "?DO LOOP"), 8: ("ADDED", "I", "?DO LOOP"), 10: ("ADDED", "LOOP", "?DO LOOP")}),
+    (": GCD2 BEGIN ?DUP WHILE SWAP OVER MOD REPEAT ;", "8 6 GCD2 .",
+     {0: ("GCD2", "?DUP", "BEGIN WHILE REPEAT"), 1: ("GCD2", "WHILE", "BEGIN WHILE REPEAT"), 5: ("GCD2", "REPEAT", "BEGIN WHILE REPEAT")}),
+    (": KIND CASE 1 OF .\" one\" ENDOF 2 OF .\" two\" ENDOF ENDCASE ;", "2 KIND",
+     {0: ("KIND", "1", "CASE ENDCASE"), 1: ("KIND", "OF", "CASE OF ENDOF ENDCASE"), 9: ("KIND", '." two"', "CASE OF ENDOF ENDCASE")}),
+    (": COUNTS CREATE , DOES> @ . ;", "5 COUNTS C5 C5", {0: ("COUNTS", "CREATE", ""), 2: ("COUNTS", "DOES>", ""), 3: ("C5", "@", "")}),
+]
+
+
+def marked_in_source(trial: Trial) -> None:
+    """The film marks the word of the line and of the source that is done, and the structures around it; also of a screen."""
+    trial.must(trial.value(MARKED) == ["SQUARES", "?DO", "2DUP"], f"what is marked in a film: {trial.value(MARKED)}")
+    for source, line, steps in SOURCES:
+        trial.type(source)
+        trial.value(f"page.tab('film'); page.film.last = null; page.film.make({json.dumps(line)}); 0")
+        trial.wait("!!page.film.last", 20)
+        trial.value("page.film.choose('all'); 0")
+        for at, wanted in steps.items():
+            trial.value(f"page.film.go({at})")
+            got = (*trial.value(MARKED)[:2], trial.value(AROUND))
+            trial.must(got == wanted, f"{line}, step {at}: {got} is marked in place of {wanted}")
+    trial.value("page.session.put(34, pageOf(['( a screen )', ': OF-SCREEN', '  1', '  ( two ) 2 + . ;', 'OF-SCREEN']).page); 0")
+    trial.type("34 LOAD")
+    trial.value("page.film.last = null; page.film.make('34 LOAD'); 0")
+    trial.wait("!!page.film.last", 20)
+    trial.value("page.film.go(2)")
+    trial.must(trial.value(MARKED) == ["OF-SCREEN", "+", "+"] and trial.text("film-typed") == "screen 34 line 4: OF-SCREEN",
+               f"a word that the line makes: {trial.value(MARKED)}, {trial.text('film-typed')!r}")
+    trial.value("page.film.last = null; page.film.make('1 . OF-SCREEN'); 0")
+    trial.wait("!!page.film.last", 20)
+    trial.value("page.film.go(2)")
+    trial.must(trial.value(MARKED) == ["OF-SCREEN", "+", "+"] and trial.text("film-word") == "OF-SCREEN, screen 34", f"a word of a screen: {trial.value(MARKED)}")
+    trial.value("page.session.put(34, pageOf([': OF-SCREEN 3 * ;']).page); page.film.last = null; page.film.make('OF-SCREEN'); 0")
+    trial.wait("!!page.film.last", 20)
+    trial.must(trial.value("document.getElementById('film-source').hidden"), "a source that was changed is shown")
+
+
 def film(trial: Trial) -> None:
     """The steps of a line; the map of the memory; the manual."""
     trial.type(": SQUARES 0 ?DO I DUP * . LOOP ;")
     trial.type(": AFTER 1 ;")
     trial.value("page.tab('film'); document.getElementById('film-line').value = '3 SQUARES'; document.getElementById('film-form').requestSubmit()")
     trial.must(trial.wait("/steps/.test(document.getElementById('film-said').textContent)", 20), "no film is made")
-    trial.must(trial.text("film-word") == ": SQUARES", "the film's word")
+    trial.must(trial.text("film-word") == "SQUARES, typed", "the film's word")
     trial.must(trial.text("film-thread").strip().endswith("2DROP ;"), f"the film's thread: {trial.text('film-thread')!r}")
     trial.value("document.getElementById('film-show').focus()")
     trial.press("End", 35)
@@ -329,6 +374,7 @@ def film(trial: Trial) -> None:
     trial.press("ArrowRight", 39)
     trial.must(trial.text("film-number").startswith("step 2 of"), "an arrow in the film")
     trial.must(not trial.shown().rstrip().endswith("3 SQUARES"), "the film changed the session")
+    marked_in_source(trial)
     trial.value("page.tab('map')")
     trial.must("SQUARES" in trial.text("map-words") and "your words" in trial.text("map-parts"), "the map")
     seek = "{ const s = document.getElementById('words-sought'); s.value = '%s'; s.dispatchEvent(new Event('input')) }"
