@@ -1,13 +1,30 @@
-// Disks and files of other systems, whose screens become blocks as `forth83 import` makes them. docs/OLD-SOURCES.md describes the formats.
+// Disks and files of other systems, whose screens become blocks as the program's own `import` makes them. docs/OLD-SOURCES.md describes
+// the formats; wild.js has what `./forth83 import` adds to them.
 
 import { PAGE_SIZE } from "./machine.js";
 
-const MOST_BLOCKS = 65536, CR = 13, LF = 10, CPM_SIZE = 256256, APPLE_SIZE = 143360;
-const ENDINGS = { "lines-lf": [LF], "lines-cr": [CR], "lines-crlf": [CR, LF] };
+export const MOST_BLOCKS = 65536, CR = 13, LF = 10;
+export const ENDINGS = { "lines-lf": [LF], "lines-cr": [CR], "lines-crlf": [CR, LF] };
+const MOST_SECTORS = 1024;
+
+// A format with an offset, a sector's size and a skew of one's own; those that are null are the format's. A skew is counted from 0 or 1.
+export function changed(format, { offset, sector, skew }) {
+  const least = skew && !skew.includes(0) ? 1 : 0, order = skew ? skew.map((place) => place - least) : format.order;
+  return { ...format, offset: offset ?? format.offset, sector: sector ?? format.sector, order, hasSkew: skew !== null, hasOffset: offset !== null };
+}
+
+// What is wrong with a sector's size or an order, or null.
+function misfit({ sector, order }) {
+  if (!(sector > 0) || PAGE_SIZE % sector) return "a screen must have whole sectors: name a power of 2, up to 1,024";
+  const isOrder = order.length <= MOST_SECTORS && new Set(order).size === order.length && order.every((place) => place < order.length);
+  return isOrder ? null : "the skew must name each sector of a track once, counted from 0 or from 1";
+}
 
 // The blocks of a container: { bytes }, or { wrong } with what doesn't fit. A format has a name, an offset, a sector's size, and an
 // order: which sectors of a track are read, one after the other, counted from 0.
-export function blocksOf(container, format, isCleaned) {
+export function blocksOf(container, format) {
+  const wrong = misfit(format);
+  if (wrong) return { wrong };
   const ending = ENDINGS[format.name] || [], pitch = format.sector + ending.length, track = pitch * format.order.length;
   const body = container.length - format.offset, halves = format.name === "f83" ? 2 : 1;
   if (body < 0) return { wrong: "the file is shorter than what comes before its first screen" };
@@ -17,9 +34,7 @@ export function blocksOf(container, format, isCleaned) {
   if (size > MOST_BLOCKS * PAGE_SIZE) return { wrong: "the file has more than 65,536 screens" };
   if ((size / PAGE_SIZE) % halves) return { wrong: "the file has half a shadow: an odd number of screens" };
   const cut = cutLine(container, format, ending);
-  if (cut !== null) return { wrong: `line ${cut} of the file doesn't end where it must` };
-  const bytes = gathered(container, format, pitch, size);
-  return { bytes: isCleaned ? bytes.map(cleaned) : bytes };
+  return cut === null ? { bytes: gathered(container, format, pitch, size) } : { wrong: `line ${cut} of the file doesn't end where it must` };
 }
 
 // The first line that doesn't have its ending, or null.
@@ -42,17 +57,7 @@ function gathered(container, format, pitch, size) {
 }
 
 // A byte without its high bit; a blank if that is no text.
-function cleaned(byte) {
+export function cleaned(byte) {
   const low = byte & 127;
   return low >= 32 && low < 127 ? low : 32;
-}
-
-// Which format a file may have, by its size and its first line's end.
-export function guess(container) {
-  if (container.length === CPM_SIZE) return "cpm8-data";
-  if (container.length === APPLE_SIZE) return "apple-dos";
-  if (container[64] === CR && container[65] === LF) return "lines-crlf";
-  if (container[64] === CR) return "lines-cr";
-  if (container[64] === LF) return "lines-lf";
-  return "blocks";
 }

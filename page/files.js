@@ -7,8 +7,12 @@ import { isImage } from "./image.js";
 import { PAGE_SIZE } from "./machine.js";
 import { by } from "./parts.js";
 import { withBytes, withTexts } from "./store.js";
+import { guess } from "./wild.js";
 
 const SESSION = '{"format":"forth83"', MOST_TEXT = 200000;
+
+// Whether a file is blocks, and not the image of a disk of another system, which may have whole blocks too.
+const isBlocks = (name, bytes) => bytes.length > 0 && bytes.length % PAGE_SIZE === 0 && (/\.blk$/i.test(name) || guess(bytes) === "blocks");
 
 const asFileName = (name) => name.replace(/[/\\]/g, "-").slice(0, 60);
 
@@ -51,16 +55,15 @@ export class Files {
     else if (text.startsWith(SESSION)) await this.resume(file.name, text);
     else if (isImage(bytes)) this.runImage(file.name, bytes);
     else if (isScreens(text)) await this.merge(file.name, text);
-    else if (bytes.length && bytes.length % PAGE_SIZE === 0) await this.insert(new Disk(file.name, bytes));
-    else if (bytes.length && bytes.length < MOST_TEXT && !text.includes("\0")) this.page.enter(...text.replace(/\r/g, "").replace(/\n$/, "").split("\n"));
+    else if (isBlocks(file.name, bytes)) await this.insert(new Disk(file.name, bytes));
+    else if (bytes.length && bytes.length < MOST_TEXT && !text.includes("\0") && guess(bytes) === "blocks") this.page.enter(...text.replace(/\r/g, "").replace(/\n$/, "").split("\n"));
     else this.openOldDisk(file.name, bytes);
   }
 
-  // Neither blocks nor text: it may be a disk of another system.
+  // Neither blocks nor a text for the Forth: it may be a disk of another system, or a listing.
   openOldDisk(name, bytes) {
-    this.page.note(`${name} has ${bytes.length} bytes. That is neither whole blocks of 1,024 bytes nor a text.`);
-    if (!bytes.length) return;
-    this.page.note("If it is an old disk, choose its format under Disks.");
+    if (!bytes.length) return this.page.note(`${name} is empty.`);
+    this.page.note(`${name} looks like an old disk or a listing. Disks shows it; choose its format there, and put it in.`);
     this.page.tab("disk");
     this.page.oldDisk.open(name, bytes);
   }

@@ -1,10 +1,10 @@
 // Old disks: a file of another system is shown by a format, its screens are put in as a disk, and its dialect is named.
 
 import { DATA } from "./data.js";
-import { blocksOf, guess } from "./containers.js";
 import { Disk, linesOf } from "./disk.js";
 import { PAGE_SIZE } from "./machine.js";
 import { Survey } from "./survey.js";
+import { guess, imported } from "./wild.js";
 
 const MOST_UNKNOWN = 12, MOST_OTHERS = 3;
 
@@ -14,7 +14,8 @@ export class OldDisk {
     parts.format.append(...DATA.formats.map((one) => new Option(`${one.name}: ${one.what}`, one.name)));
     parts.choose.addEventListener("click", () => parts.file.click());
     parts.file.addEventListener("change", () => this.read(parts.file.files[0]));
-    for (const control of [parts.format, parts.clean]) control.addEventListener("change", () => this.draw());
+    for (const control of [parts.format, parts.clean, parts.half, parts.ebcdic, parts.offset, parts.sector, parts.skew, parts.first])
+      control.addEventListener("change", () => this.draw());
     parts.screen.addEventListener("input", () => this.show());
     parts.insert.addEventListener("click", () => this.insert());
     parts.dialect.addEventListener("click", () => this.load());
@@ -26,17 +27,30 @@ export class OldDisk {
   }
 
   open(name, container) {
+    const { format, half, ebcdic, offset, sector, skew, first, shown } = this.parts;
     Object.assign(this, { name, container });
-    this.parts.format.value = guess(container);
-    this.parts.shown.hidden = false;
+    format.value = guess(container);
+    for (const box of [half, ebcdic]) box.checked = false;
+    for (const text of [offset, sector, skew, first]) text.value = "";
+    shown.hidden = false;
     this.draw();
+  }
+
+  // What was chosen beside the format; or what is wrong with it.
+  options() {
+    const { clean, half, ebcdic, offset, sector, skew, first } = this.parts;
+    const [before, size, from] = [offset, sector, first].map(({ value }) => (value.trim() ? Number(value) : null));
+    const order = skew.value.trim() ? skew.value.trim().split(/[\s,]+/).map(Number) : null;
+    if ([before, size, from, ...(order || [])].some((number) => number !== null && !(Number.isInteger(number) && number >= 0))) return null;
+    return { offset: before, sector: size, skew: order, first: from || 0, isCleaned: clean.checked, isHalf: half.checked, isEbcdic: ebcdic.checked,
+      table: DATA.ebcdic };
   }
 
   // Reads the container by the chosen format.
   draw() {
     if (!this.container) return;
-    const { format, clean, said, screen, insert } = this.parts, chosen = DATA.formats.find((one) => one.name === format.value);
-    const made = blocksOf(this.container, chosen, clean.checked);
+    const { format, said, screen, insert } = this.parts, chosen = DATA.formats.find((one) => one.name === format.value), options = this.options();
+    const made = options ? imported(this.container, chosen, options) : { wrong: "the options must be whole numbers" };
     this.blocks = made.bytes || null;
     insert.disabled = !this.blocks;
     const size = `${this.name}, ${this.container.length.toLocaleString("en")} bytes`;
