@@ -10,6 +10,7 @@ export class Canvas {
     Object.assign(this, { page, parts, here: -1, tones: null });
     this.image = new ImageData(WIDE, HIGH);
     parts.save.addEventListener("click", () => this.save());
+    parts.try.addEventListener("click", () => this.try());
   }
 
   get session() { return this.page.session; }
@@ -86,6 +87,12 @@ export class Canvas {
     tone.connect(volume).connect(this.audio.destination);
     tone.start(from);
     tone.stop(this.until);
+  }
+
+  // Puts in the disk with the words for the canvas, and draws something.
+  async try() {
+    if (this.session.disk.name !== "draw.blk" && !(await this.page.files.insertNamed("draw.blk"))) return;
+    this.page.enter("1 LOAD 8 LOAD ROSE");
   }
 
   save() {

@@ -1,12 +1,13 @@
 // A class list: the files of pupils are checked lesson by lesson, by the page's own checkers, each lesson on a machine of its own.
 
 import { decode, element, encode, fromBase64 } from "./bytes.js";
-import { FIRST } from "./course.js";
+import { CHECKERS, COURSE, lessonsOf } from "./course.js";
 import { DATA } from "./data.js";
 import { linesOf } from "./disk.js";
 import { ASKS, Machine, PAGE_SIZE, STOP } from "./machine.js";
+import { helpOf, trialsOf, why } from "./trials.js";
 
-const LESSONS = 12, TICKS = 1000000, MOST_SLICES = 30, COURSE = "course.blk";
+const TICKS = 1000000, MOST_SLICES = 30;
 const SIGNS = { right: "✓", wrong: "✗", endless: "∞", empty: "·" };
 
 export class ClassList {
@@ -15,9 +16,16 @@ export class ClassList {
     parts.choose.addEventListener("click", () => parts.files.click());
     parts.files.addEventListener("change", () => this.check([...parts.files.files]));
     parts.csv.addEventListener("click", () => this.page.files.saveBlob("csv", new Blob([this.csv()])));
-    const titles = ["file", ...Array.from({ length: LESSONS }, (_, at) => at + 1), "right"], head = element("tr");
+    this.learn();
+    const titles = ["file", ...this.taught.map(({ number }) => number), "right"], head = element("tr");
     head.append(...titles.map((title) => element("th", String(title), { scope: "col" })));
     parts.head.replaceChildren(head);
+  }
+
+  // Whose lessons are checked: those of the disk that the page was made with, or else the course's.
+  learn() {
+    this.course = lessonsOf(this.page.files.builtIn(DATA.first)).length ? DATA.first : COURSE;
+    this.taught = lessonsOf(this.page.files.builtIn(this.course)).sort((a, b) => a.number - b.number);
   }
 
   // Checks files, one after the other, and shows each as soon as it is done.
@@ -40,23 +48,51 @@ export class ClassList {
 
   async lessons(bytes) {
     const results = [];
-    for (let lesson = 1; lesson <= LESSONS; lesson++) results.push(await this.lesson(lesson, bytes));
+    for (const lesson of this.taught) results.push(await this.lesson(lesson, bytes));
     return results;
   }
 
-  // What the checker says of a lesson: { mark, text }.
+  // The teacher's disk with a pupil's screen of a lesson, and nothing else of the pupil's.
+  diskWith({ screen }, bytes) {
+    const disk = this.page.files.builtIn(this.course);
+    disk.put(screen, bytes.subarray(screen * PAGE_SIZE, (screen + 1) * PAGE_SIZE));
+    return disk;
+  }
+
+  // What the checker says of a lesson: { mark, text }. Where it says that it is right, the page makes the trials, too.
   async lesson(lesson, bytes) {
-    const disk = this.page.files.builtIn(COURSE), block = FIRST + lesson, original = linesOf(disk.page(block)).join("\n");
-    if (bytes.length < (block + 1) * PAGE_SIZE) return { mark: "empty", text: "the file ends before this screen" };
-    disk.put(block, bytes.subarray(block * PAGE_SIZE, (block + 1) * PAGE_SIZE));
-    if (linesOf(disk.page(block)).join("\n") === original) return { mark: "empty", text: "nothing was written" };
+    const { number, screen } = lesson, textOfScreen = (disk) => linesOf(disk.page(screen)).join("\n");
+    if (bytes.length < (screen + 1) * PAGE_SIZE) return { mark: "empty", text: "the file ends before this screen" };
+    const disk = this.diskWith(lesson, bytes);
+    if (textOfScreen(disk) === textOfScreen(this.page.files.builtIn(this.course))) return { mark: "empty", text: "nothing was written" };
+    await this.begin(disk);
+    await this.run(disk, "1 LOAD\n");
+    const said = await this.run(disk, `${number} CHECK\n`);
+    if (said === null) return { mark: "endless", text: "it doesn't end" };
+    const isRight = said.trimEnd().replace(/\s*ok$/, "").split("\n").pop().startsWith(`Lesson ${number} is right.`);
+    const wrong = isRight && this.course === COURSE ? await this.tryIt(lesson, bytes) : null;
+    if (wrong) return { mark: "wrong", text: `The checker was deceived: ${wrong}.` };
+    return { mark: isRight ? "right" : "wrong", text: said.slice(`${number} CHECK`.length).trim().replace(/\s*ok$/, "") };
+  }
+
+  // A new Forth with this disk.
+  async begin(disk) {
     this.machine.load(DATA.image, disk.count);
     await this.run(disk, "");
-    await this.run(disk, "1 LOAD\n");
-    const said = await this.run(disk, `${lesson} CHECK\n`);
-    if (said === null) return { mark: "endless", text: "it doesn't end" };
-    const isRight = said.trimEnd().replace(/\s*ok$/, "").split("\n").pop().startsWith(`Lesson ${lesson} is right.`);
-    return { mark: isRight ? "right" : "wrong", text: said.slice(`${lesson} CHECK`.length).trim().replace(/\s*ok$/, "") };
+  }
+
+  // Makes the trials of a lesson of the course with the pupil's words alone; the first that is wrong, or null.
+  async tryIt(lesson, bytes) {
+    const disk = this.diskWith(lesson, bytes), own = this.page.files.builtIn(this.course), type = (line) => this.run(disk, `${line}\n`);
+    await this.begin(disk);
+    for (const line of helpOf(own)) await type(line);
+    await type("7919 7919 7919 7919");
+    if (lesson.number > 1) await type(`${lesson.screen} LOAD`);
+    for (const trial of trialsOf(own.page(lesson.screen + CHECKERS))) {
+      const wrong = await why(this.machine, trial, (line) => this.run(disk, line));
+      if (wrong) return wrong;
+    }
+    return null;
   }
 
   // What a line shows, or null where it doesn't end, or asks for a key.
@@ -86,7 +122,7 @@ export class ClassList {
     const row = element("tr");
     row.append(element("th", name, { scope: "row" }));
     if (!results) {
-      row.append(element("td", "neither blocks nor a whole session", { colspan: LESSONS + 1 }));
+      row.append(element("td", "neither blocks nor a whole session", { colspan: this.taught.length + 1 }));
       return row;
     }
     row.append(...results.map(({ mark, text }) => element("td", SIGNS[mark], { class: mark, title: text, "aria-label": `${mark}: ${text}` })));
@@ -95,7 +131,7 @@ export class ClassList {
   }
 
   csv() {
-    const quoted = (text) => `"${text.replace(/"/g, '""')}"`, head = ["file", ...Array.from({ length: LESSONS }, (_, at) => `lesson ${at + 1}`)];
+    const quoted = (text) => `"${text.replace(/"/g, '""')}"`, head = ["file", ...this.taught.map(({ number }) => `lesson ${number}`)];
     const lines = this.rows.map(({ name, results }) => [name, ...(results || []).map(({ mark }) => mark)]);
     return [head, ...lines].map((line) => line.map(quoted).join(",") + "\r\n").join("");
   }

@@ -4,8 +4,8 @@ import { escapeHtml } from "./bytes.js";
 import { DATA } from "./data.js";
 import { linesOf } from "./disk.js";
 
-// The screen of lesson 1 follows this one.
-export const FIRST = 20;
+// The course's disk; a lesson's checker is so many screens after the pupil's.
+export const COURSE = "course.blk", CHECKERS = 20;
 const TITLE = /^\( Lesson (\d+): (.*?) \)$/, TASK = /^\( (.*?) \)$/;
 
 export class Course {
@@ -14,7 +14,7 @@ export class Course {
     parts.lesson.addEventListener("change", () => this.choose(Number(parts.lesson.value)));
     parts.back.addEventListener("click", () => this.choose(this.at - 1));
     parts.on.addEventListener("click", () => this.choose(this.at + 1));
-    parts.check.addEventListener("click", () => this.type(`${this.lesson.number} CHECK`));
+    parts.check.addEventListener("click", () => this.check());
     parts.mine.addEventListener("click", () => this.showMine());
     parts.disk.addEventListener("click", () => this.insert());
     parts.text.addEventListener("click", (event) => this.press(event.target.closest("button")));
@@ -42,6 +42,29 @@ export class Course {
   async type(line) {
     if (!this.isIn) await this.insert();
     this.page.enter(line);
+  }
+
+  // Checks the lesson by the checkers that the page brings: where the disk's differ from these, they are put back first.
+  async check() {
+    if (!this.isIn) await this.insert();
+    if (this.restore()) {
+      this.page.note("Screens with the checkers were changed on this disk. They are as the page brings them again.");
+      this.page.enter("1 LOAD", `${this.lesson.number} CHECK`);
+    } else this.page.enter(`${this.lesson.number} CHECK`);
+  }
+
+  // Puts changed checkers back, which are before the first lesson's screen and 20 after each; whether there were some.
+  restore() {
+    const { session, files } = this.page, { disk } = session;
+    if (!DATA.disks[disk.name]) return false;
+    const own = files.builtIn(disk.name), pupils = lessonsOf(own).map((lesson) => lesson.screen), changed = [];
+    for (let block = 1; block < Math.min(own.count, disk.count); block++) {
+      const text = linesOf(own.page(block)).join("\n");
+      const isChecker = block < Math.min(...pupils) || (pupils.includes(block - CHECKERS) && !pupils.includes(block));
+      if (isChecker && text.trim() && text !== linesOf(session.page(block)).join("\n")) changed.push(block);
+    }
+    for (const block of changed) session.put(block, own.page(block));
+    return changed.length > 0;
   }
 
   async showMine() {
@@ -77,7 +100,7 @@ export class Course {
 }
 
 // The lessons that a disk has in its screens: a title `( Lesson 3: the stack )` in line 0, and what to do as comments below it.
-function lessonsOf(disk) {
+export function lessonsOf(disk) {
   const found = new Map();
   for (let screen = 0; screen < disk.count; screen++) {
     const lines = linesOf(disk.page(screen)), head = TITLE.exec(lines[0]);

@@ -122,6 +122,8 @@ export class Film {
     const at = found.places.get(ip), outer = around(found.words, at);
     const spans = found.words.map((one, number) => ({ ...one, isNext: number === at, isAround: outer.has(number) }));
     source.replaceChildren(...marked(found.text, spans.filter((one) => one.isNext || one.isAround)));
+    const next = source.querySelector(".next");
+    source.scrollLeft = next ? next.offsetLeft + next.offsetWidth - source.clientWidth / 2 : 0;
   }
 
   tokens(step) {

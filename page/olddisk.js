@@ -34,6 +34,7 @@ export class OldDisk {
     for (const text of [offset, sector, skew, first]) text.value = "";
     shown.hidden = false;
     this.draw();
+    shown.scrollIntoView();
   }
 
   // What was chosen beside the format; or what is wrong with it.

@@ -122,6 +122,7 @@ export class Transcript {
 
   clear() {
     this.texts = [];
+    this.waiting = [];
     this.terminal = null;
     this.place.textContent = "";
   }
@@ -131,7 +132,6 @@ export class Transcript {
     return this.texts.map((one) => one.slice());
   }
   back(texts) {
-    this.waiting = [];
     this.clear();
     for (const [kind, text] of texts) {
       this.texts.push([String(kind), String(text)]);

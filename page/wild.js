@@ -68,7 +68,7 @@ function isAdded(container, format, { isHalf, isEbcdic, first }) {
 }
 
 // The bytes of a container in the order of its screens.
-function body(container, format) {
+function bodyOf(container, format) {
   if (format.turning) return turned(container, format.turning);
   if (isPlain(format)) return { bytes: container.subarray(Math.min(format.offset, container.length)) };
   if (format.isAdded) return { wrong: "this format has an order of its own; for a skew choose blocks" };
@@ -84,7 +84,7 @@ function widened(bytes) {
 }
 
 // Whole screens. What is left after the last one is a screen, too, if it isn't padding.
-function whole(bytes) {
+function wholeScreens(bytes) {
   const size = bytes.length - (bytes.length % PAGE_SIZE), rest = bytes.subarray(size);
   if (isPadding(rest)) return bytes.slice(0, size);
   const last = new Uint8Array(PAGE_SIZE).fill(BLANK);
@@ -95,20 +95,20 @@ function whole(bytes) {
 const fromEbcdic = (bytes, table) => bytes.map((byte) => table.charCodeAt(byte));
 
 // The screens of a container: { first, bytes } with the number of the first one, or { wrong }.
-function screens(container, format, options) {
+function screensOfContainer(container, format, options) {
   const { isHalf, isEbcdic, table } = options;
   if (format.name === "text") return screensOfListing(isEbcdic ? fromEbcdic(container, table) : container);
   if (!isAdded(container, format, options)) return blocksOf(container, format);
-  const made = body(container, format);
+  const made = bodyOf(container, format);
   if (made.wrong) return made;
   const bytes = isEbcdic ? fromEbcdic(made.bytes, table) : made.bytes;
-  return { bytes: isHalf ? widened(bytes) : whole(bytes) };
+  return { bytes: isHalf ? widened(bytes) : wholeScreens(bytes) };
 }
 
 // The blocks of a container, as `./forth83 import` makes them: { bytes, first }, or { wrong }. Options are an offset, a sector's size and
 // a skew (null for the format's), isHalf, isEbcdic, isCleaned and first, the number of the first screen (0 for the container's own).
 export function imported(container, plain, options) {
-  const format = changed(plain, options), made = screens(container, format, options);
+  const format = changed(plain, options), made = screensOfContainer(container, format, options);
   if (made.wrong) return made;
   if (!made.bytes.length) return { wrong: "the file has no whole screen" };
   const first = options.first || made.first || 0, bytes = options.isCleaned ? made.bytes.map(cleaned) : made.bytes;

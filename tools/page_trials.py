@@ -405,6 +405,48 @@ def class_list(trial: Trial) -> None:
     told = trial.value("document.querySelectorAll('#class-rows tr')[2].children[3].title")
     trial.must("CUBE leaves" in told and "is wanted" in told, f"what is wrong in a pupil's lesson: {told!r}")
     trial.must(trial.value("page.classList.csv().split('\\r\\n')[3]").startswith('"eve.blk","endless","endless","wrong","empty"'), "the list as CSV")
+    cheats(trial)
+
+
+# Screens of pupils who want to deceive a checker: of each its lesson, and what is in the screen. None of them has the words that are asked for.
+CHEATS = {
+    "says so": (3, ['CR .( Lesson 3 is right. Lesson 4 is next.) QUIT']),
+    "other words for trials": (3, [": CUBE ; : TWIST ; : SUMSQ ;", ': T{ ; : -> ; : }T ; : NEEDS BL WORD DROP ; : ALL-RIGHT', '  CR ." Lesson 3 is right." ;']),
+    "a blank checker": (3, ["43 BLOCK 1024 32 FILL UPDATE", ": CUBE ; : TWIST ; : SUMSQ ;", "CR .( Lesson 3 is right.)"]),
+    "no trial is wrong": (3, [": CUBE ; : TWIST ; : SUMSQ ;", ": OVER-WITH ; ' OVER-WITH ' CUBE DROP DROP", ": }T SCLEAR ;"]),
+    "another ALL-RIGHT at once": (2, [": MINUTES ; : FAHRENHEIT ; : BORDER ;", ": NEEDS CR .\" Lesson 2 is right.\" 1024 >IN ! ;"]),
+    "an end before the trials": (1, ["CR .( Lesson 1 is right.) QUIT"]),
+}
+
+
+def cheats(trial: Trial) -> None:
+    """No screen that deceives the Forth's checker is right in a class list; and changed checkers of a pupil's disk aren't used."""
+    course = "page.files.builtIn('course.blk')"
+    for what, (lesson, lines_) in CHEATS.items():
+        trial.value(f"window.tricky = {course}; tricky.put({20 + lesson}, pageOf({json.dumps(lines_)}).page); window.checked = false; "
+                    "page.classList.check([new File([tricky.bytes], 'x.blk')]).then(() => (window.checked = true)); 0")
+        trial.must(trial.wait("window.checked", 60), f"a class list with {what} isn't made")
+        marks = trial.value("page.classList.rows[0].results.map((one) => one.mark)")
+        trial.must(marks.count("right") == 0 and marks.count("empty") == 11, f"a pupil deceives the class list: {what}: {marks}")
+        told = trial.value(f"page.classList.rows[0].results[{lesson - 1}].text")
+        trial.must(told.startswith("The checker was deceived: "), f"{what} doesn't deceive the Forth's checker: {told}")
+    forged = [f"{screen}, pageOf(['CR .( Lesson {screen - 40} is right.)']).page" for screen in range(41, 53)]
+    trial.value(f"window.tricky = {course}; {''.join(f'tricky.put({one});' for one in forged)} tricky.put(23, pageOf([': CUBE ;']).page); "
+                "window.checked = false; page.classList.check([new File([tricky.bytes], 'x.blk')]).then(() => (window.checked = true)); 0")
+    trial.wait("window.checked", 60)
+    trial.must(trial.value("page.classList.rows[0].results.every((one) => one.mark !== 'right')"), "a pupil's own checkers are used in a class list")
+    trial.value("page.files.insertNamed('course.blk')")
+    trial.must(trial.wait("page.session.disk.name === 'course.blk' && page.session.waitsForLine", 15), "the course's disk isn't put in")
+    trial.type("1 LOAD")
+    trial.value("page.session.put(43, pageOf(['CR .( Lesson 3 is right.)']).page); page.session.put(23, pageOf([': CUBE ;']).page); "
+                "page.course.find(DATA.lessons[2].title); document.getElementById('course-check').click()")
+    trial.wait("page.session.waitsForLine && /3 CHECK/.test(page.transcript.text())", 15)
+    trial.idle()
+    shown = trial.shown()
+    shown = shown[shown.rfind("Screens with the checkers were changed"):]
+    trial.must("CUBE leaves" in shown and "Lesson 3 is right" not in shown, f"CHECK in the page uses changed checkers: {shown[-200:]!r}")
+    trial.value("page.files.removeDisk()")
+    trial.wait("page.session.waitsForLine", 15)
 
 
 POINTS = """[[0, 0], [1, 0], [2, 0], [0, 1], [319, 199]].map(([x, y]) =>
@@ -485,6 +527,27 @@ def contrast(trial: Trial) -> None:
     trial.browser.call("Emulation.setEmulatedMedia", features=[{"name": "prefers-color-scheme", "value": "light"}])
 
 
+PRINTED = """(() => {
+  const style = (id) => getComputedStyle(document.getElementById(id)), light = (color) => color === "rgb(255, 255, 255)" || color === "rgba(0, 0, 0, 0)";
+  return [getComputedStyle(document.querySelector("header")).display, style("form").display, style("forth").display, style("transcript").overflowY,
+    style("transcript").color, light(getComputedStyle(document.body).backgroundColor)];
+})()"""
+
+
+def prints(trial: Trial) -> None:
+    """What is printed: the transcript or the tab without the controls, black on white; and the screens of a disk, each that isn't empty."""
+    for scheme in ("light", "dark"):
+        trial.browser.call("Emulation.setEmulatedMedia", media="print", features=[{"name": "prefers-color-scheme", "value": scheme}])
+        trial.value("document.body.dataset.tab = 'forth'")
+        got = trial.value(PRINTED)
+        trial.must(got == ["none", "none", "block", "visible", "rgb(0, 0, 0)", True], f"what is printed in {scheme}: {got}")
+    trial.browser.call("Emulation.setEmulatedMedia", media="", features=[{"name": "prefers-color-scheme", "value": "light"}])
+    trial.value("page.tab('screens'); window.sheets = null; window.print = () => (window.sheets = "
+                "[document.querySelectorAll('.sheet').length, document.body.classList.contains('printing')]); page.files.print()")
+    wanted = trial.value("Array.from({ length: page.session.disk.count }, (_, at) => linesOf(page.session.page(at)).join('').trim()).filter((one) => one).length")
+    trial.must(trial.value("window.sheets") == [wanted, True] and wanted > 0, f"sheets of screens: {trial.value('window.sheets')} of {wanted}")
+
+
 def undo_of_edit(trial: Trial) -> None:
     """Undo takes back an edit alone, and then the line before it."""
     trial.type("SCLEAR")
@@ -516,6 +579,7 @@ def first_prompt(trial: Trial) -> str:
 
 def all_of(trial: Trial, program: pathlib.Path, room: pathlib.Path) -> List[str]:
     """All trials, in an order in which each uses what those before it left; measured numbers."""
+    trial.browser.call("Network.emulateNetworkConditions", offline=True, latency=0, downloadThroughput=-1, uploadThroughput=-1)
     trial.open()
     for part in (lines, stops, undo, questions, cursor, editor, reloads):
         part(trial)
@@ -523,7 +587,7 @@ def all_of(trial: Trial, program: pathlib.Path, room: pathlib.Path) -> List[str]
     files(trial, program, room)
     (room / "downloads").mkdir()
     saved(trial, room / "downloads")
-    for part in (disks, film, canvas, class_list, widths, names, contrast, undo_of_edit):
+    for part in (disks, film, canvas, class_list, widths, names, contrast, prints, undo_of_edit):
         part(trial)
     measured = [speed(trial), first_prompt(trial)]
     trial.must(not trial.browser.errors, f"errors in the page: {trial.browser.errors[:3]}")

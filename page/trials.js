@@ -1,0 +1,51 @@
+// The trials of a lesson's checker, made by the page itself: what a pupil's words leave and show is read from the machine, so that words
+// and screens of the pupil's can't answer in the checker's place.
+
+import { COLUMNS, linesOf } from "./disk.js";
+import { SYSTEM } from "./machine.js";
+import { definitionOf } from "./source.js";
+
+const ITEM = /\((?:[^)]*)\)|NEEDS\s+(\S+)|T\{\s+([^]*?)\s->\s+([^]*?)\}T(?:\s+SHOWS\s+([^|]*)\|)?|ALL-RIGHT|([^]+?)(?=\s(?:T\{|NEEDS|ALL-RIGHT|\()\s|$)/y;
+
+const oneLine = (text) => text.replace(/\s*\n\s*/g, " ").trim();
+
+// What is shown, without blanks and new lines at both ends; a new line is a slash.
+const cut = (text) => text.replace(/\n/g, "/").replace(/^[ /]+|[ /]+$/g, "");
+
+// What a checker's screen does: words that it needs, lines, and trials with the numbers that they must leave, and what they must show.
+export function trialsOf(page) {
+  const text = linesOf(page).join("\n"), found = [];
+  for (let at = 0; at < text.length; at = ITEM.lastIndex) {
+    ITEM.lastIndex = at + /\s*/.exec(text.slice(at))[0].length;
+    const [, needs, line, leaves, shows, other] = ITEM.exec(text) || [];
+    if (!ITEM.lastIndex) break;
+    if (needs) found.push({ needs });
+    else if (line) found.push({ line: oneLine(line), leaves: leaves.split(/\s+/).filter((one) => one).map(Number), shows: shows === undefined ? null : cut(shows) });
+    else if (other && other.trim()) found.push({ line: oneLine(other) });
+  }
+  return found;
+}
+
+// The lines that make S|, which trials use, from the checkers' screens.
+export function helpOf(disk) {
+  for (let block = 1; block < disk.count; block++) {
+    const lines = linesOf(disk.page(block)), one = definitionOf(lines.join("\n"), "S|");
+    if (one) return [...lines.filter((line) => line.startsWith("CREATE ROOM-FOR-TEXT")), ...one.text.split("\n")];
+  }
+  return [];
+}
+
+// Why a trial isn't right, or null. RUN types a line and gives what it shows, or null where it doesn't end.
+export async function why(machine, trial, run) {
+  machine.setCell(SYSTEM.base, 10);
+  const { needs, line, leaves, shows } = trial, before = machine.values;
+  if (needs) return machine.words().some((one) => one.name === needs) ? null : `${needs} isn't there`;
+  const shown = await run(`${line}\n`);
+  if (shown === null) return `${line} doesn't end`;
+  const now = machine.values, left = now.slice(before.length), isKept = before.every((cell, at) => now[at] === cell);
+  if (!leaves) return null;
+  if (!isKept) return `${line} takes more from the stack than it is given`;
+  if (left.length !== leaves.length || left.some((cell, at) => cell !== (leaves[at] & 0xffff))) return `${line} leaves ${left.join(" ") || "nothing"}, and ${leaves.join(" ") || "nothing"} is wanted`;
+  const output = cut(shown.slice(line.length).trimEnd().replace(/ok$/, ""));
+  return shows === null || output === shows ? null : `${line} shows ${output.slice(0, COLUMNS)}, and ${shows} is wanted`;
+}
