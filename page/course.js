@@ -48,7 +48,7 @@ export class Course {
   async check() {
     if (!this.isIn) await this.insert();
     if (this.restore()) {
-      this.page.note("Screens with the checkers were changed on this disk. They are as the page brings them again.");
+      this.page.note("Screens with the checkers were changed on this disk. They have been put back.");
       this.page.enter("1 LOAD", `${this.lesson.number} CHECK`);
     } else this.page.enter(`${this.lesson.number} CHECK`);
   }

@@ -46,7 +46,7 @@ export class Film {
     this.loopEnds = new Set(film.mine.flatMap((word) => threadOf(this.machine, this.words, word, this.here)).map((token) => token.loopEnd));
     this.definitions = new Map([...new Set(film.steps.map((step) => step.word))].map((word) => [word, this.definition(word)]));
     this.base = Math.min(...film.steps.map((step) => step.returns.length));
-    const none = `No word of yours is done in this line${film.why}. The Forth's own words have no film here.`;
+    const none = `This line runs no word of yours${film.why}. A film shows the steps of your own words only.`;
     this.say(this.made.length ? `${this.made.length} steps of your words, in ${film.ticks} ticks${film.why}.` : none);
     this.list();
   }
@@ -198,14 +198,14 @@ class Filming {
     this.ticks++;
     if (ended.stop === STOP.BLOCK) this.serve();
     else if (ended.stop === STOP.TYPED || ended.stop === STOP.HALTED) return this.ends();
-    if (machine.cell(this.noted) !== this.faults) this.why = "; a fault ended it";
+    if (machine.cell(this.noted) !== this.faults) this.why = "; a fault ended the line";
     if (this.steps.length < MOST_STEPS && this.ticks < MOST_TICKS) return true;
-    this.why = "; the film is cut there";
+    this.why = "; it is too long, and the film ends there";
     return false;
   }
 
   ends() {
-    if (this.machine.asks === ASKS.KEY) this.why = "; it ends where a key is asked for";
+    if (this.machine.asks === ASKS.KEY) this.why = "; the film ends where the program asks for a key";
     return false;
   }
 

@@ -85,11 +85,11 @@ export class OldDisk {
     const { alone, ranks } = new Survey(pages, new Set(DATA.known), DATA.dialects).ranks(), [{ dialect, unknown }, ...others] = ranks;
     this.best = alone.length ? dialect : null;
     this.parts.dialect.disabled = !this.best;
-    if (!this.best) return "The Forth knows all words of their sources.";
+    if (!this.best) return "The Forth knows all words in these screens.";
     const more = unknown.length > MOST_UNKNOWN ? " …" : "", words = unknown.length ? ` (${unknown.slice(0, MOST_UNKNOWN).join(" ")}${more})` : "";
     const rest = others.slice(0, MOST_OTHERS).map((one) => `${one.dialect.name} ${one.unknown.length}`).join(", ");
-    return `Fewest words stay unknown with ${dialect.name}: ${unknown.length}${words}. With ${rest}; without a dialect ${alone.length}. ` +
-      "Load the dialect, and then put this in as a disk.";
+    return `The dialect ${dialect.name} leaves the fewest words unknown: ${unknown.length}${words}. Others leave more: ${rest}; without a ` +
+      `dialect ${alone.length} are unknown. Load the dialect, and then put this in as a disk.`;
   }
 
   // Loads the words of the dialect from its disk, after those of the dialect that it needs.

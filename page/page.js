@@ -53,7 +53,7 @@ export class Page {
   }
 
   startNew() {
-    this.note(`${DATA.title} Type 3 4 + . and Enter; HELP says more. Your work is kept in this browser.`);
+    this.note(`${DATA.title} Type 3 4 + . and press Enter. HELP says more. Your work is kept in this browser.`);
     this.session.start(this.files.builtIn(DATA.first));
     if (DATA.start.length) this.session.type(DATA.start);
   }

@@ -167,7 +167,7 @@ def check_advice(trial: Trial, room: pathlib.Path) -> None:
     trial.value(f"window.opened = false; page.files.open(new File([fromBase64({content})], 'kiln.dsk')).then(() => (window.opened = true)); 0")
     trial.must(trial.wait("window.opened && document.body.dataset.tab === 'disk'"), "an old disk isn't opened")
     said = trial.text("old-said")
-    trial.must("Fewest words stay unknown with fig-FORTH" in said and "243 screens" in said, f"the advice for an old disk: {said!r}")
+    trial.must("The dialect fig-FORTH leaves the fewest words unknown" in said and "243 screens" in said, f"the advice for an old disk: {said!r}")
     trial.must("cpm8-data" == trial.value("document.getElementById('old-format').value"), "the format of an old disk isn't guessed")
     trial.must("one habit each" in trial.text("old-preview"), f"the first screen of an old disk: {trial.text('old-preview')!r}")
     trial.click("old-dialect")
