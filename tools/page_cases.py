@@ -282,12 +282,27 @@ LESSON = """% screen 1
 2 LOAD
 % screen 2
 : GREETING ( -- ) ." Good morning" CR ;
-: CHECK ( n -- ) DUP 20 + LOAD 5 = IF ." five " THEN . ;
+: CHECK ( n -- ) DUP 20 + LOAD 5 = IF CR ." Lesson " .
+  ." is right." ELSE . ." isn't right." THEN ;
 % screen 21
 ( Lesson 1: numbers <5> )
 ( leave a 5 )
 5
 """
+
+
+def check_own_class(own: Trial) -> None:
+    """A class list of the page's own lessons, by the checkers of its disk."""
+    own.must(own.value("page.classList.course + ' ' + page.classList.taught.length") == "lesson.blk 1", "whose lessons a class list checks")
+    files = []
+    for name, line in (("ada", "2 3 +"), ("bob", "6"), ("eve", "5 CR .( Lesson 1 is right.)"), ("kim", "")):
+        own.value(f"window.{name} = page.files.builtIn('lesson.blk'); if ({json.dumps(line)}) {name}.put(21, pageOf([{json.dumps(line)}]).page); "
+                  f"{name}.put(2, pageOf([': CHECK .\" Lesson 1 is right.\" ;']).page); 0")
+        files.append(f"new File([{name}.bytes], '{name}.blk')")
+    own.value(f"window.checked = false; page.classList.check([{', '.join(files)}]).then(() => (window.checked = true)); 0")
+    own.wait("window.checked", 30)
+    marks = own.value("page.classList.rows.map((row) => row.results.map((one) => one.mark).join())")
+    own.must(marks == ["right", "wrong", "right", "empty"], f"a class list of a page's own lessons: {marks}")
 
 
 def check_handed_out(trial: Trial, program: pathlib.Path, room: pathlib.Path, make: Callable[..., None]) -> None:
@@ -303,7 +318,8 @@ def check_handed_out(trial: Trial, program: pathlib.Path, room: pathlib.Path, ma
     own.must("leave a 5Your screen is 21" in own.text("course-text"), f"its text: {own.text('course-text')!r}")
     own.value("document.getElementById('course-check').click()")
     own.idle()
-    own.must("1 CHECK five 1  ok" in own.shown(), f"its CHECK: {own.shown()[-60:]!r}")
+    own.must("1 CHECK \nLesson 1 is right. ok" in own.shown(), f"its CHECK: {own.shown()[-60:]!r}")
+    check_own_class(own)
     own.must(own.value("document.title + ' ' + page.session.disk.name") == "A lesson lesson.blk", "its title and disk")
     own.type(": MINE 5 ;")
     own.open()
