@@ -6,7 +6,7 @@ set -uo pipefail
 here=$(cd "$(dirname "$(readlink -f "${BASH_SOURCE[0]}")")" && pwd)
 forth83=$here/crates/forth83/out/forth83
 kept=$here/workbench/out
-names=(plain tools piped quiet)
+names=(plain tools piped quiet debug)
 building=
 feeder=
 door=
@@ -83,7 +83,7 @@ are_kept() {
   local name from
   for name in "${names[@]}"; do
     [ -f "$kept/$name.img" ] || return 1
-    for from in "$forth83" "$here"/workbench/{make,*.txt}; do
+    for from in "$forth83" "$here"/workbench/{make,*.txt,overlays/*.txt}; do
       if [ "$from" -nt "$kept/$name.img" ]; then
         return 1
       fi
@@ -117,7 +117,7 @@ make_images() {
     esac
     return 1
   }
-  said=$("$here/workbench/make" --doors "$forth83" "$1" "$2"/{tools,piped,quiet}.new 9>&- 2>&1) || {
+  said=$("$here/workbench/make" --doors "$forth83" "$1" "$2"/{tools,piped,quiet,debug}.new 9>&- 2>&1) || {
     say "the workbench's tools can't be built over the screens 1 to 20 of $1:"
     echo "$said" >&2
     return 1

@@ -59,48 +59,69 @@ class Text:
     """A text file, line by line."""
 
     def __init__(self, name: str) -> None:
-        self.name, self.number = name, 0
+        self.name, self.number, self.line = name, 0, b""
         with open(name, "rb") as file:
             self._lines = file.read().splitlines()
         if self._lines and self._lines[0].startswith(b"#!"):
             self._lines[0] = b""
 
     def next(self) -> bytes:
-        """The answer with its next line."""
+        """The answer with its next line; a tab counts as a blank."""
         if self.number == len(self._lines):
             return answer(b".")
-        line = self._lines[self.number]
+        self.line = self._lines[self.number].replace(b"\t", b" ")
         self.number += 1
-        if len(line) > LINE:
-            said = f"line {self.number} of {self.name} has {len(line)} bytes, and {LINE} fit"
+        if len(self.line) > LINE:
+            self.line = self.line.rstrip(b" ")
+        if len(self.line) > LINE:
+            said = f"line {self.number} of {self.name} has {len(self.line)} bytes; the machine takes lines of {LINE}: break it in two"
             return answer(b"!", said.encode())
-        return answer(b"=", line)
+        return answer(b"=", self.line)
 
 
 class Files:
-    """The text files that are being included, one by another."""
+    """The text files that are being included, one by another, and the line that is interpreted after each."""
 
     def __init__(self) -> None:
         self._open: list[Text] = []
+        self._typed = b""  # the line that was typed
+        self._before: list[bytes] = []  # the lines that are to be interpreted further
+        self._last = ""  # the file that was included last, not by another one
 
     def answer(self, request: bytes) -> bytes:
         """The answer to a request; nothing if it wants none."""
         verb, text = request[:1], request[1:]
+        if verb == b"T":
+            self._typed = text
         if verb == b"I":
             return self._include(os.fsdecode(text))
         if verb == b"N" and self._open:
             return self._next()
+        if verb == b"R":
+            return answer(b"=", self._before.pop() if self._before else b"")
         if verb == b"C":
             self._open.clear()
+            self._before.clear()
         return b""
 
+    def name(self) -> str:
+        """The name of the innermost file."""
+        return self._open[-1].name if self._open else self._last
+
     def _include(self, name: str) -> bytes:
+        self._before.append(self._open[-1].line if self._open else self._typed)
+        name = name or self._last
+        if not name:
+            return answer(b"!", b"which file?")
         beside = os.path.join(os.path.dirname(self._open[-1].name), name) if self._open else name
         found = beside if os.path.exists(beside) else os.path.expanduser(name)
         try:
-            self._open.append(Text(found))
+            text = Text(found)
         except OSError as error:
             return answer(b"!", f"{name} can't be read: {error.strerror}".encode())
+        if not self._open:
+            self._last = found
+        self._open.append(text)
         return answer(b"=")
 
     def _next(self) -> bytes:

@@ -94,7 +94,8 @@ class Host:
     """A session from its start to its end."""
 
     def __init__(self, forth83: str, image: str, blocks: str, room: str) -> None:
-        self._room, self._forth83 = room, forth83
+        self._room, self._forth83, self._images = room, forth83, os.path.dirname(image)
+        self._name = ""  # the word whose lines LOCATE wants
         self._screens: list[tuple[int, bytes]] = []  # those that RELOAD takes
         self._blocks = Blocks(blocks)
         self._terminal = Terminal()
@@ -283,13 +284,44 @@ class Host:
             self._send_screen()
         elif verb == b"K":
             self._answer(answer(b"=" if self._typed or self._program.unread() else b"."))
-        elif verb == b"H":
-            from host.manual import help_for
-
-            self._terminal.show(b"\n" * bool(text) + help_for(os.fsdecode(text)).encode() + b"\n")
-            self._answer(answer(b"."))
+        elif verb == b"X":
+            self._tell(self._files.name())
+        elif verb in b"HQVO":
+            self._look_up(verb, os.fsdecode(text))
+        elif verb == b"D" and text.isdigit():
+            self._send_overlay(int(text))
         else:
             self._answer(self._files.answer(request))
+
+    def _tell(self, text: str) -> None:
+        """Shows a text, which the Forth waits for."""
+        self._terminal.show(text.encode())
+        self._answer(answer(b"."))
+
+    def _look_up(self, verb: bytes, text: str) -> None:
+        """HELP, VIEW and LOCATE of words of the system."""
+        if verb == b"H":
+            from host.manual import help_for
+
+            self._tell("\n" * bool(text) + help_for(text) + "\n")
+        elif verb == b"Q":
+            self._name = text
+        else:
+            from host.sources import lines_with, listed
+
+            number = int(text) if text.isdigit() else 0
+            if verb == b"V":
+                self._tell(listed(self._forth83, number, self._room))
+            else:
+                self._tell(lines_with(self._forth83, number, self._name, self._room))
+
+    def _send_overlay(self, base: int) -> None:
+        """Sends the tool for DEBUG, which begins at this address."""
+        from host.sources import overlay
+
+        sent = overlay(os.path.join(self._images, "debug.img"), base)
+        size = len(sent)
+        self._answer(ANSWER + b"=" + bytes((size % 256, size // 256)) + sent + b"\n" if sent else answer(b"."))
 
     def _read_screens(self, name: str) -> None:
         """Takes the screens of a text file, and says which, or why not."""
