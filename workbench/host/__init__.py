@@ -10,6 +10,7 @@
     history.py        lines that were typed in earlier sessions
     manual.py         what docs/WORDS.md says of a word
     sources.py        the system's own screens, for VIEW and LOCATE, and the overlay for DEBUG
+    dialects.py       which dialects have a word that is unknown
     keeping.py        changed screens that the Forth could not write itself
     keeper.py         a process that finishes the session when the host is killed
 """

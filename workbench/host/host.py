@@ -286,6 +286,8 @@ class Host:
             self._answer(answer(b"=" if self._typed or self._program.unread() else b"."))
         elif verb == b"X":
             self._tell(self._files.name())
+        elif verb == b"Z":
+            self._hint(os.fsdecode(text))
         elif verb in b"HQVO":
             self._look_up(verb, os.fsdecode(text))
         elif verb == b"D" and text.isdigit():
@@ -297,6 +299,12 @@ class Host:
         """Shows a text, which the Forth waits for."""
         self._terminal.show(text.encode())
         self._answer(answer(b"."))
+
+    def _hint(self, name: str) -> None:
+        """Adds to a refusal which dialects have the unknown word."""
+        from host.dialects import hint
+
+        self._tell(hint(name))
 
     def _look_up(self, verb: bytes, text: str) -> None:
         """HELP, VIEW and LOCATE of words of the system."""

@@ -1,0 +1,37 @@
+"""Which dialects have a word that the Forth does not know."""
+from __future__ import annotations
+
+import os
+import re
+
+FOLDER = os.path.join(os.path.dirname(os.path.dirname(os.path.dirname(os.path.realpath(__file__)))), "dialects")
+DIALECTS = ("fig.txt", "f79.txt", "f83.txt", "poly.txt")
+MADE = re.compile(r"(?:^|\s)(?::|VARIABLE|CREATE|(?<=[0-9]) CONSTANT) +(\S+)", re.M)
+
+
+def names_of(text: str) -> set[str]:
+    """The words that a dialect's text makes."""
+    return set(MADE.findall(text))
+
+
+def having(name: str, folder: str = FOLDER) -> list[str]:
+    """The texts of the dialects that have the word."""
+    found = []
+    for file in DIALECTS:
+        try:
+            with open(os.path.join(folder, file), encoding="utf-8") as text:
+                if name.upper() in names_of(text.read()):
+                    found.append(file)
+        except OSError:
+            pass
+    return found
+
+
+def hint(name: str) -> str:
+    """What is added to the message that the word is unknown: nothing if no dialect has it."""
+    found = having(name)
+    if not found:
+        return ""
+    *first, last = found
+    listed = f"{', '.join(first)} and {last} have" if first else f"{last} has"
+    return f"; dialects/{listed} it"
