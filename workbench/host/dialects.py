@@ -6,7 +6,7 @@ import re
 
 FOLDER = os.path.join(os.path.dirname(os.path.dirname(os.path.dirname(os.path.realpath(__file__)))), "dialects")
 DIALECTS = ("fig.txt", "f79.txt", "f83.txt", "poly.txt")
-MADE = re.compile(r"(?:^|\s)(?::|VARIABLE|CREATE|(?<=[0-9]) CONSTANT) +(\S+)", re.M)
+MADE = re.compile(r"(?:^|\s)(?::|2?VARIABLE|CREATE|2?CONSTANT) +(\S+)")
 
 
 def names_of(text: str) -> set[str]:
