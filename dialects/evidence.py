@@ -12,27 +12,44 @@ ALL = tuple(NAMES)
 LATER = ("f79", "f83", "poly")
 BEFORE_83 = ("fig", "f79", "poly")
 
-# Words that speak for some dialects and against the others: who has them, how much each says, and the words.
+# What systems had beyond these, each with the dialect that it goes back to.
+SYSTEMS = {"mms": ("MMSFORTH", "f79"), "hs": ("HS/FORTH", "f79"), "volks": ("volksFORTH", "f83"), "rsc": ("RSC-FORTH", "fig")}
+# Those of their words that no other system is likely to have.
+OWN_WORDS = set("ONLYFORTH \\NEEDS CASE? STOP? BANKC@ BANKC! BANKEXECUTE BANKEEC! AUTOSTART NCASE ACASE CASEND PTC $\" VAR".split())
+# Words of one glossary that programs of every system had from listings and neighbors: they say nothing.
+EVERYWHERE = set("""| ON OFF 2DUP 2DROP 2SWAP 2OVER 1- 2- 2* 2/ 0> U. U.R DEPTH PICK ROLL J .S --> THRU CASE OF ENDOF ENDCASE MYSELF <> 2! 2@
+C, HEX BL 0 1 2 3 -TRAILING .R THEN END AGAIN ERASE BLANK DUMP TEXT LINE EDITOR FLUSH INDEX B/BUF OFFSET INTERPRET BELL BEEP NOOP AT CODE
+;CODE END-CODE ASSEMBLER USER COPY DELETE INSERT SEARCH PRINT SET NEXT POP PUT PUSH FIRST LIMIT FILE SHOW STATUS SPACES QUERY ABORT
+FORGET DP FENCE LAST LINK LENGTH START STOP FORMAT SOURCE SELECT INPUT OUTPUT PAGE MS H. D.R DABS UP DEFAULT DOWN RUN BINARY COL ROW LEN
+ASC SCREEN K TAB GET HIS STRING RELOAD SINGLE PAUSE CLOSE OPEN WHERE POINT RESET CRT EMPTY USE IS EQ LINK NEST PLACE SP@ S0 COLD P@ P! PC@
+PC! LABEL WITHIN M+ M* M/ S->D WORDS VLIST L/S C/L FIND CREATE .ID (") ," " TASK ENTRY LOCAL WAKE SLEEP""".split())
+# What stronger and weaker signs of words say, where a glossary alone doesn't: who has them, how much each says, and the words.
 SIGNS: List[Tuple[Tuple[str, ...], int, str]] = [
-    (("fig",), 3, "-DUP MINUS DMINUS -FIND ID. !CSP ?CSP ?PAIRS U/ R# +ORIGIN .LINE (LINE) D+- +- WIDTH DLITERAL ?COMP ?EXEC"),
-    (("fig",), 2, "<BUILDS ENDIF SMUDGE ?ERROR MESSAGE 0BRANCH CFA NFA PFA LFA LATEST SP! ERROR DR0 DR1 MON ENCLOSE TRAVERSE"),
-    (("fig",), 1, "VLIST TOGGLE C/L B/SCR TRIAD"),
-    (("fig", "f79"), 1, "S->D BLANKS ?TERMINAL"),
-    (("fig", "f79", "poly"), 1, "U*"),
-    (("f79",), 5, "79-STANDARD"),
-    (("f79",), 2, "D->S LOADS L/SCR"),
-    (("f79", "poly"), 2, "U/MOD <CMOVE /LOOP -TEXT"),
-    (("f79", "poly"), 1, "I' >< 1+!"),
-    (("f79", "f83"), 1, "PICK ROLL DEPTH"),
-    (LATER, 2, ">IN"),
-    (LATER, 1, "?DUP NEGATE NOT CONVERT EXIT QUERY"),
-    (("f83",), 5, "FORTH-83"),
-    (("f83",), 3, ">BODY UM* UM/MOD +THRU ?LEAVE >NAME NAME> BODY> N>LINK L>NAME LINK>"),
-    (("f83",), 2, "['] ?DO SPAN #TIB DEFER IS ONLY ALSO SEAL PREVIOUS \\S .ID ?ENOUGH CASE: RECURSE FLIP DEFINED CMOVE>"),
-    (("f83",), 1, "\\ -ROT NIP TUCK BOUNDS ASCII CONTROL SCAN SKIP D2/ <MARK >MARK <RESOLVE >RESOLVE"),
-    (("poly",), 3, "FH 'S ACTIVATE CVARIABLE STRAIGHT BACKGROUND"),
-    (("poly",), 2, "PAUSE CCONSTANT M*/ H CHARS/BLOCK CTR EMPTY @EXECUTE >TYPE OUTPUT INPUT TERMINAL"),
-    (("poly",), 1, "GET RELEASE TAB MS PAGE"),
+    (("fig",), 3, "-DUP MINUS DMINUS -FIND ID. !CSP ?CSP ?PAIRS U/ R# +ORIGIN .LINE (LINE) D+- +- WIDTH DLITERAL ?COMP ?EXEC CFA <BUILDS \
+ENDIF SMUDGE LFA"),
+    (("fig",), 2, "?ERROR MESSAGE 0BRANCH NFA PFA LATEST SP! ERROR DR0 DR1 MON ENCLOSE TRAVERSE"),
+    (("fig",), 1, "TOGGLE B/SCR TRIAD C/L"),
+    (("fig", "f79"), 1, "S->D BLANKS ?TERMINAL VLIST"),
+    (("fig", "f79", "poly"), 2, "U*"),
+    (("f79",), 6, "79-STANDARD"),
+    (("f79",), 3, "D->S LOADS ASHIFT SHIFT NAND NOR \\LOOP IFTRUE"),
+    (("f79", "poly"), 3, "U/MOD"),
+    (("f79", "poly"), 2, "<CMOVE /LOOP -TEXT I' >< 1+!"),
+    (LATER, 2, ">IN ?DUP EXIT R@ NEGATE CONVERT ABORT\" 2CONSTANT 2VARIABLE"),
+    (LATER, 1, "NOT SAVE-BUFFERS PICK ROLL DEPTH"),
+    (("f83",), 6, "FORTH-83"),
+    (("f83",), 4, ">BODY UM* UM/MOD +THRU ?LEAVE >NAME NAME> BODY> N>LINK L>NAME LINK> #TIB SPAN ?DO"),
+    (("f83",), 3, "DEFER RECURSE CASE: SEAL .ID ?ENOUGH FLIP DEFINED CMOVE> #OUT"),
+    (("f83", "poly"), 3, "[']"),
+    (("f83",), 2, "ONLY ALSO PREVIOUS \\S CONTROL NIP TUCK BOUNDS SCAN SKIP UPPER D2/ KEY? 2>R TIMES MANY FALSE TRUE"),
+    (("f83",), 1, "\\ -ROT <MARK >MARK <RESOLVE >RESOLVE PLACE"),
+    (("f79", "f83", "poly"), 1, "ASCII"),
+    (("poly",), 4, "FH 'S ACTIVATE CVARIABLE STRAIGHT BACKGROUND"),
+    (("poly",), 3, "CCONSTANT CHARS/BLOCK CTR @EXECUTE >TYPE TERMINAL"),
+    (("f79", "poly"), 2, "M*/"),
+    (BEFORE_83, 2, "M/"),
+    (("poly",), 2, "H EMPTY PAUSE"),
+    (("poly",), 1, "GET RELEASE TAB MS PAGE OUTPUT INPUT"),
 ]
 
 # What a word does in each dialect and without one ("none"), for those that differ.
@@ -56,6 +73,10 @@ MEANINGS: Dict[str, Dict[str, str]] = {
               "none": "unknown"},
     "DO": {**dict.fromkeys(BEFORE_83, "once if start and limit are equal"), "f83": "65,536 times then", "none": "65,536 times then"},
     "a flag in a sum": {**dict.fromkeys(BEFORE_83, "true is 1"), "f83": "true is -1", "none": "true is -1"},
+    "OFFSET": {**dict.fromkeys(ALL, "is added to the numbers of blocks"), "none": "unknown"},
+    "M/": {**dict.fromkeys(("fig", "f79", "f83"), "leaves remainder and quotient"), "poly": "leaves the quotient", "none": "unknown"},
+    "TIB": {**dict.fromkeys((*ALL, "none"), "is the input's address"), "fig": "holds the input's address"},
+    "NUMBER": {**dict.fromkeys(("fig", "f79", "f83"), "leaves a double"), "poly": "leaves a single, or a double if it has a mark", "none": "unknown"},
     "+LOOP downwards": {**dict.fromkeys((*ALL, "none"), "does the limit"), "fig": "stops before the limit"},
 }
 COMPARING = set("= < > 0= 0< 0> U< <> NOT D< D= D0=".split())
@@ -85,6 +106,24 @@ ADVICE = {
 }
 NUMBER = re.compile(r"-?[0-9][0-9A-F]*|-?\$[0-9A-F]+|0[0-9A-F]+H?")
 DIGITS = r"-?[0-9A-F]*[0-9][0-9A-F]*"
+
+
+def glossary(name: str) -> Set[str]:
+    """The words of a published glossary, as a file of dialects/glossaries lists them below the lines that name it."""
+    text = (FOLDER / "glossaries" / name).read_text(encoding="ascii")
+    return set(re.sub(r"\A(# .*\n)+", "", text).split())
+
+
+def left_out(name: str) -> Dict[str, str]:
+    """The words that a text of dialects/ leaves out, each with the reason that the Forth tells: lists behind LEAVES, or words of NO."""
+    text = (FOLDER / f"{name}.txt").read_text(encoding="ascii")
+    found = {}
+    for reason, names in re.findall(r'^LEAVES ," (.*?)"\n,"  (.*?) "$', text, re.M | re.S):
+        found.update(dict.fromkeys(names.split(), reason))
+    told = re.search(r'^: NO .*\n +ABORT"  (.*?)"', text, re.M)
+    if told:
+        found.update(dict.fromkeys(re.findall(r"\bNO (\S+)", text[told.end():]), told[1]))
+    return found
 
 
 class Place(NamedTuple):
@@ -119,42 +158,140 @@ def pairs(source: List[Place]) -> Iterable[Tuple[Place, Place]]:
     return zip(source, source[1:])
 
 
+def in_threes(source: List[Place]) -> Iterable[Tuple[Place, Place, Place]]:
+    """Each word with the two after it; there are blank ones after the last."""
+    none = Place("", 0, 0, False)
+    return zip(source, [*source[1:], none], [*source[2:], none, none])
+
+
+def of_variable(before: Place, of: Place) -> Optional[Sign]:
+    """What a variable says: whether a value stands before it, or the end of what was before."""
+    if of.inside:
+        return None
+    if is_plain(before.word):
+        return Sign("0 VARIABLE, a variable with its value", ("fig",), 4)
+    if before.word in (";", "(", "IMMEDIATE", "DECIMAL", "HEX", "ALLOT", "LOAD", ",", "EMPTY", "DEFINITIONS", "\\", "") or before.line != of.line:
+        return Sign("VARIABLE without a value", LATER, 3)
+    return None
+
+
+def is_call(word: str) -> bool:
+    """Whether a word takes the address that FIND or ' leaves."""
+    return word in ("EXECUTE", "CONSTANT", ",") or word.startswith("'")
+
+
+# A word with the two after it: which sign that is, for whom, how much it says, and what they are.
+TRIPLES: List[Tuple[str, Tuple[str, ...], int, Callable[[str, str, str], bool]]] = [
+    ("0 PICK", ("f83",), 2, lambda a, b, c: a == "0" and b in ("PICK", "ROLL")),
+    ("IN @", ("fig",), 3, lambda a, b, c: a == "IN" and b in ("@", "!", "+!")),
+    ("TIB @", ("fig",), 2, lambda a, b, c: a == "TIB" and b == "@"),
+    ("WORD HERE", ("fig",), 3, lambda a, b, c: a == "WORD" and b == "HERE"),
+    ("WORD COUNT", LATER, 2, lambda a, b, c: a == "WORD" and b in ("COUNT", "C@", "NUMBER", "DUP", "PAD", "DROP", "1+")),
+    ("WORD FIND", ("f83",), 3, lambda a, b, c: a == "WORD" and b == "FIND"),
+    ("FIND with a name", ("f79",), 3, lambda a, b, c: a == "FIND" and b not in ("IF", "DUP", "?DUP", "0=", "SWAP", "DROP", ";", "NOT") and is_call(c)),
+    ("a vocabulary that is IMMEDIATE", ("fig",), 2, lambda a, b, c: a == "VOCABULARY" and b == "IMMEDIATE"),
+    ("a word without a header, by |", ("f83",), 3, lambda a, b, c: a == "|" and b in (":", "VARIABLE", "CREATE", "CONSTANT", "DEFER")),
+    ("' NAME CFA", ("fig",), 3, lambda a, b, c: a == "'" and c == "CFA"),
+    ("' NAME @", ("fig", "f79"), 1, lambda a, b, c: a == "'" and c in ("@", "C@", "2+", "2@")),
+    ("' NAME !", BEFORE_83, 2, lambda a, b, c: a == "'" and c == "!"),
+    ("ROT SIGN", LATER, 2, lambda a, b, c: a == "ROT" and b == "SIGN"),
+    ("FORGET TASK", ("fig", "f79"), 1, lambda a, b, c: a == "FORGET" and b == "TASK"),
+    ("MOVE of a count in cells", ("fig", "f79"), 1, lambda a, b, c: a == "2/" and b == "MOVE"),
+    ("a number and OUTPUT or INPUT", ("poly",), 3, lambda a, b, c: is_plain(a) and b in ("OUTPUT", "INPUT")),
+    ("a key by KEY?", ("f83",), 1, lambda a, b, c: a == "KEY?" and b in ("IF", "UNTIL")),
+]
+
+
+def of_numbers(source: List[Place], defined: Set[str]) -> Set[Sign]:
+    """What the spelling of numbers says."""
+    found = set()
+    for place in source:
+        if place.word in defined:
+            continue
+        if re.fullmatch(rf"{DIGITS}:[0-9:]+", place.word):
+            found.add(Sign("a number with a colon", ("poly",), 4))
+        elif re.fullmatch(r"-?[0-9]+([,/-][0-9]+)+\.?", place.word):
+            found.add(Sign("a number with a comma, hyphen or slash", ("f83", "poly"), 3))
+        elif re.fullmatch(r"-?[$%&][0-9A-F]+", place.word):
+            found.add(Sign("a number with the sign of its base", ("f83", "poly"), 1))
+    return found
+
+
+def of_makers(source: List[Place]) -> Set[Sign]:
+    """What CREATE says: beside DOES>, or where it makes a table outside of definitions."""
+    found, making = set(), set()
+    for a, b, c in in_threes(source):
+        making = {a.word} if a.word == ":" else making | {a.word}
+        if a.word == "DOES>" and "CREATE" in making and "<BUILDS" not in making:
+            found.add(Sign("CREATE .. DOES>", LATER, 3))
+        if a.word == "CREATE" and not a.inside and (is_plain(b.word) and c.word in (",", "C,", "ALLOT") or b.word in (',"', "HERE")):
+            found.add(Sign("CREATE of a table", LATER, 3))
+    return found
+
+
+def of_ends(source: List[Place], defined: Set[str]) -> Set[Sign]:
+    """What ends a screen."""
+    found = set()
+    for a, b in zip(source, [*source[1:], Place("", -1, 0, False)]):
+        if a.word == "EXIT" and not a.inside and b.screen != a.screen:
+            found.add(Sign("EXIT that ends a screen", ("poly",), 3))
+        if a.word == ";S" and not a.inside and ";S" not in defined:
+            found.add(Sign(";S that ends a screen", ("fig", "f79"), 1))
+    return found
+
+
+def of_pictures(source: List[Place]) -> Set[Sign]:
+    """In which order SIGN has its numbers: fig-FORTH's takes the one below the double."""
+    found = set()
+    for at, place in enumerate(source):
+        before = [other.word for other in source[max(0, at - 3):at]]
+        opened = [other.word for other in source[max(0, at - 12):at]]
+        if place.word == "SIGN" and "DABS" in opened and "ROT" not in before and "R>" not in before and before:
+            found.add(Sign("SIGN below the double", ("fig",), 2))
+    return found
+
+
 def patterns(source: List[Place], defined: Set[str]) -> List[Sign]:
     """The signs that are more than a word."""
-    found: Set[Sign] = set()
-    making: Set[str] = set()
-    for a, b in pairs(source):
-        making = {a.word} if a.word == ":" else making | {a.word}
-        if b.word == "VARIABLE" and not b.inside:
-            found.add(Sign("0 VARIABLE, a variable with its value", ("fig",), 3) if is_plain(a.word) else
-                      Sign("VARIABLE without a value", LATER, 2))
-        if a.word == "0" and b.word in ("PICK", "ROLL"):
-            found.add(Sign("0 PICK", ("f83", "poly"), 2))
-        if a.word == "IN" and b.word in ("@", "!", "+!") and "IN" not in defined:
-            found.add(Sign("IN @", ("fig",), 3))
-        if a.word == "WORD" and b.word == "HERE" and "WORD" not in defined:
-            found.add(Sign("WORD HERE", ("fig",), 3))
-        if a.word == "WORD" and b.word in ("COUNT", "FIND", "C@", "NUMBER"):
-            found.add(Sign(f"WORD {b.word}", LATER if b.word != "FIND" else ("f83",), 2))
-        if b.word == "DOES>" and "CREATE" in making and "<BUILDS" not in making:
-            found.add(Sign("CREATE .. DOES>", LATER, 2))
-        if a.word == "EXIT" and not a.inside:
-            found.add(Sign("EXIT that ends a screen", ("poly", "f83"), 1))
-    for place in source:
-        if place.word == "R" and place.inside and "R" not in defined:
-            found.add(Sign("R for R@", ("fig",), 2))
-        if re.fullmatch(rf"{DIGITS}:[0-9:]+", place.word):
-            found.add(Sign("a number with a colon", ("poly",), 2))
-        elif re.fullmatch(r"-?[0-9]+([,/-][0-9]+)+\.?", place.word) and place.word not in defined:
-            found.add(Sign("a number with a comma, hyphen or slash", ("f83", "poly"), 2))
+    found: Set[Sign] = of_numbers(source, defined) | of_makers(source) | of_ends(source, defined) | of_pictures(source)
+    before = Place("", -1, -1, False)
+    for a, b, c in in_threes(source):
+        if a.word == "VARIABLE":
+            sign = of_variable(before, a)
+            found |= {sign} if sign else set()
+        for what, dialects, weight, test in TRIPLES:
+            if a.word not in defined and test(a.word, b.word, c.word):
+                found.add(Sign(what, dialects, weight))
+        if a.word == "R" and a.inside and "R" not in defined:
+            found.add(Sign("R for R@", ("fig",), 3))
+        before = a
     return sorted(found, key=lambda sign: (-sign.weight, sign.what))
+
+
+def known_words() -> Set[str]:
+    """The words that say nothing of a system: those of the four glossaries, and those that every system had."""
+    return EVERYWHERE.union(*(glossary(key) for key in ALL))
+
+
+def of_glossaries(used: Set[str], weighed: Set[str]) -> List[Sign]:
+    """The words that only some of the glossaries have, and those that a system had beyond its dialect."""
+    held = {key: glossary(key) for key in ALL}
+    found = []
+    for word in sorted(used - weighed - EVERYWHERE):
+        holders = tuple(key for key in ALL if word in held[key])
+        if 0 < len(holders) < len(ALL):
+            found.append(Sign(word, holders, 2 if len(holders) == 1 else 1))
+    for system, (name, key) in SYSTEMS.items():
+        found += [Sign(f"{word} of {name}", (key,), 3 if word in OWN_WORDS else 1) for word in sorted(used & glossary(system) - known_words())]
+    return found
 
 
 def signs(source: List[Place], defined: Set[str]) -> List[Sign]:
     """All signs of a source, the strongest first; words that it makes itself aren't any."""
     used = {place.word for place in source} - defined
     found = [Sign(word, dialects, weight) for dialects, weight, words in SIGNS for word in words.split() if word in used]
-    return sorted(found + patterns(source, defined), key=lambda sign: -sign.weight)
+    weighed = {word for _, _, words in SIGNS for word in words.split()}
+    return sorted(found + of_glossaries(used, weighed) + patterns(source, defined), key=lambda sign: -sign.weight)
 
 
 class Verdict(NamedTuple):
@@ -171,17 +308,17 @@ class Verdict(NamedTuple):
 def decide(found: List[Sign], unknown: Dict[str, int]) -> Verdict:
     """The dialect for which the signs speak, or all between which they don't decide. `unknown` has how many words stay unknown
     after each."""
-    fewest = min(unknown.values())
-    score = {key: sum(s.weight for s in found if key in s.dialects) - min(6, unknown[key] - fewest) for key in ALL}
+    score = {key: sum(s.weight for s in found if key in s.dialects) for key in ALL}
     order = sorted(ALL, key=lambda key: (-score[key], unknown[key]))
     best, lead = order[0], score[order[0]] - score[order[1]]
     own = [s for s in found if best in s.dialects and len(s.dialects) < len(ALL)]
     against = [s for s in found if best not in s.dialects]
-    if lead >= 3 and own:
+    if lead >= 2:
         is_sure = lead >= 5 and sum(s.weight for s in against) * 3 < sum(s.weight for s in own)
-        return Verdict((best,), (best,) if is_sure else tuple(order[:2]), "surely" if is_sure else "probably", own, against)
-    tied = tuple(key for key in order if score[best] - score[key] < 3) if own else ALL
-    return Verdict(tied, tied, "undecided", own, against)
+        return Verdict((best,), (best,) if is_sure else tuple(order[:2]), "surely" if is_sure else "probably",
+                       sorted(own, key=lambda sign: (order[1] in sign.dialects, -sign.weight)), against)
+    tied = tuple(key for key in order if score[best] - score[key] < 2)
+    return Verdict(tied, tied, "undecided", own, [s for s in against if not set(s.dialects) & set(tied)])
 
 
 def flag_sums(source: List[Place]) -> List[Place]:
