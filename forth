@@ -24,28 +24,28 @@ say() {
 # Shows how the Forth is started.
 usage() {
   cat << 'END'
-usage: ./forth [TEXT..] [BLOCKS]             loads each TEXT, a file of Forth such as NAME.fs, and works on the file BLOCKS (forth.blk if none is named), which it makes if it does not exist
-       ./forth --kernel-of SOURCES [BLOCKS]  does so with a kernel built of screens 1 to 20 of SOURCES
-       ./forth --kernel [BLOCKS]             does so with the kernel alone, whose output is exactly what the machine shows
-       ./forth --quiet [TEXT..] [BLOCKS]     does the lines of TEXT, or of its input, and shows only what they show; it has no blocks except BLOCKS
-       ./forth -e WORDS [TEXT..] [BLOCKS]    does the lines of TEXT, then WORDS, in the same way; -e may be given several times
-       ./forth --image OWN FROM TO [BLOCKS]  makes of the screens FROM to TO the image OWN, which starts with their program
-       ./forth --proved [BLOCKS]             waits for the proved program, where it isn't there yet
-       ./forth --unproved [BLOCKS]           runs the program without proofs, and has nothing proved
-       ./forth --on DEVICE [--speed N] [..]  takes a serial port, or another terminal, as its console, with what else is named
-       ./forth --status                      says which program is there, and how far its proof is
+usage: ./forth [TEXT..] [BLOCKS]             loads each TEXT, a file of Forth such as NAME.fs, and opens the file BLOCKS (forth.blk if none is named), which it makes if it does not exist
+       ./forth --kernel-of SOURCES [BLOCKS]  the same, with a kernel built from screens 1 to 20 of SOURCES
+       ./forth --kernel [BLOCKS]             the same, with the kernel alone, whose output is exactly what the machine shows
+       ./forth --quiet [TEXT..] [BLOCKS]     runs the lines of TEXT, or of its input, and shows only their output; it has no blocks except BLOCKS
+       ./forth -e WORDS [TEXT..] [BLOCKS]    runs the lines of TEXT, then WORDS, in the same way; -e may be given several times
+       ./forth --image OWN FROM TO [BLOCKS]  makes the image OWN from the screens FROM to TO; it starts with their program
+       ./forth --proved [BLOCKS]             waits for the proved program, if it is not there yet
+       ./forth --unproved [BLOCKS]           runs the program without proofs, and starts no proof
+       ./forth --on DEVICE [--speed N] [..]  uses a serial port, or another terminal, as its console, with the other arguments
+       ./forth --status                      shows which program there is, and how far its proof is
        ./forth --version                     prints the version of the program, and whether it is proved
-       ./forth where IMAGE [BLOCKS]          runs an image, and tells at which word of which screen its fault comes
+       ./forth where IMAGE [BLOCKS]          runs an image, and shows at which word of which screen its fault happens
        ./forth page [BLOCKS] -o OUT.html     makes the Forth as one page for any browser; page --help says more
        ./forth picture [BLOCKS] [FIRST]      makes a picture of what the words of examples/draw.txt drew
-       ./forth film NAME [LINE]              makes a page that shows each step of the word NAME; film --help tells more
+       ./forth film NAME [LINE]              makes a page that shows each step of the word NAME; film --help says more
        ./forth map IMAGE [OTHER]             makes a map of an image's memory
-       ./forth print [BLOCKS] [FROM TO]      makes pages of screens, to be printed
-       ./forth survey BLOCKS [FROM TO]       tells what old screens are, which dialect fits, and which words nobody knows
-       ./forth import CONTAINER BLOCKS [..]  makes a file of blocks of an old disk, file or text; import --help tells more
+       ./forth print [BLOCKS] [FROM TO]      makes pages of screens, to print them
+       ./forth survey BLOCKS [FROM TO]       reports what old screens are, which dialect fits, and which words are unknown
+       ./forth import CONTAINER BLOCKS [..]  makes a file of blocks from an old disk, file or text; import --help says more
        ./forth export BLOCKS CONTAINER [..]  writes the screens back into it
-A name that begins with - is written as ./-NAME, a block file that is called where, film, map, print, survey, import or export as
-./film.
+Write a name that begins with - as ./-NAME, and the name of a block file that is called where, page, picture, film, map, print,
+survey, import or export as ./film.
 END
 }
 
@@ -102,8 +102,8 @@ keep_images() {
 
 # tell_kernel SOURCES: how the kernel's screens come back, where their build was refused.
 tell_kernel() {
-  say "nothing is changed, and ./forth BLOCKS starts with the program's own kernel as before"
-  say "the kernel's screens come back by: $here/forth83 kernel new.blk"
+  say "nothing was changed; ./forth BLOCKS still starts with the program's own kernel"
+  say "to restore the kernel's screens, run: $here/forth83 kernel new.blk"
   say "then: dd if=new.blk of=$1 bs=1024 skip=1 seek=1 count=20 conv=notrunc"
 }
 
@@ -113,12 +113,12 @@ make_images() {
   said=$("$forth83" build --where -- "$1" 1 20 "$2/plain.new" 9>&-) || {
     case $said in
       screen*) tell_kernel "$1" ;;
-      *) say "the image can't be made: $said" ;;
+      *) say "the image cannot be made: $said" ;;
     esac
     return 1
   }
   said=$("$here/workbench/make" --doors "$forth83" "$1" "$2"/{tools,piped,quiet,debug}.new 9>&- 2>&1) || {
-    say "the workbench's tools can't be built over the screens 1 to 20 of $1:"
+    say "the workbench's tools cannot be built on the kernel in screens 1 to 20 of $1:"
     echo "$said" >&2
     return 1
   }
@@ -153,7 +153,7 @@ find_unproved() {
   set +m
   sleep 0.5
   if kill -0 "$building" 2> /dev/null; then
-    say "making the program without its proofs, $(awk '$1 == "unproved" { printf("%d minute%s on %d processors", $3, ($3 > 1 ? "s" : ""), $2); exit }' "$here/workbench/times")"
+    say "building the program without its proofs, which takes $(awk '$1 == "unproved" { printf("%d minute%s on %d processors", $3, ($3 > 1 ? "s" : ""), $2); exit }' "$here/workbench/times")"
     show_seconds "$building"
   fi
   wait "$building" || { cat "$room/said" >&2; exit 1; }
@@ -164,13 +164,13 @@ find_unproved() {
 # Has the proof made in the background, behind this session.
 begin_proof() {
   if ! command -v python3 > /dev/null; then
-    say "this program isn't proved, and python3, which its proof needs, is not installed."
+    say "this program is not proved; its proof needs python3, which is not installed."
   elif "$here/workbench/prove" --meanwhile < /dev/null > /dev/null 2> "$room/said"; then
     : > "$kept/awaited"
-    say "this program isn't proved yet. Its proof is being made meanwhile; ./forth --status tells how far it is."
+    say "this program is not proved yet. Its proof runs in the background; ./forth --status shows how far it is."
   else
     cat "$room/said" >&2
-    say "this program isn't proved."
+    say "this program is not proved."
   fi
 }
 
@@ -178,10 +178,10 @@ begin_proof() {
 find_program() {
   if [ "$wanted" = unproved ]; then
     find_unproved
-    say "UNPROVED: nothing is proved of this program; ./forth --proved proves and builds it first."
+    say "UNPROVED: nothing is proved about this program; ./forth --proved proves and builds it first."
   elif "$here/workbench/is-proved" || { [ "$wanted" = proved ] && "$here/workbench/prove" < /dev/null; }; then
     if [ -e "$kept/awaited" ] && rm -f -- "$kept/awaited" 2> /dev/null; then
-      say "this program is proved now; ./forth --status tells more."
+      say "this program is proved now; ./forth --status says more."
     fi
   elif [ "$wanted" = proved ]; then
     exit 1
@@ -199,7 +199,7 @@ find_images() {
     return
   fi
   local said
-  said=$("$forth83" kernel "$room/kernel.blk") || refuse "the program can't make its kernel: $said"
+  said=$("$forth83" kernel "$room/kernel.blk") || refuse "the program cannot make its kernel: $said"
   make_images "$room/kernel.blk" "$room" || exit 1
   if [ -n "$unproved" ] || ! keep_images; then
     images=$room
@@ -209,7 +209,7 @@ find_images() {
 # Refuses a name that no new file can have.
 look_at_name() {
   local name=${1##*/} LC_ALL=C
-  [ ${#name} -le 240 ] || refuse "the name ${name:0:16}.. has ${#name} bytes, which are too many for a new file"
+  [ ${#name} -le 240 ] || refuse "the name ${name:0:16}.. has ${#name} bytes, too many for a new file"
 }
 
 # Makes the block file where it isn't there.
@@ -217,13 +217,13 @@ make_blocks() {
   local folder said
   look_at_name "$blocks"
   folder=$(dirname -- "$blocks")
-  [ -d "$folder" ] || refuse "$blocks can't be made: there is no folder $folder"
-  [ -w "$folder" ] || refuse "$blocks can't be made: the folder $folder can't be written; name a file elsewhere, as ./forth ~/my.blk"
+  [ -d "$folder" ] || refuse "cannot make $blocks: there is no folder $folder"
+  [ -w "$folder" ] || refuse "cannot make $blocks: the folder $folder cannot be written; name a file elsewhere, as in ./forth ~/my.blk"
   said=$("$forth83" kernel "$room/new.blk") ||
-    refuse "$blocks can't be made: no file can be written in ${TMPDIR:-/tmp}; make room there, or set TMPDIR to another folder ($said)"
+    refuse "cannot make $blocks: no file can be written in ${TMPDIR:-/tmp}; make room there, or set TMPDIR to another folder ($said)"
   said=$({ cp -- "$room/new.blk" "$blocks.$$" && mv -n -- "$blocks.$$" "$blocks"; } 2>&1) || {
     rm -f -- "$blocks.$$"
-    refuse "$blocks can't be made: $said"
+    refuse "cannot make $blocks: $said"
   }
   rm -f -- "$blocks.$$"
   is_new=', a new file'
@@ -248,27 +248,27 @@ is_by_screens() {
 open_blocks() {
   [ -e "$blocks" ] || make_blocks
   [ ! -d "$blocks" ] || refuse "$blocks is a folder; name a file of blocks"
-  [ -f "$blocks" ] || refuse "$blocks is no file of blocks"
-  [ -r "$blocks" ] || refuse "$blocks can't be read: its permissions don't allow it; chmod u+r $blocks"
-  [ -w "$blocks" ] || refuse "$blocks can't be written: it is read-only; chmod u+w $blocks, or work on a copy: cp $blocks my.blk && chmod u+w my.blk"
-  ! begins "$blocks" FTH83IMG || refuse "$blocks is an image, and no file of blocks; ./forth83 run $blocks runs it"
+  [ -f "$blocks" ] || refuse "$blocks is not a file of blocks"
+  [ -r "$blocks" ] || refuse "cannot read $blocks: its permissions do not allow it; run chmod u+r $blocks"
+  [ -w "$blocks" ] || refuse "cannot write $blocks: it is read-only; run chmod u+w $blocks, or work on a copy: cp $blocks my.blk && chmod u+w my.blk"
+  ! begins "$blocks" FTH83IMG || refuse "$blocks is an image, not a file of blocks; ./forth83 run $blocks runs it"
   size=$(stat -L -c %s -- "$blocks")
   [ $((size % 1024)) -eq 0 ] ||
-    refuse "$blocks has $size bytes, which are no whole blocks; ./forth < $blocks does the lines of a script, also ./forth $blocks if it is called NAME.fs, and ./forth83 screens $blocks NEW makes blocks of a text"
-  is_by_screens || refuse "$blocks has line ends, as a text, and blocks have none; call it NAME.fs if it is a text of Forth, and NAME.blk if it has blocks"
-  [ "$size" -ge 1024 ] || say "$blocks has no screen; ./forth83 new NAME 64 makes a file of 64 blank ones"
+    refuse "$blocks has $size bytes, which is not a whole number of blocks; ./forth < $blocks runs it as a script, so does ./forth $blocks if it is called NAME.fs, and ./forth83 screens $blocks NEW makes blocks from a text"
+  is_by_screens || refuse "$blocks has line ends, as a text has and blocks do not; call it NAME.fs if it is a Forth text, or NAME.blk if it has blocks"
+  [ "$size" -ge 1024 ] || say "$blocks has no screens; ./forth83 new NAME 64 makes a file of 64 blank ones"
   exec 9<> "$blocks"
   if command -v flock > /dev/null; then
-    flock -n 9 || refuse "$blocks is in use by another run$(holder); leave that by BYE, or work on a copy"
+    flock -n 9 || refuse "$blocks is in use by another run$(holder); end that run with BYE, or work on a copy"
     flock -u 9
   fi
 }
 
 # Where another file has taken the place of the blocks meanwhile, what the session wrote is kept beside it.
 keep_session() {
-  local kept=$blocks.session count=1 what="another file took the place of $blocks meanwhile"
+  local kept=$blocks.session count=1 what="another file took the place of $blocks during the session"
   [ "$(stat -L -c %d:%i -- "$blocks" 2> /dev/null)" != "$(stat -L -c %d:%i /dev/fd/9)" ] || return 0
-  [ -e "$blocks" ] || what="$blocks was moved or removed meanwhile"
+  [ -e "$blocks" ] || what="$blocks was moved or removed during the session"
   while [ -e "$kept" ]; do
     count=$((count + 1))
     kept=$blocks.session$count
@@ -276,7 +276,7 @@ keep_session() {
   if cp -- /dev/fd/9 "$kept" 2> "$room/said"; then
     say "$what; what this session wrote is in $kept"
   else
-    say "$what, and what this session wrote can't be kept: $(cat "$room/said")"
+    say "$what, and what this session wrote cannot be saved: $(cat "$room/said")"
   fi
 }
 
@@ -297,7 +297,7 @@ is_text() {
 
 # The folder of this run.
 make_room() {
-  room=$(mktemp -d 2> /dev/null) || refuse "no folder can be made in ${TMPDIR:-/tmp}: make room there, or set TMPDIR to another folder"
+  room=$(mktemp -d 2> /dev/null) || refuse "cannot make a folder in ${TMPDIR:-/tmp}: make room there, or set TMPDIR to another folder"
 }
 
 leave() {
@@ -310,8 +310,8 @@ leave() {
 # hand_over: what workbench/session needs, each with a 0 byte after it; the room is the session's from here on.
 hand_over() {
   printf '%s\0' "$forth83" "$images/tools.img" "$blocks" "$room" \
-    "$blocks, $((size / 1024)) screens$is_new. WORDS and HELP tell more." \
-    "BYE or ^D saves changed screens and leaves; ^C breaks off what goes on." "${texts[@]}" &&
+    "$blocks, $((size / 1024)) screens$is_new. WORDS and HELP say more." \
+    "BYE or ^D saves your screens and leaves; ^C interrupts what is running." "${texts[@]}" &&
     trap - EXIT
 }
 
@@ -370,10 +370,10 @@ look_at_own() {
   local name
   look_at_name "$own"
   [ ! -d "$own" ] || refuse "$own is a folder; name an image"
-  [ -d "$(dirname -- "$own")" ] || refuse "$own can't be made: there is no folder $(dirname -- "$own")"
-  [ ! -f "$own" ] || [ ! -s "$own" ] || [ "$(head -c 8 -- "$own" | tr -d '\0')" = FTH83IMG ] || refuse "$own is there already, and is no image"
+  [ -d "$(dirname -- "$own")" ] || refuse "cannot make $own: there is no folder $(dirname -- "$own")"
+  [ ! -f "$own" ] || [ ! -s "$own" ] || [ "$(head -c 8 -- "$own" | tr -d '\0')" = FTH83IMG ] || refuse "$own exists already, and is not an image"
   for name in "${names[@]}"; do
-    [ ! "$own" -ef "$kept/$name.img" ] || refuse "$own is an image of the launcher's own; name another"
+    [ ! "$own" -ef "$kept/$name.img" ] || refuse "$own is one of the launcher's own images; name another file"
   done
   [ "$from" -le "$to" ] || refuse "there are no screens from $from to $to"
 }
@@ -391,7 +391,7 @@ make_own() {
   local said why
   look_at_own
   try_own || {
-    say "$own isn't made:"
+    say "$own was not made:"
     sed '1{/^$/d}' "$room/shown" >&2
     exit 1
   }
@@ -400,12 +400,12 @@ make_own() {
       'load: Unfinished') why='a definition has no ;' ;;
       'load: Asked') why="a screen asks for a key or a line" ;;
       'load: Halted') why='a screen leaves the Forth' ;;
-      'load: Limit') why='the screens come to no end' ;;
-      'load: BadSize') why='HERE is where no image can end' ;;
-      *"cannot open $own") why="it can't be written: is its disk full, or its folder read-only?" ;;
+      'load: Limit') why='the screens do not end' ;;
+      'load: BadSize') why='no image can end where HERE is' ;;
+      *"cannot open $own") why="it cannot be written: is its disk full, or its folder read-only?" ;;
       *) why=${said#error: } ;;
     esac
-    say "$own isn't made: $why"
+    say "$own was not made: $why"
     cat "$room/place" >&2
     exit 1
   }
@@ -424,13 +424,13 @@ prepare() {
   find_program
   [ -z "$unproved" ] || "$forth83" --version > /dev/null || exit 1
   if [ -n "$sources" ]; then
-    { [ -f "$sources" ] && [ -r "$sources" ]; } || refuse "$sources isn't there, or can't be read"
+    { [ -f "$sources" ] && [ -r "$sources" ]; } || refuse "$sources does not exist, or cannot be read"
     images=$room
     make_images "$sources" "$room" || exit 1
   else
     find_images
   fi
-  [ -z "$own" ] || [ -e "$blocks" ] || refuse "there is no $blocks of which an image can be made"
+  [ -z "$own" ] || [ -e "$blocks" ] || refuse "there is no $blocks to make an image from"
   [ -z "$blocks" ] || open_blocks
 }
 
@@ -461,7 +461,7 @@ case ${1:-} in
     exit
     ;;
   where)
-    { [ $# -eq 2 ] || [ $# -eq 3 ]; } || misused 'where wants an IMAGE, and the BLOCKS that it works on'
+    { [ $# -eq 2 ] || [ $# -eq 3 ]; } || misused 'where needs an IMAGE, and BLOCKS if the image uses a file of blocks'
     make_room
     trap leave EXIT
     find_program
@@ -481,24 +481,24 @@ while [ $# -gt 0 ]; do
       ;;
     --proved | --unproved) wanted=${1#--}; shift ;;
     --quiet | --kernel)
-      [ "${door:-${1#--}}" = "${1#--}" ] || misused '--quiet and --kernel exclude each other'
+      [ "${door:-${1#--}}" = "${1#--}" ] || misused '--quiet and --kernel cannot be used together'
       door=${1#--}
       shift
       ;;
     --image)
-      { [ $# -ge 4 ] && [ -n "$2" ]; } || misused '--image wants the name OWN of an image, and screens FROM TO'
+      { [ $# -ge 4 ] && [ -n "$2" ]; } || misused '--image needs OWN, the name of an image, and the screens FROM TO'
       own=$2 from=$3 to=$4
       shift 4
       ;;
-    --kernel-of) [ -n "${2:-}" ] || misused '--kernel-of wants the name of a file'; sources=$2; shift 2 ;;
+    --kernel-of) [ -n "${2:-}" ] || misused '--kernel-of needs the name of a file'; sources=$2; shift 2 ;;
     -e)
-      [ $# -ge 2 ] || misused '-e wants some words of Forth'
-      [ "${door:-quiet}" = quiet ] || misused '-e and --kernel exclude each other'
+      [ $# -ge 2 ] || misused '-e needs some words of Forth'
+      [ "${door:-quiet}" = quiet ] || misused '-e and --kernel cannot be used together'
       door=quiet
       lines+=("$2")
       shift 2
       ;;
-    -*) misused "$1 is no option" ;;
+    -*) misused "there is no option $1" ;;
     *)
       is_text "$1" || break
       texts+=("$1")
@@ -506,12 +506,12 @@ while [ $# -gt 0 ]; do
       ;;
   esac
 done
-[ $# -le 1 ] || misused "one file of blocks at a time, and no option behind it: $*"
-case "$own $sources" in -* | *' -'*) misused 'a name that begins with - is written as ./-NAME' ;; esac
-[ "${#texts[@]}" -eq 0 ] || { [ "$door" != kernel ] && [ -z "$own" ]; } || misused "a text goes neither with --kernel nor with --image"
+[ $# -le 1 ] || misused "name one file of blocks, and no option after it: $*"
+case "$own $sources" in -* | *' -'*) misused 'write a name that begins with - as ./-NAME' ;; esac
+[ "${#texts[@]}" -eq 0 ] || { [ "$door" != kernel ] && [ -z "$own" ]; } || misused "a text cannot be used with --kernel or --image"
 if [ -n "$own" ]; then
   [[ $from =~ ^[0-9]{1,5}$ && $to =~ ^[0-9]{1,5}$ && $((10#$from)) -le 65535 && $((10#$to)) -le 65535 ]] ||
-    misused "FROM and TO are numbers of screens, 0 to 65535, and not $from $to"
+    misused "FROM and TO must be numbers of screens, 0 to 65535, not $from $to"
   from=$((10#$from)) to=$((10#$to))
 fi
 [ $# -eq 0 ] || [ -n "$1" ] || misused 'the name of the file of blocks is empty'
@@ -543,14 +543,14 @@ else
   run_in_pipe "$images/piped.img"
 fi
 case $door:$status in
-  pipe:3 | quiet:3) say "a fault ended it" ;;
-  *:3) say "a fault ended it, that no fault thread handles" ;;
-  *:4) say "the limit of ticks ended it" ;;
+  pipe:3 | quiet:3) say "a fault stopped the script" ;;
+  *:3) say "a fault that no fault thread handles stopped the run" ;;
+  *:4) say "the limit of ticks stopped the run" ;;
   *:5) say "standard input or output failed" ;;
 esac
 [ -n "$blocks" ] || exit "$status"
 keep_session
 case $door:$status in
-  kernel:3 | terminal:3 | *:4) say "screens that were changed since the last SAVE may not be in $blocks" ;;
+  kernel:3 | terminal:3 | *:4) say "screens changed since the last SAVE may not be in $blocks" ;;
 esac
 exit "$status"
