@@ -44,8 +44,7 @@ usage: ./forth [TEXT..] [BLOCKS]             loads each TEXT, a file of Forth su
        ./forth survey BLOCKS [FROM TO]       reports what old screens are, which dialect fits, and which words are unknown
        ./forth import CONTAINER BLOCKS [..]  makes a file of blocks from an old disk, file or text; import --help says more
        ./forth export BLOCKS CONTAINER [..]  writes the screens back into it
-Write a name that begins with - as ./-NAME, and the name of a block file that is called where, page, picture, film, map, print,
-survey, import or export as ./film.
+Write a name that begins with - as ./-NAME, and a block file that is named like a command, such as film, as ./film.
 END
 }
 
