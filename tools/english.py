@@ -158,5 +158,5 @@ def limits_of(text: str) -> Dict[str, int]:
 
 def too_many(sums: Dict[str, int], limits: Dict[str, int]) -> List[str]:
     """The folders that have more than their limit; one that has no limit may have none."""
-    return [f"{folder}: {number} words of the idiom, at most {limits.get(folder, 0)} are allowed"
+    return [f"{folder} has {number} words of the idiom, and may have {limits.get(folder, 0)}; tools/check-english --files lists them"
             for folder, number in sums.items() if number > limits.get(folder, 0)]
