@@ -158,5 +158,6 @@ def limits_of(text: str) -> Dict[str, int]:
 
 def too_many(sums: Dict[str, int], limits: Dict[str, int]) -> List[str]:
     """The folders that have more than their limit; one that has no limit may have none."""
-    return [f"{folder} has {number} words of the idiom, and may have {limits.get(folder, 0)}; tools/check-english --files lists them"
+    listed = "tools/check-english --files lists them"
+    return [f"{folder} has {number} words of the idiom, and may have {limits.get(folder, 0)}; {listed}"
             for folder, number in sums.items() if number > limits.get(folder, 0)]
