@@ -16,7 +16,7 @@ import wild  # noqa: E402
 ROW = re.compile(r"^\| `(\S+)` \| `([^`]*)` \| (?:yes)? ?\| (.+) \|$", re.M)
 # Chapters of docs/WORDS.md whose words the page doesn't need: it edits lines and screens itself, and has no host and no files.
 CHAPTERS_LEFT_OUT = (
-    "A line by KEY", "The screen editor", "Lines of a pipe", "Starting", "The line editor", "The host of", "Text files", "Earlier lines",
+    "Editing the line", "The screen editor", "Lines from a pipe", "Starting", "The line editor", "The host", "Text files", "Searching earlier lines",
 )  # fmt: skip
 SCREENS, PAGE, WIDTH = 64, 1024, 64
 EXAMPLES = ("kiln", "life", "gold", "sieve")

@@ -134,7 +134,7 @@ WORDS = """### 1. The data stack
 | `DUP` | `( x -- x x )` |  | Copies the `top`. |
 | `INSIDE` | `( -- )` |  | For others. |
 
-### 19. A line by KEY, at a terminal
+### 19. Editing the line that you type
 
 | `STROKE` | `( k -- )` |  | One key. |
 """
