@@ -64,20 +64,20 @@ MEANINGS: Dict[str, Dict[str, str]] = {
           **dict.fromkeys(("f83", "poly", "none"), "gives the compilation address")},
     "EXPECT": {"fig": "adds two NULs", "f79": "adds a NUL", **dict.fromkeys(("f83", "poly", "none"), "adds no NUL")},
     "MOVE": {**dict.fromkeys(("fig", "f79"), "counts cells"), **dict.fromkeys(("f83", "poly", "none"), "counts bytes")},
-    "SIGN": {**dict.fromkeys((*ALL, "none"), "takes the top"), "fig": "takes the number below the double"},
-    "FIND": {**dict.fromkeys((*ALL, "none"), "takes a text"), "f79": "reads a name"},
+    "SIGN": {**dict.fromkeys((*ALL, "none"), "uses the top"), "fig": "uses the number below the double"},
+    "FIND": {**dict.fromkeys((*ALL, "none"), "expects a text"), "f79": "reads a name"},
     "WORD": {**dict.fromkeys((*ALL, "none"), "leaves an address"), "fig": "leaves nothing"},
-    "VARIABLE": {**dict.fromkeys((*ALL, "none"), "takes no value"), "fig": "takes its first value"},
+    "VARIABLE": {**dict.fromkeys((*ALL, "none"), "pops no value"), "fig": "pops its first value"},
     "<BUILDS": {**dict.fromkeys((*ALL, "none"), "data at the parameter field"), "fig": "data 2 bytes after it"},
     "M/MOD": {"fig": "unsigned, a double quotient", "f79": "unsigned, a double quotient", "f83": "rounds down", "poly": "rounds towards 0",
               "none": "unknown"},
-    "DO": {**dict.fromkeys(BEFORE_83, "once if start and limit are equal"), "f83": "65,536 times then", "none": "65,536 times then"},
+    "DO": {**dict.fromkeys(BEFORE_83, "runs once if start and limit are equal"), "f83": "runs 65,536 times then", "none": "runs 65,536 times then"},
     "a flag in a sum": {**dict.fromkeys(BEFORE_83, "true is 1"), "f83": "true is -1", "none": "true is -1"},
     "OFFSET": {**dict.fromkeys(ALL, "is added to the numbers of blocks"), "none": "unknown"},
     "M/": {**dict.fromkeys(("fig", "f79", "f83"), "leaves remainder and quotient"), "poly": "leaves the quotient", "none": "unknown"},
     "TIB": {**dict.fromkeys((*ALL, "none"), "is the input's address"), "fig": "holds the input's address"},
     "NUMBER": {**dict.fromkeys(("fig", "f79", "f83"), "leaves a double"), "poly": "leaves a single, or a double if it has a mark", "none": "unknown"},
-    "+LOOP downwards": {**dict.fromkeys((*ALL, "none"), "does the limit"), "fig": "stops before the limit"},
+    "+LOOP downwards": {**dict.fromkeys((*ALL, "none"), "runs for the limit"), "fig": "stops before the limit"},
 }
 COMPARING = set("= < > 0= 0< 0> U< <> NOT D< D= D0=".split())
 SUMMING = set("+ - * +! NEGATE MINUS".split())
@@ -88,14 +88,14 @@ ADVICE = {
     "CODE": "there is no assembler: write the word with :",
     ";CODE": "there is no assembler: write DOES>",
     "LABEL": "there is no assembler: write the word with :",
-    "SP@": "the stack isn't in memory: write PICK or DEPTH",
-    "'S": "the stack isn't in memory: write PICK or DEPTH",
-    "S0": "the stack isn't in memory: write DEPTH",
+    "SP@": "the stack is not in memory: write PICK or DEPTH",
+    "'S": "the stack is not in memory: write PICK or DEPTH",
+    "S0": "the stack is not in memory: write DEPTH",
     **dict.fromkeys("P@ P! PC@ PC! INP OUTP INPUT OUTPUT".split(), "there are no ports: load dialects/ports.txt, or define it after the dialect"),
     "FROM": "one block file at a time: import that one, too",
     "OPEN": "one block file at a time: import that one, too",
     **dict.fromkeys("ACTIVATE BACKGROUND TERMINAL TASK:".split(), "there is one task: call its word from the main loop"),
-    **dict.fromkeys("+ORIGIN LIMIT FIRST USE PREV R0 R/W +BUF".split(), "a place inside fig-FORTH: there is no such place here"),
+    **dict.fromkeys("+ORIGIN LIMIT FIRST USE PREV R0 R/W +BUF".split(), "internal to fig-FORTH: there is no such place here"),
     **dict.fromkeys("@L !L C@L C!L".split(), "there are no segments: define a word of this name"),
     "AUTOSTART": "write BOOT NAME, and make an image by ./forth --image",
     "S\"": "write \" for it, or load dialects/hs.txt",
@@ -361,11 +361,11 @@ def not_kept(source: List[Place], defined: Set[str]) -> List[Tuple[str, Place, s
     found: List[Tuple[str, Place, str]] = []
     named = constants(source)
     tests: List[Tuple[Callable[[str, str, str], bool], str]] = [
-        (lambda a, b, c: is_plain(a) and b in ACCESS, "an address of another machine: write a word that stands for the device"),
-        (lambda a, b, c: is_far(a) and b == "+" and c in ACCESS, "an address of another machine: write a word that stands for the device"),
-        (lambda a, b, c: a in named and b in ACCESS, "an address of another machine: write a word that stands for the device"),
-        (lambda a, b, c: a == "BLOCK" and (b == "2-" or b == "2" and c == "-"), "no block's number is before its buffer: keep it in a variable"),
-        (lambda a, b, c: a == "LFA" and b == "!", "links can be read, and not written"),
+        (lambda a, b, c: is_plain(a) and b in ACCESS, "an address of another machine: write a word for the device"),
+        (lambda a, b, c: is_far(a) and b == "+" and c in ACCESS, "an address of another machine: write a word for the device"),
+        (lambda a, b, c: a in named and b in ACCESS, "an address of another machine: write a word for the device"),
+        (lambda a, b, c: a == "BLOCK" and (b == "2-" or b == "2" and c == "-"), "there is no block number before a buffer: keep it in a variable"),
+        (lambda a, b, c: a == "LFA" and b == "!", "links can be read, not written"),
     ]
     for a, b, c in zip(source, source[1:], source[2:] + [Place("", 0, 0, False)]):
         for test, why in tests:

@@ -104,7 +104,7 @@ def lines(trial: Trial) -> None:
     trial.type(": squares 0 ?do i dup * . loop ;")
     trial.must("0 1 4 9 16  ok" in trial.type("5 squares"), "a definition in small letters")
     fault = trial.type("1 0 /")
-    trial.must("division by 0" in fault and "(fault 5) at /" in fault, f"a fault: {fault!r}")
+    trial.must("division by zero" in fault and "(fault 5) at /" in fault, f"a fault: {fault!r}")
     trial.must(trial.value("document.querySelectorAll('#transcript .fault').length") == 1, "a fault isn't colored")
     trial.type("1 2 3")
     trial.must(trial.wait("document.getElementById('stack').textContent === '1 2 3'", 15), f"the stack: {trial.text('stack')!r}")

@@ -64,7 +64,7 @@ def check_fault(tree, one):
     failed = 'Array.from(document.querySelectorAll("#thread .failed span"), (span) => span.textContent).join()'
     tree.cases.same("places that are marked before the fault", "", one.value(failed))
     one.press("End")
-    tree.cases.holds("the fault in words", "division by 0", one.value(NEXT))
+    tree.cases.holds("the fault in words", "division by zero", one.value(NEXT))
     tree.cases.same("the place that is marked behind the fault", "WRECKED", one.value(failed))
 
 

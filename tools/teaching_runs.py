@@ -167,7 +167,7 @@ def check_ends(tree):
     """How words end, and what of them is a call."""
     for name, line, frames, ending in (
             ("ONE", "ONE", 1, "ONE is done."),
-            ("CALLS", "CALLS", 3, "division by 0, or too great a quotient (fault 5) at WRECKED, within it at /. It ended CALLS"),
+            ("CALLS", "CALLS", 3, "division by zero, or a quotient too large (fault 5) at WRECKED, within it at /. It ended CALLS"),
             ("DROPS", "DROPS", 1, "the stack was empty (fault 1) at DROP. It ended DROPS: both stacks were emptied"),
             ("LEAVES", "LEAVES", None, "The program ended here, within LEAVES."), ("DOWN", "2 DOWN", None, "DOWN is done."),
             ("TALL", "TALL", None, "TALL is done."),

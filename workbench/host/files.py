@@ -74,7 +74,7 @@ class Text:
         if len(self.line) > LINE:
             self.line = self.line.rstrip(b" ")
         if len(self.line) > LINE:
-            said = f"line {self.number} of {self.name} has {len(self.line)} bytes; the machine takes lines of {LINE}: break it in two"
+            said = f"line {self.number} of {self.name} has {len(self.line)} bytes, and a line may have {LINE}: split it"
             return answer(b"!", said.encode())
         return answer(b"=", self.line)
 
@@ -112,13 +112,13 @@ class Files:
         self._before.append(self._open[-1].line if self._open else self._typed)
         name = name or self._last
         if not name:
-            return answer(b"!", b"which file?")
+            return answer(b"!", b"INCLUDE needs the name of a file")
         beside = os.path.join(os.path.dirname(self._open[-1].name), name) if self._open else name
         found = beside if os.path.exists(beside) else os.path.expanduser(name)
         try:
             text = Text(found)
         except OSError as error:
-            return answer(b"!", f"{name} can't be read: {error.strerror}".encode())
+            return answer(b"!", f"cannot read {name}: {error.strerror}".encode())
         if not self._open:
             self._last = found
         self._open.append(text)

@@ -28,8 +28,8 @@ KILLED, QUIT = 143, 131
 FAULTS = {
     3: "a fault stopped the Forth, and no fault thread handled it",
     5: "standard input or output failed",
-    6: "the Forth did not answer, and was ended",
-    127: "the program can not be run",
+    6: "the Forth did not answer, so it was stopped",
+    127: "the program cannot be run",
     137: "the Forth was killed",
 }
 SIGNALS = (
@@ -354,7 +354,7 @@ class Host:
         size = self._terminal.size()
         if size is None or (size[0] >= FRAME_COLUMNS and size[1] >= FRAME_ROWS):
             return ""
-        wanted = f"EDIT needs a window of {FRAME_COLUMNS} columns and {FRAME_ROWS} rows, and this one has"
+        wanted = f"EDIT needs a window of {FRAME_COLUMNS} columns and {FRAME_ROWS} rows, but this one has"
         return f"{wanted} {size[0]} and {size[1]}; make it larger, and type ED"
 
     def _refuse_small_window(self) -> None:

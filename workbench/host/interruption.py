@@ -10,7 +10,7 @@ STARVED = 0.02  # seconds for which an offer is open, with the program silent, b
 PATIENCE = 3.0  # seconds after which a program that has not answered is reported
 HELD = 65536  # bytes of output that are kept meanwhile, the last ones
 ANSWERED = 1.0  # seconds for which a ^C that was taken makes further ones needless
-MARK = b"\x18\nbroken off"  # what the word BREAK shows; the first byte, CAN, is not passed on
+MARK = b"\x18\ninterrupted"  # what the word BREAK shows; the first byte, CAN, is not passed on
 INTERRUPT = b"\x03"
 
 NONE, FILE_OFFERED, KEY_OFFERED, ANSWER_DUE = range(4)

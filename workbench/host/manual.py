@@ -34,7 +34,7 @@ def help_for(name: str) -> str:
         with open(PAGE, encoding="utf-8") as page:
             found = entries(page.read(), name)
     except OSError as error:
-        return f"{PAGE} can't be read: {error.strerror}"
+        return f"cannot read {PAGE}: {error.strerror}"
     if not found:
         return f"docs/WORDS.md has no word {name}; WORDS {name} lists the names that contain it"
     return "\n".join(found)

@@ -26,15 +26,15 @@ def run(words: list[str]) -> str:
 
 
 def read_screens(forth83: str, name: str, count: int, room: str) -> tuple[list[tuple[int, bytes]], str]:
-    """The screens of a text, each with its number, for a file of so many blocks; or why they can't be taken."""
+    """The screens of a text, each with its number, for a file of so many blocks; or why they cannot be read."""
     made = os.path.join(room, "text.blk")
     try:
         with open(name, "rb") as file:
             numbers = numbers_of(file.read())
     except OSError as error:
-        return [], f"{name} can't be read: {error.strerror}"
+        return [], f"cannot read {name}: {error.strerror}"
     if numbers and numbers[-1] >= count:
-        return [], f"{name} has screen {numbers[-1]}, and the block file has screens 0 to {count - 1}"
+        return [], f"{name} has screen {numbers[-1]}, but the block file has screens 0 to {count - 1} only"
     said = run([forth83, "new", made, str(count)]) or run([forth83, "screens", "--", name, made])
     pages: list[tuple[int, bytes]] = []
     if not said:
