@@ -1,6 +1,6 @@
-"""Containers and texts as they end in the wild, made into what `forth83 import` takes, and back again.
+"""Containers and texts as they really occur, converted to what `forth83 import` accepts, and back again.
 
-Each of these is a pair of functions over bytes: what was read is written back byte for byte, but for the screens that were changed.
+Each format is a pair of functions over bytes. Writing gives back what was read, byte for byte, except for changed screens.
 """
 import re
 from typing import Dict, List, NamedTuple, Optional, Tuple
@@ -12,7 +12,7 @@ NUMBERED = re.compile(r"^\s*(\d{1,2})(?:[:|.)]?(?: (.*)|\s*$))", re.S)
 
 
 class Wild(Exception):
-    """Why a container can't be taken or written, in one sentence."""
+    """Why a container cannot be read or written, in one sentence."""
 
 
 # What ends each line of 64 characters in the program's formats of lines.
@@ -39,7 +39,7 @@ def disk_order(disk: Disk, size: int) -> List[int]:
     """Where each sector of a disk's file begins, in the order in which they are read. A file of 77 tracks has the unused one."""
     pitch = disk.sector * disk.sectors
     if size % pitch or not size:
-        raise Wild(f"{size} bytes are no whole tracks of {pitch}")
+        raise Wild(f"{size} bytes are not a whole number of tracks of {pitch}")
     tracks = size // pitch
     first = disk.unused if tracks == 77 else 0
     half = disk.sectors // disk.interleave
@@ -94,7 +94,7 @@ def unlined(data: bytes, ending: bytes, made: bytes) -> bytes:
     """The text with these lines in its place, as long as it was, with its own padding."""
     held = len(data.rstrip(b"\x1a\0"))
     if made[held:].replace(ending, b"").strip():
-        raise Wild("a line was written where the text has none: NoRoom")
+        raise Wild("the blocks have a line after the end of the text: NoRoom")
     return made[:held] + data[held:]
 
 
@@ -108,7 +108,7 @@ def narrowed(screens: bytes) -> bytes:
     lines = []
     for at in range(0, len(screens), LINE):
         if screens[at + 32:at + LINE].strip():
-            raise Wild(f"screen {at // BLOCK} line {at % BLOCK // LINE} has more than 32 characters")
+            raise Wild(f"screen {at // BLOCK} line {at % BLOCK // LINE} has more than 32 characters, and a half screen's line has 32")
         lines.append(screens[at:at + 32])
     return b"".join(lines)
 
@@ -158,7 +158,7 @@ def unnumbered(number: int, lines: List[str]) -> List[str]:
         match = NUMBERED.match(line)
         if match:
             if int(match[1]) > 15:
-                raise Wild(f"screen {number} has a line {match[1]}, and a screen has lines 0 to 15")
+                raise Wild(f"screen {number} has a line {match[1]}, but a screen has lines 0 to 15")
             placed[int(match[1])] = match[2] or ""
     return placed
 
@@ -171,14 +171,14 @@ def screens_of_listing(data: bytes) -> Tuple[int, bytes]:
         screens = {at // 16: lines[at:at + 16] for at in range(0, max(len(lines), 1), 16)}
     first, last = min(screens), max(screens)
     if last - first > 65535:
-        raise Wild(f"screens {first} to {last} are too many")
+        raise Wild(f"screens {first} to {last} are more than 65,536")
     made = []
     for number in range(first, last + 1):
         placed = unnumbered(number, screens.get(number, []))
         if len(placed) > 16:
-            raise Wild(f"screen {number} has {len(placed)} lines, and 16 fit")
+            raise Wild(f"screen {number} has {len(placed)} lines, but only 16 fit")
         for at, line in enumerate(placed):
             if len(line) > LINE:
-                raise Wild(f"screen {number} line {at} has {len(line)} characters, and 64 fit")
+                raise Wild(f"screen {number} line {at} has {len(line)} characters, but only 64 fit")
         made.append(b"".join(line.encode("latin-1").ljust(LINE) for line in placed).ljust(BLOCK))
     return first, b"".join(made)

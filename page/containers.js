@@ -30,7 +30,7 @@ export function blocksOf(container, format) {
   if (body < 0) return { wrong: "the file is shorter than what comes before its first screen" };
   if (body % track !== 0) return { wrong: `the file ends within a track, or within a line: ${body} bytes are no multiple of ${track}` };
   const size = Math.floor((body / pitch) * format.sector / PAGE_SIZE) * PAGE_SIZE;
-  if (size === 0) return { wrong: "the file has no whole screen" };
+  if (size === 0) return { wrong: "the file does not have a whole screen" };
   if (size > MOST_BLOCKS * PAGE_SIZE) return { wrong: "the file has more than 65,536 screens" };
   if ((size / PAGE_SIZE) % halves) return { wrong: "the file has half a shadow: an odd number of screens" };
   const cut = cutLine(container, format, ending);

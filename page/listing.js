@@ -56,7 +56,7 @@ function placed(lines) {
   const made = Array(LINES).fill("");
   for (const line of lines.filter((one) => one)) {
     const [, number, text] = NUMBERED.exec(line);
-    if (Number(number) >= LINES) return { wrong: `has a line ${number}, and a screen has lines 0 to 15` };
+    if (Number(number) >= LINES) return { wrong: `has a line ${number}, but a screen has lines 0 to 15` };
     made[Number(number)] = text || "";
   }
   return made;
@@ -65,9 +65,9 @@ function placed(lines) {
 function pageOfLines(lines) {
   const page = new Uint8Array(PAGE_SIZE).fill(32), made = placed(lines);
   if (made.wrong) return made;
-  if (made.length > LINES) return { wrong: `has ${made.length} lines, and 16 fit` };
+  if (made.length > LINES) return { wrong: `has ${made.length} lines, but only 16 fit` };
   for (const [at, line] of made.entries()) {
-    if (line.length > COLUMNS) return { wrong: `has a line ${at} of ${line.length} characters, and 64 fit` };
+    if (line.length > COLUMNS) return { wrong: `has a line ${at} of ${line.length} characters, but only 64 fit` };
     page.set(Uint8Array.from(line, (letter) => letter.charCodeAt(0)), at * COLUMNS);
   }
   return { page };

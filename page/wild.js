@@ -35,7 +35,7 @@ const isSame = (a, b) => a.length === b.length && a.every((byte, at) => byte ===
 // The sectors of a disk that move by some places a track, one after the other. A file of 77 tracks has the unused one.
 function turned(container, { sector, sectors, interleave, move, unused }) {
   const pitch = sector * sectors, tracks = container.length / pitch, first = tracks === ALL_TRACKS ? unused : 0, half = Math.floor(sectors / interleave);
-  if (!tracks || tracks % 1) return { wrong: `${container.length} bytes are no whole tracks of ${pitch}` };
+  if (!tracks || tracks % 1) return { wrong: `${container.length} bytes are not a whole number of tracks of ${pitch}` };
   const made = [];
   for (let track = first; track < tracks; track++)
     for (let number = 0; number < sectors; number++) {
@@ -110,7 +110,7 @@ function screensOfContainer(container, format, options) {
 export function imported(container, plain, options) {
   const format = changed(plain, options), made = screensOfContainer(container, format, options);
   if (made.wrong) return made;
-  if (!made.bytes.length) return { wrong: "the file has no whole screen" };
+  if (!made.bytes.length) return { wrong: "the file does not have a whole screen" };
   const first = options.first || made.first || 0, bytes = options.isCleaned ? made.bytes.map(cleaned) : made.bytes;
   if (first + bytes.length / PAGE_SIZE > MOST_BLOCKS) return { wrong: "the file has more than 65,536 screens" };
   return { bytes: joined(new Uint8Array(first * PAGE_SIZE).fill(BLANK), bytes), first };

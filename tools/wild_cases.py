@@ -110,7 +110,7 @@ def texts(folder: Folder, expect: Expect) -> None:
     (room / "wild.txt").write_text("x" * 65)
     (room / "wild.blk").unlink(missing_ok=True)
     said = folder.run(["./forth83", "import", "wild.txt", "wild.blk", "--format", "text"])
-    expect("a long line", "container: wild.txt: screen 0 line 0 has 65 characters, and 64 fit\n", said)
+    expect("a long line", "container: wild.txt: screen 0 line 0 has 65 characters, but only 64 fit\n", said)
 
 
 def volumes(folder: Folder, expect: Expect) -> None:
