@@ -198,7 +198,7 @@ find_images() {
     return
   fi
   local said
-  said=$("$forth83" kernel "$room/kernel.blk") || refuse "the program cannot make its kernel: $said"
+  said=$("$forth83" kernel "$room/kernel.blk") || refuse "the program cannot make its kernel: $said; make room in ${TMPDIR:-/tmp}, or set TMPDIR to another folder"
   make_images "$room/kernel.blk" "$room" || exit 1
   if [ -n "$unproved" ] || ! keep_images; then
     images=$room
