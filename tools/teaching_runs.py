@@ -450,7 +450,7 @@ WRONG = (
     (2, "% screen 22\n: MINUTES 60 * . ;",
      "1 MINUTES leaves nothing, but 60 is wanted. It shows 60, and . takes what it shows."),
     (2, "% screen 22\n: MINUTES 60 * ; : FAHRENHEIT 5 / 9 * 32 + ;", "37 FAHRENHEIT leaves 95 but 98 is wanted."),
-    (99, "% screen 21\n1", "There is no lesson 99 but 1 to 12."),
+    (99, "% screen 21\n1", "There is no lesson 99, only 1 to 12."),
 )
 
 
