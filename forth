@@ -36,6 +36,7 @@ usage: ./forth [TEXT..] [BLOCKS]             loads each TEXT, a file of Forth su
        ./forth --status                      shows which program there is, and how far its proof is
        ./forth --version                     prints the version of the program, and whether it is proved
        ./forth where IMAGE [BLOCKS]          runs an image, and shows at which word of which screen its fault happens
+       ./forth course [BLOCKS]               starts the course, or goes on with it, in the file BLOCKS (course.blk if none is named)
        ./forth page [BLOCKS] -o OUT.html     makes the Forth as one page for any browser; page --help says more
        ./forth picture [BLOCKS] [FIRST]      makes a picture of what the words of examples/draw.txt drew
        ./forth film NAME [LINE]              makes a page that shows each step of the word NAME; film --help says more
@@ -433,6 +434,19 @@ prepare() {
   [ -z "$blocks" ] || open_blocks
 }
 
+# Makes the course's file of blocks, with its screens.
+make_course() {
+  make_room
+  trap leave EXIT
+  find_program
+  local said
+  said=$("$forth83" new "$room/course.blk" 64 2>&1) || refuse "cannot make $blocks: $said"
+  said=$("$forth83" screens "$here/teaching/course.txt" "$room/course.blk" 2>&1) || refuse "cannot make $blocks: $said"
+  said=$(cp -- "$room/course.blk" "$blocks" 2>&1) || refuse "cannot make $blocks: $said"
+  leave
+  trap - EXIT
+}
+
 sources=
 case ${1:-} in
   --on) exec "$here/workbench/on" "${@:2}" ;;
@@ -458,6 +472,12 @@ case ${1:-} in
     find_program
     python3 -B "$here/page/make" --program "$forth83" "${@:2}"
     exit
+    ;;
+  course)
+    [ $# -le 2 ] || misused 'course takes no more than the name of its file of blocks'
+    blocks=${2:-course.blk}
+    [ -e "$blocks" ] || make_course
+    exec "$here/forth" "$here/teaching/course.fs" "$blocks"
     ;;
   where)
     { [ $# -eq 2 ] || [ $# -eq 3 ]; } || misused 'where needs an IMAGE, and BLOCKS if the image uses a file of blocks'
