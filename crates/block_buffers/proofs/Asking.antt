@@ -52,22 +52,6 @@ victim_saved b h q =
     ∙ ap (λ (e : Entry). e.updated) (get_or-map (unmarked_entry u) b k d d l)
     ∙ unmark_here u (get_or b k d) (of_updated b k d h l q)
 
-not_of : (u : ℕ) (e : Entry) (m : Bool) → is_of u e ≡ m → e.block ≢ Some u → is_of u e ≡ false
-not_of u e true q h = absurd (h (of_from_block u e.block q))
-not_of u e false q h = q
-
--- the entry of a block is the one that has it
-pub slot_of_held : (b : List Entry) (e : Entry) (u : ℕ) → Contains b e → e.block ≡ Some u → HasNoBlockTwice b → slot_of b u ≡ e.slot
-slot_of_held b e u (k, l, q) h once =
-    let d : Entry = unassigned_slot 0
-    in let here : get_or b k d ≡ e = get_or_default b k d e l ∙ q
-    in let has : (get_or b k d).block ≡ Some u = ap (λ (x : Entry). x.block) here ∙ h
-    in let yes : is_of u (get_or b k d) ≡ true = block_of u (get_or b k d) has
-    in let before : (j : ℕ) (f : Entry) → j < k → is_of u (get_or b j f) ≡ false = λ j f m. not_of u (get_or b j f) (is_of u (get_or b j f)) refl
-    (λ r. once j k f m l u r (ap (λ (x : Entry). x.block) (get_or_default b k f d l) ∙ has))
-    in let place : position_or_len (is_of u) b ≡ k = position_here (is_of u) k b d yes l before
-    in slot_here u b (rw place l) ∙ ap (λ (i : ℕ). (get_or b i d).slot) place ∙ ap (λ (x : Entry). x.slot) here
-
 -- 1 for an entry that is marked
 abbrev mark : Entry → ℕ
 mark e = if e.updated then 1 else 0

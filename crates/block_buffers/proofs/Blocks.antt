@@ -1,4 +1,4 @@
--- No block is in two buffers, and where a block's entry stands.
+-- No block is in two buffers, and where a block's entry is.
 use Rattle.std.proofs.Common.{◌≡◌, ◌≢◌, ℕ, zero, suc, ◌-◌, ◌<◌, ◌==◌, List, [], ◌∷◌, length, get_or, take, map, Option, Some, None, refl, arith, ap, ◌∙◌, sym, subst, true, false, Bool, is_some}
 use Rattle.std.specs.Prelude.{All, remove}
 use Rattle.std.specs.List.{position_or_len}

@@ -1,5 +1,5 @@
 -- Calls that came to what they come to on a disk.
-use Rattle.std.proofs.Common.{◌≡◌, ◌∙◌, ℕ, true, false, List, [], ◌∷◌, ◌++◌, Option, Some, Result, Ok, Err, length, refl, sym, subst, ap, append_assoc, append-nil}
+use Rattle.std.proofs.Common.{◌≡◌, ◌∙◌, ℕ, List, [], ◌∷◌, ◌++◌, Option, Some, Result, Ok, Err, length, refl, sym, subst, ap, append_assoc, append-nil}
 use Rattle.std.specs.Prelude.{IfSome}
 use Rattle.std.proofs.lemmas.List.{append_cancel_left, length-set}
 use Rattle.block_buffers.specs.declared.devices.DeviceFault.{DeviceFault}
@@ -61,7 +61,7 @@ read_told d e count block page (Err u) a b q h =
     let x : AllCameTo d (ReadFailed block ∷ []) e = subst (λ v. AllCameTo d v e) made h.came in
     (x.1.0, ap Some (x.2 ∙ x.1.1))
 
--- a device that tells its disk did as that disk in a read
+-- a device that reports its disk did as that disk in a read
 pub read_like : (d : Disk) (new : Option Disk) (count block : ℕ) (page : List ℕ) (r : Result Unit DeviceFault) (a b : List DeviceCall) → count ≡ length d.blocks → b ≡ a ++ read_call block page r ∷ [] → Reads d block new page r
     → IsLike d new count a b
 unfolding AllCameTo
@@ -103,7 +103,7 @@ like_so_far d mid new count count' a b c q h k = both_like d mid new count a b c
 pub like_none : (d : Disk) (told : Option Disk) (count known : ℕ) (calls : List DeviceCall) → known ≡ count → IfSome told (λ x. known ≡ length x.blocks) → told ≡ Some d → IsLike d told count calls calls
 like_none d told count known calls q n e = none_like d told count calls (sym q ∙ subst (λ o. IfSome o (λ x. known ≡ length x.blocks)) e n) e
 
--- a read of a device that tells its disk and how many blocks it has
+-- a read of a device that reports its disk and how many blocks it has
 pub told_like : (d : Disk) (told new : Option Disk) (count known block : ℕ) (page : List ℕ) (r : Result Unit DeviceFault) (a b : List DeviceCall) → known ≡ count → IfSome told (λ x. known ≡ length x.blocks) → told ≡ Some d
     → b ≡ a ++ read_call block page r ∷ [] → IfSome told (λ x. Reads x block new page r) → IsLike d new count a b
 told_like d told new count known block page r a b q n e logged h =

@@ -1,4 +1,4 @@
--- Where the buffer of a block stands in the list.
+-- Where the buffer of a block is in the list.
 use Rattle.std.proofs.Common.{◌≡◌, ℕ, ◌<◌, ◌≤◌, List, length, get_or, arith, true, false, Bool, ap, ◌∙◌, Option, unwrap_or, inl, inr}
 use Rattle.std.specs.List.{position_or_len}
 use Rattle.std.proofs.lemmas.Bool.{cases_lt}

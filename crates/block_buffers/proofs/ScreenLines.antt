@@ -19,18 +19,18 @@ part_before p x a b w h l =
     in ap (take w) (drop-append-le a (take b p) x (omega arith)) ∙ take-append-le w (drop a (take b p)) x (omega arith)
     ∙ ap (λ (q : List ℕ). take w (drop a q)) split ∙ ap (take w) (drop-take a (b - a) p) ∙ take-take w (b - a) (drop a p) (omega arith)
 
--- w bytes from a on, at or behind the b bytes in front
+-- w bytes from a on, at or after the b bytes in front
 part_behind : (f x : List ℕ) (a b w : ℕ) → length f ≡ b → b ≤ a → take w (drop a (f ++ x)) ≡ take w (drop (a - b) x)
 part_behind f x a b w h l =
     ap (λ (n : ℕ). take w (drop n (f ++ x))) (omega arith) ∙ ap (take w) (drop-append-add f x (a - b))
 
--- the text stands at b
+-- the text is at b
 part_text : (p text x : List ℕ) (b w : ℕ) → length text ≡ w → b ≤ length p → take w (drop b (take b p ++ (text ++ x))) ≡ text
 part_text p text x b w h l =
     let none : b - b ≡ 0 = omega arith
     in part_behind (take b p) (text ++ x) b b w (length-take-le b p l) (omega arith) ∙ ap (λ (n : ℕ). take w (drop n (text ++ x))) none ∙ take_at text x w h
 
--- behind the text
+-- after the text
 part_after : (p text x : List ℕ) (a b w : ℕ) → length text ≡ w → b ≤ length p → b + w ≤ a → take w (drop a (take b p ++ (text ++ x))) ≡ take w (drop (a - b - w) x)
 part_after p text x a b w h l k =
     part_behind (take b p) (text ++ x) a b w (length-take-le b p l) (omega arith) ∙ part_behind text x (a - b) w w h (omega arith)
@@ -39,7 +39,7 @@ put_after : (p text : List ℕ) (a b w : ℕ) → length text ≡ w → b ≤ le
 put_after p text a b w h l k =
     part_after p text (drop (b + w) p) a b w h l k ∙ ap (take w) (drop-drop (a - b - w) (b + w) p ∙ ap (λ (n : ℕ). drop n p) (omega arith))
 
--- the part that stood w bytes before a
+-- the part that was w bytes before a
 inserted_after : (p text : List ℕ) (a b w : ℕ) → length text ≡ w → b + w ≤ a → a + w ≤ length p → take w (drop a (take b p ++ (text ++ take (length p - b - w) (drop b p)))) ≡ take w (drop (a - w) p)
 inserted_after p text a b w h k l =
     let split : take (length p - b - w) (drop b p) ≡ take ((a - b - w) + (length p - a)) (drop b p) = ap (λ (n : ℕ). take n (drop b p)) (omega arith)
@@ -48,7 +48,7 @@ inserted_after p text a b w h k l =
     ∙ take-take w (length p - a) (drop (a - b - w) (drop b p)) (omega arith)
     ∙ ap (take w) (drop-drop (a - b - w) b p ∙ ap (λ (n : ℕ). drop n p) (omega arith))
 
--- the part that stood w bytes behind a
+-- the part that was w bytes after a
 deleted_after : (p x : List ℕ) (a b w : ℕ) → b ≤ a → a + w + w ≤ length p → take w (drop a (take b p ++ (drop (b + w) p ++ x))) ≡ take w (drop (a + w) p)
 deleted_after p x a b w k l =
     let left : length (drop (b + w) p) ≡ length p - (b + w) = length-drop (b + w) p

@@ -50,7 +50,7 @@ unfolding all_fronted
 taken_more es b c d i k e q p s l =
     p ∙ ap (λ fs. fronted (get_or es i e) fs) (q ∙ ap (λ j. all_fronted (drop j es) b) s) ∙ sym (at_drop_more (λ fs. all_fronted fs b) es i e l)
 
--- entries of different slots stand as they were, before the others
+-- entries of different slots are as they were, before the others
 others : List Entry → List Entry → List Entry
 others [] b = b
 others (e ∷ es) b = filter (is_elsewhere e.slot) (others es b)

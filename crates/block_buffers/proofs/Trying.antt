@@ -50,7 +50,7 @@ all_can n (e ∷ es) s u =
     rw (can n e (All-head (SmallSlot n) e es s) (All-head HasWhereUpdated e es u))
     (all_can n es (All-tail (SmallSlot n) e es s) (All-tail HasWhereUpdated e es u))
 
--- an entry and those behind it
+-- an entry and those after it
 is_other : (e d : Entry) → is_in e.slot d ≡ false → SlotsDiffer e d
 is_other e d h q = let yes : is_in e.slot d ≡ true = eq-eqb d.slot e.slot (sym q) in cc
 

@@ -95,7 +95,7 @@ fold_lowest d (e ∷ es) =
     in let below : ((lower_of d e).slot ≤ d.slot) × ((lower_of d e).slot ≤ e.slot) = lower_below d e (nat_lt e.slot d.slot) refl
     in (omega (arith, more.0, below.0), All-cons (λ f. (fold lower_of (lower_of d e) es).slot ≤ f.slot) e es (omega (arith, more.0, below.1)) more.1)
 
--- one element stands in front of the list, or before its tail
+-- one element is in front of the list, or before its tail
 skipped : (d e : Entry) (es : List Entry) (x : Entry) → Contains (d ∷ es) x → Contains (d ∷ e ∷ es) x
 skipped d e es x (zero, l, q) = (0, omega arith, q)
 skipped d e es x (suc k, l, q) = (suc (suc k), omega arith, q)

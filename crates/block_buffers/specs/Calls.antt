@@ -1,5 +1,5 @@
 -- What a call does to a device.
-use Rattle.std.specs.Prelude.{◌≡◌, ℕ, Bool, true, false, List, [], ◌∷◌, ◌++◌, Option, Some, Result, Ok, Err, IfSome, IsSomeAnd, count_by}
+use Rattle.std.specs.Prelude.{◌≡◌, ℕ, Bool, true, false, List, Option, Some, Result, Ok, Err, IfSome, IsSomeAnd, count_by}
 use Rattle.block_buffers.specs.declared.devices.DeviceFault.{DeviceFault}
 use Rattle.block_buffers.specs.DeviceCalls.{DeviceCall, WasRead, ReadFailed, WasWritten, WriteFailed}
 use Rattle.block_buffers.specs.Disks.{Disk, succeeds, block_at, called, with_block}
@@ -36,6 +36,6 @@ abbrev pub Writes : Disk → ℕ → List ℕ → Option Disk → Result Unit De
 Writes disk block page new (Ok _) = (succeeds disk block ≡ true) × (new ≡ Some (with_block disk block page))
 Writes disk block page new (Err _) = (succeeds disk block ≡ false) × (new ≡ Some (called disk))
 
--- where the blocks are told, they are the same after
+-- where the blocks are reported, they are the same after
 abbrev pub KeepsBlocks : Option Disk → Option Disk → Type 0
 KeepsBlocks old new = IfSome old (λ d. IsSomeAnd new (λ e. e.blocks ≡ d.blocks))

@@ -1,4 +1,4 @@
--- A device that tells its blocks.
+-- A device that reports its blocks.
 use Rattle.std.specs.Prelude.{ℕ, Bool, false, not, List, [], ◌∷◌, length, drop, slice_set, slice_index_or, nat_lt, ◌&&◌}
 
 -- the blocks, each a list of 1,024 bytes, and for each coming call whether it fails

@@ -22,7 +22,7 @@ pub record DidAs (d e : Disk) (count : ℕ) (calls calls' : List DeviceCall) : T
   pub calls_are : calls' ≡ calls ++ made
   pub came : AllCameTo d made e
 
--- a device that told it was disk d did as that disk, and tells which it is now
+-- a device that reported disk d did as that disk, and says which it is now
 pub record IsLike (d : Disk) (new : Option Disk) (count : ℕ) (calls calls' : List DeviceCall) : Type 0 where
   pub after : Disk
   pub told : new ≡ Some after

@@ -25,7 +25,7 @@ line_at screen n = take 64 (drop (line_start n) screen)
 unfoldable pub with_line : List ℕ → ℕ → List ℕ → List ℕ
 with_line screen n text = take (line_start n) screen ++ (text ++ drop (line_start n + 64) screen)
 
--- the text stands before line n, and the last line is lost
+-- the text is before line n, and the last line is lost
 unfoldable pub line_inserted : List ℕ → ℕ → List ℕ → List ℕ
 line_inserted screen n text =
     take (line_start n) screen ++ (text ++ take (length screen - line_start n - 64) (drop (line_start n) screen))

@@ -8,7 +8,7 @@ use Rattle.block_buffers.specs.Entries.{is_in}
 abbrev pub can_stand : ℕ → Entry → Bool
 can_stand n e = nat_lt e.slot n && (not e.updated || is_some e.block)
 
--- no slot stands twice
+-- no slot occurs twice
 unfoldable pub slots_differ : List Entry → Bool
 slots_differ [] = true
 slots_differ (e ∷ es) = not (list_any (is_in e.slot) es) && slots_differ es

@@ -13,7 +13,7 @@ use memory::limit_of;
 use std::marker::Model;
 
 /// The block buffers, 2 to 16, seen as the list of their entries, the most recently referenced first.
-/// The bytes of the blocks stand at the end of memory, a page for each slot; here is only what is known of them.
+/// The bytes of the blocks are at the end of memory, a page for each slot; here is only what is known of them.
 #[derive(Drop)]
 pub struct Buffers {
     slots: ArrayVec<Slot, MOST>,
@@ -56,7 +56,7 @@ impl Buffers {
     }
 
     /// The buffers with just these entries, the most recently referenced first. `None` where no buffers have such: there are
-    /// 2 to 16, each slot below their number stands once, and only a buffer with a block is updated.
+    /// 2 to 16, each slot below their number occurs once, and only a buffer with a block is updated.
     pub fn from_entries(entries: &[Entry]) -> Option<Buffers>
         ensures value { IfSome result (λ b. b ≡ entries.now) }
         ensures exactly { IsSome result ↔ AreBuffers entries.now }

@@ -1,21 +1,24 @@
 //! Devices of blocks.
 ghost use Rattle.std.specs.Prelude.{◌≡◌, ◌++◌, ◌∷◌, [], ◌<◌, ◌≤◌, ℕ, List, Option, length, IfSome, OnErr, OnOk};
 
+use thiserror::Error;
+
 /// How many bytes a block has.
 pub const BLOCK_SIZE: usize = 1024;
 
-/// A block could not be read or written.
-#[derive(Clone, Copy, Debug, PartialEq, Eq)]
+/// A block can't be read or written.
+#[derive(Clone, Copy, Debug, PartialEq, Eq, Error)]
+#[error("the block can't be read or written")]
 pub struct DeviceFault;
 
-/// Blocks of 1,024 bytes, numbered from 0. A device may tell its blocks to contracts, as a
+/// Blocks of 1,024 bytes, numbered from 0. A device may report its blocks to contracts, as a
 /// [`crate::MemoryDevice`] does; a file does not. Every device keeps its calls for contracts, with their pages.
 pub trait Device {
     ghost use Rattle.block_buffers.specs.Disks.{Disk};
     ghost use Rattle.block_buffers.specs.Calls.{Reads, Writes, KeepsBlocks, read_call, write_call};
     ghost use Rattle.block_buffers.specs.DeviceCalls.{DeviceCall};
 
-    // its blocks and its coming results, where it tells them
+    // its blocks and its coming results, where it reports them
     ghost disk: { Self → Option Disk };
 
     // its calls so far, in order

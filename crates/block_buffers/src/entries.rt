@@ -92,7 +92,7 @@ fn has_slot(entries: &[Entry], slot: usize) -> bool
     entries.iter().any(|entry| entry.slot == slot)
 }
 
-/// Whether the slot stands behind the first of these entries, as many as `count`.
+/// Whether the slot comes after the first of these entries, as many as `count`.
 fn stands_behind(entries: &[Entry], count: usize, slot: usize) -> bool
     requires { count ≤ length entries.now }
     ensures { result ≡ list_any (is_in slot) (drop count entries.now) }
@@ -100,7 +100,7 @@ fn stands_behind(entries: &[Entry], count: usize, slot: usize) -> bool
     has_slot(&entries[count..], slot)
 }
 
-/// Whether no slot stands twice.
+/// Whether no slot occurs twice.
 fn slots_differ(entries: &[Entry]) -> bool
     ensures { result ≡ slots_differ entries.now }
 {

@@ -61,7 +61,7 @@ pub fn no_block_twice_law()
     ensures unassigned { (b : List Entry) → HasNoBlockTwice (unassigned b) }
 {}
 
-/// There are always as many buffers, 2 to 16, each slot stands once, and only a buffer with a block is updated.
+/// There are always as many buffers, 2 to 16, each slot occurs once, and only a buffer with a block is updated.
 pub fn buffers_law()
     ensures slots { (b : List Entry) (slot : ℕ) → AreBuffers b → slot < length b → count_by (is_in slot) b ≡ 1 }
     ensures started { (n : ℕ) → IsCount n → AreBuffers (start n) }
@@ -114,7 +114,7 @@ pub fn insert_line_law()
         line_at (line_inserted p n text) (m + 1) ≡ line_at p m }
 {}
 
-/// A line that is deleted moves the lines behind it one up; the last one becomes blank.
+/// A line that is deleted moves the lines after it one up; the last one becomes blank.
 pub fn delete_line_law()
     ensures size { (p : List ℕ) (n : ℕ) → IsScreen p → IsScreen (line_deleted p n) }
     ensures above { (p : List ℕ) (n m : ℕ) → IsScreen p → n < 16 → m < n → line_at (line_deleted p n) m ≡ line_at p m }

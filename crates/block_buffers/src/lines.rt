@@ -1,7 +1,7 @@
 //! Work on the bytes of a screen, for lines of any length.
 ghost use Rattle.std.specs.Prelude.{◌≡◌, ◌≤◌, ◌+◌, ◌-◌, ◌++◌, take, drop, replicate, length};
 
-/// What stands in a place that no text fills.
+/// What is in a place that no text fills.
 const BLANK: u8 = b' ';
 
 /// The text takes the place of the first bytes.
@@ -57,7 +57,7 @@ pub fn put_at(bytes: &mut [u8], start: usize, text: &[u8])
     put_first(&mut bytes[start..], text);
 }
 
-/// The text stands before the bytes from `start` on, and as many are lost at the end.
+/// The text is before the bytes from `start` on, and as many are lost at the end.
 pub fn insert_at(bytes: &mut [u8], start: usize, text: &[u8])
     requires { start + length text.now ≤ length bytes.old }
     ensures { bytes.new ≡ take start

@@ -44,7 +44,7 @@ pub fn insert_line(screen: &mut [u8; BLOCK_SIZE], n: u16, text: &[u8; LINE_SIZE]
     lines::insert_at(screen, line_start(n), text);
 }
 
-/// The lines behind line `n` move one up, over it, and the last line becomes blanks.
+/// The lines after line `n` move one up, over it, and the last line becomes blanks.
 #[tactic(auto, unfolding(crate::specs::Screens::line_deleted, crate::specs::Screens::blank_line))]
 pub fn delete_line(screen: &mut [u8; BLOCK_SIZE], n: u16)
     ensures { screen.new ≡ line_deleted screen.old n }

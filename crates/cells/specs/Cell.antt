@@ -54,7 +54,7 @@ IsDivided n m p = IsTrue (can_divide n m) × (p.0 ≡ floor_remainder n m) × (p
 abbrev pub IsUmDivided : ℕ → ℕ → ℕ × ℕ → Type 0
 IsUmDivided ud u p = IsTrue (um_can_divide ud u) × (p.0 ≡ ud % u) × (p.1 ≡ ud / u)
 
--- a loop's step leaves the place between limit - 1 and limit behind, in either direction
+-- a loop's step leaves the place between limit - 1 and limit after, in either direction
 unfoldable pub crosses : ℕ → ℕ → ℕ → Bool
 crosses index limit step = is_outside (signed (wrap (difference index limit + 32768)) +ℤ signed step)
 

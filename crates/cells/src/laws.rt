@@ -8,7 +8,7 @@ pub fn floor_law()
     ensures { (n m : ℤ) → m ≢ pos 0 → floor_quotient n m *ℤ m +ℤ floor_remainder n m ≡ n }
 {}
 
-/// The remainder lies between 0 and `m`: it has the divisor's sign, and is nearer to 0.
+/// The remainder is between 0 and `m`: it has the divisor's sign, and is nearer to 0.
 pub fn remainder_law()
     ensures { (n m : ℤ) → m ≢ pos 0 → IsBetween (floor_remainder n m) m }
 {}

@@ -21,7 +21,3 @@ pub patched : (image front back : List ℕ) (x y p : ℕ) → image ≡ front ++
 unfolding cell_bytes
 patched image front back x y p e n =
     ap (λ l. slice_set (slice_set l p (x % 256)) (p + 1) (x / 256)) e ∙ two_writes front back (y % 256) (y / 256) (x % 256) (x / 256) p n
-
-pub appends_cell : (image : List ℕ) (x : ℕ) → (image ++ (x % 256) ∷ []) ++ (x / 256) ∷ [] ≡ image ++ cell_bytes x
-unfolding cell_bytes
-appends_cell image x = append_assoc image (x % 256 ∷ []) (x / 256 ∷ [])

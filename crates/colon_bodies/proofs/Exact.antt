@@ -51,7 +51,7 @@ ends_alone (Doing t a) u ws e =
     finish_end (Past t) a Free u SEMI ws
     (sym (ap (accept Top Empty Free) (append_assoc (words t) (DOES ∷ words a) (SEMI ∷ ws)) ∙ accept_words t Top (DOES ∷ (words a ++ (SEMI ∷ ws))) ∙ accept_words a (Past t) (SEMI ∷ ws)) ∙ e)
 
--- nothing stands behind a whole definition
+-- nothing comes after a whole definition
 not_past : (body b : Definition) (before z rest : List Token) → before ≡ (all_words body ++ SEMI ∷ []) ++ z → all_words b ++ SEMI ∷ [] ≡ before ++ rest → all_words body ++ SEMI ∷ [] ≡ before
 not_past body b before z rest e h =
     let all : all_words b ++ SEMI ∷ [] ≡ all_words body ++ (SEMI ∷ (z ++ rest)) =
@@ -75,7 +75,7 @@ pub known_last : (rt : ℕ → ℕ) (xs : List Token) (w : Token) → AreKnown r
 known_last rt [] w h = h.0
 known_last rt (x ∷ xs) w h = known_last rt xs w h.1
 
--- whether a DOES> stood, word by word
+-- whether a DOES> was, word by word
 abbrev pub past_of : Bool → List Token → Bool
 past_of b [] = b
 past_of b (w ∷ ws) = past_of (past_after b w) ws

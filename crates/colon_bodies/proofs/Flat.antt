@@ -115,7 +115,7 @@ size-join c (Again t a) = omega (arith, size-join c t)
 size-join c (While t a b) = omega (arith, size-join c t)
 size-join c (Loop t a k) = omega (arith, size-join c t)
 
--- each jump, where it stands in code
+-- each jump, where it is in code
 step_forward : (f : Frames) (c : Body) (here to : ℕ) → here < to → step f c here (IQuery to) ≡ Some (In (FIf f c to) Empty)
 step_forward f c here to h = ap (λ b. cond b (Some (In (FIf f c to) Empty)) (until_at f (split c (here - to)))) (lt-ltb here to h)
 

@@ -66,7 +66,7 @@ length-open rt o t h at = length-half rt h (outer_code rt o at ++ code rt t (at 
 pub drafted_length : (rt : ℕ → ℕ) (at : ℕ) (o : Outer) (t : Body) (h : Half) (image : List ℕ) (marks : List Mark) → Drafted rt at o t h image marks → length image ≡ open_size o t h
 drafted_length rt at o t h image marks d = ap length d.bytes ∙ length-open rt o t h at
 
--- a name behind what is half read
+-- a name after what is half read
 pub called : (rt : ℕ → ℕ) (at : ℕ) (o : Outer) (t : Body) (h : Half) (w : ℕ) (image new : List ℕ) (marks : List Mark) → new ≡ image ++ cell_bytes w → Drafted rt at o t h image marks → Drafted rt at o (complete h t w) Free new marks
 called rt at o t Free w image new marks e d = record { bytes = e ∙ ap (λ l. l ++ cell_bytes w) d.bytes ∙ simp append_assoc; marked = d.marked }
 called rt at o t Ticked w image new marks e d = record { bytes = e ∙ ap (λ l. l ++ cell_bytes w) d.bytes ∙ simp append_assoc; marked = d.marked }
@@ -83,7 +83,7 @@ done rt at t image new marks control r e d =
       marked = d.marked;
     }
 
--- a cell that waits lies within the image
+-- a cell that waits is within the image
 pub if_within : (at place : ℕ) (image : List ℕ) (marks : List Mark) (rt : ℕ → ℕ) (o : Outer) (t : Body) (h : Half) → Drafted rt at o t h image marks → top_mark at o ≡ Some (m.If place) → place + 1 < length image
 if_within at place image marks rt (InIf o t) a h d e =
     let p : outer_size o + size t + 2 ≡ place = cc in omega (arith, drafted_length rt at (InIf o t) a h image marks d)

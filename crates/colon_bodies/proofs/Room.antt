@@ -1,4 +1,4 @@
--- Room for the addresses that are laid.
+-- Room for the addresses that are written.
 use Rattle.std.proofs.Common.{◌≡◌, ℕ, ◌+◌, ◌<◌, ◌≤◌, ◌⊎◌, inl, inr, List, ◌∷◌, ◌++◌, length, sym, ap, ◌∙◌, arith}
 use Rattle.colon_bodies.specs.declared.draft.Draft.{Draft}
 use Rattle.colon_bodies.specs.Tokens.{Token, ELSE, REPEAT, LOOP, laid, laid_by}

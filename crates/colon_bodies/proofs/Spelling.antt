@@ -1,4 +1,4 @@
--- Forced names lay the same.
+-- Forced names write the same.
 use Rattle.std.proofs.Common.{◌≡◌, Bool, true, false, ℕ, ◌+◌, List, [], ◌∷◌, ◌++◌, refl, sym, ap, ◌∙◌, arith, append_assoc, append-nil}
 use Rattle.colon_bodies.specs.Tokens.{Token, NAME}
 use Rattle.colon_bodies.specs.Tree.{named, words, all_words, Body, Empty, Call, Tick, Pair, Literal, Double, Text, IfThen, IfElse, Until, Again, While, Loop, Definition, Simple, Doing}

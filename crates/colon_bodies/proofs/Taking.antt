@@ -19,7 +19,7 @@ use Rattle.colon_bodies.proofs.Cells.{length-cell}
 use Rattle.colon_bodies.proofs.Reading.{read_words, begins, begins_any, unfit, too_deep, state_at, completed_open, whole_words, whole_depth}
 use Rattle.colon_bodies.proofs.Laying.{drafted_length}
 
--- the words say how much is laid
+-- the words say how much is written
 pub laid-append : (xs ys : List Token) → laid (xs ++ ys) ≡ laid xs + laid ys
 laid-append [] ys = omega arith
 laid-append (x ∷ xs) ys = ap (λ n. laid_by x + n) (laid-append xs ys) ∙ omega arith

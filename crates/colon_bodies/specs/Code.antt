@@ -24,7 +24,7 @@ abbrev pub all_size : Definition → ℕ
 all_size (Simple t) = size t
 all_size (Doing t a) = size t + (2 + size a)
 
--- the bytes of a body that stands at an address; rt k is the compilation address of control k
+-- the bytes of a body that is at an address; rt k is the compilation address of control k
 abbrev pub code : (ℕ → ℕ) → Body → ℕ → List ℕ
 code rt Empty at = []
 code rt (Call t f w) at = code rt t at ++ cell_bytes w

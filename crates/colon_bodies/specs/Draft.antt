@@ -18,7 +18,7 @@ use Rattle.colon_bodies.specs.Rules.{IsKnown, AreKnown}
 use Rattle.colon_bodies.specs.Faults.{FirstCause, IsGood}
 use Rattle.colon_bodies.specs.Open.{Outer, Top, Past, InIf, InElse, InBegin, InWhile, InDo, State, At, outer_size, open_code, open_words, open_depth, past, whole, read}
 
--- a word without where its text lies in memory
+-- a word without where its text is in memory
 abbrev pub token : BodyWord → Token
 token (w.Name a) = NAME a
 token (w.Number n) = NUMBER n
@@ -159,7 +159,7 @@ pub record Compiled (rt : ℕ → ℕ) (at limit : ℕ) (source : List Token) (i
   pub good : IsGood rt at limit source body used
   pub is : image ≡ thread rt body at
 
--- how far a word lays before it needs the address behind what it has laid
+-- how far a word writes before it needs the address after what it has written
 abbrev pub jump_by : Token → ℕ
 jump_by ELSE = 4
 jump_by REPEAT = 4

@@ -20,7 +20,7 @@ pub record BeginsShallow (front : List Token) : Type 0 where
   pub is : all_words body ++ SEMI ∷ [] ≡ front ++ more
   pub shallow : all_depth body ≤ 64
 
--- Nothing is wrong with these words, which are laid from an address on, and the definition goes on behind them.
+-- Nothing is wrong with these words, which are written from an address on, and the definition goes on after them.
 pub record IsFront (rt : ℕ → ℕ) (at limit : ℕ) (front : List Token) : Type 0 where
   pub open_yet : (t : Definition) → all_words t ++ SEMI ∷ [] ≡ front → ⊥
   pub begins : BeginsShallow front
@@ -28,7 +28,7 @@ pub record IsFront (rt : ℕ → ℕ) (at limit : ℕ) (front : List Token) : Ty
   pub short : AreShort front
   pub room : at + laid front ≤ limit
 
--- a word that can't stand behind what is half read; a second DOES>; a structure too many
+-- a word that can't come after what is half read; a second DOES>; a structure too many
 abbrev pub IsUnsuited : List Token → Token → Type 0
 IsUnsuited before w = suits (half_of Free before) w ≡ false
 
@@ -38,7 +38,7 @@ IsSecond before w = (w ≡ DOES) × (has_does before ≡ true)
 abbrev pub IsTooDeep : List Token → Token → Type 0
 IsTooDeep before w = Begins (before ++ w ∷ []) × (BeginsShallow (before ++ w ∷ []) → ⊥)
 
--- what each cause says of a word and the words before it, where the cell behind the last byte may be limit
+-- what each cause says of a word and the words before it, where the cell after the last byte may be limit
 abbrev pub Applies : (ℕ → ℕ) → ℕ → ℕ → BodyCause → List Token → Token → Type 0
 Applies rt at limit Memory before w = Unit {0}
 Applies rt at limit Misplaced before w = IsUnsuited before w ⊎ IsSecond before w ⊎ IsTooDeep before w
@@ -63,7 +63,7 @@ pub record FirstCause (rt : ℕ → ℕ) (at limit : ℕ) (cause : BodyCause) (b
   pub applies : Applies rt at limit cause before w
   pub first : (d : BodyCause) → 0 < rank d → rank d < rank cause → Applies rt at limit d before w → ⊥
 
--- the first fault of a source: the place of a word, and the cause; want of memory says nothing
+-- the first fault of a source: the place of a word, and the cause; lack of memory says nothing
 abbrev pub IsFault : (ℕ → ℕ) → ℕ → ℕ → List Token → ℕ → BodyCause → Type 0
 IsFault rt at limit source place Memory = Unit {0}
 IsFault rt at limit source place EndsInside =
@@ -72,11 +72,11 @@ IsFault rt at limit source place cause =
     (before : List Token) × (w : Token) × (after : List Token)
     × (source ≡ before ++ w ∷ after) × (place ≡ length before) × IsFront rt at limit before × FirstCause rt at limit cause before w
 
--- no fault is found in it, want of memory aside
+-- no fault is found in it, lack of memory aside
 abbrev pub HasNoFault : (ℕ → ℕ) → (at limit : ℕ) → List Token → Type 0
 HasNoFault rt at limit source = (place : ℕ) (cause : BodyCause) → IsFault rt at limit source place cause → cause ≡ Memory
 
--- these are one and the same fault, want of memory aside
+-- these are one and the same fault, lack of memory aside
 abbrev pub IsSameFault : ℕ → BodyCause → ℕ → BodyCause → Type 0
 IsSameFault p c q d = (c ≡ Memory) ⊎ (d ≡ Memory) ⊎ ((p ≡ q) × (c ≡ d))
 

@@ -12,8 +12,8 @@ pub data Sense : Type 0 where
   Wide : (n : ℕ) → Sense
   Remark : Sense
 
--- a name that can't stand behind what is half read: an immediate one stands behind ['] and [COMPILE] alone, and that of a
--- control which only keywords and numbers lay does so behind COMPILE, too
+-- a name that can't come after what is half read: an immediate one comes after ['] and [COMPILE] alone, and that of a
+-- control which only keywords and numbers write does so after COMPILE, too
 abbrev pub is_barred : Half → (inner immediate : Bool) → Bool
 is_barred Free inner immediate = inner || immediate
 is_barred Compiling inner immediate = immediate
@@ -27,7 +27,7 @@ by_spelling is misplaced unknown (Wide n) = is (DOUBLE n)
 by_spelling is misplaced unknown Remark = misplaced
 by_spelling is misplaced unknown Plain = unknown
 
--- behind ['] and [COMPILE] a word is a name first, elsewhere a keyword
+-- after ['] and [COMPILE] a word is a name first, elsewhere a keyword
 abbrev pub keyword_first : {A : Type 0} → (is : Token → A) → Half → Sense → (name_first : A) → A
 keyword_first is Free (Keyword w) name_first = is w
 keyword_first is Compiling (Keyword w) name_first = is w

@@ -7,7 +7,7 @@ use Rattle.colon_bodies.specs.Tree.{Body, Empty, Call, Tick, Pair, Literal, Doub
 use Rattle.colon_bodies.specs.Code.{size, code}
 use Rattle.memory.specs.Bytes.{cell_bytes}
 
--- Each open structure stands in the ones outside it, with the bodies that were read before.
+-- Each open structure is in the ones outside it, with the bodies that were read before.
 pub data Outer : Type 0 where
   Top : Outer
   Past : Body → Outer
@@ -29,7 +29,7 @@ outer_words (InBegin o t) = outer_words o ++ (words t ++ BEGIN ∷ [])
 outer_words (InWhile o t a) = outer_words o ++ (words t ++ (BEGIN ∷ (words a ++ WHILE ∷ [])))
 outer_words (InDo o t) = outer_words o ++ (words t ++ DO ∷ [])
 
--- words with those of what is half read behind them
+-- words with those of what is half read after them
 abbrev pub half_words : Half → List Token → List Token
 half_words Free ws = ws
 half_words Ticked ws = ws ++ TICK ∷ []
@@ -139,7 +139,7 @@ half_size Both = 2
 abbrev pub open_size : Outer → Body → Half → ℕ
 open_size o t h = outer_size o + size t + half_size h
 
--- the bytes laid for the open structures, with 0 in each cell that waits for its address
+-- the bytes written for the open structures, with 0 in each cell that waits for its address
 abbrev pub outer_code : (ℕ → ℕ) → Outer → ℕ → List ℕ
 outer_code rt Top at = []
 outer_code rt (Past t) at = code rt t at ++ cell_bytes (rt 18)
@@ -156,7 +156,7 @@ outer_code rt (InWhile o t a) at =
 outer_code rt (InDo o t) at =
     outer_code rt o at ++ (code rt t (at + outer_size o) ++ (cell_bytes (rt 9) ++ cell_bytes 0))
 
--- bytes with those of what is half read behind them
+-- bytes with those of what is half read after them
 abbrev pub half_code : (ℕ → ℕ) → Half → List ℕ → List ℕ
 half_code rt Free bs = bs
 half_code rt Ticked bs = bs ++ cell_bytes (rt 6)

@@ -7,11 +7,11 @@ use Rattle.colon_bodies.specs.Tree.{Body, Definition, named, Empty, Call, Litera
 pub record AreApart (rt : ℕ → ℕ) : Type 0 where
   pub apart : (i j : ℕ) → 5 ≤ i → i < 28 → 5 ≤ j → j < 28 → rt i ≢ 0 → rt i ≡ rt j → i ≡ j
 
--- not the cell of a control that lays more than itself
+-- not the cell of a control that writes more than itself
 abbrev pub IsPlainCell : (ℕ → ℕ) → ℕ → Type 0
 IsPlainCell rt w = (k : ℕ) → 6 ≤ k → k < 20 → (k < 12) ⊎ (16 ≤ k) → rt k ≢ 0 → w ≢ rt k
 
--- Numbers are single, there is no ['], no name is forced, and each control that is laid has a cell.
+-- Numbers are single, there is no ['], no name is forced, and each control that is written has a cell.
 abbrev pub IsPlainBody : (ℕ → ℕ) → Body → Type 0
 IsPlainBody rt Empty = Unit {0}
 IsPlainBody rt (Call t f w) = IsPlainBody rt t × (f ≡ false) × IsPlainCell rt w

@@ -1,4 +1,4 @@
--- Which words may stand where.
+-- Which words may be where.
 use Rattle.std.specs.Prelude.{ℕ, Bool, true, false, List, [], ◌∷◌, ◌≢◌, Option, Some, None}
 use Rattle.colon_bodies.specs.Tokens.{Token, control, NAME, TICK, FORCE, COMPILE, DOES}
 use Rattle.colon_bodies.specs.declared.words.Half.{Half}
@@ -28,7 +28,7 @@ abbrev pub half_of : Half → List Token → Half
 half_of h [] = h
 half_of h (w ∷ ws) = half_of (half_after h w) ws
 
--- whether a word may stand behind it
+-- whether a word may come after it
 abbrev pub suits : Half → Token → Bool
 suits Free w = true
 suits h (NAME w) = true

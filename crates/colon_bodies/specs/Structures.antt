@@ -6,7 +6,7 @@ use Rattle.colon_bodies.specs.Tree.{Body, Definition, Empty, Call, Literal, Doub
 use Rattle.colon_bodies.specs.Code.{size}
 use Rattle.colon_bodies.specs.Instructions.{Instr, len, ICall, INum, ICompile, IQuery, IBranch, IDo, ILoop, IText, IDoes}
 
--- one body behind another
+-- one body after another
 abbrev pub join : Body → Body → Body
 join c Empty = c
 join c (Call t f w) = Call (join c t) f w

@@ -1,4 +1,4 @@
--- Words of a body, looked up, and what each lays.
+-- Words of a body, looked up, and what each writes.
 use Rattle.std.specs.Prelude.{ℕ, Bool, true, false, ◌+◌, List, [], ◌∷◌, length, ◌<◌, Option, Some, None}
 
 -- a word of a body, looked up
@@ -32,7 +32,7 @@ abbrev pub loop_control : (plus : Bool) → ℕ
 loop_control false = 10
 loop_control true = 11
 
--- the control primitive that a word lays
+-- the control primitive that a word writes
 abbrev pub control : Token → Option ℕ
 control (NUMBER n) = Some 6
 control (DOUBLE n) = Some 6
@@ -51,7 +51,7 @@ control DOES = Some 18
 control SEMI = Some 5
 control _ = None
 
--- how many bytes each word lays, wherever it stands
+-- how many bytes each word writes, wherever it is
 abbrev pub laid_by : Token → ℕ
 laid_by (NAME w) = 2
 laid_by (NUMBER n) = 4

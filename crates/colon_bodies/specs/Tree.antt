@@ -2,7 +2,7 @@
 use Rattle.std.specs.Prelude.{ℕ, Bool, true, false, ◌+◌, List, [], ◌∷◌, ◌++◌, max}
 use Rattle.colon_bodies.specs.Tokens.{Token, NAME, NUMBER, DOUBLE, TICK, FORCE, COMPILE, IF, ELSE, THEN, BEGIN, UNTIL, AGAIN, WHILE, REPEAT, DO, LOOP, TEXT, DOES}
 
--- A body is empty, or a body and one more thing behind it.
+-- A body is empty, or a body and one more thing after it.
 pub data Body : Type 0 where
   Empty : Body
   Call : Body → (forced : Bool) → (w : ℕ) → Body
@@ -23,7 +23,7 @@ pub data Definition : Type 0 where
   Simple : Body → Definition
   Doing : Body → Body → Definition
 
--- a name, behind [COMPILE] where it is forced
+-- a name, after [COMPILE] where it is forced
 abbrev pub named : (forced : Bool) → (w : ℕ) → List Token
 named false w = NAME w ∷ []
 named true w = FORCE ∷ NAME w ∷ []

@@ -26,7 +26,7 @@ use crate::words::{BodyWord, Half};
 use memory::controls::Control;
 use std::alloc::Global;
 
-/// Lays what one word lays where nothing is half read.
+/// Writes what one word writes where nothing is half read.
 fn step(
     image: &mut Vec<u8>,
     marks: &mut Vec<Mark>,
@@ -70,7 +70,7 @@ fn step(
     }
 }
 
-/// Lays what one word lays behind what is half read.
+/// Writes what one word writes after what is half read.
 fn complete_half(image: &mut Vec<u8>, word: BodyWord) -> Result<(), BodyCause>
     ensures { (rt : ℕ → ℕ) (at : ℕ) (o : Outer) (t : Body) (h : Half) (marks : List Mark) → h ≢ Free →
         suits h (token word.entry) ≡ true → Drafted rt at o t h image.old.items marks →
@@ -82,7 +82,7 @@ fn complete_half(image: &mut Vec<u8>, word: BodyWord) -> Result<(), BodyCause>
     }
 }
 
-/// Lays what one word lays.
+/// Writes what one word writes.
 fn lay(d: &mut Draft, word: BodyWord, at: u16, runtime: &[u16]) -> Result<(), BodyCause>
     requires drafting { Drafting at d.old.image.items d.old.marks.items }
     requires room { at + length d.old.image.items + jump_by (token word) < 2 ^ 16 }

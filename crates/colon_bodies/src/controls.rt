@@ -1,4 +1,4 @@
-//! The controls that words lay.
+//! The controls that words write.
 
 ghost use Rattle.std.specs.Prelude.{◌≡◌, ◌≤◌, length, slice_index};
 ghost use Rattle.memory.specs.Controls.{number_of};

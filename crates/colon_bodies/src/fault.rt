@@ -12,13 +12,13 @@ pub enum BodyCause {
     /// Memory was not found.
     #[error("out of memory")]
     Memory,
-    /// It can't stand there: what is half read doesn't allow it, it is a second DOES>, or it opens a 65th structure.
+    /// It can't come there: what is half read doesn't allow it, it is a second DOES>, or it opens a 65th structure.
     #[error("Misplaced")]
     Misplaced,
     /// It doesn't fit the innermost open structure.
     #[error("Unbalanced")]
     Unbalanced,
-    /// It lays a control primitive that has no name yet.
+    /// It writes a control primitive that has no name yet.
     #[error("Unknown")]
     Unknown,
     /// Its text has more than 255 bytes.

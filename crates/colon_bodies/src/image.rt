@@ -1,4 +1,4 @@
-//! The bytes that are laid, and the marks.
+//! The bytes that are written, and the marks.
 
 ghost use Rattle.std.specs.Prelude.{◌≡◌, ℕ, ◌+◌, ◌<◌, ◌^◌, ◌++◌, length, OnOk, OnErr, IfErr};
 ghost use Rattle.memory.specs.Bytes.{cell_bytes};
@@ -10,7 +10,7 @@ use crate::draft::Mark;
 use crate::fault::BodyCause;
 use memory::cell_bytes;
 
-/// Lays a cell behind the bytes; the only refusal is want of memory.
+/// Writes a cell after the bytes; the only refusal is lack of memory.
 pub fn lay_cell(image: &mut Vec<u8>, x: u16) -> Result<(), BodyCause>
     ensures bytes { OnOk result (image.new.items ≡ image.old.items ++ cell_bytes x) }
     ensures longer { OnOk result (length image.new.items ≡ length image.old.items + 2) }
@@ -30,7 +30,7 @@ pub fn patch(image: &mut Vec<u8>, place: usize, x: u16)
     image[place + 1] = (x / 256) as u8;
 }
 
-/// The address behind the bytes, of which the first stands at `at`.
+/// The address after the bytes, of which the first is at `at`.
 pub fn here(at: u16, image: &Vec<u8>) -> u16
     requires { at + length image.now.items < 2 ^ 16 }
     ensures { result ≡ at + length image.now.items }

@@ -26,13 +26,13 @@ pub fn one_thread()
         IsPlainDefinition rt u → thread rt t at ≡ thread rt u at → t ≡ u }
 {}
 
-/// A source has one first fault at most; want of memory aside.
+/// A source has one first fault at most; lack of memory aside.
 pub fn one_fault()
     ensures { (rt : ℕ → ℕ) (at limit : ℕ) (source : List Token) (p q : ℕ) (c d : BodyCause) →
         IsFault rt at limit source p c → IsFault rt at limit source q d → IsSameFault p c q d }
 {}
 
-/// Forced names lay the same.
+/// Forced names write the same.
 pub fn spelled_thread()
     ensures { (rt : ℕ → ℕ) (f : ℕ → Bool) (d : Definition) (at : ℕ) → thread rt (all_spelled f d) at ≡ thread rt d at }
 {}

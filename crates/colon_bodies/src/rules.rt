@@ -1,4 +1,4 @@
-//! Which words may stand where.
+//! Which words may be where.
 
 ghost use Rattle.std.specs.Prelude.{◌≡◌, ◌≢◌, true, false, ◌↔◌, IsTrue, ◌+◌, ◌<◌, ◌≤◌, length, slice_index};
 ghost use Rattle.std.specs.Option.{option_map};
@@ -23,7 +23,7 @@ pub fn is_free(half: Half) -> bool
     matches!(half, Half::Free)
 }
 
-/// Whether a word may stand behind what is half read.
+/// Whether a word may come after what is half read.
 pub fn is_suited(half: Half, word: BodyWord) -> bool
     ensures { result ≡ suits half (token word.entry) }
 {
@@ -62,7 +62,7 @@ pub fn is_second(word: BodyWord, is_past: bool) -> bool
     is_does(word) && is_past
 }
 
-/// Whether a DOES> was read, behind a word.
+/// Whether a DOES> was read, after a word.
 pub fn past_behind(is_past: bool, word: BodyWord) -> bool
     ensures { result ≡ past_after is_past (token word.entry) }
 {
@@ -100,7 +100,7 @@ fn has_cell(runtime: &[u16], laid: Option<Control>) -> bool
     }
 }
 
-/// The control that a word lays.
+/// The control that a word writes.
 fn control_of(word: BodyWord) -> Option<Control>
     ensures { option_map number_of result ≡ control (token word.entry) }
 {
@@ -118,7 +118,7 @@ fn control_of(word: BodyWord) -> Option<Control>
     }
 }
 
-/// Whether the control that a word lays has a name.
+/// Whether the control that a word writes has a name.
 pub fn is_known(word: BodyWord, runtime: &[u16]) -> bool
     requires controls { 28 ≤ length runtime.now }
     ensures { IsTrue result ↔ IsKnown (slice_index runtime.now) (token word.entry) }

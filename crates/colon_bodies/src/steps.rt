@@ -1,4 +1,4 @@
-//! What each word lays.
+//! What each word writes.
 
 ghost use Rattle.std.specs.Prelude.{◌≡◌, Bool, ℕ, ◌+◌, ◌<◌, ◌^◌, List, length};
 ghost use Rattle.colon_bodies.specs.Tree.{Body};
@@ -13,7 +13,7 @@ use crate::draft::Mark;
 use crate::fault::BodyCause;
 use crate::image::{here, lay_cell, patch, pop_mark};
 
-/// A name lays its compilation address.
+/// A name writes its compilation address.
 pub fn lay_name(image: &mut Vec<u8>, w: u16) -> Result<(), BodyCause>
     ensures { (rt : ℕ → ℕ) (at : ℕ) (o : Outer) (t : Body) (h : Half) (marks : List Mark) →
         Drafted rt at o t h image.old.items marks → After rt at (read o t h (NAME w)) result image.new.items marks }
@@ -21,7 +21,7 @@ pub fn lay_name(image: &mut Vec<u8>, w: u16) -> Result<(), BodyCause>
     lay_cell(image, w)
 }
 
-/// A number lays (LIT) and its value.
+/// A number writes (LIT) and its value.
 pub fn lay_number(image: &mut Vec<u8>, control: u16, n: u16) -> Result<(), BodyCause>
     ensures { (rt : ℕ → ℕ) (at : ℕ) (o : Outer) (t : Body) (marks : List Mark) → rt 6 ≡ control →
         Drafted rt at o t Free image.old.items marks →
@@ -31,7 +31,7 @@ pub fn lay_number(image: &mut Vec<u8>, control: u16, n: u16) -> Result<(), BodyC
     lay_cell(image, n)
 }
 
-/// A double lays (LIT) and its low cell, (LIT) and its high cell.
+/// A double writes (LIT) and its low cell, (LIT) and its high cell.
 pub fn lay_double(image: &mut Vec<u8>, control: u16, n: u32) -> Result<(), BodyCause>
     ensures { (rt : ℕ → ℕ) (at : ℕ) (o : Outer) (t : Body) (marks : List Mark) → rt 6 ≡ control →
         Drafted rt at o t Free image.old.items marks →
@@ -43,7 +43,7 @@ pub fn lay_double(image: &mut Vec<u8>, control: u16, n: u32) -> Result<(), BodyC
     lay_cell(image, (n / 65536) as u16)
 }
 
-/// `[']` lays (LIT).
+/// `[']` writes (LIT).
 pub fn begin_tick(image: &mut Vec<u8>, control: u16) -> Result<(), BodyCause>
     ensures { (rt : ℕ → ℕ) (at : ℕ) (o : Outer) (t : Body) (marks : List Mark) → rt 6 ≡ control →
         Drafted rt at o t Free image.old.items marks → After rt at (read o t Free TICK) result image.new.items marks }
@@ -51,7 +51,7 @@ pub fn begin_tick(image: &mut Vec<u8>, control: u16) -> Result<(), BodyCause>
     lay_cell(image, control)
 }
 
-/// COMPILE lays its own control.
+/// COMPILE writes its own control.
 pub fn begin_pair(image: &mut Vec<u8>, control: u16) -> Result<(), BodyCause>
     ensures { (rt : ℕ → ℕ) (at : ℕ) (o : Outer) (t : Body) (marks : List Mark) → rt 19 ≡ control →
         Drafted rt at o t Free image.old.items marks →
@@ -60,7 +60,7 @@ pub fn begin_pair(image: &mut Vec<u8>, control: u16) -> Result<(), BodyCause>
     lay_cell(image, control)
 }
 
-/// DOES> lays (DOES>), outside structures, once.
+/// DOES> writes (DOES>), outside structures, once.
 pub fn lay_does(
     image: &mut Vec<u8>,
     marks: &Vec<Mark>,
@@ -77,7 +77,7 @@ pub fn lay_does(
     lay_cell(image, control)
 }
 
-/// A text lays its control, its count byte and its bytes.
+/// A text writes its control, its count byte and its bytes.
 pub fn lay_text(image: &mut Vec<u8>, control: u16, text: &[u8]) -> Result<(), BodyCause>
     requires { length text.now < 256 }
     ensures { (rt : ℕ → ℕ) (at : ℕ) (o : Outer) (t : Body) (k : Bool) (marks : List Mark) →
@@ -90,7 +90,7 @@ pub fn lay_text(image: &mut Vec<u8>, control: u16, text: &[u8]) -> Result<(), Bo
     Ok(())
 }
 
-/// IF lays ?BRANCH and a cell that waits.
+/// IF writes ?BRANCH and a cell that waits.
 pub fn open_if(image: &mut Vec<u8>, marks: &mut Vec<Mark>, control: u16) -> Result<(), BodyCause>
     ensures { (rt : ℕ → ℕ) (at : ℕ) (o : Outer) (t : Body) → rt 8 ≡ control →
         Drafted rt at o t Free image.old.items marks.old.items →
@@ -102,7 +102,7 @@ pub fn open_if(image: &mut Vec<u8>, marks: &mut Vec<Mark>, control: u16) -> Resu
     Ok(())
 }
 
-/// DO lays (DO) and a cell that waits.
+/// DO writes (DO) and a cell that waits.
 pub fn open_do(image: &mut Vec<u8>, marks: &mut Vec<Mark>, control: u16) -> Result<(), BodyCause>
     ensures { (rt : ℕ → ℕ) (at : ℕ) (o : Outer) (t : Body) → rt 9 ≡ control →
         Drafted rt at o t Free image.old.items marks.old.items →
@@ -114,7 +114,7 @@ pub fn open_do(image: &mut Vec<u8>, marks: &mut Vec<Mark>, control: u16) -> Resu
     Ok(())
 }
 
-/// BEGIN keeps the address behind.
+/// BEGIN keeps the address after.
 pub fn open_begin(image: &Vec<u8>, marks: &mut Vec<Mark>, at: u16) -> Result<(), BodyCause>
     requires { at + length image.now.items < 2 ^ 16 }
     ensures { (rt : ℕ → ℕ) (o : Outer) (t : Body) → Drafted rt at o t Free image.now.items marks.old.items →
@@ -124,7 +124,7 @@ pub fn open_begin(image: &Vec<u8>, marks: &mut Vec<Mark>, at: u16) -> Result<(),
     Ok(())
 }
 
-/// ELSE lays BRANCH and a cell that waits, and resolves IF's.
+/// ELSE writes BRANCH and a cell that waits, and resolves IF's.
 pub fn switch_else(
     image: &mut Vec<u8>,
     marks: &mut Vec<Mark>,
@@ -169,7 +169,7 @@ pub fn close_then(image: &mut Vec<u8>, marks: &mut Vec<Mark>, at: u16) -> Result
     }
 }
 
-/// UNTIL and AGAIN lay ?BRANCH or BRANCH, and the address of BEGIN.
+/// UNTIL and AGAIN write ?BRANCH or BRANCH, and the address of BEGIN.
 pub fn close_back(image: &mut Vec<u8>, marks: &mut Vec<Mark>, control: u16) -> Result<(), BodyCause>
     ensures until { (rt : ℕ → ℕ) (at : ℕ) (o : Outer) (t : Body) → rt 8 ≡ control →
         Drafted rt at o t Free image.old.items marks.old.items →
@@ -187,7 +187,7 @@ pub fn close_back(image: &mut Vec<u8>, marks: &mut Vec<Mark>, control: u16) -> R
     }
 }
 
-/// WHILE lays ?BRANCH and a cell that waits.
+/// WHILE writes ?BRANCH and a cell that waits.
 pub fn test_while(image: &mut Vec<u8>, marks: &mut Vec<Mark>, control: u16) -> Result<(), BodyCause>
     ensures { (rt : ℕ → ℕ) (at : ℕ) (o : Outer) (t : Body) → rt 8 ≡ control →
         Drafted rt at o t Free image.old.items marks.old.items →
@@ -204,7 +204,7 @@ pub fn test_while(image: &mut Vec<u8>, marks: &mut Vec<Mark>, control: u16) -> R
     }
 }
 
-/// REPEAT lays BRANCH and the address of BEGIN, and resolves WHILE's cell.
+/// REPEAT writes BRANCH and the address of BEGIN, and resolves WHILE's cell.
 pub fn close_repeat(
     image: &mut Vec<u8>,
     marks: &mut Vec<Mark>,
@@ -228,7 +228,7 @@ pub fn close_repeat(
     }
 }
 
-/// The address behind the cell at a place.
+/// The address after the cell at a place.
 fn body_of(at: u16, place: usize, image: &Vec<u8>) -> u16
     requires within { place + 1 < length image.now.items }
     requires room { at + length image.now.items + 1 < 2 ^ 16 }
@@ -237,7 +237,7 @@ fn body_of(at: u16, place: usize, image: &Vec<u8>) -> u16
     at + place as u16 + 2
 }
 
-/// LOOP and +LOOP lay their control and the address of the body, and resolve DO's cell.
+/// LOOP and +LOOP write their control and the address of the body, and resolve DO's cell.
 pub fn close_loop(
     image: &mut Vec<u8>,
     marks: &mut Vec<Mark>,

@@ -9,11 +9,11 @@ pub enum BodyWord<'a> {
     Number(u16),
     /// A double number.
     Double(u32),
-    /// `[']`, which takes the name behind it.
+    /// `[']`, which takes the name after it.
     Tick,
-    /// `[COMPILE]`, which takes the name behind it.
+    /// `[COMPILE]`, which takes the name after it.
     Force,
-    /// COMPILE, which takes the name behind it.
+    /// COMPILE, which takes the name after it.
     Compile,
     /// IF.
     If,
@@ -43,7 +43,7 @@ pub enum BodyWord<'a> {
     Semicolon,
 }
 
-/// What the words before have begun that a name has to complete.
+/// What the words before have started that a name has to complete.
 #[derive(Clone, Copy, Debug, PartialEq, Eq)]
 pub enum Half {
     /// Nothing.

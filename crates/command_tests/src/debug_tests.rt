@@ -20,7 +20,7 @@ const CHOICE_TRACE: &str = "334 DUP | 0 | 0 369
 352 EXIT | 0 -1 | 0 369
 ";
 
-/// `!` stores an address over the token that comes next. EMIT's compilation address is 296; GO's thread stands at 317.
+/// `!` stores an address over the token that comes next. EMIT's compilation address is 296; GO's thread is at 317.
 const STORES: &str = "5 PRIM EXIT 6 PRIM (LIT) 97 PRIM !
 120 PRIM EMIT 23 PRIM BYE
 : GO 33 296 331 ! BYE BYE ; BOOT GO";
@@ -30,14 +30,14 @@ const STORES_NOTHING: &str = "5 PRIM EXIT 6 PRIM (LIT) 97 PRIM !
 120 PRIM EMIT 23 PRIM BYE
 : GO 33 400 331 ! BYE BYE ; BOOT GO";
 
-/// Y's thread, EXIT alone, stands at 285; GO's at 296.
+/// Y's thread, EXIT alone, is at 285; GO's at 296.
 const EMPTY: &str = "5 PRIM EXIT 23 PRIM BYE : Y ; : GO Y BYE ; BOOT GO";
 
-/// GO's thread stands at 307.
+/// GO's thread is at 307.
 const ASKS: &str = "5 PRIM EXIT 118 PRIM KEY 120 PRIM EMIT 23 PRIM BYE
 : GO KEY EMIT BYE ; BOOT GO";
 
-/// GO's thread stands at 321.
+/// GO's thread is at 321.
 const READS: &str = "5 PRIM EXIT 6 PRIM (LIT) 112 PRIM BLOCK 33 PRIM DROP
 23 PRIM BYE : GO 1 BLOCK DROP BYE ; BOOT GO";
 
@@ -186,7 +186,7 @@ fn a_trace_that_is_cut(rt: HostRuntime) -> Result<(), Fail> {
     Ok(())
 }
 
-/// Before the ticks of these lines: where the token stands, how many cells are on the data stack, and the two upper ones.
+/// Before the ticks of these lines: where the token is, how many cells are on the data stack, and the two upper ones.
 const CHOICE_STATES: [(u16, usize, [Option<u16>; 2]); 4] = [
     (334, 1, [Some(0), None]),
     (336, 2, [Some(0), Some(0)]),
@@ -220,7 +220,7 @@ fn cut_behind(alloc: Global, trace: &mut FailingWriter) -> Result<(Stop, Machine
     }
 }
 
-/// The trace is cut behind each number of bytes below its length. The machine is then before the tick of the line that is
+/// The trace is cut after each number of bytes below its length. The machine is then before the tick of the line that is
 /// cut, and these bytes were written.
 #[test]
 fn a_trace_cut_behind_each_byte(rt: HostRuntime) -> Result<(), Fail> {

@@ -43,7 +43,7 @@ fn the_text_is_twenty_screens(rt: HostRuntime) {
     assert_equal(&rt, count, 320);
 }
 
-/// Nothing is printed; blocks 0 and 21 to 63 are blank, and the lines stand at their places.
+/// Nothing is printed; blocks 0 and 21 to 63 are blank, and the lines are at their places.
 #[test]
 fn the_file_has_64_blocks(rt: HostRuntime) {
     let mut writer = Writing::new(Vec::new(rt.alloc()));

@@ -49,7 +49,7 @@ fn without_screens(alloc: Global, image: &Image) -> Result<Memory, Fail> {
     Ok(memory)
 }
 
-/// Puts an item into the last block, or into a new one where it has no room, and answers the place behind it and a blank.
+/// Puts an item into the last block, or into a new one where it has no room, and answers the place after it and a blank.
 fn put(blocks: &mut Vec<[u8; 1024]>, at: usize, item: &[u8]) -> Result<usize, Fail> {
     let mut place = at;
     if place.saturating_add(item.len()) >= 1024 {
@@ -64,7 +64,7 @@ fn put(blocks: &mut Vec<[u8; 1024]>, at: usize, item: &[u8]) -> Result<usize, Fa
     Ok(place.saturating_add(item.len()).saturating_add(1))
 }
 
-/// What stands for a word of the sources: the text of its definition for a name behind `:`, nothing for `:` and what is in a
+/// What stands for a word of the sources: the text of its definition for a name after `:`, nothing for `:` and what is in a
 /// body, and else the word.
 fn replaced(alloc: Global, memory: &Memory, mode: Mode, name: &[u8]) -> Result<Vec<u8>, Fail> {
     match mode {
@@ -103,7 +103,7 @@ fn rewritten(alloc: Global, sources: &[u8], memory: &Memory) -> Result<Vec<[u8; 
     Ok(blocks)
 }
 
-/// The image is the same, but for the numbers of screens in headers.
+/// The image is the same, except the numbers of screens in headers.
 #[test]
 fn the_kernel_from_its_definitions(rt: HostRuntime) -> Result<(), Fail> {
     let alloc = rt.alloc();

@@ -49,7 +49,7 @@ fn shown(alloc: Global, file: &[u8], name: &str) -> (Vec<u8>, u8) {
     (writer.into_inner(), ended.status)
 }
 
-/// Z's thread stands at 334: DUP, ?BRANCH 348, (LIT) 1, BRANCH 352, (LIT) -1, EXIT.
+/// Z's thread is at 334: DUP, ?BRANCH 348, (LIT) 1, BRANCH 352, (LIT) -1, EXIT.
 pub const CHOICE: &str = "5 PRIM EXIT 6 PRIM (LIT) 7 PRIM BRANCH 8 PRIM ?BRANCH
 23 PRIM BYE 32 PRIM DUP
 : Z DUP IF 1 ELSE -1 THEN ; : GO 0 Z BYE ; BOOT GO";
@@ -99,7 +99,7 @@ fn cells_that_are_changed(rt: HostRuntime) -> Result<(), Fail> {
     Ok(())
 }
 
-/// GO's thread is the last: it stands from 363 to DP.
+/// GO's thread is the last: it is from 363 to DP.
 #[test]
 fn a_thread_that_ends_at_here(rt: HostRuntime) -> Result<(), Fail> {
     for (here, line, status) in [
@@ -117,7 +117,7 @@ fn a_thread_that_ends_at_here(rt: HostRuntime) -> Result<(), Fail> {
     Ok(())
 }
 
-/// What stands in a text at 289 is Hi, and then H and a quote.
+/// What is in a text at 289 is Hi, and then H and a quote.
 #[test]
 fn a_text_with_a_quote(rt: HostRuntime) -> Result<(), Fail> {
     let source = r#"5 PRIM EXIT 16 PRIM (.") : Q ." Hi" ; BOOT Q"#;

@@ -95,7 +95,7 @@ pub fn show_place<'a>(alloc: Global) -> Arg<'a>
     flag(
         alloc,
         "where",
-        "Show where a source is refused, as at a terminal",
+        "Show the place where a source is refused, as at a terminal",
     )
 }
 
@@ -104,7 +104,13 @@ pub fn format<'a>(alloc: Global) -> Arg<'a>
     ensures rule { rule_of result ≡ line.format }
     ensures local { result.global ≡ false }
 {
-    option(alloc, "format", "NAME", "How screens lie in the container").default_value("blocks")
+    option(
+        alloc,
+        "format",
+        "NAME",
+        "How screens are arranged in the container",
+    )
+    .default_value("blocks")
 }
 
 /// The bytes before a container's first sector.
@@ -112,7 +118,7 @@ pub fn offset<'a>(alloc: Global) -> Arg<'a>
     ensures rule { rule_of result ≡ line.offset }
     ensures local { result.global ≡ false }
 {
-    let help = "Bytes before the first sector (the format's)";
+    let help = "Bytes before the first sector (default: the format's)";
     option(alloc, "offset", "N", help).value_parser(value_parser!(u32))
 }
 
@@ -121,6 +127,6 @@ pub fn sector<'a>(alloc: Global) -> Arg<'a>
     ensures rule { rule_of result ≡ line.sector }
     ensures local { result.global ≡ false }
 {
-    let help = "Bytes of a sector (the format's)";
+    let help = "Bytes in a sector (default: the format's)";
     option(alloc, "sector", "N", help).value_parser(value_parser!(u16))
 }

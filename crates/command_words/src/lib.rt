@@ -22,7 +22,7 @@ use std::{env, io};
 use subcommands::command;
 
 /// The program's version, which `--version` shows.
-const VERSION: &str = "0.1.0";
+const VERSION: &str = "1.0.0";
 
 /// A subcommand with its words.
 #[derive(Drop)]
@@ -103,7 +103,7 @@ pub struct RunWords {
     pub image: String,
     pub blocks: Option<String>,
     pub limit: u64,
-    /// The file that asks for the run to be broken off.
+    /// The file that asks for the run to be interrupted.
     pub break_file: Option<String>,
     /// Whether changed blocks are written where the run ends.
     pub saves: bool,

@@ -9,12 +9,16 @@ ghost use Rattle.command_words.specs.Typed as typed;
 use crate::{BuildWords, ContainerWords, LoadWords, RunWords, ScreenRange, Words};
 use clap::ArgMatches;
 use std::alloc::{AllocError, Global};
+use thiserror::Error;
 
-/// Why what `clap` found makes no words.
-#[derive(Clone, Copy, Debug, PartialEq, Eq)]
+/// Why no words can be made of what `clap` found.
+#[derive(Clone, Copy, Debug, PartialEq, Eq, Error)]
 pub enum Unread {
+    /// There is no memory left.
+    #[error("out of memory")]
     OutOfMemory,
-    /// An argument that `clap` wants isn't there, or is no number.
+    /// An argument that `clap` wants doesn't exist, or isn't a number.
+    #[error("an argument is missing")]
     Missing,
 }
 

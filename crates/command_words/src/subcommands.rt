@@ -16,7 +16,7 @@ fn kernel_command<'a>(alloc: Global) -> Result<Command<'a>, AllocError>
     ensures { IfOk result (line.IsSubcommand line.kernel) }
 {
     Command::new(alloc, "kernel")
-        .about("Write a new file of blocks with the sources of a Forth-83 system")
+        .about("Write a new block file with the source of a Forth-83 system")
         .arg(word(alloc, "BLOCKS", "The new file"))
 }
 
@@ -25,7 +25,7 @@ fn with_screens<'a>(alloc: Global, command: Command<'a>) -> Result<Command<'a>, 
     ensures { IfOk result (line.Adds line.screens_rules command.entry) }
 {
     command
-        .arg(word(alloc, "BLOCKS", "A file of blocks of 1,024 bytes"))?
+        .arg(word(alloc, "BLOCKS", "A block file (blocks of 1,024 bytes)"))?
         .arg(screen(alloc, "FROM", "The first screen, 0 to 65535"))?
         .arg(screen(alloc, "TO", "The last screen, 0 to 65535"))
 }
@@ -33,7 +33,7 @@ fn with_screens<'a>(alloc: Global, command: Command<'a>) -> Result<Command<'a>, 
 fn build_command<'a>(alloc: Global) -> Result<Command<'a>, AllocError>
     ensures { IfOk result (line.IsSubcommand line.build) }
 {
-    let command = Command::new(alloc, "build").about("Build the source in screens to an image");
+    let command = Command::new(alloc, "build").about("Build an image from the source in screens");
     with_screens(alloc, command)?
         .arg(word(alloc, "IMAGE", "The new image file"))?
         .arg(four_buffers(alloc))?
@@ -44,7 +44,7 @@ fn load_command<'a>(alloc: Global) -> Result<Command<'a>, AllocError>
     ensures { IfOk result (line.IsSubcommand line.load) }
 {
     let command = Command::new(alloc, "load")
-        .about("Let an image compile screens, and write the image that results")
+        .about("Let an image compile screens, and write the new image")
         .arg(word(alloc, "IMAGE", "The image file"))?;
     with_screens(alloc, command)?
         .arg(word(alloc, "OUT", "The new image file"))?
@@ -56,10 +56,13 @@ fn upgrade_command<'a>(alloc: Global) -> Result<Command<'a>, AllocError>
     ensures { IfOk result (line.IsSubcommand line.upgrade) }
 {
     Command::new(alloc, "upgrade")
-        .about("Write an image anew for another number of block buffers")
+        .about("Write an image again for another number of block buffers")
         .arg(word(alloc, "IMAGE", "The image file"))?
         .arg(word(alloc, "OUT", "The new image file"))?
-        .arg(buffers(alloc, "Block buffers, 2 to 16 (as many as the image has)"))
+        .arg(buffers(
+            alloc,
+            "Block buffers, 2 to 16 (default: as many as the image has)",
+        ))
 }
 
 fn text_command<'a>(alloc: Global) -> Result<Command<'a>, AllocError>
@@ -75,20 +78,16 @@ fn screens_command<'a>(alloc: Global) -> Result<Command<'a>, AllocError>
     ensures { IfOk result (line.IsSubcommand line.screens) }
 {
     Command::new(alloc, "screens")
-        .about("Write the screens of a text into a file of blocks")
-        .arg(word(alloc, "TEXT", "The text"))?
-        .arg(word(
-            alloc,
-            "BLOCKS",
-            "A file of blocks of 1,024 bytes, or a new one",
-        ))
+        .about("Write the screens of a text file into a block file")
+        .arg(word(alloc, "TEXT", "The text file"))?
+        .arg(word(alloc, "BLOCKS", "A block file, or a new one"))
 }
 
 fn new_command<'a>(alloc: Global) -> Result<Command<'a>, AllocError>
     ensures { IfOk result (line.IsSubcommand line.new) }
 {
     Command::new(alloc, "new")
-        .about("Write a new file of blank blocks")
+        .about("Write a new block file of blank blocks")
         .arg(word(alloc, "BLOCKS", "The new file"))?
         .arg(count(alloc))
 }
@@ -105,7 +104,7 @@ fn with_layout<'a>(alloc: Global, command: Command<'a>) -> Result<Command<'a>, A
             alloc,
             "skew",
             "N,N,..",
-            "A track's sectors as they are read (the format's)",
+            "The order in which a track's sectors are read (default: the format's)",
         ))
 }
 
@@ -113,13 +112,13 @@ fn import_command<'a>(alloc: Global) -> Result<Command<'a>, AllocError>
     ensures { IfOk result (line.IsSubcommand line.import) }
 {
     let command = Command::new(alloc, "import")
-        .about("Write a new file of blocks with the screens of a container")
-        .arg(word(alloc, "CONTAINER", "A disk or a file of another system"))?
+        .about("Write a new block file with the screens of a container")
+        .arg(word(alloc, "CONTAINER", "A disk image or file of another system"))?
         .arg(word(alloc, "BLOCKS", "The new file"))?
         .arg(flag(
             alloc,
             "clean",
-            "Without high bits, and blanks for tabs, NULs and other bytes that are no text",
+            "Clear high bits, and replace tabs, NULs and other bytes that aren't text by blanks",
         ))?;
     with_layout(alloc, command)
 }
@@ -128,12 +127,12 @@ fn export_command<'a>(alloc: Global) -> Result<Command<'a>, AllocError>
     ensures { IfOk result (line.IsSubcommand line.export) }
 {
     let command = Command::new(alloc, "export")
-        .about("Write the screens of a file of blocks into a container")
-        .arg(word(alloc, "BLOCKS", "A file of blocks of 1,024 bytes"))?
+        .about("Write the screens of a block file into a container")
+        .arg(word(alloc, "BLOCKS", "A block file (blocks of 1,024 bytes)"))?
         .arg(word(
             alloc,
             "CONTAINER",
-            "A disk or a file of another system, or a new one",
+            "A disk image or file of another system, or a new one",
         ))?;
     with_layout(alloc, command)
 }
@@ -142,15 +141,15 @@ fn run_command<'a>(alloc: Global) -> Result<Command<'a>, AllocError>
     ensures { IfOk result (line.IsSubcommand line.run) }
 {
     Command::new(alloc, "run")
-        .about("Run an image over standard input and output")
+        .about("Run an image with standard input and output")
         .arg(word(alloc, "IMAGE", "The image file"))?
-        .arg(may_be(alloc, "BLOCKS", "A file of blocks of 1,024 bytes"))?
+        .arg(may_be(alloc, "BLOCKS", "A block file (blocks of 1,024 bytes)"))?
         .arg(limit(alloc))?
         .arg(option(
             alloc,
             "break",
             "FILE",
-            "Remove FILE as soon as it is there, and go on with the word BREAK",
+            "Remove FILE as soon as it exists, and continue with the word BREAK",
         ))?
         .arg(flag(
             alloc,
@@ -163,11 +162,11 @@ fn debug_command<'a>(alloc: Global) -> Result<Command<'a>, AllocError>
     ensures { IfOk result (line.IsSubcommand line.debug) }
 {
     Command::new(alloc, "debug")
-        .about("Run an image, and write a line before each step of a word")
+        .about("Run an image, and write a line before each step of one word")
         .arg(word(alloc, "IMAGE", "The image file"))?
         .arg(word(alloc, "NAME", "The word"))?
-        .arg(word(alloc, "TRACE", "The new file of the lines"))?
-        .arg(may_be(alloc, "BLOCKS", "A file of blocks of 1,024 bytes"))?
+        .arg(word(alloc, "TRACE", "The new file for these lines"))?
+        .arg(may_be(alloc, "BLOCKS", "A block file (blocks of 1,024 bytes)"))?
         .arg(limit(alloc))
 }
 
@@ -184,7 +183,7 @@ fn view_command<'a>(alloc: Global) -> Result<Command<'a>, AllocError>
     ensures { IfOk result (line.IsSubcommand line.view) }
 {
     Command::new(alloc, "view")
-        .about("Print the number of the screen in which a word was made")
+        .about("Print the number of the screen in which a word was defined")
         .arg(word(alloc, "IMAGE", "The image file"))?
         .arg(word(alloc, "NAME", "The word"))
 }

@@ -1,4 +1,4 @@
--- What compiling words lay: the compilation addresses of control primitives, and what stands behind them.
+-- What compiling words write: the compilation addresses of control primitives, and what comes after them.
 use Rattle.std.specs.Prelude.{ℕ, ◌+◌, ◌*◌, List, ◌∷◌, ◌++◌, length}
 use Rattle.memory.specs.Bytes.{cell, cell_bytes}
 use Rattle.memory.specs.declared.system.TheConstants.{RUNTIME_CELLS}
@@ -9,7 +9,7 @@ use Rattle.compiling_words.specs.declared.text.TextWord.TheVariants.{Show, Abort
 abbrev pub runtime : List ℕ → ℕ → ℕ
 runtime m k = cell m (RUNTIME_CELLS + 2 * k)
 
--- control primitive k, and the cell that it takes from behind it
+-- control primitive k, and the cell that it takes from after it
 abbrev pub control_code : List ℕ → ℕ → ℕ → List ℕ
 control_code m k x = cell_bytes (runtime m k) ++ cell_bytes x
 
@@ -17,7 +17,7 @@ control_code m k x = cell_bytes (runtime m k) ++ cell_bytes x
 abbrev pub literal_code : List ℕ → ℕ → List ℕ
 literal_code m x = control_code m 6 x
 
--- the row of what lays a text: (.") or (ABORT")
+-- the row of what writes a text: (.") or (ABORT")
 abbrev pub text_number : TextWord → ℕ
 text_number Show = 16
 text_number Abort = 17

@@ -18,7 +18,7 @@ abbrev pub begun_writes : Site → ℕ → List ℕ → List Write
 begun_writes site current name =
     header_writes site name (160 + length name) 1 [] ++ (PutCell STATE 65535 ∷ PutCell CONTEXT current ∷ [])
 
--- memory with a definition begun
+-- memory with a definition started
 unfoldable pub begun : List ℕ → List ℕ → List ℕ
 begun m name = written m (begun_writes (site_of m name) (cell m CURRENT) name)
 
@@ -29,7 +29,7 @@ IsBegun limit old new name (Err NameLength) = IsFalse (is_name name) × (new ≡
 IsBegun limit old new name (Err Full) =
     IsTrue (is_name name) × IsFalse (fits limit old (7 + length name)) × (new ≡ old)
 
--- memory with the definition ended: EXIT is laid, the newest header is found from now on, and words are executed. The
+-- memory with the definition ended: EXIT is written, the newest header is found from now on, and words are executed. The
 -- header is the one that LAST named before, and its count byte the one of before
 abbrev pub ended : List ℕ → List ℕ
 ended m =

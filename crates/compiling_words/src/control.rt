@@ -1,4 +1,4 @@
-//! What is laid for control primitives.
+//! What is written for control primitives.
 
 ghost use Rattle.std.specs.Prelude.{◌≡◌, length};
 ghost use Rattle.memory.specs.Controls.{number_of};
@@ -15,7 +15,7 @@ pub fn runtime(memory: &Memory, control: Control) -> u16
     memory.cell(RUNTIME_CELLS + 2 * control as u16)
 }
 
-/// The code of a control primitive that takes a cell from behind it.
+/// The code of a control primitive that takes a cell from after it.
 pub fn control_code(memory: &Memory, control: Control, x: u16) -> [u8; 4]
     ensures value { result ≡ control_code memory.now (number_of control) x }
     ensures len { length (control_code memory.now (number_of control) x) ≡ 4 }

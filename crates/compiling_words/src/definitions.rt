@@ -12,7 +12,7 @@ use memory::{Memory, cell_bytes};
 
 /// Begins a definition (Forth-83 `:`): its hidden header, then STATE is -1 and CONTEXT is CURRENT, as both were before.
 ///
-/// `NameLength` for a name of 0 or over 31 bytes, then `Full` where the header would end behind the limit: nothing is
+/// `NameLength` for a name of 0 or over 31 bytes, then `Full` where the header would end after the limit: nothing is
 /// written.
 #[tactic(auto, unfolding(crate::specs::Definitions::begun, dictionary::specs::Adding::with_header, dictionary::specs::Adding::with_header_at, memory::specs::Bytes::written))]
 pub fn begin_definition(memory: &mut Memory, name: &[u8], limit: u16) -> Result<(), AddFault>
@@ -25,7 +25,7 @@ pub fn begin_definition(memory: &mut Memory, name: &[u8], limit: u16) -> Result<
     Ok(())
 }
 
-/// Ends a definition (Forth-83 `;`): EXIT is laid, then the newest header is no longer hidden, then STATE is 0.
+/// Ends a definition (Forth-83 `;`): EXIT is written, then the newest header is no longer hidden, then STATE is 0.
 ///
 /// LAST and the header's count byte are read before anything is written.
 pub fn end_definition(memory: &mut Memory, limit: u16) -> Result<(), Full>

@@ -11,12 +11,12 @@ use memory::system::DP;
 use memory::{Memory, cell_bytes};
 use thiserror::Error;
 
-/// The dictionary has no room for the bytes: they would end behind the limit, where the block buffers begin.
+/// The dictionary has no room for the bytes: they would end after the limit, where the block buffers begin.
 #[derive(Clone, Copy, Debug, PartialEq, Eq, Error)]
 #[error("Full")]
 pub struct Full;
 
-/// Lays bytes, and answers where they begin: HERE as it was.
+/// Writes bytes, and answers where they begin: HERE as it was.
 pub fn lay(memory: &mut Memory, bytes: &[u8], limit: u16) -> Result<u16, Full>
     ensures laid { IsLaid limit memory.old memory.new bytes.now result }
     ensures place { IfOk result (λ a. a ≡ cell memory.old DP) }
@@ -29,7 +29,7 @@ pub fn lay(memory: &mut Memory, bytes: &[u8], limit: u16) -> Result<u16, Full>
     Ok(here)
 }
 
-/// Lays a cell (Forth-83 `,`).
+/// Writes a cell (Forth-83 `,`).
 pub fn comma(memory: &mut Memory, x: u16, limit: u16) -> Result<(), Full>
     ensures { IsLaid limit memory.old memory.new (cell_bytes x) result }
 {
@@ -37,7 +37,7 @@ pub fn comma(memory: &mut Memory, x: u16, limit: u16) -> Result<(), Full>
     Ok(())
 }
 
-/// Lays a byte (Forth-83 `C,`).
+/// Writes a byte (Forth-83 `C,`).
 pub fn comma_byte(memory: &mut Memory, byte: u8, limit: u16) -> Result<(), Full>
     ensures { IsLaid limit memory.old memory.new (byte ∷ []) result }
 {
@@ -45,7 +45,7 @@ pub fn comma_byte(memory: &mut Memory, byte: u8, limit: u16) -> Result<(), Full>
     Ok(())
 }
 
-/// Lays a literal (Forth-83 LITERAL): `(LIT)` and the cell.
+/// Writes a literal (Forth-83 LITERAL): `(LIT)` and the cell.
 pub fn literal(memory: &mut Memory, x: u16, limit: u16) -> Result<(), Full>
     ensures { IsLaid limit memory.old memory.new (literal_code memory.old x) result }
 {

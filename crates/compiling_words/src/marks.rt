@@ -31,7 +31,7 @@ pub fn mark_back(memory: &Memory) -> u16
     memory.cell(DP)
 }
 
-/// Lays the target `a` of a branch back (Forth-83 `<RESOLVE`).
+/// Writes the target `a` of a branch back (Forth-83 `<RESOLVE`).
 pub fn resolve_back(memory: &mut Memory, a: u16, limit: u16) -> Result<(), Full>
     ensures { IsLaid limit memory.old memory.new (cell_bytes a) result }
 {

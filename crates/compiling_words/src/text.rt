@@ -13,16 +13,16 @@ use memory::Memory;
 use memory::controls::Control;
 use memory::system::DP;
 
-/// The two words that lay a text.
+/// The two words that write a text.
 #[derive(Clone, Copy, Debug, PartialEq, Eq)]
 pub enum TextWord {
-    /// `."`, which lays `(.")`
+    /// `."`, which writes `(.")`
     Show,
-    /// `ABORT"`, which lays `(ABORT")`
+    /// `ABORT"`, which writes `(ABORT")`
     Abort,
 }
 
-/// The control primitive that a word lays before its text.
+/// The control primitive that a word writes before its text.
 pub fn runtime_of(memory: &Memory, word: TextWord) -> u16
     ensures { result ≡ runtime memory.now (text_number word) }
 {
@@ -32,7 +32,7 @@ pub fn runtime_of(memory: &Memory, word: TextWord) -> u16
     }
 }
 
-/// Lays a token, the count of a text of at most 255 bytes, and the text at an address, and sets DP behind them.
+/// Writes a token, the count of a text of at most 255 bytes, and the text at an address, and sets DP after them.
 #[tactic(auto, using(crate::proofs::Texts::texts), unfolding(dictionary::specs::Laying::laid_at))]
 pub fn lay_text(memory: &mut Memory, here: u16, token: u16, text: &[u8])
     requires { length text.now ≤ 255 }
@@ -44,7 +44,7 @@ pub fn lay_text(memory: &mut Memory, here: u16, token: u16, text: &[u8])
     memory.set_cell(DP, here.wrapping_add(3 + text.len() as u16));
 }
 
-/// Lays a text (Forth-83 `."` and `ABORT"`): the control primitive of `word`, a count byte, the text. `Full`, with nothing
+/// Writes a text (Forth-83 `."` and `ABORT"`): the control primitive of `word`, a count byte, the text. `Full`, with nothing
 /// written, also where the text has more than the 255 bytes that a count byte counts.
 #[tactic(auto, using(crate::proofs::Texts::texts))]
 pub fn inline_text(memory: &mut Memory, word: TextWord, text: &[u8], limit: u16) -> Result<(), Full>

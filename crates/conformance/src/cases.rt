@@ -87,7 +87,7 @@ fn state_told(alloc: Global, state: &State<'_>) -> Result<String> {
     }
 }
 
-/// A case that was done: where it stands, what it came to and is to come to, and both states.
+/// A case that was done: where it is, what it came to and is to come to, and both states.
 #[derive(Drop)]
 struct Case<'t> {
     place: String,
@@ -97,11 +97,11 @@ struct Case<'t> {
     want: State<'t>,
     /// The machine of single ticks, which is then wanted in place of the state.
     single: Option<Running>,
-    /// Whether it was told where it differs.
+    /// Whether it was printed where it differs.
     is_told: bool,
 }
 
-/// What came of a text's cases: what is told of them, how many there are, and how many differ.
+/// What came of a text's cases: what is printed of them, how many there are, and how many differ.
 #[derive(Drop)]
 pub struct Told {
     pub report: String,
@@ -109,7 +109,7 @@ pub struct Told {
     pub differing: u64,
 }
 
-/// Does all cases of a text of this name, which stands before all that is told of a case: how it differs from what is wanted, or,
+/// Runs all cases of a text of this name, which is before all that is printed of a case: how it differs from what is wanted, or,
 /// where each is wrong on purpose, that it doesn't.
 pub fn tell_text<'t>(alloc: Global, name: String, is_wrong: bool, text: &'t str) -> Result<Told> {
     let mut reader: Reader<'t> = Reader::new(alloc, name, is_wrong);
@@ -146,7 +146,7 @@ struct Reader<'t> {
     /// What the next case is given.
     given: Vec<&'t str>,
     case: Option<Case<'t>>,
-    /// Whether each case is wrong on purpose, so that one which doesn't differ is told.
+    /// Whether each case is wrong on purpose, so that one which doesn't differ is reported.
     is_wrong: bool,
     count: u64,
     differing: u64,
@@ -170,7 +170,7 @@ impl<'t> Reader<'t> {
         }
     }
 
-    /// Does all cases of the text, up to each empty line and at its end.
+    /// Runs all cases of the text, up to each empty line and at its end.
     fn read(&mut self, text: &'t str) -> Result<()> {
         let mut lines: Vec<Line<'t>> = Vec::new(self.alloc);
         for (place, line) in text.lines().enumerate() {
@@ -360,7 +360,7 @@ impl<'t> Reader<'t> {
         Ok(())
     }
 
-    /// Where a case stands, and which values the names of loops have there.
+    /// Where a case is, and which values the names of loops have there.
     fn place(&self, line: usize) -> Result<String> {
         Ok(format!(in self.alloc; "{}:{line}{}", self.name, self.round)?)
     }
@@ -446,7 +446,7 @@ impl<'t> Reader<'t> {
         Ok(())
     }
 
-    /// Tells where the case differs.
+    /// Says where the case differs.
     fn tell(&mut self) -> Result<()> {
         let Some(case) = &self.case else {
             return Ok(());

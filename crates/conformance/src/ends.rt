@@ -17,7 +17,7 @@ pub struct Ends {
     pub failing: Vec<u16>,
     /// How many bytes the writer takes before it fails.
     pub room: Option<u16>,
-    /// Whether the reader fails behind the bytes that are typed.
+    /// Whether the reader fails after the bytes that are typed.
     pub breaks: bool,
 }
 

@@ -40,7 +40,7 @@ pub fn load(alloc: Global, state: &State<'_>) -> Result<Running> {
     Ok(Running { machine, device })
 }
 
-/// Does what stands before `->`, and says what came of it.
+/// Runs what is before `->`, and says what came of it.
 pub fn act(
     alloc: Global,
     names: &[(&str, u16)],
@@ -107,7 +107,7 @@ fn plain_answer(said: &str) -> Result<Answer<'static>> {
     }
 }
 
-/// At which buffer the page that is asked stands.
+/// At which buffer the page that is asked is.
 fn page(alloc: Global, machine: &Machine) -> Result<String> {
     let Some(page) = machine.asked_page() else {
         return Ok(format!(in alloc; "none")?);
@@ -184,7 +184,7 @@ fn run_plain(alloc: Global, running: &mut Running, typed: &[u8], limit: u64) -> 
     })
 }
 
-/// A run over a reader that fails behind the typed bytes.
+/// A run over a reader that fails after the typed bytes.
 fn run_breaking(alloc: Global, running: &mut Running, typed: Vec<u8>, limit: u64) -> Result<Ran> {
     let count = typed.len();
     let mut reader = Breaking::new(typed);
@@ -252,7 +252,7 @@ fn unread<R: Input>(alloc: Global, reader: &mut R, most: usize) -> Result<Vec<u8
     Ok(bytes)
 }
 
-/// Makes at most `most` ticks in stretches, and as many single ones of another machine: how many, and how each stands then.
+/// Makes at most `most` ticks in stretches, and as many single ones of another machine: how many, and how each is then.
 pub fn stretches(
     alloc: Global,
     stretched: &mut Machine,

@@ -1,5 +1,5 @@
-//! Does what texts of cases say, and tells where the machine comes to something else than they want. `data/words.txt` says how a
-//! case is written. Each word of the command line names such a text; behind `wrong` stand those whose cases are wrong on purpose,
+//! Runs what texts of cases say, and says where the machine comes to something else than they want. `data/words.txt` says how a
+//! case is written. Each word of the command line names such a text; after `wrong` are those whose cases are wrong on purpose,
 //! each of which must differ.
 #![tactic(auto)]
 
@@ -16,7 +16,7 @@ use anyhow::Result;
 use cases::tell_text;
 use std::{env, fs};
 
-/// Does the cases of a text: what is told of each, and a line that counts them.
+/// Runs the cases of a text: what is printed of each, and a line that counts them.
 fn read_file(rt: &HostRuntime, name: String, is_wrong: bool) -> Result<()> {
     let text = fs::read_to_string(rt, name.as_str())?;
     let shown = name.clone()?;

@@ -29,7 +29,7 @@ all_at n k [] e h = absurd (omega arith)
 all_at n zero (x ∷ xs) e h = ltb-true x n (and_parts (nat_lt x n) (list_all (λ y. nat_lt y n) xs) e).0
 all_at n (suc k) (x ∷ xs) e h = all_at n k xs (and_parts (nat_lt x n) (list_all (λ y. nat_lt y n) xs) e).1 (omega arith)
 
--- each place lies on the track
+-- each place is on the track
 pub order_below : (order : List ℕ) (k : ℕ) → is_order order ≡ true → k < length order → get_or order k 0 < length order
 order_below order k e h = all_at (length order) k order (tests_of order e).below h
 
@@ -64,7 +64,7 @@ distinct-at (x ∷ xs) (suc i) (suc j) e h k same =
 pub order_one : (order : List ℕ) (i j : ℕ) → is_order order ≡ true → i < length order → j < length order → get_or order i 0 ≡ get_or order j 0 → i ≡ j
 order_one order i j e h k same = distinct-at order i j (tests_of order e).once h k same
 
--- a sector of so many tracks lies within them
+-- a sector of so many tracks is within them
 pub physical_below : (order : List ℕ) (s t : ℕ) → is_order order ≡ true → s < t * length order → physical order s < length order * t
 unfolding physical
 physical_below order s t e h =

@@ -100,7 +100,7 @@ whole_span l c w =
     let o : l.offset ≤ length c = w.offset in
     omega (arith, span x (pitch l) (length l.order), div-add-mod' x (pitch l * length l.order))
 
--- a sector of a whole container lies in it
+-- a sector of a whole container is in it
 pub sector_inside : (l : Layout) (c : List ℕ) (at : ℕ) → IsLayout l → is_whole l c ≡ true → at < sectors l c → l.offset + (at * pitch l + pitch l) ≤ length c
 sector_inside l c at h e below =
     omega (arith, whole_span l c (whole_of l c e), row_fits at (pitch l) (sectors l c) (pitch l) below (omega arith))
@@ -114,7 +114,7 @@ unfolding sectors
 physical_inside l c s h below =
     omega (arith, physical_below l.order s ((length c - l.offset) / track l) h.order below, mul_comm (length l.order) ((length c - l.offset) / track l))
 
--- each byte of the screens lies in it
+-- each byte of the screens is in it
 pub place_below : (l : Layout) (c : List ℕ) (byte : ℕ) → IsLayout l → is_whole l c ≡ true → byte < capacity l c → place l byte < length c
 unfolding place
 place_below l c byte h e below =

@@ -8,7 +8,7 @@ use Rattle.containers.specs.declared.cause.Cause.TheVariants.{CutBlock, NoRoom}
 use Rattle.containers.specs.Containers.{IsBeside, IsRead, IsWritten, blank_sectors, capacity, unread, unwritten, unwritten_by}
 use Rattle.containers.proofs.Places.{place_one, capacity_same}
 
--- a byte of the first n lies at a place, or none does
+-- a byte of the first n is at a place, or none does
 data Lies (l : Layout) (n at : ℕ) : Type 0 where
   lies : (i : ℕ) → i < n → place l i ≡ at → Lies l n at
   beside : IsBeside l n at → Lies l n at
@@ -65,9 +65,6 @@ pub record HasFirst (l : Layout) (n : ℕ) (screens old new : List ℕ) : Type 0
   pub bytes : (i : ℕ) → i < n → get_or new (place l i) 0 ≡ get_or screens i 0
   pub kept : (at : ℕ) → IsBeside l n at → get_or new at 0 ≡ get_or old at 0
 
-pub none_yet : (l : Layout) (screens old : List ℕ) → HasFirst l 0 screens old old
-none_yet l screens old = record { size = refl; bytes = λ i below. absurd (omega arith); kept = λ at h. refl }
-
 put-at : (l : Layout) (n i : ℕ) (screens old new : List ℕ) → IsLayout l → HasFirst l n screens old new → place l n < length new → i < n + 1 → (i ≡ n) ⊎ (i ≡ n → ⊥) →
     get_or (set new (place l n) (get_or screens n 0)) (place l i) 0 ≡ get_or screens i 0
 put-at l n i screens old new h f fits below (inl same) =
@@ -83,10 +80,6 @@ one_more l n screens old new h f fits =
       bytes = λ i below. put-at l n i screens old new h f fits below (cases_eq i n);
       kept = λ at free. get_or-set_other new (place l n) at (get_or screens n 0) 0 (λ e. free n (omega arith) (sym e)) ∙ f.kept at (λ i below. free i (omega arith));
     }
-
-pub all_written : (l : Layout) (n : ℕ) (screens old new : List ℕ) → HasFirst l n screens old new → n ≡ length screens → IsWritten l screens old new
-all_written l n screens old new f e =
-    record { size = f.size; bytes = λ i below. f.bytes i (omega arith); kept = λ at free. f.kept at (λ i below. free i (omega arith)) }
 
 -- screens that are written into a container
 pub record Writable (l : Layout) (screens c : List ℕ) : Type 0 where

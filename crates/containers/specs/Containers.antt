@@ -17,17 +17,17 @@ screens l container = sectors l container * l.sector / 1024
 unfoldable pub capacity : Layout → (container : List ℕ) → ℕ
 capacity l container = 1024 * screens l container
 
--- whole tracks stand behind the offset, with at least one screen, in equal parts
+-- whole tracks come after the offset, with at least one screen, in equal parts
 unfoldable pub is_whole : Layout → (container : List ℕ) → Bool
 is_whole l container =
     (nat_le l.offset (length container) && ((length container - l.offset) % track l == 0))
     && (nat_lt 0 (screens l container) && (screens l container % l.parts == 0))
 
--- the sector that lies at this place has its ending
+-- the sector that is at this place has its ending
 unfoldable pub is_ended : Layout → (container : List ℕ) → (at : ℕ) → Bool
 is_ended l container at = bytes_eq (take (length l.ending) (drop (l.offset + (at * pitch l + l.sector)) container)) l.ending
 
--- the first of n sectors, from this place on, that hasn't
+-- the first of n sectors, from this place on, that doesn't have
 unfoldable pub first_open : Layout → (container : List ℕ) → (at n : ℕ) → Option ℕ
 first_open l container at zero = None
 first_open l container at (suc n) = if is_ended l container at then first_open l container (at + 1) n else Some at
@@ -48,7 +48,7 @@ pub record IsRead (l : Layout) (container screens : List ℕ) : Type 0 where
   pub size : length screens ≡ capacity l container
   pub bytes : (i : ℕ) → i < capacity l container → slice_index screens i ≡ slice_index container (place l i)
 
--- no byte of so many of the screens lies there
+-- no byte of so many of the screens is there
 abbrev pub IsBeside : Layout → (count : ℕ) → (at : ℕ) → Type 0
 IsBeside l count at = (i : ℕ) → i < count → place l i ≢ at
 

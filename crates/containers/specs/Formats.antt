@@ -18,7 +18,7 @@ name_of LinesLf = codes "lines-lf"
 name_of LinesCr = codes "lines-cr"
 name_of LinesCrlf = codes "lines-crlf"
 
--- sectors one behind the other, with an ending each
+-- sectors one after the other, with an ending each
 abbrev pub plain : (sector : ℕ) → (ending : List ℕ) → Layout
 plain sector ending = record { offset = 0; sector = sector; order = 0 ∷ []; ending = ending; parts = 1 }
 
@@ -30,7 +30,7 @@ every_sixth = 0 ∷ 6 ∷ 12 ∷ 18 ∷ 24 ∷ 4 ∷ 10 ∷ 16 ∷ 22 ∷ 2 ∷ 
 abbrev pub pascal_order : List ℕ
 pascal_order = 0 ∷ 14 ∷ 13 ∷ 12 ∷ 11 ∷ 10 ∷ 9 ∷ 8 ∷ 7 ∷ 6 ∷ 5 ∷ 4 ∷ 3 ∷ 2 ∷ 1 ∷ 15 ∷ []
 
--- F83's file has shadows behind its screens; fig-FORTH's blocks are of 128 bytes, eight a screen; a volume of polyFORTH has
+-- F83's file has shadows after its screens; fig-FORTH's blocks are of 128 bytes, eight a screen; a volume of polyFORTH has
 -- blocks of 1,024 bytes; the first two tracks of a CP/M disk are the system's
 unfoldable pub layout_of : Format → Layout
 layout_of Blocks = plain 1024 []

@@ -4,20 +4,20 @@ use Rattle.std.specs.List.{list_all, list_any}
 use Rattle.containers.specs.declared.cause.Cause.{Cause}
 use Rattle.containers.specs.declared.cause.Cause.TheVariants.{BadSector, BadSkew}
 
--- sectors lie behind the bytes before the first, in tracks of equally many
+-- sectors lie after the bytes before the first, in tracks of equally many
 pub record Layout : Type 0 where
-  -- how many bytes stand before the first sector
+  -- how many bytes are before the first sector
   pub offset : ℕ
   -- how many bytes of screens a sector has
   pub sector : ℕ
-  -- for each sector of a track, in the order in which they are read, the place on the track where it lies, from 0 on
+  -- for each sector of a track, in the order in which they are read, the place on the track where it is, from 0 on
   pub order : List ℕ
-  -- what stands behind the bytes of each sector: the end of a line
+  -- what comes after the bytes of each sector: the end of a line
   pub ending : List ℕ
   -- in how many equal parts the screens come: in two, where the second is the first one's shadows
   pub parts : ℕ
 
--- none stands twice
+-- none occurs twice
 unfoldable pub distinct : List ℕ → Bool
 distinct [] = true
 distinct (x ∷ xs) = not (list_any (λ y. y == x) xs) && distinct xs
@@ -53,10 +53,10 @@ pitch l = l.sector + length l.ending
 unfoldable pub track : Layout → ℕ
 track l = pitch l * length l.order
 
--- where the sector lies that is read as this one, counted through all tracks
+-- where the sector is that is read as this one, counted through all tracks
 unfoldable pub physical : (order : List ℕ) → (sector : ℕ) → ℕ
 physical order sector = sector / length order * length order + slice_index order (sector % length order)
 
--- where this byte of the screens lies in the container
+-- where this byte of the screens is in the container
 unfoldable pub place : Layout → (byte : ℕ) → ℕ
 place l byte = l.offset + (physical l.order (byte / l.sector) * pitch l + byte % l.sector)

@@ -15,7 +15,7 @@ use std::alloc::{AllocError, Global};
 pub enum Format {
     /// Blocks of 1,024 bytes.
     Blocks,
-    /// A file of F83: as many shadows behind its screens.
+    /// A file of F83: as many shadows after its screens.
     F83,
     /// Blocks of 128 bytes, eight a screen, as fig-FORTH has them.
     Fig,
@@ -23,7 +23,7 @@ pub enum Format {
     Poly,
     /// An 8-inch disk in single density, in CP/M's order: 26 sectors of 128 bytes a track, each sixth of them read next.
     Cpm8,
-    /// The same behind the two tracks of its system.
+    /// The same after the two tracks of its system.
     Cpm8Data,
     /// A disk of an Apple II in DOS 3.3's order, with the blocks of Pascal and ProDOS.
     AppleDos,
@@ -57,7 +57,7 @@ const EVERY_SIXTH: [usize; 26] = [
 /// The order of an Apple II's sectors in blocks.
 const PASCAL_ORDER: [usize; 16] = [0, 14, 13, 12, 11, 10, 9, 8, 7, 6, 5, 4, 3, 2, 1, 15];
 
-/// The order of sectors that lie one behind the other.
+/// The order of sectors that lie one after the other.
 const IN_TURN: [usize; 1] = [0];
 
 /// The format of this name.
@@ -81,7 +81,7 @@ pub fn named(name: &str) -> Option<Format>
 }
 
 impl Format {
-    /// How many bytes stand before the first sector.
+    /// How many bytes are before the first sector.
     #[tactic(auto, unfolding(crate::specs::Formats::layout_of))]
     fn offset(self) -> u32
         ensures { result ≡ (layout_of self).offset }
@@ -117,7 +117,7 @@ impl Format {
         }
     }
 
-    /// What stands behind each sector.
+    /// What comes after each sector.
     #[tactic(auto, unfolding(crate::specs::Formats::layout_of))]
     fn ending(self) -> &'static [u8]
         ensures value { result.now ≡ (layout_of self).ending }
@@ -131,7 +131,7 @@ impl Format {
         }
     }
 
-    /// Whether shadows stand behind the screens.
+    /// Whether shadows come after the screens.
     #[tactic(auto, unfolding(crate::specs::Formats::layout_of))]
     fn has_shadows(self) -> bool
         ensures { (layout_of self).parts ≡ (if result then 2 else 1) }

@@ -7,7 +7,7 @@ ghost use Rattle.containers.specs.Layouts.{IsLayout, Layout};
 ghost use Rattle.containers.specs.Containers.{IsBeside, IsRead, IsWritten};
 
 /// What was read of a container gives the container again where it is written into it, or into one of the same length that has
-/// the same bytes wherever none of the screens lies.
+/// the same bytes wherever none of the screens is.
 pub fn returning_law()
     ensures { (l : Layout) (container other screens written : List ℕ) → IsRead l container screens →
         IsWritten l screens other written → length other ≡ length container →
@@ -15,7 +15,7 @@ pub fn returning_law()
         written ≡ container }
 {}
 
-/// What is read of a container that screens were written into are these screens, and behind them what was read of it before.
+/// What is read of a container that screens were written into are these screens, and after them what was read of it before.
 pub fn rereading_law()
     ensures { (l : Layout) (container old screens written again : List ℕ) → IsLayout l → IsRead l container old →
         length screens ≤ length old → IsWritten l screens container written → IsRead l written again →

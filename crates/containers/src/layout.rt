@@ -10,8 +10,8 @@ use std::marker::Model;
 /// How many bytes a screen has.
 pub const SCREEN: usize = 1024;
 
-/// How screens lie in a container: behind so many bytes stand tracks of equally many sectors, whose order, as they are read,
-/// may be another than that in which they lie. Behind the bytes of each sector may be an ending.
+/// How screens lie in a container: after so many bytes are tracks of equally many sectors, whose order, as they are read,
+/// may be another than that in which they lie. After the bytes of each sector may be an ending.
 #[derive(Drop)]
 pub struct Layout {
     offset: u32,
@@ -40,8 +40,8 @@ fn divides_screen(sector: usize) -> bool
 }
 
 impl Layout {
-    /// A layout: how many bytes stand before the first sector, how many each has, for each sector of a track in the order
-    /// in which they are read the place where it lies, what stands behind each, and whether shadows follow, as many as
+    /// A layout: how many bytes are before the first sector, how many each has, for each sector of a track in the order
+    /// in which they are read the place where it is, what comes after each, and whether shadows follow, as many as
     /// screens.
     #[tactic(auto, unfolding(crate::specs::Layouts::misfit))]
     pub fn new(
@@ -71,7 +71,7 @@ impl Layout {
         })
     }
 
-    /// How many bytes stand before the first sector.
+    /// How many bytes are before the first sector.
     pub fn offset(&self) -> usize
         ensures value { result ≡ self.now.offset }
         ensures bound { result < 4294967296 }
@@ -91,7 +91,7 @@ impl Layout {
         self.sector
     }
 
-    /// For each sector of a track, in the order in which they are read, the place where it lies.
+    /// For each sector of a track, in the order in which they are read, the place where it is.
     fn order(&self) -> &[usize]
         ensures value { result.now ≡ self.now.order }
         ensures order { is_order result.now ≡ true }
@@ -109,7 +109,7 @@ impl Layout {
         self.order.len()
     }
 
-    /// What stands behind the bytes of each sector.
+    /// What comes after the bytes of each sector.
     pub fn ending(&self) -> &[u8]
         ensures value { result.now ≡ self.now.ending }
         ensures bound { length result.now ≤ 2 }
@@ -144,7 +144,7 @@ impl Layout {
         self.parts
     }
 
-    /// Where this byte of the screens lies in the container.
+    /// Where this byte of the screens is in the container.
     #[tactic(auto, unfolding(crate::specs::Layouts::place))]
     pub fn place(&self, byte: usize) -> usize
         requires { byte < 67108864 }

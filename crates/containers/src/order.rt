@@ -7,7 +7,7 @@ ghost use Rattle.containers.specs.Layouts.{distinct, is_order, physical};
 /// How many sectors a track has at most.
 pub const MOST_SECTORS: usize = 1024;
 
-/// Whether a number stands behind the first of these numbers, as many as `count`.
+/// Whether a number comes after the first of these numbers, as many as `count`.
 fn stands_behind(numbers: &[usize], count: usize, number: usize) -> bool
     requires { count ≤ length numbers.now }
     ensures { result ≡ list_any (λ y. y == number) (drop count numbers.now) }
@@ -15,7 +15,7 @@ fn stands_behind(numbers: &[usize], count: usize, number: usize) -> bool
     numbers[count..].contains(&number)
 }
 
-/// Whether none of these numbers stands twice.
+/// Whether none of these numbers occurs twice.
 fn is_distinct(numbers: &[usize]) -> bool
     ensures { result ≡ distinct numbers.now }
 {
@@ -46,7 +46,7 @@ pub fn is_order(order: &[usize]) -> bool
     are_places(order) && is_distinct(order)
 }
 
-/// Where the sector lies that is read as this one, counted through all tracks.
+/// Where the sector is that is read as this one, counted through all tracks.
 #[tactic(auto, unfolding(crate::specs::Layouts::physical), using(crate::proofs::Orders::order_some, crate::proofs::Orders::order_below))]
 pub fn physical(order: &[usize], sector: usize) -> usize
     requires order { is_order order.now ≡ true }

@@ -35,7 +35,7 @@ pub fn capacity(layout: &Layout, container: &[u8]) -> usize
     SCREEN * screens(layout, container)
 }
 
-/// Whether whole tracks stand behind the offset, with at least one screen, in equal parts.
+/// Whether whole tracks come after the offset, with at least one screen, in equal parts.
 #[tactic(auto, unfolding(crate::specs::Containers::is_whole))]
 fn is_whole(layout: &Layout, container: &[u8]) -> bool
     ensures { result ≡ is_whole layout.now container.now }
@@ -48,7 +48,7 @@ fn is_whole(layout: &Layout, container: &[u8]) -> bool
     count > 0 && count % layout.parts() == 0
 }
 
-/// Whether the sector that lies at this place has its ending.
+/// Whether the sector that is at this place has its ending.
 #[tactic(auto, unfolding(crate::specs::Containers::is_ended))]
 fn is_ended(layout: &Layout, container: &[u8], at: usize) -> bool
     requires whole { is_whole layout.now container.now ≡ true }
@@ -60,7 +60,7 @@ fn is_ended(layout: &Layout, container: &[u8], at: usize) -> bool
     &container[start..start + ending.len()] == ending
 }
 
-/// The first sector that hasn't its ending.
+/// The first sector that doesn't have its ending.
 fn first_open(layout: &Layout, container: &[u8]) -> Option<usize>
     requires { is_whole layout.now container.now ≡ true }
     ensures { result ≡ first_open layout.now container.now 0 (sectors layout.now container.now) }

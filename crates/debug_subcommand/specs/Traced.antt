@@ -1,12 +1,14 @@
 -- What `debug` prints, and the status with which a traced run ends.
-use Rattle.std.specs.Prelude.{◌≡◌, ℕ, Bool, false, List, Option, Some, Err, IsOk, codes}
+use Rattle.std.specs.Prelude.{◌≡◌, ℕ, Bool, false, List, Option, Some, Ok, Err, IsOk, codes}
 use Rattle.block_buffers.specs.Disks.{Disk}
-use Rattle.debug_tracer.specs.Debugged.{EndsDebugged, debugged}
+use Rattle.debug_tracer.specs.Debugged.{EndsDebugged, debugged, line_from}
 use Rattle.debug_tracer.specs.declared.fault.DebugFault.{DebugFault}
 use Rattle.debug_tracer.specs.declared.fault.DebugFault.TheVariants as debug
 use Rattle.image_loader.specs.Files.{Contents, IsFile}
 use Rattle.inner_interpreter.specs.Moves.{HasRun, Logs}
 use Rattle.inner_interpreter.specs.Runs.{World, stop_by}
+use Rattle.inner_interpreter.specs.Tracing.{HasRunTraced}
+use Rattle.machine.specs.declared.extent.Extent.{Extent}
 use Rattle.machine.specs.State.{State, start}
 use Rattle.inner_interpreter.specs.declared.stop.Stop.{Stop}
 use Rattle.subcommands.specs.Ends.{IsUnrun}
@@ -42,17 +44,19 @@ pub record IsUnmarked {R D T : Type 0} (status : ℕ) (failed : Bool) (reader re
 abbrev pub AreKept : {R D T : Type 0} → (reader reader' : R) → (device device' : D) → (trace trace' : T) → Type 0
 AreKept reader reader' device device' trace trace' = (reader' ≡ reader) × (device' ≡ device) × (trace' ≡ trace)
 
--- an image that was loaded, for a device of so many blocks, was run with a trace
-pub record HasTracedFrom (image : Contents) (blocks : ℕ) (log log' : Logs) (limit : ℕ) (reader writer trace : Bool) (stop : Stop) : Type 0 where
+-- an image that was loaded, for a device of so many blocks, was run, and the trace of the word of this name was sent
+pub record HasTracedFrom (image : Contents) (name : List ℕ) (blocks : ℕ) (log log' : Logs) (limit : ℕ) (reader writer trace : Bool) (stop : Stop) (old new : Option (List ℕ)) : Type 0 where
   pub state : State
   pub run : HasRun (start image blocks) state log log' limit stop
+  pub traced : (thread : Extent) → debugged (memory_of image) name ≡ Ok thread
+      → HasRunTraced thread (line_from (memory_of image)) (start image blocks) state log log' limit stop old new
   pub ended : reader ≡ false → writer ≡ false → trace ≡ false → stop_by state.halt 0 ≡ Some stop
 
 -- the same, with the status of its stop
-pub record HasTracedWith (status : ℕ) (image : Contents) (blocks : ℕ) (log log' : Logs) (limit : ℕ) (reader writer trace : Bool) : Type 0 where
+pub record HasTracedWith (status : ℕ) (image : Contents) (name : List ℕ) (blocks : ℕ) (log log' : Logs) (limit : ℕ) (reader writer trace : Bool) (old new : Option (List ℕ)) : Type 0 where
   pub stop : Stop
   pub status_is : status ≡ status_of stop
-  pub run : HasTracedFrom image blocks log log' limit reader writer trace stop
+  pub run : HasTracedFrom image name blocks log log' limit reader writer trace stop old new
 
 -- the run ends here, with the status of its stop, and the trace of the word of this name was sent
 pub record EndsTracedWith (status : ℕ) (w : World) (name : List ℕ) (unread : Option (List ℕ)) (disk : Option Disk) (sent : Option (List ℕ)) (old new : Option (List ℕ)) : Type 0 where

@@ -76,9 +76,10 @@ fn load_and_debug<R: Input, W: Output, D: Device, T: Output>(
         (T.sent trace.old) (T.sent trace.new))) }
     ensures passed { IfOk result (λ stop. W.failed writer.new ≡ false → T.failed trace.new ≡ false →
         (W.passed writer.new ≡ true) × (R.failed reader.new ≡ false → T.passed trace.new ≡ true)) }
-    ensures moved { IfOk result (λ stop. HasTracedFrom image.now (D.block_count device.old)
+    ensures moved { IfOk result (λ stop. HasTracedFrom image.now name.now (D.block_count device.old)
         (logs (D.calls device.old) (W.sent writer.old) (R.reads reader.old))
-        (logs (D.calls device.new) (W.sent writer.new) (R.reads reader.new)) limit (R.failed reader.new) (W.failed writer.new) (T.failed trace.new) stop) }
+        (logs (D.calls device.new) (W.sent writer.new) (R.reads reader.new)) limit (R.failed reader.new)
+        (W.failed writer.new) (T.failed trace.new) stop (T.sent trace.old) (T.sent trace.new)) }
     ensures reader { OnErr result (reader.new ≡ reader.old) }
     ensures writer { OnErr result (writer.new ≡ writer.old) }
     ensures device { OnErr result (device.new ≡ device.old) }
@@ -131,7 +132,7 @@ pub fn do_debug<R: Input, W: Output, D: Device, T: Output>(
         PrintsNoImage image.now result.status (W.sent writer.old) (W.sent writer.new) }
     ensures unrun { (fault : ImageFault) → IsNoFile image.now fault →
         AreKept reader.old reader.new device.old device.new trace.old trace.new }
-    // Status 1 where a word could be traced is want of memory, which is printed; with status 1 nothing was run.
+    // Status 1 where a word could be traced is lack of memory, which is printed; with status 1 nothing was run.
     ensures wanting { W.failed writer.new ≡ false →
         OfTraced image.now name.now (result.status ≡ 1 →
         PrintsOutOfMemory result.status (W.sent writer.old) (W.sent writer.new)) }
@@ -153,7 +154,7 @@ pub fn do_debug<R: Input, W: Output, D: Device, T: Output>(
         (λ w. EndsCutDebugged w name.now (R.unread reader.new) (D.disk device.new) (W.sent writer.new)
         (T.sent trace.old) (T.sent trace.new) ⊎
         IsUnmarked result.status true reader.old reader.new device.old device.new trace.old trace.new) }
-    // Where the reader fails, some first rounds were made and traced, and then the machine was told so.
+    // Where the reader fails, some first rounds were made and traced, and then the machine learned of it.
     ensures faulted { R.failed reader.old ≡ false → R.failed reader.new ≡ true →
         OfFile image.now (R.unread reader.old) (D.disk device.old) (W.sent writer.old) limit
         (λ w. EndsFaultedDebugged w name.now (R.unread reader.new) (D.disk device.new) (W.sent writer.new)
@@ -164,12 +165,13 @@ pub fn do_debug<R: Input, W: Output, D: Device, T: Output>(
         OfFile image.now (R.unread reader.old) (D.disk device.old) (W.sent writer.old) limit
         (λ w. EndsUntracedDebugged w name.now (R.unread reader.new) (D.disk device.new) (W.sent writer.new)
         (T.sent trace.old) (T.sent trace.new)) }
-    // Whatever the ends are, the machine that was loaded moved by ticks and answers alone; or memory ran out.
+    // Whatever the ends are, the machine that was loaded moved by ticks and answers alone, and the trace got the lines of these
+    // moves; or memory ran out.
     ensures moved { OfImageFile image.now (λ file. IsOk (debugged (memory_of file) name.now) →
-        HasTracedWith result.status file (D.block_count device.old)
+        HasTracedWith result.status file name.now (D.block_count device.old)
         (logs (D.calls device.old) (W.sent writer.old) (R.reads reader.old))
         (logs (D.calls device.new) (W.sent writer.new) (R.reads reader.new)) limit
-        (R.failed reader.new) (W.failed writer.new) (T.failed trace.new) ⊎
+        (R.failed reader.new) (W.failed writer.new) (T.failed trace.new) (T.sent trace.old) (T.sent trace.new) ⊎
         IsUnmarked result.status (W.failed writer.new) reader.old reader.new device.old device.new trace.old
         trace.new) }
     ensures file { IsNone result.file }

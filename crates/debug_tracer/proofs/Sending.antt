@@ -28,14 +28,3 @@ sent_more f i xs x a b c h k l = let next : i + 1 ≡ suc i = omega arith in rw 
 
 pub sent_cut : (f : ℕ → List ℕ) (i : ℕ) (xs : List ℕ) (x : ℕ) (a b c : Option (List ℕ)) → slice_get xs i ≡ Some x → Appends a b (flat_map f (take i xs)) → AppendsPart b c (f x) → AppendsPart a c (flat_map f xs)
 sent_cut f i xs x a b c h k l = rw (rest_at f i xs x h) (part_second a b c (flat_map f (take i xs)) (f x ++ flat_map f (drop (suc i) xs)) k (part_first b c (f x) (flat_map f (drop (suc i) xs)) l))
-
-pub sent_all : (f : ℕ → List ℕ) (i : ℕ) (xs : List ℕ) (a b : Option (List ℕ)) → slice_get xs i ≡ None → Appends a b (flat_map f (take i xs)) → Appends a b (flat_map f xs)
-sent_all f i xs a b h k = subst (λ ys. Appends a b (flat_map f ys)) (past_end i xs h) k
-
-pub sent_none : (f : ℕ → List ℕ) (xs : List ℕ) (a : Option (List ℕ)) → Appends a a (flat_map f (take 0 xs))
-sent_none f xs None = tt
-sent_none f xs (Some os) = sym (append-nil os)
-
-pub on_err_then : {T E : Type 0} (r : Result T E) (P Q : Type 0) → (P → Q) → OnErr r P → OnErr r Q
-on_err_then (Ok x) P Q f h = tt
-on_err_then (Err e) P Q f h = f h

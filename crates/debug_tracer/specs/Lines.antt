@@ -26,14 +26,14 @@ bar = codes " |"
 unfoldable pub line_end : List ℕ
 line_end = 10 ∷ []
 
--- a cell behind a blank, as a signed decimal and as an unsigned one
+-- a cell after a blank, as a signed decimal and as an unsigned one
 abbrev pub signed_text : ℕ → List ℕ
 signed_text x = blank ++ signed_decimal (signed x)
 
 abbrev pub unsigned_text : ℕ → List ℕ
 unsigned_text x = blank ++ decimal x
 
--- where the token stands, and its name as it was at the start
+-- where the token is, and its name as it was at the start
 abbrev pub place_text : List ℕ → List ℕ → Whole → List ℕ
 place_text m headers s = decimal s.ip ++ (blank ++ name_at m headers (cell s.memory s.ip))
 

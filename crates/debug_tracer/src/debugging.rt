@@ -5,7 +5,7 @@ ghost use Rattle.machine.specs.declared.extent.Extent.{Extent};
 ghost use Rattle.inner_interpreter.specs.Moves.{HasRun, logs};
 ghost use Rattle.inner_interpreter.specs.Runs.{World, stop_by};
 ghost use Rattle.inner_interpreter.specs.Served.{HasNotFailed};
-ghost use Rattle.inner_interpreter.specs.Tracing.{EndsTraced, EndsCutTraced, EndsFaultedTraced, EndsUntraced};
+ghost use Rattle.inner_interpreter.specs.Tracing.{EndsTraced, EndsCutTraced, EndsFaultedTraced, EndsUntraced, HasRunTraced};
 ghost use Rattle.inner_interpreter.specs.Worlds.{IsAt};
 ghost use Rattle.debug_tracer.specs.Debugged.{debugged, line_from, IsFault};
 
@@ -17,7 +17,7 @@ use memory::OutOfMemory;
 use std::alloc::Global;
 
 /// Runs the machine as `run` does, and sends a line to `trace` before each tick whose token is taken through `ip` in the
-/// thread of the word that `name` means, as this thread stands at the start: where the token stands, its name then (`?`
+/// thread of the word that `name` means, as this thread is at the start: where the token is, its name then (`?`
 /// where it has none), the data stack and the return stack. A line that can't be sent stops the run before its tick.
 ///
 /// `NotFound` and `ChainTooLong`: the search of the name, then the list of all headers, end so; `NotColon`: the word is no
@@ -42,7 +42,7 @@ pub fn debug<R: Input, W: Output, D: Device, T: Output>(
     ensures device { OnErr result (device.new ≡ device.old) }
     ensures lines { OnErr result (trace.new ≡ trace.old) }
 
-    // Where no end fails, and all but the trace tell their bytes, the run ends as the written rounds do, and the trace is
+    // Where no end fails, and all but the trace report their bytes, the run ends as the written rounds do, and the trace is
     // that of these rounds.
     ensures whole { IfOk result (λ stop. R.failed reader.new ≡ false → W.failed writer.new ≡ false →
         T.failed trace.new ≡ false → (w : World) →
@@ -64,7 +64,7 @@ pub fn debug<R: Input, W: Output, D: Device, T: Output>(
         EndsCutTraced e (line_from machine.old.parts.memory) w machine.new (R.unread reader.new) (D.disk device.new)
         (W.sent writer.new) (T.sent trace.old) (T.sent trace.new)) }
 
-    // Where the reader fails, it stops for the reader: some first rounds were made and traced, and then the machine was told
+    // Where the reader fails, it stops for the reader: some first rounds were made and traced, and then the machine learned
     // so. Of a machine that hadn't halted so before, it stops for the reader only there.
     ensures input { IfOk result (λ stop. R.failed reader.old ≡ false → R.failed reader.new ≡ true →
         stop ≡ Stop.InputFault) }
@@ -98,6 +98,14 @@ pub fn debug<R: Input, W: Output, D: Device, T: Output>(
     ensures moved { IfOk result (λ stop.
         HasRun machine.old machine.new (logs (D.calls device.old) (W.sent writer.old) (R.reads reader.old))
         (logs (D.calls device.new) (W.sent writer.new) (R.reads reader.new)) limit stop) }
+
+    // And the trace got the lines of these moves: one before each tick whose token is in the word's thread; where one couldn't be
+    // sent whole, a front of it.
+    ensures traced { IfOk result (λ stop. (e : Extent) → debugged machine.old.parts.memory name.now ≡ Ok e →
+        HasRunTraced e (line_from machine.old.parts.memory) machine.old machine.new
+        (logs (D.calls device.old) (W.sent writer.old) (R.reads reader.old))
+        (logs (D.calls device.new) (W.sent writer.new) (R.reads reader.new)) limit stop
+        (T.sent trace.old) (T.sent trace.new)) }
 {
     let word = match word_of(alloc, machine.memory(), name) {
         Ok(word) => word,

@@ -50,7 +50,7 @@ fn send_line_end<T: Output>(trace: &mut T) -> Result<(), EndFault>
     send_all(trace, b"\n")
 }
 
-/// Sends a number in decimal, behind a blank.
+/// Sends a number in decimal, after a blank.
 #[tactic(auto, using(inner_interpreter::proofs::Sending::part_second, inner_interpreter::proofs::Sending::part_first, inner_interpreter::proofs::Sending::appends_both))]
 fn send_apart<I: Integer, T: Output>(x: I, trace: &mut T) -> Result<(), EndFault>
     ensures ok { OnOk result (Appends (T.sent trace.old) (T.sent trace.new) (blank ++ I.text x)) }
@@ -63,7 +63,7 @@ fn send_apart<I: Integer, T: Output>(x: I, trace: &mut T) -> Result<(), EndFault
     }
 }
 
-/// Sends the cells of the data stack from the bottom, each behind a blank, as signed decimals.
+/// Sends the cells of the data stack from the bottom, each after a blank, as signed decimals.
 fn send_values<T: Output>(values: &Stack, trace: &mut T) -> Result<(), EndFault>
     ensures ok { OnOk result (Appends (T.sent trace.old) (T.sent trace.new) (values_text values.now)) }
     ensures err { OnErr result (AppendsPart (T.sent trace.old) (T.sent trace.new) (values_text values.now)) }
@@ -81,7 +81,7 @@ fn send_values<T: Output>(values: &Stack, trace: &mut T) -> Result<(), EndFault>
     Ok(())
 }
 
-/// Sends the cells of the return stack from the bottom, each behind a blank, as unsigned decimals.
+/// Sends the cells of the return stack from the bottom, each after a blank, as unsigned decimals.
 fn send_returns<T: Output>(returns: &Stack, trace: &mut T) -> Result<(), EndFault>
     ensures ok { OnOk result (Appends (T.sent trace.old) (T.sent trace.new) (returns_text returns.now)) }
     ensures err { OnErr result (AppendsPart (T.sent trace.old) (T.sent trace.new) (returns_text returns.now)) }
@@ -99,7 +99,7 @@ fn send_returns<T: Output>(returns: &Stack, trace: &mut T) -> Result<(), EndFaul
     Ok(())
 }
 
-/// Sends a header's name as it stands in this memory, `?` where there is no header.
+/// Sends a header's name as it is in this memory, `?` where there is no header.
 #[tactic(auto, using(inner_interpreter::proofs::Sending::part_second, inner_interpreter::proofs::Sending::part_first, inner_interpreter::proofs::Sending::appends_both), unfolding(dictionary::specs::Header::name_of))]
 fn send_name_if<T: Output>(
     memory: &Memory,
@@ -135,7 +135,7 @@ fn send_name<T: Output>(
     send_name_if(memory, header_at(memory, headers, address), trace)
 }
 
-/// Sends where the token that comes next stands, and its name.
+/// Sends where the token that comes next is, and its name.
 #[tactic(auto, using(inner_interpreter::proofs::Sending::part_second, inner_interpreter::proofs::Sending::part_first, inner_interpreter::proofs::Sending::appends_both))]
 fn send_place<T: Output>(
     memory: &Memory,

@@ -47,7 +47,7 @@ fn copied(alloc: Global, memory: &Memory) -> Result<Memory, OutOfMemory>
     Memory::with_front(alloc, memory.as_slice())
 }
 
-/// Where the thread stands of the word whose header is at `l`.
+/// Where the thread is of the word whose header is at `l`.
 #[tactic(auto, unfolding(crate::specs::Debugged::thread_of))]
 fn thread_of(memory: &Memory, listed: &[u16], l: u16) -> Extent
     requires { listed.now ≡ headers memory.now }

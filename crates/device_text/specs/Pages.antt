@@ -14,7 +14,7 @@ unfoldable pub page : Disk → (screen : ℕ) → Result (List ℕ) Unprinted
 page d screen =
     if succeeds d screen then Ok (screen_text screen (block_at d.blocks screen)) else Err (record { screen = screen; line = 0; cause = Device })
 
--- two texts, one behind the other: the first that is refused decides
+-- two texts, one after the other: the first that is refused decides
 abbrev pub joined : Result (List ℕ) Unprinted → Result (List ℕ) Unprinted → Result (List ℕ) Unprinted
 joined (Err why) rest = Err why
 joined (Ok text) (Err why) = Err why

@@ -10,18 +10,22 @@ ghost use Rattle.device_text.specs.Pages.{Asks, IsTextOfRead, IsWhy, page, pages
 use block_buffers::{BLOCK_SIZE, Device};
 use screen_text::screen_text;
 use std::alloc::Global;
+use thiserror::Error;
 
 /// What is wrong with a screen that is to be printed.
-#[derive(Clone, Copy, Debug, PartialEq, Eq, Drop)]
+#[derive(Clone, Copy, Debug, PartialEq, Eq, Drop, Error)]
 pub enum PageCause {
-    /// The screen isn't there, or can't be read.
+    /// The screen doesn't exist, or can't be read.
+    #[error("Device")]
     Device,
-    /// Memory ran out.
+    /// There is no memory left.
+    #[error("out of memory")]
     OutOfMemory,
 }
 
 /// Why screens aren't printed as text.
-#[derive(Clone, Copy, Debug, PartialEq, Eq, Drop)]
+#[derive(Clone, Copy, Debug, PartialEq, Eq, Drop, Error)]
+#[error("screen {screen}, line {line}: {cause}")]
 pub struct Unprinted {
     pub screen: u16,
     /// The line of the screen, counted from 0; 0 where it is the whole screen.
@@ -29,7 +33,7 @@ pub struct Unprinted {
     pub cause: PageCause,
 }
 
-/// Want of memory at a screen.
+/// There is no memory left at a screen.
 fn wanting(screen: u16) -> Unprinted
     ensures { result.cause ≡ PageCause.OutOfMemory }
 {
@@ -93,7 +97,7 @@ pub fn pages_text<D: Device>(
     ensures refused { IfErr result (λ why. (d e : Disk) →
         DidAs d e (D.block_count device.old) (D.calls device.old) (D.calls device.new) →
         IsWhy (pages d from (to + 1 - from)) why) }
-    // A device that tells its disk did as that disk, and its blocks stay as they were.
+    // A device that reports its disk did as that disk, and its blocks stay as they were.
     ensures like { (d : Disk) → D.disk device.old ≡ Some d →
         IsLike d (D.disk device.new) (D.block_count device.old) (D.calls device.old) (D.calls device.new) }
     ensures kept { KeepsBlocks (D.disk device.old) (D.disk device.new) }

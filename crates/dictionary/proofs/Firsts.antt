@@ -46,7 +46,7 @@ same_first p q [] h = refl
 same_first p q (x ∷ xs) h =
     rw (All-head (λ (k : ℕ). p k ≡ q k) x xs h) (rw (same_first p q xs (All-tail (λ (k : ℕ). p k ≡ q k) x xs h)) refl)
 
--- a chain of at most n members isn't cut behind them
+-- a chain of at most n members isn't cut after them
 cut_step : (n l : ℕ) (xs ys : List ℕ) (b : Bool) → (length xs ≤ n → xs ≡ ys) → length (if b then [] else l ∷ xs) ≤ suc n
     → (if b then [] else l ∷ xs) ≡ (if b then [] else l ∷ ys)
 cut_step n l xs ys true r h = refl

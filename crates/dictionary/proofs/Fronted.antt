@@ -1,4 +1,4 @@
--- Searches where a new header stands in front of a chain.
+-- Searches where a new header is in front of a chain.
 use Rattle.std.proofs.Common.{◌≡◌, ◌≢◌, ℕ, suc, ◌+◌, ◌<◌, ◌≤◌, ◌∷◌, List, [], length, refl, arith, Bool, false, sym, ap, subst, ◌∙◌, inl, inr, ◌⊎◌}
 use Rattle.std.specs.Prelude.{◌==◌, find}
 use Rattle.memory.specs.Bytes.{byte, cell}
@@ -10,7 +10,7 @@ use Rattle.dictionary.specs.Search.{head_of, walked, first_in, first_from, sough
 use Rattle.dictionary.proofs.Firsts.{chain_cut}
 use Rattle.dictionary.proofs.Searches.{HeaderSame, AreSame, chain_by, walked_by}
 
--- a header stands from 34 to here, and doesn't meet the head
+-- a header is from 34 to here, and doesn't meet the head
 abbrev pub HeaderApart : ℕ → ℕ → List ℕ → ℕ → Type 0
 HeaderApart here head m l = (34 ≤ l) × (l + (5 + name_length m l) ≤ here) × ((head + 1 < l) ⊎ (l + (5 + name_length m l) ≤ head))
 
@@ -26,7 +26,7 @@ pub record ChainApart (here head : ℕ) (m : List ℕ) (h : ℕ) : Type 0 where
   pub members : HeadersApart here head m (chain m 32769 (cell m h))
   pub short : length (chain m 32769 (cell m h)) ≤ 32767
 
--- a new header stands in front of the chain of a head: else nothing below it that is read by searches has changed
+-- a new header is in front of the chain of a head: else nothing below it that is read by searches has changed
 pub record Fronted (m n : List ℕ) (here head new : ℕ) : Type 0 where
   pub head_is : cell n head ≡ new
   pub link_is : cell n new ≡ cell m head
@@ -74,7 +74,7 @@ longer_not : (m : List ℕ) (k l : ℕ) → length (chain m (suc k) l) ≤ k →
 unfolding is_longer
 longer_not m k l h = grind arith
 
--- behind a new header that fails the test, the search goes on as before
+-- after a new header that fails the test, the search goes on as before
 front_found : (p : ℕ → Bool) (m : List ℕ) (new link : ℕ) → (new == 0) ≡ false → cell m new ≡ link → p new ≡ false
     → length (chain m 32769 link) ≤ 32767 → find p (chain m 32768 new) ≡ find p (chain m 32768 link)
 front_found p m new link z e q h = let c = cuts m link h in rw (chain_more m 32767 new z, e, q, c.1) refl

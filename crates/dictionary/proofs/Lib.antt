@@ -8,6 +8,7 @@ pub mod Marking
 pub mod Firsts
 pub mod Unnamed
 pub mod Ascending
+pub mod CountBits
 pub mod NewCounts
 pub mod Kept
 pub mod Searches

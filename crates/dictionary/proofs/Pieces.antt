@@ -13,7 +13,7 @@ unfolding header_bytes
 length_header v k c x name extra =
     omega (arith, length-append {A = ℕ}, length-cell_bytes v, length-cell_bytes k, length-cell_bytes x)
 
--- one more piece behind what was put
+-- one more piece after what was put
 then_put : (m : List ℕ) (a n : ℕ) (bs cs : List ℕ) (before : List ℕ) → before ≡ put_bytes m a bs → a < 65536 → n ≡ wrap (a + length bs)
     → put_bytes before n cs ≡ put_bytes m a (bs ++ cs)
 then_put m a n bs cs before b h e = rw b (put_bytes_on m a n bs cs h e)
@@ -26,7 +26,7 @@ byte_put : (m : List ℕ) (a b : ℕ) → put_byte m a b ≡ put_bytes m a (b �
 unfolding put_bytes
 byte_put m a b = refl
 
--- the pieces of a header, written one behind the other
+-- the pieces of a header, written one after the other
 pub put_header : (m : List ℕ) (a v k c x a2 a4 a5 a6 a7 : ℕ) (name extra : List ℕ) → a < 65536
     → a2 ≡ wrap (a + 2) → a4 ≡ wrap (a + 4) → a5 ≡ wrap (a + 5) → a6 ≡ wrap (a + (5 + length name)) → a7 ≡ wrap (a6 + 2)
     → put_bytes (put_cell (put_bytes (put_byte (put_cell (put_cell m a v) a2 k) a4 c) a5 name) a6 x) a7 extra

@@ -8,7 +8,7 @@ use Rattle.dictionary.specs.Header.{is_named, is_hidden, count_byte, name_length
 use Rattle.dictionary.specs.Chain.{chain, is_longer}
 use Rattle.dictionary.specs.Search.{head_of, walked, first_in, first_from, sought_from}
 
--- a header, from its link field to behind its code field, is within memory, and the same in m and n
+-- a header, from its link field to after its code field, is within memory, and the same in m and n
 pub record HeaderSame (m n : List ℕ) (l : ℕ) : Type 0 where
   pub ends : l + (5 + name_length m l) ≤ 65536
   pub same : (i : ℕ) → l ≤ i → i < l + (5 + name_length m l) → byte m i ≡ byte n i
@@ -25,23 +25,10 @@ pub record ChainsSame (m n : List ℕ) (voc : ℕ) (nm : List ℕ) : Type 0 wher
   pub forth_head : cell m (head_of 42 nm) ≡ cell n (head_of 42 nm)
   pub forth_members : AreSame m n (chain m 32769 (cell m (head_of 42 nm)))
 
--- all cells at these places stand from lo to hi - 1
+-- all cells at these places are from lo to hi - 1
 abbrev pub AllIn : ℕ → ℕ → List ℕ → Type 0
 AllIn lo hi [] = lo ≡ lo
 AllIn lo hi (l ∷ ls) = (lo ≤ l) × (l + 1 < hi) × AllIn lo hi ls
-
--- one link: the rest by what is known of it
-chain_link : (lo hi : ℕ) (m n : List ℕ) (k l : ℕ) (b : Bool) → (l == 0) ≡ b → Same lo hi m n → hi ≤ 65536 → ((x : ℕ) → AllIn lo hi (chain m k x) → chain m k x ≡ chain n k x) → AllIn lo hi (chain m (suc k) l) → chain m (suc k) l ≡ chain n (suc k) l
-unfolding chain
-chain_link lo hi m n k l true e s t f h = rw e refl
-chain_link lo hi m n k l false e s t f h =
-    let g : AllIn lo hi (l ∷ chain m k (cell m l)) = subst (λ (b : Bool). AllIn lo hi (if b then [] else l ∷ chain m k (cell m l))) e h in
-    rw (e, sym (cell_same lo hi m n l s t g.0 g.1)) (ap (λ (xs : List ℕ). l ∷ xs) (f (cell m l) g.2))
-
-pub chain_same : (lo hi : ℕ) (m n : List ℕ) (k l : ℕ) → Same lo hi m n → hi ≤ 65536 → AllIn lo hi (chain m k l) → chain m k l ≡ chain n k l
-unfolding chain
-chain_same lo hi m n zero l s t h = refl
-chain_same lo hi m n (suc k) l s t h = chain_link lo hi m n k l (l == 0) refl s t (λ (x : ℕ) (g : AllIn lo hi (chain m k x)). chain_same lo hi m n k x s t g) h
 
 -- what a header says
 pub count_by : (m n : List ℕ) (l : ℕ) → HeaderSame m n l → count_byte m l ≡ count_byte n l

@@ -16,7 +16,7 @@ is_name name = nat_le 1 (length name) && nat_le (length name) 31
 abbrev pub new_count : Bool → List ℕ → ℕ
 new_count hidden name = (if hidden then 160 else 128) + length name
 
--- a header: view, link, count byte, name, code field, and what is laid with it
+-- a header: view, link, count byte, name, code field, and what is written with it
 unfoldable pub header_bytes : ℕ → ℕ → ℕ → List ℕ → ℕ → List ℕ → List ℕ
 header_bytes view link count name code extra =
     cell_bytes view ++ (cell_bytes link ++ (count ∷ (name ++ (cell_bytes code ++ extra))))
@@ -31,7 +31,7 @@ site_of m name = record {
   head = head_of (cell m CURRENT) name;
 }
 
--- the writes of a new header at its site: its bytes and DP behind them; then its link field, in the head of its chain
+-- the writes of a new header at its site: its bytes and DP after them; then its link field, in the head of its chain
 -- and in LAST
 abbrev pub header_writes : Site → List ℕ → ℕ → ℕ → List ℕ → List Write
 header_writes site name count code extra =
@@ -51,7 +51,7 @@ with_header_at site m name code extra hidden =
 unfoldable pub with_header : List ℕ → List ℕ → ℕ → List ℕ → Bool → List ℕ
 with_header m name code extra hidden = with_header_at (site_of m name) m name code extra hidden
 
--- how many bytes a header has with what is laid with it
+-- how many bytes a header has with what is written with it
 abbrev pub header_size : List ℕ → List ℕ → ℕ
 header_size name extra = 7 + length name + length extra
 
@@ -70,7 +70,7 @@ IsAdded limit old new name code extra hidden (Err fault) = IsAddable limit old n
 unfoldable pub record_bytes : ℕ → List ℕ
 record_bytes newest = cell_bytes 0 ++ cell_bytes 0 ++ cell_bytes 0 ++ cell_bytes 0 ++ cell_bytes newest
 
--- the writes of a new vocabulary at its site: its header with its record laid with it, and last the record, in VOC-LINK
+-- the writes of a new vocabulary at its site: its header with its record written with it, and last the record, in VOC-LINK
 abbrev pub vocabulary_writes : Site → ℕ → List ℕ → List Write
 vocabulary_writes site newest name =
     header_writes site name (128 + length name) 4 (record_bytes newest)

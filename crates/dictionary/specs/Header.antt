@@ -4,8 +4,8 @@ use Rattle.cells.specs.Cell.{wrap, difference}
 use Rattle.memory.specs.Bytes.{byte, cell, bytes}
 use Rattle.dictionary.specs.declared.fields.Header.{Header}
 
--- A header is known by the address l of its link field. The view cell stands before it; the count byte, the name and
--- the code field stand behind it.
+-- A header is known by the address l of its link field. The view cell is before it; the count byte, the name and
+-- the code field come after it.
 
 -- the block in which the header was made
 unfoldable pub view_of : List ℕ → ℕ → ℕ
@@ -29,7 +29,7 @@ is_immediate m l = bit_and (count_byte m l) 64 == 64
 unfoldable pub name_of : List ℕ → ℕ → List ℕ
 name_of m l = bytes m (wrap (l + 3)) (name_length m l)
 
--- the address of the code field, behind the name
+-- the address of the code field, after the name
 unfoldable pub compilation_address : List ℕ → ℕ → ℕ
 compilation_address m l = wrap (l + (3 + name_length m l))
 

@@ -7,6 +7,6 @@ use Rattle.memory.specs.declared.system.TheConstants.{DP}
 unfoldable pub fits : ℕ → List ℕ → ℕ → Bool
 fits limit m n = nat_le (cell m DP + n) limit
 
--- the bytes at an address, and then DP behind them
+-- the bytes at an address, and then DP after them
 unfoldable pub laid_at : ℕ → List ℕ → List ℕ → List ℕ
 laid_at here m bs = put_cell (put_bytes m here bs) DP (wrap (here + length bs))

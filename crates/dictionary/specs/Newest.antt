@@ -4,7 +4,7 @@ use Rattle.cells.specs.Cell.{wrap}
 use Rattle.memory.specs.Bytes.{byte, cell, put_byte}
 use Rattle.memory.specs.declared.system.TheConstants.{LAST}
 
--- where the count byte of the newest header stands, which LAST names
+-- where the count byte of the newest header is, which LAST names
 unfoldable pub newest_count : List ℕ → ℕ
 newest_count m = wrap (cell m LAST + 2)
 

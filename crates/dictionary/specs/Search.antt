@@ -7,9 +7,9 @@ use Rattle.dictionary.specs.Header.{compilation_address, is_named, is_named_but}
 use Rattle.dictionary.specs.Chain.{chain, is_longer}
 
 -- A vocabulary is known by the address of its record: four chain heads, and the cell that links to the next older
--- record. The first byte of a name, modulo 4, is its class, and says in which of the four chains it stands.
+-- record. The first byte of a name, modulo 4, is its class, and says in which of the four chains it is.
 
--- where the head of the chain of a name's class stands in a vocabulary
+-- where the head of the chain of a name's class is in a vocabulary
 unfoldable pub head_of : ℕ → List ℕ → ℕ
 head_of voc name = wrap (voc + 2 * (slice_index name 0 % 4))
 

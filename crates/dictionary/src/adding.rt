@@ -5,6 +5,7 @@ ghost use Rattle.memory.specs.Bytes.{cell, put_bytes};
 ghost use Rattle.dictionary.specs.Laying.{fits};
 ghost use Rattle.dictionary.specs.Adding.{is_name, new_count, header_bytes, site_of, with_header_at, with_header, header_size, IsAddable, IsAdded, record_bytes, with_vocabulary_at, with_vocabulary, IsVocabularyAdded};
 
+use crate::bits::CountByte;
 use crate::code_fields::VOCABULARY;
 use crate::fault::AddFault;
 use crate::laying::fits;
@@ -22,7 +23,12 @@ fn new_count(hidden: bool, name: &[u8]) -> u8
     ensures value { result ≡ new_count hidden name.now }
 {
     let length = name.len() as u8;
-    if hidden { 160 + length } else { 128 + length }
+    let count = if hidden {
+        CountByte::hidden_of_length(length)
+    } else {
+        CountByte::of_length(length)
+    };
+    count.0
 }
 
 /// Writes a header's bytes from `site.here` on.
@@ -58,7 +64,7 @@ impl Site {
         }
     }
 
-    /// Writes a header here: its bytes with the code field `code` and `extra` behind it, then DP, then the head of its
+    /// Writes a header here: its bytes with the code field `code` and `extra` after it, then DP, then the head of its
     /// chain and LAST. Whether it fits isn't asked.
     #[tactic(auto, using(crate::proofs::Pieces::length_header), unfolding(crate::specs::Adding::with_header_at, memory::specs::Bytes::written))]
     pub fn write(self, memory: &mut Memory, name: &[u8], code: u16, extra: &[u8], hidden: bool)
@@ -107,8 +113,8 @@ pub fn record_bytes(newest: u16) -> [u8; 10]
     ]
 }
 
-/// Whether a header of that name can be added, with `extra` laid with it: `NameLength` for a name of 0 or over 31
-/// bytes, then `Full` where the bytes would end behind `limit`.
+/// Whether a header of that name can be added, with `extra` written with it: `NameLength` for a name of 0 or over 31
+/// bytes, then `Full` where the bytes would end after `limit`.
 #[tactic(auto, unfolding(crate::specs::Adding::is_name))]
 pub fn can_add(memory: &Memory, name: &[u8], extra: &[u8], limit: u16) -> Result<(), AddFault>
     ensures cases { IsAddable limit memory.now name.now extra.now result }
@@ -127,7 +133,7 @@ pub fn can_add(memory: &Memory, name: &[u8], extra: &[u8], limit: u16) -> Result
 }
 
 /// Adds a header to the chain of its name's class in CURRENT (Forth-83 CREATE): its bytes at HERE, with the code field
-/// `code` and `extra` behind it, then DP, then the head of its chain and LAST. A hidden header isn't found until it is
+/// `code` and `extra` after it, then DP, then the head of its chain and LAST. A hidden header isn't found until it is
 /// revealed. The view is BLK.
 ///
 /// Refused as `can_add` says: then nothing is written.
@@ -149,7 +155,7 @@ pub fn add_header(
 }
 
 /// Adds a vocabulary (Forth-83 VOCABULARY): a header in CURRENT, with a record of four empty chains and of the newest
-/// record before it laid with it; last, VOC-LINK names that record.
+/// record before it written with it; last, VOC-LINK names that record.
 ///
 /// Refused as `can_add` says: then nothing is written.
 #[tactic(auto, unfolding(crate::specs::Adding::is_name, crate::specs::Adding::with_vocabulary))]

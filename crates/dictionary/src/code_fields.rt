@@ -1,4 +1,4 @@
-//! What stands in the code field of a word, by the word that makes it.
+//! What is in the code field of a word, by the word that makes it.
 
 /// `:`
 pub const COLON: u16 = 1;

@@ -13,7 +13,7 @@ pub enum AddFault {
     /// The name is empty, or has more than 31 bytes.
     #[error("NameLength")]
     NameLength,
-    /// The header, with what is laid with it, would end behind where the block buffers begin.
+    /// The header, with what is written with it, would end after where the block buffers begin.
     #[error("Full")]
     Full,
 }

@@ -107,7 +107,7 @@ fn cut_vocabulary(memory: &mut Memory, before: &Snapshot, t: u16, place: u16)
     }
 }
 
-/// Forgets what stands at `t` and above, by the memory before: VOC-LINK goes to the newest record below `t`; each head
+/// Forgets what is at `t` and above, by the memory before: VOC-LINK goes to the newest record below `t`; each head
 /// of the records from there on to the first link field of its chain below `t`; DP becomes `t`; CONTEXT and CURRENT
 /// become FORTH where they are `t` or above; LAST becomes 0. They are written in this order.
 #[tactic(auto, using(crate::proofs::Cuts::written_cuts))]
@@ -123,7 +123,7 @@ pub fn cut_by(memory: &mut Memory, before: &Snapshot, t: u16)
     memory.set_cell(LAST, 0);
 }
 
-/// Forgets what stands at `t` and above.
+/// Forgets what is at `t` and above.
 #[tactic(auto, unfolding(crate::specs::Forgetting::forgotten))]
 fn cut_from(memory: &mut Memory, t: u16)
     ensures { memory.new ≡ forgotten memory.old t }
@@ -132,7 +132,7 @@ fn cut_from(memory: &mut Memory, t: u16)
     cut_by(memory, &before, t);
 }
 
-/// Forgets the header that a name means in CURRENT's vocabulary, and all that stands behind it (Forth-83 FORGET).
+/// Forgets the header that a name means in CURRENT's vocabulary, and all that comes after it (Forth-83 FORGET).
 ///
 /// `NameLength`, `NotFound` and `ChainTooLong` as of `forget_target`: nothing is written.
 pub fn forget(memory: &mut Memory, name: &[u8]) -> Result<(), ForgetFault>

@@ -12,8 +12,8 @@ ghost use Rattle.dictionary.specs.Newest.{revealed};
 ghost use Rattle.dictionary.specs.Order.{members, all_members, headers};
 ghost use Rattle.dictionary.specs.Forgetting.{first_below};
 
-/// Where a name stands unhidden in its chain, and the chain has no more than 32,768 members, a search gives the newest
-/// header of that name. Where it doesn't stand there, the search in FORTH decides.
+/// Where a name is unhidden in its chain, and the chain has no more than 32,768 members, a search gives the newest
+/// header of that name. Where it isn't one, the search in FORTH decides.
 pub fn search_law()
     ensures newest { (m name : List ℕ) (voc l : ℕ) → 0 < length name → length (chain_in m voc name) ≤ 32768
         → Contains (chain_in m voc name) l → IsTrue (is_named m name l)
@@ -24,7 +24,7 @@ pub fn search_law()
 {}
 
 /// A search looks at 32,768 members of a chain: where these are the same in two memories and have the same names, it
-/// finds the same, and where both chains end there or both go on, it comes to the same. What stands behind them doesn't
+/// finds the same, and where both chains end there or both go on, it comes to the same. What comes after them doesn't
 /// matter.
 pub fn walk_law()
     ensures found { (m n name : List ℕ) (voc l : ℕ) → searched_in m voc name ≡ searched_in n voc name
@@ -51,7 +51,7 @@ pub fn long_name_law()
         → slice_index name 0 ≡ slice_index other 0 → sought_from m voc name ≡ sought_from m voc other }
 {}
 
-/// The headers are in the order of their addresses, none stands twice, and they are the members of all chains.
+/// The headers are in the order of their addresses, none occurs twice, and they are the members of all chains.
 pub fn headers_law()
     ensures ascending { (m : List ℕ) → IsStrictlyIncreasing (headers m) }
     ensures members { (m : List ℕ) (l : ℕ) → l < 65536

@@ -1,4 +1,4 @@
-//! Bytes laid at HERE.
+//! Bytes written at HERE.
 
 ghost use Rattle.std.specs.Prelude.{◌≡◌, ◌≤◌, length, IsTrue};
 ghost use Rattle.dictionary.specs.Laying.{fits, laid_at};
@@ -19,7 +19,7 @@ pub fn fits(memory: &Memory, n: usize, limit: u16) -> bool
     n <= usize::from(limit - here)
 }
 
-/// Lays bytes at an address, and sets DP behind them.
+/// Writes bytes at an address, and sets DP after them.
 #[tactic(auto, unfolding(crate::specs::Laying::laid_at))]
 pub fn lay_at(memory: &mut Memory, here: u16, bytes: &[u8])
     requires { length bytes.now ≤ 65535 }

@@ -21,6 +21,7 @@ mod reading;
 mod site;
 
 pub use adding::{add_header, add_vocabulary, can_add, record_bytes};
+pub use bits::CountByte;
 pub use extents::{extent_end, header_at};
 pub use fault::{AddFault, ChainTooLong, ForgetFault, HeadersFault};
 pub use fields::Header;

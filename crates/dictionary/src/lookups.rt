@@ -15,7 +15,7 @@ const LIMIT: u16 = 32768;
 /// No header: no chain has a member at 0.
 const NONE: u16 = 0;
 
-/// Where the head of the chain of a name's class stands in a vocabulary.
+/// Where the head of the chain of a name's class is in a vocabulary.
 #[tactic(auto, unfolding(crate::specs::Search::head_of))]
 pub fn head_of(voc: u16, name: &[u8]) -> u16
     requires { 0 < length name.now }

@@ -8,7 +8,7 @@ use bitflags::Flags;
 use memory::Memory;
 use memory::system::LAST;
 
-/// Where the count byte of the newest header stands: the header that LAST names.
+/// Where the count byte of the newest header is: the header that LAST names.
 #[tactic(auto, unfolding(crate::specs::Newest::newest_count))]
 pub fn newest_count(memory: &Memory) -> u16
     ensures { result ≡ newest_count memory.now }

@@ -1,4 +1,4 @@
-//! Headers as they stand in memory.
+//! Headers as they are in memory.
 
 ghost use Rattle.std.specs.Prelude.{◌≡◌, ◌++◌, ◌==◌, bytes_eq, length, false, IsFalse};
 ghost use Rattle.memory.specs.Bytes.{cell};
@@ -14,7 +14,7 @@ use memory::Memory;
 pub fn name_length(memory: &Memory, link_field: u16) -> u8
     ensures { result ≡ name_length memory.now link_field }
 {
-    count_byte(memory, link_field).0 & 31
+    count_byte(memory, link_field).length()
 }
 
 /// Whether no search finds the header at `link_field`.
@@ -33,7 +33,7 @@ pub fn is_immediate(memory: &Memory, link_field: u16) -> bool
     count_byte(memory, link_field).contains(CountByte::IMMEDIATE)
 }
 
-/// The compilation address of the header at `link_field`: where its code field stands.
+/// The compilation address of the header at `link_field`: where its code field is.
 #[tactic(auto, unfolding(crate::specs::Header::compilation_address))]
 pub fn compilation_address(memory: &Memory, link_field: u16) -> u16
     ensures { result ≡ compilation_address memory.now link_field }

@@ -1,4 +1,4 @@
--- What a device over a file, or over none, tells of its blocks.
+-- What a device over a file, or over none, says of its blocks.
 use Rattle.std.specs.Prelude.{[], Option, Some, None}
 use Rattle.std.specs.declared.fs.File.{File}
 use Rattle.block_buffers.specs.Disks.{Disk}

@@ -12,7 +12,7 @@ use std::fs::{File, OpenOptions};
 use std::io;
 use std::io::{Read, Seek, SeekFrom, Write};
 
-/// A device over an open file, which stands in for no standard stream, or over no file: then it has no blocks.
+/// A device over an open file, which takes the place of no standard stream, or over no file: then it has no blocks.
 #[derive(Drop)]
 pub struct FileDevice {
     file: Option<File>,

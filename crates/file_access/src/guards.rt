@@ -1,28 +1,33 @@
-//! Files that are there and are to be used or written over: what they hold, and whether another run has them.
+//! Files that exist and are to be used or written over: what they hold, and whether another run has them.
 
 use crate::opening::open_apart;
 use std::fs::{File, OpenOptions, TryLockError};
 use std::io::{ErrorKind, Read};
 use std::{fs, io};
+use thiserror::Error;
 
-/// What a file that is there holds, as far as it matters before it is written over.
+/// What a file that exists holds, as far as it matters before it is written over.
 #[derive(Clone, Copy, Debug, PartialEq, Eq)]
 pub enum Holding {
     /// It begins as an image's file does.
     Image,
     /// It is no image, isn't empty, and has whole blocks of 1,024 bytes.
     Blocks,
-    /// It isn't there, is no plain file, can't be read, or holds something else.
+    /// It doesn't exist, is no plain file, can't be read, or holds something else.
     Other,
 }
 
-/// Why a file of blocks isn't used.
-#[derive(Clone, Copy, Debug, PartialEq, Eq)]
+/// Why a block file can't be used.
+#[derive(Clone, Copy, Debug, PartialEq, Eq, Error)]
 pub enum Unopened {
     /// The system refuses it.
+    #[error("cannot open")]
     CannotOpen,
     /// Another run has it.
+    #[error("in use")]
     InUse,
+    /// There is no memory left.
+    #[error("out of memory")]
     OutOfMemory,
 }
 
@@ -39,7 +44,7 @@ fn begins_as_image(file: File) -> bool {
     file.read_exact(&mut start).is_ok() && start == MAGIC
 }
 
-/// What is held where the system refuses to tell; want of memory stays the error.
+/// What is held where the system refuses to say; lack of memory stays the error.
 fn untold(error: io::Error) -> io::Result<Holding> {
     if error.kind() == ErrorKind::OutOfMemory {
         return Err(error);
@@ -71,7 +76,7 @@ pub fn look_into(rt: &HostRuntime, name: &str) -> io::Result<Holding> {
     })
 }
 
-/// Whether another run has this file; if not, this one has it for as long as the file is open. What is no plain file, or lies
+/// Whether another run has this file; if not, this one has it for as long as the file is open. What is no plain file, or is
 /// where the system has no locks, is nobody's.
 pub fn is_in_use(file: &File) -> bool {
     match file.metadata() {
@@ -81,7 +86,7 @@ pub fn is_in_use(file: &File) -> bool {
     }
 }
 
-/// The file of this name, held against other runs for as long as it is open; none where it isn't there, or can't be read and
+/// The file of this name, held against other runs for as long as it is open; none where it doesn't exist, or can't be read and
 /// written. `InUse`: another run has it.
 pub fn hold(rt: &HostRuntime, name: &str) -> Result<Option<File>, Unopened> {
     match open_apart(rt, OpenOptions::new().read(true).write(true), name) {

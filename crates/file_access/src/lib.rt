@@ -1,4 +1,4 @@
-//! The files that the program is given: opened so that none stands in for a standard stream, looked into, held against other
+//! The files that the program is given: opened so that none takes the place of a standard stream, looked into, held against other
 //! runs, read and written whole, and used as a device of blocks.
 #![tactic(auto)]
 

@@ -8,7 +8,7 @@ use std::fs::{File, OpenOptions};
 use std::io;
 use std::io::{IsTerminal, Write};
 
-/// A file that is emptied by the first write or flush, and then written from its beginning on. It stands in for no standard
+/// A file that is emptied by the first write or flush, and then written from its beginning on. It is in for no standard
 /// stream.
 #[derive(Drop)]
 pub struct TraceFile {

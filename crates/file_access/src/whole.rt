@@ -8,7 +8,7 @@ use std::fs::{File, OpenOptions};
 use std::io::{ErrorKind, Read, Write};
 use std::{fs, io};
 
-/// Reads a file that stands in for no standard stream. An error: it can't be read, or memory ran out.
+/// Reads a file that takes the place of no standard stream. An error: it can't be read, or memory ran out.
 fn read_whole(alloc: Global, file: File) -> io::Result<Vec<u8>>
     requires apart { IsApart file }
 {
@@ -43,7 +43,7 @@ pub fn read_blocks(rt: &HostRuntime, name: &str) -> io::Result<Vec<u8>> {
     }
 }
 
-/// Writes a new file, which has the permissions of another, if that is there. An error: it can't be written whole.
+/// Writes a new file, which has the permissions of another, if that exists. An error: it can't be written whole.
 fn write_like(rt: &HostRuntime, file: File, bytes: &[u8], other: &str) -> io::Result<()>
     requires apart { IsApart file }
 {
@@ -62,7 +62,7 @@ fn write_and_place(rt: &HostRuntime, name: &str, bytes: &[u8], place: &str) -> i
     fs::rename(rt, name, place)
 }
 
-/// The file that a name means, behind symbolic links; where there is none, the name itself. An error: it can't be found out,
+/// The file that a name means, after symbolic links; where there is none, the name itself. An error: it can't be found out,
 /// or memory ran out.
 fn meant(rt: &HostRuntime, name: &str) -> io::Result<String> {
     match fs::canonicalize(rt, name) {
@@ -91,7 +91,7 @@ fn replace_file(rt: &HostRuntime, name: &str, bytes: &[u8]) -> io::Result<()> {
     done
 }
 
-/// Writes bytes into a file that stands in for no standard stream.
+/// Writes bytes into a file that takes the place of no standard stream.
 fn write_bytes(file: File, bytes: &[u8]) -> io::Result<()>
     requires apart { IsApart file }
 {

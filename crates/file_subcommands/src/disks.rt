@@ -78,7 +78,7 @@ fn layout_of(rt: &HostRuntime, disk: Disk<'_>) -> Result<Layout, u8>
     }
 }
 
-/// Writes the new file of blocks that `import` names; one that is there is left alone. `cleans`: what is read is made text.
+/// Writes the new file of blocks that `import` names; one that exists is left alone. `cleans`: what is read is made text.
 pub fn import_screens(rt: &HostRuntime, disk: Disk<'_>, cleans: bool) -> Result<u8, u8>
     ensures { IfErr result (λ status. 0 < status) }
 {

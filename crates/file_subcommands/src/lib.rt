@@ -1,4 +1,4 @@
-//! The subcommands over the files that the command line names, but for those that run an image or let one compile: each opens its
+//! The subcommands over the files that the command line names, except those that run an image or let one compile: each opens its
 //! files, and writes what is made of them.
 #![tactic(auto)]
 

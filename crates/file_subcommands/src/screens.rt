@@ -54,7 +54,7 @@ pub fn write_screens(rt: &HostRuntime, text: &str, blocks: &str) -> Result<u8, u
     Ok(write_made(rt, status, file, blocks))
 }
 
-/// Writes the new file that `new` names; one that is there is left alone.
+/// Writes the new file that `new` names; one that exists is left alone.
 pub fn write_new(rt: &HostRuntime, blocks: &str, count: u32) -> Result<u8, u8>
     ensures { IfErr result (λ status. 0 < status) }
 {

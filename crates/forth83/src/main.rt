@@ -44,7 +44,7 @@ fn disk_of(words: &ContainerWords) -> Disk<'_>
     }
 }
 
-/// Does what the words of `build` say.
+/// Runs what the words of `build` say.
 fn obey_build(rt: &HostRuntime, words: &BuildWords) -> Result<u8, u8>
     ensures { IfErr result (λ status. 0 < status) }
 {
@@ -86,7 +86,7 @@ fn session_of(words: &RunWords) -> Session<'_>
     }
 }
 
-/// Does what the words say, and answers the status. If a subcommand cannot start, the reason is printed, and the status is the error.
+/// Runs what the words say, and answers the status. If a subcommand cannot start, the reason is printed, and the status is the error.
 fn obey(rt: &HostRuntime, words: Words) -> Result<u8, u8>
     ensures { IfErr result (λ status. 0 < status) }
 {

@@ -1,4 +1,4 @@
--- Bytes of memory, and bytes that are put one behind the other.
+-- Bytes of memory, and bytes that are put one after the other.
 use Rattle.std.proofs.Common.{◌≡◌, sym, subst, ℕ, ◌+◌, ◌-◌, ◌≤◌, List, length, arith, take, drop, replicate, [], ◌++◌, ap, ◌∙◌, append-nil, append_assoc}
 use Rattle.std.proofs.lemmas.List.{drop-replicate, drop-drop}
 use Rattle.std.proofs.lemmas.Grind.{common_steps}
@@ -11,7 +11,7 @@ all_of_memory bs e =
     let none : drop (length bs) (replicate 65536 0) ≡ [] = drop-replicate (length bs) 65536 0 ∙ ap (λ k. replicate k 0) less in
     ap (λ r. bs ++ r) none ∙ append-nil bs
 
--- bytes that were put behind the first ones
+-- bytes that were put after the first ones
 pub put_behind : (xs bs : List ℕ) (at end : ℕ) → end ≡ at + length bs → at + length bs ≤ length xs
     → take end (take at xs ++ (bs ++ drop end xs)) ≡ take at xs ++ bs
 put_behind xs bs at end e fits = grind (arith, common_steps)

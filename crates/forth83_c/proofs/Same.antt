@@ -31,7 +31,7 @@ none_first : (xs : List ℕ) → first_of xs ≡ None → xs ≡ []
 none_first [] e = refl
 none_first (x ∷ xs) e = cc
 
--- the state that a record tells
+-- the state that a record says
 kept_state : Forth83 → State
 kept_state k = record {
   parts = record {

@@ -43,7 +43,7 @@ stop_code stop.Room = 2
 stop_code stop.Typed = 3
 stop_code stop.Block = 4
 
--- by this number of the header no machine is told exactly where the record is none
+-- by this number of the header no machine is reported exactly where the record is none
 abbrev pub TellsMachine : Forth83 → (code : ℕ) → Type 0
 TellsMachine k code = (code ≡ 1 → ¬ IsRecord k) × (code ≢ 1 → IsRecord k)
 
@@ -99,7 +99,7 @@ abbrev pub TellsByCode : (State → Status → Type 0) → Forth83 → (code : �
 TellsByCode Why k code = (status : Status) × (code ≡ code_of status) × Tells Why k status
 
 -- the machine that the record kept was driven to that which it keeps now, by the typed bytes and for at most `limit` ticks;
--- `end` tells how many of them were read, how many bytes shown, how many ticks left, and why it ended there
+-- `end` says how many of them were read, how many bytes shown, how many ticks left, and why it ended there
 pub record HasRun (old new : Forth83) (typed shown : List ℕ) (limit : ℕ) (end : Forth83End) : Type 0 where
   pub before : State
   pub after : State

@@ -34,7 +34,7 @@ AreTooFew (Read u) unread = ⊥
 AreTooFew (Write u) unread = ⊥
 
 -- why the call ended: the machine is halted; else no tick is left; else an act may show more than there is room for; else
--- a key or a line is asked that isn't there; or a block is asked
+-- a key or a line is asked that doesn't exist; or a block is asked
 abbrev pub HasStopped : Stop → State → (unread : List ℕ) → (left room : ℕ) → Type 0
 HasStopped Halted s unread left room = IsSome s.halt
 HasStopped Limit s unread left room = (s.halt ≡ None) × (left ≡ 0)

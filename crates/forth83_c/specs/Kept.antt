@@ -13,11 +13,11 @@ use Rattle.forth83_c.specs.declared.kept.NotResumed.TheVariants.{NoMachine, OutO
 use Rattle.forth83_c.specs.declared.record.Forth83.{Forth83}
 use Rattle.forth83_c.specs.declared.record.Forth83Buffer.{Forth83Buffer}
 
--- a number that is there where its mark is 1
+-- a number that exists where its mark is 1
 abbrev pub marked : (has x : ℕ) → Option ℕ
 marked has x = if has == 1 then Some x else None
 
--- the request that stands, with its token, by what is asked
+-- the request that waits, with its token, by what is asked
 abbrev pub wait_of : (asks asked token : ℕ) → Option (Request × ℕ)
 wait_of asks asked token =
     if asks == 1 then Some (Key, token)
@@ -35,11 +35,11 @@ halt_of halts fault =
     else if halts == 4 then Some (Fault fault)
     else None
 
--- the entry that a buffer's record tells
+-- the entry that a buffer's record says
 abbrev pub entry_of : Forth83Buffer → Entry
 entry_of b = record { slot = b.slot; block = marked b.has_block b.block; updated = b.updated == 1 }
 
--- the entries that the first buffers' records tell, as many as there are buffers
+-- the entries that the first buffers' records say, as many as there are buffers
 abbrev pub entries_of : List Forth83Buffer → (count : ℕ) → List Entry
 entries_of kept count = map entry_of (take count kept)
 

@@ -14,15 +14,19 @@ use memory::{Memory, OutOfMemory};
 use name_index::NameIndex;
 use stacks::Stack;
 use std::alloc::Global;
+use thiserror::Error;
 
 /// The layout of records.
 pub const ABI: u32 = 1;
 
-/// Why no machine is resumed.
-#[derive(Clone, Copy, Debug, PartialEq, Eq)]
+/// Why no machine can be resumed.
+#[derive(Clone, Copy, Debug, PartialEq, Eq, Error)]
 pub enum NotResumed {
     /// The record keeps no machine.
+    #[error("the record keeps no machine")]
     NoMachine,
+    /// There is no memory left.
+    #[error("out of memory")]
     OutOfMemory,
 }
 
@@ -110,7 +114,7 @@ fn have_marks(buffers: &[Forth83Buffer]) -> bool
     buffers.iter().all(|b| b.has_block <= 1 && b.updated <= 1)
 }
 
-/// The entries that the buffers' records tell.
+/// The entries that the buffers' records say.
 fn entries_of(buffers: &[Forth83Buffer]) -> ArrayVec<Entry, 16>
     requires { length buffers.now ≤ 16 }
     ensures { result.items ≡ map entry_of buffers.now }

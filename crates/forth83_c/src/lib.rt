@@ -176,7 +176,7 @@ pub extern "C" fn forth83_find(alloc: Global, machine: &Forth83, name: &[u8], wo
     // What is found has a name of 1 to 31 bytes.
     ensures named { result ≡ 0 → IsTrue (is_name name.now) }
 
-    // It isn't found where the search comes to no header, or gives up at a chain that is too long; nothing is told then.
+    // It isn't found where the search comes to no header, or gives up at a chain that is too long; nothing is shown then.
     ensures no_machine { TellsMachine machine.now result }
     ensures why { TellsByCode (WhyNotFound name.now) machine.now result }
     ensures untold { result ≢ 0 → word.new ≡ word.old }
@@ -184,7 +184,7 @@ pub extern "C" fn forth83_find(alloc: Global, machine: &Forth83, name: &[u8], wo
     finding::find(alloc, machine, name, word).code()
 }
 
-/// Pushes a number on the data stack. `Waiting` where a request stands, since what it needs lies on top.
+/// Pushes a number on the data stack. `Waiting` while a request waits, since what it needs is on top.
 #[unsafe(no_mangle)]
 #[tactic(auto, using(crate::proofs::Codes::code_zero))]
 pub extern "C" fn forth83_push(machine: &mut Forth83, x: u16) -> u32
@@ -198,7 +198,7 @@ pub extern "C" fn forth83_push(machine: &mut Forth83, x: u16) -> u32
     running::push(machine, x).code()
 }
 
-/// Pops the number on top of the data stack into `x`. `Waiting` where a request stands, since what it needs lies on top.
+/// Pops the number on top of the data stack into `x`. `Waiting` while a request waits, since what it needs is on top.
 #[unsafe(no_mangle)]
 #[tactic(auto, using(crate::proofs::Codes::code_zero))]
 pub extern "C" fn forth83_pop(machine: &mut Forth83, x: &mut u16) -> u32

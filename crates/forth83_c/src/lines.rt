@@ -7,7 +7,7 @@ ghost use Rattle.inner_interpreter.specs.Lines.{line_of};
 ghost use Rattle.machine_parts.specs.declared.parts.Request.TheVariants as request;
 ghost use Rattle.forth83_c.specs.Driven.{AreTooFew};
 
-/// A line at the front of the typed bytes: how many bytes it has, whether a return ended it, and where the bytes behind it
+/// A line at the front of the typed bytes: how many bytes it has, whether a return ended it, and where the bytes after it
 /// begin.
 #[derive(Clone, Copy, Debug)]
 pub struct Line {
@@ -23,7 +23,7 @@ fn is_return(byte: u8) -> bool
     byte == 10 || byte == 13
 }
 
-/// The line of at most `n` bytes; none where neither a return ends it nor so many bytes are there.
+/// The line of at most `n` bytes; none where neither a return ends it nor so many bytes exist.
 pub fn whole_line(typed: &[u8], n: u16) -> Option<Line>
     ensures line { IfSome result (λ line. line_of n typed.now ≡
         record { bytes = take line.count typed.now; returned = line.returned; rest = drop line.next typed.now }) }

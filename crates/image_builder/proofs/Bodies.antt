@@ -211,9 +211,6 @@ word_fault {limit} b t ws p w before after at x e h q m (inr z) = body_fault lim
 pub at_title : {limit : ℕ} (b : Build) (t : Items) (p : Place) (name : List ℕ) (here n : ℕ) → Built limit b t → here ≡ length b.image.items + 256 → n ≡ length name → p.name ≡ name → here + 7 + n ≡ body_at t p
 at_title b t p name here n h e l q = let z = built_end b t h in let k = ap length q in omega arith
 
-pub at_is : {limit : ℕ} (b : Build) (t : Items) (p : Place) (here : ℕ) → Built limit b t → here ≡ length b.image.items + 256 → here + 7 + length p.name ≡ body_at t p
-at_is b t p here h e = let z = built_end b t h in omega arith
-
 pub end_fault : (limit : ℕ) (t : Items) (p w : Place) (before : List Token) (after : List Place) (e : Cause) → meaning (rules.half_of Free before) t w ≡ Ok SEMI → (e ≡ c.OutOfMemory) ⊎ ((d : BodyCause) × (e ≡ cause_of d) × body.FirstCause (controls t) (body_at t p) limit d before SEMI) → (e ≡ c.OutOfMemory) ⊎ FirstCause limit t (Inside p before) w after e
 end_fault limit t p w before after e m (inl z) = inl z
 end_fault limit t p w before after e m (inr z) = body_fault limit t p w before after SEMI e z.0 m z.1 z.2

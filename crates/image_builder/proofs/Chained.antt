@@ -320,7 +320,7 @@ image_finds limit few t newer older n h e f =
     every_in P [] x ys g = g.0
     every_in P (y ∷ xs) x ys g = every_in P xs x ys g.1
 
--- what VIEW tells
+-- what VIEW says
 abbrev Views : List ℕ → Option Place → Option Name → Type 0
 Views m None None = Unit {0}
 Views m (Some p) (Some n) = view_of m n.link ≡ p.screen

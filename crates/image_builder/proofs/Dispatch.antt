@@ -24,11 +24,6 @@ pub at_whole : {limit : ℕ} (b new : Build) (w : Place) (r : Result Begun Cause
 at_whole {limit} b new w r f t ws after Whole s h = taken_at limit t ws Whole w after r new (f t ws after h)
 at_whole {limit} b new w r f t ws after _ s h = absurd s
 
-pub at_counted : {limit : ℕ} (b new : Build) (n : ℕ) (a : Site) (w : Place) (r : Result Begun BuildFault) → ((t : Items) (ws after : List Place) → IsState limit b t ws (Counted n) → IsAtSite a ws → TakenAt limit t ws (Counted n) w after r new) → (t : Items) (ws after : List Place) (stage : Stage) → Shows (g.Counted n a) ws stage → IsState limit b t ws stage → TakenAt limit t ws stage w after r new
-at_counted {limit} b new n a w r f t ws after (Counted m) s h =
-    subst (λ x. TakenAt limit t ws (Counted x) w after r new) s.0 (f t ws after (subst (λ x. IsState limit b t ws (Counted x)) (sym s.0) h) s.1)
-at_counted b new n a w r f t ws after _ s h = absurd s
-
 pub at_due : {limit : ℕ} (b new : Build) (l : Lead) (w : Place) (r : Result Begun Cause) → ((t : Items) (ws after : List Place) → IsState limit b t ws (Due l) → Taken limit t ws (Due l) w after r new) → (t : Items) (ws after : List Place) (stage : Stage) → Shows (g.Due l) ws stage → IsState limit b t ws stage → TakenAt limit t ws stage w after (located w.screen w.offset r) new
 at_due {limit} b new l w r f t ws after (Due m) s h =
     taken_at limit t ws (Due m) w after r new (subst (λ x. Taken limit t ws (Due x) w after r new) s (f t ws after (subst (λ x. IsState limit b t ws (Due x)) (sym s) h)))

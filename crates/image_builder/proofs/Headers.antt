@@ -1,9 +1,9 @@
--- Where the headers, heads and records of an image stand, and what its headers say.
+-- Where the headers, heads and records of an image are, and what its headers say.
 use Rattle.std.proofs.Common.{◌≡◌, ℕ, zero, suc, ◌+◌, ◌*◌, ◌/◌, ◌<◌, inl, inr, List, [], ◌∷◌, ◌++◌, length, drop, refl, sym, ap, ◌∙◌, subst, arith, append_assoc, append-nil, length-append}
 use Rattle.std.specs.Prelude.{sum, not, ◌&&◌, Bool, true, false, cond, Some, ◌==◌}
 use Rattle.std.specs.Int.RustNames.{bit_and}
 use Rattle.std.proofs.lemmas.List.Sums.{sum_by-cons}
-use Rattle.std.proofs.lemmas.Bool.{cases_lt, eqb-true}
+use Rattle.std.proofs.lemmas.Bool.{eqb-true}
 use Rattle.cells.specs.Cell.{wrap, difference}
 use Rattle.colon_bodies.proofs.Cells.{length-cell}
 use Rattle.colon_bodies.specs.Code.{thread}
@@ -11,6 +11,7 @@ use Rattle.memory.specs.Bytes.{byte, bytes, cell, cell_bytes, front_put}
 use Rattle.memory.specs.Bytes as memory
 use Rattle.memory.proofs.Same.{Stands}
 use Rattle.dictionary.specs.Header.{view_of, count_byte, name_length, is_hidden, name_of, compilation_address}
+use Rattle.dictionary.proofs.CountBits.{all_below, and_left, and_right, below}
 use Rattle.image_builder.specs.Places.{Place}
 use Rattle.image_builder.specs.Items.{Item, Header, Colon, Cell, Byte, Allot, Immediate, Definitions, Boot, Items, Nothing, Then, item_size, end_of, controls, code_of, head, head_size, count_byte as new_count, field, zeros, link_of, own, passes, bytes as item_bytes, heads_of, system, low, image}
 use Rattle.image_builder.specs.Headers.{Says, memory_of, sizes, title, IsTitled}
@@ -72,7 +73,7 @@ in_memory a b z f bs g r = simp append_assoc
 in_system : (f c g a r : List ℕ) → ((f ++ (c ++ g)) ++ a) ++ r ≡ f ++ ((c ++ []) ++ (g ++ (a ++ r)))
 in_system f c g a r = simp (append_assoc, append-nil)
 
--- bytes of the items stand 256 further in memory
+-- bytes of the items are 256 further in memory
 pub items_stand : (t : Items) (before bs after : List ℕ) (at : ℕ) → item_bytes (heads_of t) t false ≡ before ++ (bs ++ after) → length before + 256 ≡ at → Stands (memory_of t) at bs
 unfolding front_put
 items_stand t before bs after at e p =
@@ -142,33 +143,14 @@ pub pointer_is : (t : Items) → cell (memory_of t) 28 ≡ 256 + sum (sizes t)
 pointer_is t = system_cell t 14 (omega arith) ∙ end_is t
 
 -- the bits of a count byte
-abbrev all_below : (ℕ → Bool) → ℕ → Bool
-all_below f zero = true
-all_below f (suc n) = f n && all_below f n
-
-and_left : (a b : Bool) → (a && b) ≡ true → a ≡ true
-and_left true b e = refl
-and_left false b e = cc
-
-and_right : (a b : Bool) → (a && b) ≡ true → b ≡ true
-and_right true b e = e
-and_right false b e = cc
-
-below : (f : ℕ → Bool) (k n : ℕ) → all_below f k ≡ true → n < k → f n ≡ true
-below f zero n h l = absurd (omega arith)
-below f (suc k) n h l = elim (cases_lt n k) [
-  | inl a ↦ below f k n (and_right (f k) (all_below f k) h) a
-  | inr b ↦ let e : k ≡ n = omega arith in subst (λ x. f x ≡ true) e (and_left (f k) (all_below f k) h)
-]
-
-abbrev says : ℕ → (immediate : Bool) → ℕ → Bool
+abbrev pub says : ℕ → (immediate : Bool) → ℕ → Bool
 says c imm n = (bit_and (n + c) 31 == n) && (not (bit_and (n + c) 32 == 32) && cond imm (bit_and (n + c) 64 == 64) (not (bit_and (n + c) 64 == 64)))
 
 all_say : (imm : Bool) → all_below (says (cond imm 192 128) imm) 32 ≡ true
 all_say true = refl
 all_say false = refl
 
-count_says : (imm : Bool) (n : ℕ) → n < 32 → says (cond imm 192 128) imm n ≡ true
+pub count_says : (imm : Bool) (n : ℕ) → n < 32 → says (cond imm 192 128) imm n ≡ true
 count_says imm n h = below (says (cond imm 192 128) imm) 32 n (all_say imm) h
 
 -- what the header of an item says

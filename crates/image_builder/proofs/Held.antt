@@ -28,9 +28,6 @@ holds_read k front h = record { items = h.items; words = h.words; stage = h.stag
 pub faultless : {limit : ℕ} (k : Compilation) (front : List SourceWord) → Holds limit k front → IsFaultless limit front
 faultless k front h = record { items = h.items; words = h.words; stage = h.stage; front = is_front k.build k.begun (all_placed front) (is_read k front h) }
 
-pub held_begun : (k : Compilation) → IsHeld k.build.limit k → IsBegun k.build k.begun
-held_begun k h = let x = h.holds in record { items = x.items; words = x.words; stage = x.stage; shows = x.shows; is = x.is }
-
 -- one word more
 pub goes_on : {limit : ℕ} (old new : Compilation) (front : List SourceWord) (w : SourceWord) (h : Holds limit old front) → Goes limit new.build new.begun h.items h.words (placed w) → Holds limit new (front ++ w ∷ [])
 goes_on {limit} old new front w h g =

@@ -23,7 +23,7 @@ length-head link p imm c = simp (length-append, length-cell) (omega arith)
 length-record : (h : ℕ → ℕ → ℕ) (at older : ℕ) → length (record_bytes h at older) ≡ 10
 length-record h at older = simp (length-append, length-cell)
 
-length-field : (h : ℕ → ℕ → ℕ) (t : Items) (at : ℕ) (k : Kind) → length (field h t at k) ≡ kind_size k
+pub length-field : (h : ℕ → ℕ → ℕ) (t : Items) (at : ℕ) (k : Kind) → length (field h t at k) ≡ kind_size k
 length-field h t at (Primitive n) = refl
 length-field h t at (Constant n) = length-cell n
 length-field h t at Variable = length-cell 0
@@ -49,7 +49,7 @@ length-bytes h Nothing imm = refl
 length-bytes h (Then t ws i) imm =
     omega (arith, length-append (bytes h t (passes i imm)) (own h t i imm), length-own h t i imm, length-bytes h t (passes i imm))
 
--- where records stand
+-- where records are
 pub own_record : (t : Items) (i : Item) (v : ℕ) → OwnRecord t i v → (end_of t ≤ v) × (v + 10 ≤ end_of t + item_size i)
 own_record t (Header p Vocabulary) v e = (omega arith, omega arith)
 own_record t _ v e = absurd e

@@ -17,4 +17,5 @@ pub mod Screens
 pub mod Refusing
 pub mod Headers
 pub mod Chained
+pub mod Fields
 pub mod Disks

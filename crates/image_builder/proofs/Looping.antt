@@ -75,13 +75,6 @@ pub nothing_built : {limit : ℕ} (b : Build) → b.image.items ≡ [] → b.nam
 nothing_built b i n r v w o l few =
     record { limit_is = l; limited = few; laid = i; named = ap newest_first n; runtime = no_runtime b.runtime.items r; all = ap length r ∙ length-zeros 256; current_is = v; record_is = w; boot_is = o }
 
--- the loop
-pub read_begun : {limit : ℕ} (b : Build) (x : Begun) (done : List Place) → IsRead limit b x done → IsBegun b x
-read_begun b x done r =
-    let i = r.is in
-    let h = i.built in
-    record { items = r.items; words = r.words; stage = r.stage; shows = r.shows; is = subst (λ n. IsState n b r.items r.words r.stage) (sym h.limit_is) r.is }
-
 pub starts : {limit : ℕ} (b : Build) → Built limit b Nothing → IsBlank b.draft → IsRead limit b g.Whole []
 starts b h d = record { items = Nothing; words = []; stage = Whole; shows = tt; is = record { built = h; sound = tt; begun = refl; drafts = d }; front = refl }
 
@@ -173,9 +166,6 @@ stops {limit} b new x source done after w last f r q (inr (inr h)) =
     fault_is limit source (item_words r.items) (w ∷ after) h.number r.items [] Whole last f.screen f.offset f.cause
     (q ∙ ap (λ l. l ++ w ∷ after) (r.front ∙ ap (λ l. item_words r.items ++ l) h.is) ∙ append_assoc (item_words r.items) (h.number ∷ []) (w ∷ after))
     h.screen h.offset (record { is = sym (append-nil (item_words r.items)); sound = i.sound; begun = refl }) h.cause
-
-pub memory_stops : (limit : ℕ) (source : List Place) (last screen offset : ℕ) (e : Cause) → e ≡ c.OutOfMemory → IsFault limit source last screen offset e
-memory_stops = memory_fault
 
 -- an image ends where its items do
 pub length-low : (f : ℕ → ℕ) (at n : ℕ) → length (low f at n) ≡ 2 * n

@@ -86,7 +86,7 @@ laid_more t ws i old new more o p h n m =
     ∙ ap (λ b. bytes (heads_of t) t b ++ own (heads_of t) t i false) (sym p)
     ∙ ap (λ g. bytes g (Then t ws i) false) (sym h)
 
--- a header's item, from the state behind its code field
+-- a header's item, from the state after its code field
 pub field_laid : {limit : ℕ} (b : Build) (t : Items) (ws : List Place) (p : Place) (k : Kind) (new more : List ℕ) → Headed limit b t p (sign_of k) (code_of k) → new ≡ b.image.items ++ more → more ≡ field (heads_of (Then t ws (Header p k))) t (end_of t + head_size p) k → new ≡ bytes (heads_of (Then t ws (Header p k))) (Then t ws (Header p k)) false
 field_laid b t ws p k new more h n m =
     let g = heads_of (Then t ws (Header p k)) in
@@ -147,9 +147,6 @@ marked_names es i y l h =
     ap newest_first t ∙ reverse_more stored front e
     ∙ sym (ap mark (ap newest_first s ∙ reverse_more stored front y))
 
-pub newest_is : (es : List Named) (i : ℕ) (d : Named) → i + 1 ≡ length es → newest_first es ≡ stored (get_or es i d) ∷ newest_first (take i es)
-newest_is es i d l = ap newest_first (last_of es i d l) ∙ reverse_more stored (take i es) (get_or es i d)
-
 pub colon_laid : {limit : ℕ} (b : Build) (t : Items) (ws : List Place) (p : Place) (body : Definition) (new more : List ℕ) → Headed limit b t p s.Plain 1 → new ≡ b.image.items ++ more → more ≡ thread (controls t) body (end_of t + head_size p) → new ≡ bytes (heads_of (Then t ws (Colon p body))) (Then t ws (Colon p body)) false
 colon_laid b t ws p body new more h n m =
     let g = heads_of (Then t ws (Colon p body)) in
@@ -171,7 +168,7 @@ immediate_within b t n ns place h e q =
     let l = m.length_is in
     omega (arith, ap length (h.laid ∙ m.old_is), length-append m.front (m.was ∷ m.back), l)
 
--- the newest name is short, and its byte lies in the image
+-- the newest name is short, and its byte is in the image
 pub newest_name : (b : Build) (h : Building b) (xs : List Named) (x : Entry) (ns : List Name) → xs ≡ b.names.items → newest_first xs ≡ entry x ∷ ns → names h.items ≡ entry x ∷ ns
 newest_name b h xs x ns q e = let i = h.is in sym i.named ∙ ap newest_first (sym q) ∙ e
 
@@ -181,7 +178,7 @@ newest_facts b h x ns e =
     let a = g.above in
     (g.short, g.above, immediate_within b h.items x ns (x.link - 254) h.is e (omega arith))
 
--- a name that was found lies below the end
+-- a name that was found is below the end
 pub found_fits : (b : Build) (h : Building b) (xs : List Named) (bs : List ℕ) (n : Name) → xs ≡ b.names.items → Some n ≡ found b.current bs (newest_first xs) → (length n.name < 32) × (n.link + 3 + length n.name + 2 ≤ GREATEST_LIMIT)
 found_fits b h xs bs n q e =
     let i = h.is in

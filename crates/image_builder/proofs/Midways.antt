@@ -46,7 +46,7 @@ one_taken {limit} m words w old mid new scanner next h e q t = record {
   took = λ front k. let P : List SourceWord → Type 0 = λ r. Holds limit new r in subst P (append_assoc front h.done (w ∷ [])) (t (front ++ h.done) (h.took front k));
 }
 
--- a word is at fault, whatever comes behind it
+-- a word is at fault, whatever comes after it
 pub one_refused : {limit : ℕ} (m : Mode) (words : List SourceWord) (w : SourceWord) (old mid : Compilation) (scanner next : Scanner) (f : BuildFault) → Midway limit m words old mid scanner →
     words_left scanner ≡ w ∷ words_left next → ((front : List SourceWord) → Holds limit mid front → IsFaultOf limit (front ++ w ∷ []) f) →
     (front : List SourceWord) → Holds limit old front → IsFaultOf limit (front ++ words) f

@@ -1,9 +1,8 @@
 -- Screens that are read one after another, whatever the device is.
-use Rattle.std.proofs.Common.{◌≡◌, ℕ, List, [], ◌∷◌, Option, Some, Ok, sym, subst}
-use Rattle.std.specs.Prelude.{IfSome, length}
+use Rattle.std.proofs.Common.{ℕ, List, [], ◌∷◌, Ok}
 use Rattle.block_buffers.specs.DeviceCalls.{DeviceCall, WasRead}
 use Rattle.block_buffers.specs.Disks.{Disk}
-use Rattle.block_buffers.specs.Likeness.{DidAs, IsLike}
+use Rattle.block_buffers.specs.Likeness.{DidAs}
 use Rattle.block_buffers.specs.ReadPages.{AreReadFrom, reads_of}
 use Rattle.block_buffers.proofs.Likeness.{DidBoth, both_of}
 use Rattle.source_words.specs.declared.modes.Mode.{Mode}

@@ -112,9 +112,6 @@ ended_refused {limit} d from to k f done h o x = record {
   because = end_because limit d from to f.screen f.offset f.cause done h.there h.failures o x;
 }
 
-pub no_memory : {limit : ℕ} (d : Disk) (from to : ℕ) (done : Done) → done.disk ≡ Some d → done.after ≡ done.before → IsRefused limit d from to (record { screen = from; offset = 0; cause = c.OutOfMemory }) done
-no_memory d from to done e q = record { k = 0; few = omega arith; disk = e; because = (refl, refl, q) }
-
 -- the words of the first screens are the first words
 first_screens : (d : Disk) (from n k : ℕ) → k ≤ n → (rest : List SourceWord) × (source_words from (screens d from n) ≡ source_words from (screens d from k) ++ rest)
 first_screens d from n k h =
@@ -150,11 +147,11 @@ told limit d from to k screen offset c.Unknown done few there quiet h = fault_of
 told limit d from to k screen offset c.BadName done few there quiet h = fault_of_source limit d from to k screen offset c.BadName few h.2
 told limit d from to k screen offset c.Full done few there quiet h = fault_of_source limit d from to k screen offset c.Full few h.2
 
--- where all screens are there and none fails, the refusal is the first fault of the whole source
+-- where all screens exist and none fails, the refusal is the first fault of the whole source
 pub refused_at : (limit : ℕ) (d : Disk) (from to : ℕ) (e : BuildFault) (done : Done) → AreThere d from to → done.after ≡ done.before → IsRefused limit d from to e done → IsFault limit (all_placed (source_of d from to)) to e.screen e.offset e.cause
 refused_at limit d from to e done there quiet h = told limit d from to h.k e.screen e.offset e.cause done h.few there quiet h.because
 
--- a good source is refused only for want of memory, or where the device fails
+-- a good source is refused only for lack of memory, or where the device fails
 pub good_refused : (limit : ℕ) (d : Disk) (from to : ℕ) (e : BuildFault) (done : Done) (items : Items) (entry : ℕ) → AreThere d from to → IsGood limit (all_placed (source_of d from to)) items entry → done.after ≡ done.before → IsRefused limit d from to e done → e.cause ≡ c.OutOfMemory
 good_refused limit d from to e done items entry there good quiet h =
     no_fault limit (all_placed (source_of d from to)) items entry to e.screen e.offset e.cause good (refused_at limit d from to e done there quiet h)

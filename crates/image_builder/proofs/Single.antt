@@ -43,7 +43,7 @@ W ws x = run St keep ws x
 abbrev Good : ℕ → St → Type 0
 Good limit (At t ws stage) = AreSound limit t × Begun limit t ws stage
 
--- what stands behind: nothing, or a word with a cause
+-- what comes after: nothing, or a word with a cause
 abbrev Tail : ℕ → St → List Place → Type 0
 Tail limit (At t ws stage) tail = (tail ≡ []) ⊎ ((w : Place) × (after : List Place) × (d : Cause) × (tail ≡ w ∷ after) × Applies limit t stage w after d × (0 < rank d))
 
@@ -62,7 +62,7 @@ walk_sound limit (w ∷ rest) t ws stage y e h =
 sort_walk : (t : Items) (y : St) (n : ℕ) (ws : List Place) (b : Place) (rest : List Place) (sort : Sort) → b.sort ≡ sort → W (b ∷ rest) (At t ws (Counted n)) ≡ Some y → then (at_number t ws n b sort) (W rest) ≡ Some y
 sort_walk t y n ws b rest sort e h = ap (λ x. then (at_number t ws n b x) (W rest)) (sym e) ∙ h
 
--- the word behind a number
+-- the word after a number
 prim_none : (limit : ℕ) (t : Items) (n : ℕ) (d : Cause) → AtNumber limit t n s.Prim d → ⊥
 prim_none limit t n c.Full h = h
 prim_none limit t n _ h = h
@@ -241,7 +241,7 @@ same_state limit before t u ws vs stage st f g =
     let e : Some (At t ws stage) ≡ Some (At u vs st) = sym (walk_to limit before t ws stage f) ∙ walk_to limit before u vs st g in
     (cc, cc, cc)
 
--- where a fault stands
+-- where a fault is
 record AtWord (limit : ℕ) (source : List Place) (screen offset : ℕ) (cause : Cause) : Type 0 where
   before : List Place
   word : Place

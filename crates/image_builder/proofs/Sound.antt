@@ -91,7 +91,7 @@ sound_end limit (Then t ws i) e h = h.1.room
 pub sound_below : (limit : ℕ) → IsLimit limit → (t : Items) → AreSound limit t → end_of t ≤ GREATEST_LIMIT
 sound_below limit few t h = omega (arith, sound_end limit t few.0 h, few.1)
 
--- no name stands in a vocabulary yet to come
+-- no name is in a vocabulary yet to come
 pub none_above : (limit : ℕ) (t : Items) (v : ℕ) → AreSound limit t → end_of t ≤ v → 256 ≤ v → Every (λ n. n.vocabulary ≢ v) (names t)
 none_above limit t v h a b =
     every_map (IsName t) (λ n. n.vocabulary ≢ v) (λ n g e. below (n.vocabulary) e g.vocabulary_is) (names t) (sound_names limit t h).1

@@ -1,4 +1,4 @@
--- Bytes that stand at a place: their parts, and what is read of them.
+-- Bytes that are at a place: their parts, and what is read of them.
 use Rattle.std.proofs.Common.{◌≡◌, ℕ, ◌+◌, ◌<◌, ◌%◌, ◌/◌, List, ◌∷◌, ◌++◌, length, take, drop, sym, ap, ◌∙◌, subst, arith, append_assoc, length-append}
 use Rattle.std.proofs.Math.Seq.{drop-append_seam, take-append_seam}
 use Rattle.memory.specs.Bytes.{byte, bytes, cell, cell_bytes}
@@ -6,7 +6,7 @@ use Rattle.memory.proofs.Same.{Stands}
 use Rattle.memory.proofs.Both.{stands_has}
 use Rattle.memory.proofs.Kept.{wrap_small}
 
--- the bytes behind the first
+-- the bytes after the first
 pub stands_behind : (m xs ys : List ℕ) (at n : ℕ) → n ≡ at + length xs → Stands m at (xs ++ ys) → Stands m n ys
 stands_behind m xs ys at n e s = record {
   before = s.before ++ xs;

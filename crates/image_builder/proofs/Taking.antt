@@ -51,7 +51,7 @@ whole b t ws w i h s e d =
       front = append-nil (item_words t ++ (ws ++ w ∷ []));
     }
 
--- behind a number
+-- after a number
 no_earlier : (limit : ℕ) (t : Items) (n : ℕ) (sort : Sort) → (sort ≡ s.Comma) ⊎ (sort ≡ s.CharComma) ⊎ (sort ≡ s.Allot) → (d : Cause) → rank d < 8 → AtNumber limit t n sort d → ⊥
 no_earlier limit t n s.Comma e c.Full r h = absurd (omega (arith, r))
 no_earlier limit t n s.Comma e _ r h = absurd h
@@ -133,7 +133,7 @@ item_immediate {limit} b new t ws w h e n built kept =
     (record { spells = (w, q, e); fits = λ k. let l = ap length (i.named ∙ k) in omega (arith, l, n, newest_length b.names.items); room = omega (arith, z) })
     (subst (λ x. IsBlank x) (sym kept) h.drafts)
 
--- behind a vocabulary's name
+-- after a vocabulary's name
 pub chosen_whole : {limit : ℕ} (b new : Build) (t : Items) (v : ℕ) (ws : List Place) (w : Place) → IsState limit b t ws (Chosen v) → w.sort ≡ s.Definitions → Built limit new (Then t (ws ++ w ∷ []) (Definitions v)) → new.draft ≡ b.draft → Goes limit new g.Whole t ws w
 chosen_whole {limit} b new t v ws w h e built kept =
     let a = h.begun in

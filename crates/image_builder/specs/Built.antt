@@ -34,7 +34,7 @@ abbrev pub IsRecord : Items → ℕ → Type 0
 IsRecord Nothing v = ⊥
 IsRecord (Then t ws i) v = OwnRecord t i v ⊎ IsRecord t v
 
--- the state behind a header's code field
+-- the state after a header's code field
 pub record Headed (limit : ℕ) (b : Build) (t : Items) (p : Place) (sign : Sign) (code : ℕ) : Type 0 where
   pub limit_is : b.limit ≡ limit
   pub limited : IsLimit limit

@@ -41,7 +41,7 @@ AtItem t w after s.Other c.Misplaced = (look t w ≢ None) × (record_named t w 
 AtItem t w after s.Other c.Unknown = (look t w ≡ None) × (record_named t w ≡ None)
 AtItem t w after _ _ = ⊥
 
--- of a word behind a number
+-- of a word after a number
 abbrev pub AtNumber : (limit : ℕ) → Items → (n : ℕ) → Sort → Cause → Type 0
 AtNumber limit t n s.Double c.BadNumber = Unit {0}
 AtNumber limit t n s.Prim c.Misplaced = ⊥
@@ -69,7 +69,7 @@ AtName limit t w Starts c.Misplaced = (look t w ≡ None) × (IsPlainSense w.inn
 AtName limit t w Starts c.Unknown = (look t w ≡ None) × IsPlainSense w.inner
 AtName limit t w _ _ = ⊥
 
--- of a word behind a vocabulary's name
+-- of a word after a vocabulary's name
 abbrev pub AtVocabulary : Sort → Cause → Type 0
 AtVocabulary s.Double c.BadNumber = Unit {0}
 AtVocabulary s.Definitions c.Misplaced = ⊥
@@ -126,11 +126,11 @@ IsFault limit source last screen offset cause =
     (before : List Place) × (w : Place) × (after : List Place) × (t : Items) × (ws : List Place) × (stage : Stage)
     × (source ≡ before ++ w ∷ after) × (screen ≡ w.screen) × (offset ≡ w.offset) × IsFront limit before t ws stage × FirstCause limit t stage w after cause
 
--- no fault is found in it, want of memory aside
+-- no fault is found in it, lack of memory aside
 abbrev pub HasNoFault : (limit : ℕ) → List Place → Type 0
 HasNoFault limit source = (last screen offset : ℕ) (cause : Cause) → IsFault limit source last screen offset cause → cause ≡ c.OutOfMemory
 
--- these are one and the same fault, want of memory aside
+-- these are one and the same fault, lack of memory aside
 abbrev pub IsSameFault : (screen offset : ℕ) → Cause → (screen' offset' : ℕ) → Cause → Type 0
 IsSameFault p o a q n b = (a ≡ c.OutOfMemory) ⊎ (b ≡ c.OutOfMemory) ⊎ ((p ≡ q) × (o ≡ n) × (a ≡ b))
 

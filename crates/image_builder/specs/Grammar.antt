@@ -1,4 +1,4 @@
--- The words of items, and which items may stand where.
+-- The words of items, and which items may be where.
 use Rattle.std.proofs.Math.Dec.{ltb}
 use Rattle.std.specs.Prelude.{◌≡◌, ◌≢◌, ℕ, Bool, false, ◌||◌, ◌&&◌, ◌+◌, ◌<◌, ◌≤◌, List, [], ◌∷◌, ◌++◌, map, length, Some, None, Ok}
 use Rattle.colon_bodies.specs.Tokens.{SEMI}
@@ -61,7 +61,7 @@ Spells t ws Immediate = One ws s.Immediate
 Spells t ws (Definitions v) = (a : Place) × (b : Place) × (ws ≡ a ∷ b ∷ []) × (a.sort ≡ s.Other) × (record_named t a ≡ Some v) × (b.sort ≡ s.Definitions)
 Spells t ws (Boot w) = (front : List Place) × (p : Place) × (n : Name) × (ws ≡ front ++ p ∷ []) × Leads Starts front × (look t p ≡ Some n) × (w ≡ address n)
 
--- an item that may stand behind these
+-- an item that may come after these
 abbrev pub Fits : Items → Item → Type 0
 Fits t (Header p k) = (length p.name < 32) × IsOpen t (Makes k)
 Fits t (Colon p b) = (length p.name < 32) × (all_depth b ≤ 64) × rules.AreKnown (controls t) (all_words b ++ SEMI ∷ []) × tokens.AreShort (all_words b)
@@ -74,7 +74,7 @@ Fits t _ = Unit {0}
 abbrev pub IsLimit : ℕ → Type 0
 IsLimit limit = (256 ≤ limit) × (limit ≤ GREATEST_LIMIT)
 
--- an item behind others: its words, what it needs, and its room
+-- an item after others: its words, what it needs, and its room
 pub record IsSound (limit : ℕ) (t : Items) (ws : List Place) (i : Item) : Type 0 where
   pub spells : Spells t ws i
   pub fits : Fits t i

@@ -7,12 +7,13 @@ use Rattle.memory.specs.Bytes as memory
 use Rattle.dictionary.specs.Header.{view_of, is_hidden, name_of, compilation_address}
 use Rattle.dictionary.specs.Chain.{chain}
 use Rattle.dictionary.specs.Search.{Sought, Found, Nowhere, sought}
+use Rattle.image_builder.specs.declared.entry.Kind.{Kind}
 use Rattle.image_builder.specs.Places.{Place}
 use Rattle.image_builder.specs.Names.{Name, class_of}
 use Rattle.image_builder.specs.Items.{Item, Header, Colon, Items, Nothing, Then, current, item_size, image}
 use Rattle.image_builder.specs.Built.{IsRecord}
 
--- the memory that the image of items is loaded to: zeros stand behind its bytes
+-- the memory that the image of items is loaded to: zeros come after its bytes
 abbrev pub memory_of : Items → List ℕ
 memory_of t = front_put (image t) memory.zeros
 
@@ -21,7 +22,7 @@ abbrev pub sizes : Items → List ℕ
 sizes Nothing = []
 sizes (Then t ws i) = item_size i ∷ sizes t
 
--- a vocabulary: FORTH, whose record stands at 42, or one that the items made
+-- a vocabulary: FORTH, whose record is at 42, or one that the items made
 abbrev pub IsVocabulary : Items → ℕ → Type 0
 IsVocabulary t voc = (voc ≡ 42) ⊎ IsRecord t voc
 
@@ -44,10 +45,15 @@ title (Header p k) = Some p
 title (Colon p b) = Some p
 title _ = None
 
--- an item of this name stands behind these items, its header at their end
+-- an item of this name comes after these items, its header at their end
 abbrev pub IsTitled : Items → (before : Items) → Place → Type 0
 IsTitled Nothing before p = ⊥
 IsTitled (Then t ws i) before p = ((before ≡ t) × (title i ≡ Some p)) ⊎ IsTitled t before p
+
+-- an item that makes a header of this name and kind comes after these items
+abbrev pub IsMade : Items → (before : Items) → Place → Kind → Type 0
+IsMade Nothing before p k = ⊥
+IsMade (Then t ws i) before p k = ((before ≡ t) × (i ≡ Header p k)) ⊎ IsMade t before p k
 
 -- the name of the newest item of a vocabulary that is spelled so
 abbrev pub title_before : (in_vocabulary : Bool) → List ℕ → Option Place → (older : Option Place) → Option Place

@@ -52,7 +52,7 @@ item_size Immediate = 0
 item_size (Definitions v) = 0
 item_size (Boot w) = 0
 
--- the address behind the items
+-- the address after the items
 abbrev pub end_of : Items → ℕ
 end_of Nothing = 256
 end_of (Then t ws i) = end_of t + item_size i
@@ -135,7 +135,7 @@ zeros (suc n) = 0 ∷ zeros n
 abbrev pub link_of : Items → Place → ℕ
 link_of t p = newest_link (names t) (current t) (class_of p.name)
 
--- what an item lays; immediate tells whether an IMMEDIATE behind it means its header
+-- what an item writes; immediate says whether an IMMEDIATE after it means its header
 abbrev pub own : (ℕ → ℕ → ℕ) → Items → Item → (immediate : Bool) → List ℕ
 own heads t (Header p k) imm = head (link_of t p) p imm (code_of k) ++ field heads t (end_of t + head_size p) k
 own heads t (Colon p b) imm = head (link_of t p) p imm 1 ++ thread (controls t) b (end_of t + head_size p)

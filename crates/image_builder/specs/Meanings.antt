@@ -1,4 +1,4 @@
--- What a word means where it stands.
+-- What a word means where it is.
 use Rattle.std.proofs.Math.Dec.{ltb}
 use Rattle.std.specs.Prelude.{ℕ, Bool, false, cond, ◌||◌, ◌&&◌, List, [], ◌∷◌, Option, Some, None, Result, Ok, Err, codes}
 use Rattle.std.specs.Str.{bytes_eq}
@@ -15,7 +15,7 @@ use Rattle.colon_bodies.specs.Rules as rules
 use Rattle.image_builder.specs.declared.entry.Sign.TheVariants as g
 use Rattle.image_builder.specs.declared.cause.Cause.TheVariants as c
 
--- what a word's name stands for behind these items
+-- what a word's name stands for after these items
 abbrev pub look : Items → Place → Option Name
 look t p = found (current t) p.name (names t)
 
@@ -31,12 +31,12 @@ record_if (Some n) = if_record n.sign (record_of n)
 abbrev pub record_named : Items → Place → Option ℕ
 record_named t p = cond (bytes_eq p.name (codes "FORTH")) (Some 42) (record_if (look t p))
 
--- the controls that only a keyword or a number lays
+-- the controls that only a keyword or a number writes
 abbrev pub is_inner : Sign → Bool
 is_inner (g.Control n) = (ltb 5 n && ltb n 12) || (ltb 15 n && ltb n 19)
 is_inner _ = false
 
--- a name that can't stand behind what is half read
+-- a name that can't come after what is half read
 abbrev pub is_barred : Half → Name → Bool
 is_barred h n = body.is_barred h (is_inner n.sign) n.immediate
 
@@ -48,15 +48,15 @@ abbrev pub name_first : Half → Option Name → Sense → Result Token Cause
 name_first h (Some n) s = cond (is_barred h n) (Err c.Misplaced) (Ok (NAME (address n)))
 name_first h None s = unnamed s
 
--- behind ['] and [COMPILE] a word is a name first, elsewhere a keyword
+-- after ['] and [COMPILE] a word is a name first, elsewhere a keyword
 abbrev pub sense_of : Half → Option Name → Sense → Result Token Cause
 sense_of h n s = keyword_first (λ w. Ok w) h s (name_first h n s)
 
--- what a word is in a body, behind what is half read
+-- what a word is in a body, after what is half read
 abbrev pub meaning : Half → Items → Place → Result Token Cause
 meaning h t p = sense_of h (look t p) p.inner
 
--- what words are in a body, each behind what those before it leave half read
+-- what words are in a body, each after what those before it leave half read
 abbrev pub half_past : Half → Result Token Cause → Half
 half_past h (Ok w) = rules.half_after h w
 half_past h (Err e) = h

@@ -7,7 +7,7 @@ use Rattle.image_builder.specs.declared.spot.Inner.{Inner}
 use Rattle.image_builder.specs.declared.spot.Inner.TheVariants as i
 use Rattle.image_builder.specs.declared.spot.Spot.{Spot}
 
--- what a word is in a body where it is no name, without where its text lies in memory
+-- what a word is in a body where it is no name, without where its text is in memory
 abbrev pub sense : Inner → Sense
 sense i.Other = Plain
 sense (i.Keyword w) = Keyword (token w)
@@ -15,7 +15,7 @@ sense (i.Number n) = Figure n
 sense (i.Double n) = Wide n
 sense i.Paren = Remark
 
--- a word with where it stands, and what it is outside bodies and in them
+-- a word with where it is, and what it is outside bodies and in them
 pub record Place : Type 0 where
   pub screen : ℕ
   pub offset : ℕ

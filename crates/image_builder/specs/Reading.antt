@@ -35,7 +35,7 @@ pub record IsHeld (limit : ℕ) (k : Compilation) : Type 0 where
   pub front : List SourceWord
   pub holds : Holds limit k front
 
--- whatever comes behind these words, and whatever the last screen is, the first fault is this one
+-- whatever comes after these words, and whatever the last screen is, the first fault is this one
 abbrev pub IsFaultOf : ℕ → List SourceWord → BuildFault → Type 0
 IsFaultOf limit front f = (rest : List SourceWord) (last : ℕ) → IsFault limit (all_placed (front ++ rest)) last f.screen f.offset f.cause
 
@@ -44,7 +44,7 @@ abbrev pub Takes : ℕ → List SourceWord → SourceWord → Result (Unit {0}) 
 Takes limit front w (Ok _) k = Holds limit k (front ++ w ∷ [])
 Takes limit front w (Err f) k = IsFaultOf limit (front ++ w ∷ []) f
 
--- the words of a screen were taken, behind those before it
+-- the words of a screen were taken, after those before it
 abbrev pub TakesAll : ℕ → Mode → List SourceWord → List SourceWord → Result Mode Stop → Compilation → Type 0
 TakesAll limit m front ws (Ok next) k = Holds limit k (front ++ ws) × (next ≡ after_words m ws)
 TakesAll limit m front ws (Err (stop.Device s)) k = ⊥
@@ -124,7 +124,7 @@ abbrev pub TakesScreens : ℕ → Disk → (from to : ℕ) → Result (Unit {0})
 TakesScreens limit d from to (Ok _) k done = TookAll limit d from to k done
 TakesScreens limit d from to (Err why) k done = Stopped limit d from to why done
 
--- what stopped the reading, as a refusal: want of memory is told of the first screen
+-- what stopped the reading, as a refusal: lack of memory is reported for the first screen
 abbrev pub settled : (screen offset : ℕ) → Cause → (from : ℕ) → BuildFault
 settled screen offset c.OutOfMemory from = record { screen = from; offset = 0; cause = c.OutOfMemory }
 settled screen offset e from = record { screen = screen; offset = offset; cause = e }

@@ -1,5 +1,5 @@
 -- A whole source on a device: what is built of it, and why it is refused.
-use Rattle.std.specs.Prelude.{◌≡◌, ℕ, Bool, false, ◌+◌, ◌-◌, ◌<◌, ◌≤◌, ◌⊎◌, List, ◌++◌, length, take, drop, Option, Some}
+use Rattle.std.specs.Prelude.{◌≡◌, ℕ, false, ◌+◌, ◌-◌, ◌<◌, ◌≤◌, ◌⊎◌, List, ◌++◌, length, take, drop, Option, Some}
 use Rattle.block_buffers.specs.Calls.{failures}
 use Rattle.block_buffers.specs.DeviceCalls.{DeviceCall}
 use Rattle.block_buffers.specs.Disks.{Disk, succeeds}
@@ -42,11 +42,11 @@ pub record Done : Type 0 where
   pub before : ℕ
   pub after : ℕ
 
--- the same by what the device tells: its disk after, and its calls before and after
+-- the same by what the device says: its disk after, and its calls before and after
 abbrev pub done_of : Option Disk → (calls calls' : List DeviceCall) → Done
 done_of disk calls calls' = record { disk = disk; before = failures calls; after = failures calls' }
 
--- nothing is wrong with these words, whatever comes behind them
+-- nothing is wrong with these words, whatever comes after them
 pub record IsFaultless (limit : ℕ) (source : List SourceWord) : Type 0 where
   pub items : Items
   pub words : List Place
@@ -75,7 +75,7 @@ pub record IsBuiltOf (count : ℕ) (d : Disk) (from to : ℕ) (built : Contents)
   pub disk : done.disk ≡ Some (after_reads (to + 1 - from) d)
   pub failures : done.after ≡ done.before
 
--- the device has this screen, and behind one read each of the screens before it a read of it fails
+-- the device has this screen, and after one read each of the screens before it a read of it fails
 abbrev pub CantBeRead : Disk → (from screen : ℕ) → Type 0
 CantBeRead d from screen = (screen < length d.blocks) × (succeeds (after_reads (screen - from) d) screen ≡ false)
 
@@ -93,12 +93,12 @@ AreGood limit d from to = (items : Items) × (entry : ℕ) × IsGood limit (plac
 abbrev pub IsFirstFault : ℕ → Disk → (from to : ℕ) → BuildFault → Type 0
 IsFirstFault limit d from to e = IsFault limit (places_of d from to) to e.screen e.offset e.cause
 
--- k screens decide: this is the first fault, however the source goes on behind them
+-- k screens decide: this is the first fault, however the source goes on after them
 abbrev pub IsDecided : ℕ → Disk → (from to k : ℕ) → BuildFault → Type 0
 IsDecided limit d from to k e =
     (rest : List SourceWord) → IsFault limit (all_placed (source_words from (screens d from k) ++ rest)) to e.screen e.offset e.cause
 
--- why it is refused, once k screens were read: want of memory, a screen, the end of all screens, or a word. That is the
+-- why it is refused, once k screens were read: lack of memory, a screen, the end of all screens, or a word. That is the
 -- first fault of every source that begins with the words of these k, and before the last of these was read none was known
 abbrev pub Because : ℕ → Disk → (from to k screen offset : ℕ) → Cause → Done → Type 0
 Because limit d from to k screen offset c.OutOfMemory done = (screen ≡ from) × (offset ≡ 0) × (done.after ≡ done.before)

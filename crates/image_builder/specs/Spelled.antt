@@ -107,7 +107,7 @@ abbrev pub text_of : Option (List ℕ) → List ℕ
 text_of (Some text) = text
 text_of None = []
 
--- keyword, else number; ( is neither, and stands only where a name is due
+-- keyword, else number; ( is neither, and is only where a name is due
 unfoldable pub sense_of_word : List ℕ → (text : List ℕ) → Sense
 sense_of_word w text = if begins_comment w then Remark else keyword_or (keyword w text) (figure_of w)
 

@@ -1,4 +1,4 @@
--- What is begun of an item.
+-- What is started of an item.
 use Rattle.std.specs.Prelude.{◌≡◌, ℕ, ◌+◌, ◌<◌, List, [], ◌∷◌, ◌++◌, map, length, Some, Ok}
 use Rattle.colon_bodies.specs.Tokens.{Token}
 use Rattle.colon_bodies.specs.declared.words.Half.TheVariants.{Free}
@@ -11,7 +11,7 @@ use Rattle.image_builder.specs.declared.spot.Sort.TheVariants as s
 use Rattle.image_builder.specs.Meanings.{record_named, meanings}
 use Rattle.image_builder.specs.Grammar.{One, Leads, IsOpen, AreSound}
 
--- What is begun of an item: nothing, a number, what leads up to a name, a vocabulary's name, or a definition with these words.
+-- What is started of an item: nothing, a number, what leads up to a name, a vocabulary's name, or a definition with these words.
 pub data Stage : Type 0 where
   Whole : Stage
   Counted : (n : ℕ) → Stage
@@ -23,7 +23,7 @@ pub data Stage : Type 0 where
 abbrev pub body_at : Items → Place → ℕ
 body_at t p = end_of t + head_size p
 
--- a definition is begun: its name, and words of its body that nothing is wrong with
+-- a definition is started: its name, and words of its body that nothing is wrong with
 pub record IsInside (limit : ℕ) (t : Items) (ws : List Place) (p : Place) (before : List Token) : Type 0 where
   pub front : List Place
   pub inner : List Place
@@ -41,7 +41,7 @@ Begun limit t ws (Due l) = Leads l ws × IsOpen t l
 Begun limit t ws (Chosen v) = (a : Place) × (ws ≡ a ∷ []) × (a.sort ≡ s.Other) × (record_named t a ≡ Some v)
 Begun limit t ws (Inside p before) = IsInside limit t ws p before
 
--- Nothing is wrong with these words: they are whole items, and at most one begun.
+-- Nothing is wrong with these words: they are whole items, and at most one started.
 pub record IsFront (limit : ℕ) (front : List Place) (t : Items) (ws : List Place) (stage : Stage) : Type 0 where
   pub is : front ≡ item_words t ++ ws
   pub sound : AreSound limit t

@@ -33,7 +33,7 @@ use Rattle.image_builder.specs.Faults.{FirstCause, IsGood}
 use Rattle.image_builder.specs.Stages as stages
 use Rattle.image_builder.specs.Built.{Built}
 
--- the words are one, which stands there
+-- the words are one, which exists
 abbrev pub IsAtSite : Site → List Place → Type 0
 IsAtSite a ws = (p : Place) × (ws ≡ p ∷ []) × (a.screen ≡ p.screen) × (a.offset ≡ p.offset)
 
@@ -82,7 +82,7 @@ Looks h (Some n) (Ok None) = ⊥
 Looks h (Some n) (Ok (Some a)) = (is_barred h n ≡ false) × (a ≡ address n)
 Looks h (Some n) (Err e) = (is_barred h n ≡ true) × (e ≡ c.Misplaced)
 
--- a definition is begun
+-- a definition is started
 pub record Somewhere (b : Build) (title : Title) : Type 0 where
   pub items : Items
   pub words : List Place

@@ -25,7 +25,7 @@ use colon_bodies::{BodyWord, Draft, Half, cell_of, finish, is_semicolon, take_wo
 use memory::controls::Control;
 use std::mem;
 
-/// Whether only keywords and numbers lay this control.
+/// Whether only keywords and numbers write this control.
 fn is_inner_control(sign: Sign) -> bool
     ensures { result ≡ is_inner sign }
 {
@@ -38,7 +38,7 @@ fn is_inner_control(sign: Sign) -> bool
     }
 }
 
-/// Whether a name can't stand behind what is half read.
+/// Whether a name can't come after what is half read.
 fn is_barred_name(half: Half, e: Entry) -> bool
     ensures { result ≡ is_barred half (entry e.entry) }
 {

@@ -22,7 +22,7 @@ use image_loader::Image;
 use memory::limit_of;
 use std::alloc::Global;
 
-/// A fault behind the last word.
+/// A fault after the last word.
 fn behind(last: u16, cause: Cause) -> BuildFault
     ensures { (result.screen ≡ last) × (result.offset ≡ 1024) × (result.cause ≡ cause) }
 {
@@ -33,7 +33,7 @@ fn behind(last: u16, cause: Cause) -> BuildFault
     }
 }
 
-/// Whether nothing is begun of an item.
+/// Whether nothing is started of an item.
 fn is_whole(begun: &Begun) -> bool
     ensures { result ≡ tells_whole begun.now }
 {
@@ -79,11 +79,11 @@ fn begin(alloc: Global, limit: u16) -> Result<Compilation, Cause>
 /// Builds the source in the screens from `from` to `to` of a device to an image, whose entry is the word that BOOT names.
 /// It is an image for `count` block buffers, 2 to 16, and ends where these begin at the latest.
 ///
-/// One screen at a time is read and kept. Each is read once at most, in order, and none behind the one that decides. Where
+/// One screen at a time is read and kept. Each is read once at most, in order, and none after the one that decides. Where
 /// the source isn't good the answer is its first fault: the first word that has a cause, with the first of its causes in the
-/// order of `Cause`. `EndsInside` and `NoBoot` are told of the last screen, behind its last byte, also where `from` is above
-/// `to`. `Device` is told of byte 0 of a screen that isn't the device's, or that couldn't be read, and comes only where no
-/// word of the screens before is at fault. `OutOfMemory` is told of byte 0 of the first screen.
+/// order of `Cause`. `EndsInside` and `NoBoot` are reported for the last screen, after its last byte, also where `from` is above
+/// `to`. `Device` is reported for byte 0 of a screen that isn't the device's, or that couldn't be read, and comes only where no
+/// word of the screens before is at fault. `OutOfMemory` is reported for byte 0 of the first screen.
 pub fn build<D: Device>(
     alloc: Global,
     device: &mut D,
@@ -103,7 +103,7 @@ pub fn build<D: Device>(
         IfErr result (λ f. IsRefused (limit_of count) d from to f
         (done_of (Some e) (D.calls device.old) (D.calls device.new))) }
 
-    // A device that tells its disk did as that disk.
+    // A device that reports its disk did as that disk.
     ensures like { (d : Disk) → D.disk device.old ≡ Some d →
         IsLike d (D.disk device.new) (D.block_count device.old) (D.calls device.old) (D.calls device.new) }
 {

@@ -23,13 +23,13 @@ pub enum Cause {
     /// A number that PRIM can't name: the table has no such primitive, it is below 5, or its control has a name already.
     #[error("BadPrimitive")]
     BadPrimitive,
-    /// A word that can't stand there.
+    /// A word that can't come there.
     #[error("Misplaced")]
     Misplaced,
     /// A word that doesn't fit the innermost open structure.
     #[error("Unbalanced")]
     Unbalanced,
-    /// A word that is neither keyword, name nor number, or that lays a control primitive which has no name yet.
+    /// A word that is neither keyword, name nor number, or that writes a control primitive which has no name yet.
     #[error("Unknown")]
     Unknown,
     /// A name of more than 31 bytes, or a text of more than 255.
@@ -52,7 +52,7 @@ pub enum Cause {
 pub struct BuildFault {
     /// The screen.
     pub screen: u16,
-    /// The place of the word at fault in its screen, from 0; 1,024 behind the last word.
+    /// The place of the word at fault in its screen, from 0; 1,024 after the last word.
     pub offset: u16,
     /// The cause.
     pub cause: Cause,

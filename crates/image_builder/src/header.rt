@@ -13,6 +13,7 @@ use crate::cause::Cause;
 use crate::entry::{Named, Sign, class_of_name, head_of};
 use crate::state::Build;
 use colon_bodies::{lay_cell, patch};
+use dictionary::CountByte;
 use std::alloc::Global;
 
 /// A header up to its code field.
@@ -30,7 +31,7 @@ fn lay_head(
 {
     lay_cell(image, screen)?;
     lay_cell(image, link)?;
-    image.push(name.len() as u8 + 128)?;
+    image.push(CountByte::of_length(name.len() as u8).0)?;
     image.extend_from_slice(name)?;
     lay_cell(image, code)?;
     Ok(())
@@ -89,7 +90,7 @@ pub fn make_header(
     Ok(())
 }
 
-/// The address behind the image.
+/// The address after the image.
 pub fn here(b: &Build) -> u16
     requires { Building b.now }
     ensures address { result ≡ length b.now.image.items + 256 }

@@ -17,7 +17,7 @@ use crate::state::Build;
 use colon_bodies::{Draft, lay_cell};
 use std::alloc::Global;
 
-/// Lays cells.
+/// Writes cells.
 fn lay_cells(bytes: &mut Vec<u8>, cells: &[u16]) -> Result<(), Cause>
     ensures bytes { OnOk result (bytes.new.items ≡ bytes.old.items ++ all_cells cells.now) }
     ensures memory { IfErr result (λ e. e ≡ OutOfMemory) }
@@ -38,7 +38,7 @@ fn newest_link_of(names: &[Named]) -> u16
     newest(names).link
 }
 
-/// Lays the cells of the system.
+/// Writes the cells of the system.
 fn lay_system(bytes: &mut Vec<u8>, b: &Build) -> Result<(), Cause>
     requires { Building b.now }
     ensures bytes { (limit : ℕ) (t : Items) → Built limit b.now t →
@@ -62,7 +62,7 @@ fn lay_system(bytes: &mut Vec<u8>, b: &Build) -> Result<(), Cause>
     Ok(())
 }
 
-/// Lays the compilation addresses of the controls.
+/// Writes the compilation addresses of the controls.
 fn lay_controls(bytes: &mut Vec<u8>, b: &Build) -> Result<(), Cause>
     requires { Building b.now }
     ensures bytes { (limit : ℕ) (t : Items) → Built limit b.now t →

@@ -1,18 +1,21 @@
 //! Laws of the definitions.
 
-ghost use Rattle.std.specs.Prelude.{◌≡◌, ℕ, ◌+◌, ◌-◌, ◌<◌, ◌≤◌, ◌*◌, List, length, sum, Some, None};
-ghost use Rattle.memory.specs.Bytes.{cell};
+ghost use Rattle.std.specs.Prelude.{◌≡◌, ℕ, ◌+◌, ◌-◌, ◌<◌, ◌≤◌, ◌*◌, ◌++◌, List, length, sum, Some, None};
+ghost use Rattle.std.specs.List.{All};
+ghost use Rattle.memory.specs.Bytes.{bytes, cell, cell_bytes};
 ghost use Rattle.memory.specs.declared.system.TheConstants.{DP, RUNTIME_CELLS};
 ghost use Rattle.block_buffers.specs.Disks.{Disk};
 ghost use Rattle.image_loader.specs.Files.{Contents};
 ghost use Rattle.image_builder.specs.Sources.{Done, AreGood, IsBuiltOf, IsDecided, IsFirstFault, IsOwnRefusal};
 ghost use Rattle.image_builder.specs.declared.cause.BuildFault.{BuildFault};
+ghost use Rattle.dictionary.specs.Header.{is_immediate};
 ghost use Rattle.image_builder.specs.Places.{Place};
-ghost use Rattle.image_builder.specs.Items.{Items, image, system, controls, names, current, end_of, link_of};
+ghost use Rattle.image_builder.specs.declared.entry.Kind.{Kind};
+ghost use Rattle.image_builder.specs.Items.{Items, image, system, controls, names, current, code_of, end_of, field, head_size, heads_of, kind_size, link_of};
 ghost use Rattle.image_builder.specs.Names.{Name, IsLatest, within, found};
 ghost use Rattle.dictionary.specs.Search.{Found, Nowhere, sought_in, sought};
 ghost use Rattle.image_builder.specs.Grammar.{MakeImage};
-ghost use Rattle.image_builder.specs.Headers.{memory_of, sizes, IsVocabulary, IsTitled, Says, HasView, chain_of, links_of, sought_name, titled};
+ghost use Rattle.image_builder.specs.Headers.{memory_of, sizes, IsMade, IsVocabulary, IsTitled, Says, HasView, chain_of, links_of, sought_name, titled};
 ghost use Rattle.image_builder.specs.Faults.{IsGood, IsFault, HasNoFault, IsSameFault};
 ghost use Rattle.image_builder.specs.declared.cause.Cause.{Cause};
 ghost use Rattle.image_builder.specs.declared.cause.Cause.TheVariants.{OutOfMemory};
@@ -23,7 +26,7 @@ pub fn good_has_no_fault()
         HasNoFault limit source }
 {}
 
-/// A source has one first fault at most; want of memory aside.
+/// A source has one first fault at most; lack of memory aside.
 pub fn one_fault()
     ensures { (limit : ℕ) (source : List Place) (last p q o n : ℕ) (a b : Cause) → IsFault limit source last p o a →
         IsFault limit source last q n b → IsSameFault p o a q n b }
@@ -38,7 +41,7 @@ pub fn one_image()
 {}
 
 /// A refusal of a source whose screens are all there, and of which none fails, is the source's first fault; so a good
-/// source is refused only for want of memory. A word that is at fault however the source goes on behind the screens that
+/// source is refused only for lack of memory. A word that is at fault however the source goes on after the screens that
 /// were read is the first fault of the whole source.
 pub fn refusal_law()
     ensures first { (limit : ℕ) (d : Disk) (from to : ℕ) (e : BuildFault) → IsOwnRefusal limit d from to e →
@@ -49,7 +52,7 @@ pub fn refusal_law()
         IsDecided limit d from to k e → IsFirstFault limit d from to e }
 {}
 
-/// An image is as long as the sizes of its items, behind the 256 bytes of the system's cells.
+/// An image is as long as the sizes of its items, after the 256 bytes of the system's cells.
 pub fn size_law()
     ensures length { (t : Items) → length (image t) ≡ 256 + sum (sizes t) }
     ensures end { (t : Items) → cell (memory_of t) DP ≡ 256 + sum (sizes t) }
@@ -69,11 +72,25 @@ pub fn chain_law()
         chain_of (memory_of t) voc class ≡ links_of voc class (names t) }
 {}
 
-/// The header of each item that makes one stands where the items before it end. Its view cell is the screen of the name, its
+/// The header of each item that makes one is where the items before it end. Its view cell is the screen of the name, its
 /// link the newest earlier name of its vocabulary and class, 0 where there is none; and it isn't hidden.
 pub fn header_law()
     ensures { (t before : Items) (p : Place) → MakeImage t → IsTitled t before p →
         Says (memory_of t) (end_of before + 2) p.screen (link_of before p) p.name }
+{}
+
+/// The header of each name is immediate exactly if the name is: an IMMEDIATE comes after its item, before the next header.
+pub fn immediate_law()
+    ensures { (t : Items) → MakeImage t →
+        All (λ n. is_immediate (memory_of t) n.link ≡ n.immediate) (names t) }
+{}
+
+/// The header of each item without a body has the code field of its kind, and then what its kind writes: the value of a
+/// constant, a variable's 0, a vocabulary's record; nothing for CREATE and a primitive.
+pub fn field_law()
+    ensures { (t before : Items) (p : Place) (k : Kind) → IsMade t before p k →
+        bytes (memory_of t) (end_of before + (5 + length p.name)) (2 + kind_size k) ≡
+        cell_bytes (code_of k) ++ field (heads_of t) before (end_of before + head_size p) k }
 {}
 
 /// A search of an image's memory comes to the newest name of a vocabulary that is spelled so, and to none where there is

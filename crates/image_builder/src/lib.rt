@@ -1,4 +1,4 @@
-//! The metacompiler: screens of source are built to an image.
+//! The builder: an image is made of the source in screens (`build`), or the first fault of the source is found.
 #![tactic(auto)]
 
 mod body;

@@ -1,4 +1,4 @@
-//! What each item lays.
+//! What each item writes.
 
 ghost use Rattle.std.specs.Prelude.{◌≡◌, ℕ, ◌+◌, ◌-◌, ◌<◌, ◌++◌, List, ◌∷◌, take, length, OnOk, IfErr};
 ghost use Rattle.colon_bodies.specs.Tree.{Definition};
@@ -18,9 +18,10 @@ use crate::header::{here, make_header};
 use crate::spot::Spot;
 use crate::state::{Build, Title};
 use colon_bodies::lay_cell;
+use dictionary::CountByte;
 use dictionary::code_fields::{COLON, CONSTANT, VARIABLE, VOCABULARY};
 
-/// CREATE lays a header.
+/// CREATE writes a header.
 pub fn make_create(b: &mut Build, p: Spot) -> Result<(), Cause>
     requires building { Building b.old }
     requires short { length p.name.now < 32 }
@@ -33,7 +34,7 @@ pub fn make_create(b: &mut Build, p: Spot) -> Result<(), Cause>
     Ok(())
 }
 
-/// VARIABLE lays a header, and the cell 0.
+/// VARIABLE writes a header, and the cell 0.
 pub fn make_variable(b: &mut Build, p: Spot) -> Result<(), Cause>
     requires building { Building b.old }
     requires short { length p.name.now < 32 }
@@ -47,7 +48,7 @@ pub fn make_variable(b: &mut Build, p: Spot) -> Result<(), Cause>
     Ok(())
 }
 
-/// CONSTANT lays a header, and its value.
+/// CONSTANT writes a header, and its value.
 pub fn make_constant(b: &mut Build, p: Spot, n: u16) -> Result<(), Cause>
     requires building { Building b.old }
     requires short { length p.name.now < 32 }
@@ -61,7 +62,7 @@ pub fn make_constant(b: &mut Build, p: Spot, n: u16) -> Result<(), Cause>
     Ok(())
 }
 
-/// PRIM lays a header with the primitive's number as its code field.
+/// PRIM writes a header with the primitive's number as its code field.
 pub fn make_primitive(b: &mut Build, p: Spot, n: u16) -> Result<(), Cause>
     requires building { Building b.old }
     requires short { length p.name.now < 32 }
@@ -77,7 +78,7 @@ pub fn make_primitive(b: &mut Build, p: Spot, n: u16) -> Result<(), Cause>
     Ok(())
 }
 
-/// Lays the record of a vocabulary: four chain heads, and the link to the next older record.
+/// Writes the record of a vocabulary: four chain heads, and the link to the next older record.
 pub fn lay_record(image: &mut Vec<u8>, older: u16) -> Result<(), Cause>
     ensures bytes { OnOk result (image.new.items ≡ image.old.items ++ (zeros 8 ++ cell_bytes older)) }
     ensures memory { IfErr result (λ e. e ≡ OutOfMemory) }
@@ -87,7 +88,7 @@ pub fn lay_record(image: &mut Vec<u8>, older: u16) -> Result<(), Cause>
     Ok(())
 }
 
-/// VOCABULARY lays a header, and a record.
+/// VOCABULARY writes a header, and a record.
 pub fn make_vocabulary(b: &mut Build, p: Spot) -> Result<(), Cause>
     requires building { Building b.old }
     requires short { length p.name.now < 32 }
@@ -103,7 +104,7 @@ pub fn make_vocabulary(b: &mut Build, p: Spot) -> Result<(), Cause>
     Ok(())
 }
 
-/// `,` lays a cell.
+/// `,` writes a cell.
 pub fn comma(b: &mut Build, n: u16) -> Result<(), Cause>
     ensures built { (limit : ℕ) (t : Items) (ws : List Place) → Built limit b.old t →
         OnOk result (Built limit b.new (Then t ws (Cell n))) }
@@ -114,7 +115,7 @@ pub fn comma(b: &mut Build, n: u16) -> Result<(), Cause>
     Ok(())
 }
 
-/// `C,` lays the low byte.
+/// `C,` writes the low byte.
 pub fn char_comma(b: &mut Build, n: u16) -> Result<(), Cause>
     ensures built { (limit : ℕ) (t : Items) (ws : List Place) → Built limit b.old t →
         OnOk result (Built limit b.new (Then t ws (Byte n))) }
@@ -125,7 +126,7 @@ pub fn char_comma(b: &mut Build, n: u16) -> Result<(), Cause>
     Ok(())
 }
 
-/// Lays zero bytes.
+/// Writes zero bytes.
 pub fn lay_zeros(image: &mut Vec<u8>, n: u16) -> Result<(), Cause>
     ensures bytes { OnOk result (image.new.items ≡ image.old.items ++ zeros n) }
     ensures memory { IfErr result (λ e. e ≡ OutOfMemory) }
@@ -136,7 +137,7 @@ pub fn lay_zeros(image: &mut Vec<u8>, n: u16) -> Result<(), Cause>
     Ok(())
 }
 
-/// ALLOT lays zero bytes.
+/// ALLOT writes zero bytes.
 pub fn allot(b: &mut Build, n: u16) -> Result<(), Cause>
     ensures built { (limit : ℕ) (t : Items) (ws : List Place) → Built limit b.old t →
         OnOk result (Built limit b.new (Then t ws (Allot n))) }
@@ -191,11 +192,11 @@ pub fn set_immediate(b: &mut Build)
     ensures kept { b.new.draft ≡ b.old.draft }
 {
     let e = newest(b.names.as_slice());
-    b.image[e.link as usize - 254] = 192 + e.name.len() as u8;
+    b.image[e.link as usize - 254] = CountByte::immediate_of_length(e.name.len() as u8).0;
     mark_newest(&mut b.names);
 }
 
-/// Lays a definition, whose thread is at hand.
+/// Writes a definition, whose thread is at hand.
 pub fn make_colon(b: &mut Build, p: &Title, bytes: &[u8]) -> Result<(), Cause>
     requires building { Building b.old }
     requires short { length p.now.name.items < 32 }

@@ -42,7 +42,7 @@ fn make(b: &mut Build, kind: Kind, p: Spot) -> Result<(), Cause>
     }
 }
 
-/// How many bytes stand behind a header of this kind.
+/// How many bytes come after a header of this kind.
 fn bytes_of_kind(kind: Kind) -> usize
     ensures is { result ≡ kind_size kind }
     ensures few { result ≤ 10 }

@@ -18,19 +18,19 @@ use block_buffers::{BLOCK_SIZE, Device};
 use source_words::{Mode, Scanner, Word};
 use std::mem;
 
-/// A source that is read in part: what was built of it, and what is begun of an item.
+/// A source that is read in part: what was built of it, and what is started of an item.
 #[derive(Drop)]
 pub struct Compilation {
     /// What was built so far.
     pub build: Build,
-    /// What is begun of an item.
+    /// What is started of an item.
     pub begun: Begun,
 }
 
 /// Why the reading of a source stopped.
 #[derive(Clone, Copy, Debug, PartialEq, Eq)]
 pub enum Stop {
-    /// This screen isn't there, or could not be read.
+    /// This screen doesn't exist, or could not be read.
     Device(u16),
     /// A word is at fault, or memory was not found.
     Word(BuildFault),
@@ -44,7 +44,7 @@ impl From<BuildFault> for Stop {
     }
 }
 
-/// A fault as the caller is told of it: want of memory is told of the first screen.
+/// A fault as the caller gets it: lack of memory is reported for the first screen.
 fn settle(fault: BuildFault, from: u16) -> BuildFault
     ensures { result ≡ settled fault.screen fault.offset fault.cause from }
 {

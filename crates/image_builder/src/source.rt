@@ -100,7 +100,7 @@ fn at(w: Spot, taken: Result<Begun, Cause>) -> Result<Begun, BuildFault>
     }
 }
 
-/// A word behind a number.
+/// A word after a number.
 fn take_number(b: &mut Build, n: u16, a: Site, w: Spot) -> Result<Begun, BuildFault>
     requires building { Building b.old }
     ensures { (t : Items) (ws after : List Place) → IsState b.old.limit b.old t ws (Counted n) → IsAtSite a ws →

@@ -83,7 +83,7 @@ pub fn sort_of(name: &[u8]) -> Sort
     }
 }
 
-/// A keyword that takes the name behind it.
+/// A keyword that takes the name after it.
 #[tactic(auto, unfolding(crate::specs::Spelled::naming))]
 fn naming(name: &[u8]) -> Option<BodyWord<'_>>
     ensures { option_map token result ≡ naming name.now }
@@ -179,7 +179,7 @@ fn ending(name: &[u8]) -> Option<BodyWord<'_>>
     }
 }
 
-/// The keyword of bodies that a word is spelled as, with the text behind it where it takes one.
+/// The keyword of bodies that a word is spelled as, with the text after it where it takes one.
 #[tactic(auto, unfolding(crate::specs::Spelled::keyword))]
 pub fn keyword<'a>(name: &'a [u8], text: &'a [u8]) -> Option<BodyWord<'a>>
     ensures { option_map token result ≡ keyword name.now text.now }

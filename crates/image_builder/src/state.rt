@@ -27,7 +27,7 @@ pub struct Build {
     pub draft: Draft,
 }
 
-/// Where a word stands.
+/// Where a word is.
 #[derive(Clone, Copy, Debug, PartialEq, Eq)]
 pub struct Site {
     /// Its screen.
@@ -45,12 +45,12 @@ pub struct Title {
     pub name: Vec<u8>,
 }
 
-/// What is begun of an item.
+/// What is started of an item.
 #[derive(Drop)]
 pub enum Begun {
     /// Nothing.
     Whole,
-    /// A number, and where it stands.
+    /// A number, and where it is.
     Counted(u16, Site),
     /// What leads up to a name.
     Due(Lead),

@@ -29,7 +29,7 @@ pub fn is_over(b: &Build, more: usize) -> bool
     here(b) as usize + more > usize::from(b.limit)
 }
 
-/// A word behind a number.
+/// A word after a number.
 pub fn take_counted(b: &mut Build, n: u16, w: Spot) -> Result<Begun, Cause>
     requires building { Building b.old }
     ensures { (t : Items) (ws after : List Place) → IsState b.old.limit b.old t ws (Counted n) →
@@ -123,7 +123,7 @@ fn has_names(b: &Build) -> bool
     !b.names.is_empty()
 }
 
-/// Where a word stands.
+/// Where a word is.
 fn site_of(w: Spot) -> Site
     ensures { (result.screen ≡ w.entry.screen) × (result.offset ≡ w.entry.offset) }
 {
@@ -162,7 +162,7 @@ pub fn take_item(b: &mut Build, w: Spot) -> Result<Begun, Cause>
     }
 }
 
-/// A word behind a vocabulary's name.
+/// A word after a vocabulary's name.
 pub fn take_definitions(b: &mut Build, v: u16, w: Spot) -> Result<Begun, Cause>
     ensures { (t : Items) (ws after : List Place) → IsState b.old.limit b.old t ws (Chosen v) →
         Taken b.old.limit t ws (Chosen v) (place w.entry) after result b.new }

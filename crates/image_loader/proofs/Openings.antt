@@ -56,9 +56,6 @@ nil_taken (suc n) = refl
 first_reads : (t : List ℕ) → opening_of (version 1 ++ t) ≡ Ok (4, 10)
 first_reads t = let long : nat_lt (length (version 1 ++ t)) 10 ≡ false = le-ltb _ _ (omega arith) in rw (nil_taken (length t), long) refl
 
-second_reads : (t : List ℕ) → opening_of (version 2 ++ t) ≡ buffers_of (version 2 ++ t)
-second_reads t = rw (nil_taken (length t)) refl
-
 count_reads : (count : ℕ) (t : List ℕ) → IsCount count → opening_of (opening count ++ t) ≡ Ok (count, 12)
 count_reads count t h =
     let bytes : List ℕ = opening count ++ t in

@@ -1,4 +1,4 @@
--- Each list of bytes is a file, or the beginning of one, or one with bytes behind it, or has a bad field.
+-- Each list of bytes is a file, or the beginning of one, or one with bytes after it, or has a bad field.
 use Rattle.std.proofs.Common.{◌≡◌, ◌<◌, ◌≤◌, ◌+◌, ℕ, suc, List, [], ◌∷◌, ◌++◌, length, take, drop, get_or, Ok, Err, refl, sym, ap, ◌∙◌, arith, subst, inl, inr}
 use Rattle.std.proofs.lemmas.Bool.{cases_lt}
 use Rattle.std.proofs.Math.Seq.{take-append_seam, drop-append_seam}
@@ -21,7 +21,7 @@ pub data Kind (bytes : List ℕ) : Type 0 where
   has_bad_buffers : HasBadBuffers bytes → Kind bytes
   has_bad_size : HasBadSize bytes → Kind bytes
 
--- an opening, and what stands behind it
+-- an opening, and what comes after it
 get_or-behind : (xs ys : List ℕ) (i : ℕ) → get_or (xs ++ ys) (length xs + i) 0 ≡ get_or ys i 0
 get_or-behind [] ys i = let e : 0 + i ≡ i = omega arith in rw e refl
 get_or-behind (x ∷ xs) ys i = let e : suc (length xs) + i ≡ suc (length xs + i) = omega arith in rw e (get_or-behind xs ys i)

@@ -1,4 +1,4 @@
--- What stands from the entry on: entry, size, and the bytes of memory.
+-- What is from the entry on: entry, size, and the bytes of memory.
 use Rattle.std.proofs.Common.{◌≡◌, ◌<◌, ◌≤◌, ◌+◌, ◌*◌, ◌/◌, ◌%◌, ◌-◌, ◌⊎◌, ℕ, true, false, List, [], ◌∷◌, ◌++◌, length, take, drop, replicate, get_or, Ok, Err, refl, sym, ap, ◌∙◌, arith, nat_lt, inl, inr, zero, suc, Fits, w8}
 use Rattle.std.proofs.lemmas.Bool.{le-ltb, lt-ltb, cases_lt}
 use Rattle.std.proofs.lemmas.List.{length-append, length-take, length-replicate, take-append-drop, drop_more}
@@ -116,7 +116,7 @@ bad_tail_reads count t long bad =
     let b : is_bad_size count (field_at 2 t) ≡ true = bad_size_true count (field_at 2 t) bad in
     rw (l, b) refl
 
--- each list of bytes is the tail of an image, or the beginning of one, or one with bytes behind it, or has a bad size
+-- each list of bytes is the tail of an image, or the beginning of one, or one with bytes after it, or has a bad size
 pub data Tail (count : ℕ) (t : List ℕ) : Type 0 where
   is_whole : (image : Contents) → image.buffers ≡ count → IsImage image → t ≡ tail image → Tail count t
   is_cut : (image : Contents) (x : ℕ) (xs : List ℕ) → image.buffers ≡ count → IsImage image → t ++ x ∷ xs ≡ tail image → Tail count t
@@ -149,7 +149,7 @@ cut_by : (count : ℕ) (t pad : List ℕ) (image : Contents) → 0 < length pad 
 cut_by count t [] image some e h f = absurd (omega arith)
 cut_by count t (x ∷ xs) image some e h f = is_cut image x xs e h f
 
--- entry and size are there, and any bytes behind them
+-- entry and size exist, and any bytes after them
 fields_sort : (count a b c d : ℕ) (r : List ℕ) → IsCount count → AreBytes (a ∷ b ∷ c ∷ d ∷ r) → Tail count (a ∷ b ∷ c ∷ d ∷ r)
 fields_sort count a b c d r few fit =
     let entry : ℕ = a + 256 * (b + 0) in

@@ -101,7 +101,7 @@ told (Err fault.BadBuffers) read e h k = cc
 told (Err fault.BadSize) read e h k = cc
 told (Err fault.TrailingBytes) read e h k = cc
 
--- and what the function tells is what reading gives
+-- and what the function says is what reading gives
 fails : (r read : Result Contents ImageFault) (e : ImageFault) → Gives r read → r ≡ Err e → Fails e read
 fails r read e h k = let P : Result Contents ImageFault → Type 0 = λ x. Gives x read in subst P k h
 

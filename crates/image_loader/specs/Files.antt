@@ -10,7 +10,7 @@ pub record Contents : Type 0 where
   pub entry : ℕ
   pub bytes : List ℕ
 
--- how many bytes an image with so many buffers may have: the buffers stand behind them
+-- how many bytes an image with so many buffers may have: the buffers come after them
 abbrev pub IsSize : ℕ → ℕ → Type 0
 IsSize buffers n = (256 ≤ n) × (n ≤ limit_of buffers)
 
@@ -63,14 +63,14 @@ pub record IsWritten (bytes : List ℕ) (image : Contents) : Type 0 where
   pub spelled : bytes ≡ file image
   pub is_image : IsImage image
 
--- these bytes are a file but for its end, of which at least a byte is lacking
+-- these bytes are a file except its end, of which at least a byte is lacking
 pub record IsCutShort (bytes : List ℕ) : Type 0 where
   pub image : Contents
   pub next : ℕ
   pub rest : List ℕ
   pub whole : IsFile (bytes ++ next ∷ rest) image
 
--- these bytes are a file and at least a byte behind it
+-- these bytes are a file and at least a byte after it
 pub record IsFollowed (bytes : List ℕ) : Type 0 where
   pub whole : List ℕ
   pub image : Contents
@@ -98,7 +98,7 @@ pub record HasBadBuffers (bytes : List ℕ) : Type 0 where
   pub version_fits : Agree bytes (version 2)
   pub buffers_misfit : (buffers : ℕ) → IsCount buffers → ¬ Agree bytes (opening buffers)
 
--- all before the entry fits, and both bytes of the size are there and stand for no size
+-- all before the entry fits, and both bytes of the size exist and stand for no size
 pub record HasBadSize (bytes : List ℕ) : Type 0 where
   pub start : List ℕ
   pub buffers : ℕ

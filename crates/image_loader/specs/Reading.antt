@@ -24,7 +24,7 @@ buffers_of bytes =
     else if nat_lt (length bytes) 12 then Err fault.Truncated
     else Ok (field_at 10 bytes, 12)
 
--- how many buffers there are, and where the entry stands
+-- how many buffers there are, and where the entry is
 abbrev pub opening_of : List ℕ → Result (ℕ × ℕ) ImageFault
 opening_of bytes =
     if not (agree bytes magic) then Err fault.BadMagic
@@ -32,14 +32,14 @@ opening_of bytes =
     else if not (agree bytes (version 2)) then Err fault.BadVersion
     else buffers_of bytes
 
--- the image, where as many bytes stand behind the size as it says
+-- the image, where as many bytes come after the size as it says
 abbrev pub body_by : Bool → Bool → Contents → Result Contents ImageFault
 body_by is_short is_long found =
     if is_short then Err fault.Truncated
     else if is_long then Err fault.TrailingBytes
     else Ok found
 
--- what stands from the entry on
+-- what is from the entry on
 abbrev pub tail_of : ℕ → List ℕ → Result Contents ImageFault
 tail_of buffers bytes =
     if nat_lt (length bytes) 4 then Err fault.Truncated

@@ -20,7 +20,7 @@ pub enum ImageFault {
     /// The size is below 256, or above where so many buffers begin.
     #[error("BadSize")]
     BadSize,
-    /// There are bytes behind the end of the file.
+    /// There are bytes past the end of the file.
     #[error("TrailingBytes")]
     TrailingBytes,
     /// The bytes are a file, and there was no memory for its image.

@@ -1,4 +1,4 @@
-//! What stands before the entry: magic, version, and in version 2 how many buffers there are.
+//! What is before the entry: magic, version, and in version 2 how many buffers there are.
 
 ghost use Rattle.std.specs.Prelude.{◌≡◌, ◌≤◌, length, IfOk};
 ghost use Rattle.memory.specs.Bytes.{IsCount};
@@ -16,7 +16,7 @@ pub const VERSION: [u8; 10] = *b"FTH83IMG\x02\x00";
 /// How many bytes the magic has.
 const MAGIC_SIZE: usize = 8;
 
-/// Where the number of buffers stands in version 2.
+/// Where the number of buffers is in version 2.
 const BUFFERS: usize = 10;
 
 /// How many buffers an image of version 1 has.
@@ -30,7 +30,7 @@ fn agree(xs: &[u8], ys: &[u8]) -> bool
     xs[..count] == ys[..count]
 }
 
-/// How many buffers version 2 says, and where the entry stands.
+/// How many buffers version 2 says, and where the entry is.
 fn read_buffers(bytes: &[u8]) -> Result<(u16, usize), ImageFault>
     ensures value { result ≡ buffers_of bytes.now }
     ensures count { IfOk result (λ found. IsCount found.0) }
@@ -53,7 +53,7 @@ fn read_buffers(bytes: &[u8]) -> Result<(u16, usize), ImageFault>
     Ok((count, BUFFERS + 2))
 }
 
-/// How many buffers there are, and where the entry stands; or the first field whose bytes fit no file.
+/// How many buffers there are, and where the entry is; or the first field whose bytes fit no file.
 pub fn read_opening(bytes: &[u8]) -> Result<(u16, usize), ImageFault>
     ensures value { result ≡ opening_of bytes.now }
     ensures count { IfOk result (λ found. IsCount found.0) }

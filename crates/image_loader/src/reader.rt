@@ -12,7 +12,7 @@ use byteorder::{ByteOrder, LittleEndian};
 use memory::limit_of;
 use std::alloc::Global;
 
-/// How many bytes stand behind the opening before those of memory: entry and size.
+/// How many bytes come after the opening before those of memory: entry and size.
 const FIELDS: usize = 4;
 
 /// The least size.
@@ -21,7 +21,7 @@ const LEAST_SIZE: u16 = 256;
 /// Reads the image of which these bytes are the file.
 ///
 /// The fields are looked at in the order of their places, and the first whose bytes fit no file
-/// gives the fault. Of a field that is cut off, the bytes that are there decide: any single byte
+/// gives the fault. Of a field that is cut off, the bytes that exist decide: any single byte
 /// of a size fits, and a single byte of a number of buffers that is 2 to 16. Where all bytes fit and
 /// more are lacking, the fault is `Truncated`.
 pub fn read(alloc: Global, bytes: &[u8]) -> Result<Image, ImageFault>
@@ -47,7 +47,7 @@ pub fn read(alloc: Global, bytes: &[u8]) -> Result<Image, ImageFault>
     read_fields(alloc, bytes)
 }
 
-/// Reads the opening, and then what stands behind it.
+/// Reads the opening, and then what comes after it.
 fn read_fields(alloc: Global, bytes: &[u8]) -> Result<Image, ImageFault>
     ensures { Gives result (read_of bytes.now) }
 {

@@ -22,7 +22,7 @@ pub fn write(alloc: Global, image: &Image) -> Result<Vec<u8>, OutOfMemory>
     }
 }
 
-/// The header and the bytes behind it.
+/// The header and the bytes after it.
 fn write_fields(
     alloc: Global,
     buffers: u16,

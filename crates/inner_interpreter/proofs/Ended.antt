@@ -40,7 +40,7 @@ line_goes e line w s same goes = ap (λ o. if is_none o then line_next e line w.
 runs_at : (w : World) (s : State) (unread : Option (List ℕ)) (disk : Option Disk) (sent : Option (List ℕ)) (left : ℕ) → s.halt ≡ None → 0 < left → IsAt w s unread disk sent left → stops w ≡ None
 runs_at w s unread disk sent left halt some at = runs_on w (ap (λ (v : State). v.halt) (sym at.state_is) ∙ halt) (omega (arith, at.left_is, some))
 
--- where a request stands, no line is due
+-- while a request waits, no line is due
 asked_line : (e : Extent) (line : Whole → List ℕ) (s : State) → is_answer (asked_by s.wait) InputFault ≡ true → line_next e line s ≡ []
 asked_line e line s h = by_wait (asked_by s.wait) h where
   by_wait : (o : Option Request) → is_answer o InputFault ≡ true → (if is_none o && is_met e s.parts then line s.parts else []) ≡ []
@@ -132,7 +132,7 @@ made_untraced e line w s unread disk sent t0 t2 r ended = record {
   due = inl (subst IsSome (sym ended.ends.stops_so) refl);
 }
 
--- a front of bytes, behind others
+-- a front of bytes, after others
 record Behind (a c : Option (List ℕ)) (xs bs : List ℕ) : Type 0 where
   front : List ℕ
   back : List ℕ

@@ -18,7 +18,7 @@ use Rattle.inner_interpreter.proofs.Shapes.{either, by_answer}
 use Rattle.inner_interpreter.proofs.Stretched.{rounds_add, round_tick}
 use Rattle.inner_interpreter.proofs.Uniqueness.{stays}
 
--- no request stands
+-- no request waits
 abbrev IsFree : State → Type 0
 IsFree s = s.wait ≡ None
 

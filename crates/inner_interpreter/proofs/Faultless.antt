@@ -1,4 +1,4 @@
--- The written rounds tell no machine of a failed reader.
+-- The written rounds report no failed reader to the machine.
 use Rattle.std.proofs.Common.{◌≡◌, ◌≢◌, ℕ, zero, suc, ◌+◌, ◌==◌, ◌∷◌, [], List, length, nat_lt, Option, Some, None, Bool, true, false, Result, Ok, Err, IsOkAnd, IsErrOf, refl, ap, sym, subst, ◌∙◌, if◌then◌else◌}
 use Rattle.block_buffers.specs.Disks.{Disk, succeeds}
 use Rattle.memory.specs.Bytes.{cell}
@@ -70,7 +70,7 @@ answered_read s p answering.WriteFault n = fault_read s _ 10
 pub answer_read : (s : State) (reply : Reply) → HasRead s → reply ≢ answering.InputFault → HasRead (answer_of s reply).0
 answer_read s reply h n = by_answer HasRead s reply (λ p q. answered_read s.parts p reply n) (λ q. h)
 
--- whether a reply tells of a failed reader
+-- whether a reply reports a failed reader
 abbrev pub tells_fault : Reply → Bool
 tells_fault answering.InputFault = true
 tells_fault _ = false
@@ -84,7 +84,7 @@ told_read old new act reply h q k =
     let same : new ≡ (answer_of old reply).0 = ap (λ (t : State × Act). t.0) q in
     subst HasNotFailed (sym same) (as_test (answer_of old reply).0.halt (answer_read old reply goes (not_told reply k)))
 
--- an answer that was taken, and tells of no failed reader
+-- an answer that was taken, and reports no failed reader
 pub told_ok : (old new : State) (reply : Reply) (r : Result Act Refused) (x : Act) → old.halt ≡ None
     → (old.halt ≡ None → is_answer (asked_by old.wait) reply ≡ true → IsOkAnd r (λ act. (new, act) ≡ answer_of old reply))
     → (old.halt ≡ None → is_answer (asked_by old.wait) reply ≡ false → IsErrOf r NotAsked)

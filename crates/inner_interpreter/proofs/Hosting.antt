@@ -47,7 +47,7 @@ stays_refused s t Halted h = h.1
 stays_refused s t Waiting h = h.2
 stays_refused s t NotAsked h = absurd h
 
--- a quiet act tells of nothing
+-- a quiet act says of nothing
 at_quiet : (act : Act) (shown : Shown) (event : Event) → act.shown ≡ shown → act.event ≡ event → is_quiet act ≡ true → told_event act.event ≡ []
 at_quiet act shown Went e f q = rw f refl
 at_quiet act Nothing (Ask r) e f q = let no : is_quiet act ≡ false = rw (e, f) refl in cc

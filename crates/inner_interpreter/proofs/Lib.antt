@@ -5,6 +5,7 @@ pub mod Answering
 pub mod Quiet
 pub mod Stretched
 pub mod Moving
+pub mod Tracked
 pub mod Running
 pub mod Ended
 pub mod Uniqueness

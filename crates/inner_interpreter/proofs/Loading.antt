@@ -7,7 +7,7 @@ use Rattle.inner_interpreter.specs.Served.{is_input_fault, HasNotFailed}
 use Rattle.machine.specs.State.{State, start}
 use Rattle.inner_interpreter.specs.Worlds.{IsAt, loaded}
 
--- it stands where the world of its image begins
+-- it is where the world of its image begins
 pub loaded_at : (image : Contents) (s : State) (count limit : ℕ) (unread : Option (List ℕ)) (disk : Option Disk) (sent : Option (List ℕ)) (typed : List ℕ) (d : Disk) (shown : List ℕ)
     → s ≡ start image count → IfSome disk (λ x. count ≡ length x.blocks) → unread ≡ Some typed → disk ≡ Some d → sent ≡ Some shown
     → IsAt (loaded image typed d shown limit) s unread disk sent limit

@@ -22,34 +22,34 @@ use Rattle.inner_interpreter.proofs.Ending.{answer_none, one_waits}
 use Rattle.inner_interpreter.proofs.Quiet.{ticked_runs, quiet_shows}
 use Rattle.machine.proofs.Ran.{ran_quiet, ran_loud}
 
--- an answer fits only where a request stands
-asked_waits : (s : State) (reply : Reply) → is_answer (asked_by s.wait) reply ≡ true → waiting s.wait ≡ 1
+-- an answer fits only while a request waits
+pub asked_waits : (s : State) (reply : Reply) → is_answer (asked_by s.wait) reply ≡ true → waiting s.wait ≡ 1
 asked_waits s reply h = by_wait s.wait h where
   by_wait : (o : Option (Request × ℕ)) → is_answer (asked_by o) reply ≡ true → waiting o ≡ 1
   by_wait None q = cc
   by_wait (Some p) q = refl
 
-after-append : (ts us : List Turn) (s : State) → after s (ts ++ us) ≡ after (after s ts) us
+pub after-append : (ts us : List Turn) (s : State) → after s (ts ++ us) ≡ after (after s ts) us
 unfolding after
 after-append [] us s = refl
 after-append (t ∷ ts) us s = after-append ts us (turned s t)
 
-accepted-append : (ts us : List Turn) (s : State) → AreAccepted s ts → AreAccepted (after s ts) us → AreAccepted s (ts ++ us)
+pub accepted-append : (ts us : List Turn) (s : State) → AreAccepted s ts → AreAccepted (after s ts) us → AreAccepted s (ts ++ us)
 unfolding after AreAccepted
 accepted-append [] us s h k = k
 accepted-append (t ∷ ts) us s h k = (h.0, accepted-append ts us (turned s t) h.1 k)
 
-device_calls-append : (ts us : List Turn) (s : State) → device_calls s (ts ++ us) ≡ device_calls s ts ++ device_calls (after s ts) us
+pub device_calls-append : (ts us : List Turn) (s : State) → device_calls s (ts ++ us) ≡ device_calls s ts ++ device_calls (after s ts) us
 unfolding after device_calls
 device_calls-append [] us s = refl
 device_calls-append (t ∷ ts) us s = ap (λ cs. device_call s t ++ cs) (device_calls-append ts us (turned s t)) ∙ sym (append_assoc (device_call s t) (device_calls (turned s t) ts) (device_calls (after (turned s t) ts) us))
 
-shown_by-append : (ts us : List Turn) (s : State) → shown_by s (ts ++ us) ≡ shown_by s ts ++ shown_by (after s ts) us
+pub shown_by-append : (ts us : List Turn) (s : State) → shown_by s (ts ++ us) ≡ shown_by s ts ++ shown_by (after s ts) us
 unfolding after shown_by
 shown_by-append [] us s = refl
 shown_by-append (t ∷ ts) us s = ap (λ bs. turn_bytes s t ++ bs) (shown_by-append ts us (turned s t)) ∙ sym (append_assoc (turn_bytes s t) (shown_by (turned s t) ts) (shown_by (after (turned s t) ts) us))
 
-given-append : (ts us : List Turn) (s : State) (g h : List (Option ℕ)) → AreGiven s ts g → AreGiven (after s ts) us h → AreGiven s (ts ++ us) (g ++ h)
+pub given-append : (ts us : List Turn) (s : State) (g h : List (Option ℕ)) → AreGiven s ts g → AreGiven (after s ts) us h → AreGiven s (ts ++ us) (g ++ h)
 unfolding after AreGiven
 given-append [] us s g h x y = rw x y
 given-append (t ∷ ts) us s g h x y = (x.0, x.1 ++ h, ap (λ v. v ++ h) x.2 ∙ append_assoc x.0 x.1 h, x.3, given-append ts us (turned s t) x.1 h x.4 y)
@@ -63,17 +63,17 @@ kept_appends None b h = tt
 kept_appends (Some xs) None h = absurd h
 kept_appends (Some xs) (Some ys) h = h ∙ sym (append-nil xs)
 
-pub moved_none : (s : State) (c : List DeviceCall) (a b : Option (List ℕ)) (r : List (Option ℕ)) (whole : Bool) → Appends a b [] → HasMoved s s (logs c a r) (logs c b r) whole [] 0
+unfoldable pub moved_none : (s : State) (c : List DeviceCall) (a b : Option (List ℕ)) (r : List (Option ℕ)) (whole : Bool) → Appends a b [] → HasMoved s s (logs c a r) (logs c b r) whole [] 0
 unfolding after device_calls shown_by AreAccepted AreGiven
 moved_none s c a b r whole h = record { turns = []; accepted = tt; state_is = refl; calls_are = sym (append-nil c); front = []; back = []; shown_is = refl; sent_is = h; all_sent = λ q. refl; given = []; reads_are = sym (append-nil r); are_given = refl; words_are = refl; ticks_are = refl }
 
-words_in-append : (ts us : List Turn) → words_in (ts ++ us) ≡ words_in ts ++ words_in us
+pub words_in-append : (ts us : List Turn) → words_in (ts ++ us) ≡ words_in ts ++ words_in us
 words_in-append [] us = refl
 words_in-append (Tick ∷ ts) us = words_in-append ts us
 words_in-append (Answer reply ∷ ts) us = words_in-append ts us
 words_in-append (Enter word ∷ ts) us = ap (λ ws. word ∷ ws) (words_in-append ts us)
 
-pub moved_add : (a b c : State) (f g h : Logs) (whole : Bool) (us vs : List ℕ) (m n : ℕ) → HasMoved a b f g true us m → HasMoved b c g h whole vs n → HasMoved a c f h whole (us ++ vs) (m + n)
+unfoldable pub moved_add : (a b c : State) (f g h : Logs) (whole : Bool) (us vs : List ℕ) (m n : ℕ) → HasMoved a b f g true us m → HasMoved b c g h whole vs n → HasMoved a c f h whole (us ++ vs) (m + n)
 moved_add a b c f g h whole us vs m n x y =
     let none : x.back ≡ [] = x.all_sent refl in
     let first : shown_by a x.turns ≡ x.front = x.shown_is ∙ ap (λ bs. x.front ++ bs) none ∙ append-nil x.front in
@@ -182,7 +182,7 @@ fault_shows s = by_wait s.wait where
   by_wait None = refl
   by_wait (Some p) = refl
 
--- the machine was told that the reader failed
+-- the machine learned that the reader failed
 pub moved_faulted : (a b : State) (f g : List DeviceCall) (r r' : List (Option ℕ)) (s : Option (List ℕ)) → HasFaulted a b f g r r' → HasMoved a b (logs f s r) (logs g s r') true [] 0
 moved_faulted a b f g r r' s x = rw (x.state_is, x.calls_are) (moved_one a (Answer InputFault) f f s s r r' x.given true x.accepted (sym (append-nil f) ∙ ap (λ cs. f ++ cs) (sym (no_call (asked_by a.wait) a.parts))) (rw (fault_shows a) (appends_none s)) x.reads_are x.is_given)
 
@@ -248,7 +248,7 @@ pub moved_went_part : (left count : ℕ) (s t : State) (act : Act) (c : List Dev
     → HasMoved s t (logs c o r) (logs c o' r) false [] (left - (left - count))
 moved_went_part = moved_sent false
 
--- where moves are accepted, no more answers are made than ticks, but one where a request stood
+-- where moves are accepted, no more answers are made than ticks, but one where a request waited
 pub few_answers : (ts : List Turn) (s : State) → AreAccepted s ts → answers_in ts + waiting (after s ts).wait ≤ ticks_in ts + waiting s.wait
 unfolding after AreAccepted
 few_answers [] s h = omega arith
@@ -276,7 +276,7 @@ moved_on a b c f g h whole limit left left' most fewer x y =
     subst (λ n. HasMoved a c f h whole [] n) sum (moved_add a b c f g h whole [] [] (limit - left) (left - left') x y)
 
 -- a writer that was sent nothing more
-pub moved_kept : (a b : State) (c d : List DeviceCall) (o o' o'' : Option (List ℕ)) (r r' : List (Option ℕ)) (words : List ℕ) (ticks : ℕ) → Keeps o' o'' → HasMoved a b (logs c o r) (logs d o' r') true words ticks → HasMoved a b (logs c o r) (logs d o'' r') true words ticks
+unfoldable pub moved_kept : (a b : State) (c d : List DeviceCall) (o o' o'' : Option (List ℕ)) (r r' : List (Option ℕ)) (words : List ℕ) (ticks : ℕ) → Keeps o' o'' → HasMoved a b (logs c o r) (logs d o' r') true words ticks → HasMoved a b (logs c o r) (logs d o'' r') true words ticks
 moved_kept a b c d o o' o'' r r' words ticks k h = record { turns = h.turns; accepted = h.accepted; state_is = h.state_is; calls_are = h.calls_are; front = h.front; back = h.back; shown_is = h.shown_is; sent_is = appends_kept o o' o'' h.front h.sent_is k; all_sent = h.all_sent; given = h.given; reads_are = h.reads_are; are_given = h.are_given; words_are = h.words_are; ticks_are = h.ticks_are } where
   appends_kept : (x y z : Option (List ℕ)) (bs : List ℕ) → Appends x y bs → Keeps y z → Appends x z bs
   appends_kept None y z bs h k = tt
@@ -288,7 +288,7 @@ pub moved_first : (a b : State) (c d : List DeviceCall) (o o' o'' : Option (List
 moved_first a b c d o o' o'' r r' whole words ticks k h = record { turns = h.turns; accepted = h.accepted; state_is = h.state_is; calls_are = h.calls_are; front = h.front; back = h.back; shown_is = h.shown_is; sent_is = appends_both o o' o'' [] h.front (kept_appends o o' k) h.sent_is; all_sent = h.all_sent; given = h.given; reads_are = h.reads_are; are_given = h.are_given; words_are = h.words_are; ticks_are = h.ticks_are }
 
 -- less is said where not all was to be sent
-pub moved_so : (a b : State) (f g : Logs) (whole : Bool) (words : List ℕ) (ticks : ℕ) → HasMoved a b f g true words ticks → HasMoved a b f g whole words ticks
+unfoldable pub moved_so : (a b : State) (f g : Logs) (whole : Bool) (words : List ℕ) (ticks : ℕ) → HasMoved a b f g true words ticks → HasMoved a b f g whole words ticks
 moved_so a b f g whole words ticks h = record { turns = h.turns; accepted = h.accepted; state_is = h.state_is; calls_are = h.calls_are; front = h.front; back = h.back; shown_is = h.shown_is; sent_is = h.sent_is; all_sent = λ q. h.all_sent refl; given = h.given; reads_are = h.reads_are; are_given = h.are_given; words_are = h.words_are; ticks_are = h.ticks_are }
 
 -- the same, of rounds whose result is known

@@ -25,7 +25,7 @@ at_fault s (Line c) f false e = rw e refl
 fault_loud : (s : Whole) (shown : Shown) (f : ℕ) → is_quiet (by_fault s shown f).1 ≡ false
 fault_loud s shown f = at_fault s shown f (cell s.memory 40 == 0) refl
 
--- behind a quiet act the machine runs
+-- after a quiet act the machine runs
 quiet_runs : (w : ℕ) (a : After) → is_quiet (concluded w a).1 ≡ true → (concluded w a).0 ≡ running (concluded w a).0.parts
 unfolding concluded
 quiet_runs w (s, Done) q = refl

@@ -33,12 +33,12 @@ use Rattle.inner_interpreter.specs.Requests.{IsOrderly, asks_device, ok_to, AreA
 use Rattle.inner_interpreter.proofs.Orderly.{moved_orderly}
 use Rattle.inner_interpreter.proofs.Shapes.{IsTaken, is_taken, either}
 
--- memory behind an Ok
+-- memory after an Ok
 abbrev memory_behind : Outcome → Whole → List ℕ → List ℕ
 memory_behind (AskOut (request.Read u)) s page = with_page s.memory (address_of s.buffers (victim s.buffers).slot) page
 memory_behind _ s page = s.memory
 
--- the parts behind an Ok to what a token asked
+-- the parts after an Ok to what a token asked
 abbrev behind : ℕ → After → List ℕ → Whole
 behind w x page = record x.0 { memory = memory_behind x.1 x.0 page; buffers = buffers_answered x.1 x.0.buffers; pending = Some w }
 
@@ -141,7 +141,7 @@ memory_kept (FaultOut f) t page l h k = record { size = l; cells = λ a b. refl 
 memory_kept (Abort span) t page l h k = record { size = l; cells = λ a b. refl }
 memory_kept HaltOut t page l h k = record { size = l; cells = λ a b. refl }
 
--- behind an Ok: the row may make fewer requests, and the token means the same
+-- after an Ok: the row may make fewer requests, and the token means the same
 record IsNearer (n w : ℕ) (s t : Whole) : Type 0 where
   fewer : left n t < left n s
   size : length t.memory ≡ 65536

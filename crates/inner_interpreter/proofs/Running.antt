@@ -1,4 +1,4 @@
--- Rounds of a run, by what its ends tell.
+-- Rounds of a run, by what its ends say.
 use Rattle.std.proofs.Common.{◌≡◌, ◌⊎◌, ℕ, suc, ◌+◌, ◌-◌, ◌<◌, ◌≤◌, true, List, [], ◌++◌, Option, None, Some, refl, sym, ap, ◌∙◌, inl, inr, subst, arith, Result, Ok, Err, OnOk, is_none, if◌then◌else◌}
 use Rattle.std.specs.Prelude.{IsSome}
 use Rattle.std.specs.Io.KnownBytes.{Appends, Keeps}
@@ -33,7 +33,7 @@ round_answer : (w : World) (r : Request) → asked_by w.state.wait ≡ Some r �
 unfolding round
 round_answer w r e = ap (round_by w) e
 
--- told bytes after bytes were appended
+-- reported bytes after bytes were appended
 sent_more : (old new : Option (List ℕ)) (xs bs : List ℕ) → old ≡ Some xs → Appends old new bs → new ≡ Some (xs ++ bs)
 sent_more None new xs bs e h = absurd (cc)
 sent_more (Some os) None xs bs e h = absurd h
@@ -113,7 +113,7 @@ went_cut e w s s' act unread disk sent sent' left count halt wait is some most u
     stretch_cut e w s s' unread disk sent sent' left count halt wait (ap (λ (r : ℕ × State × Act). r.1) is) (sym (ap (λ (r : ℕ × State × Act). r.0) is)) some most unmet
     (subst (λ (r : ℕ × State × Act). AppendsPart sent sent' (shown_bytes r.1.parts.memory r.2.shown)) is more) at
 
--- what an answer told of each known start
+-- what an answer gave to each known start
 abbrev pub Tells : State → Request → Option (List ℕ) → Option Disk → State → Option (List ℕ) → Option Disk → (List ℕ → Type 0) → Type 0
 Tells s r unread disk s' unread' disk' P =
     (typed : List ℕ) → unread ≡ Some typed → (d : Disk) → disk ≡ Some d → Answered s r typed d s' unread' disk' × P (served_move s r typed d).bytes
@@ -176,7 +176,7 @@ kept_cut n w s unread disk sent sent' left k due at = record {
   sent_is = inr (record { sent_is = sent_kept sent sent' (rounds n w).shown at.sent_is k; due = due });
 }
 
--- some rounds behind others are rounds of the whole run
+-- some rounds after others are rounds of the whole run
 pub cut_behind : (n k : ℕ) (w : World) (s : State) (unread : Option (List ℕ)) (disk : Option Disk) (sent : Option (List ℕ))
     → IsCut n (rounds k w) s unread disk sent → IsCut (n + k) w s unread disk sent
 cut_behind n k w s unread disk sent c = record {
@@ -205,7 +205,7 @@ cut_behind n k w s unread disk sent c = record {
     due = subst (λ (v : World). (is_answer (asked_by v.state.wait) InputFault ≡ true) ⊎ IsSome (stops v)) all h.due;
   })
 
--- nothing is traced where a request stands
+-- nothing is traced while a request waits
 line_asked : (e : Extent) (line : Whole → List ℕ) (w : World) (r : Request) → asked_by w.state.wait ≡ Some r → traced_line e line w ≡ []
 unfolding traced_line
 line_asked e line w r q = by_stop (stops w) where

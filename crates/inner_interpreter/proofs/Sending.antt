@@ -42,7 +42,7 @@ none_sent None b x h = tt
 none_sent (Some os) None x h = absurd h
 none_sent (Some os) (Some ns) x h = ([], x ∷ [], refl, h ∙ sym (append-nil os), omega arith)
 
--- behind xs a part of these bytes was sent
+-- after xs a part of these bytes was sent
 pub record SentPart (new : Option (List ℕ)) (xs bytes : List ℕ) : Type 0 where
   pub part : List ℕ
   pub rest : List ℕ

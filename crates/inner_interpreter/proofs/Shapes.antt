@@ -14,7 +14,7 @@ pub either : (P : State → Type 0) (b : Bool) (x y : State × Act) → P x.0 �
 either P true x y h k = h
 either P false x y h k = k
 
--- an answer, by what stands
+-- an answer, by what is
 pub by_answer : (P : State → Type 0) (s : State) (reply : Reply) → ((p : Request × ℕ) → s.wait ≡ Some p → P (answered s.parts p reply).0) → (s.wait ≡ None → P s) → P (answer_of s reply).0
 unfolding answer_of
 by_answer P s reply some none = by_wait s.wait refl where

@@ -40,7 +40,7 @@ pub round_tick : (w : World) → w.state.wait ≡ None → round w ≡ tick_roun
 unfolding round
 round_tick w e = ap (λ o. round_by w (asked_by o)) e
 
--- the world j ticks further on, in this state, behind what the last of them showed
+-- the world j ticks further on, in this state, after what the last of them showed
 abbrev pub behind : World → ℕ → State → Act → World
 behind w j t act =
     record { state = t; typed = w.typed; disk = w.disk; shown = w.shown ++ shown_bytes t.parts.memory act.shown; left = w.left - j }
@@ -95,7 +95,7 @@ unfolding ran rounds
 stretched zero k w s e h = (0, omega arith, no_tick w s e)
 stretched (suc n) k w s e h = by_tick n k w s e h (stretched n (k + 1) (behind w 1 (ticked s).0 (ticked s).1) (ticked s).0.parts) (is_quiet (ticked s).1) refl
 
--- but for its last tick a stretch shows nothing
+-- except its last tick a stretch shows nothing
 silent_by : (j k : ℕ) (w : World) (s : Whole) → w.state ≡ running s → suc (suc j) ≤ w.left → (ran k (suc (suc j)) s).0 ≡ k + suc (suc j)
     → ((ticked s).0 ≡ running (ticked s).0.parts → (ran (k + 1) (suc j) (ticked s).0.parts).0 ≡ k + 1 + suc j
     → (rounds j (behind w 1 (ticked s).0 (ticked s).1)).shown ≡ (behind w 1 (ticked s).0 (ticked s).1).shown)

@@ -1,4 +1,4 @@
--- What a call of a reader or a writer does to the bytes that it tells, and to its mark.
+-- What a call of a reader or a writer does to the bytes that it says, and to its mark.
 use Rattle.std.specs.Prelude.{◌≡◌, ℕ, Bool, true, List, [], ◌∷◌, Option, None, Some, Result, Ok, Err}
 use Rattle.std.specs.Io.KnownBytes.{Consumes, Keeps, IsAtEnd}
 use Rattle.inner_interpreter.specs.declared.ends.EndFault.{EndFault}

@@ -32,7 +32,7 @@ pub record Made : Type 0 where
   pub shown : List ℕ
   pub events : List Event
 
--- the same, behind these bytes and events
+-- the same, after these bytes and events
 abbrev pub behind : List ℕ → List Event → Made → Made
 behind shown events m = record { state = m.state; shown = shown ++ m.shown; events = events ++ m.events }
 

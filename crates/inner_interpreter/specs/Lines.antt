@@ -5,7 +5,7 @@ use Rattle.machine_parts.specs.declared.parts.Request.{Request}
 use Rattle.machine_parts.specs.declared.parts.Request.TheVariants as request
 use Rattle.machine.specs.Answer.{Reply, Line, InputEnd, is_return, is_typed}
 
--- a line's bytes, whether a return ended it, and the bytes behind it
+-- a line's bytes, whether a return ended it, and the bytes after it
 pub record Taken : Type 0 where
   pub bytes : List ℕ
   pub returned : Bool
@@ -30,7 +30,7 @@ abbrev pub IsLine : ℕ → List ℕ → List ℕ → Bool → Option (List ℕ)
 IsLine n typed bytes returned unread =
     (bytes ≡ (line_of n typed).bytes) × (returned ≡ (line_of n typed).returned) × (unread ≡ Some (line_of n typed).rest)
 
--- a line of at most n bytes was begun: bytes of it are taken from the typed bytes, and no others
+-- a line of at most n bytes was started: bytes of it are taken from the typed bytes, and no others
 pub record IsBegun (n : ℕ) (typed : List ℕ) (unread : Option (List ℕ)) : Type 0 where
   pub gone : List ℕ
   pub rest : List ℕ

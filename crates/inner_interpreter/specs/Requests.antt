@@ -19,7 +19,7 @@ pub record IsOrderly (s : State) : Type 0 where
   pub room : (w : ℕ) → s.wait ≡ Some (request.Key, w) → length s.parts.values < 256
   pub two : (n w : ℕ) → s.wait ≡ Some (request.Line n, w) → 2 ≤ length s.parts.values
 
--- a request of the device stands
+-- a request of the device waits
 abbrev pub asks_device : Option Request → Bool
 asks_device (Some (request.Read u)) = true
 asks_device (Some (request.Write u)) = true

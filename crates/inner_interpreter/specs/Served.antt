@@ -29,12 +29,12 @@ pub record Answered (s : State) (r : Request) (typed : List ℕ) (disk : Disk) (
   pub unread_is : unread ≡ Some (served s r typed disk).typed
   pub disk_is : left ≡ Some (served s r typed disk).disk
 
--- the reader failed, and the machine was told so
+-- the reader failed, and the machine learned of it
 pub record Faults (s after : State) : Type 0 where
   pub asked : is_answer (asked_by s.wait) InputFault ≡ true
   pub state_is : after ≡ (answer_of s InputFault).0
 
--- the same, and it was told so by an answer that it accepted; the device was given no call
+-- the same, and it learned of it by an answer that it accepted; the device was given no call
 pub record HasFaulted (old new : State) (calls calls' : List DeviceCall) (reads reads' : List (Option ℕ)) : Type 0 where
   pub accepted : Accepts old (Answer InputFault)
   pub state_is : new ≡ (answer_of old InputFault).0
@@ -53,7 +53,7 @@ abbrev pub HasNotFailed : State → Type 0
 HasNotFailed s = is_input_fault s.halt ≡ false
 
 -- the machine was given an answer that it accepted; where it comes from a call of the device, the device was given that
--- call, which failed exactly where the machine was told so; and where it comes from the reader, the reader gave it
+-- call, which failed exactly where the machine learned of it; and where it comes from the reader, the reader gave it
 pub record HasActed (old new : State) (calls calls' : List DeviceCall) (reads reads' : List (Option ℕ)) (act : Act) : Type 0 where
   pub reply : Reply
   pub accepted : Accepts old (Answer reply)
@@ -63,7 +63,7 @@ pub record HasActed (old new : State) (calls calls' : List DeviceCall) (reads re
   pub reads_are : reads' ≡ reads ++ given
   pub is_given : IsGiven (asked_by old.wait) reply given
 
--- a request was settled: with an act, or the machine was told that the reader failed
+-- a request was settled: with an act, or the machine learned that the reader failed
 abbrev pub HasSettled : (old new : State) → (calls calls' : List DeviceCall) → (reads reads' : List (Option ℕ)) → Result Act EndFault → Type 0
 HasSettled old new calls calls' reads reads' (Ok act) = HasActed old new calls calls' reads reads' act
 HasSettled old new calls calls' reads reads' (Err fault) = HasFaulted old new calls calls' reads reads'

@@ -1,5 +1,5 @@
 -- Tracing a run: a line for each tick whose token is taken through ip in an extent.
-use Rattle.std.specs.Prelude.{◌≡◌, ◌⊎◌, true, ℕ, zero, suc, List, [], ◌++◌, Option, None, Bool, is_none, IsSome, ◌&&◌, if◌then◌else◌}
+use Rattle.std.specs.Prelude.{◌≡◌, ◌⊎◌, true, ℕ, zero, suc, List, [], ◌∷◌, ◌++◌, Option, None, Bool, is_none, IsSome, ◌&&◌, if◌then◌else◌}
 use Rattle.std.specs.Io.KnownBytes.{Appends}
 use Rattle.block_buffers.specs.Disks.{Disk}
 use Rattle.machine_parts.specs.Whole.{Whole}
@@ -9,12 +9,34 @@ use Rattle.machine.specs.declared.extent.Extent.{Extent}
 use Rattle.machine.specs.State.{State}
 use Rattle.machine.specs.Answer.{asked_by}
 use Rattle.machine.specs.Met.{is_met}
+use Rattle.inner_interpreter.specs.Moves.{Turn, Tick, turned, AreAccepted, words_in, ticks_in, Logs, HasRun}
 use Rattle.inner_interpreter.specs.Runs.{World, rounds, stops}
 use Rattle.inner_interpreter.specs.Worlds.{IsAt, IsCut, Ends, EndsCut, EndsFaulted}
 
--- the line of a state in which no request stands and a token of the extent comes next
+-- the line of a state in which no request waits and a token of the extent comes next
 abbrev pub line_next : Extent → (Whole → List ℕ) → State → List ℕ
 line_next extent line s = if is_none (asked_by s.wait) && is_met extent s.parts then line s.parts else []
+
+-- the trace of moves: before each tick the line of the state from which it is made
+unfoldable pub lines_by : Extent → (Whole → List ℕ) → State → List Turn → List ℕ
+lines_by extent line s [] = []
+lines_by extent line s (Tick ∷ ts) = line_next extent line s ++ lines_by extent line (turned s Tick) ts
+lines_by extent line s (t ∷ ts) = lines_by extent line (turned s t) ts
+
+-- of so many ticks, with the answers between them, only the first may have a line
+abbrev pub AddsFirst : Extent → State → (ticks : ℕ) → Type 0
+AddsFirst extent s ticks =
+    (turns : List Turn) → AreAccepted s turns → words_in turns ≡ [] → ticks_in turns ≡ ticks
+    → (line : Whole → List ℕ) → lines_by extent line s turns ≡ line_next extent line s
+
+-- a run came to where it stopped, and the trace of its moves was sent; if a line couldn't be sent, also a front of the line of the
+-- tick that comes next
+pub record HasRunTraced (extent : Extent) (line : Whole → List ℕ) (old new : State) (log log' : Logs) (limit : ℕ) (why : Stop) (told told' : Option (List ℕ)) : Type 0 where
+  pub run : HasRun old new log log' limit why
+  pub front : List ℕ
+  pub back : List ℕ
+  pub trace_is : Appends told told' (lines_by extent line old run.moved.turns ++ front)
+  pub last : (front ≡ []) ⊎ ((why ≡ stop.TraceFault) × (line_next extent line new ≡ front ++ back))
 
 -- the same, where the run goes on from there: the state is followed by a tick
 unfoldable pub traced_line : Extent → (Whole → List ℕ) → World → List ℕ
@@ -33,7 +55,7 @@ AddsLine extent n w = (line : Whole → List ℕ) → trace extent line n w ≡ 
 abbrev pub Reached : Extent → World → State → Option (List ℕ) → Option Disk → Option (List ℕ) → ℕ → Type 0
 Reached extent w s unread disk sent left = (n : ℕ) × AddsLine extent n w × IsAt (rounds n w) s unread disk sent left
 
--- the same, and behind them the writer failed
+-- the same, and after them the writer failed
 abbrev pub ReachedCut : Extent → World → State → Option (List ℕ) → Option Disk → Option (List ℕ) → Type 0
 ReachedCut extent w s unread disk sent = (n : ℕ) × AddsLine extent n w × IsCut n w s unread disk sent
 
@@ -52,7 +74,7 @@ pub record EndsFaultedTraced (extent : Extent) (line : Whole → List ℕ) (w : 
   pub faulted : EndsFaulted w state unread disk sent
   pub trace_is : Appends old new (trace extent line faulted.count w)
 
--- no request stands, and a token of the extent comes next
+-- no request waits, and a token of the extent comes next
 abbrev pub IsDue : Extent → State → Type 0
 IsDue extent s = (asked_by s.wait ≡ None) × (is_met extent s.parts ≡ true)
 

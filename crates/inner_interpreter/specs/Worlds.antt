@@ -1,4 +1,4 @@
--- Where a run is, by what its machine and its ends tell.
+-- Where a run is, by what its machine and its ends say.
 use Rattle.std.specs.Prelude.{◌≡◌, ◌<◌, ◌⊎◌, ℕ, suc, length, ◌+◌, ◌*◌, true, List, ◌++◌, Option, None, Some, IsSome}
 use Rattle.block_buffers.specs.Disks.{Disk}
 use Rattle.machine_parts.specs.declared.parts.Request.{Request}
@@ -11,7 +11,7 @@ use Rattle.machine.specs.Answer.{InputFault, answer_of, asked_by, is_answer}
 use Rattle.inner_interpreter.specs.Lines.{IsLeft}
 use Rattle.inner_interpreter.specs.Runs.{World, rounds, stops}
 
--- what the machine, the reader, the device and the writer tell is this world's
+-- what the machine, the reader, the device and the writer say is this world's
 pub record IsAt (w : World) (state : State) (unread : Option (List ℕ)) (disk : Option Disk) (sent : Option (List ℕ)) (left : ℕ) : Type 0 where
   pub state_is : state ≡ w.state
   pub unread_is : unread ≡ Some w.typed
@@ -19,7 +19,7 @@ pub record IsAt (w : World) (state : State) (unread : Option (List ℕ)) (disk :
   pub sent_is : sent ≡ Some w.shown
   pub left_is : left ≡ w.left
 
--- the same, but that the run went on there, the reader failed where a key or a line was asked, and the machine was told so;
+-- the same, but that the run went on there, the reader failed where a key or a line was asked, and the machine learned of it;
 -- bytes of that line may be gone
 pub record IsFaulted (w : World) (state : State) (unread : Option (List ℕ)) (disk : Option Disk) (sent : Option (List ℕ)) : Type 0 where
   pub goes : stops w ≡ None
@@ -34,7 +34,7 @@ abbrev pub loaded : Contents → List ℕ → Disk → List ℕ → ℕ → Worl
 loaded image typed disk sent limit =
     record { state = start image (length disk.blocks); typed = typed; disk = disk; shown = sent; left = limit }
 
--- how many answers may stand before the next tick
+-- how many answers may be before the next tick
 abbrev pub waiting : Option (Request × ℕ) → ℕ
 waiting None = 0
 waiting (Some _) = 1
@@ -43,7 +43,7 @@ waiting (Some _) = 1
 abbrev pub rounds_left : ℕ → Option (Request × ℕ) → ℕ
 rounds_left left wait = 2 * left + waiting wait
 
--- a stretch of at most n ticks: how many, the state behind them, and the last act
+-- a stretch of at most n ticks: how many, the state after them, and the last act
 abbrev pub stretch : ℕ → State → ℕ × State × Act
 stretch n s = ran 0 n s.parts
 
@@ -57,7 +57,7 @@ pub record Ends (w : World) (state : State) (unread : Option (List ℕ)) (disk :
 abbrev pub EndsFrom : World → Option (List ℕ) → Option Disk → Option (List ℕ) → Stop → Type 0
 EndsFrom w unread disk sent stop = (state : State) × Ends w state unread disk sent stop
 
--- each world of an image that is loaded, whose ends tell what they hold
+-- each world of an image that is loaded, whose ends report what they hold
 abbrev pub OfImage : Contents → Option (List ℕ) → Option Disk → Option (List ℕ) → ℕ → (World → Type 0) → Type 0
 OfImage image unread disk sent limit P =
     (typed : List ℕ) → unread ≡ Some typed → (d : Disk) → disk ≡ Some d → (shown : List ℕ) → sent ≡ Some shown
@@ -83,14 +83,14 @@ pub record IsHeldUp (count : ℕ) (w : World) (sent : Option (List ℕ)) : Type 
   pub sent_is : sent ≡ Some (rounds count w).shown
   pub due : (is_answer (asked_by (rounds count w).state.wait) InputFault ≡ true) ⊎ IsSome (stops (rounds count w))
 
--- so many rounds were made, and behind them the writer failed
+-- so many rounds were made, and after them the writer failed
 pub record IsCut (count : ℕ) (w : World) (state : State) (unread : Option (List ℕ)) (disk : Option Disk) (sent : Option (List ℕ)) : Type 0 where
   pub state_is : state ≡ (rounds count w).state
   pub unread_is : unread ≡ Some (rounds count w).typed
   pub disk_is : disk ≡ Some (rounds count w).disk
   pub sent_is : IsBrokenOff count w sent ⊎ IsHeldUp count w sent
 
--- a writer failed in this run: some first rounds were made, up to the first that shows more than was sent, or to one behind
+-- a writer failed in this run: some first rounds were made, up to the first that shows more than was sent, or to one after
 -- which what was sent is to be passed on
 pub record EndsCut (w : World) (state : State) (unread : Option (List ℕ)) (disk : Option Disk) (sent : Option (List ℕ)) : Type 0 where
   pub count : ℕ

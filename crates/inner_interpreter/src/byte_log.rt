@@ -4,7 +4,7 @@ ghost use Rattle.std.specs.Prelude.{◌≡◌, ◌++◌, List, [], ℕ, Bool, tr
 use std::marker::Model;
 
 /// The bytes that the calls of a writer took, in order; whether all of them were passed on by a flush; and whether the writer
-/// tells its own bytes. It takes no memory; a contract reads it as `bytes`, `passed` and `tells`.
+/// reports its own bytes. It takes no memory; a contract reads it as `bytes`, `passed` and `tells`.
 #[derive(Drop)]
 pub struct ByteLog {
     pub ghost bytes: { List ℕ },
@@ -26,7 +26,7 @@ impl ByteLog {
         ByteLog {}
     }
 
-    /// No byte, of a writer that tells its own bytes.
+    /// No byte, of a writer that reports its own bytes.
     pub fn told() -> ByteLog
         ensures { (result.bytes ≡ []) × (result.passed ≡ false) × (result.tells ≡ true) }
     {

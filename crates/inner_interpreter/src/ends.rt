@@ -5,17 +5,19 @@ ghost use Rattle.std.specs.Prelude.{◌≡◌, ◌<◌, ◌≤◌, ℕ, Bool, tr
 mod failing;
 
 pub use failing::{FailingReader, FailingWriter};
+use thiserror::Error;
 
 /// A reader or a writer failed.
-#[derive(Clone, Copy, Debug, PartialEq, Eq)]
+#[derive(Clone, Copy, Debug, PartialEq, Eq, Error)]
+#[error("the reader or the writer failed")]
 pub struct EndFault;
 
-/// Gives bytes one at a time, and then tells the end.
+/// Gives bytes one at a time, and then says the end.
 pub trait Input {
     ghost use Rattle.inner_interpreter.specs.Ends.{TakesByte, Marks};
     ghost use Rattle.inner_interpreter.specs.Reads.{Gives};
 
-    /// The bytes that are left, where the reader tells them.
+    /// The bytes that are left, where the reader reports them.
     ghost unread: { Self → Option (List ℕ) };
 
     /// What its calls gave so far: bytes, and ends.
@@ -36,7 +38,7 @@ pub trait Output {
     ghost use Rattle.std.specs.Io.KnownBytes.{Keeps, WriteAppends};
     ghost use Rattle.inner_interpreter.specs.Ends.{Marks};
 
-    /// The bytes that were taken, where the writer tells them.
+    /// The bytes that were taken, where the writer reports them.
     ghost sent: { Self → Option (List ℕ) };
 
     /// Whether all of them were passed on by a flush.

@@ -25,8 +25,8 @@ pub fn run_file<R: Input, W: Output, D: Device>(
     device: &mut D,
     limit: u64,
 ) -> Result<Stop, ImageFault>
-    // Where no end fails, and all tell their bytes, the output, the unread bytes, the blocks and the stop are those of the
-    // written rounds from the image that the file spells: its bytes in memory, zeros behind them, its entry pending.
+    // Where no end fails, and all report their bytes, the output, the unread bytes, the blocks and the stop are those of the
+    // written rounds from the image that the file spells: its bytes in memory, zeros after them, its entry pending.
     ensures whole { IfOk result (λ stop. R.failed reader.new ≡ false → W.failed writer.new ≡ false →
         OfFile bytes.now (R.unread reader.old) (D.disk device.old) (W.sent writer.old) limit
         (λ w. EndsFrom w (R.unread reader.new) (D.disk device.new) (W.sent writer.new) stop)) }
@@ -39,7 +39,7 @@ pub fn run_file<R: Input, W: Output, D: Device>(
         (λ w. EndsCutFrom w (R.unread reader.new) (D.disk device.new) (W.sent writer.new))) }
 
     // Where the reader fails, and only there, it stops for the reader: some first rounds were made, and then the machine was
-    // told so. Both can't fail in one run.
+    // learned of it. Both can't fail in one run.
     ensures input { IfOk result (λ stop. R.failed reader.old ≡ false → R.failed reader.new ≡ true →
         stop ≡ Stop.InputFault) }
     ensures faulted { IfOk result (λ _. R.failed reader.old ≡ false → R.failed reader.new ≡ true →
@@ -54,7 +54,7 @@ pub fn run_file<R: Input, W: Output, D: Device>(
 
     // Whatever the ends are: the machine that was loaded moved by ticks and answers alone, at most `limit` and one more; its
     // reader gave just what it was answered with, its device was given just the calls that it asked for, with their pages, each
-    // of which failed exactly where the machine was told so; and its writer was sent just what it showed.
+    // of which failed exactly where the machine learned of it; and its writer was sent just what it showed.
     ensures moved { IfOk result (λ stop. (image : Contents) → IsFile bytes.now image →
         HasRunFrom image (D.block_count device.old) (logs (D.calls device.old) (W.sent writer.old) (R.reads reader.old))
         (logs (D.calls device.new) (W.sent writer.new) (R.reads reader.new)) limit (R.failed reader.new) (W.failed writer.new) stop) }

@@ -14,7 +14,7 @@ ghost use Rattle.inner_interpreter.specs.Worlds.{rounds_left};
 use crate::stop::Stop;
 use machine::Cause;
 
-/// A run has an end: it stops after two rounds for each tick that is left, and one more where a request stands.
+/// A run has an end: it stops after two rounds for each tick that is left, and one more while a request waits.
 pub fn end_law()
     ensures { (w : World) → IsSome (stops (rounds (rounds_left w.left w.state.wait) w)) }
 {}

@@ -8,7 +8,7 @@ use crate::ends::{EndFault, Input};
 use crate::read_log::{Given, ReadLog};
 use std::io::{ErrorKind, Read};
 
-/// A reader of `std` as an `Input`. It tells its bytes where the reader does.
+/// A reader of `std` as an `Input`. It reports its bytes where the reader does.
 #[derive(Drop)]
 pub struct Reading<R> {
     reader: R,

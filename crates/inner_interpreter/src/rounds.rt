@@ -10,7 +10,7 @@ ghost use Rattle.inner_interpreter.specs.Moves.{HasMoved, logs};
 ghost use Rattle.inner_interpreter.specs.Runs.{World};
 ghost use Rattle.inner_interpreter.specs.Sent.{AppendsPart};
 ghost use Rattle.inner_interpreter.specs.Served.{Answered, served_move, Faults, HasNotFailed};
-ghost use Rattle.inner_interpreter.specs.Tracing.{Reached, ReachedCut};
+ghost use Rattle.inner_interpreter.specs.Tracing.{AddsFirst, Reached, ReachedCut};
 ghost use Rattle.inner_interpreter.specs.Failing.{sends_all};
 ghost use Rattle.inner_interpreter.specs.Worlds.{IsAt, IsFaulted, rounds_left};
 
@@ -20,11 +20,14 @@ use crate::sends::show;
 use block_buffers::Device;
 use machine::{Extent, Machine};
 use machine_parts::parts::Request;
+use thiserror::Error;
 
 /// Which end failed.
-#[derive(Clone, Copy, Debug, PartialEq, Eq)]
+#[derive(Clone, Copy, Debug, PartialEq, Eq, Error)]
 pub enum Failed {
+    #[error("the reader failed")]
     Reader,
+    #[error("the writer failed")]
     Writer,
 }
 
@@ -88,7 +91,7 @@ fn flush_before<W: Output>(writer: &mut W, request: Request) -> Result<(), EndFa
     }
 }
 
-/// A request is answered, else ticks are made up to the first that isn't quiet, or behind which a token of the extent comes
+/// A request is answered, else ticks are made up to the first that isn't quiet, or after which a token of the extent comes
 /// next; and what that shows is sent.
 #[tactic(auto, using(crate::proofs::Running::asked_none))]
 pub fn make_rounds<R: Input, W: Output, D: Device>(
@@ -108,6 +111,7 @@ pub fn make_rounds<R: Input, W: Output, D: Device>(
     ensures moved { HasMoved machine.old machine.new (logs (D.calls device.old) (W.sent writer.old) (R.reads reader.old))
         (logs (D.calls device.new) (W.sent writer.new) (R.reads reader.new)) (sends_all result) [] (left.old - left.new) }
     ensures left { left.new ≤ left.old }
+    ensures lines { AddsFirst extent machine.old (left.old - left.new) }
     ensures read { OnOk result (HasNotFailed machine.new) }
     ensures ok { OnOk result ((w : World) → IsAt w machine.old (R.unread reader.old) (D.disk device.old)
         (W.sent writer.old) left.old → Reached extent w machine.new (R.unread reader.new) (D.disk device.new)

@@ -7,7 +7,7 @@ ghost use Rattle.inner_interpreter.specs.Moves.{HasRun, logs};
 ghost use Rattle.inner_interpreter.specs.Runs.{World, stop_by, stop_of};
 ghost use Rattle.inner_interpreter.specs.Sent.{AppendsPart};
 ghost use Rattle.inner_interpreter.specs.Served.{HasNotFailed};
-ghost use Rattle.inner_interpreter.specs.Tracing.{line_next, IsDue, Finishes, EndsTraced, EndsCutTraced, EndsFaultedTraced, EndsUntraced};
+ghost use Rattle.inner_interpreter.specs.Tracing.{line_next, IsDue, Finishes, EndsTraced, EndsCutTraced, EndsFaultedTraced, EndsUntraced, HasRunTraced};
 ghost use Rattle.inner_interpreter.specs.Worlds.{IsAt, Ends, EndsCut, EndsFaulted};
 
 use crate::ends::{EndFault, Input, Output};
@@ -118,6 +118,10 @@ pub fn run_with<R: Input, W: Output, D: Device, N: Tracer, T: Output>(
         (W.sent writer.new) (T.sent trace.old) (T.sent trace.new) }
     ensures moved { HasRun machine.old machine.new (logs (D.calls device.old) (W.sent writer.old) (R.reads reader.old))
         (logs (D.calls device.new) (W.sent writer.new) (R.reads reader.new)) limit result }
+    ensures lines { HasRunTraced (N.extent tracer.now) (N.line tracer.now) machine.old machine.new
+        (logs (D.calls device.old) (W.sent writer.old) (R.reads reader.old))
+        (logs (D.calls device.new) (W.sent writer.new) (R.reads reader.new)) limit result
+        (T.sent trace.old) (T.sent trace.new) }
 {
     let mut left = limit;
     loop {
@@ -152,7 +156,7 @@ pub fn run_traced<R: Input, W: Output, D: Device, N: Tracer, T: Output>(
     trace: &mut T,
     limit: u64,
 ) -> Result<Stop, OutOfMemory>
-    // Where no end fails, and all but the trace tell their bytes, the run ends as the written rounds do, and the trace is
+    // Where no end fails, and all but the trace report their bytes, the run ends as the written rounds do, and the trace is
     // that of these rounds.
     ensures whole { IfOk result (λ stop. R.failed reader.new ≡ false → W.failed writer.new ≡ false →
         T.failed trace.new ≡ false → (w : World) →
@@ -172,7 +176,7 @@ pub fn run_traced<R: Input, W: Output, D: Device, N: Tracer, T: Output>(
         EndsCutTraced (N.extent tracer.now) (N.line tracer.now) w machine.new (R.unread reader.new) (D.disk device.new)
         (W.sent writer.new) (T.sent trace.old) (T.sent trace.new)) }
 
-    // Where the reader fails, it stops for the reader: some first rounds were made and traced, and then the machine was told
+    // Where the reader fails, it stops for the reader: some first rounds were made and traced, and then the machine learned
     // so. Of a machine that hadn't halted so before, it stops for the reader only there.
     ensures input { IfOk result (λ stop. R.failed reader.old ≡ false → R.failed reader.new ≡ true →
         stop ≡ Stop.InputFault) }
@@ -200,12 +204,19 @@ pub fn run_traced<R: Input, W: Output, D: Device, N: Tracer, T: Output>(
 
     // Whatever the ends are: the machine moved by ticks and answers alone, at most `limit` and one more; its reader gave just
     // what it was answered with, its device was given just the calls that it asked for, with their pages, each of which failed
-    // exactly where the machine was told so; and its writer was sent just what it showed.
+    // exactly where the machine learned of it; and its writer was sent just what it showed.
     ensures moved { IfOk result (λ stop.
         HasRun machine.old machine.new (logs (D.calls device.old) (W.sent writer.old) (R.reads reader.old))
         (logs (D.calls device.new) (W.sent writer.new) (R.reads reader.new)) limit stop) }
 
-    // On want of memory nothing was done.
+    // And the trace got the lines of these moves.
+    ensures traced { IfOk result (λ stop.
+        HasRunTraced (N.extent tracer.now) (N.line tracer.now) machine.old machine.new
+        (logs (D.calls device.old) (W.sent writer.old) (R.reads reader.old))
+        (logs (D.calls device.new) (W.sent writer.new) (R.reads reader.new)) limit stop
+        (T.sent trace.old) (T.sent trace.new)) }
+
+    // On lack of memory nothing was done.
     ensures machine { OnErr result (machine.new ≡ machine.old) }
     ensures reader { OnErr result (reader.new ≡ reader.old) }
     ensures writer { OnErr result (writer.new ≡ writer.old) }
@@ -220,7 +231,7 @@ pub fn run_traced<R: Input, W: Output, D: Device, N: Tracer, T: Output>(
 
 /// Runs the machine until it halts, `limit` ticks are done or an end fails, and answers why it stopped. All that the
 /// machine shows is sent; what it asks is answered by the reader and the device. The writer is flushed before each
-/// key or line is read, and at the end. A run may be made over an end that failed before. On want of memory nothing was
+/// key or line is read, and at the end. A run may be made over an end that failed before. On lack of memory nothing was
 /// done: the machine is unchanged, and no end nor the device was called.
 pub fn run<R: Input, W: Output, D: Device>(
     alloc: Global,
@@ -230,7 +241,7 @@ pub fn run<R: Input, W: Output, D: Device>(
     device: &mut D,
     limit: u64,
 ) -> Result<Stop, OutOfMemory>
-    // Where no end fails, and all tell their bytes, the run ends as the written rounds do.
+    // Where no end fails, and all report their bytes, the run ends as the written rounds do.
     ensures whole { IfOk result (λ stop. R.failed reader.new ≡ false → W.failed writer.new ≡ false → (w : World) →
         IsAt w machine.old (R.unread reader.old) (D.disk device.old) (W.sent writer.old) limit →
         Ends w machine.new (R.unread reader.new) (D.disk device.new) (W.sent writer.new) stop) }
@@ -246,7 +257,7 @@ pub fn run<R: Input, W: Output, D: Device>(
         IsAt w machine.old (R.unread reader.old) (D.disk device.old) (W.sent writer.old) limit →
         EndsCut w machine.new (R.unread reader.new) (D.disk device.new) (W.sent writer.new)) }
 
-    // Where the reader fails, it stops for the reader: some first rounds were made, and then the machine was told so.
+    // Where the reader fails, it stops for the reader: some first rounds were made, and then the machine learned of it.
     // Both can't fail in one run. Of a machine that hadn't halted so before, it stops for the reader only there.
     ensures input { IfOk result (λ stop. R.failed reader.old ≡ false → R.failed reader.new ≡ true →
         stop ≡ Stop.InputFault) }
@@ -263,7 +274,7 @@ pub fn run<R: Input, W: Output, D: Device>(
 
     // Whatever the ends are: the machine moved by ticks and answers alone, at most `limit` and one more; its reader gave just
     // what it was answered with, its device was given just the calls that it asked for, with their pages, each of which failed
-    // exactly where the machine was told so; and its writer was sent just what it showed.
+    // exactly where the machine learned of it; and its writer was sent just what it showed.
     ensures moved { IfOk result (λ stop.
         HasRun machine.old machine.new (logs (D.calls device.old) (W.sent writer.old) (R.reads reader.old))
         (logs (D.calls device.new) (W.sent writer.new) (R.reads reader.new)) limit stop) }
@@ -271,7 +282,7 @@ pub fn run<R: Input, W: Output, D: Device>(
     // It is no traced run.
     ensures untraced { IfOk result (λ stop. stop ≢ Stop.TraceFault) }
 
-    // On want of memory nothing was done.
+    // On lack of memory nothing was done.
     ensures machine { OnErr result (machine.new ≡ machine.old) }
     ensures reader { OnErr result (reader.new ≡ reader.old) }
     ensures writer { OnErr result (writer.new ≡ writer.old) }

@@ -49,7 +49,7 @@ impl Tracer for Untraced {
     }
 }
 
-/// Where an untraced run would send its lines: it takes all, and tells nothing.
+/// Where an untraced run would send its lines: it takes all, and says nothing.
 #[derive(Drop)]
 pub struct Nowhere;
 

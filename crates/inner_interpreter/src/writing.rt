@@ -8,7 +8,7 @@ use crate::byte_log::ByteLog;
 use crate::ends::{EndFault, Output};
 use std::io::{ErrorKind, Write};
 
-/// A writer of `std` as an `Output`. It tells its bytes where the writer does. A write that takes no byte fails.
+/// A writer of `std` as an `Output`. It reports its bytes where the writer does. A write that takes no byte fails.
 #[derive(Drop)]
 pub struct Writing<W: Write> {
     writer: W,
@@ -30,7 +30,7 @@ impl<W: Write> Writing<W> {
         }
     }
 
-    /// A writer that tells its bytes, of which it has none yet.
+    /// A writer that reports its bytes, of which it has none yet.
     pub fn telling(writer: W) -> Writing<W>
         requires { W.contents writer ≡ Some [] }
         ensures bytes { ⟦<Writing<W> as Output>⟧.sent result ≡ Some [] }

@@ -10,7 +10,7 @@ use memory::Memory;
 use memory::system::{DP, TO_IN};
 use thiserror::Error;
 
-/// The word has more than 255 bytes, which its count byte can't tell.
+/// The word has more than 255 bytes, which its count byte can't say.
 #[derive(Clone, Copy, Debug, PartialEq, Eq, Error)]
 #[error("the word has more than 255 bytes")]
 pub struct TooLong;
@@ -52,7 +52,7 @@ fn place_counted(memory: &mut Memory, here: u16, bytes: &[u8])
     memory.set_byte(first.wrapping_add(bytes.len() as u16), b' ');
 }
 
-/// Leaves a word of a stream: >IN is the place behind it, and at HERE are its count, its bytes and a blank.
+/// Leaves a word of a stream: >IN is the place after it, and at HERE are its count, its bytes and a blank.
 ///
 /// Its bytes and HERE are read before anything is written, and >IN is written first. Answers HERE, which stays.
 /// `TooLong`, with memory as it was, where the word has more than 255 bytes. This is what WORD of the Standard writes.

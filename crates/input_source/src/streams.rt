@@ -1,4 +1,4 @@
-//! Where the stream stands.
+//! Where the stream is.
 
 ghost use Rattle.std.specs.Prelude.{◌≤◌, IfOk};
 ghost use Rattle.input_source.specs.Streams.{IsStream};

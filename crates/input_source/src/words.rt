@@ -26,11 +26,11 @@ pub struct Word {
     pub at: u16,
     /// Its length in bytes.
     pub len: u16,
-    /// The place that is read next: past the delimiter behind the word, or the size where none is there.
+    /// The place that is read next: past the delimiter after the word, or the size where none exists.
     pub next: u16,
 }
 
-/// The place of the first byte at `from` or behind it that isn't the delimiter, else the size.
+/// The place of the first byte at `from` or after it that isn't the delimiter, else the size.
 #[tactic(auto, using(crate::proofs::Scans::starts, memory::proofs::Ranges::ranges))]
 fn word_start(memory: &Memory, at: u16, size: u16, from: u16, delimiter: u8) -> u16
     requires { from ≤ size }
@@ -46,7 +46,7 @@ fn word_start(memory: &Memory, at: u16, size: u16, from: u16, delimiter: u8) -> 
     i
 }
 
-/// The place of the first delimiter at `from` or behind it, else the size.
+/// The place of the first delimiter at `from` or after it, else the size.
 #[tactic(auto, using(crate::proofs::Scans::ends, memory::proofs::Ranges::ranges))]
 fn next_delimiter(memory: &Memory, at: u16, size: u16, from: u16, delimiter: u8) -> u16
     requires { from ≤ size }
@@ -62,7 +62,7 @@ fn next_delimiter(memory: &Memory, at: u16, size: u16, from: u16, delimiter: u8)
     i
 }
 
-/// What stands from a place to the first delimiter.
+/// What is from a place to the first delimiter.
 fn parse_from(memory: &Memory, stream: Stream, place: u16, delimiter: u8) -> Word
     requires { place ≤ stream.size }
     ensures value { result ≡ parsed (text memory.now stream) place delimiter }
@@ -81,7 +81,7 @@ fn parse_from(memory: &Memory, stream: Stream, place: u16, delimiter: u8) -> Wor
     }
 }
 
-/// The bytes from the stream's place to the first delimiter, which may be none. The place behind is past a delimiter
+/// The bytes from the stream's place to the first delimiter, which may be none. The place after is past a delimiter
 /// that was found, else the size.
 #[tactic(auto, unfolding(crate::specs::Words::parsed_in))]
 pub fn parse_to(memory: &Memory, stream: Stream, delimiter: u8) -> Word
@@ -91,8 +91,8 @@ pub fn parse_to(memory: &Memory, stream: Stream, delimiter: u8) -> Word
     parse_from(memory, stream, stream.place.min(stream.size), delimiter)
 }
 
-/// The next word: the first run of bytes other than the delimiter, at the stream's place or behind it. It has no
-/// bytes where none but delimiters are left. The place behind is past a delimiter that was found, else the size.
+/// The next word: the first run of bytes other than the delimiter, at the stream's place or after it. It has no
+/// bytes where none but delimiters are left. The place after is past a delimiter that was found, else the size.
 #[tactic(auto, unfolding(crate::specs::Words::word_in))]
 pub fn next_word(memory: &Memory, stream: Stream, delimiter: u8) -> Word
     ensures value { result ≡ word_in memory.now stream delimiter }
@@ -110,7 +110,7 @@ pub fn word_law()
     ensures word { (s : List ℕ) (p c : ℕ) → p ≤ length s → IsNextWord s p c (word_at s p c) }
 {}
 
-/// The law of streams: the bytes of a word, where they stand in memory, are those that the stream's list has of it.
+/// The law of streams: the bytes of a word, where they are in memory, are those that the stream's list has of it.
 #[tactic(auto, using(crate::proofs::Ranges::bytes_part), unfolding(crate::specs::Words::bytes_in))]
 pub fn stream_law()
     ensures { (m : List ℕ) (stream : Stream) (w : Word) → length m ≡ 65536 → stream.at < 65536 → stream.size < 65536 →

@@ -182,7 +182,7 @@ fn bytes_are_laid_over_the_end_of_memory(rt: HostRuntime) -> Result<(), Fail> {
 
 /// All odd addresses in one chain: 769, 771 .. 65535, 1, 3 .. 767, which are 32,768. Cells at odd addresses don't
 /// overlap, so each has the next address; the cell at an even one has the high byte of the cell before it and the low
-/// byte of the cell behind it. So the cell at 256 has 769, and that at 254 has 256.
+/// byte of the cell after it. So the cell at 256 has 769, and that at 254 has 256.
 ///
 /// All names there have an odd length but that at 765, which is empty, and the header at 767 alone has the name 3 5 3:
 /// the count byte 3 at 769 is the low byte of 771, and then come 3, the high byte of 771, and the bytes 5 and 3 of 773.

@@ -8,11 +8,11 @@ use std::alloc::Global;
 use std::process::Abort;
 use std::test::Fail;
 
-/// Twelve headers of eight bytes, from 256 to 351. Their code fields stand at 262, 270 and so on up to 350.
+/// Twelve headers of eight bytes, from 256 to 351. Their code fields are at 262, 270 and so on up to 350.
 const NAMES: &str =
     "5 PRIM E 6 PRIM L 7 PRIM B 8 PRIM Q 9 PRIM D 10 PRIM O 11 PRIM P 16 PRIM S 17 PRIM A 18 PRIM X 19 PRIM C 32 PRIM I IMMEDIATE BOOT E";
 
-/// A screen with this text at its head, or behind `>` at its end. The rest is blank.
+/// A screen with this text at its head, or after `>` at its end. The rest is blank.
 fn screen(text: &str) -> [u8; BLOCK_SIZE] {
     let mut bytes = [b' '; BLOCK_SIZE];
     match text.strip_prefix('>') {
@@ -31,7 +31,7 @@ fn screen(text: &str) -> [u8; BLOCK_SIZE] {
     bytes
 }
 
-/// A device of a blank block and then these screens, between which `~` stands. One that begins with `!` can't be read.
+/// A device of a blank block and then these screens, between which `~` is. One that begins with `!` can't be read.
 fn device(alloc: Global, screens: &str) -> Result<MemoryDevice, Fail> {
     let mut blocks = Vec::new(alloc);
     let mut coming = Vec::new(alloc);
@@ -69,7 +69,7 @@ fn shown(alloc: Global, image: &Image, wanted: &str) -> Result<String, Fail> {
     Ok(shown)
 }
 
-/// What a build of these screens answers, as `wanted` tells it.
+/// What a build of these screens answers, as `wanted` says it.
 fn answer(
     alloc: Global,
     (from, to): (u16, u16),
@@ -138,7 +138,7 @@ fn assert_last_place(
     Ok(())
 }
 
-/// Lays a cell at an address.
+/// Writes a cell at an address.
 fn set_cell(bytes: &mut [u8], at: usize, x: u16) {
     for (to, from) in bytes.iter_mut().skip(at).zip(x.to_le_bytes().iter()) {
         *to = *from;
@@ -188,7 +188,7 @@ fn sizes_and_cells(rt: HostRuntime) -> Result<(), Fail> {
 }
 
 /// A name that is made twice: its newest header is the chain's head and links to the older one, which the newest's own body
-/// calls. A vocabulary in a vocabulary, and the heads in the records of both, which change after these were laid.
+/// calls. A vocabulary in a vocabulary, and the heads in the records of both, which change after these were written.
 #[test]
 fn chains(rt: HostRuntime) -> Result<(), Fail> {
     let lines =
@@ -197,7 +197,7 @@ fn chains(rt: HostRuntime) -> Result<(), Fail> {
     assert_answers(&rt, rt.alloc(), (1, 1), lines)
 }
 
-/// Behind `NAMES`: 70000 is 4464 and 65,536; `Hi` is 72 105, `bad` 98 97 100.
+/// After `NAMES`: 70000 is 4464 and 65,536; `Hi` is 72 105, `bad` 98 97 100.
 #[test]
 fn every_word_of_bodies(rt: HostRuntime) -> Result<(), Fail> {
     let lines = format!(in rt.alloc();
@@ -206,7 +206,7 @@ fn every_word_of_bodies(rt: HostRuntime) -> Result<(), Fail> {
     assert_answers(&rt, rt.alloc(), (1, 2), lines.as_str())
 }
 
-/// Each cause as the first fault; then each behind an earlier fault; then words that have two causes.
+/// Each cause as the first fault; then each after an earlier fault; then words that have two causes.
 #[test]
 fn causes(rt: HostRuntime) -> Result<(), Fail> {
     let lines = r##"5 PRIM | screen 1 offset 1024: EndsInside
@@ -243,7 +243,7 @@ VOCABULARY V V 7. | screen 1 offset 15: BadNumber
     assert_answers(&rt, rt.alloc(), (1, 1), lines)
 }
 
-/// Words that can't stand where they are.
+/// Words that can't come where they are.
 #[test]
 fn misplaced_words(rt: HostRuntime) -> Result<(), Fail> {
     let lines = r##"DEFINITIONS | screen 1 offset 0: Misplaced
@@ -335,7 +335,7 @@ fn last_places(rt: HostRuntime) -> Result<(), Fail> {
     Ok(())
 }
 
-/// A screen that isn't there or can't be read, and faults of other screens than the first.
+/// A screen that doesn't exist or can't be read, and faults of other screens than the first.
 #[test]
 fn screens(rt: HostRuntime) -> Result<(), Fail> {
     let alloc = rt.alloc();

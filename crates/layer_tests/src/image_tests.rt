@@ -134,7 +134,7 @@ fn wrong_fields_of_version_1_are_refused(rt: HostRuntime) {
     }
 }
 
-/// Of a field that is cut off, the bytes that are there decide.
+/// Of a field that is cut off, the bytes that exist decide.
 #[test]
 fn beginnings_of_bad_files_are_refused(rt: HostRuntime) {
     let beginnings: [(&[u8], ImageFault); 11] = [

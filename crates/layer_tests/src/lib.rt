@@ -1,4 +1,4 @@
-//! Tests of single layers, which stand apart so that a layer's proof isn't made once more for its tests.
+//! Tests of single layers, which are apart so that a layer's proof isn't made once more for its tests.
 #![tactic(auto)]
 
 #[cfg(test)]

@@ -212,7 +212,7 @@ fn pictures_run_over_the_cells_that_they_rest_on(rt: HostRuntime) {
     let mut memory = memory_with(rt.alloc(), &rt, 10, b"");
     hold(&mut memory, 65);
     assert_equal(&rt, (memory.byte(65535), memory.cell(36)), (65, 65535));
-    // Four digits from 38 down: HLD becomes 34, then `1` and `2` stand in its place.
+    // Four digits from 38 down: HLD becomes 34, then `1` and `2` are in its place.
     memory.set_cell(36, 38);
     assert_equal(&rt, picture_digits(&mut memory, 4321), Ok(()));
     assert_equal(
@@ -220,7 +220,7 @@ fn pictures_run_over_the_cells_that_they_rest_on(rt: HostRuntime) {
         (memory.cell(36), memory.cell(34)),
         (50 + 256 * 49, 52 + 256 * 51),
     );
-    // Three digits from 21 down: BASE is read before `8` and `9` stand in its place.
+    // Three digits from 21 down: BASE is read before `8` and `9` are in its place.
     memory.set_cell(36, 21);
     assert_equal(&rt, picture_digits(&mut memory, 987), Ok(()));
     assert_equal(

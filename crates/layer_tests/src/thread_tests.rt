@@ -30,7 +30,7 @@ fn a_loop(rt: HostRuntime) -> Result<(), Fail> {
     Ok(())
 }
 
-/// Loops that begin at one place, behind a THEN, and with nothing in them, at 1000: `BEGIN BEGIN DUP UNTIL UNTIL IF THEN
+/// Loops that begin at one place, after a THEN, and with nothing in them, at 1000: `BEGIN BEGIN DUP UNTIL UNTIL IF THEN
 /// BEGIN AGAIN BEGIN WHILE REPEAT ;`.
 #[test]
 fn loops_at_one_place(rt: HostRuntime) -> Result<(), Fail> {
@@ -60,7 +60,7 @@ fn loops_at_one_place(rt: HostRuntime) -> Result<(), Fail> {
     Ok(())
 }
 
-/// Each structure, nested, behind and before DOES>.
+/// Each structure, nested, after and before DOES>.
 const NESTED: [BodyWord<'static>; 31] = [
     BodyWord::Begin,
     BodyWord::Begin,

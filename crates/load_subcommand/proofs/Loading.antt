@@ -22,7 +22,7 @@ pub loaded_so : (read old : Contents) (d : Disk) (from to limit : ℕ) (answer :
 loaded_so read old d from to limit answer disk ended failed sent sent' same is ends =
     record { answer = answer; is_loaded = subst (λ i. IsLoaded d (loaded_by_machine i d from to limit) answer disk) same is; ends = ends }
 
--- for want of memory nothing was read, and no call made
+-- for lack of memory nothing was read, and no call made
 pub none_unread : (word : Result ℕ LoadFault) (calls : List DeviceCall) → IfErr word (λ why. IsSaved (Err why) (Err OutOfMemory) × (calls ≡ calls))
 none_unread (Ok word) calls = tt
 none_unread (Err why) calls = (tt, refl)

@@ -27,7 +27,7 @@ PrintsUnloaded load.OutOfMemory status old new = PrintsOutOfMemory status old ne
 PrintsUnloaded why status old new = PrintsRefusal (codes "load") (load_cause why) status old new
 
 -- so `load` ends where this is answered: with the file of the image and its line, or with why there is none; memory may
--- run out behind it
+-- run out after it
 abbrev pub EndsAnswered : Result Contents LoadFault → Ended → (old new : Option (List ℕ)) → Type 0
 EndsAnswered (Ok image) ended old new =
     MatchOption ended.file (PrintsOutOfMemory ended.status old new)
@@ -48,7 +48,7 @@ pub record EndsMoved (image : Contents) (count from to limit : ℕ) (calls calls
   pub read : IfOk (word_of image from to) (λ word. HasLoaded word image count from to limit calls calls' answer)
   pub ends : failed ≡ false → EndsAnswered answer ended old new
 
--- where the bytes are an image's file and the device tells its blocks: of what loading the screens comes to
+-- where the bytes are an image's file and the device reports its blocks: of what loading the screens comes to
 abbrev pub OfLoad : List ℕ → Option Disk → (from to limit : ℕ) → (Disk → Loaded → Type 0) → Type 0
 OfLoad bytes disk from to limit Of =
     (old : Contents) → IsFile bytes old → (d : Disk) → disk ≡ Some d → Of d (loaded_by_machine old d from to limit)

@@ -43,7 +43,7 @@ pub fn do_load<W: Output, D: Device>(
     writer: &mut W,
 ) -> Ended
     ensures status { MatchOption result.file (0 < result.status) (λ _. result.status ≡ 0) }
-    // Where the bytes are an image's file, and the device tells its blocks, the new image is that of the written rounds,
+    // Where the bytes are an image's file, and the device reports its blocks, the new image is that of the written rounds,
     // and the device is as these leave it, whether its line can be printed or not.
     ensures loaded { OfLoad image.now (D.disk device.old) from to limit
         (λ d o. EndsLoaded d o (D.disk device.new) result (W.failed writer.new) (W.sent writer.old)

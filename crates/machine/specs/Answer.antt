@@ -1,4 +1,4 @@
--- An answer to the request that stands.
+-- An answer to the request that waits.
 use Rattle.std.specs.Prelude.{◌≡◌, IsSome, IsOkAnd, IsErrOf, Result, ℕ, ◌<◌, All, List, ◌∷◌, Option, Some, None, Bool, true, false, not, ◌&&◌, ◌||◌, ◌==◌, length, nat_lt, nat_le, slice_index, drop, if◌then◌else◌}
 use Rattle.std.specs.List.{list_all}
 use Rattle.block_buffers.specs.Entries.{address_of, victim, assigned, unmarked, slot_of}
@@ -76,7 +76,7 @@ fits_request (request.Write u) WriteOk = true
 fits_request (request.Write u) WriteFault = true
 fits_request _ _ = false
 
--- the request that stands, without its token
+-- the request that waits, without its token
 abbrev pub asked_by : Option (Request × ℕ) → Option Request
 asked_by None = None
 asked_by (Some p) = Some p.0

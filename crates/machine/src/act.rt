@@ -1,6 +1,7 @@
 //! What a move shows and comes to, and what the world answers.
 
 use machine_parts::parts::{Request, Span};
+use thiserror::Error;
 
 /// The bytes that a move shows.
 #[derive(Clone, Copy, Debug, PartialEq, Eq)]
@@ -43,13 +44,16 @@ pub struct Act {
 }
 
 /// Why a move was refused. The machine is then as it was.
-#[derive(Clone, Copy, Debug, PartialEq, Eq)]
+#[derive(Clone, Copy, Debug, PartialEq, Eq, Error)]
 pub enum Refused {
-    /// A tick while a request stands.
+    /// A tick while the machine waits for an answer.
+    #[error("the machine waits for an answer")]
     Waiting,
     /// Any move of a machine that halted.
+    #[error("the machine has halted")]
     Halted,
-    /// An answer where no request stands, or one that doesn't fit it.
+    /// An answer that the machine doesn't wait for.
+    #[error("the machine doesn't wait for this answer")]
     NotAsked,
 }
 

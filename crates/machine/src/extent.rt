@@ -10,7 +10,7 @@ pub struct Extent {
 }
 
 impl Extent {
-    /// Whether an address lies in it.
+    /// Whether an address is in it.
     #[inline(always)]
     pub fn contains(self, at: u16) -> bool
         ensures { result ≡ (nat_le self.from at && nat_lt at self.end) }

@@ -42,7 +42,7 @@ fn enter_thread(parts: &mut Parts, at: u16, token: u16) -> Outcome
     Outcome::Done
 }
 
-/// Does what the token means.
+/// Runs what the token means.
 #[tactic(auto, unfolding(crate::specs::Tick::executed))]
 pub fn execute(parts: &mut Parts, token: u16) -> Outcome
     ensures { (parts.new, result) ≡ executed token parts.old }

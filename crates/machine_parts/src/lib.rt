@@ -1,5 +1,5 @@
 //! What the rows of the table work on and answer: the machine's parts, outcomes and requests, faults, and writes that the index is
-//! told of.
+//! said of.
 #![tactic(auto)]
 
 mod ending;

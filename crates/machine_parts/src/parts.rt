@@ -10,7 +10,7 @@ use name_index::NameIndex;
 use stacks::Stack;
 use std::marker::Model;
 
-/// Bytes of memory, by address and number. They go on at address 0 behind memory's end.
+/// Bytes of memory, by address and number. They go on at address 0 past memory's end.
 #[derive(Clone, Copy, Debug, PartialEq, Eq)]
 pub struct Span {
     pub at: u16,
@@ -51,7 +51,7 @@ pub enum Outcome {
 
 /// What the rows read and write: memory, the data stack and the return stack, the place in the thread (`ip`),
 /// the token that comes next in its place (`pending`), the block buffers, how many blocks the device has, where the
-/// buffers begin in memory, as they tell it, and what searches of this memory found, in `index`. Whoever writes memory
+/// buffers begin in memory, as they give it, and what searches of this memory found, in `index`. Whoever writes memory
 /// notes it there.
 #[derive(Drop)]
 pub struct Parts {

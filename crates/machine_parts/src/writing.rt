@@ -1,4 +1,4 @@
-//! Writes to memory by rows and answers: the index is told of each.
+//! Writes to memory by rows and answers: the index gets to know of each.
 
 #![tactic(auto, using(name_index::proofs::Writes::writes))]
 
@@ -71,7 +71,7 @@ impl Parts {
         self.memory.set_page(at, page);
     }
 
-    /// Lays bytes at an address, and sets DP behind them. Whether they fit isn't asked.
+    /// Writes bytes at an address, and sets DP after them. Whether they fit isn't asked.
     #[tactic(auto, using(name_index::proofs::Writes::writes), unfolding(dictionary::specs::Laying::laid_at))]
     pub fn lay_at(&mut self, here: u16, bytes: &[u8])
         requires { length bytes.now ≤ 65535 }

@@ -1,4 +1,4 @@
--- The same write in two memories, and what was laid.
+-- The same write in two memories, and what was written.
 use Rattle.std.proofs.Common.{◌≡◌, ◌≢◌, ℕ, zero, suc, ◌+◌, ◌<◌, ◌%◌, ◌/◌, ◌++◌, ◌∷◌, List, [], length, refl, arith, sym, ◌∙◌, Bool, true, false}
 use Rattle.std.specs.Prelude.{◌==◌, slice_index}
 use Rattle.std.proofs.lemmas.List.{get_or-append-add, get_or_append_left}
@@ -23,12 +23,7 @@ pub cell_both : (m n : List ℕ) (i x j : ℕ) → length m ≡ 65536 → length
 unfolding put_cell
 cell_both m n i x j l k g h = rw (wrap_small (i + 1) g) (byte_both (put_byte m i (x % 256)) (put_byte n i (x % 256)) (i + 1) (x / 256) j (length_byte m i (x % 256) ∙ l) (length_byte n i (x % 256) ∙ k) g (byte_both m n i (x % 256) j l k (omega arith) h))
 
-pub lay_both : (m n : List ℕ) (a j : ℕ) (bs : List ℕ) → length m ≡ 65536 → length n ≡ 65536 → a + length bs < 65536 → byte m j ≡ byte n j → byte (put_bytes m a bs) j ≡ byte (put_bytes n a bs) j
-unfolding put_bytes
-lay_both m n a j [] l k g h = h
-lay_both m n a j (b ∷ bs) l k g h = rw (wrap_small (a + 1) (omega arith)) (lay_both (put_byte m a b) (put_byte n a b) (a + 1) j bs (length_byte m a b ∙ l) (length_byte n a b ∙ k) (omega arith) (byte_both m n a b j l k (omega arith) h))
-
--- what was laid is there
+-- what was written is there
 pub laid_has : (m : List ℕ) (a i : ℕ) (bs : List ℕ) → length m ≡ 65536 → a + length bs < 65536 → i < length bs → byte (put_bytes m a bs) (a + i) ≡ slice_index bs i
 unfolding put_bytes
 laid_has m a i [] l g h = absurd (omega arith)

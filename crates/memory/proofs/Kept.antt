@@ -45,7 +45,7 @@ pub cell_beside : (m : List ℕ) (i x j : ℕ) → i + 1 < 65536 → j + 1 < 655
 unfolding cell
 cell_beside m i x j l n h k g = rw (wrap_small (j + 1) n) (rw (byte_cell m i x j l h k, byte_cell m i x (j + 1) l (omega arith) (omega arith)) refl)
 
--- bytes below what is laid, and above it
+-- bytes below what is written, and above it
 pub byte_below : (m : List ℕ) (n : ℕ) (bs : List ℕ) (j : ℕ) → n + length bs < 65536 → j < n → byte (put_bytes m n bs) j ≡ byte m j
 unfolding put_bytes
 byte_below m n [] j l h = refl

@@ -1,5 +1,5 @@
 -- Where the block buffers begin, as numbers.
-use Rattle.std.proofs.Common.{◌≡◌, ℕ, ◌+◌, ◌-◌, ◌*◌, ◌≤◌, arith, refl}
+use Rattle.std.proofs.Common.{◌≡◌, ℕ, ◌+◌, ◌*◌, ◌≤◌, arith, refl}
 use Rattle.memory.specs.Bytes.{IsCount, limit_of}
 
 -- the buffers and what is below them are all of memory

@@ -11,10 +11,6 @@ pub put_bytes_more : (m : List ℕ) (a i : ℕ) (bs : List ℕ) (d : ℕ) → i 
 unfolding put_bytes
 put_bytes_more m a i bs d h = rw (drop_more bs i d h) refl
 
-pub put_bytes-cell : (m : List ℕ) (a x : ℕ) → put_bytes m a (cell_bytes x) ≡ put_cell m a x
-unfolding put_bytes put_cell cell_bytes
-put_bytes-cell m a x = refl
-
 -- two pieces: the second goes where the first ends
 pub put_bytes-append : (m : List ℕ) (a n : ℕ) (bs cs : List ℕ) → n ≡ wrap (a + length bs) → a < 65536 → put_bytes m a (bs ++ cs) ≡ put_bytes (put_bytes m a bs) n cs
 unfolding put_bytes

@@ -1,4 +1,4 @@
--- Bytes that are the same in two memories, and bytes that stand in one.
+-- Bytes that are the same in two memories, and bytes that are in one.
 use Rattle.std.proofs.Common.{◌≡◌, ℕ, ◌+◌, ◌<◌, ◌≤◌, ◌++◌, List, length, refl, arith, sym, subst, ◌∙◌}
 use Rattle.std.specs.Prelude.{slice_index}
 use Rattle.std.proofs.lemmas.List.{ext_get_or}
@@ -11,7 +11,7 @@ use Rattle.memory.proofs.Kept.{wrap_small}
 abbrev pub Same : ℕ → ℕ → List ℕ → List ℕ → Type 0
 Same lo hi m n = (i : ℕ) → lo ≤ i → i < hi → byte m i ≡ byte n i
 
--- the bytes bs stand at a place
+-- the bytes bs are at a place
 pub record Stands (m : List ℕ) (at : ℕ) (bs : List ℕ) : Type 0 where
   pub before : List ℕ
   pub after : List ℕ

@@ -1,4 +1,4 @@
--- Bytes that stand at a place, and writes among them, behind them and below them.
+-- Bytes that are at a place, and writes among them, after them and below them.
 use Rattle.std.proofs.Common.{◌≡◌, ℕ, ◌+◌, ◌<◌, ◌%◌, ◌/◌, ◌++◌, ◌∷◌, List, [], length, refl, arith, sym, subst, ◌∙◌, append_assoc, append-nil, length-append, length-set, slice_set}
 use Rattle.std.proofs.lemmas.List.{set_at, set-append_left}
 use Rattle.cells.specs.Cell.{wrap}
@@ -26,7 +26,7 @@ patch m front back at i y x e h s =
     let three : Stands (put_byte (put_byte m i (x % 256)) (wrap (i + 1)) (x / 256)) at ((front ++ (x % 256 ∷ [])) ++ (x / 256 ∷ back)) = put_within (put_byte m i (x % 256)) (front ++ (x % 256 ∷ [])) back at (wrap (i + 1)) (y / 256) (x / 256) j two in
     subst (λ (bs : List ℕ). Stands (put_byte (put_byte m i (x % 256)) (wrap (i + 1)) (x / 256)) at bs) (append_assoc front (x % 256 ∷ []) (x / 256 ∷ back)) three
 
--- one byte behind
+-- one byte after
 lay_one : (m bs before after : List ℕ) (at n c : ℕ) → m ≡ before ++ (bs ++ after) → length before ≡ at → length m ≡ 65536 → n ≡ at + length bs → n < 65536 → Stands (put_byte m n c) at (bs ++ (c ∷ []))
 lay_one m bs before [] at n c e p l q h =
     let k : length m ≡ length before + (length bs + 0) = rw (e, length-append before (bs ++ []), length-append bs []) refl in
@@ -34,7 +34,7 @@ lay_one m bs before [] at n c e p l q h =
 lay_one m bs before (a ∷ after) at n c e p l q h =
     put_within m bs [] at n a c q (record { before = before; after = after; is = rw (e, append_assoc bs (a ∷ []) after) refl; place = p })
 
--- bytes behind
+-- bytes after
 pub lay : (m bs cs : List ℕ) (at n : ℕ) → length m ≡ 65536 → n ≡ at + length bs → n + length cs < 65536 → Stands m at bs → Stands (put_bytes m n cs) at (bs ++ cs)
 unfolding put_bytes
 lay m bs [] at n l q h s = rw (append-nil bs) s

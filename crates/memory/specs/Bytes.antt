@@ -41,7 +41,7 @@ moved_down m from to (suc n) = moved_down (put_byte m (wrap (to + n)) (byte m (w
 unfoldable pub zeros : List ℕ
 zeros = replicate 65536 0
 
--- the bytes bs, and what memory has behind them
+-- the bytes bs, and what memory has after them
 unfoldable pub front_put : List ℕ → List ℕ → List ℕ
 front_put bs m = bs ++ drop (length bs) m
 
@@ -49,7 +49,7 @@ front_put bs m = bs ++ drop (length bs) m
 abbrev pub IsCount : ℕ → Type 0
 IsCount count = (2 ≤ count) × (count ≤ 16)
 
--- where they begin: they stand at the end of memory, and the dictionary ends there at the latest
+-- where they begin: they are at the end of memory, and the dictionary ends there at the latest
 unfoldable pub limit_of : ℕ → ℕ
 limit_of count = 65536 - 1024 * count
 

@@ -1,6 +1,6 @@
-//! The control primitives whose compilation addresses stand in the runtime cells.
+//! The control primitives whose compilation addresses are in the runtime cells.
 
-/// The control primitives that words of colon definitions lay, each with the number of its row.
+/// The control primitives that words of colon definitions write, each with the number of its row.
 #[derive(Clone, Copy, Debug, PartialEq, Eq)]
 pub enum Control {
     /// `EXIT`

@@ -6,7 +6,7 @@ ghost use Rattle.memory.specs.declared.limit.TheConstants.{GREATEST_LIMIT};
 ghost use Rattle.memory.specs.declared.mirrored.TheConstants.{MIRRORED};
 ghost use Rattle.memory.specs.declared.system.TheConstants.{STATE, BASE, TO_IN, BLK, NUMBER_TIB, SPAN, DP, LAST, CONTEXT, CURRENT, HLD, SCR, FAULT, FORTH_VOC, VOC_LINK, FENCE, RUNTIME_CELLS, TIB};
 
-/// Where the system's cells stand, and the terminal's buffer.
+/// Where the system's cells are, and the terminal's buffer.
 pub fn system_law()
     ensures state { STATE ≡ 16 }
     ensures base { BASE ≡ 18 }

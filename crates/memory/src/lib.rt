@@ -17,15 +17,17 @@ pub use limit::{GREATEST_LIMIT, limit_of};
 pub use snapshot::Snapshot;
 use std::alloc::Global;
 use std::marker::Model;
+use thiserror::Error;
 
 /// How many bytes memory has.
 pub const SIZE: usize = 65536;
 
-/// Memory was not found.
-#[derive(Clone, Copy, Debug, PartialEq, Eq)]
+/// There is no memory left.
+#[derive(Clone, Copy, Debug, PartialEq, Eq, Error)]
+#[error("out of memory")]
 pub struct OutOfMemory;
 
-/// 65,536 bytes. A cell is two of them, the low byte at the lower address. The sixteen bytes behind them are no part of memory:
+/// 65,536 bytes. A cell is two of them, the low byte at the lower address. The sixteen bytes after them are no part of memory:
 /// a loop may keep the first ones there (`mirrored`).
 #[derive(Drop)]
 pub struct Memory {
@@ -61,7 +63,7 @@ impl Memory {
         }
     }
 
-    /// Memory that begins with these bytes, and is zero behind them.
+    /// Memory that begins with these bytes, and is zero after them.
     pub fn with_front(alloc: Global, bytes: &[u8]) -> Result<Memory, OutOfMemory>
         requires { length bytes.now ≤ 65536 }
         ensures { IfOk result (λ m. m ≡ front_put bytes.now zeros) }

@@ -1,4 +1,4 @@
-//! Where the block buffers begin: they stand at the end of memory, and the dictionary ends there at the latest.
+//! Where the block buffers begin: they are at the end of memory, and the dictionary ends there at the latest.
 
 ghost use Rattle.std.specs.Prelude.{◌≡◌, ◌+◌, ◌*◌, ◌≤◌};
 ghost use Rattle.memory.specs.Bytes.{IsCount, limit_of};

@@ -1,4 +1,4 @@
--- The words that are left, behind a word that the machine has met.
+-- The words that are left, after a word that the machine has met.
 use Rattle.std.proofs.Common.{◌≡◌, ℕ, ◌+◌, ◌≤◌, ◌∙◌, ◌++◌, List, [], ◌∷◌, length, take, drop, Bool, true, false, not, arith, refl, ap, sym}
 use Rattle.std.specs.Prelude.{◌==◌, ◌&&◌, All}
 use Rattle.std.proofs.lemmas.List.Elements.{All-head}
@@ -12,7 +12,7 @@ use Rattle.metacompiler.specs.Reading.{next, name}
 use Rattle.metacompiler.specs.Turning.{words_left}
 use Rattle.metacompiler.proofs.Meeting.{none_left, word_left, text_left, spot, text_spot}
 
--- behind a word of a screen
+-- after a word of a screen
 behind : (m : Mode) (blocks : List (List ℕ)) (b p q more : ℕ) (v : SourceWord) → words_at m b p (block_at blocks b) ≡ v ∷ words_at (after m v.name) b q (block_at blocks b)
     → words_left m blocks b p more ≡ v ∷ words_left (after m v.name) blocks b q more
 unfolding after_words
@@ -46,7 +46,7 @@ screens_from m j (x ∷ xs) w rest e =
     (λ q. screens_from (after_words m (screen_words m j x)) (j + 1) xs w rest q)
     e
 
--- a name that is due stands on the screen
+-- a name that is due is on the screen
 pub due_here : (m : Mode) (blocks : List (List ℕ)) (b p more : ℕ) (w : SourceWord) (rest : List SourceWord) → let text = block_at blocks b in
     length text ≡ 1024 → p ≤ 1024 → words_left m blocks b p more ≡ w ∷ rest → w.screen ≡ b → ((next text p).len == 0) ≡ false
 unfolding after_words

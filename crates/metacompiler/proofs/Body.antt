@@ -69,7 +69,7 @@ no_whole o t Free u l e = absurd l
 no_whole o t Compiling u l e = absurd l
 no_whole _ t h u l e = cc
 
--- the word behind, its name and the words behind that
+-- the word after, its name and the words after that
 record Named (E : Env) (s : Here) (h : Half) (w : ℕ) (sw : List SourceWord) : Type 0 where
   link : ℕ
   some : ((next (text_of_screen s) (next (text_of_screen s) s.place).next).len == 0) ≡ false
@@ -116,7 +116,7 @@ after_name Forced w = refl
 after_name Compiling w = refl
 after_name Both w = refl
 
--- behind a word and the name that it takes
+-- after a word and the name that it takes
 two_steps : (E : Env) (s : Here) (o p : Outer) (t v0 : Tree) (h : Half) (v : SourceWord) (sw : List SourceWord) (k : Token) (ks more : List Token) (sw2 : List SourceWord) (w q : ℕ) → Facing E s o t h v sw k ks
     → Turned E.limit E.ws.interpret E.a (λ e m. Drafts E.limit E.m1 E.pf p v0 Free e E.below m) s.parts s.disk s.values s.screen q s.others
     → words_left Body s.disk.blocks s.screen q s.others ≡ sw2 → Means E.n E.cur Free sw2 (more ++ SEMI ∷ []) E.rest → accept p v0 Free (more ++ SEMI ∷ []) ≡ Some E.body → ks ≡ NAME w ∷ more → open_size p v0 Free ≡ open_size o t h + laid_by k + 2 → Stepped E s ks

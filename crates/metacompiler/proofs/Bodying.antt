@@ -1,4 +1,4 @@
--- A definition laid in part, at a turn of INTERPRET's loop.
+-- A definition written in part, at a turn of INTERPRET's loop.
 use Rattle.std.proofs.Common.{◌≡◌, ℕ, ◌+◌, ◌*◌, ◌-◌, ◌<◌, ◌≤◌, ◌/◌, ◌%◌, ◌++◌, ◌∷◌, List, length, take, drop, refl, arith, false, ap, sym, subst, ◌∙◌, length-append, length-drop, Some, inl, inr, ◌⊎◌}
 use Rattle.std.specs.Prelude.{slice_index, ◌==◌}
 use Rattle.std.proofs.lemmas.List.{ext_get_or, take-append-drop, take-append-le, length-take-le}
@@ -32,7 +32,7 @@ use Rattle.metacompiler.specs.Opened.{Opened, Drafts}
 use Rattle.metacompiler.proofs.Whole.{hidden_named}
 use Rattle.metacompiler.proofs.Seen.{sees_fronted}
 
--- bytes that stand at a place, as a range of memory, and back
+-- bytes that are at a place, as a range of memory, and back
 stands_bytes : (m bs : List ℕ) (pf : ℕ) → length m ≡ 65536 → pf + length bs < 65536 → Stands m pf bs → bytes m pf (length bs) ≡ bs
 stands_bytes m bs pf l h s =
     let e : length (bytes m pf (length bs)) ≡ length bs = length-bytes m pf (length bs) l (omega arith) in
@@ -188,7 +188,7 @@ read_aside {limit} at o p t u Free k w m below i r e a = fit_aside at o p t u k 
 read_aside {limit} at o p t u Compiling k FORCE m below i r e a = refl
 read_aside {limit} at o p t u _ k _ m below i r e a = cc
 
--- a word that was laid leaves the stream
+-- a word that was written leaves the stream
 pub lays_aside : {limit : ℕ} (before : List ℕ) (at : ℕ) (o p : Outer) (t u : Body) (h k : Half) (w : Token) (m d below : List ℕ) (q : ℕ) → 256 ≤ at → limit ≤ GREATEST_LIMIT → at + open_size o t h + laid_by w ≤ limit → read o t h w ≡ Some (At p u k) → Draft before at o t h m d below
     → cell m 20 ≡ q → q ≤ 1024 → length (lays w m d).0 ≡ 65536 → KeepsStream limit m (lays w m d).0 q
 lays_aside {limit} before at o p t u h k w m d below q l top r e g c hq n =

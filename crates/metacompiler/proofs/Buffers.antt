@@ -1,4 +1,4 @@
--- Buffers between screens: clean ones stay clean, and a screen that was in none is in none behind the read of another.
+-- Buffers between screens: clean ones stay clean, and a screen that was in none is in none after the read of another.
 use Rattle.std.proofs.Common.{◌≡◌, ℕ, zero, suc, List, [], ◌∷◌, refl, Bool, true, false, ◌==◌, ◌-◌, take, length}
 use Rattle.std.specs.Prelude.{slice_index_or, ◌||◌}
 use Rattle.std.specs.List.{list_any}

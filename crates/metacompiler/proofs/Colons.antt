@@ -141,7 +141,7 @@ fronted_agrees n m k here head new g e l a b f =
       all_new = f.all_new;
     }
 
--- what holds behind : and the name
+-- what holds after : and the name
 pub opened_by : {limit : ℕ} (ws : Words) (a cur ctx most here voc : ℕ) (n m title : List ℕ) → Orderly limit ws a cur ctx most here n → most ≤ 32767 → IsBetween n voc m → length title ≤ 31 → here + (7 + length title) ≤ limit
     → Opened limit ws a cur ctx most here (head_of cur title) (here + (7 + length title)) n (opening m title here (head_of cur title)) title
 opened_by {limit} ws a cur ctx most here voc n m title g l x s r =

@@ -160,7 +160,7 @@ comes_on {limit} w a s r n k v c sw rest x e y = record {
   idle = y.idle;
 }
 
--- the vocabulary that is searched first behind definitions
+-- the vocabulary that is searched first after definitions
 abbrev pub context_of : (cur voc : ℕ) → List ColonDefinition → ℕ
 context_of cur voc [] = voc
 context_of cur voc (e ∷ es) = cur
@@ -193,7 +193,7 @@ define_all {limit} ws a cur ctx most here voc n s sw (e ∷ es) g l i keys own l
     let two = define_all ws a cur ctx (suc most) here2 cur n2 one.final src.0 es g2 (omega arith) (own_head cur ctx) k2 k2 ld2 src.2 one.idle in
     subst (λ j. Comes limit ws.interpret a s (laid_all n2 es) j []) (context_own cur es) (comes_on ws.interpret a s one.final n2 (laid_all n2 es) cur (context_of cur cur es) src.0 [] one refl two)
 
--- the dictionary behind all of them is orderly
+-- the dictionary after all of them is orderly
 pub orderly_all : {limit : ℕ} (ws : Words) (a cur ctx most here : ℕ) (n : List ℕ) (sw : List SourceWord) (es : List ColonDefinition) → Orderly limit ws a cur ctx most here n → most + length es ≤ 32767 → AreDefined limit n sw es → (z : ℕ) × Orderly limit ws a cur ctx (most + length es) z (laid_all n es)
 orderly_all {limit} ws a cur ctx most here n sw [] g l src = let e : most + 0 ≡ most = omega arith in (here, rw e g)
 orderly_all {limit} ws a cur ctx most here n sw (e ∷ es) g l src =

@@ -82,7 +82,7 @@ loose_after Both k p e = absurd p
 loose_after Free _ p e = tt
 loose_after Compiling _ p e = tt
 
--- behind [']  and [COMPILE] the reader takes a name alone
+-- after [']  and [COMPILE] the reader takes a name alone
 pub tight_name : (o p : Outer) (t v : Tree) (h g : Half) (k : Token) → Tight h → read o t h k ≡ Some (At p v g) → (w : ℕ) × (k ≡ NAME w)
 tight_name o p t v Ticked g (NAME w) x e = (w, refl)
 tight_name o p t v Forced g (NAME w) x e = (w, refl)
@@ -91,7 +91,7 @@ tight_name o p t v Free g k x e = absurd x
 tight_name o p t v Compiling g k x e = absurd x
 tight_name o p t v _ g _ x e = cc
 
--- the mode behind a word of a body
+-- the mode after a word of a body
 pub mode_after : (nm : List ℕ) (semi lead : Bool) → ends_body nm ≡ semi → names_in_body nm ≡ lead → after Body nm ≡ (if semi then Outside else if lead then NameInBody else Body)
 mode_after nm semi lead e f = rw (e, f) refl
 
@@ -104,7 +104,7 @@ pub record Facing (E : Env) (s : Here) (o : Outer) (t : Tree) (h : Half) (v : So
   pub some : ((next (text_of_screen s) s.place).len == 0) ≡ false
   pub word : begins_comment (name (text_of_screen s) s.place) ≡ false
 
--- behind some step
+-- after some step
 pub record Stepped (E : Env) (s : Here) (ks : List Token) : Type 0 where
   pub place : Here
   pub leads : Leads E.ws.interpret (spot_of E.a s) (spot_of E.a place)
@@ -165,7 +165,7 @@ key_row n voc nm (LOOP false) number e x = let r : 188 ≡ number = cc in subst 
 key_row n voc nm (LOOP true) number e x = let r : 189 ≡ number = cc in subst (λ j. Key n voc nm j true × (nat_lt j 256 ≡ true)) r (x, refl)
 key_row n voc nm _ number e x = cc
 
--- a keyword with a row stands where nothing is half read
+-- a keyword with a row is where nothing is half read
 free_row : (o p : Outer) (t v : Tree) (h g : Half) (k : Token) (number : ℕ) → row_of k ≡ Some number → Loose h → read o t h k ≡ Some (At p v g) → h ≡ Free
 free_row o p t v Free g k number e l r = refl
 free_row o p t v Compiling g (NAME w) number e l r = cc
@@ -216,7 +216,7 @@ compile_cell E m o t h d i g =
     apart_next (inl q) j e = let q1 = q.1 in grind arith
     apart_next (inr q) j e = let q0 = q.0 in grind arith
 
--- a word without a text: where it stands, and the words behind it
+-- a word without a text: where it is, and the words after it
 pub record Plainly (s : Here) (v : SourceWord) (sw : List SourceWord) : Type 0 where
   pub is : v ≡ plain_spot s.screen s.place (text_of_screen s)
   pub behind : sw ≡ words_left (after Body (name (text_of_screen s) s.place)) s.disk.blocks s.screen (next (text_of_screen s) s.place).next s.others
@@ -239,7 +239,7 @@ textly E s o t h v sw k ks i x e =
     let q = same_spot v (text_spot s.screen s.place (text_of_screen s)) sw (words_left (after Body (name (text_of_screen s) s.place)) s.disk.blocks s.screen (parsed (text_of_screen s) (next (text_of_screen s) s.place).next 34).next s.others) (sym x.point.left ∙ l) in
     record { is = q.0; behind = q.1 }
 
--- a word behind which the body goes on
+-- a word after which the body goes on
 on_in_body : (s : Here) (v : SourceWord) (sw : List SourceWord) → Plainly s v sw → ends_body (name (text_of_screen s) s.place) ≡ false → names_in_body (name (text_of_screen s) s.place) ≡ false → words_left Body s.disk.blocks s.screen (next (text_of_screen s) s.place).next s.others ≡ sw
 on_in_body s v sw p e f = sym (p.behind ∙ ap (λ m. words_left m s.disk.blocks s.screen (next (text_of_screen s) s.place).next s.others) (mode_after (name (text_of_screen s) s.place) false false e f))
 

@@ -52,7 +52,7 @@ still : (u : Whole) (b p : ℕ) (text : List ℕ) → Reading u b p text → wit
 unfolding stream_buffers
 still u b p text r = rw (r.blk, r.some, r.front) refl
 
--- the stream is there, whatever comes next
+-- the stream exists, whatever comes next
 pub reads_here : (u : Whole) (b p : ℕ) (text : List ℕ) (after : Whole → Stream → After) → Reading u b p text → reads u after ≡ after u (stream u b p)
 reads_here u b p text after r =
     rw (has u b p text r) (ap (λ (s : Stream). after (with_stream u) s) (stream_is u b p text r) ∙ ap (λ (v : Whole). after v (stream u b p)) (still u b p text r))
@@ -100,7 +100,7 @@ named_here u b p text after r =
     ∙ ap (λ (w : Word). after u w (name_in u.memory (stream u b p))) (word_here u b p text r)
     ∙ ap (after u (next text p)) (name_here u b p text r)
 
--- what stands before the next c
+-- what is before the next c
 pub parsed_here : (u : Whole) (b p c : ℕ) (text : List ℕ) → Reading u b p text → parsed_in u.memory (stream u b p) c ≡ parsed text p c
 unfolding parsed_in
 parsed_here u b p c text r = rw (r.there, min_is p r.within) refl
@@ -163,7 +163,7 @@ victim_at b o =
     let li = limit_is (length b) o.count in
     (omega arith, omega arith)
 
--- a page that was put into memory stands there
+-- a page that was put into memory exists
 page_put : (m bs : List ℕ) (at : ℕ) → length m ≡ 65536 → at ≤ 64512 → length bs ≡ 1024 → bytes (with_page m at bs) at 1024 ≡ bs
 unfolding bytes with_page
 page_put m bs at l h k =

@@ -56,7 +56,7 @@ start_fresh (suc n) j = start_fresh n j
 pub agrees_self : (n : List ℕ) → Agrees n n
 agrees_self n = record { here = refl; same = λ i l a b c. refl }
 
--- All screens, from the start: the rounds end with all definitions laid.
+-- All screens, from the start: the rounds end with all definitions written.
 head_of_all : (cur ctx voc : ℕ) (es : List ColonDefinition) → ((y : List ℕ) → IsHead cur ctx (head_of voc y)) → (y : List ℕ) → IsHead cur ctx (head_of (context_of cur voc es) y)
 head_of_all cur ctx voc [] i y = i y
 head_of_all cur ctx voc (e ∷ es) i y = own_head cur ctx y
@@ -117,7 +117,7 @@ screens_law ws a cur ctx most here image f from more es count g l c keys own rel
       count_by (length y.parts.buffers) image.buffers y.count count y.limit_is,
     )
 
--- the resident compiler's words behind all definitions
+-- the resident compiler's words after all definitions
 keys_all : {limit : ℕ} (ws : Words) (a cur ctx most here : ℕ) (n : List ℕ) (sw : List SourceWord) (es : List ColonDefinition) → Orderly limit ws a cur ctx most here n → most + length es ≤ 32767 → Keys n cur → AreDefined limit n sw es → Keys (laid_all n es) cur
 keys_all {limit} ws a cur ctx most here n sw [] g l own src = own
 keys_all {limit} ws a cur ctx most here n sw (e ∷ es) g l own src =
@@ -212,7 +212,7 @@ taken_byte m z i h = get_or-take z m i 0 h
 taken_cell : (m : List ℕ) (z i : ℕ) → i + 1 < z → i + 1 < 65536 → cell (take z m) i ≡ cell m i
 taken_cell m z i h l = cell_by (take z m) m i l (taken_byte m z i (omega arith)) (taken_byte m z (i + 1) h)
 
--- what is saved behind all screens
+-- what is saved after all screens
 can_save_by : (s : Whole) (z : ℕ) → cell s.memory 28 ≡ z → nat_le 256 z ≡ true → nat_le z (limit_of (length s.buffers)) ≡ true → can_save s ≡ true
 unfolding can_save
 can_save_by s z e a b = rw (e, a, b) refl
@@ -278,7 +278,7 @@ load_law ws a cur ctx chains here image f from more ticks es count g l c keys ow
     (saved_as image (context_of cur ctx es) n x.1 n2 x.6 bt.all bt.agrees bt.context g2.executing (omega arith) (omega arith) g2.top b
     (λ i h. laid_low ws a cur ctx chains here n words es i g l src (omega arith) (omega arith) (omega arith) (stream_apart ws a cur ctx chains here n g i (omega arith))))
 
--- With enough ticks screens end, and what is saved is so laid.
+-- With enough ticks screens end, and what is saved is so written.
 pub enough_law : (ws : Words) (a cur ctx chains here : ℕ) (image : Contents) (f : Disk) (from more : ℕ) (es : List ColonDefinition) → let u = (start image (length f.blocks)).parts in let n = u.memory in let limit = limit_of image.buffers in
     IsCount image.buffers → Orderly limit ws a cur ctx chains here n → chains + length es ≤ 32767 → cell n 32 ≡ ctx → Keys n ctx → Keys n cur → ((j : ℕ) → j < 256 → byte n j < 256) → IsReliable f → 0 < from → from + more < length f.blocks
     → AreDefined limit n (words_of_screens Outside from (take (suc more) (drop from f.blocks))) es

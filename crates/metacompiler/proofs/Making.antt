@@ -22,7 +22,7 @@ use Rattle.inner_interpreter.specs.Runs.{served}
 use Rattle.metacompiler.specs.Rounds.{is_end, Stop, Ended, Limit, Fault, Halted, Asked, Out, out, is_ended, stop_by, went, by_answer, by_device, by_request, by_tick, rounds, entered, then_screens, screens}
 use Rattle.metacompiler.specs.Making.{continued, GoesOn, IsSettled, IsRound, StopsAt, IsSoFar, AreSoFar}
 
--- what an event tells of the state behind a move
+-- what an event says of the state after a move
 abbrev pub Tells : State → Event → Type 0
 Tells s event.Went = Runs s
 Tells s (event.Ask r) = (s.halt ≡ None) × (asked_by s.wait ≡ Some r)

@@ -41,7 +41,7 @@ behind_of text e h = let t : nat_lt e (length text) ≡ true = grind arith in rw
 behind_end : (text : List ℕ) (e : ℕ) → length text ≤ e → behind text e ≡ length text
 behind_end text e h = let t : nat_lt e (length text) ≡ false = grind arith in rw t refl
 
--- the place behind what ends at e, or one further
+-- the place after what ends at e, or one further
 behind_or : (m : Mode) (sc e : ℕ) (text : List ℕ) → words_at m sc (e + 1) text ≡ words_at m sc (behind text e) text
 behind_or m sc e text = elim (cases_lt e (length text)) [
   | inl x ↦ ap (λ q. words_at m sc q text) (sym (behind_of text e x))
@@ -109,7 +109,7 @@ encloses m sc c p text h =
       | inr x ↦ encloses_end m sc c a e (next text p).next text (omega arith) x (next_is text p ∙ behind_end text e x)
     ]
 
--- the next word is there
+-- the next word exists
 record IsMet (text : List ℕ) (p : ℕ) : Type 0 where
   inside : (next text p).at < length text
   letter : slice_index text (next text p).at ≢ 32

@@ -20,7 +20,7 @@ use Rattle.metacompiler.specs.Moved.{Stage, stage, behind, stop_by_tick, stop_be
 use Rattle.metacompiler.specs.Making.{GoesOn, LeadsTo, IsLed, IsSettledBy, IsReadOn}
 use Rattle.metacompiler.proofs.Making.{NoAsk, Tells, ticked_told, answer_told, stop_goes}
 
--- one move, and what comes behind it
+-- one move, and what comes after it
 one_move : (p : Stage) (t : Turn) (o : Option Stop) → 0 < p.left → is_entry t ≡ false → Accepts p.machine t → stop_behind p.machine t ≡ o → LeadsTo p (behind p t) o
 unfolding AreRounds
 one_move p t None some own ok e = λ r y h. record { moves = t ∷ h.moves; rounds = (some, own, ok, rw e h.rounds) }
@@ -64,7 +64,7 @@ tick_led s new c n act y t none e =
     let leads : LeadsTo (stage s c (n + 1)) (stage new c n) (stop_by new act.event) = subst (λ o. LeadsTo (stage s c (n + 1)) (stage new c n) o) (silent new act.event none) (tick_leads s new c n act t) in
     subst (λ o. IsLed (stage s c (n + 1)) (stage new c n) o) (sym e) (record { goes = goes; leads = leads })
 
--- a tick that asked, and what was done behind it
+-- a tick that asked, and what was done after it
 pub asked_led : (s mid new : State) (c c' : List DeviceCall) (n : ℕ) (act : Act) (r : Request) (y : Option Stop) → IsTicked s mid act → act.event ≡ event.Ask r → IsSettledBy r (stage mid c n) (stage new c' n) y → IsLed (stage s c (n + 1)) (stage new c' n) y
 asked_led s mid new c c' n act r y t e h = by_request r (subst (λ v. LeadsTo (stage s c (n + 1)) (stage mid c n) (stop_by_tick mid v)) e (tick_leads s mid c n act t)) h where
   by_request : (r : Request) → LeadsTo (stage s c (n + 1)) (stage mid c n) (stop_by_tick mid (event.Ask r)) → IsSettledBy r (stage mid c n) (stage new c' n) y → IsLed (stage s c (n + 1)) (stage new c' n) y
@@ -83,11 +83,11 @@ answer_led s new c c' reads reads' n act r asks some h =
     record { goes = stop_goes t.0 t.1.event (answer_told s r h.reply asks); leads = one_move (stage s c n) (Answer h.reply) (stop_by t.0 t.1.event) some refl h.accepted refl } in
     rw (e, a, h.calls_are) base
 
--- rounds so far, and what comes behind them
+-- rounds so far, and what comes after them
 pub led_on : (p m q : Stage) (y : Option Stop) → IsLed p m None → (Runs m.machine → IsLed m q y) → IsLed p q y
 led_on p m q y h f = let l = f h.goes in record { goes = l.goes; leads = led_then p m q y h.leads l.leads }
 
--- screens so far, and what comes behind them
+-- screens so far, and what comes after them
 pub one_more : (word more screen : ℕ) (m r : Stage) (All : Stage → Stop → Type 0) → IsReadOn word (suc more) screen m All → (Runs m.machine → IsLed (at_screen word screen m) r (Some Ended)) → IsReadOn word more (screen + 1) r All
 unfolding AreRead
 one_more word more screen m r All h f = let l = f h.goes in record { goes = l.goes; on = λ q y a. h.on q y (inr (r, l.leads, a)) }

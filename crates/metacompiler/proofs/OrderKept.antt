@@ -157,7 +157,7 @@ apart_more ws a here here' g h x = let b = x.behind in record {
   exit = cell_more here here' g ws.exit h x.exit;
 }
 
--- where a definition of a name is laid
+-- where a definition of a name is written
 pub orderly_site : {limit : ℕ} (ws : Words) (a cur ctx most here : ℕ) (n name : List ℕ) → Orderly limit ws a cur ctx most here n → length name ≤ 31 → Site n name here (head_of cur name)
 orderly_site {limit} ws a cur ctx most here n name g s = record {
   here_is = g.dp;

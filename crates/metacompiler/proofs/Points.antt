@@ -17,7 +17,7 @@ use Rattle.metacompiler.specs.Turning.{IsReliable, Ready, words_left, Spot, spot
 use Rattle.metacompiler.specs.Opened.{Opened, Drafts}
 use Rattle.metacompiler.proofs.WordCases.{Loose}
 
--- what is the same all through a body: where it is laid, what it is, and the words behind it
+-- what is the same all through a body: where it is written, what it is, and the words after it
 pub record Env : Type 0 where
   pub ws : Words
   pub a : ℕ

@@ -14,7 +14,7 @@ use Rattle.metacompiler.specs.Resident.{fields, IsRead, IsRecord, end_of_header,
 use Rattle.metacompiler.proofs.Disjoint.{Beside, FromAll, Pairwise, Within, few}
 use Rattle.metacompiler.proofs.Endings.{none_twice}
 
--- a head stands in its record, at an even place
+-- a head is in its record, at an even place
 record InRecord (voc g : ℕ) : Type 0 where
   at : ℕ
   is : g ≡ voc + 2 * at
@@ -68,7 +68,7 @@ record_placed : (m : List ℕ) (voc g : ℕ) → IsRecord m voc → InRecord voc
 record_placed m voc g (inl e) x = let gi = x.is in let gs = x.small in inl (omega arith, omega arith)
 record_placed m voc g (inr q) x = let gi = x.is in let gs = x.small in let q0 = q.0 in let q1 = q.1 in inr (omega arith, omega arith)
 
--- where a head stands: in CURRENT's record, in CONTEXT's, or in FORTH's
+-- where a head is: in CURRENT's record, in CONTEXT's, or in FORTH's
 data Whose (cur ctx g : ℕ) : Type 0 where
   Own : InRecord cur g → Whose cur ctx g
   First : InRecord ctx g → Whose cur ctx g

@@ -277,7 +277,7 @@ pub left_none : (m : Mode) (blocks : List (List ℕ)) (b p : ℕ) → words_at m
 unfolding after_words words_of_screens
 left_none m blocks b p e = rw e refl
 
--- behind a comment the stream stands further on
+-- after a comment the stream is further on
 pub further : (text : List ℕ) (p : ℕ) → length text ≡ 1024 → p ≤ 1024 → ((next text p).len == 0) ≡ false → p < (parsed text (next text p).next 41).next
 further text p l h z =
     let w : IsNextWord text p 32 (next text p) = word_law text p 32 (omega arith) in

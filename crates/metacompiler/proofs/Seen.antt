@@ -1,4 +1,4 @@
--- What the machine finds: in a memory that agrees with the one in which definitions are laid, and where a definition is begun.
+-- What the machine finds: in a memory that agrees with the one in which definitions are written, and where a definition is started.
 use Rattle.std.proofs.Common.{◌≡◌, ◌≢◌, ℕ, ◌+◌, ◌<◌, ◌≤◌, ◌/◌, ◌∷◌, List, [], length, Option, Some, None, refl, arith, Bool, true, false, sym, subst, ◌∙◌}
 use Rattle.std.specs.Prelude.{◌==◌, if◌then◌else◌, find}
 use Rattle.cells.specs.Cell.{wrap}
@@ -74,7 +74,7 @@ sought_is : (n m x : List ℕ) (voc : ℕ) → cell m 32 ≡ voc → sought_from
 unfolding sought
 sought_is n m x voc c f = rw c f
 
--- where a definition is begun
+-- where a definition is started
 pub sees_fronted : {limit : ℕ} (ws : Words) (a cur ctx most here head : ℕ) (n m : List ℕ) → Orderly limit ws a cur ctx most here n → most ≤ 32767 → IsHead cur ctx head → Fronted n m here head (here + 2) → ((x : List ℕ) → is_named m x (here + 2) ≡ false) → cell m 32 ≡ cur → cell m 18 ≡ 10 → Sees limit ws a here n cur m
 sees_fronted {limit} ws a cur ctx most here head n m g l i f hidden c t =
     let own : (x : List ℕ) → ChainApart here head n (head_of cur x) = λ x. chain_apart ws a cur ctx most here head (head_of cur x) n g l i (own_head cur ctx x) in

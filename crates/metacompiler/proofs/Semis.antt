@@ -54,7 +54,7 @@ opens_site m name here head k s r =
       head = subst (λ h. IsPlaced h (cell m 28)) (sym s.head_is) (subst (λ x. IsPlaced head x) (sym e) s.placed);
     }
 
--- the whole body is there
+-- the whole body exists
 bodied : (m1 : List ℕ) (pf : ℕ) (o : Outer) (t : Tree) (h : Half) (m d below : List ℕ) (b : Definition) → whole o t h ≡ Some b → Draft m1 pf o t h m d below → Bodied m1 pf b m × (d ≡ below)
 bodied m1 pf o t h m d below b e g =
     let c = whole_code (runtime m1) pf o t h b e in
@@ -80,7 +80,7 @@ finished_aside {limit} s here k e q l a b d r top c h =
       above = λ j x y. finished_byte s here k e j (omega arith) (omega arith) (omega arith) ∙ byte_above s (cell s 28) (cell_bytes e) j (omega (arith, length-cell e)) (omega (arith, length-cell e));
     }
 
--- the turn: m is the machine's memory in which the definition was begun
+-- the turn: m is the machine's memory in which the definition was started
 pub semi_turn : {limit : ℕ} (ws : Words) (a cur ctx most here voc view : ℕ) (n m title : List ℕ) (body : Definition) (o : Outer) (t : Tree) (h : Half) (u : Whole) (f : Disk) (d below : List ℕ) (b p more : ℕ) →
     let text = block_at f.blocks b in let head = head_of cur title in let pf = here + (7 + length title) in let m1 = opening m title here head in
     Orderly limit ws a cur ctx most here n → most + 1 ≤ 32767 → IsBetween n voc m → length title ≤ 31 → cell m 22 ≡ view → pf + (all_size body + 2) ≤ limit → Opened limit ws a cur ctx most here head pf n m1 title

@@ -24,7 +24,7 @@ use Rattle.resident_bodies.proofs.Controls.{thread_same}
 use Rattle.resident_bodies.proofs.Items.{written_is}
 use Rattle.resident_bodies.proofs.Ending.{tops, IsPlaced, head_low, top_byte, length-tops, top_both, top_here, opened, opening, opening_low, opening_header, length-opening, whole_header, Site}
 
--- memory with a header and what is behind it, not hidden
+-- memory with a header and what is after it, not hidden
 abbrev pub whole : List ℕ → (view : ℕ) → List ℕ → (here head : ℕ) → List ℕ → List ℕ
 whole m view name here head extra =
     tops (put_bytes m here (header_bytes view (cell m head) (128 + length name) name 1 extra)) (here + (7 + length name + length extra)) head (here + 2)
@@ -179,7 +179,7 @@ whole_named m name extra x view here head f =
     whole_has m name extra view here head (5 + i) f (omega arith) ∙ head_name view (cell m head) (128 + length name) i name extra q) in
     rw (hidden_new w name (here + 2) false f.short c, y, length_new w name (here + 2) false f.short c, nm) refl
 
--- memory behind `:`
+-- memory after `:`
 opening_head : (m name : List ℕ) (here head : ℕ) → Site m name here head → here + (7 + length name) ≤ GREATEST_LIMIT → cell (opening m name here head) head ≡ here + 2
 opening_head m name here head s r =
     let hl = head_low head here s.low s.placed in

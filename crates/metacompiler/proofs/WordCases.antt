@@ -164,7 +164,7 @@ case_of n voc Ticked nm text k p c q = absurd p
 case_of n voc Forced nm text k p c q = absurd p
 case_of n voc Both nm text k p c q = absurd p
 
--- behind ['] and [COMPILE] a name is due, immediate or not
+-- after ['] and [COMPILE] a name is due, immediate or not
 abbrev pub Tight : Half → Type 0
 Tight Ticked = Unit {0}
 Tight Forced = Unit {0}

@@ -49,7 +49,7 @@ use Rattle.metacompiler.proofs.Bodying.{drafts_kept, sees_kept, compiling_kept, 
 more_drafts : {limit : ℕ} (m1 : List ℕ) (pf : ℕ) (o p : Outer) (t v : Body) (h g : Half) (k : Token) (m d below : List ℕ) → 256 ≤ pf → limit ≤ GREATEST_LIMIT → pf + open_size o t h + laid_by k ≤ limit → read o t h k ≡ Some (At p v g) → Draft m1 pf o t h m d below → Drafts limit m1 pf p v g (lays k m d).1 below (lays k m d).0
 more_drafts {limit} m1 pf o p t v h g k m d below l top r e x = record { draft = word_is m1 pf o p t v h g k m d below l (omega arith) e x; room = let n = grows o p t v h g k e in omega arith }
 
--- a word that lays bytes by (INTERPRET) itself
+-- a word that writes bytes by (INTERPRET) itself
 pub compiles_step : {limit : ℕ} (ws : Words) (a cur ctx most here head pf : ℕ) (n m1 title : List ℕ) (o p : Outer) (t v : Body) (h g : Half) (k : Token) (u : Whole) (f : Disk) (d below bs : List ℕ) (b at0 more : ℕ) →
     let text = block_at f.blocks b in let q = (next text at0).next in let m0 = put_cell u.memory 20 q in
     Opened limit ws a cur ctx most here head pf n m1 title → Ready limit f u b at0 more → Drafts limit m1 pf o t h d below u.memory → length d ≤ 250 → takes (at u d (a + 2)) (next text at0) (name text at0) ≡ compiles_past (at u d (a + 2)) (next text at0) bs

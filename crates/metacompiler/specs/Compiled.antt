@@ -17,7 +17,7 @@ use Rattle.metacompiler.specs.Loaded.{LoadFault, OutOfMemory, loaded_by_machine,
 abbrev pub memory_of : Contents → Disk → List ℕ
 memory_of image d = (start image (length d.blocks)).parts.memory
 
--- the vocabulary that is searched first behind these definitions: CURRENT's, where there is one
+-- the vocabulary that is searched first after these definitions: CURRENT's, where there is one
 abbrev pub context_behind : List ℕ → List ColonDefinition → ℕ
 context_behind m [] = cell m CONTEXT
 context_behind m (e ∷ es) = cell m CURRENT
@@ -33,7 +33,7 @@ pub record CanCompile (image : Contents) (d : Disk) (from to : ℕ) (ws : Words)
   pub reliable : IsReliable d
   pub source : AreDefined (limit_of image.buffers) (memory_of image d) (source_of d from to) es
 
--- Then the new image has the memory in which they are laid, or there were too few ticks.
+-- Then the new image has the memory in which they are written, or there were too few ticks.
 abbrev pub Agree : Type 0
 Agree =
     (image : Contents) (d : Disk) (from to ticks : ℕ) (ws : Words) (a : ℕ) (es : List ColonDefinition) →

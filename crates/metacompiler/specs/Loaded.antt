@@ -29,7 +29,7 @@ put_back before m = put_cell (put_cell m BLK (cell before BLK)) TO_IN (cell befo
 abbrev pub restored : (before : List ℕ) → Whole → Whole
 restored before s = record s { memory = put_back before s.memory }
 
--- behind all screens words must be executed again; then memory is saved as an image
+-- after all screens words must be executed again; then memory is saved as an image
 abbrev pub ended : (entry : ℕ) → Whole → Result Contents LoadFault
 ended entry s =
     if cell s.memory STATE == 0 then (if can_save s then Ok (saved s entry) else Err BadSize) else Err Unfinished

@@ -13,7 +13,7 @@ pub record Words : Type 0 where
   pub branch : ℕ
   pub exit : ℕ
 
--- INTERPRET is a colon word, its thread stands at a, and its words are these primitives
+-- INTERPRET is a colon word, its thread is at a, and its words are these primitives
 pub record Thread (ws : Words) (m : List ℕ) (a : ℕ) : Type 0 where
   pub within : a + 22 < 65536
   pub place : a ≡ ws.interpret + 2

@@ -1,4 +1,4 @@
--- One round, and the rounds of screens, by what the machine and its device tell, and by moves.
+-- One round, and the rounds of screens, by what the machine and its device say, and by moves.
 use Rattle.std.specs.Prelude.{◌≡◌, ℕ, None, Some, Option}
 use Rattle.block_buffers.specs.Disks.{Disk}
 use Rattle.machine_parts.specs.Whole.{Whole}
@@ -20,7 +20,7 @@ GoesOn s None = Runs s
 GoesOn s (Some Ended) = Runs s
 GoesOn s (Some y) = Unit {0}
 
--- a step of the rounds, whatever comes behind it: they go on from the machine and the device as these are, or stop with
+-- a step of the rounds, whatever comes after it: they go on from the machine and the device as these are, or stop with
 -- them
 pub record IsStep (step : (Whole → Disk → Out) → Out) (left : ℕ) (new : State) (disk : Option Disk) (y : Option Stop)
     : Type 0 where
@@ -58,7 +58,7 @@ pub record AreSoFar (w count screen : ℕ) (o : Out) (new : State) (disk : Optio
   pub same : screens w count screen left new.parts told ≡ o
   pub goes : Runs new
 
--- rounds come from p to q and go on, whatever comes behind them, or they stop there
+-- rounds come from p to q and go on, whatever comes after them, or they stop there
 abbrev pub LeadsTo : (p q : Stage) → Option Stop → Type 0
 LeadsTo p q None = (r : Stage) (y : Stop) → ComesTo q r y → ComesTo p r y
 LeadsTo p q (Some y) = ComesTo p q y
@@ -68,7 +68,7 @@ pub record IsLed (p q : Stage) (y : Option Stop) : Type 0 where
   pub goes : GoesOn q.machine y
   pub leads : LeadsTo p q y
 
--- where a request was answered, or nothing was done
+-- where a request waited answered, or nothing was done
 abbrev pub IsSettledBy : Request → (p q : Stage) → Option Stop → Type 0
 IsSettledBy (Read u) p q y = IsLed p q y
 IsSettledBy (Write u) p q y = IsLed p q y

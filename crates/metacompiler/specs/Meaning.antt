@@ -12,7 +12,7 @@ use Rattle.source_words.specs.Words.{SourceWord}
 use Rattle.image_builder.specs.Spelled.{keyword, sense_of_word, text_of}
 use Rattle.resident_bodies.specs.Words.{row_of}
 
--- what a name stands for behind what is half read, by its header; any control may be named
+-- what a name stands for after what is half read, by its header; any control may be named
 abbrev pub named_token : List ℕ → Half → ℕ → Option Token
 named_token m h l = if is_barred h false (is_immediate m l) then None else Some (NAME (compilation_address m l))
 
@@ -21,21 +21,21 @@ name_first m h (Found l) s = named_token m h l
 name_first m h Nowhere s = by_spelling (λ w. Some w) None None s
 name_first m h TooLong s = None
 
--- behind ['] and [COMPILE] a word is a name first, elsewhere a keyword
+-- after ['] and [COMPILE] a word is a name first, elsewhere a keyword
 abbrev pub token_as : List ℕ → Half → Sought → Sense → Option Token
 token_as m h l s = keyword_first (λ w. Some w) h s (name_first m h l s)
 
--- what a word of a body is, behind what is half read
+-- what a word of a body is, after what is half read
 abbrev pub token_of : List ℕ → (voc : ℕ) → Half → SourceWord → Option Token
 token_of m voc h w = token_as m h (sought_from m voc w.name) (sense_of_word w.name (text_of w.text))
 
--- the name behind ['] and [COMPILE] stands on their screen
+-- the name after ['] and [COMPILE] is on their screen
 abbrev pub IsBeside : Token → SourceWord → List SourceWord → Type 0
 IsBeside TICK v (w ∷ ws) = w.screen ≡ v.screen
 IsBeside FORCE v (w ∷ ws) = w.screen ≡ v.screen
 IsBeside _ v ws = Unit {0}
 
--- words are these in a body, each behind what those before it leave half read; others may follow them
+-- words are these in a body, each after what those before it leave half read; others may follow them
 abbrev pub Means : List ℕ → (voc : ℕ) → Half → List SourceWord → List Token → (rest : List SourceWord) → Type 0
 Means m voc h ws [] rest = ws ≡ rest
 Means m voc h [] (k ∷ ks) rest = ⊥

@@ -30,7 +30,7 @@ behind p Tick = stage (turned p.machine Tick) p.calls (p.left - 1)
 behind p (Answer reply) = stage (turned p.machine (Answer reply)) (p.calls ++ device_call p.machine (Answer reply)) p.left
 behind p (Enter word) = stage (turned p.machine (Enter word)) p.calls p.left
 
--- why rounds stop behind a tick with this event, if they do: where the device is asked they go on
+-- why rounds stop after a tick with this event, if they do: where the device is asked they go on
 abbrev pub stop_by_tick : State → Event → Option Stop
 stop_by_tick s (event.Ask (Read u)) = None
 stop_by_tick s (event.Ask (Write u)) = None

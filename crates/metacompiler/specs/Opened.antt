@@ -1,4 +1,4 @@
--- A definition that was begun, and what holds while its body is read.
+-- A definition that was started, and what holds while its body is read.
 use Rattle.std.specs.Prelude.{◌≡◌, ◌≤◌, ◌+◌, ℕ, List, length}
 use Rattle.memory.specs.Bytes.{byte, cell}
 use Rattle.memory.specs.declared.limit.TheConstants.{GREATEST_LIMIT}
@@ -14,7 +14,7 @@ use Rattle.metacompiler.specs.Rounds.{at}
 use Rattle.metacompiler.specs.Orderly.{IsHead, Orderly}
 use Rattle.metacompiler.specs.Turning.{Ready, spot, Leads}
 
--- n is the memory in which the definition is laid, m1 the machine's right behind `:` and the name
+-- n is the memory in which the definition is written, m1 the machine's right after `:` and the name
 pub record Opened (limit : ℕ) (ws : Words) (a cur ctx most here head pf : ℕ) (n m1 title : List ℕ) : Type 0 where
   pub orderly : Orderly limit ws a cur ctx most here n
   pub few : most ≤ 32767
@@ -29,7 +29,7 @@ pub record Opened (limit : ℕ) (ws : Words) (a cur ctx most here head pf : ℕ)
   pub high : pf ≤ limit
   pub top : limit ≤ GREATEST_LIMIT
 
--- memories in which o, t and h were laid, with these cells on the data stack
+-- memories in which o, t and h were written, with these cells on the data stack
 pub record Drafts (limit : ℕ) (m1 : List ℕ) (pf : ℕ) (o : Outer) (t : Body) (h : Half) (d below m : List ℕ)
     : Type 0 where
   pub draft : Draft m1 pf o t h m d below

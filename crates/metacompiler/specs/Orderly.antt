@@ -1,4 +1,4 @@
--- An orderly dictionary: what must hold of a memory in which definitions are laid.
+-- An orderly dictionary: what must hold of a memory in which definitions are written.
 use Rattle.std.specs.Prelude.{◌≡◌, ◌≤◌, ◌<◌, ◌+◌, ◌∷◌, [], ℕ, List, length, ◌⊎◌}
 use Rattle.memory.specs.Bytes.{cell}
 use Rattle.memory.specs.declared.limit.TheConstants.{GREATEST_LIMIT}
@@ -33,7 +33,7 @@ pub record CellApart (here g l : ℕ) : Type 0 where
   pub high : l + 1 < here
   pub beside : (g + 1 < l) ⊎ (l + 1 < g)
 
--- what is read of INTERPRET's thread stands below here, away from a head
+-- what is read of INTERPRET's thread is below here, away from a head
 pub record ThreadApart (ws : Words) (a here g : ℕ) : Type 0 where
   pub start : 34 ≤ a
   pub behind : a + 22 ≤ here
@@ -47,8 +47,8 @@ pub record ThreadApart (ws : Words) (a here g : ℕ) : Type 0 where
   pub branch : CellApart here g ws.branch
   pub exit : CellApart here g ws.exit
 
--- n is an orderly dictionary, on which definitions can be laid: HERE is below the limit, and each chain has at most so
--- many headers. The vocabulary CURRENT is cur, CONTEXT is ctx, and INTERPRET's thread stands at a.
+-- n is an orderly dictionary, on which definitions can be written: HERE is below the limit, and each chain has at most so
+-- many headers. The vocabulary CURRENT is cur, CONTEXT is ctx, and INTERPRET's thread is at a.
 pub record Orderly (limit : ℕ) (ws : Words) (a cur ctx most here : ℕ) (n : List ℕ) : Type 0 where
   pub dp : cell n 28 ≡ here
   pub current : cell n 34 ≡ cur

@@ -65,7 +65,7 @@ has_keys m voc =
     has_colon m voc && (has_keyword m voc (codes "(") 145 && (has_naming m voc && (has_choosing m voc
     && (has_repeating m voc && (has_counting m voc && has_saying m voc)))))
 
--- the words of a thread behind a code field, as INTERPRET's has them
+-- the words of a thread after a code field, as INTERPRET's has them
 abbrev pub words_at : List ℕ → (word : ℕ) → Words
 words_at m word = record {
   interpret = word;
@@ -101,7 +101,7 @@ are_apart m l k =
 unfoldable pub is_apart_from : List ℕ → List ℕ → ℕ → Bool
 is_apart_from m hs l = list_all (are_apart m l) hs
 
--- a header stands below HERE, and beside a record
+-- a header is below HERE, and beside a record
 unfoldable pub is_within : List ℕ → ℕ → Bool
 is_within m l = nat_le 258 l && nat_le (end_of_header m l) (cell m DP)
 
@@ -153,7 +153,7 @@ unfoldable pub is_idle : List ℕ → (limit : ℕ) → Bool
 is_idle m limit =
     (cell m STATE == 0) && ((cell m BASE == 10) && (nat_le (cell m DP) limit && nat_le 256 (cell m DP)))
 
--- records and the thread stand below HERE, beside one another
+-- records and the thread are below HERE, beside one another
 abbrev pub is_record : List ℕ → (voc : ℕ) → Bool
 is_record m voc = (voc == 42) || (nat_le 256 voc && nat_le (voc + 10) (cell m DP))
 

@@ -20,7 +20,7 @@ abbrev pub IsRead : (headers : List ℕ) → List ℕ → ℕ → Type 0
 IsRead headers m l =
     ((h : ℕ) × IsHead (cell m CURRENT) (cell m CONTEXT) h × Contains (chain m 32769 (cell m h)) l) ⊎ Contains headers l
 
--- A header stands from its view cell, two bytes before its link field, to behind its code field.
+-- A header is from its view cell, two bytes before its link field, to after its code field.
 abbrev pub end_of_header : List ℕ → ℕ → ℕ
 end_of_header m l = l + (5 + name_length m l)
 
@@ -28,7 +28,7 @@ end_of_header m l = l + (5 + name_length m l)
 abbrev pub IsRecord : List ℕ → ℕ → Type 0
 IsRecord m voc = (voc ≡ 42) ⊎ ((256 ≤ voc) × (voc + 10 ≤ cell m DP))
 
--- what stands beside what: two headers, two records, a record and a header, a record and the thread
+-- what is beside what: two headers, two records, a record and a header, a record and the thread
 abbrev pub AreHeadersApart : List ℕ → (l k : ℕ) → Type 0
 AreHeadersApart m l k = (l ≡ k) ⊎ ((end_of_header m l + 2 ≤ k) ⊎ (end_of_header m k + 2 ≤ l))
 
@@ -41,9 +41,9 @@ IsHeaderBeside m voc l = (voc + 12 ≤ l) ⊎ (end_of_header m l ≤ voc)
 abbrev pub IsThreadBeside : (voc a : ℕ) → Type 0
 IsThreadBeside voc a = (voc + 10 ≤ a) ⊎ (a + 22 ≤ voc)
 
--- The memory m is resident, with the block buffers from the limit on: INTERPRET is found and its thread stands at a,
+-- The memory m is resident, with the block buffers from the limit on: INTERPRET is found and its thread is at a,
 -- the keywords are found in CONTEXT's vocabulary and in CURRENT's, and words are executed, in base ten. All headers
--- that are read, their records and the thread stand in 256..DP - 1, and no two of them overlap.
+-- that are read, their records and the thread are in 256..DP - 1, and no two of them overlap.
 pub record Resident (limit : ℕ) (ws : Words) (a : ℕ) (m : List ℕ) : Type 0 where
   pub link : ℕ
   pub interpret : sought m (codes "INTERPRET") ≡ Found link

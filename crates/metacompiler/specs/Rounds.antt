@@ -1,4 +1,4 @@
--- The rounds by which a machine compiles screens, by the ticks that are left, with a device that tells its blocks.
+-- The rounds by which a machine compiles screens, by the ticks that are left, with a device that reports its blocks.
 use Rattle.std.specs.Prelude.{ℕ, zero, suc, ◌+◌, ◌==◌, ◌≡◌, List, [], Bool, true, false, Option, None, Some, is_none, ◌&&◌, if◌then◌else◌, length}
 use Rattle.block_buffers.specs.Disks.{Disk}
 use Rattle.memory.specs.Bytes.{put_cell}
@@ -35,7 +35,7 @@ out s d n why = record { parts = s; disk = d; left = n; stop = why }
 abbrev pub is_ended : Whole → Bool
 is_ended s = (s.ip == 0) && (is_none s.pending && (length s.returns == 0))
 
--- behind a tick or an answer that went: the screen's end, or on
+-- after a tick or an answer that went: the screen's end, or on
 abbrev pub went : ℕ → (Whole → Disk → Out) → Whole → Disk → Out
 went left go s d = if is_ended s then out s d left Ended else go s d
 
@@ -46,12 +46,12 @@ stopped (event.Halt (cause.Fault f)) = Fault f
 stopped (event.Halt c) = Halted
 stopped _ = Asked
 
--- where the rounds stop behind a move, if they do
+-- where the rounds stop after a move, if they do
 abbrev pub stop_by : State → Event → Option Stop
 stop_by s event.Went = if is_ended s.parts then Some Ended else None
 stop_by s e = Some (stopped e)
 
--- behind an answer
+-- after an answer
 abbrev pub by_answer : ℕ → (Whole → Disk → Out) → State → Disk → Event → Out
 by_answer left go s d event.Went = went left go s.parts d
 by_answer left go s d e = out s.parts d left (stopped e)
@@ -67,7 +67,7 @@ by_request left go s d (Read u) = if left == 0 then out s.parts d left Limit els
 by_request left go s d (Write u) = if left == 0 then out s.parts d left Limit else by_device left go s d (Write u)
 by_request left go s d r = out s.parts d left Asked
 
--- behind a tick: the event decides first
+-- after a tick: the event decides first
 abbrev pub by_tick : ℕ → (Whole → Disk → Out) → State → Disk → Event → Out
 by_tick left go s d event.Went = went left go s.parts d
 by_tick left go s d (event.Ask r) = by_request left go s d r
@@ -83,7 +83,7 @@ abbrev pub entered : Whole → (w screen : ℕ) → Whole
 entered s w screen =
     record s { memory = put_cell (put_cell s.memory BLK screen) TO_IN 0; returns = []; ip = 0; pending = Some w }
 
--- behind a screen: so many more follow it, of which the first has this number
+-- after a screen: so many more follow it, of which the first has this number
 abbrev pub by_stop : (ℕ → Whole → Disk → Out) → Out → Stop → Out
 by_stop go o Ended = go o.left o.parts o.disk
 by_stop go o _ = o

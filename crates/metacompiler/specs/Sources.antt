@@ -12,7 +12,7 @@ use Rattle.image_builder.specs.Spelled.{keyword}
 use Rattle.resident_bodies.specs.Definitions.{laid_definition}
 use Rattle.metacompiler.specs.Meaning.{Means}
 
--- a definition: the screen of its name, the name, and what is behind it
+-- a definition: the screen of its name, the name, and what is after it
 pub record ColonDefinition : Type 0 where
   pub screen : ℕ
   pub title : List ℕ
@@ -51,7 +51,7 @@ pub record Defines (limit : ℕ) (m : List ℕ) (ws : List SourceWord) (e : Colo
   pub texts : AreShort (all_words e.body)
   pub room : cell m DP + (7 + length e.title + (all_size e.body + 2)) ≤ limit
 
--- the words of screens are these definitions, one behind the other
+-- the words of screens are these definitions, one after the other
 abbrev pub AreDefined : (limit : ℕ) → List ℕ → List SourceWord → List ColonDefinition → Type 0
 AreDefined limit m ws [] = ws ≡ []
 AreDefined limit m ws (e ∷ es) =

@@ -69,7 +69,7 @@ pub record Leads (w : ℕ) (s t : Spot) : Type 0 where
       then_screens w s.more (s.screen + 1) (rounds (ticks + suc k) s.parts s.disk)
       ≡ then_screens w t.more (t.screen + 1) (rounds (suc k) t.parts t.disk)
 
--- the machine comes to the next word, behind comments and the ends of screens
+-- the machine comes to the next word, after comments and the ends of screens
 pub record Met (limit w a : ℕ) (I : List ℕ → Type 0) (mode : Mode) (u : Whole) (f : Disk) (d : List ℕ) (b more : ℕ)
     (left : List SourceWord) : Type 0 where
   pub parts : Whole

@@ -8,7 +8,7 @@ use Rattle.primitives.specs.Table.{row}
 use Rattle.metacompiler.specs.Loop.{Words, Thread}
 use Rattle.metacompiler.specs.Rounds.{Goes, at, out, rounds, Ended}
 
--- (INTERPRET) makes v of u, and leaves the stack e in place of d; INTERPRET's thread stands in both
+-- (INTERPRET) makes v of u, and leaves the stack e in place of d; INTERPRET's thread is in both
 pub record Scanned (ws : Words) (a : ℕ) (u v : Whole) (d e : List ℕ) : Type 0 where
   pub low : 0 < a
   pub before : Thread ws u.memory a

@@ -135,7 +135,7 @@ fn has_primitives(memory: &Memory, word: u16) -> bool
                             && memory.cell(memory.cell(word + 22)) == Control::Exit as u16)))))
 }
 
-/// Whether INTERPRET's thread stands behind this code field.
+/// Whether INTERPRET's thread comes after this code field.
 #[tactic(auto, unfolding(crate::specs::Residency::has_thread))]
 fn has_thread(memory: &Memory, word: u16) -> bool
     ensures value { result ≡ has_thread memory.now word }
@@ -146,7 +146,7 @@ fn has_thread(memory: &Memory, word: u16) -> bool
             && (has_jumps(memory, word) && has_primitives(memory, word)))
 }
 
-/// Where a header ends, behind its code field.
+/// Where a header ends, after its code field.
 fn end_of_header(memory: &Memory, l: u16) -> u32
     ensures value { result ≡ end_of_header memory.now l }
     ensures most { result ≤ 65795 }
@@ -177,7 +177,7 @@ fn are_all_apart(memory: &Memory, headers: &[u16]) -> bool
     headers.iter().all(|l| is_apart_from(memory, headers, *l))
 }
 
-/// Whether a header stands from 258 to HERE.
+/// Whether a header is from 258 to HERE.
 #[tactic(auto, unfolding(crate::specs::Residency::is_within))]
 fn is_within(memory: &Memory, l: u16) -> bool
     ensures { result ≡ is_within memory.now l }
@@ -191,7 +191,7 @@ fn are_within(memory: &Memory, headers: &[u16]) -> bool
     headers.iter().all(|l| is_within(memory, *l))
 }
 
-/// Whether a header stands beside a record.
+/// Whether a header is beside a record.
 #[tactic(auto, unfolding(crate::specs::Residency::is_beside))]
 fn is_beside(memory: &Memory, voc: u16, l: u16) -> bool
     ensures { result ≡ is_beside memory.now voc l }
@@ -306,7 +306,7 @@ fn is_thread_beside(voc: u16, word: u16) -> bool
     u32::from(voc) + 10 <= u32::from(word) + 2 || u32::from(word) + 24 <= u32::from(voc)
 }
 
-/// Whether records and the thread stand below HERE, beside one another.
+/// Whether records and the thread are below HERE, beside one another.
 #[tactic(auto, unfolding(crate::specs::Residency::are_placed))]
 fn are_placed(memory: &Memory, current: u16, context: u16, word: u16) -> bool
     ensures { result ≡ are_placed memory.now current context word }

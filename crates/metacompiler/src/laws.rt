@@ -11,7 +11,7 @@ ghost use Rattle.metacompiler.specs.Sources.{AreDefined};
 ghost use Rattle.metacompiler.specs.Turns.{CompiledIn6, ExecutedIn8, EndedIn4};
 
 /// Screens that hold colon definitions alone, loaded on an image whose memory is resident: the new image has the memory
-/// in which they are laid as the metacompiler's definitions say, or there were too few ticks. With enough ticks it has.
+/// in which they are written as the metacompiler's definitions say, or there were too few ticks. With enough ticks it has.
 pub fn agree_law()
     ensures agree { Agree }
     ensures enough { Enough }

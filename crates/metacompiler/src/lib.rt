@@ -1,5 +1,5 @@
 //! Screens compiled to an image: by the rules of a source (`build`), or by the running image itself (`load_by_machine`);
-//! and that both lay the same, as laws.
+//! and that both write the same, as laws.
 #![tactic(auto)]
 
 mod checking;

@@ -123,7 +123,7 @@ fn fault_of(stop: Stop) -> LoadFault
     }
 }
 
-/// Behind all screens: BLK and >IN get these cells, words must be executed again, and memory is saved.
+/// After all screens: BLK and >IN get these cells, words must be executed again, and memory is saved.
 fn save(
     machine: &mut Machine,
     alloc: Global,
@@ -149,7 +149,7 @@ fn save(
 }
 
 /// The screens from one to another are loaded by a machine that runs, to which an image with this entry was loaded, as
-/// `load_by_machine` does. Where a screen's rounds stop before its end, its BLK and >IN tell where that was.
+/// `load_by_machine` does. Where a screen's rounds stop before its end, its BLK and >IN say where that was.
 #[tactic(auto, using(crate::proofs::Answering::refused_loaded, crate::proofs::Answering::stopped_loaded, crate::proofs::Answering::saved_loaded, crate::proofs::Answering::stopped_there, crate::proofs::Answering::saved_there))]
 pub fn load_on<D: Device>(
     machine: &mut Machine,
@@ -167,7 +167,7 @@ pub fn load_on<D: Device>(
         (λ word. HasRead word entry from to (stage machine.old (D.calls device.old) limit)
         (D.calls device.new) result) }
 
-    // Where a screen's rounds stop before its end, the machine is as they left it: its BLK and >IN tell where that was.
+    // Where a screen's rounds stop before its end, the machine is as they left it: its BLK and >IN say where that was.
     ensures stopped { Runs machine.old → IfOk (word_on machine.old from to)
         (λ word. HasStopped word from to (stage machine.old (D.calls device.old) limit) machine.new
         (D.calls device.new) result) }
@@ -191,7 +191,7 @@ pub fn load_on<D: Device>(
 
 /// Loads screens on an image: the machine that it is loaded to compiles them in turn, with at most `limit` ticks, and
 /// its memory up to HERE is the new image, which starts with the same word. For each screen BLK is set to it, >IN to 0,
-/// and INTERPRET is entered; behind the last BLK and >IN get their cells of before. What is shown is dropped; what is
+/// and INTERPRET is entered; after the last BLK and >IN get their cells of before. What is shown is dropped; what is
 /// asked of the device is asked of `device`, and what was written stays written.
 pub fn load_by_machine<D: Device>(
     alloc: Global,

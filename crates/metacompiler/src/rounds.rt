@@ -39,7 +39,7 @@ fn is_ended(machine: &Machine) -> bool
     machine.ip() == 0 && machine.pending().is_none() && machine.returns().depth() == 0
 }
 
-/// Where the rounds stop behind a fault or a halt.
+/// Where the rounds stop after a fault or a halt.
 fn stopped(event: Event) -> Stop
     ensures { result ≡ stopped event }
 {
@@ -51,7 +51,7 @@ fn stopped(event: Event) -> Stop
     }
 }
 
-/// Where the rounds stop behind a move.
+/// Where the rounds stop after a move.
 fn stop_by(machine: &Machine, event: Event) -> Option<Stop>
     ensures { result ≡ stop_by machine.now event }
 {

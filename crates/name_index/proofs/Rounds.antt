@@ -14,7 +14,7 @@ use Rattle.name_index.proofs.Walks.{same_sym, same_trans, same_more, same_up, sa
 abbrev pub Above : ℕ → (ℕ → Type 0) → Type 0
 Above top P = (more : ℕ) → top ≤ more → more < 65536 → P more
 
--- Between the first member f and the one that was known stands member l; slot k holds t. A t that is newer than the known
+-- Between the first member f and the one that was known is member l; slot k holds t. A t that is newer than the known
 -- one was put there, and serves f once it is shown that searches from l on don't hang on how far they look. An older one
 -- serves the known one, and a search from f on comes to l.
 pub record Round (top : ℕ) (m : List ℕ) (k known f l t : ℕ) : Type 0 where
@@ -150,23 +150,3 @@ next_rounds old top class known f l x s m before table new at c len kept set abo
   | inl h ↦ rw (kept h) (next_rounds_kept old top class known f l x s m before table at h le is rounds)
   | inr h ↦ rw (set h) (next_rounds_set old top class known f l x s m before table at c len h above most le is rounds)
 ]
-
--- the known member is met
-last_round : (top k known f t : ℕ) (m : List ℕ) → top < 65536 → known ≤ f → Round top m k known f known t → Serves top m k f t
-last_round top k known f t m small most round = elim (cases_lt known t) [
-  | inl h ↦ let r = round.newer h in record { older = r.0; same = r.1 top (omega arith) small round.steady }
-  | inr h ↦
-      let r = round.older h in
-      record {
-        older = omega (arith, h, most);
-        same = same_trans top k f known t m (r.1 top (omega arith) small round.steady) r.0;
-      }
-]
-
-pub last_rounds : (top class known f l : ℕ) (m before table : List ℕ) → top < 65536 → l ≡ known → l ≤ f → Rounds top m class known f l before table
-    → IsAdmitted top m class f before table
-last_rounds top class known f l m before table small e most rounds = record {
-  slots = λ k b c. last_round top k known f (slice_index table k) m small (subst (λ (i : ℕ). i ≤ f) e most)
-      (subst (λ (i : ℕ). Round top m k known f i (slice_index table k)) e (rounds.slots k b c));
-  others = rounds.others;
-}

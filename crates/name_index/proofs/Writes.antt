@@ -90,17 +90,4 @@ abbrev pub IsAside : ℕ → Write → Type 0
 IsAside top (PutCell at x) = (at < 65536) × ((a : ℕ) → is_watched top a ≡ true → IsBeside at 2 a)
 IsAside top (PutBytes at bs) = (at < 65536) × ((a : ℕ) → is_watched top a ≡ true → IsBeside at (length bs) a)
 
-pub holds_write : (limit : ℕ) (index : NameIndex) (m : List ℕ) (w : Write) → IsAside index.top w → Holds limit index m → Holds limit index (with_write m w)
-holds_write limit index m (PutCell at x) aside holds = holds_beside limit at 2 index m (put_cell m at x) aside.1 (beside_cell m at x aside.0) holds
-holds_write limit index m (PutBytes at bs) aside holds =
-    holds_beside limit at (length bs) index m (put_bytes m at bs) aside.1 (beside_bytes m at bs aside.0) holds
-
--- such writes in turn
-pub holds_written : (limit : ℕ) (index : NameIndex) (m : List ℕ) (ws : List Write) → All (λ w. IsAside index.top w) ws → Holds limit index m → Holds limit index (written m ws)
-unfolding written
-holds_written limit index m [] aside holds = holds
-holds_written limit index m (w ∷ ws) aside holds =
-    holds_written limit index (with_write m w) ws (All-tail (λ (v : Write). IsAside index.top v) w ws aside)
-    (holds_write limit index m w (All-head (λ (v : Write). IsAside index.top v) w ws aside) holds)
-
 pub ruleset writes = (beside_byte, beside_cell, beside_bytes, beside_filled, beside_moved_up, beside_moved_down, holds_beside, holds_system_cell, holds_page)

@@ -41,7 +41,7 @@ pub record IsRight (limit : ℕ) (index : NameIndex) (m : List ℕ) : Type 0 whe
 unfoldable pub Holds : ℕ → NameIndex → List ℕ → Type 0
 Holds limit index m = IsRight limit index m
 
--- a table in whose slots of a class stands what serves the member f; the others are as they were
+-- a table in whose slots of a class is what serves the member f; the others are as they were
 pub record IsAdmitted (top : ℕ) (m : List ℕ) (class f : ℕ) (before table : List ℕ) : Type 0 where
   pub slots : (k : ℕ) → k < 8192 → k % 4 ≡ class → Serves top m k f (slice_index table k)
   pub others : (k : ℕ) → k < 8192 → k % 4 ≢ class → slice_index table k ≡ slice_index before k

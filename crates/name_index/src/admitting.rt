@@ -10,7 +10,7 @@ use crate::watch::DICTIONARY;
 use dictionary::name_length;
 use memory::Memory;
 
-/// The end of the header at `link_field`, its code field included, which may be behind memory's end.
+/// The end of the header at `link_field`, its code field included, which may be past memory's end.
 fn end_of(memory: &Memory, link_field: u16) -> u32
     ensures { result ≡ link_field + (5 + name_length memory.now link_field) }
 {

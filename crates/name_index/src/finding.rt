@@ -67,7 +67,7 @@ fn search_forth(
 
 /// The link field of the header that a name means, as `dictionary::search`: the vocabulary in CONTEXT is searched, and then
 /// FORTH. A longer chain than 32,768 headers without a find is `ChainTooLong`. FORTH is searched by the table, as far as its
-/// chains stand in the dictionary below `limit` and fall from member to member.
+/// chains are in the dictionary below `limit` and fall from member to member.
 #[tactic(auto, using(crate::proofs::Orders::orders))]
 pub fn find_indexed(
     memory: &Memory,

@@ -2,7 +2,7 @@
 
 use crate::watch::{DICTIONARY, is_touched};
 
-/// How many bytes of memory's beginning a loop may keep behind its end too: below them a store is never in place.
+/// How many bytes of memory's beginning a loop may keep after its end too: below them a store is never in place.
 const LEAST_FLOOR: u16 = 16;
 
 /// How many searches walk a chain before a table is made, at first and at most: each time that a table is emptied it waits
@@ -12,7 +12,7 @@ const FIRST_WAIT: u16 = 16;
 const LONGEST_WAIT: u16 = 512;
 
 /// For each slot a member of FORTH's chain of a class, 0 for none: the newest whose name has that slot, of those from the
-/// class's head in `heads` on. It rests on what stands in the dictionary below `top`.
+/// class's head in `heads` on. It rests on what is in the dictionary below `top`.
 #[derive(Drop)]
 pub struct NameIndex {
     table: [u16; 8192],
@@ -55,7 +55,7 @@ impl NameIndex {
         self.wait = self.next_wait;
     }
 
-    /// Stands beside a write of the `n` addresses from `at` on, which wrap: where one of them is watched, nothing is kept any
+    /// Is beside a write of the `n` addresses from `at` on, which wrap: where one of them is watched, nothing is kept any
     /// more.
     #[tactic(auto, using(crate::proofs::Holding::holds_beside))]
     pub fn note(&mut self, at: u16, n: u16)

@@ -7,7 +7,7 @@ use file_access::{Holding, look_into};
 use std::io::ErrorKind;
 use std::{fs, io};
 
-/// What a file holds. Want of memory is printed, and the status is the error.
+/// What a file holds. Lack of memory is printed, and the status is the error.
 fn found_in(rt: &HostRuntime, name: &str) -> Result<Holding, u8>
     ensures { IfErr result (λ status. 0 < status) }
 {
@@ -22,7 +22,7 @@ pub fn keep_blocks(rt: &HostRuntime, blocks: &str) -> Result<(), u8>
     ensures { IfErr result (λ status. 0 < status) }
 {
     match found_in(rt, blocks)? {
-        Holding::Image => Err(refuse_use(rt, blocks, "is an image, and no file of blocks")),
+        Holding::Image => Err(refuse_use(rt, blocks, "is an image, not a block file")),
         Holding::Blocks | Holding::Other => Ok(()),
     }
 }
@@ -32,7 +32,7 @@ pub fn keep_image(rt: &HostRuntime, image: &str) -> Result<(), u8>
     ensures { IfErr result (λ status. 0 < status) }
 {
     match found_in(rt, image)? {
-        Holding::Blocks => Err(refuse_use(rt, image, "is there already, and is no image")),
+        Holding::Blocks => Err(refuse_use(rt, image, "already exists, and isn't an image")),
         Holding::Image | Holding::Other => Ok(()),
     }
 }
@@ -46,20 +46,20 @@ pub fn keep_trace(rt: &HostRuntime, trace: &str) -> Result<(), u8>
         Holding::Blocks | Holding::Image => Err(refuse_use(
             rt,
             trace,
-            "is there already, and is no trace",
+            "already exists, and isn't a trace",
         )),
         Holding::Other => Ok(()),
     }
 }
 
-/// Sees to it that a new file isn't written over one that is there. Where it would be that is printed, and the status is the
+/// Sees to it that a new file isn't written over one that exists. Where it would be that is printed, and the status is the
 /// error.
 pub fn keep_absent(rt: &HostRuntime, name: &str) -> Result<(), u8>
     ensures { IfErr result (λ status. 0 < status) }
 {
     match fs::exists(rt, name) {
         Ok(false) => Ok(()),
-        Ok(true) => Err(refuse_use(rt, name, "is there already")),
+        Ok(true) => Err(refuse_use(rt, name, "already exists")),
         Err(error) => Err(refuse_file(rt, &error, name)),
     }
 }
@@ -77,14 +77,14 @@ fn is_one_file(rt: &HostRuntime, name: &str, other: &str) -> io::Result<bool> {
     }
 }
 
-/// Sees to it that a file isn't written over one that is read. Where they are one file that is printed, with what they are,
+/// Sees to it that a file isn't written over one that is read. Where they are the same file that is printed, with what they are,
 /// and the status is the error.
 pub fn keep_apart(rt: &HostRuntime, read: &str, written: &str, files: &str) -> Result<(), u8>
     ensures { IfErr result (λ status. 0 < status) }
 {
     match is_one_file(rt, read, written) {
         Ok(false) => Ok(()),
-        Ok(true) => Err(refuse_use(rt, files, "are one file")),
+        Ok(true) => Err(refuse_use(rt, files, "are the same file")),
         Err(_) => Err(out_of_memory(rt)),
     }
 }

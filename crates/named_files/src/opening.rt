@@ -57,7 +57,7 @@ pub fn file_bytes(rt: &HostRuntime, name: &str) -> Result<Vec<u8>, u8>
     }
 }
 
-/// The bytes of a file, if it is there. Where they can't be read that is printed, and the status is the error.
+/// The bytes of a file, if it exists. Where they can't be read that is printed, and the status is the error.
 pub fn old_file(rt: &HostRuntime, name: &str) -> Result<Option<Vec<u8>>, u8>
     ensures { IfErr result (λ status. 0 < status) }
 {
@@ -68,7 +68,7 @@ pub fn old_file(rt: &HostRuntime, name: &str) -> Result<Option<Vec<u8>>, u8>
     }
 }
 
-/// The bytes of a file of blocks that is to be replaced; none where it isn't there. Where they can't be read that is printed,
+/// The bytes of a file of blocks that is to be replaced; none where it doesn't exist. Where they can't be read that is printed,
 /// and the status is the error.
 pub fn old_blocks(rt: &HostRuntime, blocks: &str) -> Result<Vec<u8>, u8>
     ensures { IfErr result (λ status. 0 < status) }
@@ -79,7 +79,7 @@ pub fn old_blocks(rt: &HostRuntime, blocks: &str) -> Result<Vec<u8>, u8>
     }
 }
 
-/// A file that is to be replaced, held against other runs for as long as it is open; none where it isn't there. Where another
+/// A file that is to be replaced, held against other runs for as long as it is open; none where it doesn't exist. Where another
 /// run has it that is printed, and the status is the error.
 pub fn held(rt: &HostRuntime, name: &str) -> Result<Option<File>, u8>
     ensures { IfErr result (λ status. 0 < status) }

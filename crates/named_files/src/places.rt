@@ -39,7 +39,7 @@ pub fn say_missing(rt: &HostRuntime, name: &str, number: u16) {
     let _said = eprintln!(rt; "{name}: screen {number} isn't there, or can't be read");
 }
 
-/// Says where a refusal stands, and why it is, with that line of the screen.
+/// Says where a refusal is, and why it is, with that line of the screen.
 pub fn show_line<C: Display + Drop>(
     rt: &HostRuntime,
     name: &str,
@@ -120,7 +120,7 @@ fn start_before(screen: &[u8], place: usize) -> usize {
     before.map_or(0, |blank| blank.saturating_add(1))
 }
 
-/// Where the word begins that comes next behind `place`.
+/// Where the word begins that comes next after `place`.
 fn start_behind(screen: &[u8], place: usize) -> usize {
     let Some(coming) = screen.get(place..) else {
         return place;
@@ -135,7 +135,7 @@ pub fn word_before(screen: &[u8; BLOCK_SIZE], place: u16) -> u16 {
     word.min(BLOCK_SIZE) as u16
 }
 
-/// Where the word begins in a screen that comes next behind `place`.
+/// Where the word begins in a screen that comes next after `place`.
 pub fn word_behind(screen: &[u8; BLOCK_SIZE], place: u16) -> u16 {
     let word = start_behind(screen, usize::from(place).min(BLOCK_SIZE));
     word.min(BLOCK_SIZE) as u16

@@ -16,7 +16,7 @@ fn is_closed(rt: &HostRuntime) -> bool {
 }
 
 /// Standard output. What a terminal is shown is written at once, so that a run can be watched, and stopped at any time;
-/// where it is closed, that too is seen at once. Want of memory is printed, and the status is the error.
+/// where it is closed, that too is seen at once. Lack of memory is printed, and the status is the error.
 pub fn standard_output(rt: &HostRuntime) -> Result<BufWriter<Stdout>, u8>
     ensures { IfErr result (λ status. 0 < status) }
 {
@@ -31,7 +31,7 @@ pub fn standard_output(rt: &HostRuntime) -> Result<BufWriter<Stdout>, u8>
     }
 }
 
-/// Standard input. Want of memory is printed, and the status is the error.
+/// Standard input. Lack of memory is printed, and the status is the error.
 pub fn standard_input(rt: &HostRuntime) -> Result<BufReader<Stdin>, u8>
     ensures { IfErr result (λ status. 0 < status) }
 {

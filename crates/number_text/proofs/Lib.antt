@@ -4,3 +4,4 @@ pub mod Expansions
 pub mod ExpansionLaw
 pub mod Pictures
 pub mod Spellings
+pub mod Joined

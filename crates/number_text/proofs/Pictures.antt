@@ -79,7 +79,7 @@ apart : (m : List ℕ) (i j x y : ℕ) → i ≢ j → put_byte (put_byte m i x)
 unfolding put_byte
 apart m i j x y h = set_comm m i j x y h
 
--- a byte behind bytes may be put before them
+-- a byte after bytes may be put before them
 put_later : (m : List ℕ) (a n p b : ℕ) (bs : List ℕ) → a < 65536 → n < 65536 → p ≡ wrap (a + n) → length bs ≤ n → put_bytes (put_byte m p b) a bs ≡ put_byte (put_bytes m a bs) p b
 unfolding put_bytes
 put_later m a n p b [] h k e l = refl
@@ -92,7 +92,7 @@ put_last : (m : List ℕ) (a p b : ℕ) (bs : List ℕ) → a < 65536 → p ≡ 
 unfolding put_bytes
 put_last m a p b bs h e = put_bytes-append m a p bs (b ∷ []) e h
 
--- digits that are put down, the lowest first, stand as those that are put from their place on
+-- digits that are put down, the lowest first, are as those that are put from their place on
 put_down_up : (m : List ℕ) (end : ℕ) (ds : List ℕ) → end < 65536 → length ds < 65536 → put_down m end ds ≡ put_bytes m (difference end (length ds)) (map byte_of (reverse ds))
 unfolding put_down put_bytes
 put_down_up m end [] h k = refl

@@ -54,7 +54,7 @@ finish base text rest ds minus dot m b d p some digits =
       value = ap (λ (x : List ℕ). with_sign (is_minus text) (text_value base x % 4294967296)) part ∙ rw m refl;
     }
 
--- behind the digits
+-- after the digits
 point_parts : (base : ℕ) (ds : List ℕ) (dot : Bool) → base < 65536 → 0 < length ds → are_digits base ds ≡ true →
     (has_dot (ds ++ point dot) ≡ dot) × (before_dot (ds ++ point dot) ≡ ds)
 point_parts base ds false b some digits =

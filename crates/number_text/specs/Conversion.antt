@@ -1,4 +1,4 @@
--- CONVERT: digits in memory that are read behind a number.
+-- CONVERT: digits in memory that are read after a number.
 use Rattle.std.specs.Prelude.{ℕ, ◌+◌, ◌≡◌, List, length, Result, Ok, Err, IsTrue, IsFalse}
 use Rattle.cells.specs.Cell.{wrap}
 use Rattle.memory.specs.Bytes.{cell, bytes}
@@ -11,11 +11,11 @@ use Rattle.number_text.specs.Base.{has_base}
 unfoldable pub digits_behind : List ℕ → ℕ → List ℕ
 digits_behind m a = leading_digits (cell m BASE) (bytes m (wrap (a + 1)) 65535)
 
--- the address behind them
+-- the address after them
 unfoldable pub address_behind : List ℕ → ℕ → ℕ
 address_behind m a = wrap (wrap (a + 1) + length (digits_behind m a))
 
--- the number with these digits behind its own, and the address behind them
+-- the number with these digits after its own, and the address after them
 abbrev pub IsConverted : List ℕ → ℕ → ℕ → Result (ℕ × ℕ) BadBase → Type 0
 IsConverted m number a (Ok p) =
     IsTrue (has_base m)

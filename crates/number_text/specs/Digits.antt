@@ -36,7 +36,7 @@ value base (d ∷ ds) = d * base ^ length ds + value base ds
 unfoldable pub text_value : ℕ → List ℕ → ℕ
 text_value base text = value base (map digit text)
 
--- a number with the digits of a text behind its own, modulo 2^32
+-- a number with the digits of a text after its own, modulo 2^32
 unfoldable pub continued : ℕ → ℕ → List ℕ → ℕ
 continued base number text = (number * base ^ length text + text_value base text) % 4294967296
 

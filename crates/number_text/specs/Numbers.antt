@@ -30,7 +30,7 @@ is_number base text = not (length (digit_part text) == 0) && are_digits base (di
 unfoldable pub is_double : List ℕ → Bool
 is_double text = has_dot (behind_minus text)
 
--- a double, or the double behind a `-`
+-- a double, or the double after a `-`
 abbrev pub with_sign : Bool → ℕ → ℕ
 with_sign minus d = if minus then (4294967296 - d) % 4294967296 else d
 
@@ -50,7 +50,7 @@ point false = []
 abbrev pub spelled : Bool → List ℕ → Bool → List ℕ
 spelled minus ds dot = sign minus ++ (ds ++ point dot)
 
--- the text is a number, with `.` a double, and its value is that of the digits, negated behind a `-`
+-- the text is a number, with `.` a double, and its value is that of the digits, negated after a `-`
 pub record IsSpelling (base : ℕ) (text : List ℕ) (minus : Bool) (ds : List ℕ) (dot : Bool) : Type 0 where
   pub number : is_number base text ≡ true
   pub double : is_double text ≡ dot

@@ -15,7 +15,7 @@ pad m = wrap (cell m DP + 340)
 unfoldable pub opened : List ℕ → List ℕ
 opened m = put_cell m HLD (pad m)
 
--- HLD is lowered by one, and then the byte is there
+-- HLD is lowered by one, and then the byte exists
 unfoldable pub held : List ℕ → ℕ → List ℕ
 held m byte = put_byte (put_cell m HLD (difference (cell m HLD) 1)) (difference (cell m HLD) 1) byte
 

@@ -1,4 +1,4 @@
-//! Digits in memory that are read behind a number (CONVERT).
+//! Digits in memory that are read after a number (CONVERT).
 
 ghost use Rattle.std.specs.Prelude.{◌≡◌, ◌+◌, length};
 ghost use Rattle.cells.specs.Cell.{wrap};
@@ -10,7 +10,7 @@ use crate::base::{BadBase, base_of};
 use crate::digits::digit_of;
 use memory::Memory;
 
-/// The number with the digits from `at` on behind its own, and the place of the first byte that is none.
+/// The number with the digits from `at` on after its own, and the place of the first byte that is none.
 #[tactic(auto, using(crate::proofs::Conversions::runs, memory::proofs::Ranges::ranges))]
 fn converted(memory: &Memory, number: u32, at: u16, base: u16) -> (u32, u16)
     ensures number { result.0 ≡ continued base number (leading_digits base (bytes memory.now at 65535)) }

@@ -27,7 +27,7 @@ pub fn digit_of(byte: u8, base: u16) -> Option<u8>
     }
 }
 
-/// The byte that shows a digit: `0` to `9`, and from `A` on for 10 and more. Behind the last byte, which shows 200, they
+/// The byte that shows a digit: `0` to `9`, and from `A` on for 10 and more. After the last byte, which shows 200, they
 /// begin at 0 again.
 pub fn byte_of_digit(digit: u8) -> u8
     ensures { result ≡ byte_of digit % 256 }
@@ -39,7 +39,7 @@ pub fn byte_of_digit(digit: u8) -> u8
     }
 }
 
-/// The number with the digits of a text behind its own, modulo 2^32. None where a byte shows no digit below the base.
+/// The number with the digits of a text after its own, modulo 2^32. None where a byte shows no digit below the base.
 #[tactic(auto, using(crate::proofs::Values::steps))]
 pub(crate) fn continued(start: u32, text: &[u8], base: u16) -> Option<u32>
     ensures { MatchOption result (AreNoDigits base text.now) (IsContinued base start text.now) }

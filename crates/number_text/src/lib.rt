@@ -14,5 +14,5 @@ pub use digits::{byte_of_digit, digit_law, digit_of};
 pub use picture::{
     close_picture, expansion_law, hold, open_picture, pad, picture_digit, picture_digits, sign,
 };
-pub use text::{number, number_law};
+pub use text::{number, number_law, number_of_pieces};
 pub use value::Number;

@@ -12,7 +12,7 @@ use crate::digits::byte_of_digit;
 use memory::Memory;
 use memory::system::{DP, HLD};
 
-/// How far PAD is behind HERE.
+/// How far PAD is after HERE.
 const PAD_OFFSET: u16 = 340;
 
 /// PAD, where pictures end.
@@ -121,7 +121,7 @@ pub fn picture_digits(memory: &mut Memory, number: u32) -> Result<(), BadBase>
     Ok(())
 }
 
-/// The address and the length of the picture: HLD, and how far PAD is behind it. This is `#>` of the Standard.
+/// The address and the length of the picture: HLD, and how far PAD is after it. This is `#>` of the Standard.
 #[tactic(auto, unfolding(crate::specs::Picture::pad))]
 pub fn close_picture(memory: &Memory) -> (u16, u16)
     ensures address { result.0 ≡ cell memory.now 36 }

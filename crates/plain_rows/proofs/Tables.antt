@@ -26,12 +26,12 @@ of_parts P zero rows s h k = k
 of_parts P (suc n) [] s h k = tt
 of_parts P (suc n) (e ∷ rest) s h k = (h.0, of_parts P n rest s h.1 k)
 
--- the numbers of a table are n and those behind it, one after the other
+-- the numbers of a table are n and those after it, one after the other
 unfoldable pub AreFrom : ℕ → List (ℕ × (Whole → After)) → Type 0
 AreFrom n [] = Unit {0}
 AreFrom n (e ∷ rest) = (e.0 ≡ n) × AreFrom (suc n) rest
 
--- such a table lacks the numbers before n, and those behind its end
+-- such a table lacks the numbers before n, and those after its end
 pub lacks_before : (n k : ℕ) (rows : List (ℕ × (Whole → After))) (s : Whole) → AreFrom n rows → k < n → row_in rows k s ≡ fault s UNKNOWN_CODE
 unfolding AreFrom row_in
 lacks_before n k [] s h l = refl

@@ -43,7 +43,7 @@ unfoldable pub missing : List ℕ → Whole → Option After
 missing [] s = None
 missing (u ∷ us) s = if has_block s u then missing us (with_block s u) else Some (s, without_block s u)
 
--- a key is asked where its byte has room, and a line where its address and count are there
+-- a key is asked where its byte has room, and a line where its address and count exist
 abbrev pub AsksFitly : After → Type 0
 AsksFitly (t, outcome.Ask request.Key) = length t.values < 256
 AsksFitly (t, outcome.Ask (request.Line n)) = 2 ≤ length t.values
@@ -130,7 +130,7 @@ behaves_forgets m s (Err NameLength) after h = behaves_fault m s 15
 behaves_forgets m s (Err NotFound) after h = behaves_fault m s 13
 behaves_forgets m s (Err ChainTooLong) after h = behaves_fault m s 11
 
--- behind a reference, which keeps all but the order of the buffers
+-- after a reference, which keeps all but the order of the buffers
 keeps_behind : (s t : Whole) (slot : ℕ) → Keeps (record s { buffers = moved_front slot s.buffers }) t → Keeps s t
 unfolding after_references
 keeps_behind s t slot h = record {

@@ -1,4 +1,4 @@
--- An index that is told of a write holds for the memory behind it. Cells of the system by their addresses: STATE 16,
+-- An index that knows of a write holds for the memory after it. Cells of the system by their addresses: STATE 16,
 -- BASE 18, >IN 20, DP 28, LAST 30, HLD 36, VOC-LINK 52.
 use Rattle.std.proofs.Common.{◌≡◌, ℕ, ◌+◌, ◌-◌, ◌%◌, ◌<◌, ◌≤◌, List, [], ◌∷◌, length, map, arith, ◌∙◌, IsTrue, length-append, subst, sym, true, false}
 use Rattle.std.specs.Prelude.{Result, Ok}
@@ -28,7 +28,7 @@ use Rattle.name_index.specs.Watch.{AgreeBeside}
 use Rattle.name_index.specs.Index.{Holds}
 use Rattle.name_index.proofs.Writes.{beside_byte, beside_cell, beside_bytes, holds_system_cell}
 
--- what an index is after it was told of n addresses from at on
+-- what an index is after it learned of n addresses from at on
 abbrev pub IsTold : ℕ → ℕ → NameIndex → NameIndex → Type 0
 IsTold at n old new = (limit : ℕ) (m other : List ℕ) → AgreeBeside at n m other → Holds limit old m → Holds limit new other
 
@@ -76,7 +76,7 @@ plus_holds limit index m other n is positive holds =
     let t : is_negative n ≡ false = grind (arith, common_steps) in
     rw (is, t) holds
 
--- the digits of a double stand in the 32 bytes below the picture's old end
+-- the digits of a double are in the 32 bytes below the picture's old end
 beside_digits : (m : List ℕ) (end base number : ℕ) → end < 65536 → IsTrue (is_base base) → number < 4294967296
     → AgreeBeside (difference end 32) 32 m (put_bytes m (difference end (length (expansion base number))) (map byte_of (expansion base number)))
 beside_digits m end base number h t k =

@@ -4,3 +4,4 @@ pub mod Beside
 pub mod Behaves
 pub mod Rows
 pub mod Requests
+pub mod Short

@@ -19,7 +19,7 @@ use Rattle.primitives.proofs.Behaves.{AreOrderly, asks_device, missing, given, s
 use Rattle.primitives.specs.Table.{row}
 use Rattle.primitives.proofs.Rows.{asks, behaves_row}
 
--- the buffers behind an Ok
+-- the buffers after an Ok
 abbrev pub answered : Outcome → List Entry → List Entry
 answered (outcome.Ask (request.Read u)) b = assigned u b
 answered (outcome.Ask (request.Write u)) b = unmarked u b
@@ -88,7 +88,7 @@ fewer_absent s u us o h (Reads k q r) =
     in let less : cost (u ∷ us) c < cost (u ∷ us) b = omega (arith, before, behind, cost_most us (moved_front (slot_of c u) c))
     in subst P (sym r) less
 
--- behind a block that a buffer has, one more that none has: it costs one less
+-- after a block that a buffer has, one more that none has: it costs one less
 fewer_behind : (s : Whole) (u v : ℕ) (o : Outcome) → AreOrderly s.buffers → holds s.buffers u ≡ true → Asked (with_block s u) v o → cost (u ∷ v ∷ []) (answered o (with_block s u).buffers) < cost (u ∷ v ∷ []) s.buffers
 fewer_behind s u v o h k (Writes j q r) =
     let b : List Entry = (with_block s u).buffers
@@ -266,7 +266,7 @@ fewer_left n s t x h q a e needs = by_buffer (n == 113) ((n == 115) || (n == 116
   by_buffer true b k = rw e (fewer_given s x h k)
   by_buffer false b k = by_saves b k
 
--- behind an Ok to what row n asks, it may make fewer requests than before
+-- after an Ok to what row n asks, it may make fewer requests than before
 pub fewer_requests : (n w : ℕ) (s t : Whole) → AreOrderly s.buffers → asks_device (row n w s).1 ≡ true → t.buffers ≡ answered (row n w s).1 (row n w s).0.buffers → t.values ≡ s.values → cell t.memory BLK ≡ cell s.memory BLK → cell t.memory SCR ≡ cell s.memory SCR → left n t < left n s
 fewer_requests n w s t h a e v b c =
     fewer_left n s t (row n w s) h ((behaves_row n w s).asks a) a e (needed_same n s t v b c)

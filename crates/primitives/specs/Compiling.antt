@@ -11,7 +11,7 @@ use Rattle.stacks.specs.Cells.{◌▸◌}
 use Rattle.machine_parts.specs.Whole.{Whole}
 use Rattle.machine_parts.specs.Row.{After, done, takes1, takes2, needs, leaves, room, has_room}
 
--- lays the bytes, and leaves d on the data stack
+-- writes the bytes, and leaves d on the data stack
 unfoldable pub compiles : Whole → List ℕ → List ℕ → After
 compiles s bs d =
     needs s DICTIONARY_FULL (has_room s (length bs))
@@ -25,7 +25,7 @@ resolves s bs a d =
       memory = put_cell (laid s.memory bs) a (wrap (cell s.memory DP + length bs));
     })))
 
--- the place n bytes behind HERE
+-- the place n bytes after HERE
 abbrev pub ahead : Whole → ℕ → ℕ
 ahead s n = wrap (cell s.memory DP + n)
 
@@ -66,7 +66,7 @@ compile_does s = compiles s (cell_bytes (runtime s.memory 18)) s.values
 abbrev pub if_row : Whole → After
 if_row s = compiles s (control_code s.memory 8 0) (s.values ▸ ahead s 2)
 
--- 180 ELSE ( a -- a2 ): the IF goes behind the branch, and a2 is where the branch's target will be
+-- 180 ELSE ( a -- a2 ): the IF goes after the branch, and a2 is where the branch's target will be
 abbrev pub else_row : Whole → After
 else_row s = takes1 s (λ a rest. resolves s (control_code s.memory 7 0) a (rest ▸ ahead s 2))
 
@@ -86,7 +86,7 @@ until s = takes1 s (λ a rest. compiles s (control_code s.memory 8 a) rest)
 abbrev pub while_row : Whole → After
 while_row s = if_row s
 
--- 185 REPEAT ( a b -- ): back to a, and the WHILE of b goes behind that
+-- 185 REPEAT ( a b -- ): back to a, and the WHILE of b goes after that
 abbrev pub repeat : Whole → After
 repeat s = takes2 s (λ a b rest. resolves s (control_code s.memory 7 a) b rest)
 

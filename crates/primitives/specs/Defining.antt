@@ -17,20 +17,20 @@ abbrev pub colon : Whole → After
 colon s = reads_name s (λ t w name. creates t w name true 1 []
     (PutCell STATE 65535 ∷ PutCell CONTEXT (cell t.memory CURRENT) ∷ []) t.values)
 
--- the bytes are laid, and >IN is behind the word
+-- the bytes are written, and >IN is after the word
 unfoldable pub lays_past : Whole → Word → List ℕ → After
 lays_past t w bs = needs t DICTIONARY_FULL (has_room t (length bs))
     (done (record t { memory = laid_at (cell t.memory DP) (put_cell t.memory TO_IN w.next) bs }))
 
--- 176 ['] ( -- ): lays the next word's compilation address as a literal
+-- 176 ['] ( -- ): writes the next word's compilation address as a literal
 abbrev pub bracket_tick : Whole → After
 bracket_tick s = reads_word s (λ t word w. lays_past t word (literal_code t.memory w))
 
--- 177 [COMPILE] ( -- ): lays the next word's compilation address
+-- 177 [COMPILE] ( -- ): writes the next word's compilation address
 abbrev pub bracket_compile : Whole → After
 bracket_compile s = reads_word s (λ t word w. lays_past t word (cell_bytes w))
 
--- lays what shows a text, and the text up to the next quote
+-- writes what shows a text, and the text up to the next quote
 abbrev pub quotes : TextWord → Whole → After
 quotes word s = parses s 34 (λ t w text.
     needs t BAD_LENGTH (nat_le w.len 255)

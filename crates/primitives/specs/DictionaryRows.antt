@@ -22,7 +22,7 @@ find s = takes1 s (λ a rest. searches s (sought s.memory (counted_string s.memo
     (leaves s (rest ▸ a ▸ 0))
     (λ l. leaves s (rest ▸ compilation_address s.memory l ▸ (if is_immediate s.memory l then 1 else 65535))))
 
--- the data stack becomes d, and >IN is behind the word
+-- the data stack becomes d, and >IN is after the word
 unfoldable pub leaves_past : Whole → Word → List ℕ → After
 leaves_past t w d = room t d (done (record t { values = d; memory = put_cell t.memory TO_IN w.next }))
 
@@ -30,8 +30,8 @@ leaves_past t w d = room t d (done (record t { values = d; memory = put_cell t.m
 abbrev pub tick : Whole → After
 tick s = reads_word s (λ t word w. leaves_past t word (t.values ▸ w))
 
--- as CREATE: a header of the name with this code field, hidden or not, and the bytes that are laid with it; more is
--- written behind it, and d is the data stack then
+-- as CREATE: a header of the name with this code field, hidden or not, and the bytes that are written with it; more is
+-- written after it, and d is the data stack then
 unfoldable pub creates : Whole → Word → List ℕ → Bool → ℕ → List ℕ → List Write → List ℕ → After
 creates t w name hidden code extra more d = admits_header t w (length extra) (done (record t {
   values = d;
@@ -43,7 +43,7 @@ creates t w name hidden code extra more d = admits_header t w (length extra) (do
 abbrev pub new_body : List ℕ → List ℕ → ℕ
 new_body m name = wrap ((site_of m name).here + (7 + length name))
 
--- what the code's make_header answers: where the parameter field is of a header of the next word's name, behind which a row
+-- what the code's make_header answers: where the parameter field is of a header of the next word's name, after which a row
 -- may write more and leave another data stack; or what stops the row
 abbrev pub IsHeaderMade : Whole → Whole → Stream → Bool → ℕ → List ℕ → Result ℕ Outcome → Type 0
 IsHeaderMade old new stream hidden code extra (Ok body) =
@@ -80,7 +80,7 @@ here s = leaves s (s.values ▸ cell s.memory DP)
 abbrev pub pad_row : Whole → After
 pad_row s = leaves s (s.values ▸ pad s.memory)
 
--- 156 VOCABULARY ( -- ): as CREATE with code field 4 and a record laid with it: four empty chains and VOC-LINK; last
+-- 156 VOCABULARY ( -- ): as CREATE with code field 4 and a record written with it: four empty chains and VOC-LINK; last
 -- VOC-LINK := it
 abbrev pub vocabulary : Whole → After
 vocabulary s = reads_name s (λ t w name. creates t w name false 4 (record_bytes (cell t.memory VOC_LINK))

@@ -15,7 +15,7 @@ use Rattle.primitives.specs.DictionaryRows.{leaves_past}
 use Rattle.primitives.specs.Names.{reads_name, searches}
 use Rattle.stacks.specs.Cells.{◌▸◌}
 
--- the bytes are laid, -1 is pushed, and >IN is behind the word
+-- the bytes are written, -1 is pushed, and >IN is after the word
 unfoldable pub compiles_past : Whole → Word → List ℕ → After
 compiles_past t w bs = let d = t.values ▸ 65535 in
     needs t DICTIONARY_FULL (has_room t (length bs)) (room t d (done (record t {

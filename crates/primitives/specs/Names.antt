@@ -26,7 +26,7 @@ name_in m stream = bytes_in m stream (name_word m stream)
 abbrev pub reads_name : Whole → (Whole → Word → List ℕ → After) → After
 reads_name s after = reads s (λ t stream. after t (name_word t.memory stream) (name_in t.memory stream))
 
--- a row that parses to c: goes on with what stands before it, as a word and its bytes
+-- a row that parses to c: goes on with what is before it, as a word and its bytes
 abbrev pub parses : Whole → ℕ → (Whole → Word → List ℕ → After) → After
 parses s c after = reads s (λ t stream. let w = parsed_in t.memory stream c in after t w (bytes_in t.memory stream w))
 
@@ -56,7 +56,7 @@ abbrev pub IsWordRead : Whole → Whole → Result (Word × ℕ) Outcome → Typ
 IsWordRead old new (Ok found) = (after : Whole → Word → ℕ → After) → reads_word old after ≡ after new found.0 found.1
 IsWordRead old new (Err o) = (after : Whole → Word → ℕ → After) → reads_word old after ≡ (new, o)
 
--- goes on with where the header begins that can be forgotten; else its name is empty (15), it isn't there or is fenced
+-- goes on with where the header begins that can be forgotten; else its name is empty (15), it doesn't exist or is fenced
 -- (13), or a chain is too long (11)
 unfoldable pub forgets : Whole → Result ℕ ForgetFault → (ℕ → After) → After
 forgets s (Ok begins) after = after begins
@@ -64,7 +64,7 @@ forgets s (Err NameLength) after = fault s BAD_LENGTH
 forgets s (Err NotFound) after = fault s NOT_FOUND
 forgets s (Err ChainTooLong) after = fault s CHAIN_TOO_LONG
 
--- goes on where a new header's name has 1 to 31 bytes (15), and the header fits with n bytes behind it (8)
+-- goes on where a new header's name has 1 to 31 bytes (15), and the header fits with n bytes after it (8)
 abbrev pub admits_header : Whole → Word → ℕ → After → After
 admits_header t w n after =
     needs t BAD_LENGTH (nat_le 1 w.len && nat_le w.len 31)

@@ -40,7 +40,7 @@ hold s = takes1 s (λ c rest. done (record s { values = rest; memory = held s.me
 abbrev pub sign : Whole → After
 sign s = takes1 s (λ n rest. done (record s { values = rest; memory = signed_picture s.memory n }))
 
--- 134 CONVERT ( ud a -- ud2 a2 ): ud goes on with the digits behind a, and a2 is behind them
+-- 134 CONVERT ( ud a -- ud2 a2 ): ud goes on with the digits after a, and a2 is after them
 abbrev pub convert : Whole → After
 convert s = takes3 s (λ low high a rest.
     let ud2 = continued (cell s.memory BASE) (double low high) (digits_behind s.memory a) in

@@ -18,7 +18,7 @@ use Rattle.machine_parts.specs.declared.faults.TheConstants.{BAD_LENGTH}
 use Rattle.stacks.specs.Cells.{◌▸◌}
 use Rattle.primitives.specs.Blocks.{has_block, without_block}
 
--- the stream is there: BLK is 0, or its block is in a buffer
+-- the stream exists: BLK is 0, or its block is in a buffer
 unfoldable pub has_stream : Whole → Bool
 has_stream s = (cell s.memory BLK == 0) || has_block s (cell s.memory BLK)
 
@@ -43,11 +43,11 @@ IsOpened old new (Ok stream) =
     × (stream ≡ stream_of old.memory old.buffers) × (stream.place ≤ stream.size)
 IsOpened old new (Err o) = IsFalse (has_stream old) × (new ≡ old) × (o ≡ without_block old (cell old.memory BLK))
 
--- >IN is the place behind a word
+-- >IN is the place after a word
 abbrev pub past : List ℕ → Word → List ℕ
 past m w = put_cell m TO_IN w.next
 
--- 144 WORD ( c -- a ): the next word, at HERE with its count before it and a blank behind it
+-- 144 WORD ( c -- a ): the next word, at HERE with its count before it and a blank after it
 abbrev pub word : Whole → After
 word s = takes1 s (λ c rest. reads s (λ t stream. let w = word_in t.memory stream (c % 256) in
     needs t BAD_LENGTH (nat_le w.len 255)
@@ -57,7 +57,7 @@ word s = takes1 s (λ c rest. reads s (λ t stream. let w = word_in t.memory str
 abbrev pub paren : Whole → After
 paren s = reads s (λ t stream. done (record t { memory = past t.memory (parsed_in t.memory stream 41) }))
 
--- 146 .( ( -- ): parses to ) and shows what stands before it, as memory has it once >IN is written
+-- 146 .( ( -- ): parses to ) and shows what is before it, as memory has it once >IN is written
 abbrev pub dot_paren : Whole → After
 dot_paren s = reads s (λ t stream. let w = parsed_in t.memory stream 41 in
     (record t { memory = past t.memory w }, Show (record { at = wrap (stream.at + w.at); len = w.len })))

@@ -1,4 +1,4 @@
-//! Rows 169 to 197: the words that lay code, but for those that take names or texts out of the stream.
+//! Rows 169 to 197: the words that write code, except those that take names or texts out of the stream.
 
 #![tactic(auto, using(machine_parts::proofs::Takes::takes, name_index::proofs::Writes::writes))]
 
@@ -13,7 +13,7 @@ use machine_parts::parts::{Outcome, Parts};
 use memory::cell_bytes;
 use memory::system::{DP, STATE};
 
-/// Lays bytes, and puts the cells `given`, the new top first, in place of the `taken` top cells.
+/// Writes bytes, and puts the cells `given`, the new top first, in place of the `taken` top cells.
 #[tactic(auto, unfolding(machine_parts::specs::Row::room, crate::specs::Compiling::compiles))]
 pub fn compile(parts: &mut Parts, bytes: &[u8], taken: usize, given: &[u16]) -> Outcome
     requires { taken ≤ length parts.old.values }
@@ -48,7 +48,7 @@ fn resolve(parts: &mut Parts, bytes: &[u8], a: u16, taken: usize, given: &[u16])
     Outcome::Done
 }
 
-/// The place `n` bytes behind HERE.
+/// The place `n` bytes after HERE.
 fn ahead(parts: &Parts, n: u16) -> u16
     ensures { result ≡ ahead parts.now n }
 {

@@ -37,7 +37,7 @@ pub fn colon(parts: &mut Parts) -> Outcome
     }
 }
 
-/// Lays bytes, and makes `>IN` the place behind a word.
+/// Writes bytes, and makes `>IN` the place after a word.
 #[tactic(auto, unfolding(crate::specs::Defining::lays_past))]
 fn lay_past(parts: &mut Parts, word: Word, bytes: &[u8]) -> Outcome
     ensures { (parts.new, result) ≡ lays_past parts.old word bytes.now }
@@ -74,7 +74,7 @@ pub fn bracket_compile(parts: &mut Parts) -> Outcome
     }
 }
 
-/// A row that lays what shows a text, and the text up to the next quote.
+/// A row that writes what shows a text, and the text up to the next quote.
 fn quote(parts: &mut Parts, shows: TextWord) -> Outcome
     ensures { (parts.new, result) ≡ quotes shows parts.old }
 {

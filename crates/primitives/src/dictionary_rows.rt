@@ -1,4 +1,4 @@
-//! Rows 147 to 157, but for (INTERPRET): names, new headers, vocabularies, FORGET.
+//! Rows 147 to 157, except (INTERPRET): names, new headers, vocabularies, FORGET.
 
 #![tactic(auto, using(machine_parts::proofs::Takes::takes, crate::proofs::Searching::searching))]
 
@@ -44,7 +44,7 @@ pub fn find(parts: &mut Parts) -> Outcome
     }
 }
 
-/// Leaves cells on the data stack, the first of them on top, and makes `>IN` the place behind a word.
+/// Leaves cells on the data stack, the first of them on top, and makes `>IN` the place after a word.
 #[tactic(auto, unfolding(machine_parts::specs::Row::room, crate::specs::DictionaryRows::leaves_past))]
 pub fn leave_past(parts: &mut Parts, word: Word, cells: &[u16]) -> Outcome
     ensures { (parts.new, result) ≡ leaves_past parts.old word (cells.now ++ parts.old.values) }

@@ -19,7 +19,7 @@ use memory::system::{BASE, DP, STATE, TO_IN};
 use memory::{Memory, cell_bytes};
 use number_text::Number;
 
-/// Lays bytes, leaves -1, and makes `>IN` the place behind a word.
+/// Writes bytes, leaves -1, and makes `>IN` the place after a word.
 #[tactic(auto, unfolding(machine_parts::specs::Row::room, crate::specs::Interpret::compiles_past))]
 fn compile_past(parts: &mut Parts, word: Word, bytes: &[u8]) -> Outcome
     ensures { (parts.new, result) ≡ compiles_past parts.old word bytes.now }

@@ -1,5 +1,5 @@
-//! Names that rows take, looked up where they stand in memory: a copy is made only of one that goes on at address 0, by functions that
-//! are inlined nowhere, since the room for it would be taken at each search.
+//! Names that rows take, looked up where they are in memory. Only of a name that goes on at address 0 a copy is made, of its
+//! first bytes.
 
 ghost use Rattle.std.specs.Prelude.{◌≡◌, ◌<◌, ◌≤◌, ◌+◌, ◌++◌, length, MatchOption};
 ghost use Rattle.dictionary.specs.Forgetting.{target};
@@ -17,14 +17,15 @@ use machine_parts::faults::{BAD_LENGTH, CHAIN_TOO_LONG, NOT_FOUND};
 use machine_parts::parts::{Outcome, Parts};
 use memory::Memory;
 use name_index::find_indexed;
-use number_text::{Number, number};
+use number_text::{Number, number, number_of_pieces};
 
 /// The same of a name that goes on at address 0.
-#[inline(never)]
+#[tactic(auto, using(crate::proofs::Short::sought_short))]
 fn sought_in_pieces(parts: &mut Parts, from: u16, n: u16) -> Result<Option<u16>, ChainTooLong>
     ensures found { IsSought (sought parts.old.memory (bytes parts.old.memory from n)) result }
     ensures same { parts.new ≡ parts.old }
 {
+    let _ = parts.memory.len();
     let (head, tail) = parts.memory.span(from, n);
     let name = Text::joined(head, tail);
     find_indexed(
@@ -94,16 +95,10 @@ pub fn number_in(memory: &Memory, stream: Stream, word: Word, base: u16) -> Opti
     if tail.is_empty() {
         return number(head, base);
     }
-    number_in_pieces(head, tail, base)
-}
-
-#[inline(never)]
-fn number_in_pieces(head: &[u8], tail: &[u8], base: u16) -> Option<Number>
-    requires { length head.now + length tail.now ≤ 65535 }
-    ensures { MatchOption result (IsNoNumber base (head.now ++ tail.now)) (IsNumber base (head.now ++ tail.now)) }
-{
-    let text = Text::joined(head, tail);
-    number(text.as_slice(), base)
+    if head.is_empty() {
+        return number(tail, base);
+    }
+    number_of_pieces(head, tail, base)
 }
 
 /// Where the header begins that a word of the stream means for FORGET.
@@ -118,11 +113,11 @@ pub fn target_in(memory: &Memory, stream: Stream, word: Word) -> Result<u16, For
     target_in_pieces(memory, head, tail)
 }
 
-#[inline(never)]
+#[tactic(auto, using(crate::proofs::Short::target_short))]
 fn target_in_pieces(memory: &Memory, head: &[u8], tail: &[u8]) -> Result<u16, ForgetFault>
-    requires { length head.now + length tail.now ≤ 65535 }
     ensures { result ≡ target memory.now (head.now ++ tail.now) }
 {
+    let _ = memory.len();
     let name = Text::joined(head, tail);
     forget_target(memory, name.as_slice())
 }

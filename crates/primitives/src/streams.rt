@@ -31,7 +31,7 @@ pub fn open(parts: &mut Parts) -> Result<Stream, Outcome>
     Ok(stream)
 }
 
-/// Makes `>IN` the place behind a word.
+/// Makes `>IN` the place after a word.
 pub fn pass(parts: &mut Parts, word: Word)
     ensures { parts.new ≡ (record parts.old { memory = past parts.old.memory word }) }
 {

@@ -1,13 +1,14 @@
-//! A copy of bytes that memory has in two pieces.
+//! A copy of a name that memory has in two pieces.
 
-ghost use Rattle.std.specs.Prelude.{◌≡◌, ◌≤◌, ◌+◌, ◌++◌, ◌<◌, ◌∷◌, [], length};
+ghost use Rattle.std.specs.Prelude.{◌≡◌, ◌≤◌, ◌+◌, ◌++◌, ◌<◌, ◌∷◌, [], length, take};
 
 use std::marker::Model;
 
-/// Up to 65,535 bytes, on the stack. It serves the words that go on at address 0 behind memory's end.
+/// The first bytes of a name, at most 32. It serves names that go on at address 0 past memory's end. No header's name has
+/// more than 31 bytes, so a longer name is sought as its first 32 bytes are.
 #[derive(Drop)]
 pub struct Text {
-    bytes: [u8; 65536],
+    bytes: [u8; 32],
     len: usize,
 }
 
@@ -18,18 +19,20 @@ impl Model for Text {
 
     ghost view = { λ t. take t.len t.bytes };
 
-    ghost invariant = { λ t. t.len ≤ 65535 };
+    ghost invariant = { λ t. t.len ≤ 32 };
 }
 
 impl Text {
-    /// The two pieces, joined.
+    /// The first 32 bytes of the two pieces, joined.
+    #[tactic(auto, using(crate::proofs::Pieces::first_joined))]
     pub fn joined(head: &[u8], tail: &[u8]) -> Text
-        requires { length head.now + length tail.now ≤ 65535 }
-        ensures { result ≡ head.now ++ tail.now }
+        ensures { result ≡ take 32 (head.now ++ tail.now) }
     {
+        let front = head.len().min(32);
+        let back = tail.len().min(32 - front);
         let mut text = Text::new();
-        text.extend(head);
-        text.extend(tail);
+        text.extend(&head[..front]);
+        text.extend(&tail[..back]);
         text
     }
 
@@ -37,13 +40,13 @@ impl Text {
         ensures { result ≡ [] }
     {
         Text {
-            bytes: [0; 65536],
+            bytes: [0; 32],
             len: 0,
         }
     }
 
     fn push(&mut self, byte: u8)
-        requires { length self.old < 65535 }
+        requires { length self.old < 32 }
         ensures { self.new ≡ self.old ++ byte ∷ [] }
     {
         self.bytes[self.len] = byte;
@@ -51,7 +54,7 @@ impl Text {
     }
 
     fn extend(&mut self, part: &[u8])
-        requires { length self.old + length part.now ≤ 65535 }
+        requires { length self.old + length part.now ≤ 32 }
         ensures { self.new ≡ self.old ++ part.now }
     {
         for byte in part {

@@ -1,4 +1,4 @@
-//! What rows write in several places: the index is told of each.
+//! What rows write in several places: the index gets to know of each.
 
 ghost use Rattle.std.specs.Prelude.{ℕ, ◌≡◌, ◌+◌, ◌≤◌, List, [], ◌∷◌, length};
 ghost use Rattle.block_buffers.specs.Entries.{limit};
@@ -21,7 +21,7 @@ use name_index::NameIndex;
 /// The bytes of a header besides its name: view, link, count byte and code field.
 const FIXED_SIZE: u16 = 7;
 
-/// Tells the index of a new header of `size` bytes: of its bytes, and of the head of its chain. DP and LAST are not
+/// Says the index of a new header of `size` bytes: of its bytes, and of the head of its chain. DP and LAST are not
 /// watched.
 #[tactic(auto, using(crate::proofs::Beside::holding))]
 fn note_header(index: &mut NameIndex, here: u16, size: u16, head: u16)
@@ -53,7 +53,7 @@ pub fn write_header(
     note_header(&mut parts.index, site.here, size, site.head);
 }
 
-/// Lays a token and a counted text at an address, as `compiling_words::lay_text`.
+/// Writes a token and a counted text at an address, as `compiling_words::lay_text`.
 #[tactic(auto, using(name_index::proofs::Writes::writes, compiling_words::proofs::Texts::texts), unfolding(dictionary::specs::Laying::laid_at))]
 pub fn lay_text(parts: &mut Parts, here: u16, token: u16, text: &[u8])
     requires { length text.now ≤ 255 }

@@ -18,7 +18,7 @@ use Rattle.resident_bodies.specs.Words.{lays, lays_all}
 use Rattle.resident_bodies.specs.Drafts.{places, Draft, Bodied}
 use Rattle.resident_bodies.proofs.Words.{word_is}
 
--- how much a word lays
+-- how much a word writes
 pub grows : (o p : Outer) (t u : Body) (h k : Half) (w : Token) → read o t h w ≡ Some (At p u k) → open_size p u k ≡ open_size o t h + laid_by w
 grows o p t u h k w e =
     let a = laid-open p u k in
@@ -32,7 +32,7 @@ no_semi o t Forced = refl
 no_semi o t Compiling = refl
 no_semi o t Both = refl
 
--- a whole body behind all its words
+-- a whole body after all its words
 record Read (before : List ℕ) (at : ℕ) (u : Definition) (m d below : List ℕ) : Type 0 where
   outer : Outer
   body : Body
@@ -67,7 +67,7 @@ begins m d at l e h = record {
   stack = refl;
 }
 
--- the whole is there
+-- the whole exists
 pub whole_code : (rt : ℕ → ℕ) (at : ℕ) (o : Outer) (t : Body) (h : Half) (u : Definition) → whole o t h ≡ Some u → (open_code rt o t h at ≡ all_code rt u at) × (open_size o t h ≡ all_size u) × (places at o ≡ [])
 whole_code rt at Top t Free u e =
     let q : Simple t ≡ u = cc in

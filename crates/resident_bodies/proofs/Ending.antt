@@ -1,4 +1,4 @@
--- A definition that is begun, read and ended, against the whole of it.
+-- A definition that is started, read and ended, against the whole of it.
 use Rattle.std.proofs.Common.{◌≡◌, ◌≢◌, ℕ, zero, suc, ◌+◌, ◌-◌, ◌*◌, ◌<◌, ◌/◌, ◌≤◌, ◌⊎◌, inl, inr, ◌++◌, ◌∷◌, List, [], length, refl, sym, ap, ◌∙◌, subst, arith, Bool, true, false, length-append, append_assoc}
 use Rattle.std.specs.Prelude.{◌==◌, slice_index}
 use Rattle.std.proofs.lemmas.Bool.{cases_lt, eqb-true, eq-eqb}
@@ -30,11 +30,11 @@ use Rattle.resident_bodies.proofs.Controls.{all_same}
 use Rattle.resident_bodies.proofs.Items.{written_is}
 use Rattle.resident_bodies.proofs.Bodies.{body_laid}
 
--- DP, the head of a chain and LAST are written over what was laid
+-- DP, the head of a chain and LAST are written over what was written
 abbrev pub tops : List ℕ → (d head x : ℕ) → List ℕ
 tops p d head x = put_cell (put_cell (put_cell p 28 d) head x) 30 x
 
--- a head stands between 42 and an address, and apart from the other cells of the system
+-- a head is between 42 and an address, and apart from the other cells of the system
 abbrev pub IsPlaced : (head here : ℕ) → Type 0
 IsPlaced head here = ((42 ≤ head) × (head + 1 < 52)) ⊎ ((256 ≤ head) × (head + 1 < here))
 
@@ -96,7 +96,7 @@ header_is v k c name extra = pieces (cell_bytes v) (cell_bytes k) c name (cell_b
     pieces : (a b : List ℕ) (c : ℕ) (n o x : List ℕ) → a ++ (b ++ (c ∷ (n ++ (o ++ x)))) ≡ ((a ++ b) ++ (c ∷ (n ++ o))) ++ x
     pieces a b c n o x = sym (append_assoc (a ++ b) (c ∷ (n ++ o)) x ∙ append_assoc a b (c ∷ ((n ++ o) ++ x)) ∙ ap (λ l. a ++ (b ++ (c ∷ l))) (append_assoc n o x))
 
--- memory behind `:`
+-- memory after `:`
 begun_is : (m name : List ℕ) → begun m name ≡ put_cell (put_cell (tops (put_bytes m (cell m 28) (header_bytes (cell m 22) (cell m (head_of (cell m 34) name)) (160 + length name) name 1 [])) (wrap (cell m 28 + length (header_bytes (cell m 22) (cell m (head_of (cell m 34) name)) (160 + length name) name 1 []))) (head_of (cell m 34) name) (wrap (cell m 28 + 2))) 16 65535) 32 (cell m 34)
 unfolding begun written site_of
 begun_is m name = refl
@@ -149,7 +149,7 @@ laid_closed m name here head b s r =
     ∙ ap (λ d. f here head d (wrap (here + 2))) n
     ∙ ap (λ y. f here head (here + (7 + length name + length (t here))) y) x
 
--- what stands in them
+-- what is in them
 whole_has : (m name extra : List ℕ) (here head c i : ℕ) → Site m name here head → here + (7 + length name + length extra) ≤ GREATEST_LIMIT → i < 7 + length name + length extra
     → byte (put_bytes m here (header_bytes (cell m 22) (cell m head) c name 1 extra)) (here + i) ≡ slice_index (whole_header (cell m 22) (cell m head) c name ++ extra) i
 whole_has m name extra here head c i s r h =
@@ -230,11 +230,11 @@ finished s here n e = put_cell (put_byte (laid s (cell_bytes e)) (here + 4) (128
 pub kept_cell : (at a : ℕ) (m n : List ℕ) → Kept at m n → a + 1 < at → a + 1 < 65536 → a / 4 ≢ 5 → (a + 1) / 4 ≢ 5 → a / 2 ≢ 14 → (a + 1) / 2 ≢ 14 → cell m a ≡ cell n a
 kept_cell at a m n k l h b c e f = cell_of m n a h (k a (omega arith) b e) (k (a + 1) l c f)
 
--- the place of the whole, from that of a definition begun
+-- the place of the whole, from that of a definition started
 pub site_of_opens : (m name : List ℕ) (n : ℕ) → Opens m name n → Site m name (cell m 28) (head_of (cell m 34) name)
 site_of_opens m name n o = record { here_is = refl; head_is = refl; all = o.all; executing = o.executing; short = o.short; low = o.low; placed = o.head }
 
--- a body that is laid behind `:`
+-- a body that is written after `:`
 pub record Read (m name : List ℕ) (here head : ℕ) (b : Definition) (s : List ℕ) : Type 0 where
   pub site : Site m name here head
   pub room : here + (7 + length name + (all_size b + 2)) ≤ GREATEST_LIMIT
@@ -267,7 +267,7 @@ ended_is m name s here head b r =
     ∙ ap (λ x. g (runtime m 5) (here + 4) x) count
     ∙ ap (λ x. put_cell (put_byte (laid s (cell_bytes (runtime m 5))) (here + 4) x) 16 0) (reveal_new name st.short)
 
--- its bytes, but for the count and STATE
+-- its bytes, except the count and STATE
 pub finished_byte : (s : List ℕ) (here n e j : ℕ) → j / 2 ≢ 8 → j / 2 ≢ 14 → j ≢ here + 4 → byte (finished s here n e) j ≡ byte (put_bytes s (cell s 28) (cell_bytes e)) j
 unfolding laid_at
 finished_byte s here n e j a b c =
@@ -460,7 +460,7 @@ agrees m name s here head b r =
       ];
     }
 
--- a definition that was begun, and whose body is laid, agrees with the whole once it is ended
+-- a definition that was started, and whose body is written, agrees with the whole once it is ended
 pub ended_agrees : (m name s : List ℕ) (b : Definition) → Opens m name (all_size b + 2) → Bodied (begun m name) (cell m 28 + (7 + length name)) b s → Agrees (ended s) (laid_definition m (cell m 22) name b)
 ended_agrees m name s b o h =
     let here = cell m 28 in

@@ -11,7 +11,7 @@ use Rattle.primitives.specs.Table.{device_rows, devices, number_rows, numbers, i
 use Rattle.image_builder.specs.Grammar.{is_gap}
 use Rattle.resident_bodies.proofs.Groups.{by_group, from_control, from_stack, from_cells, from_doubles, from_memory, from_devices, from_numbers, from_input, from_compiling, from_editor}
 
--- numbers before and behind the rows of `compiling`
+-- numbers before and after the rows of `compiling`
 beside : (n : ℕ) (s : Whole) → (n < 168) ⊎ (168 + length compiling_rows ≤ n) → row_in compiling_rows n s ≡ fault s UNKNOWN_CODE
 beside n s (inl x) = lacks_before 168 n compiling_rows s from_compiling x
 beside n s (inr y) = lacks_behind 168 n compiling_rows s from_compiling y
@@ -19,7 +19,7 @@ beside n s (inr y) = lacks_behind 168 n compiling_rows s from_compiling y
 beside_compiling : (n : ℕ) → 160 ≤ n → n < 200 → is_gap n ≡ true → (n < 168) ⊎ (168 + length compiling_rows ≤ n)
 beside_compiling n a b g = elim (cases_lt n 168) [ inl l ↦ inl l | inr m ↦ inr (grind arith) ]
 
--- a gap's numbers stand behind a group's rows, or before those of `compiling`
+-- a gap's numbers come after a group's rows, or before those of `compiling`
 pub gap : (n w : ℕ) (s : Whole) → is_gap n ≡ true → row n w s ≡ fault s UNKNOWN_CODE
 unfolding control stack cells doubles memory devices numbers input compiling editor
 gap n w s g = by_group (λ x. x ≡ fault s UNKNOWN_CODE) n w s

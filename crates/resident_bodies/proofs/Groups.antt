@@ -1,4 +1,4 @@
--- The groups of the table: where a number's row stands, and which numbers each group has.
+-- The groups of the table: where a number's row is, and which numbers each group has.
 use Rattle.std.proofs.Common.{◌≡◌, ℕ, ◌<◌, ◌≤◌, Bool, true, false, refl, arith, rules, if◌then◌else◌}
 use Rattle.std.specs.Prelude.{nat_lt}
 use Rattle.machine_parts.specs.Whole.{Whole}

@@ -1,4 +1,4 @@
--- A colon item's memory, as one header with its code behind it.
+-- A colon item's memory, as one header with its code after it.
 use Rattle.std.proofs.Common.{◌≡◌, ◌⊎◌, ℕ, zero, suc, ◌+◌, ◌*◌, ◌-◌, ◌/◌, ◌%◌, ◌<◌, ◌≤◌, inl, inr, List, [], ◌∷◌, ◌++◌, length, drop, subst, refl, sym, ap, ◌∙◌, arith, append_assoc, length-append, length-drop}
 use Rattle.std.specs.Prelude.{Bool, true, false, slice_set, ◌==◌, if◌then◌else◌}
 use Rattle.std.proofs.Math.Seq.{set-append_seam}
@@ -73,9 +73,6 @@ sys e l v r a b c d f = low (λ x.
 abbrev cells : (e l v r : ℕ) → (ℕ → ℕ) → ℕ → List ℕ
 cells e l v r h f = sys e l v r (h 0) (h 1) (h 2) (h 3) f
 
-system_is : (t : Items) → low (system t) 0 32 ≡ cells (end_of t) (last_link (names t)) (current t) (newest_record t) (heads_of t 42) (end_of t)
-system_is t = refl
-
 put_end : (e l v r a b c d f x : ℕ) (rest : List ℕ) → put_cell (sys e l v r a b c d f ++ rest) 28 x ≡ sys x l v r a b c d f ++ rest
 unfolding put_cell put_byte cell_bytes
 put_end e l v r a b c d f x rest = refl
@@ -105,7 +102,7 @@ cells_same e l v r f g h q =
     ap (λ x. sys e l v r x (g 1) (g 2) (g 3) f) (q 0) ∙ ap (λ x. sys e l v r (h 0) x (g 2) (g 3) f) (q 1)
     ∙ ap (λ x. sys e l v r (h 0) (h 1) x (g 3) f) (q 2) ∙ ap (λ x. sys e l v r (h 0) (h 1) (h 2) x f) (q 3)
 
--- the heads behind a definition
+-- the heads after a definition
 not_both : (b : Bool) → b ≡ false → b ≡ true → ⊥
 not_both true e f = cc
 not_both false e f = cc
@@ -154,7 +151,7 @@ written_at m view name b rt here head link e h l c =
     ∙ ap (λ x. writes m here head (header_of view x name (thread (runtime m) b (here + (7 + length name))))) l
     ∙ ap (λ x. writes m here head (header_of view link name x)) (thread_same (runtime m) rt b (here + (7 + length name)) c)
 
--- the header is what the item lays
+-- the header is what the item writes
 own_is : (t : Items) (p : Place) (b : Definition) → header_of p.screen (link_of t p) p.name (thread (controls t) b (end_of t + head_size p)) ≡ head (link_of t p) p false 1 ++ thread (controls t) b (end_of t + head_size p)
 unfolding header_bytes
 own_is t p b =
@@ -287,7 +284,7 @@ item_is limit few t ws p b h =
     ∙ ap (λ o. parts (low (system u) 0 32) c z (item_bytes (heads_of u) t false) (o ++ rest)) (sym (own_is t p b)) in
     five ∙ sym (ap (λ m. put_cell m 54 (end_of u)) one ∙ three ∙ four)
 
--- a definition may begin behind the items
+-- a definition may begin after the items
 head_placed : (t : Items) (voc class : ℕ) → class < 4 → (voc ≡ 42) ⊎ IsRecord t voc → ((42 ≤ voc + 2 * class) × (voc + 2 * class + 1 < 52)) ⊎ ((256 ≤ voc + 2 * class) × (voc + 2 * class + 1 < end_of t))
 head_placed t voc class h (inl e) = inl (omega arith, omega arith)
 head_placed t voc class h (inr r) = let w = record_below t voc r in inr (omega (arith, w.0), omega (arith, w.1))

@@ -1,4 +1,4 @@
--- Bytes that lie at a place up to HERE, and what is laid behind them and written among them.
+-- Bytes that lie at a place up to HERE, and what is written after them and written among them.
 use Rattle.std.proofs.Common.{◌≡◌, ℕ, ◌+◌, ◌*◌, ◌-◌, ◌<◌, ◌≤◌, ◌/◌, ◌%◌, List, ◌++◌, length, refl, sym, ap, ◌∙◌, arith, length-append, length-set}
 use Rattle.std.specs.Prelude.{slice_set}
 use Rattle.std.proofs.lemmas.List.{set-append_left, set-append_right}
@@ -29,7 +29,7 @@ with_cell bs place x = slice_set (slice_set bs place (x % 256)) (place + 1) (x /
 pub patches : (bs : List ℕ) (place x : ℕ) → Patches bs (with_cell bs place x) place x
 patches bs place x = λ front back y e n. patched bs front back x y place e n
 
--- one byte among those that stand somewhere
+-- one byte among those that are somewhere
 set_within : (m bs : List ℕ) (at i place b : ℕ) → i ≡ at + place → place < length bs → Stands m at bs → Stands (put_byte m i b) at (slice_set bs place b)
 unfolding put_byte
 set_within m bs at i place b e h s =
@@ -51,7 +51,7 @@ stands_cell m bs at i place x e h l s =
 pub length-with : (bs : List ℕ) (place x : ℕ) → length (with_cell bs place x) ≡ length bs
 length-with bs place x = length-set (slice_set bs place (x % 256)) (place + 1) (x / 256) ∙ length-set bs place (x % 256)
 
--- bytes are laid
+-- bytes are written
 pub lies_laid : (before : List ℕ) (at : ℕ) (bs cs m : List ℕ) → 256 ≤ at → at + length bs + length cs ≤ GREATEST_LIMIT → Lies before at bs m → Lies before at (bs ++ cs) (laid m cs)
 unfolding laid_at
 lies_laid before at bs cs m l r g =

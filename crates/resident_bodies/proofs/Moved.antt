@@ -1,4 +1,4 @@
--- >IN moves, and then bytes are laid.
+-- >IN moves, and then bytes are written.
 use Rattle.std.proofs.Common.{◌≡◌, ℕ, ◌+◌, ◌*◌, ◌/◌, ◌%◌, ◌<◌, ◌≤◌, List, ◌++◌, ap, ◌∙◌, arith}
 use Rattle.std.specs.Prelude.{Bool, true, false}
 use Rattle.memory.specs.Bytes.{cell, put_cell, cell_bytes}

@@ -144,7 +144,7 @@ pub semicolon_is : (s : Whole) (w : ℕ) → cell s.memory 28 + 2 ≤ limit s.bu
 unfolding row row_in compiling
 semicolon_is s w h = rw (has_room_is s 2 h) refl
 
--- >IN moves, and then bytes are laid
+-- >IN moves, and then bytes are written
 moved_here : (m : List ℕ) (q : ℕ) → cell (put_cell m 20 q) 28 ≡ cell m 28
 moved_here m q = cell_beside m 20 q 28 (omega arith) (omega arith) (omega arith) (omega arith) (omega arith)
 

@@ -1,4 +1,4 @@
--- What each word makes of a definition laid in part.
+-- What each word makes of a definition written in part.
 use Rattle.std.proofs.Common.{◌≡◌, ℕ, ◌+◌, ◌/◌, ◌%◌, ◌<◌, ◌≤◌, List, [], ◌∷◌, ◌++◌, length, Some, refl, sym, ap, ◌∙◌, subst, arith, append_assoc, length-append}
 use Rattle.std.specs.Prelude.{Bool, true, false}
 use Rattle.memory.specs.Bytes.{cell, put_cell, cell_bytes}
@@ -45,12 +45,12 @@ length-open_code before at o t h = length-open (runtime before) o t h at
 pub length-two : (x y : ℕ) → length (cell_bytes x ++ cell_bytes y) ≡ 4
 length-two x y = length-append (cell_bytes x) (cell_bytes y) ∙ omega (arith, length-cell x, length-cell y)
 
--- a control primitive and a cell are laid
+-- a control primitive and a cell are written
 lies_control : (before : List ℕ) (at : ℕ) (o : Outer) (t : Body) (h : Half) (m : List ℕ) (k x : ℕ) → 256 ≤ at → at + open_size o t h + 4 ≤ GREATEST_LIMIT → Open before at o t h m → Lies before at (open_code (runtime before) o t h at ++ (cell_bytes (runtime m k) ++ cell_bytes x)) (laid m (control_code m k x))
 lies_control before at o t h m k x l r g =
     lies_laid before at (open_code (runtime before) o t h at) (control_code m k x) m l (omega (arith, length-open_code before at o t h, length-two (runtime m k) x)) g
 
--- a cell is laid
+-- a cell is written
 lies_cell : (before : List ℕ) (at : ℕ) (o : Outer) (t : Body) (h : Half) (m : List ℕ) (x : ℕ) → 256 ≤ at → at + open_size o t h + 2 ≤ GREATEST_LIMIT → Open before at o t h m → Lies before at (open_code (runtime before) o t h at ++ cell_bytes x) (laid m (cell_bytes x))
 lies_cell before at o t h m x l r g =
     lies_laid before at (open_code (runtime before) o t h at) (cell_bytes x) m l (omega (arith, length-open_code before at o t h, length-cell x)) g
@@ -233,7 +233,7 @@ then_else_word before at o t a b m below l r g =
     drafts before at o (IfElse t a b) Free (with_cell bs p x) (put_cell m (at + p) x) (places at o ++ below) below e.bytes refl
     (lies_patched before at bs m (at + p) p x l (omega (arith, n)) refl (omega (arith, n)) g)
 
--- a control primitive and a cell are laid, and then a place that was left open gets HERE
+-- a control primitive and a cell are written, and then a place that was left open gets HERE
 two_cells : (before : List ℕ) (at : ℕ) (o : Outer) (t : Body) (m : List ℕ) (k x : ℕ) → 256 ≤ at → at + open_size o t Free + 4 ≤ GREATEST_LIMIT → Open before at o t Free m → Lies before at ((open_code (runtime before) o t Free at ++ cell_bytes (runtime m k)) ++ cell_bytes x) (laid m (control_code m k x))
 two_cells before at o t m k x l r g =
     let bs = open_code (runtime before) o t Free at in

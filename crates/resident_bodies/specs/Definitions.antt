@@ -1,4 +1,4 @@
--- A colon definition as one header with its code behind it.
+-- A colon definition as one header with its code after it.
 use Rattle.std.specs.Prelude.{◌≡◌, ◌≢◌, ◌≤◌, ◌<◌, ◌⊎◌, ◌/◌, ℕ, false, ◌+◌, List, length}
 use Rattle.memory.specs.Bytes.{byte, cell}
 use Rattle.memory.specs.declared.limit.TheConstants.{GREATEST_LIMIT}
@@ -25,12 +25,12 @@ site_in m view name = record {
   head = head_of (cell m CURRENT) name;
 }
 
--- memory with a whole definition: one header, and behind its code field the thread
+-- memory with a whole definition: one header, and after its code field the thread
 abbrev pub laid_definition : List ℕ → (view : ℕ) → List ℕ → Definition → List ℕ
 laid_definition m view name body =
     with_header_at (site_in m view name) m name 1 (thread (runtime m) body (cell m DP + (7 + length name))) false
 
--- memory behind `: NAME`, the body's words one after another, and `;`
+-- memory after `: NAME`, the body's words one after another, and `;`
 abbrev pub laid_by_words : (m d name : List ℕ) → Definition → List ℕ
 laid_by_words m d name body = ended (lays_all (all_words body) (begun m name) d).0
 
@@ -38,16 +38,16 @@ laid_by_words m d name body = ended (lays_all (all_words body) (begun m name) d)
 abbrev pub OfSound : ((limit : ℕ) → Items → Type 0) → Type 0
 OfSound P = (limit : ℕ) → IsLimit limit → (t : Items) → AreSound limit t → P limit t
 
--- the last of these items is a colon definition, behind t
+-- the last of these items is a colon definition, after t
 abbrev pub EndsInColon : Items → (t : Items) → (name : Place) → Definition → Type 0
 EndsInColon u t name body = (words : List Place) × (u ≡ Then t words (Colon name body))
 
--- the image's memory of these items, with a definition behind them whose name stands at this place of the source
+-- the image's memory of these items, with a definition after them whose name is at this place of the source
 abbrev pub with_definition : Items → (name : Place) → Definition → List ℕ
 with_definition t name body = laid_definition (memory_of t) name.screen name.name body
 
--- A definition of this name may begin: words are executed, its header and so many bytes behind it fit, and the head of its
--- chain is one of FORTH's or stands among what was laid.
+-- A definition of this name may begin: words are executed, its header and so many bytes after it fit, and the head of its
+-- chain is one of FORTH's or is among what was written.
 pub record Opens (m name : List ℕ) (behind : ℕ) : Type 0 where
   pub all : length m ≡ 65536
   pub executing : cell m STATE ≡ 0
@@ -56,7 +56,7 @@ pub record Opens (m name : List ℕ) (behind : ℕ) : Type 0 where
   pub high : cell m DP + (7 + length name + behind) ≤ GREATEST_LIMIT
   pub head : ((42 ≤ head_of (cell m CURRENT) name) × (head_of (cell m CURRENT) name + 1 < 52)) ⊎ ((256 ≤ head_of (cell m CURRENT) name) × (head_of (cell m CURRENT) name + 1 < cell m DP))
 
--- memories agree up to HERE, but for >IN and BLK (20 to 23) and CONTEXT (32 and 33)
+-- memories agree up to HERE, except >IN and BLK (20 to 23) and CONTEXT (32 and 33)
 pub record Agrees (m n : List ℕ) : Type 0 where
   pub here : cell m DP ≡ cell n DP
   pub same : (i : ℕ) → i < cell n DP → i / 4 ≢ 5 → i / 2 ≢ 14 → i / 2 ≢ 16 → byte m i ≡ byte n i

@@ -1,4 +1,4 @@
--- A definition that the resident compiler has laid in part.
+-- A definition that the resident compiler has written in part.
 use Rattle.std.specs.Prelude.{◌≡◌, ◌≢◌, ℕ, ◌+◌, ◌<◌, ◌≤◌, ◌/◌, List, [], ◌++◌, length, Option, Some}
 use Rattle.memory.specs.Bytes.{byte, cell}
 use Rattle.memory.specs.declared.limit.TheConstants.{GREATEST_LIMIT}
@@ -24,12 +24,12 @@ places at (InBegin o t) = places at o ▸ (at + (outer_size o + size t))
 places at (InWhile o t a) = places at o ▸ (at + (outer_size o + size t)) ▸ (at + (outer_size o + size t + size a + 2))
 places at (InDo o t) = places at o ▸ (at + (outer_size o + size t + 2)) ▸ (at + (outer_size o + size t + 4))
 
--- below a place memory is as it was, but for >IN and BLK (20 to 23) and DP (28 and 29)
+-- below a place memory is as it was, except >IN and BLK (20 to 23) and DP (28 and 29)
 abbrev pub Kept : (at : ℕ) → (m before : List ℕ) → Type 0
 Kept at m before = (i : ℕ) → i < at → i / 4 ≢ 5 → i / 2 ≢ 14 → byte m i ≡ byte before i
 
--- The words that were read are o, t and h: their bytes stand at a place, up to HERE; the open structures' cells are on the
--- data stack, on top of those below; and in what stands below that place nothing has changed since the body began, so the
+-- The words that were read are o, t and h: their bytes are at a place, up to HERE; the open structures' cells are on the
+-- data stack, on top of those below; and in what is below that place nothing has changed since the body began, so the
 -- control primitives are those of that memory.
 pub record Draft (before : List ℕ) (at : ℕ) (o : Outer) (t : Body) (h : Half) (m d below : List ℕ) : Type 0 where
   pub stands : Stands m at (open_code (runtime before) o t h at)
@@ -52,7 +52,7 @@ IsDraft b (At o t h) now = Draft b.memory b.at o t h now.0 now.1 b.stack
 abbrev pub read_on : State → Token → Option State
 read_on (At o t h) word = read o t h word
 
--- A body that begins at a place may grow by so many bytes: it stands behind the system's cells, and HERE that far below
+-- A body that begins at a place may grow by so many bytes: it comes after the system's cells, and HERE that far below
 -- where block buffers may begin.
 pub record HasRoom (at : ℕ) (m : List ℕ) (size : ℕ) : Type 0 where
   pub low : 256 ≤ at
@@ -67,7 +67,7 @@ pub record MayCome (b : Beginning) (before : State) (word : Token) (s : Whole) :
   pub room : FitsHere s (laid_by word)
   pub cells : length s.values ≤ 250
 
--- The body of a definition is laid at a place: its bytes are there, up to HERE, and below it nothing has changed.
+-- The body of a definition is written at a place: its bytes are there, up to HERE, and below it nothing has changed.
 pub record Bodied (before : List ℕ) (at : ℕ) (body : Definition) (m : List ℕ) : Type 0 where
   pub stands : Stands m at (all_code (runtime before) body at)
   pub here : cell m DP ≡ at + all_size body

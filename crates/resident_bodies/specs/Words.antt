@@ -12,15 +12,15 @@ use Rattle.compiling_words.specs.Code.{runtime, control_code, literal_code, text
 use Rattle.compiling_words.specs.Laying.{laid, resolved}
 use Rattle.colon_bodies.specs.Tokens.{Token, NAME, NUMBER, DOUBLE, TEXT, TICK, COMPILE, IF, ELSE, THEN, BEGIN, UNTIL, AGAIN, WHILE, REPEAT, DO, LOOP, DOES, text_control, loop_control}
 
--- the place n bytes behind HERE
+-- the place n bytes after HERE
 abbrev pub ahead : List ℕ → ℕ → ℕ
 ahead m n = wrap (cell m DP + n)
 
--- bytes are laid, and the cell at a, which was left open, is the new HERE
+-- bytes are written, and the cell at a, which was left open, is the new HERE
 abbrev pub laid_and_resolved : List ℕ → List ℕ → (a : ℕ) → List ℕ
 laid_and_resolved m bs a = put_cell (laid m bs) a (ahead m (length bs))
 
--- memory and the data stack behind a word; `;` is apart
+-- memory and the data stack after a word; `;` is apart
 abbrev pub lays : Token → (m d : List ℕ) → List ℕ × List ℕ
 lays (NAME w) m d = (laid m (cell_bytes w), d)
 lays (NUMBER n) m d = (laid m (literal_code m n), d)
@@ -41,7 +41,7 @@ lays DO m d = (laid m (control_code m 9 0), d ▸ ahead m 2 ▸ ahead m 4)
 lays (LOOP k) m (b ∷ a ∷ d) = (laid_and_resolved m (control_code m (loop_control k) b) a, d)
 lays _ m d = (m, d)
 
--- the parts behind a word: memory and the data stack as it leaves them
+-- the parts after a word: memory and the data stack as it leaves them
 abbrev pub behind_word : Token → Whole → Whole
 behind_word word s = record s { memory = (lays word s.memory s.values).0; values = (lays word s.memory s.values).1 }
 
@@ -49,12 +49,12 @@ behind_word word s = record s { memory = (lays word s.memory s.values).0; values
 abbrev pub FitsHere : Whole → ℕ → Type 0
 FitsHere s n = cell s.memory DP + n ≤ limit s.buffers
 
--- where >IN is moved first, the word lays these bytes at HERE
+-- where >IN is moved first, the word writes these bytes at HERE
 abbrev pub LaysBehind : (m d : List ℕ) → (to_in : ℕ) → Token → List ℕ → Type 0
 LaysBehind m d to_in word bs =
     (lays word (put_cell m TO_IN to_in) d).0 ≡ laid_at (cell m DP) (put_cell m TO_IN to_in) bs
 
--- the parts where >IN is moved behind a word of the stream, and bytes are laid
+-- the parts where >IN is moved after a word of the stream, and bytes are written
 abbrev pub laid_past : Whole → Word → List ℕ → Whole
 laid_past s word bs = record s { memory = laid (put_cell s.memory TO_IN word.next) bs }
 
@@ -78,7 +78,7 @@ row_of (LOOP false) = Some 188
 row_of (LOOP true) = Some 189
 row_of _ = None
 
--- behind words, one after another
+-- after words, one after another
 abbrev pub lays_all : List Token → (m d : List ℕ) → List ℕ × List ℕ
 lays_all [] m d = (m, d)
 lays_all (w ∷ ws) m d = lays_all ws (lays w m d).0 (lays w m d).1

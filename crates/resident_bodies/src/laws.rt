@@ -1,4 +1,4 @@
-//! Laws of what the resident compiler lays.
+//! Laws of what the resident compiler writes.
 
 ghost use Rattle.std.specs.Prelude.{◌≡◌, ◌≢◌, ◌<◌, ◌≤◌, ℕ, Bool, true, false, ◌+◌, ◌/◌, ◌%◌, ◌++◌, List, Some, length};
 ghost use Rattle.memory.specs.Bytes.{cell, cell_bytes, put_cell};
@@ -28,15 +28,15 @@ ghost use Rattle.resident_bodies.specs.Definitions.{OfSound, EndsInColon, Opens,
 ghost use Rattle.resident_bodies.specs.Words.{FitsHere, LaysBehind, behind_word, laid_past, lays, lays_all, row_of, with_true};
 ghost use Rattle.resident_bodies.specs.Drafts.{Beginning, Bodied, HasRoom, IsDraft, MayCome, read_on};
 
-/// What a word of a body lays where the resident compiler reads it is what the word makes of the body that was read in part:
+/// What a word of a body writes where the resident compiler reads it is what the word makes of the body that was read in part:
 /// the bytes of the open structures and the bodies, with a 0 in each cell that waits for its address.
 pub fn word_law()
     ensures { (b : Beginning) (r q : State) (w : Token) (m d : List ℕ) → HasRoom b.at m (laid_by w) →
         read_on r w ≡ Some q → IsDraft b r (m, d) → IsDraft b q (lays w m d) }
 {}
 
-/// Bytes that two calls lay one behind the other are what one call lays: so a control primitive and then a mark, or a literal
-/// and then another, are laid as by the word that lays them at once.
+/// Bytes that two calls write one after the other are what one call writes: so a control primitive and then a mark, or a literal
+/// and then another, are written as by the word that writes them at once.
 pub fn calls_law()
     ensures { (m xs ys : List ℕ) → length m ≡ 65536 → 30 ≤ cell m DP →
         cell m DP + length xs + length ys ≤ GREATEST_LIMIT → laid (laid m xs) ys ≡ laid m (xs ++ ys) }
@@ -52,7 +52,7 @@ pub fn row_law()
 {}
 
 /// Where the words of a definition's body are read one after another, its size is how far HERE moves, and its code is what is
-/// laid there; the data stack is as it was.
+/// written there; the data stack is as it was.
 pub fn body_law()
     ensures laid { (m d : List ℕ) (at : ℕ) (body : Definition) → length m ≡ 65536 → cell m DP ≡ at →
         HasRoom at m (all_size body) → Bodied m at body (lays_all (all_words body) m d).0 }
@@ -60,8 +60,8 @@ pub fn body_law()
         HasRoom at m (all_size body) → (lays_all (all_words body) m d).1 ≡ d }
 {}
 
-/// A row that takes a name, a number or a text out of the stream moves >IN first, and lays what the word lays there; that >IN
-/// moves leaves a definition laid in part as it is. What `[']` lays at once is what its two words lay.
+/// A row that takes a name, a number or a text out of the stream moves >IN first, and writes what the word writes there; that >IN
+/// moves leaves a definition written in part as it is. What `[']` writes at once is what its two words write.
 pub fn stream_law()
     ensures moved { (b : Beginning) (r : State) (m d : List ℕ) (q : ℕ) → 256 ≤ b.at → IsDraft b r (m, d) →
         IsDraft b r (put_cell m TO_IN q, d) }
@@ -80,7 +80,7 @@ pub fn stream_law()
 {}
 
 /// The numbers that no primitive may have, for the metacompiler, are those of no row: there the table answers unknown code, and
-/// the row of no other number below 205 ever does, but for (FAULT), which answers the fault that it takes.
+/// the row of no other number below 205 ever does, except (FAULT), which answers the fault that it takes.
 pub fn gap_law()
     ensures gap { (n w : ℕ) (s : Whole) → is_gap n ≡ true → row n w s ≡ fault s UNKNOWN_CODE }
     ensures rows { (n w : ℕ) (s : Whole) → 0 < n → n < 205 → is_gap n ≡ false → n ≢ 26 →
@@ -88,15 +88,15 @@ pub fn gap_law()
     ensures past { (n w : ℕ) (s : Whole) → 204 < n → row n w s ≡ fault s UNKNOWN_CODE }
 {}
 
-/// A colon item of the metacompiler is one header with its code behind it: the image's memory with it is the memory before
-/// it, with that header at HERE, in front of its chain, and FENCE behind it.
+/// A colon item of the metacompiler is one header with its code after it: the image's memory with it is the memory before
+/// it, with that header at HERE, in front of its chain, and FENCE after it.
 pub fn item_law()
     ensures { OfSound (λ limit u. (t : Items) (name : Place) (body : Definition) → EndsInColon u t name body →
         memory_of u ≡ put_cell (with_definition t name body) FENCE (end_of u)) }
 {}
 
 /// A definition that the resident compiler begins, whose body's words it reads, and which it ends, is that one header with
-/// its code behind it. So both compilers lay the same. In the memory of each image a definition may begin that has room.
+/// its code after it. So both compilers write the same. In the memory of each image a definition may begin that has room.
 pub fn definition_law()
     ensures opens { OfSound (λ limit t. (name : List ℕ) (behind : ℕ) → length name ≤ 31 →
         end_of t + (7 + length name + behind) ≤ limit → Opens (memory_of t) name behind) }

@@ -11,21 +11,17 @@ pub blank-cons : (b : ℕ) (bs : List ℕ) → is_blank (b ∷ bs) ≡ ((b == 32
 unfolding is_blank
 blank-cons b bs = refl
 
-and-true : (b : Bool) → (b && true) ≡ b
-and-true true = refl
-and-true false = refl
-
 and-false : (b : Bool) → (b && false) ≡ false
 and-false true = refl
 and-false false = refl
 
--- a blank behind
+-- a blank after
 pub blank-more : (xs : List ℕ) → is_blank (xs ++ 32 ∷ []) ≡ is_blank xs
 unfolding is_blank
 blank-more [] = refl
 blank-more (x ∷ xs) = ap (λ r. (x == 32) && r) (blank-more xs)
 
--- a byte behind that is none
+-- a byte after that is none
 pub not_blank : (xs : List ℕ) (b : ℕ) → b ≢ 32 → is_blank (xs ++ b ∷ []) ≡ false
 unfolding is_blank
 not_blank [] b h = let q : (b == 32) ≡ false = grind arith in rw q refl

@@ -20,7 +20,7 @@ source_lines s = heading s.number ∷ map written (screen_lines 16 s.bytes)
 unfoldable pub all_lines : List Screen → List (List ℕ)
 all_lines screens = flat_map source_lines screens
 
--- none of the numbers stands before it
+-- none of the numbers is before it
 unfoldable pub AreNew : (before numbers : List ℕ) → Type 0
 AreNew before [] = Unit {0}
 AreNew before (n ∷ numbers) = (list_any (λ m. m == n) before ≡ false) × AreNew (before ++ n ∷ []) numbers
@@ -58,7 +58,7 @@ begins s n may none few =
     let room : nat_lt (length s.numbers) 65536 ≡ true = grind arith in
     rw (may, none, room) refl
 
--- what is read of screens behind others
+-- what is read of screens after others
 pub record Reads (s : State) (texts : List (List ℕ)) (ns bs : List ℕ) : Type 0 where
   pub after : State
   pub leads : Leads s texts after

@@ -32,7 +32,7 @@ all-below : (numbers : List ℕ) (x : ℕ) → AllByRecursion (λ y. eqb x y ≡
 all-below [] x h n e = (e, tt)
 all-below (m ∷ numbers) x h n e = (h.0, all-below numbers x h.1 n e)
 
--- one number more that wasn't there
+-- one number more that didn't exist
 distinct-more : (numbers : List ℕ) (n : ℕ) → IsDistinct eqb numbers → list_any (λ m. m == n) numbers ≡ false → IsDistinct eqb (numbers ++ n ∷ [])
 unfolding IsDistinct
 distinct-more [] n h e = (tt, tt)

@@ -32,7 +32,7 @@ taken_front bytes long = sym (length-take-le 64 bytes (omega arith))
 pub taken_all : (bytes : List ℕ) → length bytes ≤ 64 → bytes ≡ take 64 bytes
 taken_all bytes short = sym (take_all 64 bytes short)
 
--- the lines of a screen, of which `row` are added to what was there
+-- the lines of a screen, of which `row` are added to what existed
 pub rows_end : (text all : List ℕ) (n : ℕ) (bytes : List ℕ) → text ++ flat_map line_text (screen_lines n bytes) ≡ all → is_blank bytes ≡ true → text ≡ all
 rows_end text all n bytes e blank = sym (append-nil text) ∙ ap (λ r. text ++ r) (sym (lines_end n bytes blank)) ∙ e
 

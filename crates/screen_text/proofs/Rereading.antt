@@ -64,7 +64,7 @@ all-front p (suc n) (b ∷ bs) e =
     let t = and_parts (p b) (list_all p bs) e in
     and_from (p b) (list_all p (take n bs)) t.0 (all-front p n bs t.1)
 
--- one line, then the lines behind it
+-- one line, then the lines after it
 adds_line : (s : State) (part : List ℕ) (texts : List (List ℕ)) → 64 ≤ length part → list_all is_byte part ≡ true → length s.bytes + length part ≡ 1024 * length s.numbers →
     Adds (record s { bytes = s.bytes ++ take 64 part }) texts (drop 64 part) → Adds s (written (trimmed (take 64 part)) ∷ texts) part
 adds_line s part texts long text fits more =

@@ -104,11 +104,6 @@ blank-is (b ∷ bs) e =
     let rest : bs ≡ blanks (length bs) = blank-is bs (grind arith) in
     ap (λ x. x ∷ bs) first ∙ ap (λ xs. 32 ∷ xs) rest
 
-pub blank-trimmed : (bs : List ℕ) → is_blank bs ≡ true → trimmed bs ≡ []
-unfolding trimmed
-blank-trimmed [] e = refl
-blank-trimmed (b ∷ bs) e = rw e refl
-
 blank-by : (t : Bool) (b : ℕ) (bs : List ℕ) → is_blank (b ∷ bs) ≡ t → is_blank (trimmed bs) ≡ is_blank bs → is_blank (if t then [] else b ∷ trimmed bs) ≡ is_blank (b ∷ bs)
 unfolding is_blank
 blank-by true b bs e more = sym e

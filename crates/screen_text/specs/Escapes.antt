@@ -21,7 +21,7 @@ escaped_byte b = if is_plain b then b ∷ [] else 126 ∷ digit (b / 16) ∷ dig
 unfoldable pub escaped : List ℕ → List ℕ
 escaped line = 37 ∷ 126 ∷ flat_map escaped_byte line
 
--- the line begins with ~, behind its %
+-- the line begins with ~, after its %
 unfoldable pub has_sign : List ℕ → Bool
 has_sign [] = false
 has_sign (b ∷ bs) = b == 126
@@ -30,7 +30,7 @@ has_sign (b ∷ bs) = b == 126
 unfoldable pub value : ℕ → ℕ
 value c = if nat_le 48 c && nat_le c 57 then c - 48 else if nat_le 65 c && nat_le c 70 then c - 55 else 16
 
--- what is read of such a line: its bytes; what is begun: nothing, a ~, or with this first digit, from 2 on; whether all was good
+-- what is read of such a line: its bytes; what is started: nothing, a ~, or with this first digit, from 2 on; whether all was good
 pub record Unescaped : Type 0 where
   pub bytes : List ℕ
   pub begun : ℕ
@@ -46,6 +46,6 @@ with_character u c =
 unfoldable pub unescaped : List ℕ → Unescaped
 unescaped text = fold with_character (record { bytes = []; begun = 0; good = true }) text
 
--- nothing was wrong, and nothing is begun
+-- nothing was wrong, and nothing is started
 unfoldable pub is_whole : Unescaped → Bool
 is_whole u = u.good && (u.begun == 0)

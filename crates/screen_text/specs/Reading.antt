@@ -10,7 +10,7 @@ use Rattle.screen_text.specs.Bytes.{padded, trimmed, is_text, bad_byte, spread}
 use Rattle.screen_text.specs.Escapes.{Unescaped, has_sign, is_whole, unescaped}
 use Rattle.screen_text.specs.Screens.{heading, has_mark}
 
--- what is read up to a line: whether headings stand before the lines, the numbers of the screens, and the lines of these,
+-- what is read up to a line: whether headings are before the lines, the numbers of the screens, and the lines of these,
 -- each filled to 64 bytes; each screen but the last is filled to 1,024
 pub record State : Type 0 where
   pub headed : Bool
@@ -21,7 +21,7 @@ pub record State : Type 0 where
 unfoldable pub whole : State → List ℕ
 whole s = padded (1024 * length s.numbers) s.bytes
 
--- what digits come to; above 65,535 it is told no more
+-- what digits come to; above 65,535 it isn't counted any more
 unfoldable pub number_of : List ℕ → ℕ
 number_of digits = fold (λ n digit. min 65536 (10 * n + (digit - 48))) 0 digits
 
@@ -50,7 +50,7 @@ with_line s line =
 unfoldable pub with_escapes : State → Unescaped → Result State Cause
 with_escapes s u = if is_whole u then with_line s u.bytes else Err BadEscape
 
--- a line that begins with one % is a heading, or has escapes behind %~; of two, one is left out
+-- a line that begins with one % is a heading, or has escapes after %~; of two, one is left out
 unfoldable pub with_plain : State → List ℕ → Result State Cause
 with_plain s line =
     if not (has_mark line) then with_line s line
@@ -67,7 +67,7 @@ with_text s line = if list_all (λ b. b == 9 || is_text b) line then with_plain 
 unfoldable pub nothing : State
 nothing = record { headed = false; numbers = []; bytes = [] }
 
--- what a line leaves, then what those behind it leave
+-- what a line leaves, then what those after it leave
 abbrev pub then_read : (line : ℕ) → Result State Cause → (State → Result State TextFault) → Result State TextFault
 then_read line (Err cause) next = Err (record { line = line; cause = cause })
 then_read line (Ok s) next = next s

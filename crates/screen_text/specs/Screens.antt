@@ -60,7 +60,7 @@ pub record IsWritable (s : Screen) : Type 0 where
   pub size : length s.bytes ≡ 1024
   pub bytes : list_all is_byte s.bytes ≡ true
 
--- screens that a text can carry: no number stands twice
+-- screens that a text can carry: no number occurs twice
 pub record AreWritable (screens : List Screen) : Type 0 where
   pub each : All IsWritable screens
   pub distinct : IsDistinct eqb (numbers_of screens)

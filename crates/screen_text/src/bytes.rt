@@ -31,7 +31,7 @@ pub fn is_line(line: &[u8]) -> bool
     line.iter().all(|byte| *byte == b'\t' || is_text(*byte))
 }
 
-/// Whether a byte may stand in a line of a text: it is text, or a tab.
+/// Whether a byte may be in a line of a text: it is text, or a tab.
 fn may_stand(byte: u8) -> bool
     ensures { result ≡ (byte == 9 || is_text byte) }
 {

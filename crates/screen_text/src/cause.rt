@@ -1,30 +1,42 @@
-//! Why a text isn't read.
+//! Why a text can't be read. Each cause is spelled as its variant.
+
+use thiserror::Error;
 
 /// What is wrong with a line of a text.
-#[derive(Clone, Copy, Debug, PartialEq, Eq, Drop)]
+#[derive(Clone, Copy, Debug, PartialEq, Eq, Drop, Error)]
 pub enum Cause {
-    /// The line's first byte that is no text: below 32, but a tab, or above 126.
+    /// The line's first byte that isn't text: below 32 and not a tab, or above 126.
+    #[error("BadByte {0}")]
     BadByte(u8),
-    /// `%~` begins a line in which a `~` hasn't two digits of base 16, 0 to 9 and A to F.
+    /// The line begins with `%~`, and a `~` in it isn't followed by two hexadecimal digits (0 to 9, A to F).
+    #[error("BadEscape")]
     BadEscape,
     /// More than 64 bytes.
+    #[error("LongLine")]
     LongLine,
     /// The seventeenth line of a screen.
+    #[error("FullScreen")]
     FullScreen,
-    /// One `%`, and no heading: `% screen N` has a number from 0 to 65535.
+    /// The line begins with one `%` and isn't a heading, `% screen N` with N from 0 to 65535.
+    #[error("BadHeading")]
     BadHeading,
-    /// A heading in a text that begins without one.
+    /// A heading in a text that doesn't begin with one.
+    #[error("LateHeading")]
     LateHeading,
-    /// A screen that has a heading already.
+    /// A second heading with the same number.
+    #[error("NamedTwice")]
     NamedTwice,
     /// A line that would begin screen 65536, in a text without headings.
+    #[error("NoScreen")]
     NoScreen,
-    /// Memory ran out.
+    /// There is no memory left.
+    #[error("out of memory")]
     OutOfMemory,
 }
 
-/// Why a text isn't read.
-#[derive(Clone, Copy, Debug, PartialEq, Eq, Drop)]
+/// Why a text can't be read.
+#[derive(Clone, Copy, Debug, PartialEq, Eq, Drop, Error)]
+#[error("line {line}: {cause}")]
 pub struct TextFault {
     /// The first line at fault, counted from 1.
     pub line: usize,

@@ -84,7 +84,7 @@ fn value(character: u8) -> u8
 #[derive(Drop)]
 struct Reading {
     bytes: Vec<u8>,
-    /// 0, 1 behind a `~`, or 2 and more behind its first digit.
+    /// 0, 1 after a `~`, or 2 and more after its first digit.
     begun: u8,
     is_good: bool,
 }
@@ -129,7 +129,7 @@ impl Reading {
     }
 }
 
-/// The bytes of a line with escapes. `None`: a `~` hasn't its two digits.
+/// The bytes of a line with escapes. `None`: a `~` doesn't have its two digits.
 #[tactic(auto, unfolding(crate::specs::Escapes::unescaped, crate::specs::Escapes::is_whole))]
 pub fn unescaped(alloc: Global, text: &[u8]) -> Result<Option<Vec<u8>>, AllocError>
     ensures { IfOk result (λ r. MatchOption r (is_whole (unescaped text.now) ≡ false)

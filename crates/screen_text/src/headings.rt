@@ -6,7 +6,7 @@ ghost use Rattle.screen_text.specs.Reading.{is_heading, number_of};
 
 use std::alloc::{AllocError, Global};
 
-/// How many bytes stand before the number of a heading.
+/// How many bytes are before the number of a heading.
 const BEFORE_NUMBER: usize = 9;
 
 /// The heading of a screen.
@@ -41,7 +41,7 @@ fn number_of(digits: &[u8]) -> u32
     number
 }
 
-/// What stands behind the first bytes of a line.
+/// What comes after the first bytes of a line.
 pub fn behind(line: &[u8], count: usize) -> &[u8]
     ensures { result.now ≡ drop count line.now }
 {

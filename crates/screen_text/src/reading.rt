@@ -20,7 +20,7 @@ pub const SCREEN: usize = 1024;
 /// The last screen that a block file can have.
 const LAST_SCREEN: usize = 65535;
 
-/// Want of memory, where no line is at fault.
+/// Lack of memory, where no line is at fault.
 const OUT_OF_MEMORY: TextFault = TextFault {
     line: 0,
     cause: Cause::OutOfMemory,
@@ -75,14 +75,14 @@ impl Reading {
         pad(&mut self.bytes, SCREEN * self.numbers.len())
     }
 
-    /// Whether a heading can stand here.
+    /// Whether a heading can be here.
     fn takes_heading(&self) -> bool
         ensures { result ≡ (self.now.headed || length self.now.numbers == 0) }
     {
         self.headed || self.numbers.is_empty()
     }
 
-    /// Whether a screen of this number was begun.
+    /// Whether a screen of this number was started.
     fn has_screen(&self, number: u16) -> bool
         ensures { result ≡ list_any (λ n. n == number) self.now.numbers }
     {
@@ -145,7 +145,7 @@ impl Reading {
         Ok(())
     }
 
-    /// Takes a line of what stands behind `%~`.
+    /// Takes a line of what comes after `%~`.
     #[tactic(auto, unfolding(crate::specs::Reading::with_escapes))]
     fn take_escaped(&mut self, alloc: Global, text: &[u8]) -> Result<(), Cause>
         ensures taken { IfOk result (λ _. with_escapes self.old (unescaped text.now) ≡ Ok self.new) }

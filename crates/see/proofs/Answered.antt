@@ -130,7 +130,7 @@ seen_by m name l ws (Err r.NotStructured) c a s (inl q) = absurd (cc)
 found_once : (m name : List ℕ) (k l : ℕ) → sought m name ≡ Found k → sought m name ≡ Found l → k ≡ l
 found_once m name k l e f = let q : Found k ≡ Found l = sym e ∙ f in cc
 
--- a definition whose first fault is another than the one that is told
+-- a definition whose first fault isn't the one that is reported
 told : (m name : List ℕ) (k l : ℕ) (c d : Definition) (e : SeeRefused) → IsDefined m name k c → IsDefined m name l d → first_fault m k name (its_words c) ≡ Some e → first_fault m l name (its_words d) ≡ None → ⊥
 told m name k l c d e p q f g =
     let s = found_once m name k l p.colon.0.is q.colon.0.is in
@@ -139,7 +139,7 @@ told m name k l c d e p q f g =
     let z : Some e ≡ None = sym f ∙ ap (λ i. first_fault m i name (its_words c)) s ∙ ap (λ b. first_fault m l name (its_words b)) t ∙ g in
     absurd (cc)
 
--- where a readable definition is, no refusal is true but want of memory
+-- where a readable definition is, no refusal is true but lack of memory
 pub none_refused : (m name : List ℕ) (x : Result (Vec ℕ Global) SeeRefused) → IsSeen m name x → (l : ℕ) (d : Definition) → IsDefined m name l d → IsReadable m l name (its_words d) → IfErr x (λ e. e ≡ r.OutOfMemory)
 none_refused m name (Ok v) s l d h f = tt
 none_refused m name (Err r.OutOfMemory) s l d h f = refl

@@ -45,7 +45,7 @@ others_unforced (w ∷ ws) h = others_unforced ws h
 abbrev pub SeenAs : ℕ → ℕ → List Token → List ℕ → List Frame → Shape → Type 0
 SeenAs at here seen counts frames (In f c) = Seen at f c here seen counts frames
 
--- words behind those that were seen
+-- words after those that were seen
 pub sketch_more : {X : Type 0} (tok : X → Token) (whole more : List Token) (seen seen1 : List X) (counts : List ℕ) → IsSketch whole (map tok seen) counts → AreOther more → map tok seen1 ≡ map tok seen ++ more → IsSketch (whole ++ more) (map tok seen1) counts
 sketch_more tok whole more seen seen1 counts s o e =
     record {
@@ -69,7 +69,7 @@ pub one_more : {X : Type 0} (tok : X → Token) (at : ℕ) (f g h : Frames) (c d
 one_more tok at f g h c d e here there seen seen1 x w counts frames frames1 s o tw e1 e2 k t le same =
     grown tok at f g h c d e here there seen seen1 (w ∷ []) counts frames frames1 s o (ap (map tok) e1 ∙ map_snoc tok seen x ∙ ap (λ v. map tok seen ++ v ∷ []) tw) e2 k t le same
 
--- a BEGIN before some words, and the word that ends its loop behind them
+-- a BEGIN before some words, and the word that ends its loop after them
 pub begun : {X : Type 0} (tok : X → Token) (at : ℕ) (g h : Frames) (d e : Body) (here there place : ℕ) (front rest : List Token) (seen seen1 : List X) (x : X) (w : Token) (counts counts1 : List ℕ) (frames1 : List Frame) → IsSketch (front ++ rest) (map tok seen) counts → AreUnforced (front ++ rest) → ((p : ℕ) → slice_index counts p ≤ here) → here < there → AreOther (w ∷ []) → tok x ≡ w → seen1 ≡ seen ++ x ∷ [] → place ≡ laid front → place < length counts → counts1 ≡ slice_set counts place (slice_index counts place + 1) → frame_words g ++ words d ≡ front ++ (BEGIN ∷ (rest ++ w ∷ [])) → frames1 ≡ frames_of at g → there ≡ start at g + size d → Some (In g d) ≡ Some (In h e) → Seen at h e there (map tok seen1) counts1 frames1
 begun tok at g h d e here there place front rest seen seen1 x w counts counts1 frames1 s u few lt o tw e1 pl within c1 e2 k t same =
     let q : In g d ≡ In h e = cc in
@@ -112,7 +112,7 @@ begun tok at g h d e here there place front rest seen seen1 x w counts counts1 f
           | inr z ↦ omega (arith, beside p z, s.counts_are p, sum p, once_elsewhere (0 + laid front) p (λ y. z (omega arith)))
         ]
 
--- where the innermost body begins, by what is laid before it
+-- where the innermost body begins, by what is written before it
 pub start_is : (at : ℕ) (f : Frames) → start at f ≡ at + laid (frame_words f)
 start_is at FTop = omega arith
 start_is at (FPast t) = omega (arith, laid-append (words t) (DOES ∷ []), laid-words t)

@@ -129,27 +129,6 @@ other rt w k j e n q r =
     let t : is_cell rt j w ≡ true = ap (λ i. is_cell rt i w) (sym r) ∙ ap (is_cell rt k) q ∙ is_true rt k n in
     let z : true ≡ false = sym t ∙ e in cc
 
-pub plain_cell : (rt : ℕ → ℕ) (w : ℕ) → pick rt w controls ≡ None → IsPlainCell rt w
-plain_cell rt w e k a b h n q =
-    let o = none_of rt w controls e in
-    let f6 : k ≡ 6 → ⊥ = other rt w k 6 o.0 n q in
-    let f16 : k ≡ 16 → ⊥ = other rt w k 16 o.1.0 n q in
-    let f17 : k ≡ 17 → ⊥ = other rt w k 17 o.1.1.0 n q in
-    let f8 : k ≡ 8 → ⊥ = other rt w k 8 o.1.1.1.0 n q in
-    let f7 : k ≡ 7 → ⊥ = other rt w k 7 o.1.1.1.1.0 n q in
-    let f9 : k ≡ 9 → ⊥ = other rt w k 9 o.1.1.1.1.1.0 n q in
-    let f10 : k ≡ 10 → ⊥ = other rt w k 10 o.1.1.1.1.1.1.0 n q in
-    let f11 : k ≡ 11 → ⊥ = other rt w k 11 o.1.1.1.1.1.1.1.0 n q in
-    let f18 : k ≡ 18 → ⊥ = other rt w k 18 o.1.1.1.1.1.1.1.1.0 n q in
-    let f19 : k ≡ 19 → ⊥ = other rt w k 19 o.1.1.1.1.1.1.1.1.1.0 n q in
-    elim h [
-      | inl x ↦ omega (arith, a, x, f6, f7, f8, f9, f10, f11)
-      | inr x ↦ omega (arith, x, b, f16, f17, f18, f19)
-    ]
-
-pub cell_plain : (rt : ℕ → ℕ) (w : ℕ) → IsPlainCell rt w → pick rt w controls ≡ None
-cell_plain rt w h = not_picked rt w controls h all_within
-
 -- word by word
 pub record Plainly (rt : ℕ → ℕ) (h : Half) (done : List Token) : Type 0 where
   pub half_is : h ≡ half_of Free done

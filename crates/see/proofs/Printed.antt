@@ -1,4 +1,4 @@
--- Words are printed one behind another.
+-- Words are printed one after another.
 use Rattle.std.proofs.Common.{◌≡◌, ℕ, Bool, true, false, List, [], ◌∷◌, ◌++◌, refl, sym, ap, subst, ◌∙◌, append_assoc, append-nil, map, length, drop, suc, ◌<◌, ◌≤◌, get_or, Option, Some, None, ◌⊎◌, inl, inr}
 use Rattle.std.proofs.Math.Seq.{drop-cons}
 use Rattle.std.proofs.Math.ListN.{drop_of_length-le}
@@ -71,7 +71,7 @@ pub end_written : (m : List ℕ) (h : ℕ) (ws : List BodyWord) (i : ℕ) (old a
 end_written m h ws i old all le k =
     sym (none_written m h old) ∙ ap (λ l. old ++ spaced_behind (all_printed m h (map token l))) (sym (drop_of_length-le ws le)) ∙ k
 
--- the words behind `: NAME`
+-- the words after `: NAME`
 pub shown_behind : (m : List ℕ) (h : ℕ) (name : List ℕ) (ws : List Token) (old new : List ℕ) → old ≡ spaced (bare (codes ":") ∷ bare name ∷ []) → new ≡ old ++ spaced_behind (all_printed m h ws) → new ≡ printed_text m h name ws
 unfolding spaced quoted
 shown_behind m h name ws old new e f =

@@ -60,7 +60,7 @@ compiles_well rt at limit source place cause d k e f =
     no_fault rt at limit source d (length (all_words d ++ SEMI ∷ [])) place cause
     (record { after = []; is = e ∙ sym (append-nil (all_words d ++ SEMI ∷ [])); used_is = refl; shallow = k.shallow; known = k.known; short = k.short; room = k.room }) f
 
--- what a plain definition lays has cells
+-- what a plain definition writes has cells
 plain_known : (rt : ℕ → ℕ) (t : Body) → IsPlainBody rt t → AreKnown rt (words t)
 plain_known rt Empty h = tt
 plain_known rt (Call t true w) h = let e = h.1 in cc

@@ -1,4 +1,4 @@
--- Words without their BEGINs, and how many of these stand at each place.
+-- Words without their BEGINs, and how many of these are at each place.
 use Rattle.std.proofs.Common.{◌≡◌, Bool, true, false, ℕ, zero, suc, ◌+◌, ◌<◌, ◌≤◌, inl, inr, ◌==◌, if◌then◌else◌, List, [], ◌∷◌, ◌++◌, length, map, drop, get_or, refl, sym, ap, ◌∙◌, subst, arith, append_assoc, append-nil}
 use Rattle.std.proofs.lemmas.Bool.{eq-eqb, ne_eqb, cases_eq}
 use Rattle.std.proofs.lemmas.List.{get_or-drop, drop_more, drop_all}
@@ -7,7 +7,7 @@ use Rattle.colon_bodies.specs.Tokens.{Token, NAME, NUMBER, DOUBLE, TEXT, TICK, F
 use Rattle.colon_bodies.specs.Tree.{Body, Empty, Call, Tick, Pair, Literal, Double, Text, IfThen, IfElse, Until, Again, While, Loop, Definition, Simple, Doing, words, named, all_words}
 use Rattle.see.specs.Places.{without_begins, once, begins, IsSketch, opened, Leads, AreLed, AreUnforced}
 
--- words behind words
+-- words after words
 pub without-append : (xs ys : List Token) → without_begins (xs ++ ys) ≡ without_begins xs ++ without_begins ys
 without-append [] ys = refl
 without-append (BEGIN ∷ xs) ys = without-append xs ys
@@ -95,7 +95,7 @@ pub map_snoc : {X : Type 0} (f : X → Token) (xs : List X) (x : X) → map f (x
 map_snoc f [] x = refl
 map_snoc f (a ∷ xs) x = ap (λ l. f a ∷ l) (map_snoc f xs x)
 
--- one word is written behind its BEGINs
+-- one word is written after its BEGINs
 pub filled_on : {X : Type 0} (tok : X → Token) (ws : List X) (i : ℕ) (d : X) (counts left : List ℕ) (done done1 done2 : List X) (n size : ℕ) (all : List Token) → i < length ws → size ≡ laid_by (tok (get_or ws i d)) → n ≡ first_count counts size → left ≡ drop size counts → map tok done1 ≡ map tok done ++ opened n [] → done2 ≡ done1 ++ get_or ws i d ∷ [] → map tok done ++ filled counts (map tok (drop i ws)) ≡ all → map tok done2 ++ filled left (map tok (drop (i + 1) ws)) ≡ all
 filled_on tok ws i d counts left done done1 done2 n size all h s c l e1 e2 z =
     let w = tok (get_or ws i d) in
@@ -116,7 +116,7 @@ filled_on tok ws i d counts left done done1 done2 n size all h s c l e1 e2 z =
 pub filled_end : {X : Type 0} (tok : X → Token) (ws : List X) (i : ℕ) (counts : List ℕ) (done : List Token) (all : List Token) → length ws ≤ i → done ++ filled counts (map tok (drop i ws)) ≡ all → done ≡ all
 filled_end tok ws i counts done all h z = sym (append-nil done) ∙ ap (λ k. done ++ filled counts (map tok k)) (sym (drop_all i ws h)) ∙ z
 
--- the places of what stands behind one word
+-- the places of what comes after one word
 behind : (counts : List ℕ) (xs : List Token) (k : ℕ) → 0 < k → ((p : ℕ) → 0 < p → slice_index counts p ≡ begins xs (0 + k) p) → (p : ℕ) → slice_index (drop k counts) p ≡ begins xs 0 p
 behind counts xs k h e p =
     let m : 0 + k ≡ k + 0 = omega arith in
@@ -143,7 +143,7 @@ pub filled_again : (whole ws : List Token) (counts : List ℕ) → IsSketch whol
 filled_again whole ws counts s l =
     ap (filled counts) s.words_are ∙ refilled whole counts 0 (λ q. absurd (omega arith)) l (s.counts_are 0 ∙ omega arith) (λ p q. s.counts_are p)
 
--- each BEGIN of a definition leads to a word that lays something
+-- each BEGIN of a definition leads to a word that writes something
 leads-append : (xs ys : List Token) → Leads xs → Leads (xs ++ ys)
 leads-append [] ys h = absurd h
 leads-append (BEGIN ∷ xs) ys h = leads-append xs ys h
@@ -183,7 +183,7 @@ leads_words (While t a b) ys u h =
     let inner = leads_words a (WHILE ∷ (words b ++ REPEAT ∷ [])) (unforced_parts (words a) (WHILE ∷ (words b ++ REPEAT ∷ [])) q).0 (omega arith) in
     leads_behind (words t) (BEGIN ∷ (words a ++ (WHILE ∷ (words b ++ REPEAT ∷ [])))) ys (λ zs v k. leads_words t zs v k) u (leads-append (words a ++ (WHILE ∷ (words b ++ REPEAT ∷ []))) ys inner)
 
--- a body, and more behind it
+-- a body, and more after it
 led_behind : (xs tail : List Token) → (AreUnforced xs → AreLed xs) → AreUnforced (xs ++ tail) → (AreUnforced tail → AreLed tail) → AreLed (xs ++ tail)
 led_behind xs tail ih u h = let p = unforced_parts xs tail u in led-append xs tail (ih p.0) (h p.1)
 

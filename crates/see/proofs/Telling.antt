@@ -210,7 +210,7 @@ told_name m l Ticked w p c t f = absurd p
 told_name m l Forced w p c t f = absurd p
 told_name m l Both w p c t f = absurd p
 
--- and one that is, behind [COMPILE]
+-- and one that is, after [COMPILE]
 pub told_forced : (m : List ℕ) (l : ℕ) (w : ℕ) → is_meant m l (name_at m w) w ≡ true → token_of m l Forced (bare (name_at m w)) ≡ Some (NAME w)
 told_forced m l w t = let q = meant_is m l (name_at m w) w t in rw (q.is, q.at) refl
 

@@ -112,9 +112,6 @@ opened rt t (b ∷ bs) f c here w = by w.fuel w.read
     by zero e = cc
     by (suc n) e = after n (first rt (b ∷ bs)) refl e
 
-pub walk_off : (rt : ℕ → ℕ) (t : Definition) (bs : List ℕ) (f : Frames) (c : Body) (here : ℕ) → Walk rt t bs f c here → first rt bs ≡ Off → ⊥
-walk_off rt t bs f c here w e = let o = opened rt t bs f c here w in let q : First o.i o.rest ≡ Off = sym o.first_is ∙ e in cc
-
 -- one instruction more
 pub record Onward (rt : ℕ → ℕ) (t : Definition) (f : Frames) (c : Body) (here : ℕ) (i : Instr) (rest : List ℕ) : Type 0 where
   pub frame : Frames

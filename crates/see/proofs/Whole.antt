@@ -27,7 +27,7 @@ use Rattle.see.proofs.Rereading.{all_told}
 use Rattle.see.proofs.Plainness.{are_all_plain}
 use Rattle.see.proofs.Within.{spelled_within}
 
--- ; ends a definition, and stands nowhere else
+-- ; ends a definition, and is nowhere else
 abbrev NoEnd : List Token → Type 0
 NoEnd [] = Unit {0}
 NoEnd (SEMI ∷ ws) = ⊥
@@ -180,7 +180,7 @@ tokens_read m l d p r c =
     all_told m l Free (its_words d) tt (are_all_plain rt d p) r c
     ∙ ap (map (λ w. Some w)) (respelled_end (is_forced m l) (all_words d) ∙ ap (λ k. k ++ SEMI ∷ []) (sym (all_spelled_words rt (is_forced m l) d p)))
 
--- the text is read as a definition that is laid as the word's extent
+-- the text is read as a definition that is written as the word's extent
 pub read_again : (m name : List ℕ) (l : ℕ) (d : Definition) → IsDefined m name l d → IsReadable m l name (its_words d) → AreCells (its_words d) → (e : Definition) × IsAgain m l name (text m l name d) e
 read_again m name l d h r c =
     let rt = slice_index (controls_of m) in (

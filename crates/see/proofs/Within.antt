@@ -29,7 +29,7 @@ all_spelled_depth : (f : ℕ → Bool) (d : Definition) → all_depth (all_spell
 all_spelled_depth f (Simple t) = spelled_depth f t
 all_spelled_depth f (Doing t a) = rw (spelled_depth f t, spelled_depth f a) refl
 
--- they lay no control, and are no texts
+-- they write no control, and are no texts
 named_known : (rt : ℕ → ℕ) (b : Bool) (w : ℕ) (ws : List Token) → AreKnown rt ws → AreKnown rt (named b w ++ ws)
 named_known rt true w ws h = (tt, (tt, h))
 named_known rt false w ws h = (tt, h)

@@ -7,7 +7,7 @@ use Rattle.see.specs.declared.front.Taken.{Taken}
 use Rattle.colon_bodies.specs.Instructions.{Instr, ICall, INum, ICompile, IText, IQuery, IBranch, IDo, ILoop, IDoes}
 use Rattle.colon_bodies.specs.Found.{Front, Off, First, Peeled, Short, Peel}
 
--- an instruction without where its text lies in memory
+-- an instruction without where its text is in memory
 abbrev pub instr : Instruction → Instr
 instr (i.Call w) = ICall w
 instr (i.Number n) = INum n

@@ -1,4 +1,4 @@
--- Where the thread of a word stands.
+-- Where the thread of a word is.
 use Rattle.std.specs.Prelude.{ℕ, zero, suc, ◌+◌, ◌-◌, ◌*◌, List, [], ◌∷◌, ◌++◌}
 use Rattle.cells.specs.Cell.{wrap}
 use Rattle.memory.specs.Bytes.{cell, bytes}
@@ -7,7 +7,7 @@ use Rattle.dictionary.specs.Header.{compilation_address}
 use Rattle.dictionary.specs.Order.{headers}
 use Rattle.dictionary.specs.Extents.{extent_end}
 
--- the address behind a header's code field
+-- the address after a header's code field
 unfoldable pub parameter_field : List ℕ → ℕ → ℕ
 parameter_field m l = wrap (compilation_address m l + 2)
 

@@ -6,7 +6,7 @@ use Rattle.colon_bodies.specs.Rules.{half_after}
 use Rattle.colon_bodies.specs.declared.words.Half.{Half}
 use Rattle.colon_bodies.specs.declared.words.Half.TheVariants.{Free}
 
--- the words of a plain definition: no FORCE, no TICK, no DOUBLE, and a name that isn't behind COMPILE is of a plain cell
+-- the words of a plain definition: no FORCE, no TICK, no DOUBLE, and a name that isn't after COMPILE is of a plain cell
 abbrev pub IsPlainWord : (ℕ → ℕ) → Half → Token → Type 0
 IsPlainWord rt Free (NAME w) = IsPlainCell rt w
 IsPlainWord rt h (DOUBLE n) = ⊥

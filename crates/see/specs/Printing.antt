@@ -20,7 +20,7 @@ gives_immediate m (Found k) = is_immediate m k
 gives_immediate m Nowhere = false
 gives_immediate m TooLong = false
 
--- a word that stands behind [COMPILE]: the header that its name means is immediate, or the name is spelled as a keyword
+-- a word that comes after [COMPILE]: the header that its name means is immediate, or the name is spelled as a keyword
 unfoldable pub is_forced : List ℕ → (hidden : ℕ) → ℕ → Bool
 is_forced m hidden w = gives_immediate m (sought_hiding m (name_at m w) hidden) || is_keyword (name_at m w)
 
@@ -53,7 +53,7 @@ printed m (NUMBER n) = bare (number_text n)
 printed m (TEXT k bs) = record { name = keyword_text (TEXT k bs); text = Some bs }
 printed m w = bare (keyword_text w)
 
--- a name as it is printed, behind [COMPILE] where it is forced
+-- a name as it is printed, after [COMPILE] where it is forced
 abbrev pub called : (forced : Bool) → List ℕ → List Spelling
 called false name = bare name ∷ []
 called true name = bare (codes "[COMPILE]") ∷ bare name ∷ []
@@ -66,7 +66,7 @@ all_printed m hidden ws = map (printed m) (respelled (is_forced m hidden) ws)
 abbrev pub its_words : Definition → List Token
 its_words d = all_words d ++ SEMI ∷ []
 
--- words behind `: NAME`, with single blanks between
+-- words after `: NAME`, with single blanks between
 abbrev pub printed_text : List ℕ → (hidden : ℕ) → (name : List ℕ) → List Token → List ℕ
 printed_text m hidden name ws = spaced (bare (codes ":") ∷ bare name ∷ all_printed m hidden ws)
 

@@ -16,7 +16,7 @@ use Rattle.image_builder.specs.Spelled.{sense_of_word, text_of}
 use Rattle.see.specs.Extent.{controls_of}
 use Rattle.see.specs.Printing.{its_words}
 
--- the controls that only a keyword or a number lays
+-- the controls that only a keyword or a number writes
 abbrev pub inner_controls : List ℕ
 inner_controls = 6 ∷ 7 ∷ 8 ∷ 9 ∷ 10 ∷ 11 ∷ 16 ∷ 17 ∷ 18 ∷ []
 
@@ -24,7 +24,7 @@ inner_controls = 6 ∷ 7 ∷ 8 ∷ 9 ∷ 10 ∷ 11 ∷ 16 ∷ 17 ∷ 18 ∷ []
 unfoldable pub is_inner : List ℕ → ℕ → Bool
 is_inner controls w = list_any (λ k. not (slice_index controls k == 0) && (w == slice_index controls k)) inner_controls
 
--- what a name stands for behind what is half read, by its header
+-- what a name stands for after what is half read, by its header
 abbrev pub named_token : List ℕ → Half → ℕ → Option Token
 named_token m h k =
     if is_barred h (is_inner (controls_of m) (compilation_address m k)) (is_immediate m k) then None
@@ -35,11 +35,11 @@ name_first m h (Found k) s = named_token m h k
 name_first m h Nowhere s = by_spelling (λ w. Some w) None None s
 name_first m h TooLong s = None
 
--- behind ['] and [COMPILE] a word is a name first, elsewhere a keyword
+-- after ['] and [COMPILE] a word is a name first, elsewhere a keyword
 abbrev pub token_as : List ℕ → Half → Sought → Sense → Option Token
 token_as m h l s = keyword_first (λ w. Some w) h s (name_first m h l s)
 
--- what a word of a body is, behind what is half read; the header at `hidden` counts as hidden
+-- what a word of a body is, after what is half read; the header at `hidden` counts as hidden
 abbrev pub token_of : List ℕ → (hidden : ℕ) → Half → Spelling → Option Token
 token_of m hidden h w = token_as m h (sought_hiding m w.name hidden) (sense_of_word w.name (text_of w.text))
 
@@ -47,7 +47,7 @@ abbrev pub half_past : Half → Option Token → Half
 half_past h None = h
 half_past h (Some w) = half_after h w
 
--- what words of a body are, each behind what those before it leave half read
+-- what words of a body are, each after what those before it leave half read
 abbrev pub tokens_of : List ℕ → (hidden : ℕ) → Half → List Spelling → List (Option Token)
 tokens_of m hidden h [] = []
 tokens_of m hidden h (w ∷ ws) = token_of m hidden h w ∷ tokens_of m hidden (half_past h (token_of m hidden h w)) ws

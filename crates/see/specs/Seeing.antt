@@ -40,7 +40,7 @@ pub record IsDefined (m name : List ℕ) (l : ℕ) (d : Definition) : Type 0 whe
   pub apart : HasControlsApart m
   pub code : IsCode m l d
 
--- words are written behind what was written, or are refused for their first fault
+-- words are written after what was written, or are refused for their first fault
 abbrev pub IsWritten : List ℕ → (hidden : ℕ) → List Token → (old new : List ℕ) → Result (Unit {0}) SeeRefused → Type 0
 IsWritten m hidden ws old new (Ok u) = (words_fault m hidden ws ≡ None) × AreCells ws × (new ≡ old ++ spaced_behind (all_printed m hidden ws))
 IsWritten m hidden ws old new (Err e) = (e ≡ r.OutOfMemory) ⊎ (words_fault m hidden ws ≡ Some e)
@@ -61,7 +61,7 @@ IsSeen m name (Err r.NotStructured) = (l : ℕ) × IsColon m name l × (HasContr
 IsSeen m name (Err r.OutOfMemory) = Unit {0}
 IsSeen m name (Err e) = (l : ℕ) × (d : Definition) × IsDefined m name l d × (first_fault m l name (its_words d) ≡ Some e)
 
--- bytes that are read, as a source is, as this definition, which is within a source's bounds and laid as the word's extent
+-- bytes that are read, as a source is, as this definition, which is within a source's bounds and written as the word's extent
 pub record IsAgain (m : List ℕ) (l : ℕ) (name : List ℕ) (bytes : List ℕ) (e : Definition) : Type 0 where
   pub read : IsReadAs m l name bytes e
   pub within : IsWithinBounds (slice_index (controls_of m)) e

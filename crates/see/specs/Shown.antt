@@ -33,7 +33,7 @@ pub record Makes (rt : ℕ → ℕ) (at : ℕ) (bytes : List ℕ) (words : List 
   pub known : AreKnown rt (all_words body ++ SEMI ∷ [])
   pub short : AreShort (all_words body)
 
--- within the bounds of what a source may define: its structures lie at most 64 deep, each control that it lays is named, and its
+-- within the bounds of what a source may define: its structures lie at most 64 deep, each control that it writes is named, and its
 -- texts have at most 255 bytes
 pub record IsWithinBounds (rt : ℕ → ℕ) (d : Definition) : Type 0 where
   pub shallow : all_depth d ≤ 64

@@ -10,7 +10,7 @@ use memory::Memory;
 use memory::system::RUNTIME_CELLS;
 use std::alloc::{AllocError, Global};
 
-/// The address behind a header's code field.
+/// The address after a header's code field.
 #[tactic(auto, unfolding(crate::specs::Extent::parameter_field))]
 pub fn parameter_field(memory: &Memory, l: u16) -> u16
     ensures { result ≡ parameter_field memory.now l }
@@ -30,7 +30,7 @@ pub fn copied(alloc: Global, memory: &Memory, at: u16, n: u16) -> Result<Vec<u8>
     Ok(copy)
 }
 
-/// The bytes of what stands at `p`.
+/// The bytes of what is at `p`.
 #[tactic(auto, unfolding(crate::specs::Extent::extent))]
 pub fn extent(alloc: Global, memory: &Memory, listed: &[u16], p: u16) -> Result<Vec<u8>, AllocError>
     requires { listed.now ≡ headers memory.now }

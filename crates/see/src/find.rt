@@ -112,7 +112,7 @@ fn is_nothing(bytes: &[u8]) -> bool
     bytes.is_empty()
 }
 
-/// The words of the definition that is found in a thread that stands at `at`, and `;`. Where none is found there, any words
+/// The words of the definition that is found in a thread that is at `at`, and `;`. Where none is found there, any words
 /// or none. `AllocError`: no memory for the words.
 pub fn find<'a>(
     alloc: Global,

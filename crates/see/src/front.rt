@@ -10,7 +10,7 @@ ghost use Rattle.see.specs.Apart.{instr, front, peeled};
 use colon_bodies::cell_of;
 use memory::controls::Control;
 
-/// An instruction: a cell and what stands behind it.
+/// An instruction: a cell and what comes after it.
 #[derive(Clone, Copy)]
 pub enum Instruction<'a> {
     /// A word's compilation address.
@@ -33,14 +33,14 @@ pub enum Instruction<'a> {
     Does,
 }
 
-/// An instruction, and the bytes behind it.
+/// An instruction, and the bytes after it.
 #[derive(Clone, Copy)]
 pub struct Taken<'a> {
     pub first: Instruction<'a>,
     pub rest: &'a [u8],
 }
 
-/// What is behind the first `n` bytes.
+/// What is after the first `n` bytes.
 fn tail(bytes: &[u8], n: usize) -> &[u8]
     ensures { result.now ≡ drop n bytes.now }
 {
@@ -58,7 +58,7 @@ fn head(bytes: &[u8], n: usize) -> &[u8]
     if n < bytes.len() { &bytes[..n] } else { bytes }
 }
 
-/// A cell, and the bytes behind it.
+/// A cell, and the bytes after it.
 fn peel_off(bytes: &[u8]) -> Option<(u16, &[u8])>
     ensures is { peeled result ≡ peel bytes.now }
     ensures lengths { IfSome result (λ p. length bytes.now ≡ 2 + length p.1.now) }
@@ -69,7 +69,7 @@ fn peel_off(bytes: &[u8]) -> Option<(u16, &[u8])>
     Some((bytes[0] as u16 + 256 * bytes[1] as u16, tail(bytes, 2)))
 }
 
-/// A text behind its length.
+/// A text after its length.
 fn text_off(aborts: bool, bytes: &[u8]) -> Option<Taken>
     ensures { front result ≡ with_text aborts bytes.now }
 {
@@ -127,7 +127,7 @@ pub fn control_at(c: u16, runtime: &[u16]) -> Option<Control>
     )
 }
 
-/// The instruction of a control that takes the cell behind it, from the bytes behind its own.
+/// The instruction of a control that takes the cell after it, from the bytes after its own.
 macro_rules! with_cell {
     ($bytes:expr, $x:ident -> $first:expr) => {{
         let ($x, rest) = peel_off($bytes)?;
@@ -138,7 +138,7 @@ macro_rules! with_cell {
     }};
 }
 
-/// A control's instruction, from the bytes behind its cell.
+/// A control's instruction, from the bytes after its cell.
 fn control_off(control: Control, bytes: &[u8]) -> Option<Taken>
     ensures { front result ≡ of_control (number_of control) bytes.now }
 {

@@ -18,7 +18,7 @@ pub fn readable_law()
 {}
 
 /// The text of a readable definition, read as a source is, with the names and the runtime cells of the same memory, is a
-/// definition within a source's bounds that is laid as the word's thread. The word itself counts as hidden.
+/// definition within a source's bounds that is written as the word's thread. The word itself counts as hidden.
 #[tactic(auto, using(crate::proofs::Whole::read_again))]
 pub fn reading_law()
     ensures { (m name : List ℕ) (l : ℕ) (d : Definition) → IsDefined m name l d → IsReadable m l name (its_words d) →

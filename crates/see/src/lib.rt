@@ -1,4 +1,4 @@
-//! What can be told of the words of a dictionary.
+//! What can be shown of the words of a dictionary.
 #![tactic(auto)]
 
 mod apart;

@@ -8,7 +8,7 @@ ghost use Rattle.see.specs.Places.{IsSketch, AreLed, opened};
 use colon_bodies::BodyWord;
 use std::alloc::{AllocError, Global};
 
-/// How many bytes a word lays.
+/// How many bytes a word writes.
 pub fn bytes_of(word: BodyWord) -> usize
     ensures { result ≡ laid_by (token word.entry) }
 {
@@ -32,7 +32,7 @@ pub fn no_begins(alloc: Global, places: usize) -> Result<Vec<usize>, AllocError>
     vec![in alloc; 0; places]
 }
 
-/// Counts one more BEGIN at `to`, in a thread that stands at `at`. False where it has no such place.
+/// Counts one more BEGIN at `to`, in a thread that is at `at`. False where it has no such place.
 pub fn count_begin(begins: &mut [usize], at: usize, to: usize) -> bool
     ensures { (place : ℕ) → to ≡ at + place → place < length begins.old → slice_index begins.old place + 1 < 2 ^ 64 →
         (result ≡ true) × (begins.new ≡ slice_set begins.old place (slice_index begins.old place + 1)) }
@@ -48,7 +48,7 @@ pub fn count_begin(begins: &mut [usize], at: usize, to: usize) -> bool
     true
 }
 
-/// How many BEGINs belong before a word that lays so many bytes at the first of these places.
+/// How many BEGINs belong before a word that writes so many bytes at the first of these places.
 fn begins_before(begins: &[usize], size: usize) -> usize
     ensures { result ≡ (if size == 0 then 0 else slice_index begins.now 0) }
 {
@@ -58,7 +58,7 @@ fn begins_before(begins: &[usize], size: usize) -> usize
     begins.first().copied().unwrap_or(0)
 }
 
-/// The places behind the first `n`.
+/// The places after the first `n`.
 fn places_behind(begins: &[usize], n: usize) -> &[usize]
     ensures { result.now ≡ drop n begins.now }
 {

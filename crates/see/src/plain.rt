@@ -9,7 +9,7 @@ ghost use Rattle.colon_bodies.specs.declared.words.Half.TheVariants.{Free};
 use crate::front::control_at;
 use colon_bodies::{BodyWord, Half, half_behind};
 
-/// Whether a cell is no control's that lays more than itself.
+/// Whether a cell is no control's that writes more than itself.
 fn is_plain_cell(w: u16, runtime: &[u16]) -> bool
     requires { 28 ≤ length runtime.now }
     ensures { IsTrue result ↔ IsPlainCell (slice_index runtime.now) w }
@@ -20,7 +20,7 @@ fn is_plain_cell(w: u16, runtime: &[u16]) -> bool
     }
 }
 
-/// Whether a word may stand in a plain definition, behind what is half read.
+/// Whether a word may be in a plain definition, after what is half read.
 fn is_plain_word(half: Half, word: BodyWord, runtime: &[u16]) -> bool
     requires { 28 ≤ length runtime.now }
     ensures { IsTrue result ↔ IsPlainWord (slice_index runtime.now) half (token word.entry) }

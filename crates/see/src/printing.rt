@@ -52,7 +52,7 @@ fn keyword_text(word: BodyWord) -> &'static [u8]
     }
 }
 
-/// Writes a word behind a blank.
+/// Writes a word after a blank.
 #[tactic(auto, unfolding(source_words::specs::Spaced::spaced_behind, source_words::specs::Spaced::quoted))]
 fn write_word(out: &mut Vec<u8>, name: &[u8]) -> Result<(), AllocError>
     ensures { IfOk result (λ _. out.new.items ≡ out.old.items ++ spaced_behind (bare name.now ∷ [])) }
@@ -76,7 +76,7 @@ fn write_text(out: &mut Vec<u8>, name: &[u8], text: &[u8]) -> Result<(), AllocEr
     Ok(())
 }
 
-/// Writes a name behind [COMPILE].
+/// Writes a name after [COMPILE].
 fn write_forced(out: &mut Vec<u8>, name: &[u8]) -> Result<(), AllocError>
     ensures { IfOk result (λ _. out.new.items ≡ out.old.items ++ spaced_behind (called true name.now)) }
 {
@@ -85,7 +85,7 @@ fn write_forced(out: &mut Vec<u8>, name: &[u8]) -> Result<(), AllocError>
     Ok(())
 }
 
-/// Writes a name, behind [COMPILE] where it is forced.
+/// Writes a name, after [COMPILE] where it is forced.
 fn write_called(out: &mut Vec<u8>, forced: bool, name: &[u8]) -> Result<(), AllocError>
     ensures { IfOk result (λ _. out.new.items ≡ out.old.items ++ spaced_behind (called forced name.now)) }
 {
@@ -95,7 +95,7 @@ fn write_called(out: &mut Vec<u8>, forced: bool, name: &[u8]) -> Result<(), Allo
     write_word(out, name)
 }
 
-/// Writes a name that means the header at `k`, behind [COMPILE] where that is immediate or the name is spelled as a keyword.
+/// Writes a name that means the header at `k`, after [COMPILE] where that is immediate or the name is spelled as a keyword.
 fn write_meant(out: &mut Vec<u8>, memory: &Memory, k: u16, name: &[u8]) -> Result<(), AllocError>
     ensures { IfOk result
         (λ _. out.new.items ≡ out.old.items ++ spaced_behind

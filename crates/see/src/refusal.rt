@@ -1,4 +1,4 @@
-//! Why nothing is told of a word. Each refusal is spelled as its variant.
+//! Why a word isn't shown. Each refusal is spelled as its variant.
 
 ghost use Rattle.std.specs.Prelude.{◌≡◌};
 ghost use Rattle.see.specs.declared.refusal.SeeRefused.TheVariants.{OutOfMemory};
@@ -6,7 +6,7 @@ ghost use Rattle.see.specs.declared.refusal.SeeRefused.TheVariants.{OutOfMemory}
 use std::alloc::{AllocError, AllocFailed};
 use thiserror::Error;
 
-/// Why the view cell of a word isn't told.
+/// Why the view cell of a word isn't shown.
 #[derive(Clone, Copy, Debug, PartialEq, Eq, Error)]
 pub enum ViewRefused {
     /// No unhidden header has the name.

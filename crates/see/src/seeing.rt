@@ -89,7 +89,7 @@ fn see_named(alloc: Global, memory: &Memory, name: &[u8]) -> Result<Vec<u8>, See
 }
 
 /// The colon word that a name means, as text: `: NAME`, the body and `;`, with single blanks between. Numbers are signed
-/// decimals, and `[COMPILE]` stands before a name that is immediate or spelled as a keyword. What is printed compiles to
+/// decimals, and `[COMPILE]` is before a name that is immediate or spelled as a keyword. What is printed compiles to
 /// the word's thread again. The refusals are those of `SeeRefused`.
 #[tactic(auto, using(crate::proofs::Answered::none_refused, crate::proofs::Whole::seen_read))]
 pub fn see(alloc: Global, memory: &Memory, name: &[u8]) -> Result<Vec<u8>, SeeRefused>

@@ -12,10 +12,10 @@ use crate::places::count_begin;
 use colon_bodies::BodyWord;
 use std::alloc::AllocError;
 
-/// A structure that is open. An address is that of the byte where its innermost body begins, or of the one behind its end.
+/// A structure that is open. An address is that of the byte where its innermost body begins, or of the one after its end.
 #[derive(Clone, Copy)]
 pub enum Frame {
-    /// What is behind DOES>: where it begins.
+    /// What is after DOES>: where it begins.
     Past(usize),
     /// IF, or the WHILE of a loop: the index of its word, where it ends, and where its body begins.
     If(usize, usize, usize),

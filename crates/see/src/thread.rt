@@ -31,7 +31,7 @@ fn is_same(bytes: &[u8], others: &[u8]) -> bool
     bytes == others
 }
 
-/// Whether the words lay no more than so many bytes.
+/// Whether the words write no more than so many bytes.
 fn fits(words: &[BodyWord], most: usize) -> bool
     ensures { IsTrue result ↔ (laid (map token words.now) ≤ most) }
 {
@@ -46,7 +46,7 @@ fn fits(words: &[BodyWord], most: usize) -> bool
     true
 }
 
-/// Whether the words are those of a definition that is laid as these bytes.
+/// Whether the words are those of a definition that is written as these bytes.
 fn makes(
     alloc: Global,
     words: &[BodyWord],
@@ -81,7 +81,7 @@ fn makes(
     }
 }
 
-/// The words of a thread that stands at `at`, and `;`. `runtime` holds the compilation address of each control primitive k
+/// The words of a thread that is at `at`, and `;`. `runtime` holds the compilation address of each control primitive k
 /// at k, 0 where it has none. None where the bytes are the thread of no plain definition, or two of these addresses from 5
 /// on are equal and not 0. `AllocError`: no memory for the words.
 pub fn thread_words<'a>(

@@ -1,4 +1,4 @@
--- A run in slices and with breaks, by what its ends tell.
+-- A run in slices and with breaks, by what its ends say.
 use Rattle.std.proofs.Common.{◌≡◌, ◌⊎◌, ℕ, ◌+◌, ◌-◌, ◌≤◌, List, [], ◌∷◌, Option, Some, None, Bool, true, false, inl, inr, refl, sym, ap, subst, ◌∙◌, arith}
 use Rattle.block_buffers.specs.Disks.{Disk}
 use Rattle.machine.specs.State.{State}

@@ -81,7 +81,7 @@ fn keep_entry<H: SessionHost>(machine: &Machine, host: &mut H, entry: Entry)
     host.keep(machine.memory().page(address));
 }
 
-/// Gives the blocks that were changed and not written to the host, between two marks by which it can tell that it has them all.
+/// Gives the blocks that were changed and not written to the host, between two marks by which it can say that it has them all.
 pub fn keep_blocks<H: SessionHost>(machine: &Machine, host: &mut H)
     ensures kept { H.kept host.new ≡ H.kept host.old ++ kept_blocks machine.now.parts }
     ensures same { IsSame (H.interruptions host.old) (H.interruptions host.new) (H.ended host.old) (H.ended host.new) }

@@ -63,7 +63,7 @@ fn interrupt(machine: &mut Machine, word: Option<u16>, due: &mut bool)
 }
 
 /// Runs a machine for at most `limit` ticks, in slices of `slice`. Between two of them the host is asked what it wants: where it
-/// wants an interruption, `word` is entered as soon as the machine takes it. On want of memory nothing was done.
+/// wants an interruption, `word` is entered as soon as the machine takes it. On lack of memory nothing was done.
 pub fn run_sliced<R: Input, W: Output, D: Device, H: SessionHost>(
     alloc: Global,
     machine: &mut Machine,
@@ -77,7 +77,7 @@ pub fn run_sliced<R: Input, W: Output, D: Device, H: SessionHost>(
 ) -> Result<Ending, OutOfMemory>
     requires { 0 < slice }
 
-    // Where no end fails, and all tell their bytes, the run stops as the written rounds do, with entries of the word among them.
+    // Where no end fails, and all report their bytes, the run stops as the written rounds do, with entries of the word among them.
     ensures whole { IfStopped result (λ stop. R.failed reader.old ≡ false → W.failed writer.old ≡ false →
         R.failed reader.new ≡ false → W.failed writer.new ≡ false → (w : World) →
         IsAt w machine.old (R.unread reader.old) (D.disk device.old) (W.sent writer.old) limit →
@@ -104,14 +104,14 @@ pub fn run_sliced<R: Input, W: Output, D: Device, H: SessionHost>(
     ensures passed { IfOk result (λ _. W.failed writer.new ≡ false → W.passed writer.new ≡ true) }
 
     // Whatever the ends are: the machine moved by ticks, answers and entries of the word alone, of which there are no more
-    // than the host asked for interruptions; and its ends gave and took just what these moves tell of.
+    // than the host asked for interruptions; and its ends gave and took just what these moves name.
     ensures moved { IfOk result (λ ending. HasWorked word machine.old machine.new
         (logs (D.calls device.old) (W.sent writer.old) (R.reads reader.old))
         (logs (D.calls device.new) (W.sent writer.new) (R.reads reader.new)) (H.interruptions host.old)
         (H.interruptions host.new) limit ending) }
     ensures kept { H.kept host.new ≡ H.kept host.old }
 
-    // On want of memory nothing was done.
+    // On lack of memory nothing was done.
     ensures machine { OnErr result (machine.new ≡ machine.old) }
     ensures reader { OnErr result (reader.new ≡ reader.old) }
     ensures writer { OnErr result (writer.new ≡ writer.old) }

@@ -14,7 +14,7 @@ unfolding after_words
 after_snoc m [] w = refl
 after_snoc m (v ∷ ws) w = after_snoc (after m v.name) ws w
 
--- screens behind others
+-- screens after others
 pub words_append : (m : Mode) (n : ℕ) (xs ys : List (List ℕ)) → words_of_screens m n (xs ++ ys) ≡ words_of_screens m n xs ++ words_of_screens (after_words m (words_of_screens m n xs)) (n + length xs) ys
 unfolding words_of_screens after_words
 words_append m n [] ys = ap (λ k. words_of_screens m k ys) (omega arith)
@@ -32,7 +32,7 @@ one_screen : (m : Mode) (n : ℕ) (s : List ℕ) → words_of_screens m n (s ∷
 unfolding words_of_screens
 one_screen m n s = append-nil (screen_words m n s)
 
--- a screen more, behind the others
+-- a screen more, after the others
 pub words_snoc : (m : Mode) (n : ℕ) (before : List (List ℕ)) (s : List ℕ) →
     words_of_screens m n (before ++ s ∷ []) ≡ words_of_screens m n before ++ screen_words (after_words m (words_of_screens m n before)) (n + length before) s
 words_snoc m n before s =

@@ -9,7 +9,7 @@ ghost use Rattle.source_words.specs.declared.modes.Mode.TheVariants.{Outside};
 ghost use Rattle.source_words.specs.Words.{after_screens, words_of_screens};
 ghost use Rattle.source_words.specs.Standing.{Stands, IsBefore};
 
-/// Each word stands where it is said to, whole, and the words are in order.
+/// Each word is where it is said to, whole, and the words are in order.
 #[tactic(auto, using(crate::proofs::Standings::words_stand, crate::proofs::Standings::words_in_order))]
 pub fn standing_law()
     ensures standing { (m : Mode) (screen : ℕ) (s : List ℕ) → All (Stands s screen) (screen_words m screen s) }
@@ -17,7 +17,7 @@ pub fn standing_law()
 {}
 
 /// What is read at a place: at the end nothing; a blank is passed over; so is a comment; any other word is the next,
-/// and what is behind it and its text is read as behind that word.
+/// and what is after it and its text is read as after that word.
 #[tactic(auto, using(crate::proofs::Places::none_at, crate::proofs::Places::blank_at, crate::proofs::Places::comment_at, crate::proofs::Places::word_at))]
 pub fn reading_law()
     ensures end { (m : Mode) (screen p : ℕ) (s : List ℕ) → length s ≤ p → words_at m screen p s ≡ [] }

@@ -1,4 +1,4 @@
-//! The words of a source that stands in screens: words between blanks, with the screen and the place that each stands at;
+//! The words of a source that is in screens: words between blanks, with the screen and the place that each is at;
 //! comments dropped, and texts attached to the words of a body that take one.
 #![tactic(auto)]
 

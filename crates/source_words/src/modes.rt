@@ -18,7 +18,7 @@ pub enum Mode {
     NameInBody,
 }
 
-/// Whether a name is due behind this word outside bodies.
+/// Whether a name is due after this word outside bodies.
 #[tactic(auto, unfolding(crate::specs::Modes::names_outside))]
 fn names_outside(word: &[u8]) -> bool
     ensures { result ≡ names_outside word.now }
@@ -31,7 +31,7 @@ fn names_outside(word: &[u8]) -> bool
         || word == b"BOOT".as_slice()
 }
 
-/// Whether a name is due behind this word in a body.
+/// Whether a name is due after this word in a body.
 #[tactic(auto, unfolding(crate::specs::Modes::names_in_body))]
 fn names_in_body(word: &[u8]) -> bool
     ensures { result ≡ names_in_body word.now }
@@ -96,7 +96,7 @@ impl Mode {
         self.is_body() && takes_text(word)
     }
 
-    /// How the word behind this one is read.
+    /// How the word after this one is read.
     pub fn after(self, word: &[u8]) -> Mode
         ensures { result ≡ after self word.now }
     {

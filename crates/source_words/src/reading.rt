@@ -9,7 +9,7 @@ use crate::modes::Mode;
 use crate::spans::{enclosed, find};
 use crate::word::Word;
 
-/// The word at `start`, and the place behind it and its text.
+/// The word at `start`, and the place after it and its text.
 pub fn word_at(text: &[u8], screen: u16, start: usize, mode: Mode) -> (Word<'_>, usize)
     requires short { length text.now < 65536 }
     requires within { start < length text.now }

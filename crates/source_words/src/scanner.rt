@@ -1,4 +1,4 @@
-//! Words one at a time, lent out of the bytes that they stand in.
+//! Words one at a time, lent out of the bytes that they are in.
 
 ghost use Rattle.std.specs.Prelude.{◌≡◌, ◌<◌, ◌≤◌, [], ◌∷◌, length, IsNone, MatchOption, IfSome};
 ghost use Rattle.source_words.specs.Words.{screen_words};
@@ -45,7 +45,7 @@ impl<'a> Scanner<'a> {
         self.mode
     }
 
-    /// The next word; behind the last there is none, and no more comes.
+    /// The next word; after the last there is none, and no more comes.
     pub fn next(&mut self) -> Option<Word<'a>>
         ensures left { MatchOption result (words_left self.old ≡ [])
             (λ w. words_left self.old ≡ source_word w ∷ words_left self.new) }

@@ -6,7 +6,7 @@ ghost use Rattle.source_words.specs.Words.{before, enclosed, enclosing, is_comme
 use crate::modes::{Mode, begins_comment};
 use bstr::ByteSlice;
 
-/// The place of the first byte `c` at `from` or behind it, else the end.
+/// The place of the first byte `c` at `from` or after it, else the end.
 pub fn find(text: &[u8], from: usize, c: u8) -> usize
     requires { from ≤ length text.now }
     ensures value { result ≡ from + before c (drop from text.now) }
@@ -19,7 +19,7 @@ pub fn find(text: &[u8], from: usize, c: u8) -> usize
     }
 }
 
-/// The place of the first byte that isn't blank, at `from` or behind it, else the end.
+/// The place of the first byte that isn't blank, at `from` or after it, else the end.
 #[tactic(auto, using(crate::proofs::Places::blank_at))]
 pub fn pass_blanks(text: &[u8], from: usize) -> usize
     requires { from ≤ length text.now }
@@ -34,7 +34,7 @@ pub fn pass_blanks(text: &[u8], from: usize) -> usize
     i
 }
 
-/// What a comment or text has that belongs to the word at `start`, and the place behind it: past a byte `c` that was
+/// What a comment or text has that belongs to the word at `start`, and the place after it: past a byte `c` that was
 /// found, else the end.
 pub fn enclosed(text: &[u8], start: usize, end: usize, c: u8) -> (&[u8], usize)
     requires begins { start ≤ length text.now }
@@ -57,7 +57,7 @@ pub fn enclosed(text: &[u8], start: usize, end: usize, c: u8) -> (&[u8], usize)
     }
 }
 
-/// Where the word at `at` begins a comment, the place behind that.
+/// Where the word at `at` begins a comment, the place after that.
 fn comment_end(text: &[u8], at: usize, mode: Mode) -> Option<usize>
     requires within { at < length text.now }
     requires begins { slice_index text.now at ≢ 32 }
@@ -78,7 +78,7 @@ fn comment_end(text: &[u8], at: usize, mode: Mode) -> Option<usize>
     Some(next)
 }
 
-/// The place of the next word, at `from` or behind it, else the end: blanks and comments are passed over.
+/// The place of the next word, at `from` or after it, else the end: blanks and comments are passed over.
 pub fn pass_comments(text: &[u8], from: usize, mode: Mode) -> usize
     requires { from ≤ length text.now }
     ensures same { (screen : ℕ) → words_at mode screen from text.now ≡ words_at mode screen result text.now }

@@ -45,7 +45,7 @@ length_file (b ∷ blocks) sized =
     let first : length b ≡ 1024 = (All-head IsBlock b blocks sized).size in
     omega (arith, length-append b (file_of blocks), length_file blocks (All-tail IsBlock b blocks sized))
 
--- a file is what stands before a block, the block, and what stands behind it
+-- a file is what is before a block, the block, and what comes after it
 split : (blocks : List (List ℕ)) (k : ℕ) → AreBlocks blocks → k < length blocks
     → take (1024 * k) (file_of blocks) ++ (block_at blocks k ++ drop (1024 * (k + 1)) (file_of blocks)) ≡ file_of blocks
 unfolding file_of

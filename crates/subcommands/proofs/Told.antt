@@ -55,7 +55,7 @@ answered r bytes fault.OutOfMemory t l m v b s h = absurd h
 pub not_read : {T : Type 0} (x : T) (f : ImageFault) → Ok x ≡ Err f → ⊥
 not_read x f e = cc
 
--- want of memory is no reason why bytes are no image's file
+-- lack of memory is no reason why bytes are no image's file
 no_want : (bytes : List ℕ) (f : ImageFault) → IsNoFile bytes f → f ≡ fault.OutOfMemory → ⊥
 no_want bytes fault.Truncated h q = cc
 no_want bytes fault.TrailingBytes h q = cc

@@ -14,6 +14,6 @@ filled n bs = take n bs ++ blanks (n - length bs)
 unfoldable pub line_bytes : List ℕ → List ℕ
 line_bytes line = line ++ blanks (64 - length line)
 
--- block 0 is blank, and the lines of a text stand from block 1 on
+-- block 0 is blank, and the lines of a text are from block 1 on
 unfoldable pub blocks_of : List ℕ → List ℕ
 blocks_of text = blanks 1024 ++ flat_map line_bytes (lines text)

@@ -69,7 +69,7 @@ pub record EndsRefused (count : ℕ) (d : Disk) (from to : ℕ) (done : Done) (s
   pub is_refused : IsRefused (limit_of count) d from to fault done
   pub printed : PrintsFault fault.screen fault.offset fault.cause status old new
 
--- the same, or memory ran out behind it
+-- the same, or memory ran out after it
 abbrev pub EndsUnbuilt : (count : ℕ) → Disk → (from to : ℕ) → Done → (status : ℕ) → (old new : Option (List ℕ)) → Type 0
 EndsUnbuilt count d from to done status old new =
     EndsRefused count d from to done status old new ⊎ PrintsOutOfMemory status old new
@@ -127,7 +127,7 @@ PrintsSeen name (Ok text) status old new = Prints (line text.items) 0 status old
 PrintsSeen name (Err see.OutOfMemory) status old new = PrintsOutOfMemory status old new
 PrintsSeen name (Err why) status old new = PrintsRefusal name (see_cause why) status old new
 
--- what VIEW tells of a name in an image was printed, or that memory ran out
+-- what VIEW says of a name in an image was printed, or that memory ran out
 abbrev pub EndsViewed : Contents → (name : List ℕ) → (status : ℕ) → (old new : Option (List ℕ)) → Type 0
 EndsViewed image name status old new =
     PrintsViewed name (viewed (memory_of image) (sought (memory_of image) name)) status old new ⊎ PrintsOutOfMemory status old new

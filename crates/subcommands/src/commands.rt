@@ -174,7 +174,7 @@ fn refuse_source<W: Output>(fault: BuildFault, writer: &mut W) -> Ended
     ended(sent, 1)
 }
 
-/// Sends what is told of an image that was made: `size S entry E`.
+/// Sends the line of an image that was made: `size S entry E`.
 #[tactic(auto, using(inner_interpreter::proofs::Sending::appends_both))]
 fn send_made<W: Output>(writer: &mut W, image: &Image) -> Result<(), EndFault>
     ensures sent { OnOk result (Appends (W.sent writer.old) (W.sent writer.new) (image_line image.now)) }
@@ -231,7 +231,7 @@ pub fn do_build<W: Output, D: Device>(
     // Whether a line can be printed or not, the device is as building the screens, or refusing them, leaves it.
     ensures device { (d e : Disk) → DidAs d e (D.block_count device.old) (D.calls device.old) (D.calls device.new) →
         IsBuilding buffers d from to (done_of (Some e) (D.calls device.old) (D.calls device.new)) }
-    // A device that tells its disk did as that disk.
+    // A device that reports its disk did as that disk.
     ensures like { (d : Disk) → D.disk device.old ≡ Some d →
         IsLike d (D.disk device.new) (D.block_count device.old) (D.calls device.old) (D.calls device.new) }
     // Where there is a file, its line is printed; where there is none, it is printed why.
@@ -320,7 +320,7 @@ pub fn do_run<R: Input, W: Output, D: Device>(
         PrintsNoImage image.now result.status (W.sent writer.old) (W.sent writer.new) }
     ensures unrun { (fault : ImageFault) → IsNoFile image.now fault →
         (reader.new ≡ reader.old) × (device.new ≡ device.old) }
-    // Status 1 over an image's file is want of memory, which is printed; with status 1 nothing was run.
+    // Status 1 over an image's file is lack of memory, which is printed; with status 1 nothing was run.
     ensures wanting { W.failed writer.new ≡ false →
         OfImageFile image.now (λ _. result.status ≡ 1 →
         PrintsOutOfMemory result.status (W.sent writer.old) (W.sent writer.new)) }
@@ -340,7 +340,7 @@ pub fn do_run<R: Input, W: Output, D: Device>(
         OfFile image.now (R.unread reader.old) (D.disk device.old) (W.sent writer.old) limit
         (λ w. EndsCutFrom w (R.unread reader.new) (D.disk device.new) (W.sent writer.new) ⊎
         IsUnrun result.status true reader.old reader.new device.old device.new) }
-    // Where the reader fails, some first rounds were made, and then the machine was told so.
+    // Where the reader fails, some first rounds were made, and then the machine learned of it.
     ensures faulted { R.failed reader.old ≡ false → R.failed reader.new ≡ true →
         OfFile image.now (R.unread reader.old) (D.disk device.old) (W.sent writer.old) limit
         (λ w. EndsFaultedFrom w (R.unread reader.new) (D.disk device.new) (W.sent writer.new)) }

@@ -13,7 +13,7 @@ ghost use Rattle.subcommands.specs.Texts.{HasScreens, file_of};
 ghost use Rattle.see.specs.View.{viewed};
 ghost use Rattle.see.specs.declared.refusal.ViewRefused.TheVariants.{NotFound};
 
-/// In the memory that an image is loaded to which `build` answers, `view` tells the screen of a name: of the newest item
+/// In the memory that an image is loaded to which `build` answers, `view` says the screen of a name: of the newest item
 /// that is spelled so in the last current vocabulary, else in FORTH. Where there is none the name isn't found.
 pub fn view_law()
     ensures there { OfBuilt (λ items m. (name : List ℕ) (p : Place) → 0 < length name → titled name items ≡ Some p →

@@ -1,4 +1,4 @@
-//! What each subcommand does, prints and ends with, but for those that run with a trace or let an image compile.
+//! What each subcommand does, prints and ends with, except those that run with a trace or let an image compile.
 #![tactic(auto)]
 
 mod causes;

@@ -19,7 +19,7 @@ pub fn send_decimal<I: Integer, W: Output>(writer: &mut W, number: I) -> Result<
     send_all(writer, buffer.format(number).as_bytes())
 }
 
-/// Sends a word, and a number in decimal behind it.
+/// Sends a word, and a number in decimal after it.
 #[tactic(auto, using(inner_interpreter::proofs::Sending::appends_both))]
 pub fn send_numbered<I: Integer, W: Output>(
     writer: &mut W,

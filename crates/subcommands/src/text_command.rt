@@ -104,7 +104,7 @@ pub fn do_text<W: Output, D: Device>(
     ensures printed { W.failed writer.new ≡ false →
         (d e : Disk) → DidAs d e (D.block_count device.old) (D.calls device.old) (D.calls device.new) →
         EndsText d from to result.status (W.sent writer.old) (W.sent writer.new) }
-    // A device that tells its disk did as that disk.
+    // A device that reports its disk did as that disk.
     ensures like { (d : Disk) → D.disk device.old ≡ Some d →
         IsLike d (D.disk device.new) (D.block_count device.old) (D.calls device.old) (D.calls device.new) }
     ensures passed { W.failed writer.new ≡ false → W.passed writer.new ≡ true }

@@ -14,7 +14,7 @@ use inner_interpreter::{EndFault, Output, send_all};
 use memory::limit_of;
 use std::alloc::Global;
 
-/// Sends what is told of an image that was upgraded: `size S buffers N`.
+/// Sends the line of an image that was upgraded: `size S buffers N`.
 #[tactic(auto, using(inner_interpreter::proofs::Sending::appends_both))]
 fn send_upgraded<W: Output>(writer: &mut W, image: &Image) -> Result<(), EndFault>
     ensures sent { OnOk result (Appends (W.sent writer.old) (W.sent writer.new) (upgrade_line image.now)) }
@@ -44,14 +44,14 @@ fn refuse_upgrade<W: Output>(fault: UpgradeFault, writer: &mut W) -> Ended
     }
 }
 
-/// Whether bytes were refused for want of memory alone: then they are an image's file.
+/// Whether bytes were refused for lack of memory alone: then they are an image's file.
 fn wants_memory(fault: ImageFault) -> bool
     ensures { IsTrue result ↔ (fault ≡ ImageFault.OutOfMemory) }
 {
     matches!(fault, ImageFault::OutOfMemory)
 }
 
-/// The size of the image of which these bytes are the file, by what stands before its bytes: sixteen, and fourteen in version 1.
+/// The size of the image of which these bytes are the file, by what is before its bytes: sixteen, and fourteen in version 1.
 fn size_in(file: &[u8]) -> usize
     requires { IsOfImage file.now }
     ensures { OfImageFile file.now (λ image. result ≡ length image.bytes) }
@@ -63,7 +63,7 @@ fn size_in(file: &[u8]) -> usize
     }
 }
 
-/// Prints why an image that no memory was found to read isn't upgraded: it is too large, or for want of memory.
+/// Prints why an image that no memory was found to read isn't upgraded: it is too large, or for lack of memory.
 fn refuse_unread<W: Output>(file: &[u8], buffers: Option<u16>, writer: &mut W) -> Ended
     requires file { IsOfImage file.now }
     requires buffers { IfSome buffers (λ count. IsCount count) }

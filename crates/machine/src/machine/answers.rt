@@ -44,8 +44,8 @@ fn line_shown(at: u16, len: u16, returned: bool) -> Shown
 }
 
 impl Machine {
-    /// The answer to the request that stands. `Halted` where the machine is; else `NotAsked` where no request
-    /// stands, or the answer doesn't fit it. The machine is then unchanged.
+    /// The answer to the request that waits. `Halted` where the machine is; else `NotAsked` where no request
+    /// is, or the answer doesn't fit it. The machine is then unchanged.
     #[tactic(auto, unfolding(crate::specs::Answer::answer_of))]
     pub fn answer(&mut self, answer: Answer<'_>) -> Result<Act, Refused>
         ensures done { TakesFit self.old self.new (seen answer.entry) result }

@@ -9,18 +9,22 @@ use crate::act::Refused;
 use image_loader::Image;
 use memory::system::DP;
 use std::alloc::Global;
+use thiserror::Error;
 
 /// Why memory can't be saved as an image.
-#[derive(Clone, Copy, Debug, PartialEq, Eq)]
+#[derive(Clone, Copy, Debug, PartialEq, Eq, Error)]
 pub enum SaveRefused {
-    /// HERE is below 256, or behind where the block buffers begin.
+    /// HERE is below 256, or above where the block buffers begin.
+    #[error("HERE is below 256, or above where the block buffers begin")]
     BadSize,
+    /// There is no memory left.
+    #[error("out of memory")]
     OutOfMemory,
 }
 
 impl Machine {
     /// Enters a word: the return stack is emptied, `ip` is 0, and the word comes next. `Halted` where the machine is, else
-    /// `Waiting` where a request stands; it is then unchanged.
+    /// `Waiting` while a request waits; it is then unchanged.
     pub fn enter(&mut self, word: u16) -> Result<(), Refused>
         ensures entered { IfOk result (λ _. self.new ≡ with_parts self.old (entered self.old.parts word)) }
         ensures runs { IfOk result (λ _. Runs self.new) }

@@ -40,5 +40,5 @@ returns-in-Ok-load_and_debug-clause-unfinished g c = λ fine failed file f typed
 pub returns-in-Ok-load_and_debug-clause-moved : goal.returns-in-Ok-load_and_debug-clause-moved
 returns-in-Ok-load_and_debug-clause-moved g c = λ file f traced.
     let same : c.in-Ok.image ≡ file = c.in-Ok.ensures.accepted file f in
-    inl (subst (λ (i : Contents). HasTracedWith c.end_with.result.status i (g.D.Device.block_count c.args.device.now) (logs (g.D.Device.calls c.args.device.now) (g.W.Output.sent c.args.writer.now) (g.R.Input.reads c.args.reader.now)) (logs (g.D.Device.calls c.load_and_debug.new.device) (g.W.Output.sent c.load_and_debug.new.writer) (g.R.Input.reads c.load_and_debug.new.reader)) c.args.limit (g.R.Input.failed c.load_and_debug.new.reader) (g.W.Output.failed c.load_and_debug.new.writer) (g.T.Output.failed c.load_and_debug.new.trace)) same
+    inl (subst (λ (i : Contents). HasTracedWith c.end_with.result.status i c.args.name.now (g.D.Device.block_count c.args.device.now) (logs (g.D.Device.calls c.args.device.now) (g.W.Output.sent c.args.writer.now) (g.R.Input.reads c.args.reader.now)) (logs (g.D.Device.calls c.load_and_debug.new.device) (g.W.Output.sent c.load_and_debug.new.writer) (g.R.Input.reads c.load_and_debug.new.reader)) c.args.limit (g.R.Input.failed c.load_and_debug.new.reader) (g.W.Output.failed c.load_and_debug.new.writer) (g.T.Output.failed c.load_and_debug.new.trace) (g.T.Output.sent c.args.trace.now) (g.T.Output.sent c.load_and_debug.new.trace)) same
     (record { stop = c.in-Ok-load_and_debug.stop; status_is = search rules; run = c.in-Ok-load_and_debug.ensures.moved }))

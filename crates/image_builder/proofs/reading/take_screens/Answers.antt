@@ -1,4 +1,4 @@
-use Rattle.std.proofs.Common.{[], refl, arith, ◌+◌, ◌-◌, ◌∙◌, Some}
+use Rattle.std.proofs.Common.{[], refl, arith, ◌+◌, ◌∙◌}
 use Rattle.std.proofs.lemmas.Result.{err_from_is_err_and}
 use Rattle.image_builder.proofs.Held.{held_own, held_as}
 use Rattle.image_builder.proofs.Screens.{none_underway, screens_more_read, screens_stop, all_screens, never_began}

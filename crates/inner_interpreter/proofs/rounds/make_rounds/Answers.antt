@@ -3,6 +3,7 @@ use Rattle.machine.specs.Answer.{asked_by}
 use Rattle.inner_interpreter.proofs.Faultless.{went_read}
 use Rattle.inner_interpreter.proofs.Moving.{moved_none, moved_still, moved_first, moved_went, moved_went_part, kept_appends}
 use Rattle.inner_interpreter.proofs.Running.{asked_none, runs_running, went_at, went_cut, answer_at, answer_cut, flush_cut, kept_at, faulted_at, on_ok_then}
+use Rattle.inner_interpreter.proofs.Tracked.{went_first, still_first}
 use Rattle.inner_interpreter.proofs.rounds.make_rounds.Goals as goal
 
 pub returns-in-Ok-clause-moved : goal.returns-in-Ok-clause-moved
@@ -56,3 +57,25 @@ returns-in-Err-flush_before-clause-moved g c = moved_still _ _ _ _ _ _ (moved_no
 
 pub returns-in-Err-flush_before-clause-cut : goal.returns-in-Err-flush_before-clause-cut
 returns-in-Err-flush_before-clause-cut g c = λ failed w at. flush_cut _ w _ _ _ _ _ _ c.in-Some.request (search rules) c.in-Err-flush_before.ensures.asked c.in-Err-flush_before.ensures.bytes at
+
+pub returns-in-Ok-clause-lines : goal.returns-in-Ok-clause-lines
+returns-in-Ok-clause-lines g c =
+    let free : c.args.machine.now.wait ≡ None = asked_none _ (search rules) in
+    let on = c.ticks_onward-count.ensures in
+    went_first _ _ _ _ _ _ (runs_running _ c.requires.goes free) on.ran on.some on.most on.unmet
+
+pub returns-in-Err-clause-lines : goal.returns-in-Err-clause-lines
+returns-in-Err-clause-lines g c =
+    let free : c.args.machine.now.wait ≡ None = asked_none _ (search rules) in
+    let on = c.ticks_onward-count.ensures in
+    went_first _ _ _ _ _ _ (runs_running _ c.requires.goes free) on.ran on.some on.most on.unmet
+
+pub returns-in-Ok-flush_before-clause-lines : goal.returns-in-Ok-flush_before-clause-lines
+returns-in-Ok-flush_before-clause-lines g c =
+    let waits : asked_by c.args.machine.now.wait ≡ Some c.in-Some.request = search rules in
+    still_first _ _ _ _ waits
+
+pub returns-in-Err-flush_before-clause-lines : goal.returns-in-Err-flush_before-clause-lines
+returns-in-Err-flush_before-clause-lines g c =
+    let waits : asked_by c.args.machine.now.wait ≡ Some c.in-Some.request = search rules in
+    still_first _ _ _ _ waits

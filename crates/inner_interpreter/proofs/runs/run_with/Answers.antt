@@ -4,6 +4,7 @@ use Rattle.inner_interpreter.specs.Tracing.{EndsTraced}
 use Rattle.inner_interpreter.proofs.Moving.{appends_none, moved_none, moved_still, moved_on, moved_as, has_run, has_run_kept}
 use Rattle.inner_interpreter.specs.Failing.{sends_all}
 use Rattle.inner_interpreter.proofs.Ended.{none_made, more_made, made_cause, made_limit, made_cut, made_untraced, line_untraced, rounds_cut, rounds_faulted, done_so, not_limit, not_input_fault}
+use Rattle.inner_interpreter.proofs.Tracked.{traced_none, traced_on, traced_kept, traced_run, traced_cut}
 use Rattle.inner_interpreter.proofs.runs.run_with.Goals as goal
 
 pub loop-cause-init : goal.loop-cause-init
@@ -15,6 +16,7 @@ loop-cause-init g c = record {
   few = omega arith;
   read = λ h. h;
   moved = moved_still _ _ _ _ _ _ (moved_none _ _ _ _ _ _ (appends_none _));
+  traced = traced_none _ _ _ _ _ _ _ _;
   made = λ w at. none_made _ _ w _ _ _ _ _ _ at;
 }
 
@@ -63,6 +65,7 @@ loop-cause-preserved g c = record {
   few = omega (arith, c.loop-cause.invariant.few, c.make_rounds.ensures.left);
   read = λ h. search rules;
   moved = moved_on _ _ _ _ _ _ _ _ _ _ c.loop-cause.invariant.few c.make_rounds.ensures.left c.loop-cause.invariant.moved c.in-Ok-make_rounds.ensures.moved;
+  traced = traced_on true c.loop-cause.invariant.few c.make_rounds.ensures.left c.loop-cause.invariant.traced c.in-Ok-make_rounds.ensures.moved (rw (← c.extent-extent.ensures) c.make_rounds.ensures.lines) (search rules);
   made = λ w at. more_made _ _ w _ _ _ _ _ _ _ _ _ _ _ _ _ (search rules) (omega arith) (search rules) (λ v here. rw (← c.extent-extent.ensures) (c.in-Ok-make_rounds.ensures.ok v here)) (c.loop-cause.invariant.made w at);
 }
 
@@ -105,3 +108,28 @@ returns-then-left-eq0-clause-moved g c =
 pub returns-in-Some-clause-told : goal.returns-in-Some-clause-told
 returns-in-Some-clause-told g c = λ h fine q.
     absurd (not_input_fault c.in-Some.cause _ _ _ _ _ _ _ (c.loop-cause.invariant.read h) (search rules) c.stop_by_cause.ensures c.finish.ensures.done q)
+
+pub returns-in-Err-Reader-clause-lines : goal.returns-in-Err-Reader-clause-lines
+returns-in-Err-Reader-clause-lines g c =
+    let told = moved_as _ true (ap sends_all (c.in-Err-Reader.is ∙ ap Err c.in-Err-Reader.field-0-is)) c.make_rounds.ensures.moved in
+    traced_run stop.InputFault (omega (arith, c.loop-cause.invariant.few, c.make_rounds.ensures.left)) (λ q. cc)
+    (traced_on true c.loop-cause.invariant.few c.make_rounds.ensures.left c.loop-cause.invariant.traced told (rw (← c.extent-extent.ensures) c.make_rounds.ensures.lines) (search rules))
+
+pub returns-in-Err-Writer-clause-lines : goal.returns-in-Err-Writer-clause-lines
+returns-in-Err-Writer-clause-lines g c =
+    let told = moved_as _ false (ap sends_all (c.in-Err-Writer.is ∙ ap Err c.in-Err-Writer.field-0-is)) c.make_rounds.ensures.moved in
+    traced_run stop.OutputFault (omega (arith, c.loop-cause.invariant.few, c.make_rounds.ensures.left)) (λ q. cc)
+    (traced_on false c.loop-cause.invariant.few c.make_rounds.ensures.left c.loop-cause.invariant.traced told (rw (← c.extent-extent.ensures) c.make_rounds.ensures.lines) (search rules))
+
+pub returns-in-Err-clause-lines : goal.returns-in-Err-clause-lines
+returns-in-Err-clause-lines g c = traced_cut c.loop-cause.invariant.few c.loop-cause.invariant.traced (search rules)
+
+pub returns-in-Some-clause-lines : goal.returns-in-Some-clause-lines
+returns-in-Some-clause-lines g c =
+    traced_run _ c.loop-cause.invariant.few (λ q. absurd (not_limit c.in-Some.cause _ _ _ _ _ _ c.stop_by_cause.ensures c.finish.ensures.done q))
+    (traced_kept _ c.finish.ensures.bytes c.finish.ensures.lines c.loop-cause.invariant.traced)
+
+pub returns-then-left-eq0-clause-lines : goal.returns-then-left-eq0-clause-lines
+returns-then-left-eq0-clause-lines g c =
+    traced_run _ c.loop-cause.invariant.few (λ q. c.if-left-eq0.true)
+    (traced_kept _ c.finish-then-left-eq0.ensures.bytes c.finish-then-left-eq0.ensures.lines c.loop-cause.invariant.traced)

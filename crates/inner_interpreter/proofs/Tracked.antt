@@ -1,0 +1,215 @@
+-- The trace of a run, by the moves that it made.
+use Rattle.std.proofs.Common.{◌≡◌, ◌≢◌, ℕ, zero, suc, ◌+◌, ◌-◌, ◌≤◌, ◌<◌, List, [], ◌∷◌, ◌++◌, Option, Some, None, Bool, true, false, refl, sym, ap, subst, ◌∙◌, inl, inr, arith, append-nil, append_assoc, if◌then◌else◌, is_none, ◌&&◌}
+use Rattle.std.proofs.lemmas.List.Sums.{sum_by-cons}
+use Rattle.std.specs.Io.KnownBytes.{Appends, Keeps}
+use Rattle.machine_parts.specs.Whole.{Whole}
+use Rattle.machine_parts.specs.declared.parts.Request.{Request}
+use Rattle.machine.specs.declared.act.Act.{Act}
+use Rattle.machine.specs.declared.extent.Extent.{Extent}
+use Rattle.machine.specs.State.{State}
+use Rattle.machine.specs.Tick.{ran, ticked, is_quiet, running}
+use Rattle.machine.specs.Met.{is_met, AreUnmet}
+use Rattle.machine.specs.Answer.{asked_by}
+use Rattle.machine.proofs.Ran.{ran_quiet, ran_loud}
+use Rattle.block_buffers.specs.DeviceCalls.{DeviceCall}
+use Rattle.inner_interpreter.specs.declared.stop.Stop.{Stop}
+use Rattle.inner_interpreter.specs.declared.stop.Stop.TheVariants as stop
+use Rattle.inner_interpreter.specs.Moves.{Turn, Tick, Answer, Enter, after, turned, AreAccepted, Logs, logs, is_sent, is_tick, words_in, ticks_in, answers_in, HasMoved, HasRun}
+use Rattle.inner_interpreter.specs.Sent.{AppendsPart}
+use Rattle.inner_interpreter.specs.Tracing.{AddsFirst, HasRunTraced, line_next, lines_by}
+use Rattle.inner_interpreter.specs.Worlds.{waiting}
+use Rattle.inner_interpreter.proofs.Ending.{one_waits}
+use Rattle.inner_interpreter.proofs.Moving.{after-append, appends_none, asked_waits, few_answers, kept_appends, moved_add, moved_kept, moved_none, moved_so}
+use Rattle.inner_interpreter.proofs.Quiet.{ticked_runs}
+use Rattle.inner_interpreter.proofs.Sending.{appends_both}
+
+lines-append : (e : Extent) (line : Whole → List ℕ) (ts us : List Turn) (s : State) → lines_by e line s (ts ++ us) ≡ lines_by e line s ts ++ lines_by e line (after s ts) us
+unfolding after lines_by
+lines-append e line [] us s = refl
+lines-append e line (Tick ∷ ts) us s =
+    ap (λ ls. line_next e line s ++ ls) (lines-append e line ts us (turned s Tick))
+    ∙ sym (append_assoc (line_next e line s) (lines_by e line (turned s Tick) ts) (lines_by e line (after (turned s Tick) ts) us))
+lines-append e line (Answer reply ∷ ts) us s = lines-append e line ts us (turned s (Answer reply))
+lines-append e line (Enter word ∷ ts) us s = lines-append e line ts us (turned s (Enter word))
+
+one_tick : (t : Turn) (ts : List Turn) → ticks_in (t ∷ ts) ≡ (if is_tick t then 1 else 0) + ticks_in ts
+one_tick t ts = sum_by-cons (λ u. if is_tick u then 1 else 0) t ts
+
+-- moves without a tick have no line
+no_lines : (e : Extent) (line : Whole → List ℕ) (ts : List Turn) (s : State) → ticks_in ts ≡ 0 → lines_by e line s ts ≡ []
+unfolding lines_by
+no_lines e line [] s h = refl
+no_lines e line (Tick ∷ ts) s h = absurd (omega (arith, h, one_tick Tick ts))
+no_lines e line (Answer reply ∷ ts) s h = no_lines e line ts (turned s (Answer reply)) (omega (arith, h, one_tick (Answer reply) ts))
+no_lines e line (Enter word ∷ ts) s h = no_lines e line ts (turned s (Enter word)) (omega (arith, h, one_tick (Enter word) ts))
+
+unmet_line : (e : Extent) (line : Whole → List ℕ) (s : State) → is_met e s.parts ≡ false → line_next e line s ≡ []
+unmet_line e line s h = by (is_none (asked_by s.wait))
+  where
+    by : (b : Bool) → (if b && is_met e s.parts then line s.parts else []) ≡ []
+    by true = rw h refl
+    by false = refl
+
+waiting_line : (e : Extent) (line : Whole → List ℕ) (s : State) (r : Request) → asked_by s.wait ≡ Some r → line_next e line s ≡ []
+waiting_line e line s r h = rw h refl
+
+-- the moves of a running machine begin with a tick
+record Begins (p : Whole) (ts : List Turn) : Type 0 where
+  rest : List Turn
+  is : ts ≡ Tick ∷ rest
+  accepted : AreAccepted (ticked p).0 rest
+  words : words_in rest ≡ []
+  ticks : ticks_in ts ≡ suc (ticks_in rest)
+
+begins : (p : Whole) (ts : List Turn) → AreAccepted (running p) ts → words_in ts ≡ [] → 0 < ticks_in ts → Begins p ts
+unfolding AreAccepted
+begins p [] h k l = absurd (omega (arith, l))
+begins p (Tick ∷ ts) h k l = record { rest = ts; is = refl; accepted = h.1; words = k; ticks = omega (arith, one_tick Tick ts) }
+begins p (Answer reply ∷ ts) h k l = absurd (omega (arith, asked_waits (running p) reply h.0.2))
+begins p (Enter word ∷ ts) h k l = cc
+
+-- no line of one tick and those after it
+unmet_tick : (e : Extent) (line : Whole → List ℕ) (n k : ℕ) (p : Whole) (ts : List Turn) → (ran k (suc n) p).0 ≡ k + suc n → is_met e p ≡ false → ticks_in ts ≡ suc n → (b : Begins p ts)
+    → ((ticked p).0 ≡ running (ticked p).0.parts → (ran (k + 1) n (ticked p).0.parts).0 ≡ k + 1 + n → lines_by e line (running (ticked p).0.parts) b.rest ≡ [])
+    → lines_by e line (running p) ts ≡ []
+unfolding lines_by
+unmet_tick e line n k p ts all unmet t b more =
+    ap (λ us. lines_by e line (running p) us) b.is
+    ∙ ap (λ ls. ls ++ lines_by e line (ticked p).0 b.rest) (unmet_line e line (running p) unmet)
+    ∙ after_tick (is_quiet (ticked p).1) refl
+  where
+    after_tick : (q : Bool) → is_quiet (ticked p).1 ≡ q → lines_by e line (ticked p).0 b.rest ≡ []
+    after_tick true q =
+        let runs : (ticked p).0 ≡ running (ticked p).0.parts = ticked_runs p q in
+        let less : suc n - 1 ≡ n = omega arith in
+        let on : ran k (suc n) p ≡ ran (k + 1) n (ticked p).0.parts = ran_quiet k (suc n) p (omega arith) q ∙ ap (λ i. ran (k + 1) i (ticked p).0.parts) less in
+        let count : (ran (k + 1) n (ticked p).0.parts).0 ≡ k + 1 + n = ap (λ (r : ℕ × State × Act). r.0) (sym on) ∙ all ∙ omega arith in
+        ap (λ s. lines_by e line s b.rest) runs ∙ more runs count
+    after_tick false q =
+        let last : k + 1 ≡ k + suc n = ap (λ (r : ℕ × State × Act). r.0) (sym (ran_loud k (suc n) p (omega arith) q)) ∙ all in
+        no_lines e line b.rest (ticked p).0 (omega (arith, last, b.ticks, t))
+
+-- no line where no token of the extent comes next
+unmet_lines : (e : Extent) (line : Whole → List ℕ) (n k : ℕ) (p : Whole) (ts : List Turn) → (ran k n p).0 ≡ k + n → AreUnmet e n p → AreAccepted (running p) ts → words_in ts ≡ [] → ticks_in ts ≡ n → lines_by e line (running p) ts ≡ []
+unfolding AreUnmet
+unmet_lines e line zero k p ts all unmet h w t = no_lines e line ts (running p) t
+unmet_lines e line (suc n) k p ts all unmet h w t =
+    let b = begins p ts h w (omega (arith, t)) in
+    unmet_tick e line n k p ts all unmet.0 t b
+    (λ runs count. unmet_lines e line n (k + 1) (ticked p).0.parts b.rest count unmet.1 (subst (λ s. AreAccepted s b.rest) runs b.accepted) b.words (omega (arith, b.ticks, t)))
+
+-- of a stretch of ticks only the first may have a line
+first_line : (e : Extent) (m : ℕ) (p : Whole) → 0 < m → (ran 0 m p).0 ≡ m → AreUnmet e (m - 1) (ticked p).0.parts → AddsFirst e (running p) m
+unfolding lines_by
+first_line e m p some all unmet = λ ts h w t line. with_tick ts line (begins p ts h w (omega (arith, t, some))) t
+  where
+    rest_of : (ts : List Turn) (line : Whole → List ℕ) (b : Begins p ts) → ticks_in ts ≡ m → (q : Bool) → is_quiet (ticked p).1 ≡ q → lines_by e line (ticked p).0 b.rest ≡ []
+    rest_of ts line b t true q =
+        let runs : (ticked p).0 ≡ running (ticked p).0.parts = ticked_runs p q in
+        let on : ran 0 m p ≡ ran (0 + 1) (m - 1) (ticked p).0.parts = ran_quiet 0 m p some q in
+        let count : (ran 1 (m - 1) (ticked p).0.parts).0 ≡ 1 + (m - 1) = ap (λ (r : ℕ × State × Act). r.0) (sym on) ∙ all ∙ omega (arith, some) in
+        ap (λ s. lines_by e line s b.rest) runs
+        ∙ unmet_lines e line (m - 1) 1 (ticked p).0.parts b.rest count unmet (subst (λ s. AreAccepted s b.rest) runs b.accepted) b.words (omega (arith, b.ticks, t, some))
+    rest_of ts line b t false q =
+        let last : 0 + 1 ≡ m = ap (λ (r : ℕ × State × Act). r.0) (sym (ran_loud 0 m p some q)) ∙ all in
+        no_lines e line b.rest (ticked p).0 (omega (arith, last, b.ticks, t))
+
+    with_tick : (ts : List Turn) (line : Whole → List ℕ) → Begins p ts → ticks_in ts ≡ m → lines_by e line (running p) ts ≡ line_next e line (running p)
+    with_tick ts line b t =
+        ap (λ us. lines_by e line (running p) us) b.is
+        ∙ ap (λ ls. line_next e line (running p) ++ ls) (rest_of ts line b t (is_quiet (ticked p).1) refl)
+        ∙ append-nil (line_next e line (running p))
+
+-- the ticks that a call makes out of those that are left
+pub went_first : (e : Extent) (left count : ℕ) (s t : State) (act : Act) → s ≡ running s.parts → (count, t, act) ≡ ran 0 count s.parts → 0 < count → count ≤ left → AreUnmet e (count - 1) (ticked s.parts).0.parts → AddsFirst e s (left - (left - count))
+went_first e left count s t act runs is some most unmet =
+    let all : (ran 0 count s.parts).0 ≡ count = sym (ap (λ (v : ℕ × State × Act). v.0) is) in
+    let same : count ≡ left - (left - count) = omega (arith, most) in
+    subst (λ n. AddsFirst e s n) same (subst (λ v. AddsFirst e v count) (sym runs) (first_line e count s.parts some all unmet))
+
+-- moves while a request waits, none of them a tick
+pub still_first : (e : Extent) (left : ℕ) (s : State) (r : Request) → asked_by s.wait ≡ Some r → AddsFirst e s (left - left)
+still_first e left s r h = λ ts a w t line.
+    let none : left - left ≡ 0 = omega arith in
+    no_lines e line ts s (t ∙ none) ∙ sym (waiting_line e line s r h)
+
+-- moves with the trace that was sent of them
+pub record HasTraced (e : Extent) (line : Whole → List ℕ) (old new : State) (log log' : Logs) (whole : Bool) (ticks : ℕ) (told told' : Option (List ℕ)) : Type 0 where
+  pub count : ℕ
+  pub same : count ≡ ticks
+  pub moved : HasMoved old new log log' whole [] count
+  pub lines : Appends told told' (lines_by e line old moved.turns)
+
+pub traced_none : (e : Extent) (line : Whole → List ℕ) (s : State) (c : List DeviceCall) (o : Option (List ℕ)) (r : List (Option ℕ)) (told : Option (List ℕ)) (limit : ℕ) → HasTraced e line s s (logs c o r) (logs c o r) true (limit - limit) told told
+unfolding lines_by moved_none
+traced_none e line s c o r told limit = record { count = 0; same = omega arith; moved = moved_none s c o o r true (appends_none o); lines = appends_none told }
+
+-- the line of the next tick was sent, and then moves were made
+pub traced_on : {e : Extent} {line : Whole → List ℕ} {a b c : State} {f g h : Logs} {limit left left' : ℕ} {t t' t'' : Option (List ℕ)} (whole : Bool) → left ≤ limit → left' ≤ left → HasTraced e line a b f g true (limit - left) t t' → HasMoved b c g h whole [] (left - left') → AddsFirst e b (left - left') → Appends t' t'' (line_next e line b) → HasTraced e line a c f h whole (limit - left') t t''
+unfolding moved_add
+traced_on {e} {line} {a} {b} {c} {f} {g} {h} {limit} {left} {left'} {t} {t'} {t''} whole most fewer x y first sent = record {
+  count = x.count + (left - left');
+  same = omega (arith, x.same, most, fewer);
+  moved = moved_add a b c f g h whole [] [] x.count (left - left') x.moved y;
+  lines = subst (λ bs. Appends t t'' bs) (sym joined) (appends_both t t' t'' (lines_by e line a x.moved.turns) (line_next e line b) x.lines sent);
+} where
+  joined : lines_by e line a (x.moved.turns ++ y.turns) ≡ lines_by e line a x.moved.turns ++ line_next e line b
+  joined = lines-append e line x.moved.turns y.turns a
+      ∙ ap (λ s. lines_by e line a x.moved.turns ++ lines_by e line s y.turns) (sym x.moved.state_is)
+      ∙ ap (λ ls. lines_by e line a x.moved.turns ++ ls) (first y.turns y.accepted y.words_are y.ticks_are line)
+
+appends_less : (t t' : Option (List ℕ)) (bs : List ℕ) → Appends t t' (bs ++ []) → Appends t t' bs
+appends_less t t' bs h = subst (λ ls. Appends t t' ls) (append-nil bs) h
+
+appends_more : (t t' : Option (List ℕ)) (bs : List ℕ) → Appends t t' bs → Appends t t' (bs ++ [])
+appends_more t t' bs h = subst (λ ls. Appends t t' ls) (sym (append-nil bs)) h
+
+-- both were flushed, and were sent nothing more
+pub traced_kept : {e : Extent} {line : Whole → List ℕ} {a b : State} {c d : List DeviceCall} {o o' o'' : Option (List ℕ)} {r r' : List (Option ℕ)} {n : ℕ} {t t' t'' : Option (List ℕ)} (whole : Bool) → Keeps o' o'' → Keeps t' t'' → HasTraced e line a b (logs c o r) (logs d o' r') true n t t' → HasTraced e line a b (logs c o r) (logs d o'' r') whole n t t''
+unfolding moved_so moved_kept
+traced_kept {e} {line} {a} {b} {c} {d} {o} {o'} {o''} {r} {r'} {n} {t} {t'} {t''} whole k l x = record {
+  count = x.count;
+  same = x.same;
+  moved = moved_so a b (logs c o r) (logs d o'' r') whole [] x.count (moved_kept a b c d o o' o'' r r' [] x.count k x.moved);
+  lines = appends_less t t'' (lines_by e line a x.moved.turns) (appends_both t t' t'' (lines_by e line a x.moved.turns) [] x.lines (kept_appends t' t'' l));
+}
+
+run_of : {e : Extent} {line : Whole → List ℕ} {a b : State} {f g : Logs} {limit left : ℕ} {t t' : Option (List ℕ)} (why : Stop) → left ≤ limit → (why ≡ stop.Limit → left ≡ 0) → (x : HasTraced e line a b f g (is_sent why) (limit - left) t t') → HasRun a b f g limit why
+run_of {e} {line} {a} {b} {f} {g} {limit} {left} why most none x = record {
+  ticks = x.count;
+  few = omega (arith, x.same);
+  all = λ q. omega (arith, none q, most, x.same);
+  moved = x.moved;
+  few_answers = omega (arith, few_answers x.moved.turns a x.moved.accepted, x.moved.ticks_are, one_waits a.wait, x.same);
+}
+
+-- a run that stopped, and whose trace was sent
+pub traced_run : {e : Extent} {line : Whole → List ℕ} {a b : State} {f g : Logs} {limit left : ℕ} {t t' : Option (List ℕ)} (why : Stop) → left ≤ limit → (why ≡ stop.Limit → left ≡ 0) → HasTraced e line a b f g (is_sent why) (limit - left) t t' → HasRunTraced e line a b f g limit why t t'
+unfolding run_of
+traced_run {e} {line} {a} {b} {f} {g} {limit} {left} {t} {t'} why most none x = record {
+  run = run_of why most none x;
+  front = [];
+  back = [];
+  trace_is = appends_more t t' (lines_by e line a x.moved.turns) x.lines;
+  last = inl refl;
+}
+
+-- what was sent before a line was cut, and the front of that line
+cut_lines : (t t' t'' : Option (List ℕ)) (bs l : List ℕ) → Appends t t' bs → AppendsPart t' t'' l → (front : List ℕ) × (back : List ℕ) × Appends t t'' (bs ++ front) × (l ≡ front ++ back)
+cut_lines None t' t'' bs l h k = ([], l, tt, refl)
+cut_lines (Some xs) None t'' bs l h k = absurd h
+cut_lines (Some xs) (Some ys) None bs l h k = absurd k
+cut_lines (Some xs) (Some ys) (Some zs) bs l h k = (k.0, k.1, appends_both (Some xs) (Some ys) (Some zs) bs k.0 h k.3, k.2)
+
+-- a run that stopped since a line couldn't be sent
+pub traced_cut : {e : Extent} {line : Whole → List ℕ} {a b : State} {f g : Logs} {limit left : ℕ} {t t' t'' : Option (List ℕ)} → left ≤ limit → HasTraced e line a b f g true (limit - left) t t' → AppendsPart t' t'' (line_next e line b) → HasRunTraced e line a b f g limit stop.TraceFault t t''
+unfolding run_of
+traced_cut {e} {line} {a} {b} {f} {g} {limit} {left} {t} {t'} {t''} most x part =
+    let k = cut_lines t t' t'' (lines_by e line a x.moved.turns) (line_next e line b) x.lines part in
+    record {
+      run = run_of stop.TraceFault most (λ q. cc) x;
+      front = k.0;
+      back = k.1;
+      trace_is = k.2;
+      last = inr (refl, k.3);
+    }
