@@ -1,5 +1,5 @@
 #!/usr/bin/env bash
-# The Forth over a file of blocks; `./forth --help` tells how. It has the workbench's tools, at a terminal, where it takes lines by
+# The Forth over a file of blocks; `./forth --help` says how. It has the workbench's tools, at a terminal, where it takes lines by
 # KEY, and in pipes, and makes images of programs with them. Where the program isn't proved yet it runs the same one without its
 # proofs, and has the proof made meanwhile.
 set -uo pipefail
@@ -37,6 +37,9 @@ usage: ./forth [TEXT..] [BLOCKS]             loads each TEXT, a file of Forth su
        ./forth --version                     prints the version of the program, and whether it is proved
        ./forth where IMAGE [BLOCKS]          runs an image, and shows at which word of which screen its fault happens
        ./forth course [BLOCKS]               starts the course, or goes on with it, in the file BLOCKS (course.blk if none is named)
+       ./forth course --hints N              prints hints for lesson N; --solutions N prints its solutions, --text the course's screens
+       ./forth course --sheets [-o OUT.html] makes pages of the lessons to print, with a place for name and date
+       ./forth class FILES..                 checks the files of a class; prints a table of pupils and lessons; class --help says more
        ./forth page [BLOCKS] -o OUT.html     makes the Forth as one page for any browser; page --help says more
        ./forth picture [BLOCKS] [FIRST]      makes a picture of what the words of examples/draw.txt drew
        ./forth film NAME [LINE]              makes a page that shows each step of the word NAME; film --help says more
@@ -70,7 +73,8 @@ need_python() {
 # The version of the program that would run now; one that isn't made yet has that of its sources.
 show_version() {
   if "$here/workbench/is-proved"; then
-    echo "$("$forth83" --version), proved"
+    # A release without proofs, for trials, is installed as a proved one is, and its program says what it is.
+    "$forth83" --version | sed '/unproved$/!s/$/, proved/'
   elif [ -x "$kept/unproved" ]; then
     "$kept/unproved" --version
   else
@@ -78,7 +82,7 @@ show_version() {
   fi
 }
 
-# are_kept: the images are there, and nothing that they are made of is newer.
+# are_kept: the images exist, and nothing that they are made of is newer.
 are_kept() {
   local name from
   for name in "${names[@]}"; do
@@ -161,7 +165,7 @@ find_unproved() {
   cat "$room/said" >&2
 }
 
-# Has the proof made in the background, behind this session.
+# Has the proof made in the background, after this session.
 begin_proof() {
   if ! command -v python3 > /dev/null; then
     say "this program is not proved; its proof needs python3, which is not installed."
@@ -174,7 +178,7 @@ begin_proof() {
   fi
 }
 
-# The program that runs: the proved one, or, where it isn't there and isn't waited for, that without proofs.
+# The program that runs: the proved one, or, where it doesn't exist and isn't waited for, that without proofs.
 find_program() {
   if [ "$wanted" = unproved ]; then
     find_unproved
@@ -212,7 +216,7 @@ look_at_name() {
   [ ${#name} -le 240 ] || refuse "the name ${name:0:16}.. has ${#name} bytes, too many for a new file"
 }
 
-# Makes the block file where it isn't there.
+# Makes the block file where it doesn't exist.
 make_blocks() {
   local folder said
   look_at_name "$blocks"
@@ -229,7 +233,7 @@ make_blocks() {
   is_new=', a new file'
 }
 
-# The process that has a lock on the block file, where the system tells it.
+# The process that has a lock on the block file, where the system says it.
 holder() {
   local inode pid
   inode=$(stat -L -c %i -- "$blocks")
@@ -324,7 +328,7 @@ run_at_terminal() {
   exec "$python" -I -S -B "$here/workbench/session" 8 $!
 }
 
-# Passes standard input on to descriptor 8, with a return behind a last line that has none: lines of a pipe come by KEY.
+# Passes standard input on to descriptor 8, with a return after a last line that has none: lines of a pipe come by KEY.
 feed() {
   local last
   last=$(tee /dev/fd/7 7>&1 >&8 | tail -c 1 | od -A n -t u1)
@@ -378,7 +382,7 @@ look_at_own() {
   [ "$from" -le "$to" ] || refuse "there are no screens from $from to $to"
 }
 
-# Tries the screens on a copy of their blocks, as a script would load them: a fault is told then by word and place. The last line
+# Tries the screens on a copy of their blocks, as a script would load them: a fault is said then by word and place. The last line
 # of what is shown else says with which word the image starts, if BOOT named one.
 try_own() {
   cp -- "$blocks" "$room/copy.blk" || exit 1
@@ -447,10 +451,20 @@ make_course() {
   trap - EXIT
 }
 
+# show_lesson FILE N: the hints or the solutions of lesson N, whose own screen is 20 screens further.
+show_lesson() {
+  local shown
+  shown=$(awk -v heads="|% lesson $2|% screen $((20 + 10#0${2//[!0-9]/}))|" '
+    /^% / { is_shown = index(heads, "|" $0 "|"); next }
+    is_shown' "$here/teaching/$1.txt")
+  [[ $2 =~ ^[0-9]+$ && -n $shown ]] || refuse "there are no $1 for lesson $2; lessons have numbers from 1 on"
+  echo "$shown"
+}
+
 sources=
 case ${1:-} in
   --on) exec "$here/workbench/on" "${@:2}" ;;
-  film | map | print | survey | import | export)
+  film | map | print | class | survey | import | export)
     need_python "$1"
     case $1 in
       survey) exec python3 -B "$here/dialects/survey" "${@:2}" ;;
@@ -474,6 +488,22 @@ case ${1:-} in
     exit
     ;;
   course)
+    case ${2:-} in
+      --hints | --solutions)
+        [ $# -eq 3 ] || misused "course $2 needs the number of a lesson"
+        show_lesson "${2#--}" "$3"
+        exit
+        ;;
+      --text)
+        [ $# -eq 2 ] || misused 'course --text takes nothing more'
+        exec cat -- "$here/teaching/course.txt"
+        ;;
+      --sheets)
+        need_python 'course --sheets'
+        exec python3 -B "$here/teaching/sheets" "${@:3}"
+        ;;
+      -*) misused "course has no option $2" ;;
+    esac
     [ $# -le 2 ] || misused 'course takes no more than the name of its file of blocks'
     blocks=${2:-course.blk}
     [ -e "$blocks" ] || make_course

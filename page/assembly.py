@@ -9,13 +9,16 @@ import zlib
 from typing import Dict, List
 
 HERE = pathlib.Path(__file__).resolve().parent
+# What the page shares with the films of ./forth film.
+SHARED = HERE.parent / "teaching"
 FIRST = "main.js"
 POLICY = "default-src 'none'; script-src '{script}' 'wasm-unsafe-eval'; style-src 'unsafe-inline'; img-src data: blob:"
 IMPORT = re.compile(r'^import \{[^}]*\} from "\./([\w-]+\.js)";\n', re.M)
 
 
 def text_of(name: str) -> str:
-    return (HERE / name).read_text(encoding="utf-8")
+    folder = HERE if (HERE / name).exists() else SHARED
+    return (folder / name).read_text(encoding="utf-8")
 
 
 def in_order(name: str, found: List[str]) -> List[str]:

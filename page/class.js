@@ -8,7 +8,7 @@ import { ASKS, Machine, PAGE_SIZE, STOP } from "./machine.js";
 import { helpOf, trialsOf, why } from "./trials.js";
 
 const TICKS = 1000000, MOST_SLICES = 30;
-const SIGNS = { right: "✓", wrong: "✗", endless: "∞", empty: "·" };
+const SIGNS = { right: "✓", wrong: "✗", missing: "?", endless: "∞", empty: "·" };
 
 export class ClassList {
   constructor(page, calls, parts) {
@@ -59,7 +59,7 @@ export class ClassList {
     return disk;
   }
 
-  // What the checker says of a lesson: { mark, text }. Where it says that it is right, the page makes the trials, too.
+  // What the checker says of a lesson: { mark, word, text }, the word that it is about. Where it says that it is right, the page makes the trials, too.
   async lesson(lesson, bytes) {
     const { number, screen } = lesson, textOfScreen = (disk) => linesOf(disk.page(screen)).join("\n");
     if (bytes.length < (screen + 1) * PAGE_SIZE) return { mark: "empty", text: "the file ends before this screen" };
@@ -71,8 +71,10 @@ export class ClassList {
     if (said === null) return { mark: "endless", text: "it doesn't end" };
     const isRight = said.trimEnd().replace(/\s*ok$/, "").split("\n").pop().startsWith(`Lesson ${number} is right.`);
     const wrong = isRight && this.course === COURSE ? await this.tryIt(lesson, bytes) : null;
-    if (wrong) return { mark: "wrong", text: `The checker was deceived: ${wrong}.` };
-    return { mark: isRight ? "right" : "wrong", text: said.slice(`${number} CHECK`.length).trim().replace(/\s*ok$/, "") };
+    const trials = trialsOf(this.page.files.builtIn(this.course).page(screen + CHECKERS));
+    if (wrong) return { mark: "wrong", word: subjectOf(wrong, trials), text: `The checker was deceived: ${wrong}.` };
+    const text = said.slice(`${number} CHECK`.length).trim().replace(/\s*ok$/, ""), last = text.split("\n").pop();
+    return { mark: isRight ? "right" : markOf(last), word: isRight ? "" : subjectOf(last, trials), text };
   }
 
   // A new Forth with this disk.
@@ -132,9 +134,27 @@ export class ClassList {
 
   csv() {
     const quoted = (text) => `"${text.replace(/"/g, '""')}"`, head = ["file", ...this.taught.map(({ number }) => `lesson ${number}`)];
-    const lines = this.rows.map(({ name, results }) => [name, ...(results || []).map(({ mark }) => mark)]);
+    const lines = this.rows.map(({ name, results }) => [name, ...(results || []).map(({ mark, word }) => (word ? `${mark} ${word}` : mark))]);
     return [head, ...lines].map((line) => line.map(quoted).join(",") + "\r\n").join("");
   }
+}
+
+// The mark of a lesson that isn't right, by the last line of what CHECK says.
+function markOf(said) {
+  if (/^\S+ isn.t there yet/.test(said)) return "missing";
+  return /never ends: the loop in /.test(said) ? "endless" : "wrong";
+}
+
+// The word that a message of CHECK is about: the one that is missing, or whose trial begins the message, or that has an endless loop.
+function subjectOf(said, trials) {
+  const missing = /^(\S+) isn.t there yet/.exec(said), looping = /never ends: the loop in (\S+) /.exec(said), plain = `${said.replace(/\s+/g, " ")} `;
+  if (missing) return missing[1];
+  let word = "", found = "", length = 0;
+  for (const { needs, line } of trials) {
+    if (needs) word = needs;
+    else if (plain.startsWith(`${line} `) && line.length > length) [found, length] = [word, line.length];
+  }
+  return found || (looping ? looping[1] : "");
 }
 
 // The blocks of a pupil's file, blocks or a whole session; null for another file.

@@ -70,14 +70,27 @@ def disk_of_lesson(body: str) -> str:
     return found[1] if found else COURSE
 
 
-def lessons(text: str) -> List[Dict[str, object]]:
-    """The course's lessons: of each its number, title, HTML and disk, and the pupil's screen, or None for one that nothing checks."""
+def hints(text: str) -> Dict[int, List[str]]:
+    """The hints of each lesson, as teaching/hints.txt has them."""
+    parts = re.findall(r"^% lesson (\d+)\n((?:(?!% ).*\n)*)", text, re.M)
+    return {int(number): body.splitlines() for number, body in parts}
+
+
+def folded(lines: List[str]) -> str:
+    """Hints as HTML, folded until someone wants them."""
+    rows = "".join(f"<li>{html.escape(line, quote=False)}</li>" for line in lines)
+    return f"<details><summary>Hints</summary><ul>{rows}</ul></details>" if rows else ""
+
+
+def lessons(text: str, helping: Dict[int, List[str]]) -> List[Dict[str, object]]:
+    """The course's lessons: of each its number, title, HTML with its hints, and disk, and the pupil's screen, or None for one that
+    nothing checks."""
     made = []
     for number, part in enumerate(re.split(r"^## ", text, flags=re.M)[1:], 1):
         title, _, body = part.partition("\n")
         disk = disk_of_lesson(body)
         made.append({"number": number, "title": title, "disk": disk, "screen": FIRST + number if disk == COURSE else None,
-                     "html": f"<h2>{inline(title)}</h2>" + body_of_lesson(body)})
+                     "html": f"<h2>{inline(title)}</h2>" + body_of_lesson(body) + folded(helping.get(number, []))})
     return made
 
 

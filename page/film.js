@@ -3,13 +3,16 @@
 import { decode, element, encode, hexadecimal, signed } from "./bytes.js";
 import { COLUMNS, linesOf } from "./disk.js";
 import { ASKS, Machine, PAGE_SIZE, STACK, STOP, SYSTEM } from "./machine.js";
+import { MOST_MOTION, appear, fly, isStill, origins } from "./moves.js";
 import { around, definitionOf, placesIn } from "./source.js";
 
 const MOST_TICKS = 200000, MOST_STEPS = 5000, MOST_CELLS = 12;
+// The code of words that VARIABLE and CREATE made, and how many of such a word's bytes a film shows.
+const DATA_WORD = 2, MOST_BYTES = 120;
 
 export class Film {
   constructor(session, calls, parts) {
-    Object.assign(this, { session, parts, made: [], steps: [], at: 0 });
+    Object.assign(this, { session, parts, made: [], steps: [], at: 0, touched: [] });
     this.machine = new Machine(calls, session.layout);
     parts.form.addEventListener("submit", (event) => {
       event.preventDefault();
@@ -20,13 +23,21 @@ export class Film {
     parts.back.addEventListener("click", () => this.go(this.at - 1));
     parts.on.addEventListener("click", () => this.go(this.at + 1));
     parts.play.addEventListener("click", () => this.play());
+    parts.speed.addEventListener("change", () => this.timer && (this.stopPlaying(), this.play()));
     for (const box of [parts.base, parts.system]) box.addEventListener("change", () => this.go(this.at));
     parts.show.addEventListener("keydown", (event) => this.press(event));
   }
 
+  // The arrows, a presenter's remote, and the space bar, which presses a button that has the focus.
   press(event) {
-    if (event.target === this.parts.words || event.ctrlKey || event.altKey || event.metaKey) return;
-    const to = { ArrowLeft: this.at - 1, ArrowRight: this.at + 1, PageUp: this.at - 10, PageDown: this.at + 10, Home: 0,
+    if (event.target.closest("select") || event.ctrlKey || event.altKey || event.metaKey) return;
+    if (event.key === " " && !event.target.closest("button, input")) {
+      event.preventDefault();
+      this.play();
+      return;
+    }
+    const by = event.shiftKey ? 10 : 1;
+    const to = { ArrowLeft: this.at - by, ArrowRight: this.at + by, PageUp: this.at - by, PageDown: this.at + by, Home: 0,
       End: this.steps.length - 1 }[event.key];
     if (to === undefined) return;
     event.preventDefault();
@@ -46,6 +57,7 @@ export class Film {
     this.loopEnds = new Set(film.mine.flatMap((word) => threadOf(this.machine, this.words, word, this.here)).map((token) => token.loopEnd));
     this.definitions = new Map([...new Set(film.steps.map((step) => step.word))].map((word) => [word, this.definition(word)]));
     this.base = Math.min(...film.steps.map((step) => step.returns.length));
+    this.touched = this.found();
     const none = `This line runs no word of yours${film.why}. A film shows the steps of your own words only.`;
     this.say(this.made.length ? `${this.made.length} steps of your words, in ${film.ticks} ticks${film.why}.` : none);
     this.list();
@@ -72,7 +84,7 @@ export class Film {
     if (this.timer) return this.stopPlaying();
     if (this.at === this.steps.length - 1) this.go(0);
     this.parts.play.textContent = "Pause";
-    this.timer = setInterval(() => (this.at < this.steps.length - 1 ? this.go(this.at + 1) : this.stopPlaying()), 700);
+    this.timer = setInterval(() => (this.at < this.steps.length - 1 ? this.go(this.at + 1) : this.stopPlaying()), 1000 / Number(this.parts.speed.value));
   }
 
   stopPlaying() {
@@ -83,6 +95,7 @@ export class Film {
 
   go(at) {
     if (!this.steps.length) return;
+    const old = this.at, boxes = this.boxes();
     this.at = Math.max(0, Math.min(this.steps.length - 1, at));
     const step = this.steps[this.at], before = this.steps[this.at - 1] || step, { parts } = this;
     parts.slider.value = this.at;
@@ -94,6 +107,47 @@ export class Film {
     this.showStack(parts.values, step.values, before.values, 0);
     this.showStack(parts.returns, step.returns, before.returns, parts.system.checked ? 0 : this.base);
     parts.output.textContent = step.output;
+    this.showVariables(step, before);
+    if (this.at === old + 1) this.move(before, step, boxes);
+  }
+
+  boxes() {
+    return new Map([...this.parts.values.children].map((one) => [Number(one.dataset.cell), one.getBoundingClientRect()]));
+  }
+
+  // Moves the cells from where they were before the step to where they are. Who prefers reduced motion sees none of it.
+  move(before, step, boxes) {
+    const time = Math.min(MOST_MOTION, this.timer ? 500 / Number(this.parts.speed.value) : MOST_MOTION);
+    if (isStill.matches || time < 60 || !before.word) return;
+    const token = threadOf(this.machine, this.words, before.word, this.here).find((one) => one.at === before.ip);
+    const from = origins(token ? token.name.toUpperCase() : "", before.values, step.values);
+    for (const one of this.parts.values.children) {
+      const box = boxes.get(from[Number(one.dataset.cell)]);
+      if (box) fly(one, box, time);
+      else appear(one, time);
+    }
+  }
+
+  // What the variables and arrays hold that the film changes, or whose words it runs; what the step before changed is marked.
+  showVariables({ memory }, { memory: old }) {
+    const { variables } = this.parts;
+    variables.hidden = !this.touched.length;
+    this.parts.memory.replaceChildren(...this.touched.map((word) => {
+      const now = memory.get(word) || new Uint8Array(), then = old.get(word) || now, group = element("div"), all = element("dd");
+      for (let at = 0; at + 1 < now.length; at += 2) {
+        const [one, other] = [now, then].map((bytes) => bytes[at] | bytes[at + 1] << 8);
+        all.append(element(one === other ? "span" : "b", String(this.parts.base.checked ? hexadecimal(one) : signed(one))), " ");
+      }
+      group.append(element("dt", word.name), all);
+      return group;
+    }));
+  }
+
+  // The variables and arrays that the film's steps change, or whose words they run.
+  found() {
+    const run = new Set(this.made.map((step) => step.token)), last = this.last.memory, first = this.made.length ? this.made[0].memory : last;
+    return [...last.keys()].filter((word) => run.has(word.word) || String(first.get(word)) !== String(last.get(word)) ||
+      this.made.some(({ memory }) => memory !== last && memory.has(word) && String(memory.get(word)) !== String(last.get(word))));
   }
 
   // A word's definition, from its screen or from the lines that were typed, with the words that its thread was compiled of; null where
@@ -140,14 +194,15 @@ export class Film {
     let same = 0;
     while (same < cells.length && cells[same] === before[same]) same++;
     const rows = cells.map((cell, at) => this.cell(cell, at >= same && cells !== before, list === this.parts.returns));
+    rows.forEach((row, at) => { row.dataset.cell = at; });
     list.replaceChildren(...rows.slice(Math.max(from, rows.length - MOST_CELLS)).reverse());
   }
 
   // A cell; one of the return stack that leads back into a word of yours, or to the end of its loop, says so.
   cell(cell, isNew, isReturn) {
-    const row = element("li", String(this.parts.base.checked ? hexadecimal(cell) : signed(cell)), { class: isNew ? "new" : "" });
-    const word = isReturn && cell >= this.fence ? this.words.filter((one) => one.word < cell).pop() : null;
-    if (word && cell < this.here) row.append(element("small", this.loopEnds.has(cell) ? "the loop's end" : `back to ${word.name}`));
+    const word = isReturn && cell >= this.fence && cell < this.here ? this.words.filter((one) => one.word < cell).pop() : null;
+    const row = element("li", String(this.parts.base.checked ? hexadecimal(cell) : word ? cell : signed(cell)), { class: isNew ? "new" : "" });
+    if (word) row.append(element("small", this.loopEnds.has(cell) ? "the loop's end" : `back to ${word.name}`));
     return row;
   }
 
@@ -185,6 +240,17 @@ class Filming {
     this.words = machine.words().map((one) => known.get(`${one.word} ${one.name}`) || one);
     this.mine = this.words.filter((one) => one.word >= fence);
     this.here = machine.cell(SYSTEM.here);
+    const begins = this.mine.map((one) => one.header - 2), ends = [...begins.slice(1), this.here];
+    this.data = this.mine.map((one, at) => [one, Math.min(ends[at], one.word + 2 + MOST_BYTES)]).filter(([one]) => machine.cell(one.word) === DATA_WORD);
+  }
+
+  // The bytes of the variables and arrays now; the same map as before if nothing has changed.
+  remember() {
+    const { machine } = this, now = new Map();
+    for (const [one, end] of this.data) now.set(one, Uint8Array.from({ length: Math.max(0, end - one.word - 2) }, (_, at) => machine.byte(one.word + 2 + at)));
+    const isSame = this.memory && this.memory.size === now.size && [...now].every(([one, bytes]) => String(bytes) === String(this.memory.get(one)));
+    if (!isSame) this.memory = now;
+    return this.memory;
   }
 
   // Does a tick; whether there is more.
@@ -209,7 +275,7 @@ class Filming {
     return false;
   }
 
-  last() { return { isLast: true, output: this.output, values: this.machine.values, returns: [] }; }
+  last() { return { isLast: true, output: this.output, values: this.machine.values, returns: [], memory: this.remember() }; }
 
   serve() {
     const { machine, disk } = this, block = machine.field("asked"), at = block * PAGE_SIZE;
@@ -224,7 +290,7 @@ class Filming {
     if (machine.asks !== ASKS.NOTHING || machine.field("has_pending") || ip < this.fence || ip >= machine.cell(SYSTEM.here)) return null;
     if (machine.cell(SYSTEM.here) !== this.here) this.learn();
     const word = this.mine.filter((one) => one.word < ip).pop();
-    return word && { ip, word, output: this.output, values: machine.values, returns: machine.returns };
+    return word && { ip, word, token: machine.cell(ip), output: this.output, values: machine.values, returns: machine.returns, memory: this.remember() };
   }
 
   // Keeps a step with the word of the line that is done. Where the return stack was shallower since the last step, that is another word.

@@ -5,7 +5,7 @@ import { COLUMNS, linesOf } from "./disk.js";
 import { SYSTEM } from "./machine.js";
 import { definitionOf } from "./source.js";
 
-const ITEM = /\((?:[^)]*)\)|NEEDS\s+(\S+)|T\{\s+([^]*?)\s->\s+([^]*?)\}T(?:\s+SHOWS\s+([^|]*)\|)?|ALL-RIGHT|([^]+?)(?=\s(?:T\{|NEEDS|ALL-RIGHT|\()\s|$)/y;
+const ITEM = /\((?:[^)]*)\)|NEEDS\s+(\S+)|T\{\s+([^]*?)\s->\s+([^]*?)\}(T|YES|NO|SEALED)(?!\S)(?:\s+SHOWS\s+([^|]*)\|)?|ALL-RIGHT|([^]+?)(?=\s(?:T\{|NEEDS|ALL-RIGHT|\()\s|$)/y;
 
 const oneLine = (text) => text.replace(/\s*\n\s*/g, " ").trim();
 
@@ -17,14 +17,36 @@ export function trialsOf(page) {
   const text = linesOf(page).join("\n"), found = [];
   for (let at = 0; at < text.length; at = ITEM.lastIndex) {
     ITEM.lastIndex = at + /\s*/.exec(text.slice(at))[0].length;
-    const [, needs, line, leaves, shows, other] = ITEM.exec(text) || [];
+    const [, needs, line, leaves, kind, shows, other] = ITEM.exec(text) || [];
     if (!ITEM.lastIndex) break;
     if (needs) found.push({ needs });
-    else if (line) found.push({ line: oneLine(line), leaves: leaves.split(/\s+/).filter((one) => one).map(Number), shows: shows === undefined ? null : cut(shows) });
+    else if (line) {
+      const numbers = leaves.split(/\s+/).filter((one) => one).map(Number);
+      found.push({ line: oneLine(line), leaves: numbers, kind, shows: shows === undefined ? null : cut(shows) });
+    }
     else if (other && other.trim()) found.push({ line: oneLine(other) });
   }
   return found;
 }
+
+// What stands for a number as answer PLACE of a quiz, from 1, in place of the number: the word SEAL of the course.
+function seal(number, place) {
+  let sealed = (number ^ (31 * place + 7919)) & 0xffff;
+  for (let round = 0; round < 5; round++) {
+    sealed = (sealed * 40503 + 1) & 0xffff;
+    sealed = ((sealed << 8) | (sealed >> 8)) & 0xffff;
+  }
+  return sealed;
+}
+
+// Whether a line left what the trial wants.
+function isLeft({ kind, leaves }, left) {
+  if (kind === "YES" || kind === "NO") return left.length === 1 && (left[0] !== 0) === (kind === "YES");
+  return left.length === leaves.length && left.every((cell, at) => (kind === "SEALED" ? seal(cell, at + 1) : cell) === (leaves[at] & 0xffff));
+}
+
+// What would be right, in words; the answers of a quiz stay hidden.
+const wantedBy = ({ kind, leaves }) => ({ YES: "true", NO: "false", SEALED: "something else" })[kind] || leaves.join(" ") || "nothing";
 
 // The lines that make S|, which trials use, from the checkers' screens.
 export function helpOf(disk) {
@@ -45,7 +67,7 @@ export async function why(machine, trial, run) {
   const now = machine.values, left = now.slice(before.length), isKept = before.every((cell, at) => now[at] === cell);
   if (!leaves) return null;
   if (!isKept) return `${line} takes more from the stack than it is given`;
-  if (left.length !== leaves.length || left.some((cell, at) => cell !== (leaves[at] & 0xffff))) return `${line} leaves ${left.join(" ") || "nothing"}, and ${leaves.join(" ") || "nothing"} is wanted`;
+  if (!isLeft(trial, left)) return `${line} leaves ${left.join(" ") || "nothing"}, and ${wantedBy(trial)} is wanted`;
   const output = cut(shown.slice(line.length).trimEnd().replace(/ok$/, ""));
   return shows === null || output === shows ? null : `${line} shows ${output.slice(0, COLUMNS)}, and ${shows} is wanted`;
 }

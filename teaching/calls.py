@@ -37,10 +37,11 @@ def effect_of(memory, code_field):
 
 
 class Calls:
-    """Keeps at most so many steps of the calls of the word whose thread lies from an address up to another."""
+    """Keeps at most so many steps of the calls of the word whose thread lies from an address up to another; with `data`, of those
+    calls alone that begin with this address on the stack, as a word that DOES> made begins."""
 
-    def __init__(self, begins, end, most):
-        self.begins, self.behind, self.most = begins, end, most
+    def __init__(self, begins, end, most, data=None):
+        self.begins, self.behind, self.most, self.data = begins, end, most, data
         self.frames, self.steps, self.ends = [], [], []
         self.open, self.last, self.target, self.depth, self.met = [], OTHER, None, 0, 0
 
@@ -59,6 +60,10 @@ class Calls:
         """Whether the step before was a call that goes on at this address."""
         return self.last == CALL and address == self.target or self.last == MAYBE and depth > self.depth
 
+    def is_wanted(self, address, data):
+        """Whether a call that begins here is one of the word."""
+        return self.begins <= address < self.behind and (self.data is None or bool(data) and data[-1] & 0xFFFF == self.data)
+
     def follow(self, address, data, returns, mark):
         """What the step before did to the calls."""
         if self.open:
@@ -68,7 +73,7 @@ class Calls:
                 self.leave(data, returns, mark, LEFT)
             elif self.last == END:
                 self.end(data, returns, mark)
-        if self.is_begun(address, len(returns)) and (self.open or self.begins <= address < self.behind):
+        if self.is_begun(address, len(returns)) and (self.open or self.is_wanted(address, data)):
             self.begin(address, len(returns) - 1)
 
     def begin(self, address, base):

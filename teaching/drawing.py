@@ -1,6 +1,7 @@
-"""An image's map as SVG: memory in rows of as many bytes as are wide, each byte a column; a name's letters stand on its bytes.
+"""An image's map as SVG: memory in rows of as many bytes as are wide, each byte a column; each letter of a name is on its byte.
 
-Each map is drawn twice into one file, for wide and for narrow windows, and the style shows the one that fits.
+The words after FENCE, which are the user's, come first. Each map is drawn twice into one file, for wide and for narrow windows; the
+style shows one of them, as wide as the window. On paper the Forth's own words are left out if there are others.
 """
 import pathlib
 from html import escape
@@ -19,7 +20,7 @@ class Canvas:
     """What is drawn, and how far down it reaches."""
 
     def __init__(self, width):
-        self.width, self.y, self.parts = width, 8, []
+        self.width, self.y, self.parts, self.on_paper = width, 8, [], None
 
     def add(self, text):
         self.parts.append(text)
@@ -39,23 +40,36 @@ class Canvas:
 
 
 class Grid:
-    """Where the bytes of one image's dictionary stand: so many a row, from an x and a y on."""
+    """Where the bytes of one image's dictionary are: so many a row, from an x on. Those from an address on, where the user's words
+    begin, are in rows of their own, from the y `own` on; those before it are from `system` on."""
 
-    def __init__(self, one, x, y, wide):
-        self.one, self.x, self.y, self.wide = one, x, y, wide
-        self.first = images.DICTIONARY // wide
+    def __init__(self, one, x, wide, split):
+        self.one, self.x, self.wide, self.split = one, x, wide, split
+        self.own, self.system = 0, 0
+
+    def own_rows(self):
+        return max(1, -(-self.one.top // self.wide) - self.split // self.wide)
+
+    def system_rows(self):
+        """How many rows the words before the split have; none if it begins the dictionary."""
+        return -(-min(self.split, self.one.top) // self.wide) - images.DICTIONARY // self.wide
 
     def rows(self):
-        return max(1, -(-self.one.top // self.wide) - self.first)
+        """The first address and the y of each row."""
+        for count, first, y in ((self.own_rows(), self.split, self.own), (self.system_rows(), images.DICTIONARY, self.system)):
+            yield from (((first // self.wide + row) * self.wide, y + row * ROW) for row in range(count))
 
     def spot(self, address):
         """The left upper corner of a byte."""
-        return self.x + GUTTER + address % self.wide * BYTE, self.y + (address // self.wide - self.first) * ROW
+        first, y = (self.split, self.own) if address >= self.split else (images.DICTIONARY, self.system)
+        return self.x + GUTTER + address % self.wide * BYTE, y + (address // self.wide - first // self.wide) * ROW
 
     def pieces(self, begins, end):
         """The pieces of a region, one a row: x, y, how many bytes."""
         while begins < end:
             count = min(end - begins, self.wide - begins % self.wide)
+            if begins < self.split:
+                count = min(count, self.split - begins)
             yield (*self.spot(begins), count)
             begins += count
 
@@ -77,17 +91,18 @@ class Grid:
         return images.DICTIONARY <= address < self.one.top
 
     def arc(self, header):
-        """The link from a word to the one before it in its chain."""
+        """The link from a word to the one before it in its chain: between the rows and beside them, so that it crosses no text."""
         if not header.link or not self.contains(header.link - 2):
             return ""
         x, y = self.spot(header.link_field)
         to_x, to_y = self.spot(header.link - 2)
         x, to_x = x + BYTE, to_x + BYTE / 2
         if y == to_y:
-            way = f"M{x} {y + ROW - 5}v3H{to_x}v-3"
+            way = f"M{x} {y + ROW - 4}v2H{to_x}v-2"
         else:
-            bend = (y + to_y + ROW) / 2
-            way = f"M{x} {y + 4}C{x} {bend} {to_x} {bend} {to_x} {to_y + ROW - 5}"
+            gutter, is_between = self.x + GUTTER - 3, header.link - 2 < self.split <= header.link_field
+            gap = f"V{self.own + self.own_rows() * ROW}M{gutter} {self.system - 4}" if is_between else ""
+            way = f"M{x} {y + ROW - 4}v2H{gutter}{gap}V{to_y + ROW - 2}H{to_x}v-2"
         return f'<path class="link c{header.chain()}" data-from="{header.link_field}" d="{way}"/>'
 
 
@@ -99,7 +114,7 @@ def told_of(one, header):
     signs = [sign for sign, is_so in (("immediate", header.is_immediate), ("hidden", header.is_hidden)) if is_so]
     view = f", screen {header.view}" if header.view else ""
     return [", ".join([texts.shown(header.name), regions.what(header), *signs]) + view,
-            f"header {header.begins} to {header.body - 1}, behind it {size} bytes",
+            f"header {header.begins} to {header.body - 1}, and {size} bytes after it",
             f"chain {header.chain()}, the word before: {before}"]
 
 
@@ -126,9 +141,8 @@ def newest_chain(one):
 def draw_grid(canvas, grid, runs):
     """The dictionary's rows with their addresses, words, links, and what changed."""
     canvas.add('<g class="half">')
-    for row in range(grid.rows()):
-        address = (grid.first + row) * grid.wide
-        canvas.add(f'<text class="address" x="{grid.x + GUTTER - 6}" y="{grid.y + row * ROW + 15}">{address}</text>')
+    for address, y in grid.rows():
+        canvas.add(f'<text class="address" x="{grid.x + GUTTER - 6}" y="{y + 15}">{address}</text>')
     for region in grid.one.regions():
         if region.header is None:
             canvas.add(grid.boxes(region.begins, region.end, region.kind))
@@ -180,11 +194,18 @@ COLOURS = (
 )
 ADVICE = ("The line is the chain of the newest word. Tab and the arrows go from word to word, "
           "Enter to the word before in its chain.")
+ALL, OWN, SYSTEM = "The dictionary, each byte a column", "Your words, each byte a column", "The Forth's own words"
 
 
-def draw_key(canvas):
-    """What the colours are."""
-    canvas.line("The dictionary, each byte a column", "heading")
+def split_of(one):
+    """Where the user's words begin: at FENCE, or with the dictionary if FENCE divides it in no two parts."""
+    fence = one.image.memory.cell(images.FENCE)
+    return fence if images.DICTIONARY < fence < one.here <= one.top else images.DICTIONARY
+
+
+def draw_key(canvas, heading):
+    """What the colors are."""
+    canvas.line(heading, "heading")
     x, y = 8, canvas.y + 4
     for kind, told in COLOURS:
         width = 20 + (len(told) + 2) * LETTER
@@ -201,17 +222,42 @@ def title(one):
     return f"{one.name}: an image of version {one.image.version}, {one.image.size} bytes, begins with {listing.entry(one)}"
 
 
+def draw_own(canvas, grids, split):
+    """Room for the rows of the user's words, and what comes on paper."""
+    canvas.room(8)
+    for grid in grids:
+        grid.own = canvas.y
+    canvas.room((max(grid.own_rows() for grid in grids) + 1) * ROW)
+    if split > images.DICTIONARY:
+        canvas.on_paper = canvas.y
+
+
+def draw_system(canvas, grids):
+    """Room for the rows of the words before the user's."""
+    rows = max(grid.system_rows() for grid in grids)
+    if rows:
+        canvas.line(SYSTEM, "heading")
+        canvas.room(8)
+    for grid in grids:
+        grid.system = canvas.y
+    canvas.room(rows * ROW)
+
+
 def draw_one(one, wide):
-    canvas = Canvas(GUTTER + wide * BYTE + 24)
+    canvas, split = Canvas(GUTTER + wide * BYTE + 24), split_of(one)
+    grid = Grid(one, 0, wide, split)
     canvas.line(title(one), "title")
+    if split > images.DICTIONARY:
+        draw_key(canvas, OWN)
+        draw_own(canvas, [grid], split)
     draw_strip(canvas, one)
     draw_cells(canvas, one)
-    draw_key(canvas)
-    canvas.room(8)
-    grid = Grid(one, 0, canvas.y, wide)
+    if split == images.DICTIONARY:
+        draw_key(canvas, ALL)
+        draw_own(canvas, [grid], split)
+    draw_system(canvas, [grid])
     draw_grid(canvas, grid, [])
-    canvas.room((grid.rows() + 1) * ROW)
-    canvas.line(f"Behind it {one.limit - one.top} bytes are free, up to {one.limit}; they aren't drawn.")
+    canvas.line(f"After the dictionary {one.limit - one.top} bytes are free, up to {one.limit}; they aren't drawn.")
     canvas.room(80)
     return canvas
 
@@ -228,36 +274,46 @@ def draw_changes(canvas, changes):
 
 
 def draw_two(first, second, wide):
-    changes = regions.Changes(first, second)
+    changes, split = regions.Changes(first, second), split_of(second)
     canvas = Canvas(2 * (GUTTER + wide * BYTE + 24))
+    grids = [Grid(first, 0, wide, split), Grid(second, canvas.width // 2, wide, split)]
+    canvas.line(f"{first.name} and {second.name}", "title")
+    draw_changes(canvas, changes)
+    draw_key(canvas, OWN if split > images.DICTIONARY else ALL)
+    draw_own(canvas, grids, split)
     for one in (first, second):
         canvas.line(title(one), "title")
         draw_strip(canvas, one)
-    draw_changes(canvas, changes)
-    draw_key(canvas)
-    canvas.room(8)
+    draw_system(canvas, grids)
     runs = changes.runs(images.DICTIONARY, max(first.top, second.top))
-    grids = [Grid(first, 0, canvas.y, wide), Grid(second, canvas.width // 2, canvas.y, wide)]
     for grid in grids:
         draw_grid(canvas, grid, [(begins, min(end, grid.one.top)) for begins, end in runs if begins < grid.one.top])
-    canvas.room((max(grid.rows() for grid in grids) + 1) * ROW + 80)
+    canvas.room(80)
     return canvas
 
 
-def group(canvas, kind):
-    return f'<g class="{kind}">{"".join(canvas.parts)}<g class="tell"></g></g>'
+def drawing(canvas, kind):
+    """A drawing that is as wide as the window. Its box is what comes on paper, and what is below that shows where there is room."""
+    box = f"0 0 {canvas.width} {canvas.on_paper or canvas.y}"
+    return (f'<svg class="{kind}" viewBox="{box}" preserveAspectRatio="xMinYMin meet" overflow="visible">{"".join(canvas.parts)}'
+            f'<g class="tell"></g></svg>')
+
+
+def height_of(canvas, units):
+    """The page's height that these units of a drawing have."""
+    return f"svg.map {{ height: calc(100vw * {units / canvas.width:.5f}); }}"
 
 
 def svg(wide, narrow, text):
     """One file of both drawings."""
     style = (HERE / "map.css").read_text(encoding="utf-8")
     script = (HERE / "map.js").read_text(encoding="utf-8")
-    sizes = (f".narrow {{ display: none; }} svg {{ width: {wide.width}px; height: {wide.y}px; }}\n"
-             f"@media (max-width: {wide.width}px) {{ .wide {{ display: none; }} .narrow {{ display: inline; }} "
-             f"svg {{ width: {narrow.width}px; height: {narrow.y}px; }} }}\n")
-    return (f'<?xml version="1.0" encoding="UTF-8"?>\n{MARK}\n<svg xmlns="http://www.w3.org/2000/svg" width="{wide.width}" '
-            f'height="{wide.y}">\n<title>{escape(text)}</title>\n<style>\n{style}{sizes}</style>\n'
-            f'<rect class="paper" width="100%" height="100%"/>\n{group(wide, "wide")}\n{group(narrow, "narrow")}\n'
+    sizes = (f".narrow {{ display: none; }} {height_of(wide, wide.y)}\n"
+             f"@media screen and (max-width: {wide.width * 3 // 4}px) {{ .wide {{ display: none; }} .narrow {{ display: inline; }} "
+             f"{height_of(narrow, narrow.y)} }}\n@media print {{ {height_of(wide, wide.on_paper or wide.y)} }}\n")
+    return (f'<?xml version="1.0" encoding="UTF-8"?>\n{MARK}\n<svg xmlns="http://www.w3.org/2000/svg" class="map">\n'
+            f'<title>{escape(text)}</title>\n<style>\n{style}{sizes}</style>\n'
+            f'<rect class="paper" width="100%" height="100%"/>\n{drawing(wide, "wide")}\n{drawing(narrow, "narrow")}\n'
             f'<script><![CDATA[\n{script}]]></script>\n</svg>\n')
 
 

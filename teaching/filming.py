@@ -3,9 +3,12 @@
 The steps come from one run of all words' lines (traces.py). They count where `debug` of the word itself, over the image as it
 is, tells the same lines, and shows the same. Else the film is made of the word's own lines alone.
 """
-import shown
-import traces
+import cells
 import images
+import program
+import shown
+import texts
+import traces
 from calls import MAYBE, Calls, effect_of
 
 EVERY, MOST_LAID = 20_000, 8 << 20
@@ -18,17 +21,29 @@ class Place:
     def __init__(self, memory, dictionary, digests, address):
         code_field = memory.cell(address)
         self.address, self.row = address, memory.cell(code_field)
-        self.shows = self.row in shown.SHOWING
+        self.shows, self.touches, self.code_field = self.row in shown.SHOWING, self.row in cells.ROWS, code_field
         self.effect = effect_of(memory, code_field)
         self.line = b"%d %s" % (address, dictionary.name_of(code_field))
         self.digest = digests[address]
 
 
-class Film:
-    """The calls of a word that were met, and the run's output; `exact` has the words whose lines were compared."""
+class Subject:
+    """What is filmed: a colon word, or a word that DOES> made; the thread of that one is a part of its maker's."""
 
-    def __init__(self, calls, output, status):
-        self.calls, self.output, self.status = calls, output, status
+    def __init__(self, header, maker=None):
+        self.header = maker or header
+        self.begins, self.data = (header.code, header.body) if maker else (header.body, None)
+
+    def calls(self, most):
+        return Calls(self.begins, self.header.end, most, self.data)
+
+
+class Film:
+    """The calls of a word that were met, and the run's output; `exact` has the words whose lines were compared, and `cells` the
+    variables and arrays."""
+
+    def __init__(self, calls, output, status, followed=None):
+        self.calls, self.output, self.status, self.cells = calls, output, status, followed
         self.marks = None
         self.exact, self.others = [], []
         self.is_whole = True
@@ -51,6 +66,7 @@ class Whole:
         self.here = image.memory.cell(images.DP)
         self.by_word, self.digests = digests_of(dictionary)
         self.counter, self.places = shown.Shown(image.memory, typed), {}
+        self.cells = cells.Cells(image.memory, dictionary)
 
     def place(self, where):
         place = self.places[where] = Place(self.memory, self.dictionary, self.digests, int(where))
@@ -62,7 +78,8 @@ class Whole:
         place = self.places.get(line[:blank]) or self.place(line[:blank])
         rest = line[blank + 2:]
         place.digest.take(place.line + rest)
-        if place.shows or self.calls.open or self.calls.begins <= place.address < self.calls.behind:
+        is_near = self.calls.open or self.calls.begins <= place.address < self.calls.behind
+        if is_near or place.shows or place.touches or self.cells.test:
             self.step(place, rest)
         else:
             self.calls.pass_by(place.effect)
@@ -71,20 +88,26 @@ class Whole:
         """A line that tells more than where the run is."""
         _, data, returns = rest.split(b"|")
         data, returns = tuple(map(int, data.split())), tuple(map(int, returns.split()))
-        mark, row, effect, stack = self.counter.mark(), place.row, place.effect, data
+        if self.cells.test:
+            self.cells.check(data)
+        mark, row, effect, stack, code_field = self.counter.mark(), place.row, place.effect, data, place.code_field
         while row == shown.EXECUTE and stack:
             code_field, stack = stack[-1] & 0xFFFF, stack[:-1]
             row, effect = self.memory.cell(code_field), effect_of(self.memory, code_field)
             effect = (MAYBE, None) if code_field >= self.here else effect
         self.calls.take(place.address, effect, data, returns, mark)
+        if self.calls.steps:
+            self.cells.begin()
+        if row in cells.ROWS and self.calls.met <= self.calls.most:
+            self.cells.meet(row, code_field, stack, len(self.calls.steps), bool(self.calls.open))
         self.counter.meet(place.address, row, stack)
 
 
-def whole_film(setting, image, dictionary, header, most, progress):
+def whole_film(setting, image, dictionary, subject, most, progress):
     """The film of one run of all words, before it is compared with anything."""
     path = setting.room / "whole.img"
     traces.without_headers(image, path)
-    reader = Whole(image, dictionary, Calls(header.body, header.end, most), setting.typed)
+    reader = Whole(image, dictionary, subject.calls(most), setting.typed)
     run = traces.Run(setting, path, traces.lowest_colon(dictionary).name.decode())
     for number, line in enumerate(run.lines()):
         if line.endswith(b"\n"):
@@ -92,7 +115,7 @@ def whole_film(setting, image, dictionary, header, most, progress):
         if number % EVERY == 0:
             progress.tell(f"{number:,} steps of the run so far")
     reader.calls.finish()
-    film = Film(reader.calls, run.output, run.status)
+    film = Film(reader.calls, run.output, run.status, reader.cells)
     if reader.counter.is_right(run.output):
         marks = [reader.counter.place(step.mark) for step in film.calls.steps]
         film.marks = marks if marks and marks[-1] <= MOST_LAID else None
@@ -131,11 +154,15 @@ def single_film(lines, header, most, output, status):
     return film
 
 
-def filmed(setting, image_path, image, dictionary, header, most, progress):
-    """The film of a word: of the whole run, or where that isn't what `debug` of the word tells, of the word's own lines."""
-    film, by_word = whole_film(setting, image, dictionary, header, most, progress)
+def filmed(setting, image_path, image, dictionary, subject, most, progress):
+    """The film of a word: of the whole run, or if `debug` of the word prints other lines, of the word's own lines."""
+    film, by_word = whole_film(setting, image, dictionary, subject, most, progress)
+    header = subject.header
     if compare(setting, image_path, film, dictionary, header, by_word, progress):
         return film
+    if subject.data is not None:
+        name = texts.shown(header.name)
+        raise program.Refusal(f"a run over a copy of the image prints other lines of {name} than debug; make a film of {name} itself")
     run = traces.Run(setting, image_path, header.name.decode())
     lines = b"".join(run.lines())
     film = single_film(lines, header, most, run.output, run.status)

@@ -18,7 +18,7 @@ def entries():
 
 
 def fault(number):
-    """What a fault is, as the tools tell it at the terminal; an empty text where they have only its number."""
+    """What a fault is, as the tools print it at the terminal; an empty text if they have only its number."""
     page = program.ROOT / "workbench/faults.txt"
     found = FAULT.findall(page.read_text(encoding="ascii")) if page.is_file() else []
     return dict(found).get(str(number), "").strip(" ;")

@@ -23,7 +23,7 @@ function tell(word) {
   const box = word.getBBox(), lines = word.dataset.told.split("|");
   const width = 7.4 * Math.max(...lines.map((line) => line.length)) + 14;
   const group = word.closest(".wide, .narrow").querySelector(".tell");
-  const limit = Math.min(document.documentElement.getBoundingClientRect().width, innerWidth + scrollX);
+  const limit = word.ownerSVGElement.viewBox.baseVal.width;
   const x = Math.max(2, Math.min(box.x, limit - width - 4)), y = box.y + box.height + 4;
   group.replaceChildren(made("rect", { x, y, width, height: 17 * lines.length + 8, rx: 4 }),
     ...lines.map((line, number) => made("text", { x: x + 7, y: y + 17 * (number + 1) - 1 }, line)));

@@ -4,8 +4,10 @@ import hashlib
 import html
 import json
 import pathlib
+import re
 
 import calls
+import images
 import manual
 import screens
 import texts
@@ -13,6 +15,7 @@ import threads
 
 HERE = pathlib.Path(__file__).resolve().parent
 MARK = "<!-- a film of ./forth film -->"
+SCRIPTS = ("source.js", "film.js", "showing.js", "moves.js", "motion.js", "overtime.js", "sheet.js", "player.js")
 DO, UNLAID = 9, 100_000
 POLICY = "default-src 'none'; script-src '{}'; style-src '{}'; img-src data:"
 
@@ -31,6 +34,12 @@ def source_of(header, fence, sources, forth83, image_path):
     if done.returncode:
         return "", ""
     return done.stdout.decode("utf-8", "replace").strip(), "SEE"
+
+
+def comment_of(text, begin):
+    """The first comment from a place on; an empty text if there is none."""
+    at = text.find("( ", begin) if begin >= 0 else -1
+    return text[at:text.find(")", at) + 1] if at >= 0 else ""
 
 
 class Words:
@@ -85,15 +94,24 @@ class Words:
         """The number of what is said of a token's word."""
         text = list(self.manual.of(header))
         if header and not text[0]:
-            text = self.of_source(header)
+            text = self.of_data(header) or self.of_source(header)
         key = tuple(text)
         return self.told.setdefault(key, len(self.told))
+
+    def of_data(self, header):
+        """What a word of the screens does that VARIABLE, CREATE, CONSTANT or DOES> made; None for others."""
+        maker = self.owner.get(header.code)
+        if maker:
+            text, _ = self.source(maker)
+            says = f"Made by {texts.shown(maker.name)}: runs its words after DOES>, with the address of its data on the stack."
+            return [comment_of(text, text.find("DOES>")), says]
+        return {images.VARIABLE: ["( -- a )", "Puts the address of its data on the stack."],
+                images.CONSTANT: ["( -- n )", "Puts its number on the stack."]}.get(header.code)
 
     def of_source(self, header):
         """The first comment of its definition: its stack effect, if its author wrote one."""
         text, _ = self.source(header) if header.is_colon() else ("", "")
-        begin = text.find("( ")
-        return [text[begin:text.find(")", begin) + 1], ""] if begin >= 0 else ["", ""]
+        return [comment_of(text, 0), ""]
 
 
 def changes(before, after):
@@ -133,10 +151,16 @@ def packed_steps(film, words, loops):
     return rows
 
 
+def made_words(dictionary):
+    """The names of the words that DOES> made, by the addresses of their code and of their data."""
+    return {(header.code, header.body): texts.shown(header.name) for header in dictionary.headers if header.code >= 256}
+
+
 def frames_of(film, words, fence):
     """Each call with that in which it was made, its word, the return stack's depth before it, whether it is unfolded at first,
-    as those of the system's words aren't, and the name of the word that it goes back to."""
-    first = {}
+    as those of the system's words aren't, the name of the word that it goes back to, and the name of the word that was called if
+    DOES> made that one."""
+    first, made = {}, made_words(words.dictionary)
     for step in film.calls.steps:
         first.setdefault(step.frame, step)
     rows = []
@@ -144,7 +168,9 @@ def frames_of(film, words, fence):
         is_open = int(frame.parent is None or frame.begins >= fence)
         returns = first[number].returns if number in first else ()
         back = words.name_at(returns[frame.base]) if 0 <= frame.base < len(returns) else "?"
-        rows.append([-1 if frame.parent is None else frame.parent, words.word_at(frame.begins), frame.base, is_open, back])
+        top = first[number].data[-1] & 0xFFFF if number in first and first[number].data else None
+        rows.append([-1 if frame.parent is None else frame.parent, words.word_at(frame.begins), frame.base, is_open, back,
+                     made.get((frame.begins, top), "")])
     return rows
 
 
@@ -154,13 +180,20 @@ def faulted(film, words, root, name):
     steps = film.calls.steps
     end = next((number for number, step in enumerate(steps) if step.frame == root and step.address is None), 0)
     if not end:
-        return f"A fault ended {name} behind these steps.", -1
+        return f"A fault ended {name} after these steps.", -1
     own = next(step.address for step in reversed(steps[:end]) if step.frame == root)
     outer, inner = (words.token_at(address) for address in (own, steps[end - 1].address))
     number = steps[end].data[-1]
-    told = f"{manual.fault(number) or 'a fault'} (fault {number}) at {outer}"
+    said = manual.fault(number) or abort_text(words, steps[end - 1].address) or "a fault"
+    told = f"{said} (fault {number}) at {outer}"
     told += "" if own == steps[end - 1].address else f", within it at {inner}"
-    return f"{told}. It ended {name}: both stacks were emptied, and the fault's number was put.", words.place_of[own]
+    return f"{told}. It ended {name}: both stacks were emptied, and the fault's number was pushed.", words.place_of[own]
+
+
+def abort_text(words, address):
+    """The text of the ABORT" at an address, in quotes; an empty text if that is another word."""
+    _, _, name, taken, _ = words.entries[words.place_of[address]]
+    return f'"{taken[:-1]}"' if name == '(ABORT")' else ""
 
 
 def ending(film, how, name):
@@ -180,6 +213,18 @@ def endings(film, words, name):
             for root, how in film.calls.ends]
 
 
+def memory_of(film):
+    """The variables and arrays that the film touches: their bytes at first, and the changes, each with the step that sees it first."""
+    rows = []
+    for word in film.cells.shown() if film.cells and film.is_whole else []:
+        changes = {}
+        for step, offset, value in word.changes:
+            changes.setdefault(step, {})[offset] = value
+        rows.append({"name": texts.shown(word.header.name), "address": word.header.body, "bytes": list(word.first),
+                     "is_bytes": word.is_bytes, "changes": [[step, offset, value] for step, some in changes.items() for offset, value in some.items()]})
+    return rows
+
+
 def data_of(film, words, fence, name):
     """All that the page's script needs."""
     output = base64.b64encode(film.output[:film.marks[-1] if film.marks else UNLAID]).decode()
@@ -189,7 +234,8 @@ def data_of(film, words, fence, name):
         "name": name, "words": words.words, "places": words.entries, "told": list(words.told),
         "frames": frames_of(film, words, fence), "steps": steps, "output": output,
         "loops": [list(depths) for depths in loops.seen],
-        "begins": film.marks[0] if film.marks else 0, "is_laid": bool(film.marks),
+        "begins": film.marks[0] if film.marks else 0, "is_laid": bool(film.marks), 
+        "base": film.cells.base if film.cells and film.cells.base else 10, "memory": memory_of(film),
         "ends": endings(film, words, name), "is_cut": film.calls.met > film.calls.most,
     }
 
@@ -204,9 +250,15 @@ def hashed(text):
     return "sha256-" + base64.b64encode(hashlib.sha256(text.encode()).digest()).decode()
 
 
+def script_of(names):
+    """These files as one script; one that the page of ./forth page imports as a module only loses its `export`."""
+    texts_of_files = [(HERE / name).read_text(encoding="utf-8") for name in names]
+    return '"use strict";\n' + "\n".join(re.sub(r"^export ", "", text, flags=re.M) for text in texts_of_files)
+
+
 def page(title, line, sentences, data):
     """The page. Its script and its style are named by their sums, so that no other is done."""
-    script, style = (HERE / "film.js").read_text(encoding="utf-8"), (HERE / "film.css").read_text(encoding="utf-8")
+    script, style = script_of(SCRIPTS), (HERE / "film.css").read_text(encoding="utf-8")
     told = "".join(f"<p>{html.escape(sentence)}</p>\n" for sentence in sentences)
     template = (HERE / "film.html").read_text(encoding="utf-8")
     parts = {

@@ -9,6 +9,7 @@ import screens
 HERE = pathlib.Path(__file__).resolve().parent
 MARK = "<!-- screens of ./forth print -->"
 A_PAGE, FEW = 3, 8
+WHO = '<p class="who">Name<span></span>Date<span></span></p>'
 
 
 def figure(read, number):
@@ -55,7 +56,8 @@ def told_places(places):
 
 
 def entry(name, defined, used):
-    return f"<tr><td>{escape(name)}</td><td>{told_places(defined)}</td><td>{told_places(used) or 'nowhere here'}</td></tr>"
+    where = f"<td>{told_places(used)}</td>" if used else '<td class="none">nowhere here</td>'
+    return f"<tr><td>{escape(name)}</td><td>{told_places(defined)}</td>{where}</tr>"
 
 
 def cross_reference(references):
@@ -93,4 +95,4 @@ def document(name, parts, is_wide):
             f'<meta http-equiv="Content-Security-Policy" content="{policy}">'
             f'<meta name="viewport" content="width=device-width, initial-scale=1">'
             f"<title>{escape(name)}</title><style>{style}</style></head>")
-    return f"{head}\n<body>\n" + "\n".join(parts) + "\n</body></html>\n"
+    return f"{head}\n<body>\n{WHO}\n" + "\n".join(parts) + "\n</body></html>\n"

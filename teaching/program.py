@@ -21,7 +21,7 @@ def say(tool, text):
 
 
 def guarded(tool, act):
-    """Does what a tool does, and tells why it isn't done; the status."""
+    """Does what a tool does, or says why it cannot; the status."""
     try:
         return act()
     except Refusal as refusal:
@@ -34,7 +34,7 @@ def guarded(tool, act):
         say(tool, f"{error.filename or 'a file'}: {error.strerror}")
         return 1
     except KeyboardInterrupt:
-        say(tool, "broken off; nothing was made")
+        say(tool, "interrupted; nothing was made")
         return 130
 
 
@@ -54,7 +54,7 @@ class Progress:
 
 
 class Program:
-    """The proved program where it is there, else that without proofs, as ./forth takes them."""
+    """The proved program if it exists, otherwise the one without proofs, as ./forth chooses them."""
 
     def __init__(self):
         proved, unproved = ROOT / "crates/forth83/out/forth83", KEPT / "unproved"
@@ -80,13 +80,13 @@ class Program:
 
 
 def said_by(done):
-    """What a run of the program told, in one piece."""
+    """What a run of the program printed, in one piece."""
     said = (done.stdout + done.stderr).decode("utf-8", "replace").strip()
     return said or f"the program ended with status {done.returncode}"
 
 
 def is_made(image, program):
-    """Whether an image of the tools is there, and nothing that it is made of is newer."""
+    """Whether an image of the tools exists, and nothing that it is made of is newer."""
     sources = [program.path, ROOT / "workbench/make", *(ROOT / "workbench").glob("*.txt")]
     return image.is_file() and all(source.stat().st_mtime <= image.stat().st_mtime for source in sources)
 

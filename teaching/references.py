@@ -1,8 +1,8 @@
 """Where the words of screens are defined and used: the words are read as the Forth reads them, and nothing is executed.
 
-A comment goes up to its `)`, a text up to its quote, `\\` to the end of its line; behind `:` and `[COMPILE]` the words that
+A comment goes up to its `)`, a text up to its quote, `\\` to the end of its line; after `:` and `[COMPILE]` the words that
 begin these are names like others. A word defines the next one where it is `:`, one of the Forth's defining words outside a
-definition, or a word of these screens in whose definition such a word stands.
+definition, or a word of these screens whose definition uses such a word.
 """
 import re
 
@@ -38,7 +38,7 @@ def words(lines):
 
 
 def passed(text, word, at, line):
-    """Where the words go on behind one that ends before `at`, and may begin a comment or a text."""
+    """Where the words go on after one that ends before `at`, and may begin a comment or a text."""
     if word == "\\":
         return (line + 1) * screens.WIDTH
     if word.upper() not in ENDS:
@@ -91,7 +91,7 @@ class References:
             self.open = word
 
     def uses(self, name):
-        """Where a word that is defined here is used, also in small letters."""
+        """Where a word that is defined here is used, also in lower case."""
         places = list(self.used.get(name, []))
         if name.upper() == name and name.lower() != name:
             places += [place for word, found in self.used.items() if word != name and word.upper() == name for place in found

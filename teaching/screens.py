@@ -37,15 +37,17 @@ def count(path):
     return size // BYTES
 
 
-def character(byte):
-    """What is seen of a byte: a dot where it is no text."""
-    return chr(byte) if 32 <= byte <= 126 else "."
+def characters(data):
+    """Bytes as they are seen: as UTF-8, with a dot for each byte that isn't, and for each control byte."""
+    read = data.decode("utf-8", "surrogateescape")
+    return "".join(one if one.isprintable() else "." for one in read)
 
 
 def plain(line):
-    """A line of a screen as it is seen; one that begins with two `%` begins with one, and behind `%~` bytes are escaped."""
+    """A line of a screen as it is seen. One that begins with `%%` begins with a `%`; in one that begins with `%~` bytes are escaped."""
     if line.startswith("%~"):
-        return re.sub("~([0-9A-F]{2})", lambda found: character(int(found[1], 16)), line[2:])
+        unescaped = re.sub(b"~([0-9A-F]{2})", lambda found: bytes([int(found[1], 16)]), line[2:].encode("latin-1"))
+        return characters(unescaped)
     return line[1:] if line.startswith("%%") else line
 
 

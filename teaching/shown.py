@@ -6,7 +6,7 @@ SHOWING = {EXECUTE, TEXT, REFUSAL, PARSED, KEY, EXPECT, EMIT, TYPE}
 
 
 class Shown:
-    """Counts what is shown. `.(` shows what a trace doesn't tell: one such text in a run is what is left over."""
+    """Counts what is shown. `.(` shows what a trace doesn't have: one such text in a run is what is left over."""
 
     def __init__(self, memory, typed):
         self.memory, self.typed, self.read = memory, typed, 0
@@ -25,7 +25,7 @@ class Shown:
         return self.memory.span(address + 1, self.memory.byte(address))
 
     def meet(self, address, row, data):
-        """A step of such a row, whose token stands at an address, with this data stack before it."""
+        """A step of such a row, whose token is at an address, with this data stack before it."""
         if row == EMIT and data:
             self.show(bytes([data[-1] & 255]))
         elif row == TYPE and len(data) > 1:
@@ -40,7 +40,7 @@ class Shown:
             self.expect(data[-1] & 0xFFFF)
 
     def expect(self, most):
-        """A line of at most so many bytes is shown, and a blank behind it where a return ended it."""
+        """A line of at most so many bytes is shown, and a blank after it if a return ended it."""
         line = bytearray()
         while len(line) < most and self.read < len(self.typed):
             byte = self.typed[self.read]

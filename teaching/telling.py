@@ -2,37 +2,41 @@
 import texts
 
 WHOLE = (
-    "Each step is a line that {version} wrote by debug before it. The order of the words' steps is that of one run over a "
+    "Each step is a line that {version} wrote with debug before that step. The order of the words' steps is that of one run over a "
     "copy of the image in which the cell VOC-LINK is 0, so that debug takes all words for one. Then debug was asked for "
-    "{exact} of the {all} words, {name} first, over the image as it is: it wrote the same lines, each of them, and the run "
+    "{exact} of the {all} words, {name} first, over the image as it is: it wrote exactly the same lines, and the run "
     "showed the same and ended the same.")
-OTHERS = "Not compared so, as a search doesn't find them by name: {names}."
+OTHERS = "Not compared so, as a search does not find them by name: {names}."
 COUNTED = (
-    "Where the output stands at each step was counted by the rows that show bytes, and all bytes that these rows name are "
-    "those that the run showed, in number and, for EMIT and texts, one by one.")
+    "The output at each step was counted from the primitives that show bytes; the run showed as many bytes, and the same ones "
+    "where EMIT and texts name them.")
 UNCOUNTED = (
-    "The output can't be laid beside the steps here: more was shown than the steps tell, or more than a page takes.")
+    "The output at each step isn't known: the run showed more than its steps account for, or more than a page can hold.")
 BESIDE = (
-    "What is typed, and what the Forth shows before and behind the word, isn't in the film. Names are those that the image "
+    "What you typed, and what the Forth shows before and after the word, isn't in the film. Names are those that the image "
     "had at the start.")
+UNFOLLOWED = "What {names} {has} isn't shown, as something wrote into it that the film doesn't follow."
 ALONE = (
-    "The lines are those that {version} writes of {name} by debug, and each was written before its step. The steps of other "
-    "words aren't here: a run over a copy of the image, for the steps of all words, told other lines. That is so where a "
-    "program reads the cell VOC-LINK, which is 0 there, or alters a thread.")
+    "These are the lines that {version} wrote with debug of {name}, each before its step. The steps of other "
+    "words aren't here: a run over a copy of the image, for the steps of all words, told other lines. That happens if a "
+    "program reads the cell VOC-LINK, which is 0 there, or changes a thread.")
 OF_TRACE = (
-    "The steps are the lines of {trace}, of the word alone: what it calls is a single step, and the output isn't known.")
+    "The steps are the lines of {trace}, of this word alone: each word that it calls is a single step, and the output isn't known.")
 
 
-def making(film, taken, version):
-    """How it was made."""
+def making(film, taken, version, name):
+    """How it was made, of the word with this name."""
     if taken.trace:
         return [OF_TRACE.format(trace=taken.trace)]
     if not film.is_whole:
-        return [ALONE.format(version=version, name=taken.name)]
+        return [ALONE.format(version=version, name=name)]
     count = len(film.exact) + len(film.others)
-    told = [WHOLE.format(version=version, exact=len(film.exact), all=count, name=taken.name)]
+    told = [WHOLE.format(version=version, exact=len(film.exact), all=count, name=name)]
     if film.others:
         told.append(OTHERS.format(names=", ".join(texts.shown(word.name) for word in film.others)))
+    unknown = [texts.shown(word.header.name) for word in film.cells.unknown()]
+    if unknown:
+        told.append(UNFOLLOWED.format(names=", ".join(unknown), has="has" if len(unknown) == 1 else "have"))
     return told + [COUNTED if film.marks else UNCOUNTED, BESIDE]
 
 

@@ -19,7 +19,7 @@ def file_name(name, suffix):
 
 
 def is_ours(path, mark):
-    """Whether a file is one that the tool made: the mark stands in its first bytes."""
+    """Whether a file is one that the tool made: the mark is in its first bytes."""
     with open(path, "rb") as file:
         return mark.encode() in file.read(400)
 

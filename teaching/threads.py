@@ -1,4 +1,4 @@
-"""Threads, token by token, as they stand in an image's memory."""
+"""Threads, token by token, as they are in an image's memory."""
 
 LITERAL, TEXT, REFUSAL, COMPILE, EXIT = 6, 16, 17, 19, 5
 BRANCHES = (7, 8, 9, 10, 11)
@@ -6,7 +6,7 @@ LEADS_ON = (8, 9, 10, 11)
 
 
 class Token:
-    """A token of a thread: where it stands, what it is, and what it takes from behind it, as a text."""
+    """A token of a thread: its address, what it is, and what it takes from the bytes after it, as a text."""
 
     def __init__(self, address, code_field, row, length, taken, target=None):
         self.address, self.code_field, self.row = address, code_field, row
@@ -21,13 +21,13 @@ def token_at(dictionary, address):
     memory = dictionary.memory
     code_field = memory.cell(address)
     row = memory.cell(code_field) if code_field in dictionary.by_code_field else None
-    behind = memory.cell(address + 2)
+    following = memory.cell(address + 2)
     if row == LITERAL:
-        return Token(address, code_field, row, 4, str(signed(behind)).encode())
+        return Token(address, code_field, row, 4, str(signed(following)).encode())
     if row in BRANCHES:
-        return Token(address, code_field, row, 4, b"to %d" % behind, behind)
+        return Token(address, code_field, row, 4, b"to %d" % following, following)
     if row == COMPILE:
-        return Token(address, code_field, row, 4, dictionary.name_of(behind))
+        return Token(address, code_field, row, 4, dictionary.name_of(following))
     if row in (TEXT, REFUSAL):
         count = memory.byte(address + 2)
         return Token(address, code_field, row, 3 + count, memory.span(address + 3, count) + b'"')
@@ -35,7 +35,7 @@ def token_at(dictionary, address):
 
 
 def thread(dictionary, header):
-    """The tokens of a colon word up to its last EXIT: the one behind which no branch leads."""
+    """The tokens of a colon word up to its last EXIT: the one that no branch jumps past."""
     tokens, at, farthest = [], header.body, 0
     while at < header.end:
         token = token_at(dictionary, at)

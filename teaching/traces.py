@@ -2,7 +2,7 @@
 
 `debug` writes a line before each step of one word: from its parameter field to where the next header begins, or to HERE. It
 finds the headers by cell 52, VOC-LINK, when it begins. A copy of the image in which that cell is 0 has none of them, so that
-the lowest colon word reaches to HERE, and one run tells the steps of all words, in their order, with `?` for each name. What
+the lowest colon word reaches to HERE, and one run has the steps of all words, in their order, with `?` for each name. What
 `film` makes of such lines is compared with `debug` of each word over the image as it is.
 """
 import hashlib
@@ -47,7 +47,7 @@ class Run:
         self.setting, self.image, self.name = setting, image, name
 
     def lines(self):
-        """The lines, each with its end. Behind them status and output are known."""
+        """The lines, each with its end. After them status and output are known."""
         shown, typed = self.setting.room / "shown", self.setting.room / "typed"
         typed.write_bytes(self.setting.typed)
         words = [self.setting.forth83.path, *self.setting.words(self.image, self.name)]
@@ -67,7 +67,7 @@ class Run:
 
 
 def parsed(lines):
-    """The steps of lines in one piece: where, the name, data stack, return stack. Behind a fault its line number comes."""
+    """The steps of lines in one piece: where, the name, data stack, return stack. After a fault its line number comes."""
     at, number = 0, 1
     while at < len(lines):
         match = LINE.match(lines, at)

@@ -15,7 +15,24 @@ OPTIONS = ("--headless", "--no-sandbox", "--disable-gpu", "--hide-scrollbars", "
            "--disable-background-networking")
 NAMES = ("chromium", "chromium-browser", "google-chrome")
 CODES = {"ArrowLeft": 37, "ArrowUp": 38, "ArrowRight": 39, "ArrowDown": 40, "PageUp": 33, "PageDown": 34, "End": 35, "Home": 36,
-         "Tab": 9, "Enter": 13}
+         "Tab": 9, "Enter": 13, " ": 32}
+SHIFT = 8
+
+# Texts whose color and background differ by less than 4.5 to 1, which WCAG 2.1 wants at level AA.
+CONTRAST = """(() => {
+  const channel = (part) => (part /= 255, part <= 0.03928 ? part / 12.92 : ((part + 0.055) / 1.055) ** 2.4);
+  const numbers = (text) => (text.match(/[\\d.]+/g) || [0, 0, 0, 0]).map(Number);
+  const light = (color) => { const [r, g, b] = numbers(color).map(channel); return 0.2126 * r + 0.7152 * g + 0.0722 * b };
+  const behind = (one) => { for (; one; one = one.parentElement) { const color = getComputedStyle(one).backgroundColor, parts = numbers(color);
+    if (parts.length === 3 || parts[3] > 0) return color; } return "rgb(255, 255, 255)" };
+  const low = [];
+  for (const one of document.querySelectorAll("body *")) {
+    if (!one.offsetParent || one.closest("[aria-hidden], option") || ![...one.childNodes].some((it) => it.nodeType === 3 && it.textContent.trim())) continue;
+    const pair = [light(getComputedStyle(one).color), light(behind(one))].sort((a, b) => b - a), ratio = (pair[0] + 0.05) / (pair[1] + 0.05);
+    if (ratio < 4.5) low.push(`${one.tagName} ${one.id} ${one.className} ${ratio.toFixed(1)}`);
+  }
+  return [...new Set(low)];
+})()"""
 
 
 def chromium():
@@ -105,12 +122,20 @@ class Browser:
             while "Page.loadEventFired" not in self.events:
                 self.note(self.receive())
 
-    def size(self, width, height):
-        self.call("Emulation.setDeviceMetricsOverride", width=width, height=height, deviceScaleFactor=1, mobile=False)
+    def size(self, width, height, scale=1):
+        """The window's size in pixels of the page; SCALE is how many pixels of the screen one of these is, as a browser zooms."""
+        self.call("Emulation.setDeviceMetricsOverride", width=width, height=height, deviceScaleFactor=scale, mobile=False)
+
+    def prefers(self, **features):
+        """What the reader prefers: `prefers(color_scheme="dark", reduced_motion="reduce")`."""
+        values = [{"name": f"prefers-{name.replace('_', '-')}", "value": value} for name, value in features.items()]
+        self.call("Emulation.setEmulatedMedia", features=values)
 
     def press(self, *names):
+        """Presses keys by their names; `Shift+End` holds the shift key."""
         for name in names:
-            one = {"key": name, "windowsVirtualKeyCode": CODES.get(name, ord(name[0].upper()))}
+            is_shifted, name = name.startswith("Shift+"), name[6:] if name.startswith("Shift+") else name
+            one = {"key": name, "windowsVirtualKeyCode": CODES.get(name, ord(name[0].upper())), "modifiers": SHIFT if is_shifted else 0}
             if len(name) == 1:
                 one["text"] = name
             self.call("Input.dispatchKeyEvent", type="keyDown", **one)
@@ -122,9 +147,23 @@ class Browser:
             raise RuntimeError(str(done["exceptionDetails"]))
         return done["result"].get("value")
 
+    def wait(self, expression, seconds=10):
+        """Waits until an expression is true; an error if it doesn't become so."""
+        end = time.monotonic() + seconds
+        while not self.value(expression):
+            if time.monotonic() > end:
+                raise RuntimeError(f"this didn't come true in {seconds} seconds: {expression}")
+            time.sleep(0.02)
+
     def picture(self, path):
         with open(path, "wb") as file:
             file.write(base64.b64decode(self.call("Page.captureScreenshot")["data"]))
+
+    def nameless(self, roles):
+        """The accessible elements of these roles that have no name, as a screen reader finds them."""
+        nodes = [node for node in self.call("Accessibility.getFullAXTree")["nodes"] if not node.get("ignored")]
+        return [node["role"]["value"] for node in nodes
+                if node.get("role", {}).get("value") in roles and not node.get("name", {}).get("value")]
 
     def paper(self, path):
         done = self.call("Page.printToPDF", preferCSSPageSize=True)

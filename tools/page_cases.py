@@ -15,98 +15,12 @@ from page_trials import Cases, Trial
 
 ROOT = pathlib.Path(__file__).resolve().parent.parent
 PAGE = ROOT / "page"
+# Modules in teaching/ that the page uses, too.
+SHARED = {"source.js", "moves.js"}
 sys.path.insert(0, str(PAGE))
 
 import assembly  # noqa: E402
 import contents  # noqa: E402
-import records  # noqa: E402
-import retarget  # noqa: E402
-
-LAYOUT = "e-m:e-p:32:32"
-# Lines of a module, and what they become for 32 bits.
-NARROWED = [
-    ("  %r1 = alloca ptr, align 8", ["  %r1 = alloca i64, align 8"]),
-    ("  store ptr %a0, ptr %r1, align 8", ["  %narrow.1 = ptrtoint ptr %a0 to i64", "  store i64 %narrow.1, ptr %r1, align 8"]),
-    ('  store ptr @"a, b::<c>", ptr %r1, align 8', ['  %narrow.1 = ptrtoint ptr @"a, b::<c>" to i64', "  store i64 %narrow.1, ptr %r1, align 8"]),
-    ("  %r2 = load ptr, ptr %r1, align 8, !noundef !1",
-     ["  %narrow.1.number = load i64, ptr %r1, align 8", "  %r2 = inttoptr i64 %narrow.1.number to ptr"]),
-    ("  %r4 = ptrtoaddr ptr %r3 to i64", ["  %r4 = ptrtoint ptr %r3 to i64"]),
-    ("  %r5 = load i64, ptr %r4, align 8, !range !2", ["  %r5 = load i64, ptr %r4, align 8, !range !2"]),
-    ('  %r6 = call i8 @"forth83_c::running::load"(ptr %r12, i64 %r18)', ['  %r6 = call i8 @"forth83_c::running::load"(ptr %r12, i64 %r18)']),
-    ("  %r7 = load { ptr, i64 }, ptr %r6, align 8",
-     ["  %narrow.1.at = getelementptr i8, ptr %r6, i64 8", "  %narrow.1.a.number = load i64, ptr %r6, align 8",
-      "  %narrow.1.a = inttoptr i64 %narrow.1.a.number to ptr", "  %narrow.1.b = load i64, ptr %narrow.1.at, align 8",
-      "  %narrow.1.one = insertvalue { ptr, i64 } poison, ptr %narrow.1.a, 0",
-      "  %r7 = insertvalue { ptr, i64 } %narrow.1.one, i64 %narrow.1.b, 1"]),
-]
-# Lines that might count on pointers of 8 bytes, or that nobody has looked at.
-REFUSED = [
-    "  %r1 = load { i8, [2 x ptr] }, ptr %r0, align 8",
-    "  store { ptr, i64 } %r0, ptr %r1, align 8",
-    "  %r1 = alloca [2 x ptr], align 8",
-    "  %r1 = alloca { i64, ptr }, align 8",
-    "  %r1 = getelementptr ptr, ptr %r0, i64 1",
-    "  %r1 = getelementptr { i64, ptr }, ptr %r0, i64 1",
-    "  %r1 = load volatile ptr, ptr %r0, align 8",
-    "  %r1 = atomicrmw add ptr %r0, i64 1 seq_cst",
-    "  %r1 = va_arg ptr %r0, i64",
-    "  %r1 = call ptr @llvm.ptrmask.p0.i64(ptr %r0, i64 7)",
-    "  %r1 = load ptr, ptr %r0",
-    "@table = private constant [2 x ptr] [ptr @a, ptr @b]",
-    "@table = global i64 0",
-    "module asm \"nop\"",
-]
-
-
-def rewritten(line: str) -> List[str]:
-    return list(retarget.rewritten([line], LAYOUT, "wasm32"))
-
-
-def check_retarget(cases: Cases) -> None:
-    """The lines that are rewritten, kept and refused."""
-    for line, wanted in NARROWED:
-        cases.must(rewritten(line) == wanted, f"retarget: {line} became {rewritten(line)}")
-    for line in REFUSED:
-        try:
-            told = str(rewritten(line))
-        except retarget.Unknown as error:
-            told = f"refused: {error}"
-        cases.must(told.startswith("refused: ") and line.strip() in told, f"retarget doesn't refuse {line}: {told}")
-    cases.must(rewritten('target datalayout = "e-i64"') == [f'target datalayout = "{LAYOUT}"'], "the layout")
-    cases.must(rewritten('attributes #0 = { nounwind sanitize_address "frame-pointer"="all" }') == ["attributes #0 = { nounwind }"], "attributes")
-    cases.must(rewritten("declare void @rattle_dealloc(ptr noundef) #2") == [], "the heap's declarations")
-    program = ['define i32 @main() #0 {', '  ret i32 0', '}', 'define internal noundef i32 @"c::forth83_run"(ptr %a0) #0 {', "}"]
-    kept = [retarget.rename(line, "c::") for line in retarget.without_main(program, "c::")]
-    cases.must(kept == ["define noundef i32 @forth83_run(ptr %a0) #0 {", "}"], f"the exports: {kept}")
-
-
-RECORDS = """pub struct Small {
-    pub one: u8,
-    pub two: u16,
-}
-
-pub struct Big {
-    pub count: u32,
-    pub smalls: [Small; 3],
-    pub end: usize,
-}
-"""
-CALLS = 'pub extern "C" fn forth83_go(alloc: Global, big: &mut Big, text: &[u8], n: u16) -> u32\n'
-
-
-def check_records(cases: Cases) -> None:
-    """Records by the rules of C, and what calls want."""
-    with tempfile.TemporaryDirectory() as name:
-        (pathlib.Path(name) / "src").mkdir()
-        (pathlib.Path(name) / "src/record.rt").write_text(RECORDS, encoding="utf-8")
-        (pathlib.Path(name) / "src/lib.rt").write_text(CALLS, encoding="utf-8")
-        found, calls = records.records(pathlib.Path(name)), records.calls(pathlib.Path(name))
-    cases.must(found["Small"].size == 4 and [it.place for it in found["Small"].fields] == [0, 2], f"Small: {found['Small']}")
-    cases.must(found["Big"].size == 24 and [it.place for it in found["Big"].fields] == [0, 4, 16], f"Big: {found['Big']}")
-    wanted = "record::Big { count: 0, smalls: [record::Small { one: 0, two: 0 }; 3], end: 0 }"
-    cases.must(records.zero("Big", found) == wanted, f"zeros: {records.zero('Big', found)}")
-    cases.must(calls == [records.Call("forth83_go", ["Global", "&mut Big", "&[u8]", "u16"])], f"calls: {calls}")
-
 
 LESSONS = """# A course
 
@@ -142,14 +56,18 @@ WORDS = """### 1. The data stack
 
 def check_contents(cases: Cases) -> None:
     """The lessons and the manual."""
-    made = contents.lessons(LESSONS)
+    made = contents.lessons(LESSONS, {2: ["for another lesson"]})
     cases.must(made == [{"number": 1, "title": "1. First `lines`", "disk": "course.blk", "screen": 21, "html": FIRST}], f"a lesson: {made}")
+    helped = contents.lessons(LESSONS, contents.hints("% lesson 1\n+: a < b\n.: last\n% lesson 2\nno\n"))[0]["html"]
+    wanted = FIRST + "<details><summary>Hints</summary><ul><li>+: a &lt; b</li><li>.: last</li></ul></details>"
+    cases.must(helped == wanted, f"a lesson with hints: {helped}")
     words = contents.manual(WORDS, ": INNER1 ( -- ) INSIDE\n  OTHER ;")
     cases.must(words == [["DUP", "( x -- x x )", "The data stack", "Copies the <code>top</code>."]], f"the manual: {words}")
     block = "% AT".ljust(64) + " " * 64 + "B".ljust(896)
     cases.must(contents.disk_of_blocks((" " * 1024 + block).encode()) == {"count": 2, "text": "% screen 1\n%% AT\n\nB\n"}, "a disk of text")
     cases.must(contents.disk_of_blocks(bytes(1024)) == {"bytes": "A" * 1366 + "=="}, "a disk of zeros")
-    cases.must(len(contents.lessons(contents.text_of("docs/COURSE.md"))) >= 12, "the course has fewer than twelve lessons")
+    whole = contents.lessons(contents.text_of("docs/COURSE.md"), contents.hints(contents.text_of("teaching/hints.txt")))
+    cases.must(sum("<summary>Hints" in lesson["html"] for lesson in whole) >= 14, "the course has fewer than fourteen lessons with hints")
 
 
 def check_canvas(cases: Cases) -> None:
@@ -169,7 +87,7 @@ def check_canvas(cases: Cases) -> None:
 def check_assembly(cases: Cases) -> None:
     """The modules in one script: each after those that it imports, with no name twice; data that can't end the script."""
     order = assembly.in_order("main.js", [])
-    cases.must(set(order) == {file.name for file in PAGE.glob("*.js")}, f"modules that main.js doesn't use: {order}")
+    cases.must(set(order) == {file.name for file in PAGE.glob("*.js")} | SHARED, f"modules that main.js doesn't use: {order}")
     for at, name in enumerate(order):
         later = [it for it in assembly.IMPORT.findall(assembly.text_of(name)) if it not in order[:at]]
         cases.must(not later, f"{name} comes before {later}")
@@ -229,7 +147,7 @@ def in_node(script: str, given: str = "") -> object:
     if not node:
         return None
     with tempfile.TemporaryDirectory() as name:
-        for file in PAGE.glob("*.js"):
+        for file in [*PAGE.glob("*.js"), *(assembly.SHARED / name for name in SHARED)]:
             shutil.copy(file, pathlib.Path(name) / file.name)
         (pathlib.Path(name) / "package.json").write_text('{"type": "module"}', encoding="utf-8")
         (pathlib.Path(name) / "case.mjs").write_text(script, encoding="utf-8")
@@ -274,7 +192,7 @@ def check_modules(cases: Cases) -> None:
 
 def check(cases: Cases) -> None:
     """All that needs no program."""
-    for part in (check_retarget, check_records, check_contents, check_canvas, check_assembly, check_unpacking, check_modules):
+    for part in (check_contents, check_canvas, check_assembly, check_unpacking, check_modules):
         part(cases)
 
 

@@ -172,6 +172,7 @@ def check_advice(trial: Trial, room: pathlib.Path) -> None:
     trial.must("one habit each" in trial.text("old-preview"), f"the first screen of an old disk: {trial.text('old-preview')!r}")
     trial.click("old-dialect")
     trial.must(trial.wait("page.session.disk.name === 'dialect fig.blk' && page.session.waitsForLine", 15), "the dialect's disk isn't put in")
+    trial.wait("page.transcript.text().includes('1001 LOAD  ok')", 60)
     trial.must("1001 LOAD  ok" in trial.shown(), f"the dialect isn't loaded: {trial.shown()[-200:]!r}")
     trial.click("old-insert")
     trial.must(trial.wait("page.session.disk.name === 'kiln.blk'", 15), "an old disk isn't put in")

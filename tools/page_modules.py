@@ -10,11 +10,10 @@ import tempfile
 from typing import Dict, List, Tuple
 
 ROOT = pathlib.Path(__file__).resolve().parent.parent
-sys.path[:0] = [str(ROOT / "page"), str(ROOT / "examples/embed")]
+sys.path[:0] = [str(ROOT / "targets"), str(ROOT / "examples/embed")]
 
-import module  # noqa: E402
+import libraries  # noqa: E402
 import records  # noqa: E402
-import retarget  # noqa: E402
 
 BLOCKS, PAGE, ROOM, BATCH = 16, 1024, 131072, 25
 STOPS = {"halted": 0, "limit": 1, "room": 2, "typed": 3, "block": 4}
@@ -121,26 +120,8 @@ def plans(count: int) -> List[Plan]:
 
 def native_library(room: pathlib.Path, is_proved: bool) -> pathlib.Path:
     """The library for this process, from the same lowered code as the module."""
-    shared = room / "libforth83.so"
-    kit = pathlib.Path(module.called(["bash", "-c", 'dirname "$(dirname "$(readlink -f "$(command -v rt)")")"']).strip())
-    if is_proved:
-        # The page's making has built the archive, unless the module was kept from an earlier one.
-        archive = ROOT / "crates/forth83_c/out/libforth83_c.a"
-        if not archive.is_file():
-            run([ROOT / "build-library", room / "library"])
-        run(["cc", "-shared", "-o", shared, "-Wl,--whole-archive", archive, kit / "c/liblibc_c.a", "-Wl,--no-whole-archive"])
-        return shared
-    (room / "lowering").mkdir()
-    lowered = module.lower_unproved(room / "lowering")
-    clang = kit / "toolchain/bin/clang"
-    run([clang, "-Wno-override-module", "-x", "ir", lowered, "-S", "-emit-llvm", "-O0", "-Xclang", "-disable-llvm-passes", "-o", room / "module.ll"])
-    with open(room / "module.ll", encoding="utf-8") as source, open(room / "native.ll", "w", encoding="utf-8") as target:
-        lines = (line.rstrip("\n") for line in source)
-        for line in retarget.without_main(lines, "forth83_c::"):
-            line = retarget.rename(line, "forth83_c::")
-            target.write((retarget.attributes_for(line) if line.startswith("attributes") else line) + "\n")
-    run([clang, "-Wno-override-module", "-fPIC", "-O2", "-x", "ir", room / "native.ll", "-c", "-o", room / "native.o"])
-    run(["cc", "-shared", "-o", shared, room / "native.o", "-Wl,--whole-archive", kit / "c/liblibc_c.a", "-Wl,--no-whole-archive"])
+    archive, shared = libraries.native(room, is_proved), room / "libforth83.so"
+    run(["cc", "-shared", "-o", shared, "-Wl,--whole-archive", archive, "-Wl,--no-whole-archive"])
     return shared
 
 

@@ -359,6 +359,25 @@ def marked_in_source(trial: Trial) -> None:
     trial.must(trial.value("document.getElementById('film-source').hidden"), "a source that was changed is shown")
 
 
+def film_controls(trial: Trial) -> None:
+    """A film's variables, a presenter's remote, and the space bar."""
+    trial.type("VARIABLE PURSE")
+    trial.type(": PAYS PURSE +! ;")
+    trial.value("page.tab('film'); page.film.last = null; page.film.make('5 PURSE ! 3 PAYS'); 0")
+    trial.wait("!!page.film.last", 20)
+    for at, wanted in ((0, "PURSE5"), (1, "PURSE5"), (2, "PURSE8"), (3, "PURSE8")):
+        trial.value(f"page.film.go({at})")
+        trial.must(trial.text("film-memory").split() == [wanted], f"the variables at step {at}: {trial.text('film-memory')!r}")
+    trial.value("document.getElementById('film-show').focus()")
+    for key, code, wanted in (("Home", 36, "step 1 of 4"), ("PageDown", 34, "step 2 of 4"), ("PageDown", 34, "step 3 of 4"), ("PageUp", 33, "step 2 of 4")):
+        trial.press(key, code)
+        trial.must(trial.text("film-number") == wanted, f"{key} in a film: {trial.text('film-number')!r} in place of {wanted!r}")
+    trial.press(" ", 32)
+    trial.must(trial.text("film-play") == "Pause", "the space bar doesn't play a film")
+    trial.press(" ", 32)
+    trial.must(trial.text("film-play") == "Play", "the space bar doesn't stop a film")
+
+
 def film(trial: Trial) -> None:
     """The steps of a line; the map of the memory; the manual."""
     trial.type(": SQUARES 0 ?DO I DUP * . LOOP ;")
@@ -375,6 +394,7 @@ def film(trial: Trial) -> None:
     trial.must(trial.text("film-number").startswith("step 2 of"), "an arrow in the film")
     trial.must(not trial.shown().rstrip().endswith("3 SQUARES"), "the film changed the session")
     marked_in_source(trial)
+    film_controls(trial)
     trial.value("page.tab('map')")
     trial.must("SQUARES" in trial.text("map-words") and "your words" in trial.text("map-parts"), "the map")
     seek = "{ const s = document.getElementById('words-sought'); s.value = '%s'; s.dispatchEvent(new Event('input')) }"
@@ -399,12 +419,12 @@ def class_list(trial: Trial) -> None:
                 "new File([looping.bytes], 'eve.blk'), new File(['x'], 'odd.txt')]).then(() => (window.checked = true)); 0")
     trial.must(trial.wait("window.checked", 60), "a class list isn't made")
     rows = trial.value("[...document.querySelectorAll('#class-rows tr')].map((row) => [...row.children].map((cell) => cell.textContent).join(' '))")
-    wanted = ["ada.blk ✓ ✓ ✓ ✓ ✓ ✓ ✓ ✓ ✓ ✓ ✓ ✓ 12", "bob.blk · · · · · · · · · · · · 0", "eve.blk ∞ ∞ ✗ · · · · · · · · · 0",
+    wanted = ["ada.blk ✓ ✓ ✓ ✓ ✓ ✓ ✓ ✓ ✓ ✓ ✓ ✓ ✓ ✓ 14", "bob.blk · · · · · · · · · · · · · · 0", "eve.blk ∞ ∞ ✗ · · · · · · · · · · · 0",
               "odd.txt neither blocks nor a whole session"]
     trial.must(rows == wanted, f"the class list: {rows}")
     told = trial.value("document.querySelectorAll('#class-rows tr')[2].children[3].title")
     trial.must("CUBE leaves" in told and "is wanted" in told, f"what is wrong in a pupil's lesson: {told!r}")
-    trial.must(trial.value("page.classList.csv().split('\\r\\n')[3]").startswith('"eve.blk","endless","endless","wrong","empty"'), "the list as CSV")
+    trial.must(trial.value("page.classList.csv().split('\\r\\n')[3]").startswith('"eve.blk","endless L","endless","wrong CUBE","empty"'), "the list as CSV")
     cheats(trial)
 
 
@@ -414,7 +434,7 @@ CHEATS = {
     "other words for trials": (3, [": CUBE ; : TWIST ; : SUMSQ ;", ': T{ ; : -> ; : }T ; : NEEDS BL WORD DROP ; : ALL-RIGHT', '  CR ." Lesson 3 is right." ;']),
     "a blank checker": (3, ["43 BLOCK 1024 32 FILL UPDATE", ": CUBE ; : TWIST ; : SUMSQ ;", "CR .( Lesson 3 is right.)"]),
     "no trial is wrong": (3, [": CUBE ; : TWIST ; : SUMSQ ;", ": OVER-WITH ; ' OVER-WITH ' CUBE DROP DROP", ": }T SCLEAR ;"]),
-    "another ALL-RIGHT at once": (2, [": MINUTES ; : FAHRENHEIT ; : BORDER ;", ": NEEDS CR .\" Lesson 2 is right.\" 1024 >IN ! ;"]),
+    "another ALL-RIGHT at once": (2, [": MINUTES ; : FAHRENHEIT ; : BORDER ;", ": NEEDS CR .\" Lesson 2 is right.\" QUIT ;"]),
     "an end before the trials": (1, ["CR .( Lesson 1 is right.) QUIT"]),
 }
 
@@ -427,10 +447,10 @@ def cheats(trial: Trial) -> None:
                     "page.classList.check([new File([tricky.bytes], 'x.blk')]).then(() => (window.checked = true)); 0")
         trial.must(trial.wait("window.checked", 60), f"a class list with {what} isn't made")
         marks = trial.value("page.classList.rows[0].results.map((one) => one.mark)")
-        trial.must(marks.count("right") == 0 and marks.count("empty") == 11, f"a pupil deceives the class list: {what}: {marks}")
+        trial.must(marks.count("right") == 0 and marks.count("empty") == 13, f"a pupil deceives the class list: {what}: {marks}")
         told = trial.value(f"page.classList.rows[0].results[{lesson - 1}].text")
         trial.must(told.startswith("The checker was deceived: "), f"{what} doesn't deceive the Forth's checker: {told}")
-    forged = [f"{screen}, pageOf(['CR .( Lesson {screen - 40} is right.)']).page" for screen in range(41, 53)]
+    forged = [f"{screen}, pageOf(['CR .( Lesson {screen - 40} is right.)']).page" for screen in range(41, 55)]
     trial.value(f"window.tricky = {course}; {''.join(f'tricky.put({one});' for one in forged)} tricky.put(23, pageOf([': CUBE ;']).page); "
                 "window.checked = false; page.classList.check([new File([tricky.bytes], 'x.blk')]).then(() => (window.checked = true)); 0")
     trial.wait("window.checked", 60)
@@ -455,7 +475,7 @@ POINTS = """[[0, 0], [1, 0], [2, 0], [0, 1], [319, 199]].map(([x, y]) =>
 
 def canvas(trial: Trial) -> None:
     """The words of draw.blk draw on the page's canvas, and sound."""
-    trial.value("page.course.find('13. Pictures and tones'); page.course.insert()")
+    trial.value("page.course.find('15. Pictures and tones'); page.course.insert()")
     trial.wait("page.session.disk.name === 'draw.blk'")
     trial.idle()
     trial.value("page.tab('canvas'); window.heard = []; page.canvas.sound = (hertz, seconds) => heard.push([hertz, seconds]); 0")
@@ -486,9 +506,7 @@ def names(trial: Trial) -> None:
     trial.value("document.querySelectorAll('details').forEach((one) => (one.open = true))")
     for tab in TABS:
         trial.value(f"page.tab('{tab}')")
-        nodes = trial.browser.call("Accessibility.getFullAXTree")["nodes"]
-        nameless = [one["role"]["value"] for one in nodes if not one.get("ignored") and one.get("role", {}).get("value") in NAMED
-                    and not one.get("name", {}).get("value")]
+        nameless = trial.browser.nameless(NAMED)
         trial.must(not nameless, f"controls without a name in {tab}: {nameless[:4]}")
         wanted = trial.value(f"[...document.querySelectorAll('#{tab} button, #{tab} input, #{tab} select, #{tab} textarea')].filter((one) => "
                              "one.offsetParent && !one.disabled && !one.closest('table, article')).map((one) => one.id).filter((id) => id)")
@@ -500,31 +518,15 @@ def names(trial: Trial) -> None:
         trial.must(set(wanted) <= reached, f"the Tab key doesn't reach {sorted(set(wanted) - reached)}")
 
 
-CONTRAST = """(() => {
-  const channel = (part) => (part /= 255, part <= 0.03928 ? part / 12.92 : ((part + 0.055) / 1.055) ** 2.4);
-  const numbers = (text) => (text.match(/[\\d.]+/g) || [0, 0, 0, 0]).map(Number);
-  const light = (color) => { const [r, g, b] = numbers(color).map(channel); return 0.2126 * r + 0.7152 * g + 0.0722 * b };
-  const behind = (one) => { for (; one; one = one.parentElement) { const color = getComputedStyle(one).backgroundColor, parts = numbers(color);
-    if (parts.length === 3 || parts[3] > 0) return color; } return "rgb(255, 255, 255)" };
-  const low = [];
-  for (const one of document.querySelectorAll("body *")) {
-    if (!one.offsetParent || one.closest("[aria-hidden], option") || ![...one.childNodes].some((it) => it.nodeType === 3 && it.textContent.trim())) continue;
-    const pair = [light(getComputedStyle(one).color), light(behind(one))].sort((a, b) => b - a), ratio = (pair[0] + 0.05) / (pair[1] + 0.05);
-    if (ratio < 4.5) low.push(`${one.tagName} ${one.id} ${one.className} ${ratio.toFixed(1)}`);
-  }
-  return [...new Set(low)];
-})()"""
-
-
 def contrast(trial: Trial) -> None:
     """Text has a contrast of 4.5 to 1 at least, in both colors (AA)."""
     for scheme in ("light", "dark"):
-        trial.browser.call("Emulation.setEmulatedMedia", features=[{"name": "prefers-color-scheme", "value": scheme}])
+        trial.browser.prefers(color_scheme=scheme)
         for tab in TABS:
             trial.value(f"page.tab('{tab}')")
-            low = trial.value(CONTRAST)
+            low = trial.value(browsers.CONTRAST)
             trial.must(not low, f"contrast in {tab}, {scheme}: {low[:4]}")
-    trial.browser.call("Emulation.setEmulatedMedia", features=[{"name": "prefers-color-scheme", "value": "light"}])
+    trial.browser.prefers(color_scheme="light")
 
 
 PRINTED = """(() => {

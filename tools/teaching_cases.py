@@ -8,6 +8,7 @@ TEACHING = ROOT / "teaching"
 sys.path.insert(0, str(TEACHING))
 
 import calls  # noqa: E402
+import cells  # noqa: E402
 import images  # noqa: E402
 import page  # noqa: E402
 import program  # noqa: E402
@@ -161,6 +162,37 @@ def check_made_words(cases):
                [(step.address, step.frame) for step in taken.steps])
 
 
+def data_word():
+    """The memory of hand_made, where TWICE is a variable of four bytes at 289, of a screen."""
+    memory = hand_made()
+    for address, value in ((287, images.VARIABLE), (54, 277), (289, 0), (291, 0)):
+        memory.set_cell(address, value)
+    return memory
+
+
+def check_cells(cases_of):
+    """Writes in their order; a read that finds something else; a move from bytes that aren't known."""
+    memory = data_word()
+    for what, lines, wanted in (
+            ("a store", ((97, (258, 289)),), [2, 1, 0, 0]), ("an addition", ((97, (255, 289)), (100, (2, 289))), [1, 1, 0, 0]),
+            ("a double, its high cell first", ((102, (3, 4, 289)),), [4, 0, 3, 0]), ("a byte", ((99, (7, 292)),), [0, 0, 0, 7]),
+            ("an overlapping move", ((99, (9, 289)), (103, (289, 290, 3))), [9, 9, 9, 9]),
+            ("the same from its end", ((99, (9, 289)), (104, (289, 290, 3))), [9, 9, 0, 0]), ("too few cells", ((97, (289,)),), [0, 0, 0, 0])):
+        followed = cells.Cells(memory, images.Dictionary(memory))
+        followed.begin()
+        for step, (row, data) in enumerate(lines, 1):
+            followed.meet(row, 0, data, step, True)
+        cases_of.same(f"bytes after {what}", wanted, list(followed.memory.span(289, 4)))
+    for what, row, data, after, wanted in (
+            ("a read of what is held", 96, (289,), (0,), ["TWICE"]), ("a read of something else", 96, (289,), (1,), []),
+            ("a move from after the dictionary", 103, (500, 289, 2), (), []), ("a line that is typed", 119, (289, 4), (), [])):
+        followed = cells.Cells(memory, images.Dictionary(memory))
+        followed.meet(row, 0, data, 1, True)
+        if followed.test:
+            followed.check(after)
+        cases_of.same(f"what is shown after {what}", wanted, [word.header.name.decode() for word in followed.shown()])
+
+
 def check_shown(cases):
     """What rows show: a byte, so many of a text, a line with its blank; and bytes that the run didn't show."""
     memory = images.Memory(bytes(300))
@@ -222,6 +254,6 @@ def check_language(cases):
 
 
 def check(cases):
-    for act in (check_images, check_headers, check_lines, check_calls, check_made_words, check_shown, check_references,
+    for act in (check_images, check_headers, check_lines, check_calls, check_made_words, check_cells, check_shown, check_references,
                 check_texts, check_language):
         act(cases)

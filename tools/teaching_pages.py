@@ -10,18 +10,20 @@ def check_keys(tree, one):
     tree.film("SQUARES", "5 SQUARES")
     one.open(tree.room / "film.html")
     for keys, count, text in (
-            ([], "1 of 39", "next: (LIT) 0"),
-            (["ArrowRight"], "2 of 39", "next: (DO)"),
-            (["ArrowLeft"], "1 of 39", "next: (LIT) 0"),
+            ([], "1 of 39", "next: 0"),
+            (["ArrowRight"], "2 of 39", "next: DO"),
+            (["ArrowLeft"], "1 of 39", "next: 0"),
             (["End"], "39 of 39", "SQUARES is done."),
             (["ArrowRight"], "39 of 39", "SQUARES is done."),
-            (["Home"], "1 of 39", "next: (LIT) 0"),
-            (["PageDown"], "11 of 39", "next: SQUARE ( n -- n*n )"),
+            (["Home"], "1 of 39", "next: 0"),
+            (["PageDown", "PageDown"], "3 of 39", "next: I"),
+            (["PageUp"], "2 of 39", "compiled as (DO) to "),
+            (["Home", "Shift+ArrowRight"], "11 of 39", "next: SQUARE ( n -- n*n )"),
             (["ArrowDown"], "12 of 39", "next: DUP"),
             (["ArrowUp"], "11 of 36", "next: SQUARE"),
             (["a"], "25 of 109", "next: SQUARE"),
             (["a"], "8 of 24", "next: SQUARE"),
-            (["Home", "PageDown", "PageUp"], "1 of 24", "next: (LIT) 0")):
+            (["Home", "Shift+PageDown", "Shift+PageUp"], "1 of 24", "next: 0")):
         one.press(*keys)
         tree.cases.same(f"steps behind {keys}", f"step {count}", one.value(COUNT))
         tree.cases.holds(f"what comes next behind {keys}", text, one.value(NEXT))
@@ -85,7 +87,7 @@ def check_long(tree, one):
     one.press("End")
     tree.cases.same("the end of a long film", "step 120004 of 120004", one.value(COUNT))
     one.press("ArrowLeft", "ArrowLeft")
-    tree.cases.holds("what comes at the end of a long film", "(LOOP)", one.value(NEXT))
+    tree.cases.holds("what comes at the end of a long film", "LOOP", one.value(NEXT))
 
 
 def check_cut(tree, one):
@@ -95,17 +97,25 @@ def check_cut(tree, one):
         one.open(tree.room / name)
         one.press("End")
         tree.cases.same(f"the end of {name}", f"step {count}", one.value(COUNT))
-        tree.cases.holds(f"what is told at the end of {name}", "The film ends here; the run went on.", one.value(NEXT))
+        tree.cases.holds(f"what is told at the end of {name}", "The film ends here; the run continued.", one.value(NEXT))
         tree.cases.same(f"whether {name} says that the word is done", False, "is done" in one.value(NEXT))
 
 
 def check_paper(tree, one):
-    """The page of exercises has the stacks blank but at the first step, and the answers behind it."""
+    """The page of exercises has the data stack and the output blank except at the first step, with room for a name, and the answers
+    after it; each row has its address."""
     one.open(tree.room / "film.html")
     one.value('document.getElementById("blank").click()')
-    rows = 'Array.from(document.querySelectorAll("#sheet table"), (table) => table.rows[{}].cells[2].textContent)'
+    rows = 'Array.from(document.querySelectorAll("#sheet table"), (table) => table.rows[{}].cells[3].textContent)'
     tree.cases.same("the data stack on paper at step 1", ["5", "5"], one.value(rows.format(1)))
     tree.cases.same("the data stack on paper at step 5", ["", "0"], one.value(rows.format(5)))
+    addresses = ('Array.from(document.querySelectorAll("#sheet .exercise tbody tr"), (row) => row.cells[1].textContent)'
+                 '.slice(0, 3).join()')
+    first = one.value("film.places[steps[0][0]][0]")
+    tree.cases.same("the addresses on paper: a number, DO, the loop's first word", f"{first},{first + 4},{first + 8}", one.value(addresses))
+    tree.cases.same("the line for name and date", "NameDate", one.value('document.querySelector("#sheet .who").textContent'))
+    blank = 'Array.from(document.querySelectorAll("#sheet .exercise tbody tr"), (row) => row.cells[4].textContent).join("")'
+    tree.cases.same("the output in the exercise", "", one.value(blank))
     one.paper(tree.room / "film.pdf")
     tree.cases.same("a film on paper", b"%PDF", (tree.room / "film.pdf").read_bytes()[:4])
     one.open(tree.room / "few.html")
@@ -115,8 +125,15 @@ def check_paper(tree, one):
     tree.cases.same("how far heads of tables stand from their first cells", [0, 0], one.value(edges))
     one.open(tree.room / "life.html")
     one.paper(tree.room / "life.pdf")
-    tree.cases.same("pages of life: two of screens, one of shadows' width, index and words", True,
-                    (tree.room / "life.pdf").read_bytes().count(b"/Type /Page\n") >= 4)
+    tree.cases.same("pages of life: two of screens, and one with the index and the words", 3,
+                    (tree.room / "life.pdf").read_bytes().count(b"/Type /Page\n"))
+    one.open(tree.room / "few.html")
+    one.paper(tree.room / "few.pdf")
+    tree.cases.same("pages of one screen", 1, (tree.room / "few.pdf").read_bytes().count(b"/Type /Page\n"))
+    one.size(1300, 900)
+    one.open(tree.room / "life.html")
+    lines = "[...document.querySelectorAll('td.none')].map((one) => one.getClientRects().length + one.offsetHeight).filter((it) => it > 30).length"
+    tree.cases.same("'nowhere here' on two lines", 0, one.value(lines))
 
 
 def check_map(tree, one):

@@ -38,6 +38,11 @@ WORDS = r"""% screen 21
 : DIVIDES 7 2 / ABORT" oh" ;
 : SPEWS ( -- ) BEGIN 0 65535 TYPE AGAIN ;
 : MUCH ( -- ) 200 0 DO 0 65535 TYPE LOOP ;
+VARIABLE BANK   CREATE ROW 6 ALLOT
+: FILLS ( -- ) ROW 4 7 FILL 300 ROW ! ROW ROW 2+ 2 CMOVE
+  1 BANK +! ;
+: READS ( -- ) ROW 4 EXPECT ;
+: COPIES ( -- ) PAD ROW 2 CMOVE BANK @ DROP ;
 """
 
 
@@ -171,7 +176,7 @@ def check_ends(tree):
             ("DROPS", "DROPS", 1, "the stack was empty (fault 1) at DROP. It ended DROPS: both stacks were emptied"),
             ("LEAVES", "LEAVES", None, "The program ended here, within LEAVES."), ("DOWN", "2 DOWN", None, "DOWN is done."),
             ("TALL", "TALL", None, "TALL is done."),
-            ("DIVIDES", "DIVIDES", 1, "a fault (fault 17) at (ABORT\"). It ended DIVIDES"),
+            ("DIVIDES", "DIVIDES", 1, "\"oh\" (fault 17) at (ABORT\"). It ended DIVIDES"),
             ("FOREVER", "FOREVER", 1, "The run was cut at its limit, within FOREVER.")):
         data, _, _ = tree.film(name, line, "--limit", "150000")
         tree.cases.holds(f"how {name} ends", ending, data["ends"][-1][1])
@@ -188,6 +193,44 @@ def check_ends(tree):
     tree.cases.same("a film of a word of the kernel, no screen of which is loaded", (0, False), (status, "screens" in said))
     data, _, _ = tree.film("squares", "2 squares")
     tree.cases.same("a name in small letters", "SQUARES", data["name"])
+
+
+def check_made(tree):
+    """A word that DOES> made: its own calls alone, among others of the same maker. CM multiplies by 10, MM by 3."""
+    data, _, _ = tree.film("CM", "3 UNIT MM 7 CM 5 MM 2 CM")
+    tree.cases.same("the film's name", "CM", data["name"])
+    tree.cases.same("the calls of CM", ["CM", "CM"], [frame[5] for frame in data["frames"]])
+    wanted = [(7,), (7, 10), (70,), (70,), (70, 15, 2), (70, 15, 2, 10), (70, 15, 20), (70, 15, 20)]
+    got = [step[2][:-1] if step[1] == "@" else step[2] for step in expanded(data)]
+    tree.cases.same("its stacks, without the address that @ takes", wanted, got)
+    data, _, _ = tree.film("TALL", "TALL")
+    tree.cases.same("CM in another film", "CM", data["frames"][1][5])
+
+
+def held(data, name, number):
+    """The bytes of a variable before a step."""
+    one = next(one for one in data["memory"] if one["name"] == name)
+    found = list(one["bytes"])
+    for step, offset, value in one["changes"]:
+        if step <= number:
+            found[offset] = value
+    return found
+
+
+def check_memory(tree):
+    """What a variable and an array hold at each step; one into which unknown bytes are copied isn't shown."""
+    data, _, _ = tree.film("FILLS", "5 BANK ! 0 ROW ! 0 ROW 2+ ! 0 ROW 4 + ! FILLS")
+    names = [step[1] for step in expanded(data)]
+    states = [held(data, "ROW", names.index(name) + more) for name, more in (("FILL", 0), ("FILL", 1), ("!", 1), ("CMOVE", 0), ("CMOVE", 1))]
+    tree.cases.same("the bytes of ROW", [[0, 0, 0, 0, 0, 0], [7, 7, 7, 7, 0, 0], [44, 1, 7, 7, 0, 0], [44, 1, 7, 7, 0, 0], [44, 1, 44, 1, 0, 0]], states)
+    tree.cases.same("BANK before and after +!", [[5, 0], [6, 0]], [held(data, "BANK", names.index("+!") + more) for more in (0, 1)])
+    data, _, _ = tree.film("READS", "READS\nabcd")
+    tree.cases.same("the bytes of a line that is read", list(b"abcd"), held(data, "ROW", len(data["steps"]) - 1)[:4])
+    data, page, _ = tree.film("COPIES", "7 BANK ! COPIES")
+    tree.cases.same("what is shown of a film that copies from PAD", [("BANK", [7, 0])], [(one["name"], one["bytes"]) for one in data["memory"]])
+    tree.cases.holds("what isn't shown", "What ROW has isn&#x27;t shown", page)
+    bases = [tree.film("ONE", line)[0]["base"] for line in ("ONE", "HEX ONE DECIMAL")]
+    tree.cases.same("BASE at the first step", [10, 16], bases)
 
 
 def check_doubts(tree):
@@ -272,6 +315,7 @@ REFUSALS = (
     (1, "as one that shows more than 128 MB", "film SPEWS --screens 21 22"),
     (1, "there is no word \\udcff", "film \udcff"),
     (1, "/proc/film.html can't be", "film SQUARES|5 SQUARES|-o|/proc/film.html"),
+    (1, "circle.img can't be filmed: a chain of its words never ends (ChainTooLong)", "film SQUARES --image circle.img"),
     (2, "usage", "film"),
     (1, "UNIT stands in screen 21: try --screens 21 22", "film TALL"),
     (2, "a LINE with blanks stands in quotes", "film SQUARES 5 SQUARES"),
@@ -296,11 +340,20 @@ def listing(folder):
     return {path.name: (path.stat().st_size, path.stat().st_mtime_ns) for path in kept}
 
 
+def in_circle(image):
+    """An image of version 2 in which the newest word of FORTH's first chain, in cell 42, is before itself."""
+    begins = 16
+    newest = int.from_bytes(image[begins + 42:begins + 44], "little")
+    at = begins + newest
+    return image[:at] + newest.to_bytes(2, "little") + image[at + 2:]
+
+
 def check_refusals(tree):
     """What isn't done is told with what and why; nothing is left behind, and nothing is changed."""
     room = tree.room
     (room / "notes.html").write_text("<p>mine</p>", encoding="utf-8")
     (room / "cut.img").write_bytes((room / "own.img").read_bytes()[:-1])
+    (room / "circle.img").write_bytes(in_circle((room / "own.img").read_bytes()))
     (room / "cut.txt").write_text("3068 DUP | 5 | 2954 2768\n3070 * | 5 5 | 2954", encoding="ascii")
     (room / "odd.bytes").write_bytes(b"x" * 1000)
     (room / "folder").mkdir()
@@ -406,6 +459,10 @@ def check_pages(tree):
     status, said = tree.tool("print", "few.blk")
     tree.cases.same("pages of one screen", (0, True), (status, "few.html, 1 screen;" in said))
     tree.cases.same("the word that isn't known", ["MISSPELT", "1.0"], texts_of(tree.room / "few.html", "td")[-2:])
+    line = ': GR\u00dcSSE ( -- ) ." \u00a3" ;'
+    (tree.room / "accents.blk").write_bytes(line.encode("utf-8").ljust(1024))
+    tree.cases.same("pages with UTF-8", 0, tree.tool("print", "accents.blk")[0])
+    tree.cases.same("the line with UTF-8", f" 0 {line}", texts_of(tree.room / "accents.html", "pre")[0].splitlines()[0])
     check_shadows(tree)
 
 
@@ -428,29 +485,43 @@ def check_shadows(tree):
 
 # Answers that are wrong, and what is said of them.
 WRONG = (
-    (1, "% screen 21\n1 2 3", "21 LOAD leaves 1 2 3 but 10080 56 2 is wanted."),
+    (1, "% screen 21\n1 2 3", "21 LOAD leaves 1 as answer 1, which isn't right."),
+    (1, "% screen 21\n7 24 * 60 *", "21 LOAD leaves 1 of 3 right answers so far."),
+    (1, "% screen 21\n7 24 * 60 *\n56 2 1", "21 LOAD leaves more than 3 numbers."),
     (2, "% screen 22\n: MINUTES 60 * ; : FAHRENHEIT 32 + ;", "100 FAHRENHEIT leaves 132 but 212 is wanted."),
     (3, "% screen 23\n: CUBE * * ;", "3 CUBE takes more from the stack than it is given."),
-    (4, "% screen 24\n: PRICE DROP 0 0 DO 42 EMIT LOOP ;", f"305 PRICE shows  {99 * '*'}  but  3 euro 5 cent  is wanted"),
+    (4, "% screen 24\n: PRICE DROP 600 0 DO 42 EMIT LOOP ;", f"305 PRICE shows  {99 * '*'}  but  3 euro 5 cent  is wanted"),
     (4, '% screen 24\n: PRICE . ." euro" ;', "305 PRICE shows  305 euro  but  3 euro 5 cent  is wanted"),
     (5, "% screen 25\n: SIGNUM DUP 0< ;", "-7 SIGNUM leaves -7 -1 but -1 is wanted."),
     (6, "% screen 26\n: SUM-TO 0 SWAP 1 ?DO I + LOOP ;", "4 SUM-TO leaves 6 but 10 is wanted."),
     (7, "% screen 27\n: DIGITS DROP ;", "4096 DIGITS leaves nothing, but 4 is wanted."),
-    (8, "% screen 28\nVARIABLE BANK : PAY BANK ! ;", "0 BANK ! 50 PAY 30 PAY BANK @ leaves 30 but 80 is wanted."),
-    (9, "% screen 29\n: VOWELS SWAP DROP ;", "S| AUDIO| VOWELS leaves 5 but 4 is wanted."),
-    (10, "% screen 30\n: PERCENT * 100 / ;", "30000 15 PERCENT leaves -88 but 4500 is wanted."),
-    (11, "% screen 31\n: COUNTER CREATE 0 , DOES> @ 1+ ;", "TALLY TALLY TALLY leaves 1 1 1 but 1 2 3 is wanted."),
-    (12, "% screen 32\n: HOME ; : WHERE 0 0 ; : FORWARD DROP ;", "HOME 3 FORWARD WHERE leaves 0 0 but 0 3 is wanted."),
-    (10, "% screen 30\n: PERCENT 100 */ ; : .BINARY 2 BASE ! U. ;", "6 .BINARY BASE @ leaves 2 but 10 is wanted."),
+    (9, "% screen 29\nVARIABLE BANK : PAY BANK ! ;", "0 BANK ! 50 PAY 30 PAY BANK @ leaves 30 but 80 is wanted."),
+    (10, "% screen 30\n: VOWELS SWAP DROP ;", "S| AUDIO| VOWELS leaves 5 but 4 is wanted."),
+    (12, "% screen 32\n: PERCENT * 100 / ;", "30000 15 PERCENT leaves -88 but 4500 is wanted."),
+    (13, "% screen 33\n: COUNTER CREATE 0 , DOES> @ 1+ ;", "TALLY TALLY TALLY leaves 1 1 1 but 1 2 3 is wanted."),
+    (14, "% screen 34\n: HOME ; : WHERE 0 0 ; : FORWARD DROP ;", "HOME 3 FORWARD WHERE leaves 0 0 but 0 3 is wanted."),
+    (12, "% screen 32\n: PERCENT 100 */ ; : .BINARY 2 BASE ! U. ;", "6 .BINARY BASE @ leaves 2 but 10 is wanted."),
     (3, "% screen 23\n: CUBE DUP DUP * * ; : TWIST SWAP ROT DROP ;", "1 2 3 TWIST leaves 3 2 but 3 2 1 is wanted."),
-    (12, "% screen 32\n: HOME UP ;", "UP is unknown (fault 13)"),
+    (14, "% screen 34\n: HOME UP ;", "UP is unknown (fault 13)"),
     (1, "% screen 21\n7 24 * 60 *\n3 4 + 10 2 - *\n100 7 MOD .",
-     "21 LOAD leaves 10080 56 but 10080 56 2 is wanted. It shows 2, and . takes what it shows."),
+     "21 LOAD leaves 2 of 3 right answers so far. It shows 2 but doesn't leave it."),
     (2, "% screen 22\n: MINUTES 60 *", "is the ; of MINUTES missing? (fault 17) at CHECK"),
     (2, "% screen 22\n: MINUTES 60 * . ;",
-     "1 MINUTES leaves nothing, but 60 is wanted. It shows 60, and . takes what it shows."),
+     "1 MINUTES leaves nothing, but 60 is wanted. It shows 60 but doesn't leave it."),
     (2, "% screen 22\n: MINUTES 60 * ; : FAHRENHEIT 5 / 9 * 32 + ;", "37 FAHRENHEIT leaves 95 but 98 is wanted."),
-    (99, "% screen 21\n1", "There is no lesson 99, only 1 to 12."),
+    (9, "% screen 29\nVARIABLE BANK : PAY DROP 5 0 ! ;", "0 BANK ! 50 PAY 30 PAY BANK @ stores at address 0, which isn't yours."),
+    (6, "% screen 26\n7 16 C!", "Screen 26 stores at address 16, which isn't yours."),
+    (99, "% screen 21\n1", "There is no lesson 99, only 1 to 14."),
+    (4, "% screen 24\n: PRICE DROP 0 0 DO 42 EMIT LOOP ;", "305 PRICE never ends: the loop in PRICE goes round more than 30000 times."),
+    (3, "% screen 23\n: HALF BEGIN DUP WHILE REPEAT ; : CUBE HALF ;", "3 CUBE never ends: the loop in HALF goes round"),
+    (6, "% screen 26\n: L BEGIN AGAIN ; L", "Screen 26 never ends: the loop in L goes round"),
+    (6, "% screen 26\n: L BEGIN 1 0 UNTIL ; : SUM-TO L ;", "4 SUM-TO fails: the stack was full (fault 2)"),
+    (6, "% screen 26\n: SUM-TO 1 0 DO 0 +LOOP ;", "4 SUM-TO never ends: the loop in SUM-TO"),
+    (5, "% screen 25\n: SIGNUM RECURSE ;", "-7 SIGNUM fails: the return stack was full (fault 4)"),
+    (2, "% screen 22\n: Minutes 60 * ;", ", but Minutes is: write its name in capitals."),
+    (10, "% screen 30\n: VOWELS 0 ;\n: BACKWARDS 0 ;", "S| AUDIO| VOWELS leaves"),
+    (5, "% screen 25\n: SIGNUM 0 MAX 1 MIN ;", "-7 SIGNUM leaves 0 but -1 is wanted."),
+    (3, "% screen 23\n: CUBE DROP 40 0 DO I LOOP ;", "3 CUBE leaves more than 32 numbers."),
 )
 
 
@@ -484,7 +555,7 @@ def check_chosen(tree):
 
 def check_course(tree):
     """Each solution is right, each blank screen and each wrong answer is told; what is typed behind it is shown."""
-    for number in range(1, 13):
+    for number in range(1, 15):
         blank = "leaves nothing" if number == 1 else "isn't there yet"
         tree.cases.holds(f"lesson {number}, blank", blank, answered(tree, number))
         solved = answered(tree, number, str(ROOT / "teaching/solutions.txt"))
@@ -492,9 +563,23 @@ def check_course(tree):
     for number, text, wanted in WRONG:
         (tree.room / "wrong.txt").write_text(text + "\n", encoding="ascii")
         tree.cases.holds(f"lesson {number}, wrong", wanted, answered(tree, number, "wrong.txt"))
+    check_all_lessons(tree)
+
+
+def check_all_lessons(tree):
+    """0 CHECK goes on to the next lesson after a fault, an endless loop and a missing `;`; the Forth is as before afterwards."""
+    (tree.room / "all.txt").write_text(
+        "% screen 21\n1 0 /\n% screen 22\n: MINUTES BEGIN AGAIN ;\n% screen 23\n: CUBE ROT ;\n% screen 24\n: PRICE\n"
+        "% screen 25\n: SIGNUM 1 IF ;\n% screen 26\nNOBODY\n", encoding="ascii")
+    said = answered(tree, 0, "all.txt")
+    for wanted in ("division by zero", "1 MINUTES never ends", "3 CUBE takes more", "is the ; of PRICE missing?", "a structure is unfinished",
+                   "NOBODY is unknown", *(f"screen {number} is for it" for number in range(27, 35))):
+        tree.cases.holds("0 CHECK after faults", wanted, said)
+    _, said = tree.run([tree.forth83, "run", "tools.img", "c.blk"], b"1 LOAD\n0 CHECK\n1 CHECK\nNOBODY\n")
+    tree.cases.holds("a fault after CHECK", "NOBODY is unknown (fault 13)", said.decode("ascii", "replace"))
 
 
 def check(tree):
-    for act in (check_traces, check_output, check_ends, check_doubts, check_given, check_cuts, check_hostile, check_refusals,
+    for act in (check_traces, check_output, check_ends, check_made, check_memory, check_doubts, check_given, check_cuts, check_hostile, check_refusals,
                 check_maps, check_pages, check_chosen, check_course):
         act(tree)
