@@ -1,7 +1,9 @@
 /* The proved Forth-83 machine in a host's own process. docs/EMBEDDING.md says what is promised, and what a host must do.
  *
  * The host owns all bytes. A machine is a record of the host's, of plain bytes: copy it to undo, or write it to a file to go on
- * another day. No call keeps a pointer, and nothing is global: calls on different records may come from different threads. */
+ * another day. No call keeps a pointer, and nothing is global: calls on different records may come from different threads.
+ *
+ * Sizes have 64 bits on every target, also where size_t has 32. */
 #ifndef FORTH83_H
 #define FORTH83_H
 #include <stddef.h>
@@ -10,6 +12,9 @@
 #ifdef __cplusplus
 extern "C" {
 #endif
+
+/* The version of the library, as the file VERSION has it. */
+#define FORTH83_VERSION "1.0.0"
 
 /* The layout of the records below; each record that was loaded has it as `abi`. */
 #define FORTH83_ABI 1
@@ -27,7 +32,7 @@ enum forth83_status {
   FORTH83_OUT_OF_MEMORY = 2,  /* malloc gave no memory */
   FORTH83_SHORT_ROOM = 3,     /* fewer than FORTH83_ROOM bytes of room */
   FORTH83_TRUNCATED = 4,      /* an image's file that ends too soon */
-  FORTH83_TRAILING_BYTES = 5, /* bytes behind an image's file */
+  FORTH83_TRAILING_BYTES = 5, /* bytes after an image's file */
   FORTH83_BAD_MAGIC = 6,      /* no image's file */
   FORTH83_BAD_VERSION = 7,    /* an image's file of another version */
   FORTH83_BAD_BUFFERS = 8,    /* a number of buffers below 2 or above 16 */
@@ -43,11 +48,11 @@ enum forth83_status {
 
 /* Why forth83_run ended. */
 enum forth83_stop {
-  FORTH83_STOP_HALTED = 0, /* the machine is halted: `halts` tells why */
+  FORTH83_STOP_HALTED = 0, /* the machine is halted: `halts` says why */
   FORTH83_STOP_LIMIT = 1,  /* all ticks that were allowed are done */
   FORTH83_STOP_ROOM = 2,   /* fewer than FORTH83_ROOM bytes of room are left */
   FORTH83_STOP_TYPED = 3,  /* a key is asked and no byte is left, or a line and no whole line is: call again with more */
-  FORTH83_STOP_BLOCK = 4   /* a block is asked: `asks` and `asked` tell which */
+  FORTH83_STOP_BLOCK = 4   /* a block is asked: `asks` and `asked` say which */
 };
 
 /* What a machine asks. */
@@ -99,22 +104,22 @@ typedef struct forth83 {
 
 /* How a call of forth83_run ended. */
 typedef struct forth83_end {
-  size_t read;   /* how many typed bytes were read */
-  size_t shown;  /* how many bytes are shown */
-  uint64_t left; /* how many ticks of the limit are left */
-  uint32_t stop; /* enum forth83_stop */
+  uint64_t read;  /* how many typed bytes were read */
+  uint64_t shown; /* how many bytes are shown */
+  uint64_t left;  /* how many ticks of the limit are left */
+  uint32_t stop;  /* enum forth83_stop */
 } forth83_end;
 
 /* Loads an image, of which these are the bytes of the file, for a device of block_count blocks. */
-uint32_t forth83_load(const uint8_t *image, size_t image_size, uint32_t block_count, forth83 *machine);
+uint32_t forth83_load(const uint8_t *image, uint64_t image_size, uint32_t block_count, forth83 *machine);
 
 /* Goes on with the machine: by the typed bytes, for at most limit ticks, up to where the host is needed. */
-uint32_t forth83_run(forth83 *machine, const uint8_t *typed, size_t typed_size, uint8_t *shown, size_t shown_size,
+uint32_t forth83_run(forth83 *machine, const uint8_t *typed, uint64_t typed_size, uint8_t *shown, uint64_t shown_size,
                      uint64_t limit, forth83_end *end);
 
 /* Answers to FORTH83_STOP_BLOCK: a block's bytes; that its bytes are kept, which forth83_page gives; that this failed. */
-uint32_t forth83_read(forth83 *machine, const uint8_t *page, size_t page_size);
-uint32_t forth83_page(const forth83 *machine, uint8_t *page, size_t page_size);
+uint32_t forth83_read(forth83 *machine, const uint8_t *page, uint64_t page_size);
+uint32_t forth83_page(const forth83 *machine, uint8_t *page, uint64_t page_size);
 uint32_t forth83_written(forth83 *machine);
 uint32_t forth83_failed(forth83 *machine);
 
@@ -122,8 +127,8 @@ uint32_t forth83_failed(forth83 *machine);
 uint32_t forth83_ended(forth83 *machine);
 
 /* Puts the compilation address of the word that a name means into word, as FIND does: CONTEXT's vocabulary is searched, and then
- * FORTH. The name is its bytes: small letters aren't capitals. Nothing in the machine is changed, whatever it asks. */
-uint32_t forth83_find(const forth83 *machine, const uint8_t *name, size_t name_size, uint16_t *word);
+ * FORTH. The name is its bytes: lower case is not upper case. Nothing in the machine is changed, whatever it asks. */
+uint32_t forth83_find(const forth83 *machine, const uint8_t *name, uint64_t name_size, uint16_t *word);
 
 /* Enters the word at a compilation address; the next forth83_run goes on with it. The return stack is emptied. */
 uint32_t forth83_enter(forth83 *machine, uint16_t word);
@@ -134,9 +139,9 @@ uint32_t forth83_push(forth83 *machine, uint16_t x);
 uint32_t forth83_pop(forth83 *machine, uint16_t *x);
 
 /* Saves memory up to HERE as an image that starts with the word at entry: puts its file into file, and its size into size. */
-uint32_t forth83_save(const forth83 *machine, uint16_t entry, uint8_t *file, size_t file_size, size_t *size);
+uint32_t forth83_save(const forth83 *machine, uint16_t entry, uint8_t *file, uint64_t file_size, uint64_t *size);
 
-/* A cell of memory is two bytes, the low one first, and memory goes on at address 0 behind its end. These are the header's own
+/* A cell of memory is two bytes, the low one first, and memory goes on at address 0 after its end. These are the header's own
  * code, and write any address: so may a host. */
 static inline uint16_t forth83_cell(const forth83 *machine, uint16_t address)
 {

@@ -1,0 +1,136 @@
+"""The targets of the machine's C library, and how the library is made for each of them: see `./build-library --help`.
+
+The library's LLVM text (lowering.py) is rewritten for the target (retarget.py), and the Rattle toolchain's own clang compiles it. So
+a library needs no other compiler; only programs that use it do.
+"""
+import concurrent.futures
+import hashlib
+import os
+import pathlib
+import shutil
+import tempfile
+from typing import Dict, List, NamedTuple, Sequence
+
+import lowering
+import records
+import retarget
+from lowering import Refused, called
+
+HERE = lowering.HERE
+STACK = 1 << 20
+
+
+class Target(NamedTuple):
+    """A target: its triple, the options of clang for it, and what it is in words."""
+
+    triple: str
+    options: Sequence[str]
+    what: str
+
+
+TARGETS: Dict[str, Target] = {
+    "x86_64-linux": Target("x86_64-unknown-linux-gnu", ["-O3", "-fPIC", "-march=x86-64"], "Linux on x86-64 processors, any of them"),
+    "aarch64-linux": Target("aarch64-unknown-linux-gnu", ["-O3", "-fPIC"], "Linux on ARM processors of 64 bits"),
+    "armv7-linux": Target("armv7-unknown-linux-gnueabihf", ["-O3", "-fPIC"], "Linux on ARM processors of 32 bits, with hard floats"),
+    "riscv64-linux": Target("riscv64-unknown-linux-gnu", ["-O3", "-fPIC", "-march=rv64gc", "-mabi=lp64d"], "Linux on RISC-V of 64 bits"),
+    "x86_64-windows": Target("x86_64-w64-windows-gnu", ["-O3", "-march=x86-64"], "Windows, for MinGW's compilers"),
+    "cortex-m0": Target("thumbv6m-none-eabi", ["-Os"], "boards with Cortex-M0 and M0+, as the RP2040"),
+    "cortex-m3": Target("thumbv7m-none-eabi", ["-Os"], "boards with Cortex-M3 and M4, soft floats"),
+    "cortex-m7": Target("thumbv7em-none-eabihf", ["-O2", "-mcpu=cortex-m7"], "boards with Cortex-M7, hard floats"),
+    "wasm32": Target("wasm32-unknown-unknown", ["-O3"], "WebAssembly; lib/forth83.wasm is the linked module"),
+}
+
+
+def tool(name: str) -> str:
+    """A tool of the Rattle toolchain."""
+    return str(lowering.toolchain() / "toolchain/bin" / name)
+
+
+def sum_of(name: str, text: str) -> str:
+    """A sum of all that a target's object file is made of."""
+    total = hashlib.sha256(f"{name}\0{TARGETS[name]}\0{text}\0".encode())
+    total.update((HERE / "retarget.py").read_bytes() + called([tool("clang"), "--version"]).encode())
+    return total.hexdigest()
+
+
+def compiled(room: pathlib.Path, name: str, is_proved: bool, takes_kept: bool = True) -> pathlib.Path:
+    """The library for the target as an object file; one that was made of the same before is taken."""
+    text, made = lowering.text_of_library(is_proved), room / f"{name}.o"
+    kept = lowering.KEPT / f"{name}-{'proved' if is_proved else 'unproved'}.o"
+    total = sum_of(name, text)
+    try:
+        if takes_kept and kept.with_suffix(".sum").read_text(encoding="ascii") == total + hashlib.sha256(kept.read_bytes()).hexdigest():
+            shutil.copyfile(kept, made)
+            return made
+    except OSError:
+        pass
+    compile_text(room, name, text, is_proved, made)
+    try:
+        shutil.copyfile(made, kept)
+        kept.with_suffix(".sum").write_text(total + hashlib.sha256(kept.read_bytes()).hexdigest(), encoding="ascii")
+    except OSError:
+        pass
+    return made
+
+
+def compile_text(room: pathlib.Path, name: str, text: str, is_proved: bool, made: pathlib.Path) -> None:
+    """Rewrites the library's text for the target, and compiles it."""
+    target, other = TARGETS[name], room / f"{name}.ll"
+    try:
+        with open(other, "w", encoding="utf-8") as out:
+            retarget.retarget(text.splitlines(), out, lowering.layout_of(target.triple), target.triple, None if is_proved else lowering.PREFIX)
+    except retarget.Unknown as error:
+        raise Refused(f"targets/retarget.py: {error}") from None
+    # The text's name is in what clang makes, so it is the same in every folder.
+    called([tool("clang"), f"--target={target.triple}", *target.options, "-ffunction-sections", "-fdata-sections", "-Wno-override-module",
+            "-x", "ir", other.name, "-c", "-o", str(made.resolve())], cwd=room)
+
+
+def compile_all(names: Sequence[str], is_proved: bool) -> None:
+    """Compiles the library for these targets, on half of the processors, and keeps what was made."""
+    lowering.text_of_library(is_proved)
+    with tempfile.TemporaryDirectory(prefix="forth83-library-") as name, concurrent.futures.ThreadPoolExecutor(max(1, (os.cpu_count() or 1) // 2)) as pool:
+        list(pool.map(lambda target: compiled(pathlib.Path(name), target, is_proved), names))
+
+
+def archived(room: pathlib.Path, objects: List[pathlib.Path]) -> pathlib.Path:
+    """An archive of object files, with no times and owners in it."""
+    archive = room / "libforth83.a"
+    archive.unlink(missing_ok=True)
+    called([tool("llvm-ar"), "rcsD", str(archive), *map(str, objects)])
+    return archive
+
+
+def web_linked(room: pathlib.Path, objects: List[pathlib.Path], exports: Sequence[str]) -> pathlib.Path:
+    """The WebAssembly module of object files, with a heap."""
+    linker, heap, module = room / "wasm-ld", room / "heap.o", room / "forth83.wasm"
+    if not linker.is_symlink():
+        linker.symlink_to(tool("ld.lld"))
+    called([tool("clang"), f"--target={TARGETS['wasm32'].triple}", "-O3", "-ffreestanding", "-c", str(HERE / "heap.c"), "-o", str(heap)])
+    called([str(linker), "--no-entry", "--gc-sections", "--strip-all", "-z", f"stack-size={STACK}", *(f"--export={it}" for it in exports),
+            *map(str, objects), str(heap), "-o", str(module)])
+    return module
+
+
+def web_module(room: pathlib.Path, library: pathlib.Path) -> pathlib.Path:
+    """The WebAssembly module of the compiled library, with all its calls."""
+    return web_linked(room, [library], ["malloc", "free", *(it.name for it in records.calls())])
+
+
+def native(room: pathlib.Path, is_proved: bool) -> pathlib.Path:
+    """The library of this computer with nothing rewritten: the archive that `rt lib` makes, or the module without proofs as it is."""
+    plain, made, runtime = room / "native.a", room / "libnative.a", lowering.toolchain() / "c/liblibc_c.a"
+    if is_proved:
+        plain.write_bytes(lowering.archive_of_toolchain())
+    else:
+        text = room / "native.ll"
+        with open(text, "w", encoding="utf-8") as out:
+            for line in retarget.without_main(lowering.text_of_library(False).splitlines(), lowering.PREFIX):
+                line = retarget.rename(line, lowering.PREFIX)
+                out.write((retarget.attributes_for(line) if line.startswith("attributes") else line) + "\n")
+        called([tool("clang"), "-Wno-override-module", "-fPIC", "-O2", "-x", "ir", text.name, "-c", "-o", "native.o"], cwd=room)
+        plain.unlink(missing_ok=True)
+        called([tool("llvm-ar"), "rcsD", str(plain), str(room / "native.o")])
+    made.unlink(missing_ok=True)
+    called([tool("llvm-ar"), "qcsDL", str(made), str(plain), str(runtime)])
+    return made

@@ -1,0 +1,144 @@
+"""Cases of targets/ that need no compiler, with results that were worked out by hand."""
+import pathlib
+import sys
+import tempfile
+from typing import List
+
+ROOT = pathlib.Path(__file__).resolve().parent.parent
+sys.path.insert(0, str(ROOT / "targets"))
+
+import records  # noqa: E402
+import retarget  # noqa: E402
+
+
+class Cases:
+    """How many cases are right, and wrong."""
+
+    def __init__(self) -> None:
+        self.right = self.wrong = 0
+
+    def must(self, is_so: bool, what: str) -> None:
+        """Counts a case, and prints it if it is wrong."""
+        self.right += is_so
+        self.wrong += not is_so
+        if not is_so:
+            print(f"check-targets: {what}", file=sys.stderr)
+
+
+LAYOUT, WIDE = "e-m:e-p:32:32-i64:64", "e-m:e-i64:64-i128:128"
+# Lines of a module, and what they become for 32 bits.
+NARROWED = [
+    ("  %r1 = alloca ptr, align 8", ["  %r1 = alloca i64, align 8"]),
+    ("  store ptr %a0, ptr %r1, align 8", ["  %narrow.1 = ptrtoint ptr %a0 to i64", "  store i64 %narrow.1, ptr %r1, align 8"]),
+    ('  store ptr @"a, b::<c>", ptr %r1, align 8', ['  %narrow.1 = ptrtoint ptr @"a, b::<c>" to i64', "  store i64 %narrow.1, ptr %r1, align 8"]),
+    ("  %r2 = load ptr, ptr %r1, align 8, !noundef !1",
+     ["  %narrow.1.number = load i64, ptr %r1, align 8", "  %r2 = inttoptr i64 %narrow.1.number to ptr"]),
+    ("  %r4 = ptrtoaddr ptr %r3 to i64", ["  %r4 = ptrtoint ptr %r3 to i64"]),
+    ("  %r5 = load i64, ptr %r4, align 8, !range !2", ["  %r5 = load i64, ptr %r4, align 8, !range !2"]),
+    ('  %r6 = call i8 @"forth83_c::running::load"(ptr %r12, i64 %r18)', ['  %r6 = call i8 @"forth83_c::running::load"(ptr %r12, i64 %r18)']),
+    ("  %r7 = load { ptr, i64 }, ptr %r6, align 8",
+     ["  %narrow.1.at = getelementptr i8, ptr %r6, i64 8", "  %narrow.1.a.number = load i64, ptr %r6, align 8",
+      "  %narrow.1.a = inttoptr i64 %narrow.1.a.number to ptr", "  %narrow.1.b = load i64, ptr %narrow.1.at, align 8",
+      "  %narrow.1.one = insertvalue { ptr, i64 } poison, ptr %narrow.1.a, 0",
+      "  %r7 = insertvalue { ptr, i64 } %narrow.1.one, i64 %narrow.1.b, 1"]),
+]
+# Lines that might count on pointers of 8 bytes, or that nobody has looked at.
+REFUSED = [
+    "  %r1 = load { i8, [2 x ptr] }, ptr %r0, align 8",
+    "  store { ptr, i64 } %r0, ptr %r1, align 8",
+    "  %r1 = alloca [2 x ptr], align 8",
+    "  %r1 = alloca { i64, ptr }, align 8",
+    "  %r1 = getelementptr ptr, ptr %r0, i64 1",
+    "  %r1 = getelementptr { i64, ptr }, ptr %r0, i64 1",
+    "  %r1 = load volatile ptr, ptr %r0, align 8",
+    "  %r1 = atomicrmw add ptr %r0, i64 1 seq_cst",
+    "  %r1 = va_arg ptr %r0, i64",
+    "  %r1 = call ptr @llvm.ptrmask.p0.i64(ptr %r0, i64 7)",
+    "  %r1 = load ptr, ptr %r0",
+    "@table = private constant [2 x ptr] [ptr @a, ptr @b]",
+    "@table = global i64 0",
+    "module asm \"nop\"",
+]
+
+
+# Layouts in which the library's bytes would mean something else: big-endian; i386, with numbers of 64 bits at multiples of 4; pointers
+# of 16 bits; x32, whose long name hides pointers of 32 bits in the address space 0.
+LAYOUTS_REFUSED = [
+    "E-m:e-i64:64-n32:64",
+    "e-m:e-p:32:32-f64:32:64-f80:32-n8:16:32-S128",
+    "e-m:e-p:16:16-i64:64",
+    "e-m:e-p0:32:32-i64:64",
+]
+
+
+def rewritten(line: str, layout: str = LAYOUT, triple: str = "wasm32") -> List[str]:
+    return list(retarget.rewritten([line], layout, triple))
+
+
+def refusal(line: str, layout: str) -> str:
+    """Why a line is refused for a target with this layout."""
+    try:
+        return f"it became {rewritten(line, layout)}"
+    except retarget.Unknown as error:
+        return f"refused: {error}"
+
+
+def check_retarget(cases: Cases) -> None:
+    """The lines that are rewritten, kept and refused."""
+    for line, wanted in NARROWED:
+        cases.must(rewritten(line) == wanted, f"retarget: {line} became {rewritten(line)}")
+        kept = line.replace("ptrtoaddr", "ptrtoint")
+        cases.must(rewritten(line, WIDE) == [kept], f"retarget: {line} became {rewritten(line, WIDE)} for 64 bits")
+    for line in REFUSED:
+        for layout in (LAYOUT, WIDE):
+            said = refusal(line, layout)
+            cases.must(said.startswith("refused: ") and line.strip() in said, f"retarget doesn't refuse {line}: {said}")
+    for layout in LAYOUTS_REFUSED:
+        said = refusal("  ret i32 0", layout)
+        cases.must(said.startswith("refused: ") and layout in said, f"retarget doesn't refuse the layout {layout}: {said}")
+    head = "define noundef i32 @forth83_pop(ptr %a0) #0 {"
+    cases.must(rewritten(head, WIDE, "aarch64-linux") == [head], "what a call returns on ARM")
+    cases.must(rewritten(head, WIDE, "riscv64-linux") == ["define noundef signext i32 @forth83_pop(ptr %a0) #0 {"], "what a call returns on RISC-V")
+    cases.must("@malloc(i32 %count)" in retarget.heap(32) and "@malloc(i64 %count)" in retarget.heap(64), "the sizes of malloc")
+    cases.must(rewritten('target datalayout = "e-i64"') == [f'target datalayout = "{LAYOUT}"'], "the layout")
+    cases.must(rewritten('attributes #0 = { nounwind sanitize_address "frame-pointer"="all" }') == ["attributes #0 = { nounwind }"], "attributes")
+    cases.must(rewritten("declare void @rattle_dealloc(ptr noundef) #2") == [], "the heap's declarations")
+    program = ['define i32 @main() #0 {', '  ret i32 0', '}', 'define internal noundef i32 @"c::forth83_run"(ptr %a0) #0 {', "}"]
+    kept = [retarget.rename(line, "c::") for line in retarget.without_main(program, "c::")]
+    cases.must(kept == ["define noundef i32 @forth83_run(ptr %a0) #0 {", "}"], f"the exports: {kept}")
+
+
+RECORDS = """pub struct Small {
+    pub one: u8,
+    pub two: u16,
+}
+
+pub struct Big {
+    pub count: u32,
+    pub smalls: [Small; 3],
+    pub end: usize,
+}
+"""
+CALLS = 'pub extern "C" fn forth83_go(alloc: Global, big: &mut Big, text: &[u8], n: u16) -> u32\n'
+
+
+def check_records(cases: Cases) -> None:
+    """Records by the rules of C, and what calls want."""
+    with tempfile.TemporaryDirectory() as name:
+        (pathlib.Path(name) / "src").mkdir()
+        (pathlib.Path(name) / "src/record.rt").write_text(RECORDS, encoding="utf-8")
+        (pathlib.Path(name) / "src/lib.rt").write_text(CALLS, encoding="utf-8")
+        found, calls = records.records(pathlib.Path(name)), records.calls(pathlib.Path(name))
+    cases.must(found["Small"].size == 4 and [it.place for it in found["Small"].fields] == [0, 2], f"Small: {found['Small']}")
+    cases.must(found["Big"].size == 24 and [it.place for it in found["Big"].fields] == [0, 4, 16], f"Big: {found['Big']}")
+    wanted = "record::Big { count: 0, smalls: [record::Small { one: 0, two: 0 }; 3], end: 0 }"
+    cases.must(records.zero("Big", found) == wanted, f"zeros: {records.zero('Big', found)}")
+    cases.must(calls == [records.Call("forth83_go", ["Global", "&mut Big", "&[u8]", "u16"])], f"calls: {calls}")
+
+
+def check() -> Cases:
+    """All of them."""
+    cases = Cases()
+    check_retarget(cases)
+    check_records(cases)
+    return cases

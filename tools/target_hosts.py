@@ -1,0 +1,209 @@
+"""Tries the hosts of examples/ on targets: the test bench and the terminal in pipes, the terminal at a pseudo terminal, and the board."""
+import os
+import pathlib
+import pty
+import select
+import shutil
+import signal
+import subprocess
+import termios
+import time
+from typing import Callable, List, Optional
+
+from target_runs import ROOT, Place, build
+from terminals import Glass
+
+Must = Callable[[bool, str], None]
+SCREENS = 8
+LINES = b": SQUARE DUP * ;\n12 SQUARE .\n3 BLOCK C@ . 5 BUFFER 1024 66 FILL UPDATE\nKEY A .\n1 0 /\n99 BLOCK\n5 .\n"
+BOARD_SCREENS = b"% screen 1\n( In flash )\n: CUBE ( n -- n*n*n ) DUP DUP * * ;\n"
+LIMIT = 20
+
+
+class Session:
+    """A program at a pseudo terminal."""
+
+    def __init__(self, command: List[str], room: pathlib.Path):
+        self.shown, self.seen, self.status = b"", 0, -1
+        self.pid, self.terminal = pty.fork()
+        if self.pid == 0:
+            os.chdir(room)
+            os.execvp(command[0], command)
+
+    def is_ready(self) -> bool:
+        """Whether the program has switched the terminal's own echo off, in time."""
+        until = time.time() + LIMIT
+        while time.time() < until and termios.tcgetattr(self.terminal)[3] & termios.ECHO:
+            time.sleep(0.02)
+        return time.time() < until
+
+    def read(self, seconds: float) -> bool:
+        """Reads what the program shows within this time; whether it goes on."""
+        if not select.select([self.terminal], [], [], seconds)[0]:
+            return True
+        try:
+            part = os.read(self.terminal, 65536)
+        except OSError:
+            part = b""
+        self.shown += part
+        return bool(part)
+
+    def types(self, keys: bytes, wanted: bytes) -> bool:
+        """Types keys; whether what is wanted is shown after them, in time."""
+        os.write(self.terminal, keys)
+        until = time.time() + LIMIT
+        while time.time() < until:
+            at = self.shown.find(wanted, self.seen)
+            if at >= 0:
+                self.seen = at + len(wanted)
+                return True
+            if not self.read(0.2):
+                return False
+        return False
+
+    def rows(self) -> List[str]:
+        """What is seen on the terminal."""
+        glass = Glass(80)
+        glass.shows(self.shown)
+        return glass.seen()[0]
+
+    def ends(self) -> int:
+        """The status with which the program ends, in time; it is killed otherwise."""
+        until = time.time() + LIMIT
+        while time.time() < until:
+            pid, status = os.waitpid(self.pid, os.WNOHANG)
+            if pid:
+                return status
+            try:
+                self.read(0.1)
+            except (OSError, ValueError):
+                time.sleep(0.1)
+        os.kill(self.pid, signal.SIGKILL)
+        os.waitpid(self.pid, 0)
+        return -1
+
+
+def blocks_file(program: pathlib.Path, file: pathlib.Path) -> None:
+    """A new file of blank screens."""
+    file.unlink(missing_ok=True)
+    subprocess.run([program, "new", file, str(SCREENS)], stdout=subprocess.DEVNULL, check=True)
+
+
+def check_pipes(must: Must, place: Place, program: pathlib.Path, image: pathlib.Path, terminal: pathlib.Path) -> None:
+    """The terminal in a pipe shows what the program shows, and leaves the same blocks."""
+    mine, others = place.room / "mine.blk", place.room / "others.blk"
+    for file in (mine, others):
+        blocks_file(program, file)
+    wanted = subprocess.run([program, "run", "--save", image, others], input=LINES, stdout=subprocess.PIPE, check=False).stdout
+    got = place.run(terminal, [image, mine.name], LINES)
+    must(got == wanted, f"{place.target}: the terminal shows {got!r} in a pipe, and the program {wanted!r}")
+    must(mine.read_bytes() == others.read_bytes(), f"{place.target}: the terminal leaves other blocks than the program")
+
+
+def check_pty(must: Must, place: Place, program: pathlib.Path, image: pathlib.Path, terminal: pathlib.Path) -> None:
+    """What a person types: lines with deleted bytes, a key, ^C in a line and in a loop, BYE; then a terminal that is closed."""
+    def so(is_so: bool, what: str) -> None:
+        must(is_so, f"{place.target}: the terminal: {what}: {session.rows() if not is_so else ''}")
+
+    blocks_file(program, place.room / "pty.blk")
+    session = Session(place.command(terminal, [image, "pty.blk", "--save", "saved.img"]), place.room)
+    so(session.is_ready() and session.types(b"3 4 + .\r", b"7  ok"), "a line")
+    so(session.types(b"12 DUPX\x7f * .\r", b"144  ok"), "a deleted byte")
+    so(session.types(b"NOWORD\x155 .\r", b"5 . 5  ok"), "^U")
+    so(session.types(b"NOWORD\x036 .\r", b"6 . 6  ok"), "^C in a line")
+    so(session.types(b": K KEY . ; K\r", b"K "), "a word that asks for a key")
+    so(session.types(b"A", b"65  ok"), "the key")
+    so(session.types(b": L 42 EMIT BEGIN AGAIN ; L\r", b"; L *"), "a loop")
+    so(session.types(b"\x03", b"\n") and session.types(b"7 .\r", b"7 . 7  ok"), "^C in the loop")
+    so(session.types(b"2 BLOCK 1024 66 FILL UPDATE\r", b"ok"), "a block")
+    wanted = ["3 4 + . 7  ok", "12 DUP * . 144  ok", "5 . 5  ok", "6 . 6  ok", ": K KEY . ; K 65  ok", ": L 42 EMIT BEGIN AGAIN ; L *", "7 . 7  ok"]
+    so(session.rows()[:7] == wanted, "what is seen")
+    os.write(session.terminal, b"BYE\r")
+    so(session.ends() == 0, "BYE")
+    so((place.room / "pty.blk").read_bytes()[2048:3072] == b"B" * 1024, "the block after BYE")
+    check_saved(so, place, terminal)
+    session = Session(place.command(terminal, [image, "pty.blk"]), place.room)
+    so(session.is_ready() and session.types(b"3 BLOCK 1024 67 FILL UPDATE 1 . : L BEGIN AGAIN ; L\r", b"; L 1 "), "a loop after a block")
+    os.close(session.terminal)
+    so(session.ends() == 0, "a closed terminal")
+    so((place.room / "pty.blk").read_bytes()[3072:4096] == b"C" * 1024, "the block after the terminal was closed")
+
+
+def check_saved(so: Must, place: Place, terminal: pathlib.Path) -> None:
+    """The image that --save wrote knows the session's words."""
+    shown = place.run(terminal, ["saved.img"], b"' L DROP 8 .\n")
+    so(b"8 . 8  ok" in shown or b"8  ok" in shown, f"a saved image: {shown!r}")
+
+
+def check_bench(must: Must, place: Place, image: pathlib.Path, wanted: Optional[bytes]) -> bytes:
+    """The test bench shows on each target what it shows natively."""
+    bench = place.compile("bench", [ROOT / "examples/embed/bench.c"])
+    shown = place.run(bench, [image], LINES)
+    must(wanted in (None, shown), f"{place.target}: the test bench shows {shown!r}, and natively {wanted!r}")
+    return shown
+
+
+class Board:
+    """The Forth of examples/board, in the emulator."""
+
+    def __init__(self, place: Place, program: pathlib.Path, image: pathlib.Path):
+        self.room, self.library = place.room / "board", place.library
+        shutil.copytree(ROOT / "examples/board", self.room)
+        (self.room / "screens.txt").write_bytes(BOARD_SCREENS)
+        subprocess.run([program, "screens", self.room / "screens.txt", self.room / "screens.blk"], check=True)
+        shutil.copy(image, self.room / "kernel.img")
+        (self.room / "library/lib").mkdir(parents=True)
+        (self.room / "library/include").symlink_to(ROOT / "include")
+        shutil.copy(self.library, self.room / "library/lib/libforth83.a")
+
+    def make(self, ram: int, stack: int) -> None:
+        """Compiles it for so many bytes of RAM."""
+        (self.room / "board.elf").unlink(missing_ok=True)
+        build(["make", "-C", self.room, f"RAM={ram}", f"STACK={stack}"])
+
+    def session(self) -> Session:
+        return Session(["qemu-system-arm", "-M", "mps2-an385", "-display", "none", "-monitor", "none", "-chardev", "stdio,id=line,signal=off",
+                        "-serial", "chardev:line", "-semihosting-config", "enable=on,target=native", "-kernel", "board.elf"], self.room)
+
+
+def board_steps(session: Session, must: Must) -> None:
+    """Lines, a screen in flash, blocks in RAM, those that can't be written, ^C."""
+    must(session.is_ready() and session.types(b"3 4 + .\r", b"7  ok"), "a line")
+    must(session.types(b"1 LOAD 5 CUBEX\x7f .\r", b"125  ok"), "a screen in flash, and a deleted byte")
+    must(session.types(b"2 BLOCK 1024 67 FILL UPDATE FLUSH 2 BLOCK C@ .\r", b"67  ok"), "a block in RAM")
+    must(session.types(b"1 BLOCK DROP UPDATE FLUSH\r", b"fault 10"), "a block in flash that is written")
+    must(session.types(b"EMPTY-BUFFERS 6 BLOCK\r", b"fault 7"), "a block that does not exist")
+    must(session.types(b": K KEY . ; K\r", b"; K ") and session.types(b"A", b"65  ok"), "a key")
+    must(session.types(b": L 42 EMIT BEGIN AGAIN ; L\r", b"; L *") and session.types(b"\x03", b"\n"), "^C in a loop")
+    must(session.types(b"FORGET L 8 .\r", b"8  ok"), "FORGET, after ^C")
+    must(session.types(b"4 65533 C! 65 65534 C! 65 65535 C! 65533 FIND . .\r", b"ok"), "a name that wraps around the end of memory")
+    os.write(session.terminal, b"BYE\r")
+    must(session.ends() == 0, "BYE")
+
+
+def check_board(must: Must, place: Place, program: pathlib.Path, image: pathlib.Path) -> None:
+    """The board with much RAM does all that it must."""
+    board = Board(place, program, image)
+    board.make(4 << 20, 1 << 19)
+    session = board.session()
+    board_steps(session, lambda is_so, what: must(is_so, f"the board: {what}: {session.rows() if not is_so else ''}"))
+
+
+def least_ram(place: Place, program: pathlib.Path, image: pathlib.Path, stack: int) -> int:
+    """The least RAM, in steps of 4 KB, with which the board does all that it must and keeps so many bytes for the stack."""
+    board, low, high = Board(place, program, image), 40, 512
+    while low < high:
+        middle = (low + high) // 2
+        low, high = (low, middle) if does_all(board, 4096 * middle, stack) else (middle + 1, high)
+    return 4096 * low
+
+
+def does_all(board: Board, ram: int, stack: int) -> bool:
+    """Whether the board does all that it must with so many bytes of RAM."""
+    right: List[bool] = []
+    try:
+        board.make(ram, stack)
+        board_steps(board.session(), lambda is_so, what: right.append(is_so))
+    except (SystemExit, OSError):
+        return False
+    return all(right)
