@@ -1,4 +1,4 @@
-"""Which Forth a source was written for: the signs that tell, what differs in meaning, and what to write for what can't be kept.
+"""Which Forth a source was written for: the signs, what differs in meaning, and what to write for what can't be kept.
 
 dialects/survey uses it. A source is a list of `Place`s: each word with its screen and line.
 """
@@ -115,7 +115,7 @@ def glossary(name: str) -> Set[str]:
 
 
 def left_out(name: str) -> Dict[str, str]:
-    """The words that a text of dialects/ leaves out, each with the reason that the Forth tells: lists behind LEAVES, or words of NO."""
+    """The words that a text of dialects/ leaves out, each with the reason that the Forth gives: lists after LEAVES, or words of NO."""
     text = (FOLDER / f"{name}.txt").read_text(encoding="ascii")
     found = {}
     for reason, names in re.findall(r'^LEAVES ," (.*?)"\n,"  (.*?) "$', text, re.M | re.S):
@@ -165,7 +165,7 @@ def in_threes(source: List[Place]) -> Iterable[Tuple[Place, Place, Place]]:
 
 
 def of_variable(before: Place, of: Place) -> Optional[Sign]:
-    """What a variable says: whether a value stands before it, or the end of what was before."""
+    """What a variable says: whether a value comes before it, or the end of what was before."""
     if of.inside:
         return None
     if is_plain(before.word):

@@ -52,7 +52,6 @@ class Allowed(NamedTuple):
 ALLOWED = (
     Allowed(r"stands? for", "*", "English for 'means' or 'takes the place of'"),
     Allowed(r"(?:laid|lays?) out", "*", "English for 'arranges': layouts of disks, memory and pages"),
-    Allowed(r"telling ends?", "*", "coined, and defined in the glossary"),
     Allowed(r"doubles", "*", "the Standard's word for numbers of two cells"),
 )
 

@@ -1,12 +1,12 @@
-"""Runs the sessions of a page by the built program, and tells where one shows another thing than the page says.
+"""Runs the sessions of a page by the built program, and says where one shows another thing than the page says.
 
-They stand between lines of three backquotes, and are done one after another in a folder of their own, as `tools/lay-built`
+They are between lines of three backquotes, and are done one after another in a folder of their own, as `tools/lay-built`
 makes it of the program.
 
-- A line behind `$` is done by the shell. `$ ./forth [BLOCKS]` starts the Forth with the workbench's tools.
-- A line behind `>` is typed there. One behind `>>` is typed, too, as the answer to a question; behind `>>>` stand keys
+- A line after `$` is done by the shell. `$ ./forth [BLOCKS]` starts the Forth with the workbench's tools.
+- A line after `>` is typed there. One after `>>` is typed, too, as the answer to a question; after `>>>` are keys
   without a return.
-- What is shown stands below. Places that a terminal is told (`ESC [`) and blanks at line ends are left out.
+- What is shown is below. Places that are given to a terminal (`ESC [`) and blanks at line ends are left out.
 """
 import pathlib
 import re
@@ -19,7 +19,7 @@ ROOT = pathlib.Path(__file__).resolve().parent.parent
 
 
 class Step:
-    """What is typed, at the shell or not, what is typed behind it, and the lines that are shown."""
+    """What is typed, at the shell or not, what is typed after it, and the lines that are shown."""
 
     def __init__(self, typed, at_shell):
         self.typed, self.at_shell = typed, at_shell
@@ -41,13 +41,13 @@ def steps_of(text):
 
 
 def behind(text):
-    """The lines that are shown behind what was typed, without the blanks that part them from it."""
+    """The lines that are shown after what was typed, without the blanks that part them from it."""
     first, *rest = [line.rstrip() for line in (text[:-1] if text.endswith("\n") else text).split("\n")]
     return [first.lstrip(), *rest] if first else rest
 
 
 def parted(steps, output):
-    """What was shown behind each line that was typed: each begins a line of the output, and has a blank behind it."""
+    """What was shown after each line that was typed: each begins a line of the output, and has a blank after it."""
     at, shown = 0, []
     for step, following in zip(steps, steps[1:] + [None]):
         at += len(step.typed)

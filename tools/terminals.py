@@ -77,7 +77,7 @@ SENT = {
 
 
 class Line:
-    """A line that is typed behind those of the history: its text, and where the cursor is."""
+    """A line that is typed after those of the history: its text, and where the cursor is."""
 
     def __init__(self, history):
         self.history, self.at, self.draft, self.text, self.cursor = history, len(history), "", "", 0

@@ -1,0 +1,89 @@
+"""The primitives of docs/primitives.txt, and their rows in the tables of docs/MACHINE.md and docs/WORDS.md."""
+import re
+from typing import Dict, List, NamedTuple, Tuple
+
+# Code fields of defining words: numbers 1 to 4 have no name in the kernel, so WORDS.md has no row for them.
+UNNAMED = range(1, 5)
+
+
+class Malformed(Exception):
+    """A line of the list that isn't a primitive."""
+
+
+class Primitive(NamedTuple):
+    """A line of the list."""
+    number: int
+    word: str
+    is_immediate: bool
+    effect: str
+    faults: str
+    sentence: str
+
+
+def primitive_of(line: str) -> Primitive:
+    """The primitive of a line `number | word | effect | faults | sentence`."""
+    parts = [part.strip() for part in line.split(" |", 4)]
+    if len(parts) != 5 or not parts[0].isdigit():
+        raise Malformed(line)
+    word = re.fullmatch(r"(\S+)( \(i\))?", parts[1])
+    if word is None or not parts[2] or not parts[4].endswith("."):
+        raise Malformed(line)
+    return Primitive(int(parts[0]), word[1], bool(word[2]), parts[2], parts[3], parts[4])
+
+
+def primitives_of(text: str) -> List[Primitive]:
+    """The primitives of the list, in its order; a line that begins with `# ` is a remark."""
+    return [primitive_of(line) for line in text.splitlines() if line and not line.startswith("# ")]
+
+
+def raised(faults: str) -> str:
+    """The faults without what a word asks for."""
+    return ", ".join(it for it in faults.split(", ") if it != "asks")
+
+
+def machine_row(it: Primitive) -> str:
+    """The primitive's row in MACHINE.md."""
+    immediate = " (i)" if it.is_immediate else ""
+    return f"| {it.number} | `{it.word}`{immediate} | `{it.effect}` | {it.faults} | {it.sentence} |"
+
+
+def words_row(it: Primitive) -> str:
+    """The primitive's row in WORDS.md."""
+    faults = raised(it.faults)
+    after = f" Faults: {faults}." if faults else ""
+    return f"| `{it.word}` | `{it.effect}` | {'yes' if it.is_immediate else ''} | {it.sentence}{after} |"
+
+
+class Table(NamedTuple):
+    """Where a page has its rows: the headings around them, and how a row names its primitive."""
+    page: str
+    begins: str
+    ends: str
+    pattern: "re.Pattern[str]"
+
+
+MACHINE = Table("docs/MACHINE.md", "## The primitives", "\x00", re.compile(r"\| (\d+) \| `[^`]+`(?: \(i\))? \| "))
+WORDS = Table("docs/WORDS.md", "## The kernel", "### 13. ", re.compile(r"\| `([^ `]+)` \| `"))
+
+
+def replaced(text: str, table: Table, rows: Dict[str, str]) -> Tuple[str, List[str]]:
+    """The page with these rows in place of those that name the same primitives, and the rows that it lacks or has besides."""
+    out: List[str] = []
+    left = dict(rows)
+    strange: List[str] = []
+    inside = False
+    for line in text.split("\n"):
+        inside = (inside or line.startswith(table.begins)) and not line.startswith(table.ends)
+        found = table.pattern.match(line) if inside else None
+        if found and found[1] not in left:
+            strange.append(f"{table.page}: a row of {found[1]}, which the list doesn't have, or a second one")
+        out.append(left.pop(found[1], line) if found else line)
+    return "\n".join(out), strange + [f"{table.page}: no row of {name}" for name in left]
+
+
+def pages(listed: List[Primitive], machine: str, words: str) -> Tuple[Dict[str, str], List[str]]:
+    """Both pages with the rows of the list, by their names; and what is wrong with them."""
+    new_machine, first = replaced(machine, MACHINE, {str(it.number): machine_row(it) for it in listed})
+    named = [it for it in listed if it.number not in UNNAMED]
+    new_words, second = replaced(words, WORDS, {it.word: words_row(it) for it in named})
+    return {MACHINE.page: new_machine, WORDS.page: new_words}, first + second
