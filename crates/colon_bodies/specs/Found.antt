@@ -1,7 +1,9 @@
 -- A definition found again in its bytes.
-use Rattle.std.specs.Prelude.{Bool, true, false, cond, ℕ, ◌+◌, ◌*◌, List, [], ◌∷◌, length, take, drop, Option, Some, None}
+use Rattle.std.specs.Prelude.{Bool, true, false, cond, ℕ, ◌+◌, ◌*◌, List, [], ◌∷◌, length, map, take, drop, Option, Some, None}
 use Rattle.std.proofs.Common.{zero, suc}
 use Rattle.std.proofs.Math.Dec.{eqb}
+use Rattle.memory.specs.Controls.{number_of}
+use Rattle.memory.specs.declared.controls.Control.TheVariants as ctl
 use Rattle.colon_bodies.specs.Tree.{Empty, Definition}
 use Rattle.colon_bodies.specs.Instructions.{Instr, ICall, INum, ICompile, IText, IQuery, IBranch, IDo, ILoop, IDoes}
 use Rattle.colon_bodies.specs.Structures.{FTop, run}
@@ -36,19 +38,20 @@ pick rt c [] = None
 pick rt c (k ∷ ks) = cond (is_cell rt k c) (Some k) (pick rt c ks)
 
 abbrev pub controls : List ℕ
-controls = 6 ∷ 16 ∷ 17 ∷ 8 ∷ 7 ∷ 9 ∷ 10 ∷ 11 ∷ 18 ∷ 19 ∷ []
+controls =
+    map number_of (ctl.Literal ∷ ctl.ShowText ∷ ctl.AbortText ∷ ctl.ZeroBranch ∷ ctl.Branch ∷ ctl.Do ∷ ctl.Loop ∷ ctl.PlusLoop ∷ ctl.Does ∷ ctl.Compile ∷ [])
 
 abbrev pub of_control : ℕ → List ℕ → Front
 of_control k rest =
-    cond (eqb k 6) (with_cell INum (peel rest))
-    (cond (eqb k 16) (with_text false rest)
-    (cond (eqb k 17) (with_text true rest)
-    (cond (eqb k 8) (with_cell IQuery (peel rest))
-    (cond (eqb k 7) (with_cell IBranch (peel rest))
-    (cond (eqb k 9) (with_cell IDo (peel rest))
-    (cond (eqb k 10) (with_cell (ILoop false) (peel rest))
-    (cond (eqb k 11) (with_cell (ILoop true) (peel rest))
-    (cond (eqb k 18) (First IDoes rest) (with_cell ICompile (peel rest))))))))))
+    cond (eqb k (number_of ctl.Literal)) (with_cell INum (peel rest))
+    (cond (eqb k (number_of ctl.ShowText)) (with_text false rest)
+    (cond (eqb k (number_of ctl.AbortText)) (with_text true rest)
+    (cond (eqb k (number_of ctl.ZeroBranch)) (with_cell IQuery (peel rest))
+    (cond (eqb k (number_of ctl.Branch)) (with_cell IBranch (peel rest))
+    (cond (eqb k (number_of ctl.Do)) (with_cell IDo (peel rest))
+    (cond (eqb k (number_of ctl.Loop)) (with_cell (ILoop false) (peel rest))
+    (cond (eqb k (number_of ctl.PlusLoop)) (with_cell (ILoop true) (peel rest))
+    (cond (eqb k (number_of ctl.Does)) (First IDoes rest) (with_cell ICompile (peel rest))))))))))
 
 abbrev pub chosen : ℕ → List ℕ → Option ℕ → Front
 chosen c rest None = First (ICall c) rest
@@ -95,4 +98,4 @@ built_of at (Some is) = run is FTop Empty at
 
 -- the definition whose thread these bytes may be
 abbrev pub found : (ℕ → ℕ) → List ℕ → (at : ℕ) → Option Definition
-found rt bs at = built_of at (before_last (rt 5) (instrs rt (length bs) bs))
+found rt bs at = built_of at (before_last (rt (number_of ctl.Exit)) (instrs rt (length bs) bs))

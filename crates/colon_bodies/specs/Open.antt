@@ -4,7 +4,8 @@ use Rattle.colon_bodies.specs.declared.words.Half.{Half}
 use Rattle.colon_bodies.specs.declared.words.Half.TheVariants.{Free, Ticked, Forced, Compiling, Both}
 use Rattle.colon_bodies.specs.Tokens.{Token, NAME, NUMBER, DOUBLE, TEXT, TICK, FORCE, COMPILE, IF, ELSE, THEN, BEGIN, UNTIL, AGAIN, WHILE, REPEAT, DO, LOOP, DOES}
 use Rattle.colon_bodies.specs.Tree.{Body, Empty, Call, Tick, Pair, Literal, Double, Text, IfThen, IfElse, Until, Again, While, Loop, Definition, Simple, Doing, words, depth}
-use Rattle.colon_bodies.specs.Code.{size, code}
+use Rattle.memory.specs.declared.controls.Control.TheVariants as ctl
+use Rattle.colon_bodies.specs.Code.{size, cell_of, code}
 use Rattle.memory.specs.Bytes.{cell_bytes}
 
 -- Each open structure is in the ones outside it, with the bodies that were read before.
@@ -142,27 +143,27 @@ open_size o t h = outer_size o + size t + half_size h
 -- the bytes written for the open structures, with 0 in each cell that waits for its address
 abbrev pub outer_code : (ℕ → ℕ) → Outer → ℕ → List ℕ
 outer_code rt Top at = []
-outer_code rt (Past t) at = code rt t at ++ cell_bytes (rt 18)
+outer_code rt (Past t) at = code rt t at ++ cell_of rt ctl.Does
 outer_code rt (InIf o t) at =
-    outer_code rt o at ++ (code rt t (at + outer_size o) ++ (cell_bytes (rt 8) ++ cell_bytes 0))
+    outer_code rt o at ++ (code rt t (at + outer_size o) ++ (cell_of rt ctl.ZeroBranch ++ cell_bytes 0))
 outer_code rt (InElse o t a) at =
     let p = at + outer_size o + size t in
-    outer_code rt o at ++ (code rt t (at + outer_size o) ++ (cell_bytes (rt 8) ++ (cell_bytes (p + (8 + size a)) ++ (code rt a (p + 4) ++ (cell_bytes (rt 7) ++ cell_bytes 0)))))
+    outer_code rt o at ++ (code rt t (at + outer_size o) ++ (cell_of rt ctl.ZeroBranch ++ (cell_bytes (p + (8 + size a)) ++ (code rt a (p + 4) ++ (cell_of rt ctl.Branch ++ cell_bytes 0)))))
 outer_code rt (InBegin o t) at =
     outer_code rt o at ++ code rt t (at + outer_size o)
 outer_code rt (InWhile o t a) at =
     let p = at + outer_size o + size t in
-    outer_code rt o at ++ (code rt t (at + outer_size o) ++ (code rt a p ++ (cell_bytes (rt 8) ++ cell_bytes 0)))
+    outer_code rt o at ++ (code rt t (at + outer_size o) ++ (code rt a p ++ (cell_of rt ctl.ZeroBranch ++ cell_bytes 0)))
 outer_code rt (InDo o t) at =
-    outer_code rt o at ++ (code rt t (at + outer_size o) ++ (cell_bytes (rt 9) ++ cell_bytes 0))
+    outer_code rt o at ++ (code rt t (at + outer_size o) ++ (cell_of rt ctl.Do ++ cell_bytes 0))
 
 -- bytes with those of what is half read after them
 abbrev pub half_code : (ℕ → ℕ) → Half → List ℕ → List ℕ
 half_code rt Free bs = bs
-half_code rt Ticked bs = bs ++ cell_bytes (rt 6)
+half_code rt Ticked bs = bs ++ cell_of rt ctl.Literal
 half_code rt Forced bs = bs
-half_code rt Compiling bs = bs ++ cell_bytes (rt 19)
-half_code rt Both bs = bs ++ cell_bytes (rt 19)
+half_code rt Compiling bs = bs ++ cell_of rt ctl.Compile
+half_code rt Both bs = bs ++ cell_of rt ctl.Compile
 
 abbrev pub open_code : (ℕ → ℕ) → Outer → Body → Half → ℕ → List ℕ
 open_code rt o t h at = half_code rt h (outer_code rt o at ++ code rt t (at + outer_size o))

@@ -1,5 +1,8 @@
 -- Definitions that can be found again in their thread.
 use Rattle.std.specs.Prelude.{ℕ, Bool, false, List, [], ◌∷◌, ◌++◌, ◌≡◌, ◌≢◌, ◌<◌, ◌≤◌, ◌⊎◌}
+use Rattle.memory.specs.Controls.{number_of}
+use Rattle.memory.specs.declared.controls.Control.{Control}
+use Rattle.memory.specs.declared.controls.Control.TheVariants as ctl
 use Rattle.colon_bodies.specs.Tokens.{Token, text_control, loop_control, NAME}
 use Rattle.colon_bodies.specs.Tree.{Body, Definition, named, Empty, Call, Literal, Double, Tick, Pair, IfThen, IfElse, Until, Again, While, Loop, Text, Simple, Doing}
 
@@ -11,25 +14,29 @@ pub record AreApart (rt : ℕ → ℕ) : Type 0 where
 abbrev pub IsPlainCell : (ℕ → ℕ) → ℕ → Type 0
 IsPlainCell rt w = (k : ℕ) → 6 ≤ k → k < 20 → (k < 12) ⊎ (16 ≤ k) → rt k ≢ 0 → w ≢ rt k
 
+-- a control primitive has a runtime cell
+abbrev pub Has : (ℕ → ℕ) → Control → Type 0
+Has rt control = rt (number_of control) ≢ 0
+
 -- Numbers are single, there is no ['], no name is forced, and each control that is written has a cell.
 abbrev pub IsPlainBody : (ℕ → ℕ) → Body → Type 0
 IsPlainBody rt Empty = Unit {0}
 IsPlainBody rt (Call t f w) = IsPlainBody rt t × (f ≡ false) × IsPlainCell rt w
-IsPlainBody rt (Literal t n) = IsPlainBody rt t × (rt 6 ≢ 0)
+IsPlainBody rt (Literal t n) = IsPlainBody rt t × Has rt ctl.Literal
 IsPlainBody rt (Double t n) = ⊥
 IsPlainBody rt (Tick t w) = ⊥
-IsPlainBody rt (Pair t f w) = IsPlainBody rt t × (f ≡ false) × (rt 19 ≢ 0)
-IsPlainBody rt (IfThen t a) = IsPlainBody rt t × (rt 8 ≢ 0) × IsPlainBody rt a
-IsPlainBody rt (IfElse t a b) = IsPlainBody rt t × (rt 8 ≢ 0) × IsPlainBody rt a × (rt 7 ≢ 0) × IsPlainBody rt b
-IsPlainBody rt (Until t a) = IsPlainBody rt t × IsPlainBody rt a × (rt 8 ≢ 0)
-IsPlainBody rt (Again t a) = IsPlainBody rt t × IsPlainBody rt a × (rt 7 ≢ 0)
-IsPlainBody rt (While t a b) = IsPlainBody rt t × IsPlainBody rt a × (rt 8 ≢ 0) × IsPlainBody rt b × (rt 7 ≢ 0)
-IsPlainBody rt (Loop t a k) = IsPlainBody rt t × (rt 9 ≢ 0) × IsPlainBody rt a × (rt (loop_control k) ≢ 0)
+IsPlainBody rt (Pair t f w) = IsPlainBody rt t × (f ≡ false) × Has rt ctl.Compile
+IsPlainBody rt (IfThen t a) = IsPlainBody rt t × Has rt ctl.ZeroBranch × IsPlainBody rt a
+IsPlainBody rt (IfElse t a b) = IsPlainBody rt t × Has rt ctl.ZeroBranch × IsPlainBody rt a × Has rt ctl.Branch × IsPlainBody rt b
+IsPlainBody rt (Until t a) = IsPlainBody rt t × IsPlainBody rt a × Has rt ctl.ZeroBranch
+IsPlainBody rt (Again t a) = IsPlainBody rt t × IsPlainBody rt a × Has rt ctl.Branch
+IsPlainBody rt (While t a b) = IsPlainBody rt t × IsPlainBody rt a × Has rt ctl.ZeroBranch × IsPlainBody rt b × Has rt ctl.Branch
+IsPlainBody rt (Loop t a k) = IsPlainBody rt t × Has rt ctl.Do × IsPlainBody rt a × (rt (loop_control k) ≢ 0)
 IsPlainBody rt (Text t k bs) = IsPlainBody rt t × (rt (text_control k) ≢ 0)
 
 abbrev pub IsPlainDefinition : (ℕ → ℕ) → Definition → Type 0
 IsPlainDefinition rt (Simple t) = IsPlainBody rt t
-IsPlainDefinition rt (Doing t a) = IsPlainBody rt t × (rt 18 ≢ 0) × IsPlainBody rt a
+IsPlainDefinition rt (Doing t a) = IsPlainBody rt t × Has rt ctl.Does × IsPlainBody rt a
 
 -- the same body, with the names forced that a test picks
 abbrev pub spelled : (ℕ → Bool) → Body → Body

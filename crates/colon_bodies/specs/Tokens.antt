@@ -1,5 +1,7 @@
 -- Words of a body, looked up, and what each writes.
 use Rattle.std.specs.Prelude.{ℕ, Bool, true, false, ◌+◌, List, [], ◌∷◌, length, ◌<◌, Option, Some, None}
+use Rattle.memory.specs.Controls.{number_of}
+use Rattle.memory.specs.declared.controls.Control.TheVariants as ctl
 
 -- a word of a body, looked up
 pub data Token : Type 0 where
@@ -25,30 +27,30 @@ pub data Token : Type 0 where
 
 -- the controls that show a text or abort with it, and that end a loop
 abbrev pub text_control : (aborts : Bool) → ℕ
-text_control false = 16
-text_control true = 17
+text_control false = number_of ctl.ShowText
+text_control true = number_of ctl.AbortText
 
 abbrev pub loop_control : (plus : Bool) → ℕ
-loop_control false = 10
-loop_control true = 11
+loop_control false = number_of ctl.Loop
+loop_control true = number_of ctl.PlusLoop
 
 -- the control primitive that a word writes
 abbrev pub control : Token → Option ℕ
-control (NUMBER n) = Some 6
-control (DOUBLE n) = Some 6
-control TICK = Some 6
-control COMPILE = Some 19
-control IF = Some 8
-control ELSE = Some 7
-control UNTIL = Some 8
-control AGAIN = Some 7
-control WHILE = Some 8
-control REPEAT = Some 7
-control DO = Some 9
+control (NUMBER n) = Some (number_of ctl.Literal)
+control (DOUBLE n) = Some (number_of ctl.Literal)
+control TICK = Some (number_of ctl.Literal)
+control COMPILE = Some (number_of ctl.Compile)
+control IF = Some (number_of ctl.ZeroBranch)
+control ELSE = Some (number_of ctl.Branch)
+control UNTIL = Some (number_of ctl.ZeroBranch)
+control AGAIN = Some (number_of ctl.Branch)
+control WHILE = Some (number_of ctl.ZeroBranch)
+control REPEAT = Some (number_of ctl.Branch)
+control DO = Some (number_of ctl.Do)
 control (LOOP k) = Some (loop_control k)
 control (TEXT k bs) = Some (text_control k)
-control DOES = Some 18
-control SEMI = Some 5
+control DOES = Some (number_of ctl.Does)
+control SEMI = Some (number_of ctl.Exit)
 control _ = None
 
 -- how many bytes each word writes, wherever it is

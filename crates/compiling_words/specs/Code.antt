@@ -1,6 +1,8 @@
 -- What compiling words write: the compilation addresses of control primitives, and what comes after them.
 use Rattle.std.specs.Prelude.{ℕ, ◌+◌, ◌*◌, List, ◌∷◌, ◌++◌, length}
 use Rattle.memory.specs.Bytes.{cell, cell_bytes}
+use Rattle.memory.specs.Controls.{number_of}
+use Rattle.memory.specs.declared.controls.Control.TheVariants as ctl
 use Rattle.memory.specs.declared.system.TheConstants.{RUNTIME_CELLS}
 use Rattle.compiling_words.specs.declared.text.TextWord.{TextWord}
 use Rattle.compiling_words.specs.declared.text.TextWord.TheVariants.{Show, Abort}
@@ -15,12 +17,12 @@ control_code m k x = cell_bytes (runtime m k) ++ cell_bytes x
 
 -- the code of a literal: (LIT) and the cell
 abbrev pub literal_code : List ℕ → ℕ → List ℕ
-literal_code m x = control_code m 6 x
+literal_code m x = control_code m (number_of ctl.Literal) x
 
 -- the row of what writes a text: (.") or (ABORT")
 abbrev pub text_number : TextWord → ℕ
-text_number Show = 16
-text_number Abort = 17
+text_number Show = number_of ctl.ShowText
+text_number Abort = number_of ctl.AbortText
 
 -- a token, a count byte and the text
 unfoldable pub text_code : ℕ → List ℕ → List ℕ

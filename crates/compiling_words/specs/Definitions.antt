@@ -1,5 +1,7 @@
 -- How a colon definition begins and ends.
 use Rattle.std.specs.Prelude.{◌≡◌, ℕ, ◌+◌, List, [], ◌∷◌, ◌++◌, length, Result, Ok, Err, IsTrue, IsFalse}
+use Rattle.memory.specs.declared.controls.Control.TheVariants as ctl
+use Rattle.memory.specs.Controls.{number_of}
 use Rattle.memory.specs.Bytes.{byte, cell, put_byte, put_cell, cell_bytes, Write, PutCell, written}
 use Rattle.memory.specs.declared.system.TheConstants.{STATE, CONTEXT, CURRENT}
 use Rattle.dictionary.specs.declared.fault.AddFault.{AddFault}
@@ -34,7 +36,7 @@ IsBegun limit old new name (Err Full) =
 abbrev pub ended : List ℕ → List ℕ
 ended m =
     let revealed_count = revealed (byte m (newest_count m)) in
-    put_cell (put_byte (laid m (cell_bytes (runtime m 5))) (newest_count m) revealed_count) STATE 0
+    put_cell (put_byte (laid m (cell_bytes (runtime m (number_of ctl.Exit)))) (newest_count m) revealed_count) STATE 0
 
 abbrev pub IsEnded : ℕ → List ℕ → List ℕ → Result Unit Refused → Type 0
 IsEnded limit old new (Ok _) = IsTrue (fits limit old 2) × (new ≡ ended old)

@@ -195,10 +195,7 @@ pub fn resume(alloc: Global, kept: &Forth83) -> Result<Machine, NotResumed>
     };
     let wait = wait_of(kept.asks, kept.asked, kept.token);
     let halt = halt_of(kept.halts, kept.fault);
-    match Machine::resume(alloc, parts, wait, halt) {
-        Ok(machine) => Ok(machine),
-        Err(_) => Err(NotResumed::OutOfMemory),
-    }
+    Ok(Machine::resume(parts, wait, halt))
 }
 
 fn wait_told(wait: Option<(Request, u16)>) -> (u16, u16, u16)

@@ -40,4 +40,4 @@ built_of_read {limit} buffers count from to k bytes entry calls calls' q are tak
 
 -- memory runs out before a screen is read
 pub refused_at_once : (d e : Disk) (limit count from to : ℕ) (calls : List DeviceCall) → DidAs d e count calls calls → IsRefused limit d from to (record { screen = from; offset = 0; cause = c.OutOfMemory }) (done_of (Some e) calls calls)
-refused_at_once d e limit count from to calls did = record { k = 0; few = omega arith; disk = ap Some (none_made d e count calls did); because = (refl, refl, refl) }
+refused_at_once d e limit count from to calls did = record { is = (refl, refl); k = 0; few = omega arith; disk = ap Some (none_made d e count calls did); asks = refl }

@@ -4,16 +4,14 @@ use Rattle.std.specs.Prelude.{Result, Ok, Err}
 use Rattle.colon_bodies.specs.Tokens.{Token}
 use Rattle.image_builder.specs.declared.state.Build.{Build}
 use Rattle.image_builder.specs.declared.cause.Cause.{Cause}
-use Rattle.image_builder.specs.declared.cause.BuildFault.{BuildFault}
-use Rattle.image_builder.specs.declared.state.Site.{Site}
 use Rattle.image_builder.specs.declared.state.Title.{Title}
 use Rattle.image_builder.specs.declared.entry.Lead.{Lead}
 use Rattle.image_builder.specs.declared.state.Begun.{Begun}
 use Rattle.image_builder.specs.declared.state.Begun.TheVariants as g
 use Rattle.image_builder.specs.Places.{Place, IsTitle}
 use Rattle.image_builder.specs.Items.{Items}
-use Rattle.image_builder.specs.Stages.{Stage, Whole, Counted, Due, Chosen, Inside}
-use Rattle.image_builder.specs.State.{IsAtSite, IsState, Shows, Taken, TakenAt, located}
+use Rattle.image_builder.specs.Stages.{Stage, Whole, Due, Chosen, Inside}
+use Rattle.image_builder.specs.State.{IsState, Shows, Taken, TakenAt, located}
 
 pub taken_at : (limit : ℕ) (t : Items) (ws : List Place) (stage : Stage) (w : Place) (after : List Place) (r : Result Begun Cause) (b : Build) → Taken limit t ws stage w after r b → TakenAt limit t ws stage w after (located w.screen w.offset r) b
 taken_at limit t ws stage w after (Ok x) b h = h

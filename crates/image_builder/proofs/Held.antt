@@ -10,7 +10,7 @@ use Rattle.image_builder.specs.Spelled.{placed, all_placed}
 use Rattle.image_builder.specs.Items.{Items}
 use Rattle.image_builder.specs.Stages.{Stage}
 use Rattle.image_builder.specs.Built.{Building}
-use Rattle.image_builder.specs.State.{Shows, IsState, IsRead, IsBegun, Goes, TakenAt}
+use Rattle.image_builder.specs.State.{Shows, IsState, IsRead, Goes, TakenAt}
 use Rattle.image_builder.specs.Sources.{IsFaultless}
 use Rattle.image_builder.specs.Reading.{Holds, IsHeld, IsFaultOf}
 use Rattle.image_builder.proofs.Looping.{read_on, stops, is_front}

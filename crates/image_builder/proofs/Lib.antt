@@ -13,8 +13,10 @@ pub mod Single
 pub mod Held
 pub mod Midways
 pub mod Pages
+pub mod Readable
 pub mod Screens
 pub mod Refusing
+pub mod OneRefusal
 pub mod Headers
 pub mod Chained
 pub mod Fields

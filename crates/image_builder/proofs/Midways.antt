@@ -69,7 +69,7 @@ left_true true b e = refl
 left_true false b e = e
 
 pub read_done : (d : Disk) (s : ℕ) (r : Result Unit DeviceFault) (page : List ℕ) (new : Option Disk) (before after : List DeviceCall) → is_err r ≡ false → Reads d s new page r → after ≡ before ++ read_call s page r ∷ [] → HasRead d s (done_of new before after) × (page ≡ block_at d.blocks s)
-read_done d s (Ok u) page new before after e x n = (record { there = ltb-true s (length d.blocks) (left_true _ _ x.0); disk = x.1; failures = succeeded before after (WasRead s page) n refl }, x.2)
+read_done d s (Ok u) page new before after e x n = (record { there = ltb-true s (length d.blocks) (left_true _ _ x.0); succeeds_is = x.0; disk = x.1; failures = succeeded before after (WasRead s page) n refl }, x.2)
 read_done d s (Err u) page new before after e x n = cc
 
 -- a screen that the device has, and failed to read

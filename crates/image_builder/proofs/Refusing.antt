@@ -27,9 +27,8 @@ use Rattle.image_builder.specs.Meanings.{look, meaning}
 use Rattle.image_builder.specs.Stages.{Stage, Whole, Counted, Due, Chosen, Inside, body_at}
 use Rattle.image_builder.specs.Faults.{AtItem, AtNumber, AtName, AtVocabulary, InBody, Applies, IsFault, IsGood}
 use Rattle.image_builder.specs.State.{IsBuilt}
-use Rattle.image_builder.specs.Sources.{CantBeRead, Done, AreThere, Because, IsRefused, IsBuiltOf, IsFaultless, screens, source_of}
+use Rattle.image_builder.specs.Sources.{AllReadable, AsksFor, Done, IsRefused, IsBuiltOf, IsFaultless, IsWrong, after_reads, readable, screens, source_of}
 use Rattle.image_builder.specs.Reading.{Stopped, TookAll, Why, refusal, settled}
-use Rattle.image_builder.proofs.Exact.{no_fault}
 use Rattle.image_builder.proofs.Looping.{IsOfWord, sense_cause}
 
 -- no word has the cause of a device
@@ -63,55 +62,6 @@ none_of_device limit t (Due l) w after = name_none limit t w l
 none_of_device limit t (Chosen v) w after = vocabulary_none w.sort
 none_of_device limit t (Inside p before) w after = body_none limit (controls t) (body_at t p) before (meaning (rules.half_of Free before) t w) (sense_cause (rules.half_of Free before) (look t w) w.inner)
 
--- a word's fault, as a refusal
-word_because : {limit : ℕ} (d : Disk) (from to k screen offset : ℕ) (cause : Cause) (done : Done) → done.after ≡ done.before → IsFaultless limit (source_words from (screens d from (k - 1))) →
-    ((rest : List SourceWord) (last : ℕ) → IsFault limit (all_placed (source_words from (screens d from k) ++ rest)) last screen offset cause) →
-    Because limit d from to k (settled screen offset cause from).screen (settled screen offset cause from).offset (settled screen offset cause from).cause done
-word_because d from to k screen offset c.OutOfMemory done q o h = (refl, refl, q)
-word_because {limit} d from to k screen offset c.Device done q o h = let f = h [] 0 in absurd (none_of_device limit f.3 f.5 f.1 f.2 f.10.applies)
-word_because d from to k screen offset c.EndsInside done q o h = let a = (h [] screen).0 in let b = (h [] (screen + 1)).0 in absurd (omega (arith, b))
-word_because d from to k screen offset c.NoBoot done q o h = let a = (h [] screen).0 in let b = (h [] (screen + 1)).0 in absurd (omega (arith, b))
-word_because d from to k screen offset c.BadNumber done q o h = (q, o, λ rest. h rest to)
-word_because d from to k screen offset c.BadPrimitive done q o h = (q, o, λ rest. h rest to)
-word_because d from to k screen offset c.Misplaced done q o h = (q, o, λ rest. h rest to)
-word_because d from to k screen offset c.Unbalanced done q o h = (q, o, λ rest. h rest to)
-word_because d from to k screen offset c.Unknown done q o h = (q, o, λ rest. h rest to)
-word_because d from to k screen offset c.BadName done q o h = (q, o, λ rest. h rest to)
-word_because d from to k screen offset c.Full done q o h = (q, o, λ rest. h rest to)
-
-because : (limit : ℕ) (d : Disk) (from to k : ℕ) (e : Stop) (done : Done) → Why limit d from to k e done → Because limit d from to k (refusal e from).screen (refusal e from).offset (refusal e from).cause done
-because limit d from to k (stop.Device u) done h =
-    (refl, h.0, h.1, elim h.3 as (λ v. ((length d.blocks ≤ u) × (from + k ≡ u) × (done.after ≡ done.before)) ⊎ (CantBeRead d from u × (from + k ≡ u + 1) × (done.after ≡ done.before + 1))) [ inl x ↦ inr x | inr x ↦ inl x ], h.2)
-because limit d from to k (stop.Word f) done h = word_because d from to k f.screen f.offset f.cause done h.0 h.1 h.2
-
-pub stopped_refused : {limit : ℕ} (d : Disk) (from to : ℕ) (e : Stop) (done : Done) → Stopped limit d from to e done → IsRefused limit d from to (refusal e from) done
-stopped_refused {limit} d from to e done h = record {
-  k = h.k;
-  few = h.few;
-  disk = h.disk;
-  because = because limit d from to h.k e done h.because;
-}
-
--- the end of all screens, as a refusal
-end_because : (limit : ℕ) (d : Disk) (from to screen offset : ℕ) (cause : Cause) (done : Done) → AreThere d from to → done.after ≡ done.before → (cause ≡ c.EndsInside) ⊎ (cause ≡ c.NoBoot) ⊎ (cause ≡ c.OutOfMemory) →
-    IsFault limit (all_placed (source_of d from to)) to screen offset cause →
-    Because limit d from to (to + 1 - from) (settled screen offset cause from).screen (settled screen offset cause from).offset (settled screen offset cause from).cause done
-end_because limit d from to screen offset c.OutOfMemory done t q o h = (refl, refl, q)
-end_because limit d from to screen offset c.EndsInside done t q o h = (refl, t, q, h)
-end_because limit d from to screen offset c.NoBoot done t q o h = (refl, t, q, h)
-end_because limit d from to screen offset _ done t q (inl o) h = cc
-end_because limit d from to screen offset _ done t q (inr (inl o)) h = cc
-end_because limit d from to screen offset _ done t q (inr (inr o)) h = cc
-
-pub ended_refused : {limit : ℕ} (d : Disk) (from to : ℕ) (k : Compilation) (f : BuildFault) (done : Done) → TookAll limit d from to k done → (f.cause ≡ c.EndsInside) ⊎ (f.cause ≡ c.NoBoot) ⊎ (f.cause ≡ c.OutOfMemory) →
-    IsFault limit (all_placed (source_of d from to)) to f.screen f.offset f.cause → IsRefused limit d from to (settled f.screen f.offset f.cause from) done
-ended_refused {limit} d from to k f done h o x = record {
-  k = to + 1 - from;
-  few = omega arith;
-  disk = h.disk;
-  because = end_because limit d from to f.screen f.offset f.cause done h.there h.failures o x;
-}
-
 -- the words of the first screens are the first words
 first_screens : (d : Disk) (from n k : ℕ) → k ≤ n → (rest : List SourceWord) × (source_words from (screens d from n) ≡ source_words from (screens d from k) ++ rest)
 first_screens d from n k h =
@@ -121,40 +71,72 @@ first_screens d from n k h =
       ap (source_words from) (sym (take-append-drop k all)) ∙ words_append Outside from (take k all) (drop k all) ∙ ap (λ ws. ws ++ words_of_screens (after_words Outside (words_of_screens Outside from (take k all))) (from + length (take k all)) (drop k all)) (ap (source_words from) front),
     )
 
+-- a word at fault among those of the first screens is the first fault of more screens
+pub fault_of_more : (limit : ℕ) (d : Disk) (from n k last screen offset : ℕ) (cause : Cause) → k ≤ n →
+    ((rest : List SourceWord) → IsFault limit (all_placed (source_words from (screens d from k) ++ rest)) last screen offset cause) → IsFault limit (all_placed (source_words from (screens d from n))) last screen offset cause
+fault_of_more limit d from n k last screen offset cause h all =
+    let r : (rest : List SourceWord) × (source_words from (screens d from n) ≡ source_words from (screens d from k) ++ rest) = first_screens d from n k h in
+    let P : List SourceWord → Type 0 = λ ws. IsFault limit (all_placed ws) last screen offset cause in
+    subst P (sym r.1) (all r.0)
+
+-- a refusal, with what it asks for
+abbrev IsAnswer : ℕ → Disk → (from to k screen offset : ℕ) → Cause → Done → Type 0
+IsAnswer limit d from to k screen offset cause done = IsWrong limit d from to screen offset cause × AsksFor limit d from to k screen offset cause done
+
+as_refused : {limit : ℕ} (d : Disk) (from to k screen offset : ℕ) (cause : Cause) (done : Done) → k ≤ to + 1 - from → done.disk ≡ Some (after_reads k d) →
+    IsAnswer limit d from to k screen offset cause done → IsRefused limit d from to (record { screen = screen; offset = offset; cause = cause }) done
+as_refused d from to k screen offset cause done few disk h = record { is = h.0; k = k; few = few; disk = disk; asks = h.1 }
+
+-- a word's fault, as a refusal
+word_answer : {limit : ℕ} (d : Disk) (from to k screen offset : ℕ) (cause : Cause) (done : Done) → k ≤ readable d from (to + 1 - from) → done.after ≡ done.before → IsFaultless limit (source_words from (screens d from (k - 1))) →
+    ((rest : List SourceWord) (last : ℕ) → IsFault limit (all_placed (source_words from (screens d from k) ++ rest)) last screen offset cause) →
+    IsAnswer limit d from to k (settled screen offset cause from).screen (settled screen offset cause from).offset (settled screen offset cause from).cause done
+word_answer d from to k screen offset c.OutOfMemory done l q o h = ((refl, refl), q)
+word_answer {limit} d from to k screen offset c.Device done l q o h = let f = h [] 0 in absurd (none_of_device limit f.3 f.5 f.1 f.2 f.10.applies)
+word_answer d from to k screen offset c.EndsInside done l q o h = let a = (h [] screen).0 in let b = (h [] (screen + 1)).0 in absurd (omega (arith, b))
+word_answer d from to k screen offset c.NoBoot done l q o h = let a = (h [] screen).0 in let b = (h [] (screen + 1)).0 in absurd (omega (arith, b))
+word_answer {limit} d from to k screen offset c.BadNumber done l q o h = (fault_of_more limit d from (readable d from (to + 1 - from)) k to screen offset c.BadNumber l (λ rest. h rest to), (q, o, λ rest. h rest to))
+word_answer {limit} d from to k screen offset c.BadPrimitive done l q o h = (fault_of_more limit d from (readable d from (to + 1 - from)) k to screen offset c.BadPrimitive l (λ rest. h rest to), (q, o, λ rest. h rest to))
+word_answer {limit} d from to k screen offset c.Misplaced done l q o h = (fault_of_more limit d from (readable d from (to + 1 - from)) k to screen offset c.Misplaced l (λ rest. h rest to), (q, o, λ rest. h rest to))
+word_answer {limit} d from to k screen offset c.Unbalanced done l q o h = (fault_of_more limit d from (readable d from (to + 1 - from)) k to screen offset c.Unbalanced l (λ rest. h rest to), (q, o, λ rest. h rest to))
+word_answer {limit} d from to k screen offset c.Unknown done l q o h = (fault_of_more limit d from (readable d from (to + 1 - from)) k to screen offset c.Unknown l (λ rest. h rest to), (q, o, λ rest. h rest to))
+word_answer {limit} d from to k screen offset c.BadName done l q o h = (fault_of_more limit d from (readable d from (to + 1 - from)) k to screen offset c.BadName l (λ rest. h rest to), (q, o, λ rest. h rest to))
+word_answer {limit} d from to k screen offset c.Full done l q o h = (fault_of_more limit d from (readable d from (to + 1 - from)) k to screen offset c.Full l (λ rest. h rest to), (q, o, λ rest. h rest to))
+
+-- the screen that can't be read, as a refusal
+device_answer : {limit : ℕ} (d : Disk) (from to k u : ℕ) (done : Done) → Why limit d from to k (stop.Device u) done → IsAnswer limit d from to k u 0 c.Device done
+device_answer {limit} d from to k u done h =
+    let here : u - from ≡ readable d from (to + 1 - from) = omega (arith, h.0) in
+    ((h.0, h.1, refl, subst (λ n. IsFaultless limit (source_words from (screens d from n))) here h.2), h.3)
+
+pub stopped_refused : {limit : ℕ} (d : Disk) (from to : ℕ) (e : Stop) (done : Done) → Stopped limit d from to e done → IsRefused limit d from to (refusal e from) done
+stopped_refused d from to (stop.Device u) done h = as_refused d from to h.k u 0 c.Device done h.few h.disk (device_answer d from to h.k u done h.because)
+stopped_refused {limit} d from to (stop.Word f) done h =
+    let b = h.because in
+    let r = settled f.screen f.offset f.cause from in
+    as_refused d from to h.k r.screen r.offset r.cause done h.few h.disk (word_answer {limit = limit} d from to h.k f.screen f.offset f.cause done b.0 b.1 b.2 b.3)
+
+-- the end of all screens, as a refusal
+end_answer : (limit : ℕ) (d : Disk) (from to screen offset : ℕ) (cause : Cause) (done : Done) → AllReadable d from to → done.after ≡ done.before → (cause ≡ c.EndsInside) ⊎ (cause ≡ c.NoBoot) ⊎ (cause ≡ c.OutOfMemory) →
+    IsFault limit (all_placed (source_of d from to)) to screen offset cause →
+    IsAnswer limit d from to (to + 1 - from) (settled screen offset cause from).screen (settled screen offset cause from).offset (settled screen offset cause from).cause done
+end_answer limit d from to screen offset c.OutOfMemory done t q o h = ((refl, refl), q)
+end_answer limit d from to screen offset c.EndsInside done t q o h = ((t, h), (refl, q))
+end_answer limit d from to screen offset c.NoBoot done t q o h = ((t, h), (refl, q))
+end_answer limit d from to screen offset _ done t q (inl o) h = cc
+end_answer limit d from to screen offset _ done t q (inr (inl o)) h = cc
+end_answer limit d from to screen offset _ done t q (inr (inr o)) h = cc
+
+pub ended_refused : {limit : ℕ} (d : Disk) (from to : ℕ) (k : Compilation) (f : BuildFault) (done : Done) → TookAll limit d from to k done → (f.cause ≡ c.EndsInside) ⊎ (f.cause ≡ c.NoBoot) ⊎ (f.cause ≡ c.OutOfMemory) →
+    IsFault limit (all_placed (source_of d from to)) to f.screen f.offset f.cause → IsRefused limit d from to (settled f.screen f.offset f.cause from) done
+ended_refused {limit} d from to k f done h o x =
+    let r = settled f.screen f.offset f.cause from in
+    as_refused d from to (to + 1 - from) r.screen r.offset r.cause done (omega arith) h.disk (end_answer limit d from to f.screen f.offset f.cause done h.all h.failures o x)
+
 -- a word at fault among those of the first screens is the first fault of the source
 pub fault_of_source : (limit : ℕ) (d : Disk) (from to k screen offset : ℕ) (cause : Cause) → k ≤ to + 1 - from →
     ((rest : List SourceWord) → IsFault limit (all_placed (source_words from (screens d from k) ++ rest)) to screen offset cause) → IsFault limit (all_placed (source_of d from to)) to screen offset cause
-fault_of_source limit d from to k screen offset cause h all =
-    let r : (rest : List SourceWord) × (source_words from (screens d from (to + 1 - from)) ≡ source_words from (screens d from k) ++ rest) = first_screens d from (to + 1 - from) k h in
-    let P : List SourceWord → Type 0 = λ ws. IsFault limit (all_placed ws) to screen offset cause in
-    subst P (sym r.1) (all r.0)
-
--- what a refusal says of the whole source
-told : (limit : ℕ) (d : Disk) (from to k screen offset : ℕ) (cause : Cause) (done : Done) → k ≤ to + 1 - from → AreThere d from to → done.after ≡ done.before → Because limit d from to k screen offset cause done → IsFault limit (all_placed (source_of d from to)) to screen offset cause
-told limit d from to k screen offset c.OutOfMemory done few there quiet h = tt
-told limit d from to k screen offset c.Device done few there quiet h =
-    absurd (elim h.3 as (λ v. ⊥) [
-      | inl none ↦ let le : screen ≤ to = h.2 in let ge : from ≤ screen = h.1 in omega (arith, none.0, there (omega arith))
-      | inr failed ↦ omega (arith, failed.2)
-    ])
-told limit d from to k screen offset c.EndsInside done few there quiet h = h.3
-told limit d from to k screen offset c.NoBoot done few there quiet h = h.3
-told limit d from to k screen offset c.BadNumber done few there quiet h = fault_of_source limit d from to k screen offset c.BadNumber few h.2
-told limit d from to k screen offset c.BadPrimitive done few there quiet h = fault_of_source limit d from to k screen offset c.BadPrimitive few h.2
-told limit d from to k screen offset c.Misplaced done few there quiet h = fault_of_source limit d from to k screen offset c.Misplaced few h.2
-told limit d from to k screen offset c.Unbalanced done few there quiet h = fault_of_source limit d from to k screen offset c.Unbalanced few h.2
-told limit d from to k screen offset c.Unknown done few there quiet h = fault_of_source limit d from to k screen offset c.Unknown few h.2
-told limit d from to k screen offset c.BadName done few there quiet h = fault_of_source limit d from to k screen offset c.BadName few h.2
-told limit d from to k screen offset c.Full done few there quiet h = fault_of_source limit d from to k screen offset c.Full few h.2
-
--- where all screens exist and none fails, the refusal is the first fault of the whole source
-pub refused_at : (limit : ℕ) (d : Disk) (from to : ℕ) (e : BuildFault) (done : Done) → AreThere d from to → done.after ≡ done.before → IsRefused limit d from to e done → IsFault limit (all_placed (source_of d from to)) to e.screen e.offset e.cause
-refused_at limit d from to e done there quiet h = told limit d from to h.k e.screen e.offset e.cause done h.few there quiet h.because
-
--- a good source is refused only for lack of memory, or where the device fails
-pub good_refused : (limit : ℕ) (d : Disk) (from to : ℕ) (e : BuildFault) (done : Done) (items : Items) (entry : ℕ) → AreThere d from to → IsGood limit (all_placed (source_of d from to)) items entry → done.after ≡ done.before → IsRefused limit d from to e done → e.cause ≡ c.OutOfMemory
-good_refused limit d from to e done items entry there good quiet h =
-    no_fault limit (all_placed (source_of d from to)) items entry to e.screen e.offset e.cause good (refused_at limit d from to e done there quiet h)
+fault_of_source limit d from to k screen offset cause = fault_of_more limit d from (to + 1 - from) k to screen offset cause
 
 -- what is built
 pub built_of : {limit : ℕ} (count : ℕ) (d : Disk) (from to : ℕ) (k : Compilation) (bytes : List ℕ) (entry : ℕ) (done : Done) → limit ≡ limit_of count

@@ -1,9 +1,10 @@
 -- Screens, taken one by one.
-use Rattle.std.proofs.Common.{◌≡◌, ℕ, ◌+◌, ◌-◌, ◌<◌, ◌≤◌, ◌∙◌, List, [], ◌∷◌, ◌++◌, length, drop, slice_index_or, length-drop, arith, refl, ap, sym, subst, Some, Ok, Err, inl, inr}
-use Rattle.std.proofs.lemmas.Bool.{cases_lt}
+use Rattle.std.proofs.Common.{◌≡◌, ℕ, suc, ◌+◌, ◌-◌, ◌<◌, ◌≤◌, ◌∙◌, List, [], ◌∷◌, ◌++◌, length, drop, slice_index_or, length-drop, arith, refl, ap, sym, subst, Some, Ok, Err, inl, inr}
+use Rattle.std.specs.Prelude.{true, false, not, ◌&&◌}
+use Rattle.std.proofs.lemmas.Bool.{cases_lt, le-ltb}
 use Rattle.std.proofs.lemmas.List.{take_more, get_or-drop, drop-drop, length-take-le}
 use Rattle.block_buffers.specs.DeviceCalls.{DeviceCall}
-use Rattle.block_buffers.specs.Disks.{Disk, block_at, called}
+use Rattle.block_buffers.specs.Disks.{Disk, block_at, called, next_fails, succeeds}
 use Rattle.block_buffers.specs.Likeness.{DidAs}
 use Rattle.block_buffers.proofs.Likeness.{both_of, none_made}
 use Rattle.source_words.specs.declared.modes.Mode.{Mode}
@@ -13,11 +14,12 @@ use Rattle.source_words.proofs.Joining.{after_append, words_snoc}
 use Rattle.image_builder.specs.declared.reading.Compilation.{Compilation}
 use Rattle.image_builder.specs.declared.reading.Stop.{Stop}
 use Rattle.image_builder.specs.declared.reading.Stop.TheVariants as stop
-use Rattle.image_builder.specs.Sources.{after_reads, done_of, screens, Done}
+use Rattle.image_builder.specs.Sources.{after_reads, done_of, readable, screens, Done}
 use Rattle.block_buffers.specs.ReadPages.{AreReadFrom, reads_of}
 use Rattle.image_builder.specs.Reading.{Asks, Holds, IsFaultOf, TakesScreen, TookAll, Stopped, Underway}
 use Rattle.image_builder.proofs.Held.{faultless}
 use Rattle.image_builder.proofs.Pages.{screen_before}
+use Rattle.image_builder.proofs.Readable.{readable_more, readable_stops, readable_least}
 
 screens-more : (d : Disk) (from s : ℕ) → from ≤ s → s < length d.blocks → screens d from (s + 1 - from) ≡ screens d from (s - from) ++ block_at d.blocks s ∷ []
 screens-more d from s h k =
@@ -46,12 +48,13 @@ some_injective e = cc
 
 -- the screens before the first of them are none
 begun_underway : {limit : ℕ} (d : Disk) (from : ℕ) (kp : Compilation) (done : Done) → Holds limit kp [] → done.disk ≡ Some d → done.after ≡ done.before → Underway limit d from from Outside kp done
-unfolding words_of_screens after_words
+unfolding words_of_screens after_words readable
 begun_underway d from kp done h q f =
     let none : from - from ≡ 0 = omega arith in
     record {
       above = omega arith;
       there = λ k. absurd (omega arith);
+      all = rw none refl;
       took = rw none h;
       mode = rw none refl;
       disk = rw none q;
@@ -60,6 +63,24 @@ begun_underway d from kp done h q f =
 
 pub none_underway : {limit : ℕ} (d e : Disk) (from count : ℕ) (kp : Compilation) (calls : List DeviceCall) → Holds limit kp [] → DidAs d e count calls calls → Underway limit d from from Outside kp (done_of (Some e) calls calls)
 none_underway d e from count kp calls h did = begun_underway d from kp (done_of (Some e) calls calls) h (ap Some (none_made d e count calls did)) refl
+
+-- one screen more could be read
+one_readable : (d : Disk) (from s : ℕ) → from ≤ s → readable d from (s - from) ≡ s - from → succeeds (after_reads (s - from) d) s ≡ true → readable d from (s + 1 - from) ≡ s + 1 - from
+one_readable d from s h all e =
+    let here : from + (s - from) ≡ s = omega arith in
+    let next : s + 1 - from ≡ suc (s - from) = omega arith in
+    rw next (readable_more (s - from) d from all (ap (succeeds (after_reads (s - from) d)) here ∙ e))
+
+-- the next screen can't be read
+stops_at : (d : Disk) (from s to : ℕ) → from ≤ s → s ≤ to → readable d from (s - from) ≡ s - from → succeeds (after_reads (s - from) d) s ≡ false → s ≡ from + readable d from (to + 1 - from)
+stops_at d from s to h k all e =
+    let here : from + (s - from) ≡ s = omega arith in
+    let less : s - from < to + 1 - from = omega arith in
+    rw (readable_stops (s - from) (to + 1 - from) d from all (ap (succeeds (after_reads (s - from) d)) here ∙ e) less) (omega arith)
+
+-- a screen that the device doesn't have
+past_fails : (d : Disk) (s : ℕ) → length d.blocks ≤ s → succeeds d s ≡ false
+past_fails d s h = ap (λ b. b && not (next_fails d.coming)) (le-ltb s (length d.blocks) h)
 
 -- one screen more is taken
 pub screen_more : {limit : ℕ} (d : Disk) (from s : ℕ) (m next : Mode) (old new : Compilation) (done step : Done) → Underway limit d from s m old done →
@@ -71,6 +92,7 @@ screen_more d from s m next old new done step h t f =
     record {
       above = omega arith;
       there = λ k. omega (arith, t.0.there);
+      all = one_readable d from s h.above h.all t.0.succeeds_is;
       took = rw words t.1.0;
       mode = t.1.1 ∙ ap (λ k. after_words k (screen_words m s (block_at d.blocks s))) h.mode ∙ sym (after_append Outside (source_words from (screens d from (s - from))) (screen_words m s (block_at d.blocks s))) ∙ ap (after_words Outside) (sym words);
       disk = t.0.disk ∙ ap Some (reads-more d from s h.above);
@@ -88,13 +110,13 @@ screen_stops {limit} d from s to m (stop.Device u) old new done step h k t f =
         k = s + 1 - from;
         few = omega arith;
         disk = failed.disk ∙ ap Some (reads-more d from s h.above);
-        because = rw t.0 (h.above, k, faultless old _ t.1, inl ((failed.there, failed.fails), omega arith, failed.failures ∙ ap (λ n. n + 1) (f ∙ h.failures)));
+        because = rw t.0 (stops_at d from s to h.above k h.all failed.fails, k, faultless old _ t.1, inr (failed.there, omega arith, failed.failures ∙ ap (λ n. n + 1) (f ∙ h.failures)));
       }
       | inr none ↦ record {
         k = s - from;
         few = omega arith;
         disk = none.disk;
-        because = rw t.0 (h.above, k, faultless old _ t.1, inr (none.past, omega arith, none.failures ∙ f ∙ h.failures));
+        because = rw t.0 (stops_at d from s to h.above k h.all (past_fails (after_reads (s - from) d) s none.past), k, faultless old _ t.1, inl (none.past, omega arith, none.failures ∙ f ∙ h.failures));
       }
     ]
 screen_stops {limit} d from s to m (stop.Word fault) old new done step h k t f =
@@ -107,7 +129,7 @@ screen_stops {limit} d from s to m (stop.Word fault) old new done step h k t f =
       k = s + 1 - from;
       few = omega arith;
       disk = t.1.disk ∙ ap Some (reads-more d from s h.above);
-      because = (t.1.failures ∙ f ∙ h.failures, rw last (faultless old _ t.0), subst P (sym words) t.2);
+      because = (readable_least (s + 1 - from) (to + 1 - from) d from (omega arith) (one_readable d from s h.above h.all t.1.succeeds_is), t.1.failures ∙ f ∙ h.failures, rw last (faultless old _ t.0), subst P (sym words) t.2);
     }
 
 -- the same, by what a device did
@@ -141,6 +163,7 @@ all_screens {limit} d from s to m kp done h e q =
     let P : ℕ → Type 0 = λ n. Holds limit kp (source_words from (screens d from n)) in
     record {
       there = λ k. omega (arith, h.there (omega (arith, q k)), q k);
+      all = subst (λ n. readable d from n ≡ n) e h.all;
       took = subst P e h.took;
       disk = h.disk ∙ ap (λ n. Some (after_reads n d)) e;
       failures = h.failures;

@@ -306,7 +306,7 @@ same_cause limit t stage w after a b f g x y =
       | inr (inr q) ↦ rank_same a b q
     ]
 
-turned : (p q o n : ℕ) (a b : Cause) → IsSameFault q n b p o a → IsSameFault p o a q n b
+pub turned : (p q o n : ℕ) (a b : Cause) → IsSameFault q n b p o a → IsSameFault p o a q n b
 turned p q o n a b (inl x) = inr (inl x)
 turned p q o n a b (inr (inl x)) = inl x
 turned p q o n a b (inr (inr x)) = inr (inr (sym x.0, sym x.1, sym x.2))
@@ -341,12 +341,28 @@ words_differ limit source p q o n a b f g (v ∷ z) e h =
           (walk_on limit f.before (f.word ∷ z) g.before f.items g.items f.words g.words f.stage g.stage f.front g.front (e ∙ ap (λ u. f.before ++ u ∷ z) (sym x))))
     ]
 
+front_and_word : (limit : ℕ) (source : List Place) (t : Items) (ws : List Place) (stage : Stage) (screen offset : ℕ) (cause : Cause) → IsFront limit source t ws stage → AtWord limit source screen offset cause → ⊥
+front_and_word limit source t ws stage screen offset cause f g =
+    word_clean limit g.items g.words g.stage (At t ws stage) g.word g.after [] cause
+    (subst (λ l. Applies limit g.items g.stage g.word l cause) (sym (append-nil g.after)) g.first.applies)
+    (f.sound, f.begun) (inl refl)
+    (walk_on limit g.before (g.word ∷ g.after) source g.items t g.words ws g.stage stage g.front f g.is)
+
 end_and_word : (limit : ℕ) (source : List Place) (last p q o n : ℕ) (a b : Cause) → AtEnd limit source last p o a → AtWord limit source q n b → ⊥
-end_and_word limit source last p q o n a b f g =
-    word_clean limit g.items g.words g.stage (At f.items f.words f.stage) g.word g.after [] b
-    (subst (λ l. Applies limit g.items g.stage g.word l b) (sym (append-nil g.after)) g.first.applies)
-    (f.front.sound, f.front.begun) (inl refl)
-    (walk_on limit g.before (g.word ∷ g.after) source g.items f.items g.words f.words g.stage f.stage g.front f.front g.is)
+end_and_word limit source last p q o n a b f g = front_and_word limit source f.items f.words f.stage q n b f.front g
+
+-- among words that nothing is wrong with, none is at fault
+pub none_at_fault : (limit : ℕ) (source : List Place) (t : Items) (ws : List Place) (stage : Stage) (last screen offset : ℕ) (cause : Cause) → 1 < rank cause → rank cause < 9 → IsFront limit source t ws stage
+    → IsFault limit source last screen offset cause → ⊥
+none_at_fault limit source t ws stage last screen offset cause low high f h =
+    elim (view limit source last screen offset cause h) [
+      | inl none ↦ omega (arith, low, ap rank none)
+      | inr (inl ended) ↦ elim ended.kind [
+        | inl x ↦ omega (arith, low, ap rank x.0)
+        | inr x ↦ omega (arith, high, ap rank x.0)
+      ]
+      | inr (inr word) ↦ front_and_word limit source t ws stage screen offset cause f word
+    ]
 
 one_kind : (s1 s2 : Stage) (a b : Cause) → s1 ≡ s2 → ((a ≡ c.EndsInside) × (s1 ≢ Whole)) ⊎ ((a ≡ c.NoBoot) × (s1 ≡ Whole)) → ((b ≡ c.EndsInside) × (s2 ≢ Whole)) ⊎ ((b ≡ c.NoBoot) × (s2 ≡ Whole)) → a ≡ b
 one_kind s1 s2 a b e (inl x) (inl y) = x.0 ∙ sym y.0

@@ -1,4 +1,5 @@
 -- The headers of an image, as they lie in the memory that it is loaded to.
+use Rattle.memory.specs.declared.system.TheConstants.{FORTH_VOC}
 use Rattle.std.specs.Prelude.{◌≡◌, ℕ, Bool, false, ◌==◌, ◌&&◌, ◌+◌, ◌*◌, ◌⊎◌, cond, map, length, List, [], ◌∷◌, Option, Some, None}
 use Rattle.std.specs.List.{filter}
 use Rattle.std.specs.Str.{bytes_eq}
@@ -24,7 +25,7 @@ sizes (Then t ws i) = item_size i ∷ sizes t
 
 -- a vocabulary: FORTH, whose record is at 42, or one that the items made
 abbrev pub IsVocabulary : Items → ℕ → Type 0
-IsVocabulary t voc = (voc ≡ 42) ⊎ IsRecord t voc
+IsVocabulary t voc = (voc ≡ FORTH_VOC) ⊎ IsRecord t voc
 
 -- the chain of a class in a vocabulary, cut after 32,769 members
 abbrev pub chain_of : List ℕ → (voc class : ℕ) → List ℕ
@@ -70,7 +71,7 @@ title_or None q = q
 title_or (Some p) q = Some p
 
 abbrev pub titled : List ℕ → Items → Option Place
-titled bs t = title_or (titled_in (current t) bs t) (titled_in 42 bs t)
+titled bs t = title_or (titled_in (current t) bs t) (titled_in FORTH_VOC bs t)
 
 -- what the header with this link field says in a memory
 pub record Says (m : List ℕ) (l screen link : ℕ) (name : List ℕ) : Type 0 where

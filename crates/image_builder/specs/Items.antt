@@ -2,6 +2,8 @@
 use Rattle.std.specs.Prelude.{ℕ, Bool, true, false, ◌==◌, cond, if◌then◌else◌, ◌/◌, zero, suc, ◌+◌, ◌%◌, List, [], ◌∷◌, ◌++◌, length, Option, Some, None}
 use Rattle.colon_bodies.specs.Tree.{Definition}
 use Rattle.colon_bodies.specs.Code.{all_size, thread}
+use Rattle.memory.specs.declared.system.TheConstants.{BASE, DP, LAST, CONTEXT, CURRENT, FORTH_VOC, VOC_LINK, FENCE}
+use Rattle.dictionary.specs.declared.code_fields.TheConstants.{COLON, CONSTANT, VARIABLE, VOCABULARY}
 use Rattle.memory.specs.Bytes.{cell_bytes}
 use Rattle.image_builder.specs.Places.{Place}
 use Rattle.image_builder.specs.Names.{Name, address, class_of, newest_link}
@@ -59,7 +61,7 @@ end_of (Then t ws i) = end_of t + item_size i
 
 -- the vocabulary that later headers go in
 abbrev pub current : Items → ℕ
-current Nothing = 42
+current Nothing = FORTH_VOC
 current (Then t ws (Definitions v)) = v
 current (Then t ws _) = current t
 
@@ -95,7 +97,7 @@ controls (Then t ws _) k = controls t k
 
 -- the newest record
 abbrev pub newest_record : Items → ℕ
-newest_record Nothing = 42
+newest_record Nothing = FORTH_VOC
 newest_record (Then t ws (Header p Vocabulary)) = end_of t + head_size p
 newest_record (Then t ws _) = newest_record t
 
@@ -116,10 +118,10 @@ record_bytes heads at older = cell_bytes (heads at 0) ++ (cell_bytes (heads at 1
 
 abbrev pub code_of : Kind → ℕ
 code_of (Primitive n) = n
-code_of (Constant n) = 3
-code_of Variable = 2
-code_of Create = 2
-code_of Vocabulary = 4
+code_of (Constant n) = CONSTANT
+code_of Variable = VARIABLE
+code_of Create = VARIABLE
+code_of Vocabulary = VOCABULARY
 
 abbrev pub field : (ℕ → ℕ → ℕ) → Items → (at : ℕ) → Kind → List ℕ
 field heads t at (Primitive n) = []
@@ -138,7 +140,7 @@ link_of t p = newest_link (names t) (current t) (class_of p.name)
 -- what an item writes; immediate says whether an IMMEDIATE after it means its header
 abbrev pub own : (ℕ → ℕ → ℕ) → Items → Item → (immediate : Bool) → List ℕ
 own heads t (Header p k) imm = head (link_of t p) p imm (code_of k) ++ field heads t (end_of t + head_size p) k
-own heads t (Colon p b) imm = head (link_of t p) p imm 1 ++ thread (controls t) b (end_of t + head_size p)
+own heads t (Colon p b) imm = head (link_of t p) p imm COLON ++ thread (controls t) b (end_of t + head_size p)
 own heads t (Cell n) imm = cell_bytes n
 own heads t (Byte n) imm = n % 256 ∷ []
 own heads t (Allot n) imm = zeros n
@@ -164,17 +166,17 @@ last_link (n ∷ ns) = n.link
 -- the cell at an even address below 256
 abbrev pub system : Items → (address : ℕ) → ℕ
 system t a =
-    (if a == 18 then 10 else
-    (if a == 28 then end_of t else
-    (if a == 30 then last_link (names t) else
-    (if a == 32 then current t else
-    (if a == 34 then current t else
-    (if a == 42 then heads_of t 42 0 else
-    (if a == 44 then heads_of t 42 1 else
-    (if a == 46 then heads_of t 42 2 else
-    (if a == 48 then heads_of t 42 3 else
-    (if a == 52 then newest_record t else
-    (if a == 54 then end_of t else
+    (if a == BASE then 10 else
+    (if a == DP then end_of t else
+    (if a == LAST then last_link (names t) else
+    (if a == CONTEXT then current t else
+    (if a == CURRENT then current t else
+    (if a == FORTH_VOC then heads_of t FORTH_VOC 0 else
+    (if a == FORTH_VOC + 2 then heads_of t FORTH_VOC 1 else
+    (if a == FORTH_VOC + 4 then heads_of t FORTH_VOC 2 else
+    (if a == FORTH_VOC + 6 then heads_of t FORTH_VOC 3 else
+    (if a == VOC_LINK then newest_record t else
+    (if a == FENCE then end_of t else
     0)))))))))))
 
 abbrev pub low : (ℕ → ℕ) → (at : ℕ) → (n : ℕ) → List ℕ

@@ -1,4 +1,5 @@
 -- What a word means where it is.
+use Rattle.memory.specs.declared.system.TheConstants.{FORTH_VOC}
 use Rattle.std.proofs.Math.Dec.{ltb}
 use Rattle.std.specs.Prelude.{ℕ, Bool, false, cond, ◌||◌, ◌&&◌, List, [], ◌∷◌, Option, Some, None, Result, Ok, Err, codes}
 use Rattle.std.specs.Str.{bytes_eq}
@@ -29,7 +30,7 @@ record_if None = None
 record_if (Some n) = if_record n.sign (record_of n)
 
 abbrev pub record_named : Items → Place → Option ℕ
-record_named t p = cond (bytes_eq p.name (codes "FORTH")) (Some 42) (record_if (look t p))
+record_named t p = cond (bytes_eq p.name (codes "FORTH")) (Some FORTH_VOC) (record_if (look t p))
 
 -- the controls that only a keyword or a number writes
 abbrev pub is_inner : Sign → Bool

@@ -1,4 +1,5 @@
 -- Names that were made, newest first, and searches of them.
+use Rattle.memory.specs.declared.system.TheConstants.{FORTH_VOC}
 use Rattle.std.specs.Prelude.{◌≡◌, ℕ, Bool, ◌==◌, ◌&&◌, ◌%◌, ◌+◌, map, reverse, List, [], ◌∷◌, ◌++◌, length, Option, Some, None}
 use Rattle.std.specs.Str.{bytes_eq}
 use Rattle.std.specs.List.{find}
@@ -45,7 +46,7 @@ or_else (Some a) b = Some a
 
 -- the newest name in a vocabulary, else in FORTH
 abbrev pub found : (voc : ℕ) → List ℕ → List Name → Option Name
-found voc bs names = or_else (within voc bs names) (within 42 bs names)
+found voc bs names = or_else (within voc bs names) (within FORTH_VOC bs names)
 
 -- the newest name of a vocabulary and class
 abbrev pub newest_of : (voc class : ℕ) → List Name → Option Name

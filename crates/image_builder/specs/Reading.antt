@@ -1,5 +1,5 @@
 -- How far the screens of a source are read. No public clause speaks of it.
-use Rattle.std.specs.Prelude.{◌≡◌, ℕ, false, ◌+◌, ◌-◌, ◌<◌, ◌≤◌, ◌⊎◌, List, ◌++◌, ◌∷◌, [], length, Some, Result, Ok, Err}
+use Rattle.std.specs.Prelude.{◌≡◌, ℕ, true, false, ◌+◌, ◌-◌, ◌<◌, ◌≤◌, ◌⊎◌, List, ◌++◌, ◌∷◌, [], length, Some, Result, Ok, Err}
 use Rattle.block_buffers.specs.DeviceCalls.{DeviceCall, WasRead}
 use Rattle.block_buffers.specs.Disks.{Disk, block_at, called, succeeds}
 use Rattle.source_words.specs.declared.modes.Mode.{Mode}
@@ -19,7 +19,7 @@ use Rattle.image_builder.specs.Items.{Items, item_words}
 use Rattle.image_builder.specs.Stages.{Stage}
 use Rattle.image_builder.specs.Faults.{IsFault}
 use Rattle.image_builder.specs.State.{Shows, IsState}
-use Rattle.image_builder.specs.Sources.{CantBeRead, Done, IsFaultless, after_reads, screens}
+use Rattle.image_builder.specs.Sources.{AllReadable, Done, IsFaultless, after_reads, readable, screens}
 
 -- it took these words
 pub record Holds (limit : ℕ) (k : Compilation) (front : List SourceWord) : Type 0 where
@@ -60,6 +60,7 @@ pub record Midway (limit : ℕ) (m : Mode) (words : List SourceWord) (old new : 
 -- a screen was read, or is none of the device's, and nothing was asked
 pub record HasRead (d : Disk) (s : ℕ) (done : Done) : Type 0 where
   pub there : s < length d.blocks
+  pub succeeds_is : succeeds d s ≡ true
   pub disk : done.disk ≡ Some (called d)
   pub failures : done.after ≡ done.before
 
@@ -92,6 +93,7 @@ TakesScreen limit d s m front (Err (stop.Word f)) old k done =
 pub record Underway (limit : ℕ) (d : Disk) (from s : ℕ) (m : Mode) (k : Compilation) (done : Done) : Type 0 where
   pub above : from ≤ s
   pub there : from < s → s ≤ length d.blocks
+  pub all : readable d from (s - from) ≡ s - from
   pub took : Holds limit k (source_words from (screens d from (s - from)))
   pub mode : m ≡ after_words Outside (source_words from (screens d from (s - from)))
   pub disk : done.disk ≡ Some (after_reads (s - from) d)
@@ -100,18 +102,21 @@ pub record Underway (limit : ℕ) (d : Disk) (from s : ℕ) (m : Mode) (k : Comp
 -- all screens were read, and all their words taken
 pub record TookAll (limit : ℕ) (d : Disk) (from to : ℕ) (k : Compilation) (done : Done) : Type 0 where
   pub there : from ≤ to → to < length d.blocks
+  pub all : AllReadable d from to
   pub took : Holds limit k (source_words from (screens d from (to + 1 - from)))
   pub disk : done.disk ≡ Some (after_reads (to + 1 - from) d)
   pub failures : done.after ≡ done.before
 
--- what stopped it, once k screens were read
+-- what stopped it, once k screens were asked for
 abbrev pub Why : ℕ → Disk → (from to k : ℕ) → Stop → Done → Type 0
 Why limit d from to k (stop.Device s) done =
-    (from ≤ s) × (s ≤ to)
+    (s ≡ from + readable d from (to + 1 - from)) × (s ≤ to)
     × IsFaultless limit (source_words from (screens d from (s - from)))
-    × ((CantBeRead d from s × (from + k ≡ s + 1) × (done.after ≡ done.before + 1))
-    ⊎ ((length d.blocks ≤ s) × (from + k ≡ s) × (done.after ≡ done.before)))
-Why limit d from to k (stop.Word f) done = (done.after ≡ done.before) × IsFaultless limit (source_words from (screens d from (k - 1))) × IsFaultOf limit (source_words from (screens d from k)) f
+    × (((length d.blocks ≤ s) × (from + k ≡ s) × (done.after ≡ done.before))
+    ⊎ ((s < length d.blocks) × (from + k ≡ s + 1) × (done.after ≡ done.before + 1)))
+Why limit d from to k (stop.Word f) done =
+    (k ≤ readable d from (to + 1 - from)) × (done.after ≡ done.before)
+    × IsFaultless limit (source_words from (screens d from (k - 1))) × IsFaultOf limit (source_words from (screens d from k)) f
 
 -- it stopped after one read each of the first k of the screens, in order
 pub record Stopped (limit : ℕ) (d : Disk) (from to : ℕ) (why : Stop) (done : Done) : Type 0 where

@@ -1,8 +1,8 @@
 -- A whole source on a device: what is built of it, and why it is refused.
-use Rattle.std.specs.Prelude.{◌≡◌, ℕ, false, ◌+◌, ◌-◌, ◌<◌, ◌≤◌, ◌⊎◌, List, ◌++◌, length, take, drop, Option, Some}
+use Rattle.std.specs.Prelude.{◌≡◌, ℕ, zero, suc, cond, ◌+◌, ◌-◌, ◌<◌, ◌≤◌, ◌⊎◌, List, ◌++◌, length, take, drop, Option, Some}
 use Rattle.block_buffers.specs.Calls.{failures}
 use Rattle.block_buffers.specs.DeviceCalls.{DeviceCall}
-use Rattle.block_buffers.specs.Disks.{Disk, succeeds}
+use Rattle.block_buffers.specs.Disks.{Disk, called, succeeds}
 use Rattle.block_buffers.specs.ReadPages.{AreReadFrom}
 use Rattle.image_loader.specs.Files.{Contents}
 use Rattle.memory.specs.Bytes.{limit_of}
@@ -75,15 +75,18 @@ pub record IsBuiltOf (count : ℕ) (d : Disk) (from to : ℕ) (built : Contents)
   pub disk : done.disk ≡ Some (after_reads (to + 1 - from) d)
   pub failures : done.after ≡ done.before
 
--- the device has this screen, and after one read each of the screens before it a read of it fails
-abbrev pub CantBeRead : Disk → (from screen : ℕ) → Type 0
-CantBeRead d from screen = (screen < length d.blocks) × (succeeds (after_reads (screen - from) d) screen ≡ false)
+-- how many of n screens from a number on can be read, one after another
+unfoldable pub readable : Disk → (from n : ℕ) → ℕ
+readable d from zero = 0
+readable d from (suc n) = cond (succeeds d from) (suc (readable (called d) (from + 1) n)) 0
 
--- a screen that isn't the device's, before which k were read; or one that couldn't be read, the last of the k
-abbrev pub IsUnread : Disk → (from k screen : ℕ) → Done → Type 0
-IsUnread d from k screen done =
-    ((length d.blocks ≤ screen) × (from + k ≡ screen) × (done.after ≡ done.before))
-    ⊎ (CantBeRead d from screen × (from + k ≡ screen + 1) × (done.after ≡ done.before + 1))
+-- all of the screens from..to can be read
+abbrev pub AllReadable : Disk → (from to : ℕ) → Type 0
+AllReadable d from to = readable d from (to + 1 - from) ≡ to + 1 - from
+
+-- the words of those that can be read
+abbrev pub readable_words : Disk → (from to : ℕ) → List SourceWord
+readable_words d from to = source_words from (screens d from (readable d from (to + 1 - from)))
 
 -- the screens from..to are a good source
 abbrev pub AreGood : ℕ → Disk → (from to : ℕ) → Type 0
@@ -93,34 +96,41 @@ AreGood limit d from to = (items : Items) × (entry : ℕ) × IsGood limit (plac
 abbrev pub IsFirstFault : ℕ → Disk → (from to : ℕ) → BuildFault → Type 0
 IsFirstFault limit d from to e = IsFault limit (places_of d from to) to e.screen e.offset e.cause
 
+-- what is wrong with the screens from..to: lack of memory, reported for the first screen; the first screen that can't be read,
+-- if nothing is wrong with the words before it; what is missing at the end, if all can be read; or the first word at fault
+abbrev pub IsWrong : (limit : ℕ) → Disk → (from to screen offset : ℕ) → Cause → Type 0
+IsWrong limit d from to screen offset c.OutOfMemory = (screen ≡ from) × (offset ≡ 0)
+IsWrong limit d from to screen offset c.Device =
+    (screen ≡ from + readable d from (to + 1 - from)) × (screen ≤ to) × (offset ≡ 0) × IsFaultless limit (readable_words d from to)
+IsWrong limit d from to screen offset c.EndsInside = AllReadable d from to × IsFault limit (places_of d from to) to screen offset c.EndsInside
+IsWrong limit d from to screen offset c.NoBoot = AllReadable d from to × IsFault limit (places_of d from to) to screen offset c.NoBoot
+IsWrong limit d from to screen offset cause = IsFault limit (all_placed (readable_words d from to)) to screen offset cause
+
+-- the refusal of the screens from..to of this disk; there is one, lack of memory aside
+abbrev pub IsRefusal : (limit : ℕ) → Disk → (from to : ℕ) → BuildFault → Type 0
+IsRefusal limit d from to e = IsWrong limit d from to e.screen e.offset e.cause
+
 -- k screens decide: this is the first fault, however the source goes on after them
 abbrev pub IsDecided : ℕ → Disk → (from to k : ℕ) → BuildFault → Type 0
 IsDecided limit d from to k e =
     (rest : List SourceWord) → IsFault limit (all_placed (source_words from (screens d from k) ++ rest)) to e.screen e.offset e.cause
 
--- why it is refused, once k screens were read: lack of memory, a screen, the end of all screens, or a word. That is the
--- first fault of every source that begins with the words of these k, and before the last of these was read none was known
-abbrev pub Because : ℕ → Disk → (from to k screen offset : ℕ) → Cause → Done → Type 0
-Because limit d from to k screen offset c.OutOfMemory done = (screen ≡ from) × (offset ≡ 0) × (done.after ≡ done.before)
-Because limit d from to k screen offset c.Device done =
-    (offset ≡ 0) × (from ≤ screen) × (screen ≤ to) × IsUnread d from k screen done × IsFaultless limit (source_words from (screens d from (screen - from)))
-Because limit d from to k screen offset c.EndsInside done =
-    (k ≡ to + 1 - from) × AreThere d from to × (done.after ≡ done.before) × IsFault limit (places_of d from to) to screen offset c.EndsInside
-Because limit d from to k screen offset c.NoBoot done =
-    (k ≡ to + 1 - from) × AreThere d from to × (done.after ≡ done.before) × IsFault limit (places_of d from to) to screen offset c.NoBoot
-Because limit d from to k screen offset cause done =
+-- how many screens, k, a refusal asks for, and whether one of these reads fails: those that can be read, and the next one if
+-- the device has it; all of them; or as many as decide, and no fewer
+abbrev pub AsksFor : ℕ → Disk → (from to k screen offset : ℕ) → Cause → Done → Type 0
+AsksFor limit d from to k screen offset c.OutOfMemory done = done.after ≡ done.before
+AsksFor limit d from to k screen offset c.Device done =
+    ((length d.blocks ≤ screen) × (from + k ≡ screen) × (done.after ≡ done.before))
+    ⊎ ((screen < length d.blocks) × (from + k ≡ screen + 1) × (done.after ≡ done.before + 1))
+AsksFor limit d from to k screen offset c.EndsInside done = (k ≡ to + 1 - from) × (done.after ≡ done.before)
+AsksFor limit d from to k screen offset c.NoBoot done = (k ≡ to + 1 - from) × (done.after ≡ done.before)
+AsksFor limit d from to k screen offset cause done =
     (done.after ≡ done.before) × IsFaultless limit (source_words from (screens d from (k - 1))) × IsDecided limit d from to k (record { screen = screen; offset = offset; cause = cause })
 
--- it is refused after one read each of the first k of the screens, in order
+-- they are refused so, after one read each of the first k of them, in order
 pub record IsRefused (limit : ℕ) (d : Disk) (from to : ℕ) (e : BuildFault) (done : Done) : Type 0 where
+  pub is : IsRefusal limit d from to e
   pub k : ℕ
   pub few : k ≤ to + 1 - from
   pub disk : done.disk ≡ Some (after_reads k d)
-  pub because : Because limit d from to k e.screen e.offset e.cause done
-
--- the source itself is refused so: the device has all these screens, and no read of them failed
-pub record IsOwnRefusal (limit : ℕ) (d : Disk) (from to : ℕ) (e : BuildFault) : Type 0 where
-  pub done : Done
-  pub there : AreThere d from to
-  pub unfailed : done.after ≡ done.before
-  pub is : IsRefused limit d from to e done
+  pub asks : AsksFor limit d from to k e.screen e.offset e.cause done

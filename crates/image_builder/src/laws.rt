@@ -6,7 +6,7 @@ ghost use Rattle.memory.specs.Bytes.{bytes, cell, cell_bytes};
 ghost use Rattle.memory.specs.declared.system.TheConstants.{DP, RUNTIME_CELLS};
 ghost use Rattle.block_buffers.specs.Disks.{Disk};
 ghost use Rattle.image_loader.specs.Files.{Contents};
-ghost use Rattle.image_builder.specs.Sources.{Done, AreGood, IsBuiltOf, IsDecided, IsFirstFault, IsOwnRefusal};
+ghost use Rattle.image_builder.specs.Sources.{Done, AllReadable, AreGood, IsBuiltOf, IsDecided, IsFirstFault, IsRefusal};
 ghost use Rattle.image_builder.specs.declared.cause.BuildFault.{BuildFault};
 ghost use Rattle.dictionary.specs.Header.{is_immediate};
 ghost use Rattle.image_builder.specs.Places.{Place};
@@ -40,14 +40,17 @@ pub fn one_image()
         IsBuiltOf count d from to a x → IsBuiltOf count d from to b y → a ≡ b }
 {}
 
-/// A refusal of a source whose screens are all there, and of which none fails, is the source's first fault; so a good
-/// source is refused only for lack of memory. A word that is at fault however the source goes on after the screens that
-/// were read is the first fault of the whole source.
+/// The screens of a disk are refused for one fault, lack of memory aside: how many of them can be read decides which words
+/// count. If all of them can be read, it is the first fault of the whole source; so a good source is then refused only for lack
+/// of memory. A word that is at fault however the source goes on after the screens that were read is the first fault of the
+/// whole source.
 pub fn refusal_law()
-    ensures first { (limit : ℕ) (d : Disk) (from to : ℕ) (e : BuildFault) → IsOwnRefusal limit d from to e →
-        IsFirstFault limit d from to e }
+    ensures one { (limit : ℕ) (d : Disk) (from to : ℕ) (e f : BuildFault) → IsRefusal limit d from to e →
+        IsRefusal limit d from to f → IsSameFault e.screen e.offset e.cause f.screen f.offset f.cause }
+    ensures first { (limit : ℕ) (d : Disk) (from to : ℕ) (e : BuildFault) → AllReadable d from to →
+        IsRefusal limit d from to e → IsFirstFault limit d from to e }
     ensures good { (limit : ℕ) (d : Disk) (from to : ℕ) (e : BuildFault) → AreGood limit d from to →
-        IsOwnRefusal limit d from to e → e.cause ≡ OutOfMemory }
+        AllReadable d from to → IsRefusal limit d from to e → e.cause ≡ OutOfMemory }
     ensures whole { (limit : ℕ) (d : Disk) (from to k : ℕ) (e : BuildFault) → k ≤ to + 1 - from →
         IsDecided limit d from to k e → IsFirstFault limit d from to e }
 {}

@@ -1,5 +1,7 @@
 -- What the words of screens mean in a memory.
 use Rattle.std.specs.Prelude.{◌≡◌, ℕ, Bool, true, false, if◌then◌else◌, List, [], ◌∷◌, Option, Some, None, codes}
+use Rattle.memory.specs.declared.controls.Control.TheVariants as ctl
+use Rattle.memory.specs.Controls as controls
 use Rattle.memory.specs.Bytes.{cell}
 use Rattle.dictionary.specs.Header.{is_immediate, compilation_address}
 use Rattle.dictionary.specs.Search.{Sought, Found, Nowhere, TooLong, sought_from}
@@ -66,7 +68,7 @@ number_of w = number_or (row_of w)
 -- not immediate
 abbrev pub IsKey : List ℕ → (voc : ℕ) → List ℕ → Token → Type 0
 IsKey m voc name COMPILE =
-    (l : ℕ) × (sought_from m voc name ≡ Found l) × (is_immediate m l ≡ false) × (compilation_address m l ≡ runtime m 19)
+    (l : ℕ) × (sought_from m voc name ≡ Found l) × (is_immediate m l ≡ false) × (compilation_address m l ≡ runtime m (controls.number_of ctl.Compile))
 IsKey m voc name w = Key m voc name (number_of w) true
 
 -- the words that the resident compiler knows, as a vocabulary has them

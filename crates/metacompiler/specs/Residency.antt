@@ -1,6 +1,8 @@
 -- Tests by which a memory is found to be resident.
 use Rattle.std.specs.Prelude.{◌≡◌, ◌≤◌, ◌+◌, ◌==◌, ◌&&◌, ◌||◌, ◌++◌, ℕ, suc, List, length, Bool, false, not, nat_le, codes}
 use Rattle.std.specs.List.{list_all, list_any, Contains}
+use Rattle.memory.specs.declared.controls.Control.TheVariants as ctl
+use Rattle.memory.specs.Controls.{number_of}
 use Rattle.memory.specs.Bytes.{cell}
 use Rattle.memory.specs.declared.system.TheConstants.{STATE, BASE, DP, CONTEXT, CURRENT}
 use Rattle.compiling_words.specs.Code.{runtime}
@@ -28,7 +30,7 @@ unfoldable pub has_colon : List ℕ → (voc : ℕ) → Bool
 has_colon m voc = is_colon_at m (sought_from m voc (codes ":"))
 
 abbrev pub is_compile_at : List ℕ → Sought → Bool
-is_compile_at m (Found l) = not (is_immediate m l) && (compilation_address m l == runtime m 19)
+is_compile_at m (Found l) = not (is_immediate m l) && (compilation_address m l == runtime m (number_of ctl.Compile))
 is_compile_at m _ = false
 
 unfoldable pub has_compile : List ℕ → (voc : ℕ) → Bool

@@ -5,6 +5,8 @@ use Rattle.compiling_words.specs.Code.{runtime, control_code, literal_code}
 use Rattle.compiling_words.specs.Definitions.{ended}
 use Rattle.compiling_words.specs.Laying.{laid, can_allot, allotted, resolved}
 use Rattle.memory.specs.Bytes.{cell, put_cell, cell_bytes}
+use Rattle.memory.specs.Controls.{number_of}
+use Rattle.memory.specs.declared.controls.Control.TheVariants as ctl
 use Rattle.memory.specs.declared.system.TheConstants.{STATE, DP}
 use Rattle.machine_parts.specs.declared.faults.TheConstants.{DICTIONARY_FULL}
 use Rattle.stacks.specs.Cells.{◌▸◌}
@@ -60,15 +62,15 @@ literal s = takes1 s (λ x rest. compiles s (literal_code s.memory x) rest)
 
 -- 178 DOES> ( -- )
 abbrev pub compile_does : Whole → After
-compile_does s = compiles s (cell_bytes (runtime s.memory 18)) s.values
+compile_does s = compiles s (cell_bytes (runtime s.memory (number_of ctl.Does))) s.values
 
 -- 179 IF ( -- a ): a is where the branch's target will be
 abbrev pub if_row : Whole → After
-if_row s = compiles s (control_code s.memory 8 0) (s.values ▸ ahead s 2)
+if_row s = compiles s (control_code s.memory (number_of ctl.ZeroBranch) 0) (s.values ▸ ahead s 2)
 
 -- 180 ELSE ( a -- a2 ): the IF goes after the branch, and a2 is where the branch's target will be
 abbrev pub else_row : Whole → After
-else_row s = takes1 s (λ a rest. resolves s (control_code s.memory 7 0) a (rest ▸ ahead s 2))
+else_row s = takes1 s (λ a rest. resolves s (control_code s.memory (number_of ctl.Branch) 0) a (rest ▸ ahead s 2))
 
 -- 181 THEN ( a -- )
 abbrev pub then_row : Whole → After
@@ -80,7 +82,7 @@ begin s = leaves s (s.values ▸ cell s.memory DP)
 
 -- 183 UNTIL ( a -- )
 abbrev pub until : Whole → After
-until s = takes1 s (λ a rest. compiles s (control_code s.memory 8 a) rest)
+until s = takes1 s (λ a rest. compiles s (control_code s.memory (number_of ctl.ZeroBranch) a) rest)
 
 -- 184 WHILE ( -- a ): as IF
 abbrev pub while_row : Whole → After
@@ -88,23 +90,23 @@ while_row s = if_row s
 
 -- 185 REPEAT ( a b -- ): back to a, and the WHILE of b goes after that
 abbrev pub repeat : Whole → After
-repeat s = takes2 s (λ a b rest. resolves s (control_code s.memory 7 a) b rest)
+repeat s = takes2 s (λ a b rest. resolves s (control_code s.memory (number_of ctl.Branch) a) b rest)
 
 -- 186 AGAIN ( a -- )
 abbrev pub again : Whole → After
-again s = takes1 s (λ a rest. compiles s (control_code s.memory 7 a) rest)
+again s = takes1 s (λ a rest. compiles s (control_code s.memory (number_of ctl.Branch) a) rest)
 
 -- 187 DO ( -- a b ): a is where the loop's end will be, and b is its body
 abbrev pub do_row : Whole → After
-do_row s = compiles s (control_code s.memory 9 0) (s.values ▸ ahead s 2 ▸ ahead s 4)
+do_row s = compiles s (control_code s.memory (number_of ctl.Do) 0) (s.values ▸ ahead s 2 ▸ ahead s 4)
 
 -- 188 LOOP ( a b -- )
 abbrev pub loop_row : Whole → After
-loop_row s = takes2 s (λ a b rest. resolves s (control_code s.memory 10 b) a rest)
+loop_row s = takes2 s (λ a b rest. resolves s (control_code s.memory (number_of ctl.Loop) b) a rest)
 
 -- 189 +LOOP ( a b -- )
 abbrev pub plus_loop : Whole → After
-plus_loop s = takes2 s (λ a b rest. resolves s (control_code s.memory 11 b) a rest)
+plus_loop s = takes2 s (λ a b rest. resolves s (control_code s.memory (number_of ctl.PlusLoop) b) a rest)
 
 -- 194 <MARK ( -- a )
 abbrev pub mark_back : Whole → After

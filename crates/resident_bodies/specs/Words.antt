@@ -1,6 +1,8 @@
 -- What the words of a body make of memory and the data stack where the resident compiler reads them.
 use Rattle.std.specs.Prelude.{◌≡◌, ℕ, true, false, ◌+◌, ◌≤◌, ◌/◌, ◌%◌, List, [], ◌∷◌, ◌++◌, length, Option, Some, None}
 use Rattle.cells.specs.Cell.{wrap}
+use Rattle.memory.specs.declared.controls.Control.TheVariants as ctl
+use Rattle.memory.specs.Controls.{number_of}
 use Rattle.memory.specs.Bytes.{cell, put_cell, cell_bytes}
 use Rattle.memory.specs.declared.system.TheConstants.{DP, TO_IN}
 use Rattle.block_buffers.specs.Entries.{limit}
@@ -26,9 +28,9 @@ lays (NAME w) m d = (laid m (cell_bytes w), d)
 lays (NUMBER n) m d = (laid m (literal_code m n), d)
 lays (DOUBLE n) m d = (laid m (literal_code m (n % 65536) ++ literal_code m (n / 65536)), d)
 lays (TEXT k bs) m d = (laid m (text_code (runtime m (text_control k)) bs), d)
-lays TICK m d = (laid m (cell_bytes (runtime m 6)), d)
-lays COMPILE m d = (laid m (cell_bytes (runtime m 19)), d)
-lays DOES m d = (laid m (cell_bytes (runtime m 18)), d)
+lays TICK m d = (laid m (cell_bytes (runtime m (number_of ctl.Literal))), d)
+lays COMPILE m d = (laid m (cell_bytes (runtime m (number_of ctl.Compile))), d)
+lays DOES m d = (laid m (cell_bytes (runtime m (number_of ctl.Does))), d)
 lays IF m d = (laid m (control_code m 8 0), d ▸ ahead m 2)
 lays ELSE m (a ∷ d) = (laid_and_resolved m (control_code m 7 0) a, d ▸ ahead m 2)
 lays THEN m (a ∷ d) = (resolved m a, d)
