@@ -87,7 +87,7 @@ are_kept() {
   local name from
   for name in "${names[@]}"; do
     [ -f "$kept/$name.img" ] || return 1
-    for from in "$forth83" "$here"/workbench/{make,*.txt,overlays/*.txt}; do
+    for from in "$forth83" "$here"/workbench/{make,*.txt,overlays/*.txt} "$here"/dialects/{fig,f79,f83,poly}.txt; do
       if [ "$from" -nt "$kept/$name.img" ]; then
         return 1
       fi

@@ -1,14 +1,15 @@
 """Text files that the Forth asks for: lines of Forth, one at a time, as INCLUDE wants them.
 
 The Forth asks by an escape sequence in its output, ESC _ f83, a letter, a text, ESC \\ , which is not shown. The answer is
-typed: the byte 30, a byte for its kind (`=` here it is, `.` no more, `!` a message), a text, and 10.
+typed: the byte 30, a byte for its kind (`=` here it is, `+` here it is, and long, `.` no more, `!` a message), a text, and 10.
 """
 from __future__ import annotations
 
 import os
 
 ANSWER = b"\x1e"
-LINE = 127  # bytes that a line may have
+LINE = 127  # bytes that a line may have as it is typed
+LONG_LINE = 1024  # bytes that a line of a text may have
 BEGIN, END = b"\x1b_f83", b"\x1b\\"
 LONGEST = 512  # bytes of a request
 PAGE = BEGIN + b"J"  # a request that has a screen: its number, the low byte first, and its 1,024 bytes
@@ -55,6 +56,13 @@ def answer(kind: bytes, text: bytes = b"") -> bytes:
     return ANSWER + kind + text[:LINE] + b"\n"
 
 
+def answer_line(line: bytes) -> bytes:
+    """The answer with a line of a text. A long one comes after its length, the low byte first."""
+    if len(line) <= LINE:
+        return answer(b"=", line)
+    return ANSWER + b"+" + bytes((len(line) % 256, len(line) // 256)) + line + b"\n"
+
+
 class Text:
     """A text file, line by line."""
 
@@ -73,10 +81,10 @@ class Text:
         self.number += 1
         if len(self.line) > LINE:
             self.line = self.line.rstrip(b" ")
-        if len(self.line) > LINE:
-            said = f"line {self.number} of {self.name} has {len(self.line)} bytes, and a line may have {LINE}: split it"
+        if len(self.line) > LONG_LINE:
+            said = f"line {self.number} of {self.name}, column {LONG_LINE + 1}: a line may have {LONG_LINE} bytes; split it"
             return answer(b"!", said.encode())
-        return answer(b"=", self.line)
+        return answer_line(self.line)
 
 
 class Files:
@@ -98,7 +106,7 @@ class Files:
         if verb == b"N" and self._open:
             return self._next()
         if verb == b"R":
-            return answer(b"=", self._before.pop() if self._before else b"")
+            return answer_line(self._before.pop() if self._before else b"")
         if verb == b"C":
             self._open.clear()
             self._before.clear()
