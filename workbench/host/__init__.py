@@ -7,6 +7,7 @@
     terminal.py       the terminal's settings, its keys, what waits to be written to it
     program.py        the Forth: its pipes, and the file that asks it to interrupt its work or to end
     interruption.py   what ^C does, until the Forth has answered it
+    window.py         where a typed line begins after the window got another size
     history.py        lines that were typed in earlier sessions
     manual.py         what docs/WORDS.md says of a word
     sources.py        the system's own screens, for VIEW and LOCATE, and the overlay for DEBUG

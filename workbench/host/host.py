@@ -14,6 +14,7 @@ from host.keeper import Keeper, clear
 from host.keeping import SCREEN, Blocks, Journal, keep_all, pages_of
 from host.program import Program, first_line
 from host.terminal import Terminal
+from host.window import Resizing
 
 AHEAD = 4096  # bytes that wait for the terminal before the Forth's output is no longer read
 END_AFTER = 5.0  # seconds after the end of its input before a Forth that goes on is asked to end
@@ -21,9 +22,11 @@ KILL_AFTER = 10.0  # seconds after which it is killed
 FRAME_ON, FRAME_OFF = b"\x1b[?2004h", b"\x1b[?2004l"  # what EDIT shows first and last
 FRAME_COLUMNS, FRAME_ROWS = 80, 22
 REDRAW, INTERRUPT = b"\x0c", b"\x03"
+LINE_ENDS = b"\x03\n\r"
 GREETING = 3.0  # seconds for which the Forth may take to find the mark
 PASTED = 9  # so many keys at once are a paste
 HOSTED = b"\x1b[202~"  # says to the Forth's line editor that it has a host
+RESIZED = b"\x1b[203~"  # and that the window got another size
 KILLED, QUIT = 143, 131
 FAULTS = {
     3: "a fault stopped the Forth, and no fault thread handled it",
@@ -106,6 +109,7 @@ class Host:
         self._keeper = Keeper(self._program, self._blocks, self._journal, room, closed)
         self._interruption = Interruption(self._program)
         self._frame = Frame()
+        self._resizing, self._size = Resizing(), self._terminal.size()
         self._requests, self._files, self._history = Requests(), Files(), History(history_file())
         self._typed = bytearray()
         self._is_over = False
@@ -173,6 +177,8 @@ class Host:
             return 0.1
         if self._typed:
             return 0.001
+        if self._resizing.is_open():
+            return 0.1
         return None if self._wake is None else max(self._wake - time.monotonic(), 0)
 
     def _wait(self) -> None:
@@ -203,6 +209,11 @@ class Host:
         if self._wake is not None and now >= self._wake:
             self._wake = None
             self._answer(answer(b"."))
+        if self._resizing.is_late(now):
+            self._resizing.give_up()
+            self._answer(answer(b"."))
+        if self._resizing.is_due:
+            self._show_anew()
         if self._typed:
             self._send()
         if self._terminal.waiting:
@@ -215,6 +226,9 @@ class Host:
         if keys is None:
             self._hang_up()
             return
+        keys, report = self._resizing.take(keys)
+        if report is not None:
+            self._go_to_line(report)
         start = 0
         for place, key in enumerate(keys):
             act = self._keys.get(key)
@@ -235,7 +249,10 @@ class Host:
     def _send(self) -> None:
         """Sends a line when the last one was read: from then on the Forth has it, and it cannot be taken back."""
         if not self._interruption.is_offered() and not self._program.unread():
-            del self._typed[: self._program.send(self._typed[: first_line(self._typed)])]
+            line = self._typed[: self._program.send(self._typed[: first_line(self._typed)])]
+            del self._typed[: len(line)]
+            if any(key in LINE_ENDS for key in line):
+                self._resizing.is_line = False  # until the Forth says that it reads the next one
 
     def _is_starting(self) -> bool:
         """Whether the Forth has yet to take the host's mark; the mark must not be taken back."""
@@ -282,6 +299,10 @@ class Host:
             self._read_screens(os.fsdecode(text))
         elif verb == b"M":
             self._send_screen()
+        elif verb == b"A":
+            self._terminal.show(self._resizing.ask(text, time.monotonic()))
+        elif verb == b"B":
+            self._resizing.is_line = True
         elif verb == b"K":
             self._answer(answer(b"=" if self._typed or self._program.unread() else b"."))
         elif verb == b"X":
@@ -355,7 +376,7 @@ class Host:
         if size is None or (size[0] >= FRAME_COLUMNS and size[1] >= FRAME_ROWS):
             return ""
         wanted = f"EDIT needs a window of {FRAME_COLUMNS} columns and {FRAME_ROWS} rows, but this one has"
-        return f"{wanted} {size[0]} and {size[1]}; make it larger, and type ED"
+        return f"{wanted} {size[0]} and {size[1]}; make it larger"
 
     def _refuse_small_window(self) -> None:
         """Leaves EDIT at once, by ^C, if its frame does not fit, and says so when it has left."""
@@ -364,12 +385,37 @@ class Host:
             if self._refusal:
                 self._typed[:0] = INTERRUPT
         elif self._refusal:
-            self._terminal.show(b"\x1b[H\x1b[J" + say(self._refusal))
+            self._terminal.show(b"\x1b[H\x1b[J" + say(f"{self._refusal}, and type ED"))
             self._refusal = ""
 
     def _resized(self) -> None:
-        if self._frame.is_shown and not self._lacks_room():
+        """The window got another size: EDIT draws its frame again, and a line that is typed is shown anew."""
+        if not self._frame.is_shown:
+            self._resizing.is_due = self._resizing.is_line
+            if not self._resizing.is_due:
+                self._size = self._terminal.size()
+            return
+        lacking = self._lacks_room()
+        if lacking:
+            self._terminal.show(b"\x1b[H\x1b[J" + say(lacking))
+        else:
             self._type(REDRAW)
+
+    def _show_anew(self) -> None:
+        """Tells a Forth that reads a line, and has no keys to read, that the window got another size."""
+        is_free = not self._typed and not self._program.unread() and not self._interruption.is_open()
+        if self._resizing.is_line and is_free and not self._resizing.is_open() and self._ending is None:
+            self._resizing.is_due = False
+            self._program.send(RESIZED)
+
+    def _go_to_line(self, report: tuple[int, int]) -> None:
+        """Moves to where the line begins, and has the Forth show it from there on."""
+        size, old = self._terminal.size(), self._size
+        self._size = size
+        row = self._resizing.beginning(report, size[0], old[0]) if size and old else None
+        if row is not None:
+            self._terminal.show(b"\x1b[%d;1H\x1b7" % row)
+        self._answer(answer(b"." if row is None else b"="))
 
     # Signals, and the keys that stand for them.
 
@@ -435,11 +481,11 @@ class Host:
         said = keep_all(self._blocks, left, is_whole and status < 128, self._journal.read())
         if status in FAULTS:
             said.insert(0, FAULTS[status])
-        self._keeper.dismiss()
+        clear(self._room)
+        self._keeper.dismiss()  # last: a host that is killed before leaves the folder to the keeper
         self._terminal.give_back()
         if not self._terminal.is_gone:
             sys.stderr.write("".join(f"forth: {text}\n" for text in said))
-        clear(self._room)
         if self._ended_by == KILLED or (self._ended_by and status):
             return self._ended_by
         return status
