@@ -23,6 +23,7 @@ FRAME_ON, FRAME_OFF = b"\x1b[?2004h", b"\x1b[?2004l"  # what EDIT shows first an
 FRAME_COLUMNS, FRAME_ROWS = 80, 22
 REDRAW, INTERRUPT = b"\x0c", b"\x03"
 LINE_ENDS = b"\x03\n\r"
+UNANSWERED = b"JFLBCT"  # requests that want no answer
 GREETING = 3.0  # seconds for which the Forth may take to find the mark
 PASTED = 9  # so many keys at once are a paste
 HOSTED = b"\x1b[202~"  # says to the Forth's line editor that it has a host
@@ -173,7 +174,7 @@ class Host:
             return 0.1
         if self._interruption.is_offered():
             return 0.05 if self._interruption.is_old(time.monotonic()) else 0.002
-        if self._interruption.is_open():
+        if self._interruption.is_open() or self._interruption.is_stale():
             return 0.1
         if self._typed:
             return 0.001
@@ -248,7 +249,7 @@ class Host:
 
     def _send(self) -> None:
         """Sends a line when the last one was read: from then on the Forth has it, and it cannot be taken back."""
-        if not self._interruption.is_offered() and not self._program.unread():
+        if not self._interruption.is_offered() and not self._interruption.is_stale() and not self._program.unread():
             line = self._typed[: self._program.send(self._typed[: first_line(self._typed)])]
             del self._typed[: len(line)]
             if any(key in LINE_ENDS for key in line):
@@ -285,6 +286,8 @@ class Host:
 
     def _obey_request(self, request: bytes) -> None:
         verb, text = request[:1], request[1:]
+        if self._interruption.is_stale() and verb not in UNANSWERED:
+            return  # the Forth was interrupted, and waits no more for what it asked
         if verb == b"W" and text.isdigit():
             self._wake = time.monotonic() + int(text) / 1000
         elif verb == b"J" and len(text) == PAGE_SIZE:
@@ -299,6 +302,10 @@ class Host:
             self._read_screens(os.fsdecode(text))
         elif verb == b"M":
             self._send_screen()
+        elif verb == b"A" and self._resizing.is_here:
+            self._resizing.is_here = False
+            self._terminal.show(b"\r\x1b7")
+            self._answer(answer(b"="))
         elif verb == b"A":
             self._terminal.show(self._resizing.ask(text, time.monotonic()))
         elif verb == b"B":
@@ -403,7 +410,8 @@ class Host:
 
     def _show_anew(self) -> None:
         """Tells a Forth that reads a line, and has no keys to read, that the window got another size."""
-        is_free = not self._typed and not self._program.unread() and not self._interruption.is_open()
+        is_busy = self._interruption.is_open() or self._interruption.is_stale()
+        is_free = not self._typed and not self._program.unread() and not is_busy
         if self._resizing.is_line and is_free and not self._resizing.is_open() and self._ending is None:
             self._resizing.is_due = False
             self._program.send(RESIZED)
@@ -447,6 +455,8 @@ class Host:
         if self._frame.is_shown:
             self._terminal.show(FRAME_ON)
             self._type(REDRAW)
+        self._size = self._terminal.size()
+        self._resizing.is_due = self._resizing.is_here = self._resizing.is_line
         self._obey([number for number in came if number != signal.SIGCONT])
 
     def _hang_up(self) -> None:

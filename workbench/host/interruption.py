@@ -31,6 +31,12 @@ class Interruption:
         self._quiet_since = 0.0  # when the program last showed something, or the offer was made
         self._held = bytearray()
         self._is_reported = False
+        self._stale_since: float | None = None  # since when what the Forth asked for before it took the key counts no more
+        self._tail = b""  # the end of what it has shown since then
+
+    def is_stale(self) -> bool:
+        """Whether the Forth has taken the key, and may have asked for an answer before, for which it no longer waits."""
+        return self._stale_since is not None
 
     def is_offered(self) -> bool:
         """Whether the Forth has taken neither offer yet."""
@@ -65,6 +71,8 @@ class Interruption:
 
     def look(self, now: float) -> bytes:
         """Looks whether the Forth has answered, and makes the other offer if not; gives the output that can be shown now."""
+        if self._stale_since is not None and (MARK in self._tail or now - self._stale_since > ANSWERED):
+            self._stale_since = None
         if self._state == FILE_OFFERED:
             return self._look_at_file(now)
         if self._state == KEY_OFFERED:
@@ -86,6 +94,7 @@ class Interruption:
             self._offer_file(now)  # it neither reads nor looks for the file yet: it is stopped, or gets no processor
         if self._state == KEY_OFFERED and not self._program.unread():
             self._state = NONE
+            self._stale_since, self._tail = now, bytes(self._held)
             return self._release()
         return b""
 
@@ -113,6 +122,8 @@ class Interruption:
     def passes(self, piece: bytes, now: float) -> bytes:
         """What of the program's output is shown."""
         if self._state == NONE:
+            if self._stale_since is not None:
+                self._tail = self._tail[1 - len(MARK) :] + piece
             return without_can(piece)
         if self._state == ANSWER_DUE:
             return piece if self._is_reported and MARK not in piece else self._after_mark(piece)

@@ -49,6 +49,7 @@ class Resizing:
     def __init__(self) -> None:
         self.is_line = False  # whether the Forth reads a line that began at the left edge
         self.is_due = False
+        self.is_here = False  # whether it is to be shown in the cursor's row, after the session was stopped
         self._before = b""
         self._asked: float | None = None
 
