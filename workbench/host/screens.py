@@ -11,9 +11,9 @@ HEADING = re.compile(rb"^% screen ([0-9]+)$", re.M)
 
 
 def numbers_of(text: bytes) -> list[int]:
-    """The screens that a text names, in order; without a heading before its first line that is screen 1."""
+    """The screens that a text names, in order; with lines before its first heading, screen 1 as well."""
     named = {int(number) for number in HEADING.findall(text)}
-    if text and not HEADING.match(text):
+    if named and not HEADING.match(text):
         named.add(1)
     return sorted(named)
 
@@ -27,13 +27,17 @@ def run(words: list[str]) -> str:
 
 def read_screens(forth83: str, name: str, count: int, room: str) -> tuple[list[tuple[int, bytes]], str]:
     """The screens of a text, each with its number, for a file of so many blocks; or why they cannot be read."""
+    if not name:
+        return [], "RELOAD needs the name of a file"
     made = os.path.join(room, "text.blk")
     try:
         with open(name, "rb") as file:
             numbers = numbers_of(file.read())
     except OSError as error:
         return [], f"cannot read {name}: {error.strerror}"
-    if numbers and numbers[-1] >= count:
+    if not numbers:
+        return [], f"{name} has no line like: % screen 30; INCLUDE {name} loads a text of Forth"
+    if numbers[-1] >= count:
         return [], f"{name} has screen {numbers[-1]}, but the block file has screens 0 to {count - 1} only"
     said = run([forth83, "new", made, str(count)]) or run([forth83, "screens", "--", name, made])
     pages: list[tuple[int, bytes]] = []
