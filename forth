@@ -325,6 +325,8 @@ run_at_terminal() {
   local python=/usr/bin/python3
   [ -x "$python" ] || { python=python3 && need_python "a session at a terminal"; }
   exec 8< <(prepare && hand_over)
+  # From here on ^C ends what prepares the session, and the session with it; Python itself would show where it was interrupted.
+  trap '' INT
   exec "$python" -I -S -B "$here/workbench/session" 8 $!
 }
 

@@ -9,6 +9,7 @@ import os
 
 ANSWER = b"\x1e"
 LINE = 127  # bytes that a line may have as it is typed
+TYPEABLE = 100  # bytes that the name of a text may have to be typed as it is
 LONG_LINE = 1024  # bytes that a line of a text may have
 BEGIN, END = b"\x1b_f83", b"\x1b\\"
 LONGEST = 512  # bytes of a request
@@ -95,6 +96,16 @@ class Files:
         self._typed = b""  # the line that was typed
         self._before: list[bytes] = []  # the lines that are to be interpreted further
         self._last = ""  # the file that was included last, not by another one
+        self._called: dict[str, str] = {}  # files that are typed by another name
+
+    def called(self, name: str) -> bytes:
+        """A name by which the file can be typed: another one if its own has blanks, or is too long for a line."""
+        typed = os.fsencode(name)
+        if len(typed) > TYPEABLE or any(byte <= 32 or byte == 127 for byte in typed):
+            last = os.fsencode(os.path.basename(name))[-TYPEABLE // 2 :]
+            typed = bytes(95 if byte <= 32 or byte == 127 else byte for byte in last)
+            self._called[os.fsdecode(typed)] = name
+        return typed
 
     def answer(self, request: bytes) -> bytes:
         """The answer to a request; nothing if it wants none."""
@@ -118,7 +129,7 @@ class Files:
 
     def _include(self, name: str) -> bytes:
         self._before.append(self._open[-1].line if self._open else self._typed)
-        name = name or self._last
+        name = self._called.get(name, name) or self._last
         if not name:
             return answer(b"!", b"INCLUDE needs the name of a file")
         beside = os.path.join(os.path.dirname(self._open[-1].name), name) if self._open else name

@@ -134,11 +134,11 @@ class Host:
             self._terminal.quit_key: lambda: self._end(QUIT),
         }
 
-    def run(self, greeting: bytes, typed: bytes = b"") -> int:
-        """Runs the session, which begins with some typed lines, and gives its status."""
+    def run(self, greeting: bytes, texts: list[str]) -> int:
+        """Runs the session, which begins by including these texts, and gives its status."""
         self._terminal.take_over()
         self._terminal.show(greeting)
-        self._typed += typed
+        self._typed += b"".join(b"INCLUDE " + self._files.called(name) + b"\n" for name in texts)
         lines = [answer(b"=", line) for line in self._history.lines()]
         self._program.send(b"".join([HOSTED, *lines, answer(b".")]))
         self._greeted = time.monotonic()
