@@ -5,10 +5,13 @@ typed: the byte 30, a byte for its kind (`=` here it is, `+` here it is, and lon
 """
 from __future__ import annotations
 
+import errno
 import os
+import stat
 
 ANSWER = b"\x1e"
 LINE = 127  # bytes that a line may have as it is typed
+LARGEST = 16 << 20  # bytes of a text
 TYPEABLE = 100  # bytes that the name of a text may have to be typed as it is
 LONG_LINE = 1024  # bytes that a line of a text may have
 BEGIN, END = b"\x1b_f83", b"\x1b\\"
@@ -52,6 +55,19 @@ class Requests:
         return next((size for size in range(len(BEGIN) - 1, 0, -1) if text.endswith(BEGIN[:size])), 0)
 
 
+def read_file(name: str) -> bytes:
+    """What a file has. It never waits: what is not a file, as a pipe or a device, is refused, and so is what is too large."""
+    with open(os.open(name, os.O_RDONLY | os.O_NONBLOCK | os.O_CLOEXEC), "rb") as file:
+        mode = os.fstat(file.fileno()).st_mode
+        if not stat.S_ISREG(mode):
+            code = errno.EISDIR if stat.S_ISDIR(mode) else errno.EINVAL
+            raise OSError(code, os.strerror(code) if stat.S_ISDIR(mode) else "it is not a file")
+        content = file.read(LARGEST + 1)
+    if len(content) > LARGEST:
+        raise OSError(errno.EFBIG, f"it has more than {LARGEST >> 20} MB")
+    return content
+
+
 def answer(kind: bytes, text: bytes = b"") -> bytes:
     """An answer, as it is typed."""
     return ANSWER + kind + text[:LINE] + b"\n"
@@ -69,8 +85,7 @@ class Text:
 
     def __init__(self, name: str) -> None:
         self.name, self.number, self.line = name, 0, b""
-        with open(name, "rb") as file:
-            self._lines = file.read().splitlines()
+        self._lines = read_file(name).splitlines()
         if self._lines and self._lines[0].startswith(b"#!"):
             self._lines[0] = b""
 

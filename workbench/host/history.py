@@ -3,6 +3,8 @@ from __future__ import annotations
 
 import os
 
+from host.files import read_file
+
 SENT = 1900  # bytes of lines that a session begins with: the Forth keeps 2,048
 KEPT = 1000  # lines that the file keeps
 
@@ -37,13 +39,16 @@ class History:
         if self._name is None:
             return []
         try:
-            with open(self._name, "rb") as file:
-                lines = file.read().splitlines()
+            lines = read_file(self._name).splitlines()
         except OSError:
             return []
         if len(lines) > 2 * KEPT:
             self._rewrite(lines[-KEPT:])
         return last_lines(lines, SENT)
+
+    def _takes_lines(self) -> bool:
+        """Whether its name is that of a file, or of none yet: not of a pipe, which would wait."""
+        return os.path.isfile(str(self._name)) or not os.path.exists(str(self._name))
 
     def _rewrite(self, lines: list[bytes]) -> None:
         try:
@@ -55,7 +60,7 @@ class History:
 
     def add(self, line: bytes) -> None:
         """A line was typed."""
-        if self._name is None or not line.strip() or line == self._last:
+        if self._name is None or not line.strip() or line == self._last or not self._takes_lines():
             return
         self._last = line
         try:

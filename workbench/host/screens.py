@@ -5,6 +5,7 @@ import os
 import re
 import subprocess
 
+from host.files import read_file
 from host.keeping import SCREEN
 
 HEADING = re.compile(rb"^% screen ([0-9]+)$", re.M)
@@ -31,8 +32,7 @@ def read_screens(forth83: str, name: str, count: int, room: str) -> tuple[list[t
         return [], "RELOAD needs the name of a file"
     made = os.path.join(room, "text.blk")
     try:
-        with open(name, "rb") as file:
-            numbers = numbers_of(file.read())
+        numbers = numbers_of(read_file(name))
     except OSError as error:
         return [], f"cannot read {name}: {error.strerror}"
     if not numbers:
