@@ -438,6 +438,7 @@ class Host:
             self._terminal.discard()
             self._typed.clear()
             self._wake = None
+            self._resizing.give_up()
             if not self._is_starting():
                 self._interruption.begin(time.monotonic())
 
