@@ -5,16 +5,15 @@ which: the terminal reports that when it is asked.
 """
 from __future__ import annotations
 
-import re
-import unicodedata
-
 ASK = b"\x1b[6n"
-REPORT = re.compile(rb"\x1b\[([0-9]{1,4});([0-9]{1,4})R")
+REPORT = rb"\x1b\[([0-9]{1,4});([0-9]{1,4})R"
 PATIENCE = 0.5  # seconds within which a terminal must report
 
 
 def columns_of(text: bytes) -> int:
     """How many columns a text takes."""
+    import unicodedata  # not before a window changes: a session starts sooner without it
+
     count = 0
     for character in text.decode(errors="replace"):
         if not unicodedata.combining(character):
@@ -72,7 +71,11 @@ class Resizing:
 
     def take(self, keys: bytes) -> tuple[bytes, tuple[int, int] | None]:
         """The keys without the report, and the report if it is among them."""
-        found = REPORT.search(keys) if self._asked is not None else None
+        if self._asked is None:
+            return keys, None
+        import re
+
+        found = re.search(REPORT, keys)
         if found is None:
             return keys, None
         self._asked = None
