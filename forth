@@ -299,9 +299,12 @@ is_text() {
   esac
 }
 
-# The folder of this run.
+# The folder of this run, which `leave` removes. Nothing ends this start while the folder exists and its name is not known yet.
 make_room() {
+  trap '' HUP INT TERM
   room=$(mktemp -d 2> /dev/null) || refuse "cannot make a folder in ${TMPDIR:-/tmp}: make room there, or set TMPDIR to another folder"
+  trap leave EXIT
+  trap - HUP INT TERM
 }
 
 leave() {
@@ -313,6 +316,7 @@ leave() {
 
 # hand_over: what workbench/session needs, each with a 0 byte after it; the room is the session's from here on.
 hand_over() {
+  trap '' HUP INT TERM
   printf '%s\0' "$forth83" "$images/tools.img" "$blocks" "$room" \
     "$blocks, $((size / 1024)) screens$is_new. WORDS and HELP say more." \
     "BYE or ^D saves your screens and leaves; ^C interrupts what is running." "${texts[@]}" &&
@@ -426,7 +430,6 @@ make_own() {
 # All that comes before a run: the program, its images, and the block file.
 prepare() {
   make_room
-  trap leave EXIT
   find_program
   [ -z "$unproved" ] || "$forth83" --version > /dev/null || exit 1
   if [ -n "$sources" ]; then
@@ -443,7 +446,6 @@ prepare() {
 # Makes the course's file of blocks, with its screens.
 make_course() {
   make_room
-  trap leave EXIT
   find_program
   local said
   said=$("$forth83" new "$room/course.blk" 64 2>&1) || refuse "cannot make $blocks: $said"
@@ -484,7 +486,6 @@ case ${1:-} in
     esac
     python3 -B "$here/page/make" --program - --look "${@:2}" || exit
     make_room
-    trap leave EXIT
     find_program
     python3 -B "$here/page/make" --program "$forth83" "${@:2}"
     exit
@@ -514,7 +515,6 @@ case ${1:-} in
   where)
     { [ $# -eq 2 ] || [ $# -eq 3 ]; } || misused 'where needs an IMAGE, and BLOCKS if the image uses a file of blocks'
     make_room
-    trap leave EXIT
     find_program
     "$here/workbench/where" "$forth83" "${@:2}"
     exit
