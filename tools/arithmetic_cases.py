@@ -1,5 +1,5 @@
 #!/usr/bin/env python3
-"""Writes crates/conformance/data/arithmetic.txt: cases of the arithmetic rows at the edges of cells and doubles.
+"""Writes tools/conformance/data/arithmetic.txt: cases of the arithmetic rows at the edges of cells and doubles.
 
 Nothing here knows the program. The results come from Python's whole numbers, of which `//` and `%` are the floored
 division and its remainder, and of the loop from its rule alone, walked one step at a time: a loop ends where the
@@ -13,7 +13,7 @@ from pathlib import Path
 
 CELLS = [-32768, -1, 0, 1, 32767]
 DOUBLES = [-2147483648, -65536, -1, 0, 1, 65535, 65536, 2147483647]
-TARGET = Path(__file__).resolve().parent.parent / "crates/conformance/data/arithmetic.txt"
+TARGET = Path(__file__).resolve().parent.parent / "tools/conformance/data/arithmetic.txt"
 
 HEAD = """\
 \\ The arithmetic rows at the edges of cells and doubles, computed by whole numbers apart from the program.

@@ -55,7 +55,7 @@ ALLOWED = (
     Allowed(r"doubles", "*", "the Standard's word for numbers of two cells"),
 )
 
-SUFFIXES = (".md", ".rt", ".antt", ".py", ".js", ".html", ".css", ".txt", ".h", ".c")
+SUFFIXES = (".md", ".rt", ".unproved", ".antt", ".py", ".js", ".html", ".css", ".txt", ".h", ".c")
 NOT_READ = ("tools/english.py", "tools/english_cases.py", "tools/english_limits.txt")
 
 
@@ -96,7 +96,7 @@ def read_part(name: str, text: str) -> str:
     """The part of a file that a person reads."""
     if name.endswith(".md"):
         return without_names(text)
-    if name.endswith(".rt"):
+    if name.endswith((".rt", ".unproved")):
         return without_names(comments(text, r"//[/!]? ?"))
     if name.endswith(".antt"):
         return without_names(comments(text, r"--+ ?"))

@@ -11,6 +11,7 @@ CASES: Tuple[Tuple[str, str, int], ...] = (
     ("page.md", "It fails for want\nof memory, but\nfor one.", 2),
     ("page.md", "Where a file isn't there it is made. Is there a file?", 1),
     ("a.rt", "let behind = 1; // what is laid\n/// A slip is mended.\nfn told() {}", 3),
+    ("a.unproved", "let behind = 1; // what is laid\n", 1),
     ("a.antt", "told = behind -- what is begun", 1),
     ("a.py", "behind = 1  # told\nprint('behind')\n", 2),
     ("tool", "#!/usr/bin/env bash\n# The small\n# letters\necho told\n", 2),
