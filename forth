@@ -78,7 +78,7 @@ show_version() {
   elif [ -x "$kept/unproved" ]; then
     "$kept/unproved" --version
   else
-    sed -n 's/^const VERSION: &str = "\(.*\)";$/forth83 \1, not made yet/p' "$here/crates/command_words/src/lib.rt"
+    sed -n 's/^const VERSION: &str = "\(.*\)";$/forth83 \1, not built yet/p' "$here/crates/command_words/src/lib.rt"
   fi
 }
 
@@ -505,6 +505,7 @@ case ${1:-} in
         need_python 'course --sheets'
         exec python3 -B "$here/teaching/sheets" "${@:3}"
         ;;
+      -h | --help) usage | sed -n '/forth course/p'; exit ;;
       -*) misused "course has no option $2" ;;
     esac
     [ $# -le 2 ] || misused 'course takes no more than the name of its file of blocks'
@@ -513,6 +514,10 @@ case ${1:-} in
     exec "$here/forth" "$here/teaching/course.fs" "$blocks"
     ;;
   where)
+    case ${2:-} in
+      -h | --help) usage | sed -n '/forth where/p'; exit ;;
+      -*) misused "where has no option $2" ;;
+    esac
     { [ $# -eq 2 ] || [ $# -eq 3 ]; } || misused 'where needs an IMAGE, and BLOCKS if the image uses a file of blocks'
     make_room
     find_program
