@@ -8,8 +8,10 @@ boundary between limit - 1 and limit is crossed.
 Run it without arguments: python3 tools/arithmetic_cases.py
 """
 
+import argparse
 from itertools import product
 from pathlib import Path
+import sys
 
 CELLS = [-32768, -1, 0, 1, 32767]
 DOUBLES = [-2147483648, -65536, -1, 0, 1, 65535, 65536, 2147483647]
@@ -195,10 +197,12 @@ GROUPS = [
 ]
 
 
-def main():
+def main() -> int:
+    argparse.ArgumentParser(description=f"Writes {TARGET.name}: cases of the arithmetic rows, computed here.").parse_args()
     groups = (f"\n\\ {text}\n" + "".join(f"{case}\n" for case in cases()) for text, cases in GROUPS)
-    TARGET.write_text(HEAD + "".join(groups))
+    TARGET.write_text(HEAD + "".join(groups), encoding="utf-8")
+    return 0
 
 
 if __name__ == "__main__":
-    main()
+    sys.exit(main())
