@@ -1,0 +1,226 @@
+"""Unit tests of the commands in tools/ and workbench/. The expected values are worked out by hand."""
+import contextlib
+import importlib.machinery
+import importlib.util
+import io
+import os
+import pathlib
+import re
+import sys
+import tempfile
+import types
+import unittest
+from typing import List
+from unittest import mock
+
+import arithmetic_cases
+import command_lines
+import sessions
+
+ROOT = pathlib.Path(__file__).resolve().parent.parent
+
+
+def command(path: str) -> types.ModuleType:
+    """A command, as a module: its file has no suffix."""
+    loader = importlib.machinery.SourceFileLoader(re.sub(r"\W", "_", path), str(ROOT / path))
+    spec = importlib.util.spec_from_loader(loader.name, loader)
+    assert spec is not None
+    module = importlib.util.module_from_spec(spec)
+    loader.exec_module(module)
+    return module
+
+
+class Refusals(unittest.TestCase):
+    def test_counts_edits_and_those_that_lack_a_name(self) -> None:
+        count, found = command("tools/refusals").missing_names([
+            "rt: must-fail a.edit: refused, as it must be: the goal of f is open",
+            "rt: must-fail b.edit: refused, as it must be: `z` is not in scope",
+            "rt: must-fail c.edit: refused, as it must be (only because a name is missing): x",
+            "rt: cells proved",
+        ])
+        self.assertEqual((count, [line.split(":")[0] for line in found]), (3, ["b.edit", "c.edit"]))
+
+
+class GateTimes(unittest.TestCase):
+    def test_the_table_has_the_greatest_first_and_the_sums(self) -> None:
+        used = {("1", ("cells", "proof")): 60.0, ("2", ("cells", "edits")): 30.0, ("3", ("see", "tests")): 120.0}
+        lines = command("tools/gate-times").table_of(used, 300.0, 120.0)
+        self.assertEqual([line.split() for line in lines[2:]], [
+            ["see", "0.0", "2.0", "0.0", "0.0", "0"], ["cells", "1.0", "0.0", "0.0", "0.5", "1"],
+            ["all", "1.0", "2.0", "0.0", "0.5", "1"], ["besides:", "1.5"]])
+        self.assertTrue(lines[0].startswith("gate: 2 minutes, 5 of processor time"))
+
+    def test_a_process_that_has_ended_has_no_times(self) -> None:
+        module = command("tools/gate-times")
+        self.assertIsNone(module.stat_of(2**22 + 1))
+        self.assertEqual(module.stat_of(os.getpid())[0], os.getppid())
+        self.assertIsNone(module.kind_of(os.getpid()))
+
+
+class Edits(unittest.TestCase):
+    def misfits(self, source: str, edit: str) -> List[str]:
+        module = command("tools/check-edits")
+        with tempfile.TemporaryDirectory() as name:
+            crate = pathlib.Path(name, "crates/low")
+            for part in ("src", "must-fail"):
+                (crate / part).mkdir(parents=True)
+            (crate / "src/lib.rt").write_text(source)
+            (crate / "must-fail/one.edit").write_text(edit)
+            with mock.patch.object(module, "ROOT", pathlib.Path(name)):
+                return [line.partition("edit: ")[2] for line in module.misfits(crate / "must-fail/one.edit")]
+
+    def test_an_edit_that_fits(self) -> None:
+        self.assertEqual(self.misfits("a < b\n", "file: src/lib.rt\nold: a < b\nnew: a <= b\n"), [])
+
+    def test_a_text_that_is_twice_or_not_in_the_file(self) -> None:
+        self.assertEqual(self.misfits("a\na\n", "file: src/lib.rt\nold: a\nnew: b\n"), ["found 2 times in lib.rt: a"])
+        self.assertEqual(self.misfits("a\n", "file: src/lib.rt\nold: c\nnew: b\n"), ["found 0 times in lib.rt: c"])
+
+    def test_a_pair_sees_what_the_pairs_before_it_did(self) -> None:
+        self.assertEqual(self.misfits("a\n", "file: src/lib.rt\nold: a\nnew: b\nold: b\nnew: c\n"), [])
+
+    def test_a_line_that_is_no_field(self) -> None:
+        self.assertEqual(self.misfits("a\n", "file: src/lib.rt\nodd: a\n"), ["not a field: odd: a"])
+
+
+class Audit(unittest.TestCase):
+    SOURCE = """pub fn free(x: u16) -> Option<u16>
+    ensures done { x ≡ result }
+    ensures gone { IsNone result }
+{
+    None
+}
+
+fn inner() {}
+
+impl Pair {
+    pub fn first(&self) -> u16
+    {
+        0
+    }
+}
+"""
+
+    def test_public_functions_and_methods_are_found_with_their_clauses(self) -> None:
+        module = command("tools/audit")
+        found = list(module.calls_in(self.SOURCE, "pairs"))
+        self.assertEqual([call.title for call in found], ["pairs::free", "pairs::Pair::first"])
+        self.assertEqual([name for name, _ in found[0].clauses()], ["done", "gone"])
+        self.assertEqual(module.named(found[0].clauses(), module.REFUSING), "`gone`")
+        self.assertEqual((found[0].answers(), found[1].answers()), ("Option", ""))
+
+    def test_imports_are_read_with_their_crates(self) -> None:
+        module = command("tools/audit")
+        text = "use low::{one, two};\npub use high::part::three;\n"
+        names = set(module.imported(text))
+        self.assertLessEqual({("low", "one"), ("low", "two"), ("high", "three")}, names)
+
+
+class BareFunctions(unittest.TestCase):
+    def test_only_functions_without_a_clause_are_listed(self) -> None:
+        text = "fn bare() {\n    one();\n}\n\nfn kept()\n    ensures { true }\n{\n}\n\nimpl Clone for X {\n    fn clone(&self) -> X {\n        X\n    }\n}\n"
+        with tempfile.TemporaryDirectory() as name:
+            file = pathlib.Path(name, "a.rt")
+            file.write_text(text)
+            found = list(command("tools/bare-functions").bare_in("low", file))
+        self.assertEqual([(it.crate, it.file, it.name, it.lines) for it in found], [("low", "a.rt", "bare", 3)])
+
+
+class Sessions(unittest.TestCase):
+    def test_steps_have_what_is_typed_and_what_is_shown(self) -> None:
+        steps = sessions.steps_of("A page.\n```\n$ ./forth\n> 1 .\n1  ok\n> KEY\n>>> x\n>> a line\nshown\n```\nMore.\n")
+        self.assertEqual([(it.typed, it.at_shell, it.answers, it.shown) for it in steps], [
+            ("./forth", True, "", []), ("1 .", False, "", ["1  ok"]), ("KEY", False, "xa line\n", ["shown"])])
+
+    def test_the_output_is_divided_at_what_was_typed(self) -> None:
+        steps = sessions.steps_of("```\n> 1 .\n> 2 .\n```\n")
+        self.assertEqual(sessions.parted(steps, "1 . 1  ok\n2 . 2  ok\n"), [["1  ok"], ["2  ok"]])
+
+    def test_a_difference_is_reported(self) -> None:
+        step = sessions.Step("1 .", False)
+        step.shown = ["1  ok"]
+        said = io.StringIO()
+        with contextlib.redirect_stderr(said):
+            self.assertEqual((sessions.differs("page", step, ["1  ok "]), sessions.differs("page", step, ["2"])), (0, 1))
+        self.assertIn("page: 1 .", said.getvalue())
+
+
+class CommandLines(unittest.TestCase):
+    def read(self, *words: str) -> command_lines.Asked:
+        with mock.patch.object(sys, "argv", ["check-it", *words]), contextlib.redirect_stderr(io.StringIO()):
+            return command_lines.read("What it does.\n\nMore.", command_lines.Count("CASES", "how many", 40))
+
+    def test_the_count_has_a_default(self) -> None:
+        self.assertEqual(self.read(__file__), (pathlib.Path(__file__).resolve(), 40))
+        self.assertEqual(self.read(__file__, "7").count, 7)
+
+    def test_wrong_words_end_with_status_2(self) -> None:
+        for words in ([], ["/no/such/program"], [__file__, "x"], [__file__, "1", "2"]):
+            with self.assertRaises(SystemExit) as ended:
+                self.read(*words)
+            self.assertEqual(ended.exception.code, 2, words)
+
+
+class CommandLine(unittest.TestCase):
+    """What ./forth83 answers without a program; tools/check-help PROGRAM compares the same with the program."""
+
+    HELP = ("== forth83\nUsage: forth83 <COMMAND>\n== forth83 cut\nCut it\n\nUsage: forth83 cut [OPTIONS] <FROM> [TO]\n\nArguments:\n"
+            "  <FROM>  The first, 1 to 9\n  [TO]    Where to\n\nOptions:\n      --most <N>  At most\n      --dry       No\n  -h, --help      Help\n")
+
+    def answer(self, *words: str) -> object:
+        module = command("workbench/command-line")
+        try:
+            return module.answer(list(words), module.parts_of(self.HELP))[0]
+        except module.Refusal as refusal:
+            return str(refusal).partition("\n")[0]
+
+    def test_right_words_need_the_program(self) -> None:
+        for words in (["cut", "1"], ["cut", "--dry", "9", "x"], ["cut", "--most=3", "2"], ["cut", "--most", "3", "--", "2", "--dry"]):
+            self.assertEqual(self.answer(*words), 100, words)
+
+    def test_help_needs_none(self) -> None:
+        self.assertEqual([self.answer(), self.answer("--help"), self.answer("help", "cut"), self.answer("cut", "--dry", "-h")], [2, 0, 0, 0])
+
+    def test_wrong_words_are_refused(self) -> None:
+        self.assertEqual(self.answer("paste"), "unrecognized subcommand 'paste'")
+        self.assertEqual(self.answer("cut", "--wet", "1"), "unexpected argument '--wet' found")
+        self.assertEqual(self.answer("cut", "1", "2", "3"), "unexpected argument '3' found")
+        self.assertEqual(self.answer("cut", "0"), "invalid value '0' for '<FROM>': 0 is not in 1..=9")
+        self.assertEqual(self.answer("cut", "--most", "x", "1"), "invalid value 'x' for '--most <N>': invalid digit found in string")
+        self.assertEqual(self.answer("cut", "--most"), "a value is required for '--most <N>' but none was supplied")
+        self.assertEqual(self.answer("cut"), "the following required arguments were not provided:")
+
+
+class Arithmetic(unittest.TestCase):
+    def test_numbers_at_the_edges(self) -> None:
+        self.assertEqual([arithmetic_cases.wrap(it, 16) for it in (32767, 32768, -32769, 65536)], [32767, -32768, 32767, 0])
+        self.assertEqual([arithmetic_cases.floored(7, -2), arithmetic_cases.floored(-32768, -1), arithmetic_cases.floored(1, 0)], [(-1, -4), None, None])
+        self.assertEqual([arithmetic_cases.unsigned_division(65535, 1), arithmetic_cases.unsigned_division(65536, 1)], [(0, 65535), None])
+        self.assertEqual([arithmetic_cases.halves(65537), arithmetic_cases.halves(-1)], [(1, 1), (65535, 65535)])
+
+    def test_a_loop_ends_where_it_crosses_its_limit(self) -> None:
+        self.assertEqual([arithmetic_cases.loop_goes_on(1, 3, 1), arithmetic_cases.loop_goes_on(2, 3, 1)], [2, None])
+        self.assertEqual([arithmetic_cases.loop_goes_on(3, 3, -1), arithmetic_cases.loop_goes_on(0, 3, 5)], [None, None])
+
+
+class Prove(unittest.TestCase):
+    def test_a_line_of_rt_that_means_a_failure(self) -> None:
+        failure = command("workbench/prove").FAILURE
+        for line in ("error: no such thing", "error[E1]: x", "fn a::b: not proved", "NOT PROVED"):
+            self.assertTrue(failure.search(line), line)
+        for line in ("statements cells: modules loaded=1 checked=0", "fn errors::b: proved"):
+            self.assertFalse(failure.search(line), line)
+
+    def test_options_that_exclude_each_other(self) -> None:
+        module = command("workbench/prove")
+        self.assertTrue(module.arguments(["--status"]).status)
+        with self.assertRaises(SystemExit), contextlib.redirect_stderr(io.StringIO()):
+            module.arguments(["--status", "--meanwhile"])
+
+
+class Editors(unittest.TestCase):
+    def test_a_word_is_matched_between_blanks_in_any_case(self) -> None:
+        pattern = command("tools/make-editors").alone(re.escape("2DUP"))
+        self.assertTrue(re.search(pattern, "1 2dup ."))
+        self.assertFalse(re.search(pattern, "1 2DUPX ."))
+        self.assertFalse(re.search(pattern, "x2DUP"))
