@@ -12,6 +12,7 @@ import argparse
 from itertools import product
 from pathlib import Path
 import sys
+from typing import Iterator, Optional, Tuple, Union
 
 CELLS = [-32768, -1, 0, 1, 32767]
 DOUBLES = [-2147483648, -65536, -1, 0, 1, 65535, 65536, 2147483647]
@@ -23,17 +24,17 @@ HEAD = """\
 """
 
 
-def wrap(n, bits):
+def wrap(n: int, bits: int) -> int:
     """The signed number of that many bits which is `n` modulo 2 ** bits."""
     half = 1 << (bits - 1)
     return (n + half) % (1 << bits) - half
 
 
-def unsigned(n, bits=16):
+def unsigned(n: int, bits: int = 16) -> int:
     return n % (1 << bits)
 
 
-def floored(n, m):
+def floored(n: int, m: int) -> Optional[Tuple[int, int]]:
     """Remainder and quotient, or None: a zero divisor, or a quotient that is no signed cell."""
     if m == 0:
         return None
@@ -41,7 +42,7 @@ def floored(n, m):
     return (remainder, quotient) if -32768 <= quotient <= 32767 else None
 
 
-def unsigned_division(n, m):
+def unsigned_division(n: int, m: int) -> Optional[Tuple[int, int]]:
     """Remainder and quotient, or None: a zero divisor, or a quotient that is no unsigned cell."""
     if m == 0:
         return None
@@ -49,7 +50,7 @@ def unsigned_division(n, m):
     return (remainder, quotient) if quotient <= 65535 else None
 
 
-def loop_goes_on(index, limit, step):
+def loop_goes_on(index: int, limit: int, step: int) -> Optional[int]:
     """The new index, or None where the walk from `index` by `step` crosses between limit - 1 and limit."""
     direction = 1 if step > 0 else -1
     for _ in range(abs(step)):
@@ -60,27 +61,27 @@ def loop_goes_on(index, limit, step):
     return index
 
 
-def cells(*numbers):
+def cells(*numbers: int) -> str:
     return " ".join(map(str, numbers))
 
 
-def halves(d):
+def halves(d: int) -> Tuple[int, int]:
     """The low and the high cell of a double."""
     return unsigned(d), unsigned(d // 65536)
 
 
-def leaves(number, name, given, left):
+def leaves(number: int, name: str, given: str, left: Optional[Union[int, str]]) -> str:
     """The line of a row that takes `given` and leaves `left`, or is fault 5 where that is None."""
     if left is None:
         return f"{number} {name} ( {given} -- same ) fault 5"
     return f"{number} {name} ( {given} -- {left} )"
 
 
-def flag(is_true):
+def flag(is_true: bool) -> int:
     return -1 if is_true else 0
 
 
-def divisions():
+def divisions() -> Iterator[str]:
     for n, m in product(CELLS, CELLS):
         given, result = cells(n, m), floored(n, m)
         yield leaves(51, "/", given, result and result[1])
@@ -88,20 +89,20 @@ def divisions():
         yield leaves(53, "/MOD", given, result and cells(*result))
 
 
-def scaled_divisions():
+def scaled_divisions() -> Iterator[str]:
     for n1, n2, m in product(CELLS, CELLS, CELLS):
         given, result = cells(n1, n2, m), floored(n1 * n2, m)
         yield leaves(54, "*/", given, result and result[1])
         yield leaves(55, "*/MOD", given, result and cells(*result))
 
 
-def unsigned_divisions():
+def unsigned_divisions() -> Iterator[str]:
     for low, high, m in product(CELLS, CELLS, CELLS):
         result = unsigned_division(unsigned(low) + 65536 * unsigned(high), unsigned(m))
         yield leaves(79, "UM/MOD", cells(low, high, m), result and cells(*result))
 
 
-def loops():
+def loops() -> Iterator[str]:
     """Of a row at 298, and the loop that LEAVE would end at 900."""
     yield "ip 300\nset 300 700"
     for index, limit in product(CELLS, CELLS):
@@ -117,7 +118,7 @@ def loops():
                 yield f"10 (LOOP) ( -- )\n{change}"
 
 
-def comparisons():
+def comparisons() -> Iterator[str]:
     for n1, n2 in product(CELLS, CELLS):
         given = cells(n1, n2)
         yield leaves(70, "=", given, flag(n1 == n2))
@@ -127,13 +128,13 @@ def comparisons():
         yield leaves(74, "U<", given, flag(unsigned(n1) < unsigned(n2)))
 
 
-def extremes():
+def extremes() -> Iterator[str]:
     for n1, n2 in product(CELLS, CELLS):
         yield leaves(64, "MIN", cells(n1, n2), min(n1, n2))
         yield leaves(65, "MAX", cells(n1, n2), max(n1, n2))
 
 
-def sums():
+def sums() -> Iterator[str]:
     for n1, n2 in product(CELLS, CELLS):
         given = cells(n1, n2)
         yield leaves(48, "+", given, wrap(n1 + n2, 16))
@@ -142,7 +143,7 @@ def sums():
         yield leaves(78, "UM*", given, cells(*halves(unsigned(n1) * unsigned(n2))))
 
 
-def single_cells():
+def single_cells() -> Iterator[str]:
     for n in CELLS:
         yield leaves(62, "NEGATE", n, wrap(-n, 16))
         yield leaves(63, "ABS", n, wrap(abs(n), 16))
@@ -150,21 +151,21 @@ def single_cells():
         yield leaves(60, "2*", n, wrap(2 * n, 16))
 
 
-def double_sums():
+def double_sums() -> Iterator[str]:
     for d1, d2 in product(DOUBLES, DOUBLES):
         given = cells(*halves(d1), *halves(d2))
         yield leaves(80, "D+", given, cells(*halves(d1 + d2)))
         yield leaves(81, "D-", given, cells(*halves(d1 - d2)))
 
 
-def double_extremes():
+def double_extremes() -> Iterator[str]:
     for d1, d2 in product(DOUBLES, DOUBLES):
         given = cells(*halves(d1), *halves(d2))
         yield leaves(85, "DMIN", given, cells(*halves(min(d1, d2))))
         yield leaves(86, "DMAX", given, cells(*halves(max(d1, d2))))
 
 
-def double_comparisons():
+def double_comparisons() -> Iterator[str]:
     for d1, d2 in product(DOUBLES, DOUBLES):
         given = cells(*halves(d1), *halves(d2))
         yield leaves(87, "D=", given, flag(d1 == d2))
@@ -172,7 +173,7 @@ def double_comparisons():
         yield leaves(90, "DU<", given, flag(unsigned(d1, 32) < unsigned(d2, 32)))
 
 
-def single_doubles():
+def single_doubles() -> Iterator[str]:
     for low, high in product(CELLS, CELLS):
         d, given = wrap(unsigned(low) + 65536 * high, 32), cells(low, high)
         yield leaves(82, "DNEGATE", given, cells(*halves(-d)))

@@ -14,6 +14,7 @@ import shutil
 import subprocess
 import sys
 import tempfile
+from typing import List
 
 ROOT = pathlib.Path(__file__).resolve().parent.parent
 
@@ -21,12 +22,12 @@ ROOT = pathlib.Path(__file__).resolve().parent.parent
 class Step:
     """What is typed, at the shell or not, what is typed after it, and the lines that are shown."""
 
-    def __init__(self, typed, at_shell):
+    def __init__(self, typed: str, at_shell: bool) -> None:
         self.typed, self.at_shell = typed, at_shell
         self.answers, self.shown = "", []
 
 
-def steps_of(text):
+def steps_of(text: str) -> List[Step]:
     steps = []
     for block in re.findall(r"^```\n(.*?)^```$", text, re.M | re.S):
         for line in block.splitlines():
@@ -40,13 +41,13 @@ def steps_of(text):
     return steps
 
 
-def behind(text):
+def behind(text: str) -> List[str]:
     """The lines that are shown after what was typed, without the blanks that part them from it."""
     first, *rest = [line.rstrip() for line in (text[:-1] if text.endswith("\n") else text).split("\n")]
     return [first.lstrip(), *rest] if first else rest
 
 
-def parted(steps, output):
+def parted(steps: List[Step], output: str) -> List[List[str]]:
     """What was shown after each line that was typed: each begins a line of the output, and has a blank after it."""
     at, shown = 0, []
     for step, following in zip(steps, steps[1:] + [None]):
@@ -61,17 +62,17 @@ def parted(steps, output):
 class Folder:
     """Where the sessions are done."""
 
-    def __init__(self, room, program):
+    def __init__(self, room: str, program: pathlib.Path) -> None:
         self.room = room
         subprocess.run([ROOT / "tools/lay-built", program, room], check=True)
         self.run(["./forth83", "kernel", "kernel"])
         self.run(["workbench/make", "./forth83", "kernel", "tools"])
 
-    def run(self, words, typed=""):
+    def run(self, words: List[str], typed: str = "") -> str:
         ends = {"stdout": subprocess.PIPE, "stderr": subprocess.STDOUT}
         return subprocess.run(words, cwd=self.room, input=typed, text=True, check=False, **ends).stdout
 
-    def session(self, command, steps):
+    def session(self, command: str, steps: List[Step]) -> List[List[str]]:
         blocks = (command.split() + ["forth.blk"])[1]
         if not pathlib.Path(self.room, blocks).exists():
             shutil.copy(f"{self.room}/kernel", f"{self.room}/{blocks}")
@@ -80,7 +81,7 @@ class Folder:
         return parted(steps, re.sub(r"\x1b\[[0-9;]*[A-Za-z]", "", output))
 
 
-def differs(page, step, got):
+def differs(page: str, step: Step, got: List[str]) -> int:
     got = [line.rstrip() for line in got]
     if step.shown == got:
         return 0
@@ -88,7 +89,7 @@ def differs(page, step, got):
     return 1
 
 
-def check(page, program, at_least):
+def check(page: str, program: str, at_least: int) -> int:
     """Returns 1 where a session differs, or where the page has fewer lines to type than that."""
     steps, wrong = steps_of((ROOT / page).read_text(encoding="utf-8")), 0
     if len(steps) < at_least or not steps[0].at_shell:
