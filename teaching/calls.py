@@ -4,6 +4,8 @@ A call begins behind a step whose token is a colon word, or one that DOES> made;
 no deeper than before the call. A fault empties the return stack and ends all of them. Where EXECUTE does a word that was made
 in the run, its code isn't known: it is a call where the return stack grew.
 """
+from typing import Optional, Tuple
+
 import images
 
 CALL, MAYBE, END, CLEAR, OTHER = "call", "maybe", "end", "clear", "other"
@@ -14,7 +16,7 @@ RETURNED, FAULTED, LEFT, CUT = "returned", "faulted", "left", "cut"
 class Frame:
     """A call: that in which it was made or None, the address where it began, and the return stack's depth before it."""
 
-    def __init__(self, parent, begins, base):
+    def __init__(self, parent: Optional[int], begins: int, base: int) -> None:
         self.parent, self.begins, self.base = parent, begins, base
 
 
@@ -22,11 +24,11 @@ class Step:
     """What stands before a step: the place of its token or None behind the last one, the call that it belongs to, the stacks,
     and the mark of what was shown."""
 
-    def __init__(self, address, frame, data, returns, mark):
+    def __init__(self, address: Optional[int], frame: int, data: Tuple[int, ...], returns: Tuple[int, ...], mark: Tuple[int, int]) -> None:
         self.address, self.frame, self.data, self.returns, self.mark = address, frame, data, returns, mark
 
 
-def effect_of(memory, code_field):
+def effect_of(memory: images.Memory, code_field: int) -> Tuple[str, Optional[int]]:
     """What a step does to calls, and where a call goes on. A code of 256 or more is a thread behind DOES>."""
     row = memory.cell(code_field)
     if row == images.COLON:
@@ -40,31 +42,31 @@ class Calls:
     """Keeps at most so many steps of the calls of the word whose thread lies from an address up to another; with `data`, of those
     calls alone that begin with this address on the stack, as a word that DOES> made begins."""
 
-    def __init__(self, begins, end, most, data=None):
+    def __init__(self, begins: int, end: int, most: int, data: Optional[int] = None) -> None:
         self.begins, self.behind, self.most, self.data = begins, end, most, data
         self.frames, self.steps, self.ends = [], [], []
         self.open, self.last, self.target, self.depth, self.met = [], OTHER, None, 0, 0
 
-    def take(self, address, effect, data, returns, mark):
+    def take(self, address: int, effect: Tuple[str, Optional[int]], data: Tuple[int, ...], returns: Tuple[int, ...], mark: Tuple[int, int]) -> None:
         """A line of the run, in its order, and what its step does to calls."""
         self.follow(address, data, returns, mark)
         if self.open:
             self.keep(address, data, returns, mark)
         self.pass_by(effect, len(returns))
 
-    def pass_by(self, effect, depth=0):
+    def pass_by(self, effect: Tuple[str, Optional[int]], depth: int = 0) -> None:
         """A step of this effect comes, when the return stack has this depth."""
         (self.last, self.target), self.depth = effect, depth
 
-    def is_begun(self, address, depth):
+    def is_begun(self, address: int, depth: int) -> bool:
         """Whether the step before was a call that goes on at this address."""
         return self.last == CALL and address == self.target or self.last == MAYBE and depth > self.depth
 
-    def is_wanted(self, address, data):
+    def is_wanted(self, address: int, data: Tuple[int, ...]) -> bool:
         """Whether a call that begins here is one of the word."""
         return self.begins <= address < self.behind and (self.data is None or bool(data) and data[-1] & 0xFFFF == self.data)
 
-    def follow(self, address, data, returns, mark):
+    def follow(self, address: int, data: Tuple[int, ...], returns: Tuple[int, ...], mark: Tuple[int, int]) -> None:
         """What the step before did to the calls."""
         if self.open:
             if not returns and len(data) == 1 and self.frames[self.open[0]].base > 0 and self.last not in (END, CLEAR):
@@ -76,34 +78,34 @@ class Calls:
         if self.is_begun(address, len(returns)) and (self.open or self.is_wanted(address, data)):
             self.begin(address, len(returns) - 1)
 
-    def begin(self, address, base):
+    def begin(self, address: int, base: int) -> None:
         self.frames.append(Frame(self.open[-1] if self.open else None, address, base))
         self.open.append(len(self.frames) - 1)
 
-    def end(self, data, returns, mark):
+    def end(self, data: Tuple[int, ...], returns: Tuple[int, ...], mark: Tuple[int, int]) -> None:
         root = self.open[0]
         while self.open and self.frames[self.open[-1]].base >= len(returns):
             self.open.pop()
         if not self.open:
             self.close(root, data, returns, mark, RETURNED)
 
-    def leave(self, data, returns, mark, how):
+    def leave(self, data: Tuple[int, ...], returns: Tuple[int, ...], mark: Tuple[int, int], how: str) -> None:
         root = self.open[0]
         self.open = []
         self.close(root, data, returns, mark, how)
 
-    def close(self, root, data, returns, mark, how):
+    def close(self, root: int, data: Tuple[int, ...], returns: Tuple[int, ...], mark: Tuple[int, int], how: str) -> None:
         """The state behind a call of the word, which no step follows."""
         if self.steps and self.steps[-1].frame >= root and self.met <= self.most:
             self.steps.append(Step(None, root, data, returns, mark))
         self.ends.append((root, how))
 
-    def keep(self, address, data, returns, mark):
+    def keep(self, address: int, data: Tuple[int, ...], returns: Tuple[int, ...], mark: Tuple[int, int]) -> None:
         self.met += 1
         if self.met <= self.most:
             self.steps.append(Step(address, self.open[-1], data, returns, mark))
 
-    def finish(self):
+    def finish(self) -> None:
         """The run is over. A call that is open then was cut, or the machine halted in it."""
         if self.open:
             self.ends.append((self.open[0], CUT))

@@ -4,6 +4,7 @@ The words after FENCE, which are the user's, come first. Each map is drawn twice
 style shows one of them, as wide as the window. On paper the Forth's own words are left out if there are others.
 """
 import pathlib
+from typing import Iterator, List, Tuple
 from html import escape
 
 import images
@@ -19,13 +20,13 @@ BYTE, ROW, GUTTER, LINE, ABOVE, LETTER, TITLE_LETTER = 13, 24, 56, 17, 8, 7.3, 8
 class Canvas:
     """What is drawn, and how far down it reaches."""
 
-    def __init__(self, width):
+    def __init__(self, width: int) -> None:
         self.width, self.y, self.parts, self.on_paper = width, 8, [], None
 
-    def add(self, text):
+    def add(self, text: str) -> None:
         self.parts.append(text)
 
-    def line(self, text, kind="told", x=8):
+    def line(self, text: str, kind: str = "told", x: int = 8) -> None:
         """A line of text, cut into as many as the width needs."""
         most = max(12, int((self.width - x) / (TITLE_LETTER if kind == "title" else LETTER)))
         self.y += ABOVE if kind in ("title", "heading") and self.parts else 0
@@ -35,7 +36,7 @@ class Canvas:
             self.add(f'<text class="{kind}" x="{x}" y="{self.y - 4}">{escape(text[:cut])}</text>')
             text = text[cut:].lstrip()
 
-    def room(self, height):
+    def room(self, height: int) -> None:
         self.y += height
 
 
@@ -43,28 +44,28 @@ class Grid:
     """Where the bytes of one image's dictionary are: so many a row, from an x on. Those from an address on, where the user's words
     begin, are in rows of their own, from the y `own` on; those before it are from `system` on."""
 
-    def __init__(self, one, x, wide, split):
+    def __init__(self, one: regions.Map, x: int, wide: int, split: int) -> None:
         self.one, self.x, self.wide, self.split = one, x, wide, split
         self.own, self.system = 0, 0
 
-    def own_rows(self):
+    def own_rows(self) -> int:
         return max(1, -(-self.one.top // self.wide) - self.split // self.wide)
 
-    def system_rows(self):
+    def system_rows(self) -> int:
         """How many rows the words before the split have; none if it begins the dictionary."""
         return -(-min(self.split, self.one.top) // self.wide) - images.DICTIONARY // self.wide
 
-    def rows(self):
+    def rows(self) -> Iterator[Tuple[int, int]]:
         """The first address and the y of each row."""
         for count, first, y in ((self.own_rows(), self.split, self.own), (self.system_rows(), images.DICTIONARY, self.system)):
             yield from (((first // self.wide + row) * self.wide, y + row * ROW) for row in range(count))
 
-    def spot(self, address):
+    def spot(self, address: int) -> Tuple[int, int]:
         """The left upper corner of a byte."""
         first, y = (self.split, self.own) if address >= self.split else (images.DICTIONARY, self.system)
         return self.x + GUTTER + address % self.wide * BYTE, y + (address // self.wide - first // self.wide) * ROW
 
-    def pieces(self, begins, end):
+    def pieces(self, begins: int, end: int) -> Iterator[Tuple[int, int, int]]:
         """The pieces of a region, one a row: x, y, how many bytes."""
         while begins < end:
             count = min(end - begins, self.wide - begins % self.wide)
@@ -73,11 +74,11 @@ class Grid:
             yield (*self.spot(begins), count)
             begins += count
 
-    def boxes(self, begins, end, kind):
+    def boxes(self, begins: int, end: int, kind: str) -> str:
         return "".join(f'<rect class="{kind}" x="{x}" y="{y + 2}" width="{count * BYTE}" height="{ROW - 6}"/>'
                        for x, y, count in self.pieces(begins, end))
 
-    def letters(self, header):
+    def letters(self, header: images.Header) -> str:
         """The name, each letter on its byte."""
         drawn, at = [], header.link_field + 3
         for byte in header.name:
@@ -87,10 +88,10 @@ class Grid:
             at += 1
         return "".join(drawn)
 
-    def contains(self, address):
+    def contains(self, address: int) -> bool:
         return images.DICTIONARY <= address < self.one.top
 
-    def arc(self, header):
+    def arc(self, header: images.Header) -> str:
         """The link from a word to the one before it in its chain: between the rows and beside them, so that it crosses no text."""
         if not header.link or not self.contains(header.link - 2):
             return ""
@@ -106,7 +107,7 @@ class Grid:
         return f'<path class="link c{header.chain()}" data-from="{header.link_field}" d="{way}"/>'
 
 
-def told_of(one, header):
+def told_of(one: regions.Map, header: images.Header) -> List[str]:
     """What is told of a word, in lines."""
     found = one.at_link_field()
     before = texts.shown(found[header.link].name) if header.link in found else "none"
@@ -118,7 +119,7 @@ def told_of(one, header):
             f"chain {header.chain()}, the word before: {before}"]
 
 
-def word(grid, header):
+def word(grid: Grid, header: images.Header) -> str:
     """A word as a group that keys reach."""
     lines = told_of(grid.one, header)
     drawn = "".join(grid.boxes(region.begins, region.end, region.kind) for region in regions.parts_of(header))
@@ -128,7 +129,7 @@ def word(grid, header):
             f'<title>{escape(chr(10).join(lines))}</title>{drawn}{link}{grid.letters(header)}</g>')
 
 
-def newest_chain(one):
+def newest_chain(one: regions.Map) -> List[int]:
     """The link fields of the chain in which the newest word is."""
     newest = one.at_link_field().get(one.image.memory.cell(images.LAST)) or (one.words[-1] if one.words else None)
     found, all_headers = [], one.at_link_field()
@@ -138,7 +139,7 @@ def newest_chain(one):
     return found
 
 
-def draw_grid(canvas, grid, runs):
+def draw_grid(canvas: Canvas, grid: Grid, runs: List[Tuple[int, int]]) -> None:
     """The dictionary's rows with their addresses, words, links, and what changed."""
     canvas.add('<g class="half">')
     for address, y in grid.rows():
@@ -159,7 +160,7 @@ def draw_grid(canvas, grid, runs):
     canvas.add("</g>")
 
 
-def draw_strip(canvas, one):
+def draw_strip(canvas: Canvas, one: regions.Map) -> None:
     """All of memory to scale, and what its parts are."""
     scale, y = (canvas.width - 24) / images.MEMORY, canvas.y + 6
     for begins, end, kind, told in one.outline():
@@ -176,7 +177,7 @@ def draw_strip(canvas, one):
         canvas.line(f"{begins} to {end - 1}: {told}, {end - begins} bytes", x=28)
 
 
-def draw_cells(canvas, one):
+def draw_cells(canvas: Canvas, one: regions.Map) -> None:
     memory = one.image.memory
     canvas.line("System cells", "heading")
     canvas.line(", ".join(f"{name} {memory.cell(address)}" for address, name in images.CELLS.items()))
@@ -197,13 +198,13 @@ ADVICE = ("The line is the chain of the newest word. Tab and the arrows go from 
 ALL, OWN, SYSTEM = "The dictionary, each byte a column", "Your words, each byte a column", "The Forth's own words"
 
 
-def split_of(one):
+def split_of(one: regions.Map) -> int:
     """Where the user's words begin: at FENCE, or with the dictionary if FENCE divides it in no two parts."""
     fence = one.image.memory.cell(images.FENCE)
     return fence if images.DICTIONARY < fence < one.here <= one.top else images.DICTIONARY
 
 
-def draw_key(canvas, heading):
+def draw_key(canvas: Canvas, heading: str) -> None:
     """What the colors are."""
     canvas.line(heading, "heading")
     x, y = 8, canvas.y + 4
@@ -218,11 +219,11 @@ def draw_key(canvas, heading):
     canvas.line(ADVICE)
 
 
-def title(one):
+def title(one: regions.Map) -> str:
     return f"{one.name}: an image of version {one.image.version}, {one.image.size} bytes, begins with {listing.entry(one)}"
 
 
-def draw_own(canvas, grids, split):
+def draw_own(canvas: Canvas, grids: List[Grid], split: int) -> None:
     """Room for the rows of the user's words, and what comes on paper."""
     canvas.room(8)
     for grid in grids:
@@ -232,7 +233,7 @@ def draw_own(canvas, grids, split):
         canvas.on_paper = canvas.y
 
 
-def draw_system(canvas, grids):
+def draw_system(canvas: Canvas, grids: List[Grid]) -> None:
     """Room for the rows of the words before the user's."""
     rows = max(grid.system_rows() for grid in grids)
     if rows:
@@ -243,7 +244,7 @@ def draw_system(canvas, grids):
     canvas.room(rows * ROW)
 
 
-def draw_one(one, wide):
+def draw_one(one: regions.Map, wide: int) -> Canvas:
     canvas, split = Canvas(GUTTER + wide * BYTE + 24), split_of(one)
     grid = Grid(one, 0, wide, split)
     canvas.line(title(one), "title")
@@ -262,7 +263,7 @@ def draw_one(one, wide):
     return canvas
 
 
-def draw_changes(canvas, changes):
+def draw_changes(canvas: Canvas, changes: regions.Changes) -> None:
     canvas.line("What changed from the first to the second", "heading")
     for told, headers in (("Words that came", changes.came), ("Words that went", changes.went),
                           ("Words with other bytes", [header for _, header in changes.changed])):
@@ -273,7 +274,7 @@ def draw_changes(canvas, changes):
     canvas.line(f"{changes.bytes()} of 65536 bytes differ. What differs in the dictionary has a frame.")
 
 
-def draw_two(first, second, wide):
+def draw_two(first: regions.Map, second: regions.Map, wide: int) -> Canvas:
     changes, split = regions.Changes(first, second), split_of(second)
     canvas = Canvas(2 * (GUTTER + wide * BYTE + 24))
     grids = [Grid(first, 0, wide, split), Grid(second, canvas.width // 2, wide, split)]
@@ -292,19 +293,19 @@ def draw_two(first, second, wide):
     return canvas
 
 
-def drawing(canvas, kind):
+def drawing(canvas: Canvas, kind: str) -> str:
     """A drawing that is as wide as the window. Its box is what comes on paper, and what is below that shows where there is room."""
     box = f"0 0 {canvas.width} {canvas.on_paper or canvas.y}"
     return (f'<svg class="{kind}" viewBox="{box}" preserveAspectRatio="xMinYMin meet" overflow="visible">{"".join(canvas.parts)}'
             f'<g class="tell"></g></svg>')
 
 
-def height_of(canvas, units):
+def height_of(canvas: Canvas, units: int) -> str:
     """The page's height that these units of a drawing have."""
     return f"svg.map {{ height: calc(100vw * {units / canvas.width:.5f}); }}"
 
 
-def svg(wide, narrow, text):
+def svg(wide: Canvas, narrow: Canvas, text: str) -> str:
     """One file of both drawings."""
     style = (HERE / "map.css").read_text(encoding="utf-8")
     script = (HERE / "map.js").read_text(encoding="utf-8")
@@ -317,9 +318,9 @@ def svg(wide, narrow, text):
             f'<script><![CDATA[\n{script}]]></script>\n</svg>\n')
 
 
-def map_of(one):
+def map_of(one: regions.Map) -> str:
     return svg(draw_one(one, 64), draw_one(one, 24), title(one))
 
 
-def map_of_two(first, second):
+def map_of_two(first: regions.Map, second: regions.Map) -> str:
     return svg(draw_two(first, second, 40), draw_two(first, second, 9), f"{first.name} and {second.name}")

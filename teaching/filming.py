@@ -3,6 +3,9 @@
 The steps come from one run of all words' lines (traces.py). They count where `debug` of the word itself, over the image as it
 is, tells the same lines, and shows the same. Else the film is made of the word's own lines alone.
 """
+import pathlib
+from typing import Dict, List, Optional, Tuple
+
 import cells
 import images
 import program
@@ -18,7 +21,7 @@ UNKNOWN = -1
 class Place:
     """A place of memory where a token stands: as a line says it, and what its step does."""
 
-    def __init__(self, memory, dictionary, digests, address):
+    def __init__(self, memory: images.Memory, dictionary: images.Dictionary, digests: List[traces.Digest], address: int) -> None:
         code_field = memory.cell(address)
         self.address, self.row = address, memory.cell(code_field)
         self.shows, self.touches, self.code_field = self.row in shown.SHOWING, self.row in cells.ROWS, code_field
@@ -30,11 +33,11 @@ class Place:
 class Subject:
     """What is filmed: a colon word, or a word that DOES> made; the thread of that one is a part of its maker's."""
 
-    def __init__(self, header, maker=None):
+    def __init__(self, header: images.Header, maker: Optional[images.Header] = None) -> None:
         self.header = maker or header
         self.begins, self.data = (header.code, header.body) if maker else (header.body, None)
 
-    def calls(self, most):
+    def calls(self, most: int) -> Calls:
         return Calls(self.begins, self.header.end, most, self.data)
 
 
@@ -42,14 +45,14 @@ class Film:
     """The calls of a word that were met, and the run's output; `exact` has the words whose lines were compared, and `cells` the
     variables and arrays."""
 
-    def __init__(self, calls, output, status, followed=None):
+    def __init__(self, calls: Calls, output: bytes, status: int, followed: Optional[cells.Cells] = None) -> None:
         self.calls, self.output, self.status, self.cells = calls, output, status, followed
         self.marks = None
         self.exact, self.others = [], []
         self.is_whole = True
 
 
-def digests_of(dictionary):
+def digests_of(dictionary: images.Dictionary) -> Tuple[Dict[int, traces.Digest], List[traces.Digest]]:
     """A digest for each colon word, by the addresses of its thread; the others of memory have one together."""
     by_word = {header.begins: traces.Digest() for header in dictionary.headers if header.is_colon()}
     digests = [traces.Digest()] * images.MEMORY
@@ -61,18 +64,18 @@ def digests_of(dictionary):
 class Whole:
     """Reads the lines of a run of all words."""
 
-    def __init__(self, image, dictionary, calls, typed):
+    def __init__(self, image: images.Image, dictionary: images.Dictionary, calls: Calls, typed: bytes) -> None:
         self.memory, self.dictionary, self.calls = image.memory, dictionary, calls
         self.here = image.memory.cell(images.DP)
         self.by_word, self.digests = digests_of(dictionary)
         self.counter, self.places = shown.Shown(image.memory, typed), {}
         self.cells = cells.Cells(image.memory, dictionary)
 
-    def place(self, where):
+    def place(self, where: bytes) -> Place:
         place = self.places[where] = Place(self.memory, self.dictionary, self.digests, int(where))
         return place
 
-    def take(self, line):
+    def take(self, line: bytes) -> None:
         """A line `3068 ? | 5 5 | 2954 2768`."""
         blank = line.index(b" ")
         place = self.places.get(line[:blank]) or self.place(line[:blank])
@@ -84,7 +87,7 @@ class Whole:
         else:
             self.calls.pass_by(place.effect)
 
-    def step(self, place, rest):
+    def step(self, place: Place, rest: bytes) -> None:
         """A line that tells more than where the run is."""
         _, data, returns = rest.split(b"|")
         data, returns = tuple(map(int, data.split())), tuple(map(int, returns.split()))
@@ -103,7 +106,7 @@ class Whole:
         self.counter.meet(place.address, row, stack)
 
 
-def whole_film(setting, image, dictionary, subject, most, progress):
+def whole_film(setting: traces.Setting, image: images.Image, dictionary: images.Dictionary, subject: Subject, most: int, progress: program.Progress) -> Tuple[Film, Dict[int, traces.Digest]]:
     """The film of one run of all words, before it is compared with anything."""
     path = setting.room / "whole.img"
     traces.without_headers(image, path)
@@ -122,13 +125,13 @@ def whole_film(setting, image, dictionary, subject, most, progress):
     return film, reader.by_word
 
 
-def words_of(film, dictionary):
+def words_of(film: Film, dictionary: images.Dictionary) -> List[images.Header]:
     """The colon words whose threads the film's steps stand in, each once, in the order of the film."""
     owner = dictionary.owners()
     return list(dict.fromkeys(owner[step.address] for step in film.calls.steps if step.address in owner))
 
 
-def compare(setting, image_path, film, dictionary, header, by_word, progress):
+def compare(setting: traces.Setting, image_path: pathlib.Path, film: Film, dictionary: images.Dictionary, header: images.Header, by_word: Dict[int, traces.Digest], progress: program.Progress) -> bool:
     """Compares the film's words with `debug` of each; whether the word itself is the same."""
     words = words_of(film, dictionary)
     for number, word in enumerate([header] + [other for other in words if other is not header]):
@@ -143,7 +146,7 @@ def compare(setting, image_path, film, dictionary, header, by_word, progress):
     return True
 
 
-def single_film(lines, header, most, output, status):
+def single_film(lines: bytes, header: images.Header, most: int, output: bytes, status: int) -> Film:
     """The film of a word's own lines: its calls of others are single steps, and where it was called isn't known."""
     calls = Calls(header.body, header.end, most)
     calls.begin(header.body, UNKNOWN)
@@ -154,7 +157,7 @@ def single_film(lines, header, most, output, status):
     return film
 
 
-def filmed(setting, image_path, image, dictionary, subject, most, progress):
+def filmed(setting: traces.Setting, image_path: pathlib.Path, image: images.Image, dictionary: images.Dictionary, subject: Subject, most: int, progress: program.Progress) -> Film:
     """The film of a word: of the whole run, or if `debug` of the word prints other lines, of the word's own lines."""
     film, by_word = whole_film(setting, image, dictionary, subject, most, progress)
     header = subject.header

@@ -4,6 +4,7 @@ docs/MACHINE.md has the format, the memory map and the headers. Both versions of
 is refused by the same causes as `forth83` has.
 """
 import bisect
+from typing import Callable, Dict, Iterator, List, Optional
 
 import program
 
@@ -34,7 +35,7 @@ CAUSES = {
 class BadImage(program.Refusal):
     """Why a file is no image: its cause, as the program spells it."""
 
-    def told(self):
+    def told(self) -> str:
         """The cause in words."""
         return f"{CAUSES[str(self)]} ({self})"
 
@@ -42,11 +43,11 @@ class BadImage(program.Refusal):
 class Image:
     """What an image's file has; memory is all of it."""
 
-    def __init__(self, version, buffers, entry, content):
+    def __init__(self, version: int, buffers: int, entry: int, content: bytes) -> None:
         self.version, self.buffers, self.entry, self.size = version, buffers, entry, len(content)
         self.memory = Memory(content)
 
-    def limit(self):
+    def limit(self) -> int:
         """Where the block buffers begin."""
         return MEMORY - PAGE * self.buffers
 
@@ -54,24 +55,24 @@ class Image:
 class Memory:
     """65,536 bytes; addresses wrap."""
 
-    def __init__(self, content):
+    def __init__(self, content: bytes) -> None:
         self.bytes = bytearray(content) + bytearray(MEMORY - len(content))
 
-    def byte(self, address):
+    def byte(self, address: int) -> int:
         return self.bytes[address & 0xFFFF]
 
-    def cell(self, address):
+    def cell(self, address: int) -> int:
         return self.byte(address) | self.byte(address + 1) << 8
 
-    def span(self, address, count):
+    def span(self, address: int, count: int) -> bytes:
         return bytes(self.byte(address + step) for step in range(count))
 
-    def set_cell(self, address, value):
+    def set_cell(self, address: int, value: int) -> None:
         self.bytes[address & 0xFFFF] = value & 0xFF
         self.bytes[(address + 1) & 0xFFFF] = value >> 8
 
 
-def field(data, at, is_good, cause):
+def field(data: bytes, at: int, is_good: Callable[[int], bool], cause: str) -> int:
     """The cell at a place of a file. Where only a part of it is there, that part decides whether the file ends too soon."""
     part = data[at:at + 2]
     if len(part) == 2:
@@ -84,7 +85,7 @@ def field(data, at, is_good, cause):
     raise BadImage("Truncated")
 
 
-def parse(data):
+def parse(data: bytes) -> Image:
     """The image of a file's bytes."""
     if data[:8] != MAGIC[:len(data[:8])]:
         raise BadImage("BadMagic")
@@ -106,7 +107,7 @@ def parse(data):
     return Image(version, buffers, entry, content)
 
 
-def written(image):
+def written(image: Image) -> bytes:
     """The bytes of an image's file, of version 2."""
     numbers = (2, image.buffers, image.entry, image.size)
     return MAGIC + b"".join(number.to_bytes(2, "little") for number in numbers) + bytes(image.memory.bytes[:image.size])
@@ -115,7 +116,7 @@ def written(image):
 class Header:
     """A word's header, known by the address of its link field."""
 
-    def __init__(self, memory, link_field, vocabulary):
+    def __init__(self, memory: Memory, link_field: int, vocabulary: int) -> None:
         count = memory.byte(link_field + 2)
         self.link_field, self.vocabulary = link_field, vocabulary
         self.begins = (link_field - 2) & 0xFFFF
@@ -127,15 +128,15 @@ class Header:
         self.code = memory.cell(self.code_field)
         self.end = None
 
-    def is_colon(self):
+    def is_colon(self) -> bool:
         return self.code == COLON
 
-    def chain(self):
+    def chain(self) -> int:
         """The number of its chain: the first byte of its name, modulo 4; an empty name is in none."""
         return self.name[0] & 3 if self.name else 0
 
 
-def chain(memory, head):
+def chain(memory: Memory, head: int) -> Iterator[int]:
     """The link fields of a chain, the newest first."""
     at, count = memory.cell(head), 0
     while at and count < MOST_HEADERS:
@@ -145,7 +146,7 @@ def chain(memory, head):
         raise BadImage("ChainTooLong")
 
 
-def records(memory):
+def records(memory: Memory) -> List[int]:
     """The records of the vocabularies, the newest first."""
     found, at = [], memory.cell(VOC_LINK)
     while at:
@@ -159,7 +160,7 @@ def records(memory):
 class Dictionary:
     """All headers of an image, by their addresses, and the vocabularies."""
 
-    def __init__(self, memory):
+    def __init__(self, memory: Memory) -> None:
         self.memory, self.records = memory, records(memory)
         found = {}
         for record in self.records:
@@ -172,21 +173,21 @@ class Dictionary:
             self.by_code_field.setdefault(header.code_field, header)
         self.set_ends()
 
-    def set_ends(self):
+    def set_ends(self) -> None:
         """A word ends where the next header begins, or at HERE."""
         beginnings = sorted(header.begins for header in self.headers)
         for header in self.headers:
             at = bisect.bisect_left(beginnings, header.body)
             header.end = beginnings[at] if at < len(beginnings) else self.memory.cell(DP)
 
-    def owners(self):
+    def owners(self) -> Dict[int, Header]:
         """The colon word in whose thread each address lies."""
         found = {}
         for header in filter(Header.is_colon, self.headers):
             found.update((address, header) for address in range(header.body, header.end))
         return found
 
-    def find(self, name):
+    def find(self, name: bytes) -> Optional[Header]:
         """The header that a search of the name finds: in the vocabulary of CONTEXT, then in FORTH."""
         if not name or len(name) > 31:
             return None
@@ -197,12 +198,12 @@ class Dictionary:
                     return self.by_code_field.get(header.code_field)
         return None
 
-    def name_of(self, code_field):
+    def name_of(self, code_field: int) -> bytes:
         """The name that a token has in a trace."""
         header = self.by_code_field.get(code_field)
         return header.name if header else b"?"
 
-    def vocabulary_name(self, record):
+    def vocabulary_name(self, record: int) -> bytes:
         if record == FORTH_VOC:
             return b"FORTH"
         return self.name_of((record - 2) & 0xFFFF)

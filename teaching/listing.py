@@ -1,4 +1,6 @@
 """An image's map as text for a terminal."""
+from typing import Iterator
+
 import images
 import regions
 import texts
@@ -6,12 +8,12 @@ import texts
 BAR = 40
 
 
-def bar(size, most):
+def bar(size: int, most: int) -> str:
     """A length to scale, at least one sign for what isn't nothing."""
     return "#" * (max(1, round(BAR * size / most)) if size else 0)
 
 
-def outline(one):
+def outline(one: regions.Map) -> Iterator[str]:
     image = one.image
     yield f"{one.name}: version {image.version}, {image.size} bytes, {image.buffers} block buffers, begins with {entry(one)}"
     yield ""
@@ -19,18 +21,18 @@ def outline(one):
         yield f"{begins:6}  {end - begins:6}  {told:28} {bar(end - begins, images.MEMORY)}"
 
 
-def entry(one):
+def entry(one: regions.Map) -> str:
     return texts.shown(one.dictionary.name_of(one.image.entry))
 
 
-def cells(one):
+def cells(one: regions.Map) -> Iterator[str]:
     yield ""
     yield "system cells"
     for address, name in images.CELLS.items():
         yield f"{address:6}  {name:9} {one.image.memory.cell(address):6}"
 
 
-def vocabularies(one):
+def vocabularies(one: regions.Map) -> Iterator[str]:
     found = one.at_link_field()
     yield ""
     yield "vocabularies, and the newest word of each of their four chains"
@@ -39,7 +41,7 @@ def vocabularies(one):
         yield f"{record:6}  {name:9} {'  '.join(newest)}"
 
 
-def word(one, header, mark=" "):
+def word(one: regions.Map, header: images.Header, mark: str = " ") -> str:
     found = one.at_link_field()
     before = texts.shown(found[header.link].name) if header.link in found else "-"
     signs = "".join(sign for sign, is_so in (("i", header.is_immediate), ("h", header.is_hidden)) if is_so)
@@ -50,7 +52,7 @@ def word(one, header, mark=" "):
 HEADING = "begins head  body  name                               what                       chain, and the word before in it"
 
 
-def words(one):
+def words(one: regions.Map) -> Iterator[str]:
     yield ""
     yield f" {HEADING}"
     for header in one.words:
@@ -58,19 +60,19 @@ def words(one):
     yield f" {one.here:6}             HERE; {one.limit - one.top} bytes are free up to {one.limit}"
 
 
-def listing(one):
+def listing(one: regions.Map) -> Iterator[str]:
     for lines in (outline(one), cells(one), vocabularies(one), words(one)):
         yield from lines
 
 
-def told_cells(changes):
+def told_cells(changes: regions.Changes) -> Iterator[str]:
     yield ""
     yield "system cells that changed"
     for name, before, behind in changes.cells():
         yield f"        {name:20} {before:6} -> {behind:6}"
 
 
-def told_words(changes):
+def told_words(changes: regions.Changes) -> Iterator[str]:
     yield ""
     yield f" {HEADING}"
     rows = [("+", changes.second, header) for header in changes.came]
@@ -81,7 +83,7 @@ def told_words(changes):
     yield f" {len(changes.came)} words came (+), {len(changes.went)} went (-), {len(changes.changed)} have other bytes (*)"
 
 
-def comparison(first, second):
+def comparison(first: regions.Map, second: regions.Map) -> Iterator[str]:
     changes = regions.Changes(first, second)
     for lines in (outline(first), [""], outline(second), told_cells(changes), told_words(changes)):
         yield from lines

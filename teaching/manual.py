@@ -1,13 +1,15 @@
 """What docs/WORDS.md says of each word, its stack effect and a sentence, and what the Forth says of each fault."""
 import re
+from typing import Dict, List, Tuple
 
+import images
 import program
 
 ROW = re.compile(r"^\| `(\S+)` \| `([^`]*)` \| (?:yes)? ?\| (.+) \|$", re.M)
 FAULT = re.compile(r'\b(\d+) = IF \." ([^"]*)"')
 
 
-def entries():
+def entries() -> Dict[bytes, List[Tuple[str, str]]]:
     """The rows of each name, in the order of the page: the kernel's, then the tools'."""
     found = {}
     page = program.ROOT / "docs/WORDS.md"
@@ -17,7 +19,7 @@ def entries():
     return found
 
 
-def fault(number):
+def fault(number: int) -> str:
     """What a fault is, as the tools print it at the terminal; an empty text if they have only its number."""
     page = program.ROOT / "workbench/faults.txt"
     found = FAULT.findall(page.read_text(encoding="ascii")) if page.is_file() else []
@@ -27,13 +29,13 @@ def fault(number):
 class Manual:
     """The manual, beside the headers of an image: the second header of a name is the tools' word of that name."""
 
-    def __init__(self, dictionary, fence):
+    def __init__(self, dictionary: images.Dictionary, fence: int) -> None:
         self.rows, self.places, self.fence = entries(), {}, fence
         for header in dictionary.headers:
             if header.begins < fence:
                 self.places.setdefault(header.name, []).append(header.begins)
 
-    def of(self, header):
+    def of(self, header: images.Header) -> Tuple[str, str]:
         """The effect and the sentence of a word of the system, or two empty texts."""
         if header is None or header.begins >= self.fence or header.name not in self.rows:
             return "", ""

@@ -5,10 +5,13 @@ import html
 import json
 import pathlib
 import re
+from typing import Any, Callable, Dict, List, Optional, Tuple, Union
 
 import calls
+import filming
 import images
 import manual
+import program
 import screens
 import texts
 import threads
@@ -20,7 +23,7 @@ DO, UNLAID = 9, 100_000
 POLICY = "default-src 'none'; script-src '{}'; style-src '{}'; img-src data:"
 
 
-def source_of(header, fence, sources, forth83, image_path):
+def source_of(header: images.Header, fence: int, sources: Optional[screens.Screens], forth83: program.Program, image_path: pathlib.Path) -> Tuple[str, str]:
     """The lines of a word that isn't the system's in its screen, or what SEE makes of its thread."""
     name = texts.shown(header.name)
     if sources and header.begins >= fence and header.view in sources.lines:
@@ -36,7 +39,7 @@ def source_of(header, fence, sources, forth83, image_path):
     return done.stdout.decode("utf-8", "replace").strip(), "SEE"
 
 
-def comment_of(text, begin):
+def comment_of(text: str, begin: int) -> str:
     """The first comment from a place on; an empty text if there is none."""
     at = text.find("( ", begin) if begin >= 0 else -1
     return text[at:text.find(")", at) + 1] if at >= 0 else ""
@@ -45,7 +48,7 @@ def comment_of(text, begin):
 class Words:
     """The words of a film, by their threads' addresses, as the page has them."""
 
-    def __init__(self, film, dictionary, manual, source):
+    def __init__(self, film: filming.Film, dictionary: images.Dictionary, manual: manual.Manual, source: Callable[[images.Header], Tuple[str, str]]) -> None:
         self.dictionary, self.manual, self.source = dictionary, manual, source
         self.words, self.place_of, self.entries = [], {}, []
         self.told, self.owner = {}, dictionary.owners()
@@ -55,42 +58,42 @@ class Words:
             if step.address is not None and step.address not in self.place_of:
                 self.add_place(None, threads.token_at(dictionary, step.address))
 
-    def headers(self, film):
+    def headers(self, film: filming.Film) -> List[images.Header]:
         """The colon words in whose threads the steps stand, in the order of the film."""
         found = [self.owner.get(frame.begins) for frame in film.calls.frames]
         found += [self.owner.get(step.address) for step in film.calls.steps]
         return list(dict.fromkeys(header for header in found if header))
 
-    def row_at(self, address):
+    def row_at(self, address: int) -> int:
         return self.dictionary.memory.cell(self.dictionary.memory.cell(address))
 
-    def name_at(self, address):
+    def name_at(self, address: int) -> str:
         """The name of the word in whose thread an address lies."""
         return texts.shown(self.owner[address].name) if address in self.owner else "?"
 
-    def token_at(self, address):
+    def token_at(self, address: int) -> str:
         """The name of the word that an address's token does."""
         return self.entries[self.place_of[address]][2]
 
-    def word_at(self, address):
+    def word_at(self, address: int) -> int:
         """The number of the word in whose thread an address lies, -1 where it is none of the film's."""
         word = self.entries[self.place_of[address]][1] if address in self.place_of else None
         return -1 if word is None else word
 
-    def add(self, header):
+    def add(self, header: images.Header) -> None:
         text, where = self.source(header)
         effect, says = self.manual.of(header)
         self.words.append({"name": texts.shown(header.name), "source": text, "from": where, "effect": effect, "says": says})
         for token in threads.thread(self.dictionary, header):
             self.add_place(len(self.words) - 1, token)
 
-    def add_place(self, word, token):
+    def add_place(self, word: int, token: threads.Token) -> None:
         header = self.dictionary.by_code_field.get(token.code_field)
         self.place_of[token.address] = len(self.entries)
         self.entries.append([token.address, word, texts.shown(self.dictionary.name_of(token.code_field)),
                              texts.shown(token.taken), self.say(header)])
 
-    def say(self, header):
+    def say(self, header: images.Header) -> int:
         """The number of what is said of a token's word."""
         text = list(self.manual.of(header))
         if header and not text[0]:
@@ -98,7 +101,7 @@ class Words:
         key = tuple(text)
         return self.told.setdefault(key, len(self.told))
 
-    def of_data(self, header):
+    def of_data(self, header: images.Header) -> Optional[List[str]]:
         """What a word of the screens does that VARIABLE, CREATE, CONSTANT or DOES> made; None for others."""
         maker = self.owner.get(header.code)
         if maker:
@@ -108,13 +111,13 @@ class Words:
         return {images.VARIABLE: ["( -- a )", "Puts the address of its data on the stack."],
                 images.CONSTANT: ["( -- n )", "Puts its number on the stack."]}.get(header.code)
 
-    def of_source(self, header):
+    def of_source(self, header: images.Header) -> List[str]:
         """The first comment of its definition: its stack effect, if its author wrote one."""
         text, _ = self.source(header) if header.is_colon() else ("", "")
         return [comment_of(text, 0), ""]
 
 
-def changes(before, after):
+def changes(before: Tuple[int, ...], after: Tuple[int, ...]) -> List[int]:
     """A stack as how many cells it keeps from below, and those above."""
     same = 0
     while same < len(before) and same < len(after) and before[same] == after[same]:
@@ -125,10 +128,10 @@ def changes(before, after):
 class Loops:
     """Where the return stack has what counted loops keep: three cells from each of these depths on."""
 
-    def __init__(self):
+    def __init__(self) -> None:
         self.open, self.begun, self.seen = (), None, {(): 0}
 
-    def at(self, row, depth):
+    def at(self, row: Optional[int], depth: int) -> int:
         """The number of the depths before a step of this row, when the return stack has this depth."""
         if self.begun is not None and depth >= self.begun + 3:
             self.open += (self.begun,)
@@ -138,7 +141,7 @@ class Loops:
         return self.seen.setdefault(self.open, len(self.seen))
 
 
-def packed_steps(film, words, loops):
+def packed_steps(film: filming.Film, words: Words, loops: Loops) -> List[List[Any]]:
     """For each step its place (-1 behind a call), its frame, the changes of both stacks, what is shown, and its loops."""
     rows, data, returns = [], (), ()
     for number, step in enumerate(film.calls.steps):
@@ -151,12 +154,12 @@ def packed_steps(film, words, loops):
     return rows
 
 
-def made_words(dictionary):
+def made_words(dictionary: images.Dictionary) -> Dict[Tuple[int, int], str]:
     """The names of the words that DOES> made, by the addresses of their code and of their data."""
     return {(header.code, header.body): texts.shown(header.name) for header in dictionary.headers if header.code >= 256}
 
 
-def frames_of(film, words, fence):
+def frames_of(film: filming.Film, words: Words, fence: int) -> List[List[Union[int, str]]]:
     """Each call with that in which it was made, its word, the return stack's depth before it, whether it is unfolded at first,
     as those of the system's words aren't, the name of the word that it goes back to, and the name of the word that was called if
     DOES> made that one."""
@@ -174,7 +177,7 @@ def frames_of(film, words, fence):
     return rows
 
 
-def faulted(film, words, root, name):
+def faulted(film: filming.Film, words: Words, root: int, name: str) -> Tuple[str, int]:
     """How a fault ended a call of the word, in sentences, and the number of the place in the call's own thread at which it came,
     -1 where the film doesn't reach so far."""
     steps = film.calls.steps
@@ -190,13 +193,13 @@ def faulted(film, words, root, name):
     return f"{told}. It ended {name}: both stacks were emptied, and the fault's number was pushed.", words.place_of[own]
 
 
-def abort_text(words, address):
+def abort_text(words: Words, address: int) -> str:
     """The text of the ABORT" at an address, in quotes; an empty text if that is another word."""
     _, _, name, taken, _ = words.entries[words.place_of[address]]
     return f'"{taken[:-1]}"' if name == '(ABORT")' else ""
 
 
-def ending(film, how, name):
+def ending(film: filming.Film, how: str, name: str) -> str:
     """How a call of the word ended without a fault, in a sentence."""
     if how == calls.RETURNED:
         return f"{name} is done."
@@ -207,13 +210,13 @@ def ending(film, how, name):
     return f"The program ended here, within {name}."
 
 
-def endings(film, words, name):
+def endings(film: filming.Film, words: Words, name: str) -> List[List[Union[int, str]]]:
     """Of each call of the word: its number, how it ended, and the place where a fault came or -1."""
     return [[root, *(faulted(film, words, root, name) if how == calls.FAULTED else (ending(film, how, name), -1))]
             for root, how in film.calls.ends]
 
 
-def memory_of(film):
+def memory_of(film: filming.Film) -> List[Dict[str, Any]]:
     """The variables and arrays that the film touches: their bytes at first, and the changes, each with the step that sees it first."""
     rows = []
     for word in film.cells.shown() if film.cells and film.is_whole else []:
@@ -225,7 +228,7 @@ def memory_of(film):
     return rows
 
 
-def data_of(film, words, fence, name):
+def data_of(film: filming.Film, words: Words, fence: int, name: str) -> Dict[str, Any]:
     """All that the page's script needs."""
     output = base64.b64encode(film.output[:film.marks[-1] if film.marks else UNLAID]).decode()
     loops = Loops()
@@ -240,23 +243,23 @@ def data_of(film, words, fence, name):
     }
 
 
-def as_json(data):
+def as_json(data: Dict[str, Any]) -> str:
     """JSON that ends no element of HTML, whatever its texts are."""
     text = json.dumps(data, ensure_ascii=True, separators=(",", ":"))
     return text.replace("&", "\\u0026").replace("<", "\\u003c").replace(">", "\\u003e")
 
 
-def hashed(text):
+def hashed(text: str) -> str:
     return "sha256-" + base64.b64encode(hashlib.sha256(text.encode()).digest()).decode()
 
 
-def script_of(names):
+def script_of(names: Tuple[str, ...]) -> str:
     """These files as one script; one that the page of ./forth page imports as a module only loses its `export`."""
     texts_of_files = [(HERE / name).read_text(encoding="utf-8") for name in names]
     return '"use strict";\n' + "\n".join(re.sub(r"^export ", "", text, flags=re.M) for text in texts_of_files)
 
 
-def page(title, line, sentences, data):
+def page(title: str, line: str, sentences: List[str], data: Dict[str, Any]) -> str:
     """The page. Its script and its style are named by their sums, so that no other is done."""
     script, style = script_of(SCRIPTS), (HERE / "film.css").read_text(encoding="utf-8")
     told = "".join(f"<p>{html.escape(sentence)}</p>\n" for sentence in sentences)

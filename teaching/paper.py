@@ -3,8 +3,10 @@ import base64
 import hashlib
 import pathlib
 from html import escape
+from typing import Iterator, List, Set, Tuple
 
 import screens
+from references import References
 
 HERE = pathlib.Path(__file__).resolve().parent
 MARK = "<!-- screens of ./forth print -->"
@@ -12,7 +14,7 @@ A_PAGE, FEW = 3, 8
 WHO = '<p class="who">Name<span></span>Date<span></span></p>'
 
 
-def figure(read, number):
+def figure(read: screens.Screens, number: int) -> str:
     """A screen with its number and its lines."""
     if number in read.refused:
         told = f"<p>This screen isn't printed: it has bytes that are no text ({escape(read.refused[number])}).</p>"
@@ -22,14 +24,14 @@ def figure(read, number):
     return f"<figure><figcaption>Screen {number}</figcaption><pre>{escape(text)}</pre></figure>"
 
 
-def row(read, number, shadow):
+def row(read: screens.Screens, number: int, shadow: int) -> str:
     """A screen, and beside it its shadow, if there is one that isn't blank."""
     beside = number + shadow if shadow else None
     has_one = beside is not None and beside in read.numbers() and not read.is_blank(beside)
     return f'<div class="row">{figure(read, number)}{figure(read, beside) if has_one else ""}</div>'
 
 
-def pages(read, numbers, shadow, name):
+def pages(read: screens.Screens, numbers: List[int], shadow: int, name: str) -> Iterator[str]:
     count = -(-len(numbers) // A_PAGE)
     for page in range(count):
         some = numbers[page * A_PAGE:(page + 1) * A_PAGE]
@@ -38,16 +40,16 @@ def pages(read, numbers, shadow, name):
         yield f'<section class="page"><h2>{title}</h2>{rows}</section>'
 
 
-def first_line(read, number):
+def first_line(read: screens.Screens, number: int) -> str:
     return read.lines[number][0] if read.lines.get(number) else ("no text" if number in read.refused else "")
 
 
-def index(read, numbers):
+def index(read: screens.Screens, numbers: List[int]) -> str:
     rows = "".join(f"<tr><td>{number}</td><td>{escape(first_line(read, number))}</td></tr>" for number in numbers)
     return f'<section><h2>Index</h2><table class="index"><tbody>{rows}</tbody></table></section>'
 
 
-def told_places(places):
+def told_places(places: List[Tuple[int, int]]) -> str:
     """Places in short: 21.3 is screen 21, line 3; lines of one screen stand behind one another."""
     found = {}
     for number, line in places:
@@ -55,12 +57,12 @@ def told_places(places):
     return ", ".join(f"{number}.{'.'.join(lines)}" for number, lines in found.items())
 
 
-def entry(name, defined, used):
+def entry(name: str, defined: List[Tuple[int, int]], used: List[Tuple[int, int]]) -> str:
     where = f"<td>{told_places(used)}</td>" if used else '<td class="none">nowhere here</td>'
     return f"<tr><td>{escape(name)}</td><td>{told_places(defined)}</td>{where}</tr>"
 
 
-def cross_reference(references):
+def cross_reference(references: References) -> str:
     if not references.defined:
         return "<section><h2>Words: where defined, where used</h2><p>No word is defined in these screens.</p></section>"
     rows = "".join(entry(name, references.defined[name], references.uses(name)) for name in sorted(references.defined))
@@ -69,13 +71,13 @@ def cross_reference(references):
     return f"<section><h2>Words: where defined, where used</h2>{told}{columns(head, rows)}</section>"
 
 
-def columns(head, rows):
+def columns(head: str, rows: str) -> str:
     """A table in as many columns as the page has room for; one of few rows in one, as its head would stand apart."""
     kind = "columns" if rows.count("<tr>") > FEW else "column"
     return f'<div class="{kind}"><table>{head}<tbody>{rows}</tbody></table></div>'
 
 
-def missing(references, known):
+def missing(references: References, known: Set[str]) -> str:
     found = references.missing(known)
     if not found:
         return ""
@@ -86,7 +88,7 @@ def missing(references, known):
     return f"<section><h2>Words that aren't known</h2>{told}{columns(head, rows)}</section>"
 
 
-def document(name, parts, is_wide):
+def document(name: str, parts: List[str], is_wide: bool) -> str:
     """The whole of it; wide pages have shadows."""
     style = "".join((HERE / file).read_text(encoding="utf-8") for file in ("print.css", "wide.css" if is_wide else "tall.css"))
     allowed = "sha256-" + base64.b64encode(hashlib.sha256(style.encode()).digest()).decode()

@@ -3,6 +3,7 @@ import os
 import pathlib
 import subprocess
 import sys
+from typing import Any, Callable, List, Union
 
 ROOT = pathlib.Path(__file__).resolve().parent.parent
 KEPT = ROOT / "workbench/out"
@@ -11,16 +12,16 @@ KEPT = ROOT / "workbench/out"
 class Refusal(Exception):
     """Why nothing is made, in a sentence; it ends with this status."""
 
-    def __init__(self, text, status=1):
+    def __init__(self, text: str, status: int = 1) -> None:
         super().__init__(text)
         self.status = status
 
 
-def say(tool, text):
+def say(tool: str, text: str) -> None:
     print(f"{tool}: {text}", file=sys.stderr)
 
 
-def guarded(tool, act):
+def guarded(tool: str, act: Callable[[], int]) -> int:
     """Does what a tool does, or says why it cannot; the status."""
     try:
         return act()
@@ -41,14 +42,14 @@ def guarded(tool, act):
 class Progress:
     """A line on standard error that is written anew, where that is a terminal."""
 
-    def __init__(self, tool):
+    def __init__(self, tool: str) -> None:
         self.tool, self.is_shown = tool, sys.stderr.isatty()
 
-    def tell(self, text):
+    def tell(self, text: str) -> None:
         if self.is_shown:
             print(f"\r{self.tool}: {text}\x1b[K", end="", file=sys.stderr, flush=True)
 
-    def end(self):
+    def end(self) -> None:
         if self.is_shown:
             print("\r\x1b[K", end="", file=sys.stderr, flush=True)
 
@@ -56,22 +57,22 @@ class Progress:
 class Program:
     """The proved program if it exists, otherwise the one without proofs, as ./forth chooses them."""
 
-    def __init__(self):
+    def __init__(self) -> None:
         proved, unproved = ROOT / "crates/forth83/out/forth83", KEPT / "unproved"
         self.is_proved = subprocess.run([ROOT / "workbench/is-proved"], check=False, stderr=subprocess.DEVNULL).returncode == 0
         if not self.is_proved and not os.access(unproved, os.X_OK):
             raise Refusal("there is no program yet; ./forth makes one")
         self.path = proved if self.is_proved else unproved
 
-    def version(self):
+    def version(self) -> str:
         name = self.text(["--version"]).strip()
         return f"{name}, proved" if self.is_proved else name
 
-    def run(self, words, **ends):
+    def run(self, words: List[Union[pathlib.Path, str]], **ends: Any) -> "subprocess.CompletedProcess[bytes]":
         """Runs the program; all that it says is taken as bytes."""
         return subprocess.run([self.path, *words], stdout=subprocess.PIPE, stderr=subprocess.PIPE, check=False, **ends)
 
-    def text(self, words):
+    def text(self, words: List[Union[pathlib.Path, str]]) -> str:
         """What it says; a refusal where it refuses."""
         done = self.run(words, stdin=subprocess.DEVNULL)
         if done.returncode:
@@ -79,19 +80,19 @@ class Program:
         return done.stdout.decode("utf-8", "replace")
 
 
-def said_by(done):
+def said_by(done: "subprocess.CompletedProcess[bytes]") -> str:
     """What a run of the program printed, in one piece."""
     said = (done.stdout + done.stderr).decode("utf-8", "replace").strip()
     return said or f"the program ended with status {done.returncode}"
 
 
-def is_made(image, program):
+def is_made(image: pathlib.Path, program: Program) -> bool:
     """Whether an image of the tools exists, and nothing that it is made of is newer."""
     sources = [program.path, ROOT / "workbench/make", *(ROOT / "workbench").glob("*.txt")]
     return image.is_file() and all(source.stat().st_mtime <= image.stat().st_mtime for source in sources)
 
 
-def tools_image(program, room):
+def tools_image(program: Program, room: pathlib.Path) -> pathlib.Path:
     """The image that ./forth starts with at a terminal: the kept one, or one that is made in the room."""
     kept, made, blocks = KEPT / "tools.img", room / "tools.img", room / "kernel.blk"
     if program.is_proved and is_made(kept, program):

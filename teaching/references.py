@@ -5,6 +5,7 @@ begin these are names like others. A word defines the next one where it is `:`, 
 definition, or a word of these screens whose definition uses such a word.
 """
 import re
+from typing import Dict, Iterator, List, Set, Tuple
 
 import screens
 
@@ -14,13 +15,13 @@ QUOTING = {"[COMPILE]", "COMPILE", "[']", "'"}
 NAMING = {":", "[COMPILE]", "[']", "'"}
 
 
-def flat(lines):
+def flat(lines: List[str]) -> str:
     """A screen as its 1,024 bytes: a word at the end of a line goes on in the next."""
     padded = [line.ljust(screens.WIDTH)[:screens.WIDTH] for line in lines]
     return "".join(padded).ljust(screens.BYTES)
 
 
-def words(lines):
+def words(lines: List[str]) -> Iterator[Tuple[str, int]]:
     """The words of a screen, each with its line; what comments and texts have is passed over."""
     text, at, before = flat(lines), 0, ""
     while at < len(text):
@@ -37,7 +38,7 @@ def words(lines):
         before = word.upper()
 
 
-def passed(text, word, at, line):
+def passed(text: str, word: str, at: int, line: int) -> int:
     """Where the words go on after one that ends before `at`, and may begin a comment or a text."""
     if word == "\\":
         return (line + 1) * screens.WIDTH
@@ -47,14 +48,14 @@ def passed(text, word, at, line):
     return len(text) if closed < 0 else closed + 1
 
 
-def is_number(word, has_hex):
+def is_number(word: str, has_hex: bool) -> bool:
     return bool(re.fullmatch(r"-?[0-9][0-9A-Z]*\.?", word) or has_hex and re.fullmatch(r"-?[0-9A-F]+\.?", word))
 
 
 class References:
     """The places of each word: where it is defined, and where it is used. A place is a screen and a line."""
 
-    def __init__(self, read, numbers):
+    def __init__(self, read: screens.Screens, numbers: List[int]) -> None:
         self.defined, self.used = {}, {}
         self.defining, self.open, self.before = set(DEFINING), None, ""
         self.wants_name = False
@@ -64,7 +65,7 @@ class References:
                 self.take(word, (number, line))
                 self.before = word.upper()
 
-    def take(self, word, place):
+    def take(self, word: str, place: Tuple[int, int]) -> None:
         if self.wants_name:
             self.define(word, place)
             return
@@ -77,20 +78,20 @@ class References:
         elif name in self.defining and self.before not in QUOTING:
             self.meet_defining()
 
-    def meet_defining(self):
+    def meet_defining(self) -> None:
         """A defining word: outside a definition a name follows; within one the word that is defined is a defining word, too."""
         if self.open is None:
             self.wants_name = True
         else:
             self.defining.add(self.open.upper())
 
-    def define(self, word, place):
+    def define(self, word: str, place: Tuple[int, int]) -> None:
         self.defined.setdefault(word, []).append(place)
         self.wants_name = False
         if self.open == "":
             self.open = word
 
-    def uses(self, name):
+    def uses(self, name: str) -> List[Tuple[int, int]]:
         """Where a word that is defined here is used, also in lower case."""
         places = list(self.used.get(name, []))
         if name.upper() == name and name.lower() != name:
@@ -98,7 +99,7 @@ class References:
                        if word not in self.defined]
         return sorted(set(places))
 
-    def missing(self, known):
+    def missing(self, known: Set[str]) -> Dict[str, List[Tuple[int, int]]]:
         """Words that are used, and are defined neither here nor among the known ones, with their places."""
         names = {name.upper() for name in self.defined} | {name.upper() for name in known}
         has_hex = any(word.upper() == "HEX" for word in self.used)

@@ -1,4 +1,6 @@
 """What stands where in an image's memory, as regions one behind another, and what two images differ in."""
+from typing import Dict, List, Optional, Tuple
+
 import images
 import texts
 
@@ -9,23 +11,23 @@ WHAT = {images.COLON: "colon word", images.VARIABLE: "variable", images.CONSTANT
 class Region:
     """Bytes from an address up to another, of one kind."""
 
-    def __init__(self, begins, end, kind, header=None):
+    def __init__(self, begins: int, end: int, kind: str, header: Optional[images.Header] = None) -> None:
         self.begins, self.end, self.kind, self.header = begins, end, kind, header
 
-    def size(self):
+    def size(self) -> int:
         return self.end - self.begins
 
 
 class Map:
     """An image with its dictionary, and the regions of its memory."""
 
-    def __init__(self, name, image):
+    def __init__(self, name: str, image: images.Image) -> None:
         self.name, self.image, self.dictionary = name, image, images.Dictionary(image.memory)
         self.here, self.limit = image.memory.cell(images.DP), image.limit()
         self.top = max(image.size, min(self.here, self.limit))
         self.words = [header for header in self.dictionary.headers if images.DICTIONARY <= header.begins < self.limit]
 
-    def outline(self):
+    def outline(self) -> List[Tuple[int, int, str, str]]:
         """All of memory in few regions, each with what it is."""
         rows = [(0, images.TIB, "system", "system cells"), (images.TIB, images.TIB_END, "tib", "TIB, the line that is typed"),
                 (images.DICTIONARY, self.top, "words", "the dictionary"), (self.top, self.limit, "free", "free room")]
@@ -34,7 +36,7 @@ class Map:
             rows.append((begins, begins + images.PAGE, "buffer", f"block buffer {slot}"))
         return rows
 
-    def regions(self):
+    def regions(self) -> List[Region]:
         """The dictionary's regions: of each word its header, its code field and what is behind; what belongs to none between."""
         found, at = [], images.DICTIONARY
         for header in self.words:
@@ -47,23 +49,23 @@ class Map:
             found.append(Region(at, self.top, "other"))
         return [region for region in found if region.size() > 0]
 
-    def vocabularies(self):
+    def vocabularies(self) -> List[Tuple[str, int, List[int]]]:
         """Each vocabulary's name, record, and the link field that begins each of its four chains."""
         memory = self.image.memory
         return [(texts.shown(self.dictionary.vocabulary_name(record)), record,
                  [memory.cell(record + 2 * number) for number in range(4)]) for record in self.dictionary.records]
 
-    def at_link_field(self):
+    def at_link_field(self) -> Dict[int, images.Header]:
         return {header.link_field: header for header in self.dictionary.headers}
 
 
-def parts_of(header):
+def parts_of(header: images.Header) -> List[Region]:
     kind = KINDS.get(header.code, "data")
     return [Region(header.begins, header.code_field, "header", header), Region(header.code_field, header.body, "code", header),
             Region(header.body, header.end, kind, header)]
 
 
-def what(header):
+def what(header: images.Header) -> str:
     """What a word is, in a few words."""
     if header.code in WHAT:
         return WHAT[header.code]
@@ -73,7 +75,7 @@ def what(header):
 class Changes:
     """What is otherwise in the second of two images."""
 
-    def __init__(self, first, second):
+    def __init__(self, first: Map, second: Map) -> None:
         self.first, self.second = first, second
         old = {(header.begins, header.name): header for header in first.words}
         new = {(header.begins, header.name): header for header in second.words}
@@ -81,18 +83,18 @@ class Changes:
         self.went = [header for key, header in old.items() if key not in new]
         self.changed = [(old[key], header) for key, header in new.items() if key in old and self.differs(old[key], header)]
 
-    def differs(self, one, other):
+    def differs(self, one: images.Header, other: images.Header) -> bool:
         size = max(one.end, other.end) - one.begins
         return self.first.image.memory.span(one.begins, size) != self.second.image.memory.span(one.begins, size)
 
-    def cells(self):
+    def cells(self) -> List[Tuple[str, int, int]]:
         """The system's cells that hold another value: name, before, behind."""
         old, new = self.first.image.memory, self.second.image.memory
         names = dict(images.CELLS)
         names.update({42 + 2 * number: f"FORTH-VOC, chain {number}" for number in range(4)})
         return [(names[at], old.cell(at), new.cell(at)) for at in sorted(names) if old.cell(at) != new.cell(at)]
 
-    def runs(self, begins, end):
+    def runs(self, begins: int, end: int) -> List[Tuple[int, int]]:
         """The pieces between two addresses whose bytes differ."""
         old, new = self.first.image.memory.bytes, self.second.image.memory.bytes
         found, at = [], begins
@@ -105,6 +107,6 @@ class Changes:
             at += 1
         return found
 
-    def bytes(self):
+    def bytes(self) -> int:
         """How many bytes of memory differ."""
         return sum(end - begins for begins, end in self.runs(0, images.MEMORY))

@@ -1,6 +1,7 @@
 """Screens of a block file as lines, by `forth83 text`."""
 import pathlib
 import re
+from typing import List
 
 import program
 
@@ -12,21 +13,21 @@ REFUSED = re.compile(r"screen (\d+) line (\d+): (\w+)")
 class Screens:
     """The screens of a file: the lines of each number, or why it has none."""
 
-    def __init__(self):
+    def __init__(self) -> None:
         self.lines, self.refused = {}, {}
 
-    def numbers(self):
+    def numbers(self) -> List[int]:
         return sorted([*self.lines, *self.refused])
 
-    def first(self):
+    def first(self) -> int:
         """The first screen that isn't the kernel's: 21 behind a kernel, else 0."""
         return 21 if self.lines.get(1, [""])[:1] == [KERNEL] else 0
 
-    def is_blank(self, number):
+    def is_blank(self, number: int) -> bool:
         return number not in self.refused and not any(self.lines.get(number, []))
 
 
-def count(path):
+def count(path: str) -> int:
     """How many screens a file of blocks has."""
     path = pathlib.Path(path)
     if not path.is_file():
@@ -37,13 +38,13 @@ def count(path):
     return size // BYTES
 
 
-def characters(data):
+def characters(data: bytes) -> str:
     """Bytes as they are seen: as UTF-8, with a dot for each byte that isn't, and for each control byte."""
     read = data.decode("utf-8", "surrogateescape")
     return "".join(one if one.isprintable() else "." for one in read)
 
 
-def plain(line):
+def plain(line: str) -> str:
     """A line of a screen as it is seen. One that begins with `%%` begins with a `%`; in one that begins with `%~` bytes are escaped."""
     if line.startswith("%~"):
         unescaped = re.sub(b"~([0-9A-F]{2})", lambda found: bytes([int(found[1], 16)]), line[2:].encode("latin-1"))
@@ -51,7 +52,7 @@ def plain(line):
     return line[1:] if line.startswith("%%") else line
 
 
-def take(screens, text):
+def take(screens: Screens, text: str) -> None:
     """Takes the screens that `text` printed."""
     number = None
     for line in text.splitlines():
@@ -63,7 +64,7 @@ def take(screens, text):
             screens.lines[number].append(plain(line))
 
 
-def read(forth83, path, first, last):
+def read(forth83: program.Program, path: str, first: int, last: int) -> Screens:
     """The screens from `first` to `last`. One that is refused is kept with the cause, and the others are read."""
     screens = Screens()
     while first <= last:
@@ -83,19 +84,19 @@ def read(forth83, path, first, last):
     return screens
 
 
-def defines(line, name):
+def defines(line: str, name: str) -> bool:
     """Whether a line has `: NAME` or the like."""
     words = line.split()
     return any(one == ":" and other == name for one, other in zip(words, words[1:]))
 
 
-def screens_of(screens, name):
+def screens_of(screens: Screens, name: str) -> List[int]:
     """The screens with a colon definition of that name, but the kernel's."""
     own = [number for number in sorted(screens.lines) if number >= screens.first()]
     return [number for number in own if any(defines(line, name) for line in screens.lines[number])]
 
 
-def definition(lines, name):
+def definition(lines: List[str], name: str) -> List[str]:
     """The lines of a colon definition, from `: NAME` to the line that has its `;`."""
     found = []
     for line in lines:

@@ -1,4 +1,8 @@
 """How a film was made, and what of it is exact, in sentences."""
+import argparse
+from typing import List
+
+import filming
 import texts
 
 WHOLE = (
@@ -24,7 +28,7 @@ OF_TRACE = (
     "The steps are the lines of {trace}, of this word alone: each word that it calls is a single step, and the output isn't known.")
 
 
-def making(film, taken, version, name):
+def making(film: filming.Film, taken: argparse.Namespace, version: str, name: str) -> List[str]:
     """How it was made, of the word with this name."""
     if taken.trace:
         return [OF_TRACE.format(trace=taken.trace)]
@@ -40,7 +44,7 @@ def making(film, taken, version, name):
     return told + [COUNTED if film.marks else UNCOUNTED, BESIDE]
 
 
-def cuts(film, taken):
+def cuts(film: filming.Film, taken: argparse.Namespace) -> List[str]:
     """What isn't in it."""
     told = []
     if film.calls.met > taken.steps:

@@ -5,26 +5,26 @@ import pathlib
 import program
 
 
-def shown(name):
+def shown(name: bytes) -> str:
     """A name as a text: bytes that are no text and control bytes as `\\x07`."""
     text = name.decode("utf-8", "backslashreplace")
     return "".join(letter if letter.isprintable() else letter.encode("unicode_escape").decode() for letter in text)
 
 
-def file_name(name, suffix):
+def file_name(name: bytes, suffix: str) -> str:
     """A name as a part of a file's name: what isn't a letter, a digit or a `-` within is `_` and its number."""
     parts = [chr(byte) if chr(byte).isalnum() and byte < 128 or byte == 45 and place else "_%02X" % byte
              for place, byte in enumerate(name)]
     return "".join(parts) + suffix
 
 
-def is_ours(path, mark):
+def is_ours(path: pathlib.Path, mark: str) -> bool:
     """Whether a file is one that the tool made: the mark is in its first bytes."""
     with open(path, "rb") as file:
         return mark.encode() in file.read(400)
 
 
-def check_target(path, mark, what):
+def check_target(path: str, mark: str, what: str) -> None:
     """Refuses a place where the tool can't write, or where something else is."""
     path = pathlib.Path(path)
     folder = path.parent
@@ -38,7 +38,7 @@ def check_target(path, mark, what):
         raise program.Refusal(f"{path} can't be made: the folder {folder} can't be written; name a file elsewhere by -o")
 
 
-def write_whole(path, text):
+def write_whole(path: str, text: str) -> None:
     """Writes a file beside its place, and puts it there when it is whole."""
     path = pathlib.Path(path)
     beside = path.with_name(f"{path.name}.{os.getpid()}")

@@ -1,4 +1,7 @@
 """Threads, token by token, as they are in an image's memory."""
+from typing import List, Optional
+
+import images
 
 LITERAL, TEXT, REFUSAL, COMPILE, EXIT = 6, 16, 17, 19, 5
 BRANCHES = (7, 8, 9, 10, 11)
@@ -8,16 +11,16 @@ LEADS_ON = (8, 9, 10, 11)
 class Token:
     """A token of a thread: its address, what it is, and what it takes from the bytes after it, as a text."""
 
-    def __init__(self, address, code_field, row, length, taken, target=None):
+    def __init__(self, address: int, code_field: int, row: int, length: int, taken: bytes, target: Optional[int] = None) -> None:
         self.address, self.code_field, self.row = address, code_field, row
         self.length, self.taken, self.target = length, taken, target
 
 
-def signed(cell):
+def signed(cell: int) -> int:
     return cell - 65536 if cell > 32767 else cell
 
 
-def token_at(dictionary, address):
+def token_at(dictionary: images.Dictionary, address: int) -> Token:
     memory = dictionary.memory
     code_field = memory.cell(address)
     row = memory.cell(code_field) if code_field in dictionary.by_code_field else None
@@ -34,7 +37,7 @@ def token_at(dictionary, address):
     return Token(address, code_field, row, 2, b"")
 
 
-def thread(dictionary, header):
+def thread(dictionary: images.Dictionary, header: images.Header) -> List[Token]:
     """The tokens of a colon word up to its last EXIT: the one that no branch jumps past."""
     tokens, at, farthest = [], header.body, 0
     while at < header.end:

@@ -6,10 +6,12 @@ the lowest colon word reaches to HERE, and one run has the steps of all words, i
 `film` makes of such lines is compared with `debug` of each word over the image as it is.
 """
 import hashlib
+import pathlib
 import re
 import resource
 import shutil
 import subprocess
+from typing import Iterable, Iterator, List, Tuple, Union
 
 import images
 import program
@@ -21,10 +23,10 @@ MOST_SHOWN = 128 << 20
 class Setting:
     """What a run needs: the program, a room for files, the blocks or None, what is typed, and the limit of ticks."""
 
-    def __init__(self, forth83, room, blocks, typed, limit):
+    def __init__(self, forth83: program.Program, room: pathlib.Path, blocks: str, typed: bytes, limit: int) -> None:
         self.forth83, self.room, self.blocks, self.typed, self.limit = forth83, room, blocks, typed, limit
 
-    def words(self, image, name):
+    def words(self, image: pathlib.Path, name: str) -> List[Union[pathlib.Path, str]]:
         """The words of `debug` with a copy of the blocks, as each run begins with the same ones."""
         words = ["debug", "--limit", str(self.limit), "--", image, name, "/dev/stderr"]
         if self.blocks:
@@ -34,7 +36,7 @@ class Setting:
         return words
 
 
-def bounded():
+def bounded() -> None:
     """No file of a run grows without bound."""
     resource.setrlimit(resource.RLIMIT_FSIZE, (MOST_SHOWN, MOST_SHOWN))
 
@@ -42,11 +44,11 @@ def bounded():
 class Run:
     """A run of `debug` over an image's file; its lines come as they are written."""
 
-    def __init__(self, setting, image, name):
+    def __init__(self, setting: Setting, image: pathlib.Path, name: str) -> None:
         self.output, self.status = b"", None
         self.setting, self.image, self.name = setting, image, name
 
-    def lines(self):
+    def lines(self) -> Iterator[bytes]:
         """The lines, each with its end. After them status and output are known."""
         shown, typed = self.setting.room / "shown", self.setting.room / "typed"
         typed.write_bytes(self.setting.typed)
@@ -66,7 +68,7 @@ class Run:
             raise program.Refusal(why)
 
 
-def parsed(lines):
+def parsed(lines: Iterable[bytes]) -> Iterator[Tuple[int, bytes, Tuple[int, ...], Tuple[int, ...]]]:
     """The steps of lines in one piece: where, the name, data stack, return stack. After a fault its line number comes."""
     at, number = 0, 1
     while at < len(lines):
@@ -78,7 +80,7 @@ def parsed(lines):
         at, number = match.end(), number + 1
 
 
-def without_headers(image, path):
+def without_headers(image: images.Image, path: pathlib.Path) -> None:
     """Writes the image's copy whose headers `debug` doesn't find."""
     link = image.memory.cell(images.VOC_LINK)
     image.memory.set_cell(images.VOC_LINK, 0)
@@ -86,7 +88,7 @@ def without_headers(image, path):
     image.memory.set_cell(images.VOC_LINK, link)
 
 
-def lowest_colon(dictionary):
+def lowest_colon(dictionary: images.Dictionary) -> images.Header:
     """The lowest colon word that a search finds by its name."""
     for header in dictionary.headers:
         if header.is_colon() and is_nameable(header) and dictionary.find(header.name) is header:
@@ -94,7 +96,7 @@ def lowest_colon(dictionary):
     raise program.Refusal("the image has no colon word")
 
 
-def is_nameable(header):
+def is_nameable(header: images.Header) -> bool:
     """Whether a command line takes the name."""
     try:
         return bool(header.name) and b"\0" not in header.name and bool(header.name.decode())
@@ -105,15 +107,15 @@ def is_nameable(header):
 class Digest:
     """The sum of a word's lines, and how many they are."""
 
-    def __init__(self):
+    def __init__(self) -> None:
         self.sum, self.count = hashlib.blake2b(digest_size=16), 0
 
-    def take(self, line):
+    def take(self, line: bytes) -> None:
         self.sum.update(line)
         self.count += 1
 
 
-def is_same(setting, image, header, digest, output, status):
+def is_same(setting: Setting, image: pathlib.Path, header: images.Header, digest: Digest, output: bytes, status: int) -> bool:
     """Whether `debug` of that word over the image as it is writes the lines of this digest, and shows and ends the same."""
     run, own = Run(setting, image, header.name.decode()), Digest()
     for line in run.lines():

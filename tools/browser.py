@@ -6,10 +6,12 @@ asks of the network is kept in `asked`.
 import base64
 import json
 import os
+import pathlib
 import shutil
 import subprocess
 import tempfile
 import time
+from typing import Any, Dict, List, Tuple
 
 OPTIONS = ("--headless", "--no-sandbox", "--disable-gpu", "--hide-scrollbars", "--remote-debugging-pipe",
            "--disable-background-networking")
@@ -35,7 +37,7 @@ CONTRAST = """(() => {
 })()"""
 
 
-def chromium():
+def chromium() -> str:
     """The browser's path, or None."""
     return next((path for path in map(shutil.which, NAMES) if path), None)
 
@@ -43,7 +45,7 @@ def chromium():
 class Browser:
     """A browser with one page."""
 
-    def __init__(self, width=1280, height=900):
+    def __init__(self, width: int = 1280, height: int = 900) -> None:
         self.room = tempfile.TemporaryDirectory()
         to_read, self.out = os.pipe()
         self.back, to_write = os.pipe()
@@ -61,17 +63,17 @@ class Browser:
         for domain in ("Page", "Runtime", "Network", "Log"):
             self.call(f"{domain}.enable")
 
-    def __enter__(self):
+    def __enter__(self) -> "Browser":
         return self
 
-    def __exit__(self, *_):
+    def __exit__(self, *_: object) -> None:
         self.running.kill()
         self.running.wait()
         os.close(self.out)
         os.close(self.back)
         self.remove_room()
 
-    def remove_room(self):
+    def remove_room(self) -> None:
         """Removes the browser's folder, into which its processes may write a moment longer than it lives."""
         for _ in range(50):
             try:
@@ -80,7 +82,7 @@ class Browser:
             except OSError:
                 time.sleep(0.1)
 
-    def receive(self):
+    def receive(self) -> Dict[str, Any]:
         while b"\0" not in self.rest:
             piece = os.read(self.back, 1 << 16)
             if not piece:
@@ -89,7 +91,7 @@ class Browser:
         message, _, self.rest = self.rest.partition(b"\0")
         return json.loads(message)
 
-    def note(self, event):
+    def note(self, event: Dict[str, Any]) -> None:
         """Keeps what went wrong in the page, and what it asked of the network."""
         method, values = event.get("method"), event.get("params", {})
         self.events.append(method)
@@ -100,7 +102,7 @@ class Browser:
         elif method == "Network.requestWillBeSent" and not values["request"]["url"].startswith(("file:", "data:", "about:")):
             self.asked.append(values["request"]["url"])
 
-    def call(self, method, **values):
+    def call(self, method: str, **values: object) -> Dict[str, Any]:
         self.number += 1
         message = {"id": self.number, "method": method, "params": values}
         if self.session:
@@ -114,7 +116,7 @@ class Browser:
                 return answer["result"]
             self.note(answer)
 
-    def open(self, path, mark=""):
+    def open(self, path: pathlib.Path, mark: str = "") -> None:
         """Opens a file, and waits until it is there; from a blank page, as a page isn't loaded anew for a mark alone."""
         for url in ("about:blank", f"file://{os.path.abspath(path)}{mark}"):
             self.events.clear()
@@ -122,16 +124,16 @@ class Browser:
             while "Page.loadEventFired" not in self.events:
                 self.note(self.receive())
 
-    def size(self, width, height, scale=1):
+    def size(self, width: int, height: int, scale: int = 1) -> None:
         """The window's size in pixels of the page; SCALE is how many pixels of the screen one of these is, as a browser zooms."""
         self.call("Emulation.setDeviceMetricsOverride", width=width, height=height, deviceScaleFactor=scale, mobile=False)
 
-    def prefers(self, **features):
+    def prefers(self, **features: str) -> None:
         """What the reader prefers: `prefers(color_scheme="dark", reduced_motion="reduce")`."""
         values = [{"name": f"prefers-{name.replace('_', '-')}", "value": value} for name, value in features.items()]
         self.call("Emulation.setEmulatedMedia", features=values)
 
-    def press(self, *names):
+    def press(self, *names: str) -> None:
         """Presses keys by their names; `Shift+End` holds the shift key."""
         for name in names:
             is_shifted, name = name.startswith("Shift+"), name[6:] if name.startswith("Shift+") else name
@@ -141,13 +143,13 @@ class Browser:
             self.call("Input.dispatchKeyEvent", type="keyDown", **one)
             self.call("Input.dispatchKeyEvent", type="keyUp", **one)
 
-    def value(self, expression):
+    def value(self, expression: str) -> Any:
         done = self.call("Runtime.evaluate", expression=expression, returnByValue=True)
         if "exceptionDetails" in done:
             raise RuntimeError(str(done["exceptionDetails"]))
         return done["result"].get("value")
 
-    def wait(self, expression, seconds=10):
+    def wait(self, expression: str, seconds: int = 10) -> None:
         """Waits until an expression is true; an error if it doesn't become so."""
         end = time.monotonic() + seconds
         while not self.value(expression):
@@ -155,17 +157,17 @@ class Browser:
                 raise RuntimeError(f"this didn't come true in {seconds} seconds: {expression}")
             time.sleep(0.02)
 
-    def picture(self, path):
+    def picture(self, path: pathlib.Path) -> None:
         with open(path, "wb") as file:
             file.write(base64.b64decode(self.call("Page.captureScreenshot")["data"]))
 
-    def nameless(self, roles):
+    def nameless(self, roles: Tuple[str, ...]) -> List[str]:
         """The accessible elements of these roles that have no name, as a screen reader finds them."""
         nodes = [node for node in self.call("Accessibility.getFullAXTree")["nodes"] if not node.get("ignored")]
         return [node["role"]["value"] for node in nodes
                 if node.get("role", {}).get("value") in roles and not node.get("name", {}).get("value")]
 
-    def paper(self, path):
+    def paper(self, path: pathlib.Path) -> None:
         done = self.call("Page.printToPDF", preferCSSPageSize=True)
         with open(path, "wb") as file:
             file.write(base64.b64decode(done["data"]))

@@ -18,7 +18,7 @@ import sys
 import tempfile
 import termios
 import time
-from typing import Dict, List
+from typing import Callable, Dict, List
 
 import sessions
 
@@ -43,7 +43,7 @@ class Terminal:
         fcntl.ioctl(self.screen, termios.TIOCSWINSZ, struct.pack("HHHH", 50, 200, 0, 0))
         self.read(lambda shown: shown.endswith(GREETED))
 
-    def read(self, is_done) -> bytes:  # type: ignore[no-untyped-def]
+    def read(self, is_done: Callable[[bytes], bool]) -> bytes:
         """What is shown until it is done, or has been silent for a while, or the Forth has ended."""
         shown, until, silent_since = b"", time.monotonic() + PATIENCE, time.monotonic()
         while time.monotonic() < until and not is_done(shown):

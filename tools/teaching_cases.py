@@ -2,6 +2,7 @@
 import ast
 import pathlib
 import sys
+from typing import Callable
 
 ROOT = pathlib.Path(__file__).resolve().parent.parent
 TEACHING = ROOT / "teaching"
@@ -23,21 +24,21 @@ import traces  # noqa: E402
 class Cases:
     """Compares, and keeps what differs."""
 
-    def __init__(self):
+    def __init__(self) -> None:
         self.wrong = 0
 
-    def same(self, what, wanted, got):
+    def same(self, what: str, wanted: object, got: object) -> None:
         if wanted != got:
             print(f"check-teaching: {what}: wanted {wanted!r}, got {got!r}", file=sys.stderr)
             self.wrong += 1
 
-    def holds(self, what, part, whole):
+    def holds(self, what: str, part: str, whole: str) -> None:
         if part not in whole:
             print(f"check-teaching: {what}: wanted {part!r} in {whole[-2000:]!r}", file=sys.stderr)
             self.wrong += 1
 
 
-def cause(data):
+def cause(data: bytes) -> str:
     try:
         images.parse(data)
     except images.BadImage as bad:
@@ -45,14 +46,14 @@ def cause(data):
     return ""
 
 
-def image_file(version, buffers, size, content):
+def image_file(version: int, buffers: int, size: int, content: bytes) -> bytes:
     """An image's file, field by field, as docs/MACHINE.md has it."""
     second = buffers.to_bytes(2, "little") if version == 2 else b""
     fields = [version.to_bytes(2, "little"), second, (264).to_bytes(2, "little"), size.to_bytes(2, "little")]
     return b"FTH83IMG" + b"".join(fields) + content
 
 
-def check_images(cases):
+def check_images(cases: Cases) -> None:
     """Files of both versions, each beginning of them, and each field that fits none."""
     content = bytes(range(256)) + bytes(44)
     for version in (1, 2):
@@ -74,7 +75,7 @@ def check_images(cases):
         cases.same(what, wanted, cause(data))
 
 
-def hand_made():
+def hand_made() -> images.Memory:
     """The memory of an image with EXIT, DUP, and a colon word TWICE of DUP and EXIT, header by header."""
     memory = images.Memory(bytes(256))
     at, words = 256, ((b"EXIT", 5, 1, ()), (b"DUP", 32, 0, ()), (b"TWICE", 1, 0, (b"DUP", b"EXIT")))
@@ -96,7 +97,7 @@ def hand_made():
     return memory
 
 
-def check_headers(cases):
+def check_headers(cases: Cases) -> None:
     """EXIT at 256 to 266, DUP to 276, TWICE to 292: each header is 5 bytes and its name, with a code field of 2 behind."""
     dictionary = images.Dictionary(hand_made())
     cases.same("headers", [(b"EXIT", 256, 265, 267), (b"DUP", 267, 275, 277), (b"TWICE", 277, 287, 293)],
@@ -110,7 +111,7 @@ def check_headers(cases):
     cases.same("a chain in a circle", "ChainTooLong", caught(lambda: images.Dictionary(memory)))
 
 
-def caught(act):
+def caught(act: Callable[[], object]) -> str:
     try:
         act()
     except (images.BadImage, program.Refusal) as refusal:
@@ -118,7 +119,7 @@ def caught(act):
     return ""
 
 
-def check_lines(cases):
+def check_lines(cases: Cases) -> None:
     """Lines of a trace, and those that are none."""
     lines = b"3068 DUP | 5 -1 | 2954 2768\n3070 A|B | | 1\n"
     cases.same("lines", [(3068, b"DUP", (5, -1), (2954, 2768)), (3070, b"A|B", (), (1,))], list(traces.parsed(lines)))
@@ -129,7 +130,7 @@ def check_lines(cases):
         cases.same(what, f"line {number} is no whole line of a trace", caught(lambda bad=bad: list(traces.parsed(bad))))
 
 
-def check_calls(cases):
+def check_calls(cases: Cases) -> None:
     """A word at 1000 that calls one at 2000, which calls itself once; and one that a fault ends."""
     taken, call, end, other = calls.Calls(1000, 1004, 99), (calls.CALL, 2000), (calls.END, None), (calls.OTHER, None)
     for address, effect, data, returns in (
@@ -151,7 +152,7 @@ def check_calls(cases):
     cases.same("a fault, and what is cut", ([(0, calls.FAULTED)], 1, 2), (taken.ends, len(taken.steps), taken.met))
 
 
-def check_made_words(cases):
+def check_made_words(cases: Cases) -> None:
     """Words of the run whose codes aren't known: one that goes on in the thread at 1002, and one that only pushes a number."""
     taken, maybe, other = calls.Calls(1000, 1006, 99), (calls.MAYBE, None), (calls.OTHER, None)
     for address, effect, data, returns in (
@@ -162,7 +163,7 @@ def check_made_words(cases):
                [(step.address, step.frame) for step in taken.steps])
 
 
-def data_word():
+def data_word() -> images.Memory:
     """The memory of hand_made, where TWICE is a variable of four bytes at 289, of a screen."""
     memory = hand_made()
     for address, value in ((287, images.VARIABLE), (54, 277), (289, 0), (291, 0)):
@@ -170,7 +171,7 @@ def data_word():
     return memory
 
 
-def check_cells(cases_of):
+def check_cells(cases_of: Cases) -> None:
     """Writes in their order; a read that finds something else; a move from bytes that aren't known."""
     memory = data_word()
     for what, lines, wanted in (
@@ -193,7 +194,7 @@ def check_cells(cases_of):
         cases_of.same(f"what is shown after {what}", wanted, [word.header.name.decode() for word in followed.shown()])
 
 
-def check_shown(cases):
+def check_shown(cases: Cases) -> None:
     """What rows show: a byte, so many of a text, a line with its blank; and bytes that the run didn't show."""
     memory = images.Memory(bytes(300))
     memory.bytes[282:285] = b"\2Hi"
@@ -213,7 +214,7 @@ def check_shown(cases):
     cases.same("where it ends", 15, counter.place(counter.mark()))
 
 
-def check_references(cases):
+def check_references(cases: Cases) -> None:
     """Two screens; words of comments and texts aren't counted, and TABLE defines what stands behind it."""
     read = screens.Screens()
     read.lines[1] = ["( ROW isn't used here )", ": TABLE ( n -- ) CREATE ALLOT ;", "10 TABLE ROW", ': HI ." TABLE" ROW ;']
@@ -231,7 +232,7 @@ def check_references(cases):
     cases.same("where X is used", [(3, 1)], found.uses("X"))
 
 
-def check_texts(cases):
+def check_texts(cases: Cases) -> None:
     """Names and JSON: nothing of them ends an element, and control bytes are told."""
     cases.same("names", ["A", "<b>&\"'", "\\x07\\x1b", "\\xff\u00e9"],
                [texts.shown(name) for name in (b"A", b"<b>&\"'", b"\x07\x1b", b"\xff\xc3\xa9")])
@@ -242,7 +243,7 @@ def check_texts(cases):
     cases.same("changes of a stack", [2, 7], page.changes((1, 2, 3), (1, 2, 7)))
 
 
-def check_language(cases):
+def check_language(cases: Cases) -> None:
     """The scripts are Python 3.8's."""
     for path in sorted(TEACHING.iterdir()):
         first = path.read_bytes()[:40] if path.is_file() else b""
@@ -253,7 +254,7 @@ def check_language(cases):
                 cases.same(str(path), "Python 3.8", str(error))
 
 
-def check(cases):
+def check(cases: Cases) -> None:
     for act in (check_images, check_headers, check_lines, check_calls, check_made_words, check_cells, check_shown, check_references,
                 check_texts, check_language):
         act(cases)

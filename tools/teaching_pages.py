@@ -1,11 +1,12 @@
 """Films, maps and pages of screens in a browser: by keys alone, on wide and on narrow windows."""
 import browser
+import teaching_runs
 
 COUNT = 'document.getElementById("count").textContent'
 NEXT = 'document.getElementById("next").textContent'
 
 
-def check_keys(tree, one):
+def check_keys(tree: teaching_runs.Tree, one: browser.Browser) -> None:
     """A film from step to step by keys; what is seen is what the film's data say."""
     tree.film("SQUARES", "5 SQUARES")
     one.open(tree.room / "film.html")
@@ -37,7 +38,7 @@ def check_keys(tree, one):
     tree.cases.same("the output at the end", "0 1 4 9 16 ", one.value('document.getElementById("output").textContent'))
 
 
-def check_narrow(tree, one):
+def check_narrow(tree: teaching_runs.Tree, one: browser.Browser) -> None:
     """On a narrow window nothing of a film stands beside it."""
     for width, height in ((320, 568), (901, 700), (1300, 900)):
         one.size(width, height)
@@ -47,7 +48,7 @@ def check_narrow(tree, one):
             tree.cases.same(f"whether {name} fits in {width} columns of a window", True, fits)
 
 
-def check_telephone(tree, one):
+def check_telephone(tree: teaching_runs.Tree, one: browser.Browser) -> None:
     """On a window of 400 by 800 the tops of both stacks, and the output, are seen at each step without scrolling."""
     one.size(400, 800)
     one.open(tree.room / "film.html")
@@ -59,7 +60,7 @@ def check_telephone(tree, one):
     one.size(1300, 900)
 
 
-def check_fault(tree, one):
+def check_fault(tree: teaching_runs.Tree, one: browser.Browser) -> None:
     """The last step names the fault, and its place in the word's own thread is marked."""
     tree.film("CALLS", "CALLS")
     one.open(tree.room / "film.html")
@@ -70,7 +71,7 @@ def check_fault(tree, one):
     tree.cases.same("the place that is marked behind the fault", "WRECKED", one.value(failed))
 
 
-def check_hostile(tree, one):
+def check_hostile(tree: teaching_runs.Tree, one: browser.Browser) -> None:
     one.open(tree.room / "hostile.html")
     tree.cases.same("the name as a text", "</script><img/src=x>", one.value('document.querySelector("h1").textContent'))
     made = one.value('document.querySelectorAll("img, i > *, h1 > *, #output i").length')
@@ -82,7 +83,7 @@ def check_hostile(tree, one):
     tree.cases.same("bytes that are shown", "··é<b>&\n", one.value('document.getElementById("output").textContent'))
 
 
-def check_long(tree, one):
+def check_long(tree: teaching_runs.Tree, one: browser.Browser) -> None:
     one.open(tree.room / "long.html")
     one.press("End")
     tree.cases.same("the end of a long film", "step 120004 of 120004", one.value(COUNT))
@@ -90,7 +91,7 @@ def check_long(tree, one):
     tree.cases.holds("what comes at the end of a long film", "LOOP", one.value(NEXT))
 
 
-def check_cut(tree, one):
+def check_cut(tree: teaching_runs.Tree, one: browser.Browser) -> None:
     """The last step of a film that has the first of a word's steps doesn't say that the word is done; in one of 20 steps of
     SQUARES the cut is within the call of `.`, the eighth step, which is folded."""
     for name, count in (("cut.html", "500 of 500"), ("folded.html", "8 of 8")):
@@ -101,7 +102,7 @@ def check_cut(tree, one):
         tree.cases.same(f"whether {name} says that the word is done", False, "is done" in one.value(NEXT))
 
 
-def check_paper(tree, one):
+def check_paper(tree: teaching_runs.Tree, one: browser.Browser) -> None:
     """The page of exercises has the data stack and the output blank except at the first step, with room for a name, and the answers
     after it; each row has its address."""
     one.open(tree.room / "film.html")
@@ -136,7 +137,7 @@ def check_paper(tree, one):
     tree.cases.same("'nowhere here' on two lines", 0, one.value(lines))
 
 
-def check_map(tree, one):
+def check_map(tree: teaching_runs.Tree, one: browser.Browser) -> None:
     """A map by keys: the newest word, the one before it in its chain."""
     told = 'document.activeElement.dataset.told'
     for name, newest, before in (("map1-kernel.svg", "COLD", "?"), ("map2-two.svg", "SECOND", "COLD")):
@@ -154,7 +155,7 @@ def check_map(tree, one):
             tree.cases.same(f"whether a chain of {name} has links", True, chained > 10)
 
 
-def check_hostile_map(tree, one):
+def check_hostile_map(tree: teaching_runs.Tree, one: browser.Browser) -> None:
     """Names with what XML takes for its own, and bytes that are no text."""
     for name in ("map1-own.svg", "map1-odd.svg", "map1-hi.svg"):
         one.open(tree.room / name)
@@ -162,7 +163,7 @@ def check_hostile_map(tree, one):
         tree.cases.same(f"elements that names made in {name}", 0, one.value('document.querySelectorAll("img, b, i").length'))
 
 
-def check(tree):
+def check(tree: teaching_runs.Tree) -> None:
     with browser.Browser() as one:
         for act in (check_keys, check_narrow, check_telephone, check_hostile, check_long, check_cut, check_paper,
                     check_map, check_hostile_map, check_fault):

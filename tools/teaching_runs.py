@@ -8,9 +8,14 @@ import re
 import subprocess
 import tty
 import xml.etree.ElementTree
+from typing import Any, Dict, List, Optional, Tuple, Union
+
+import teaching_cases
 
 ROOT = pathlib.Path(__file__).resolve().parent.parent
 SVG = "{http://www.w3.org/2000/svg}"
+# What the page of a film has about it, as JSON.
+Film = Any
 WORDS = r"""% screen 21
 ( Words for films )
 : SQUARE ( n -- n*n ) DUP * ;
@@ -49,7 +54,7 @@ VARIABLE BANK   CREATE ROW 6 ALLOT
 class Tree:
     """A tree with the built program, with a block file of words for films, and the images of the tools and of these words."""
 
-    def __init__(self, cases, room, program):
+    def __init__(self, cases: teaching_cases.Cases, room: pathlib.Path, program: pathlib.Path) -> None:
         self.cases, self.room, self.forth83 = cases, room, program
         subprocess.run([ROOT / "tools/lay-built", program, room], check=True)
         (room / "words.txt").write_text(WORDS, encoding="ascii")
@@ -59,21 +64,21 @@ class Tree:
         self.run(["workbench/make", self.forth83, "kernel.blk", "tools.img"])
         self.forth("load", "tools.img", "forth.blk", "21", "22", "own.img")
 
-    def forth(self, *words):
+    def forth(self, *words: str) -> None:
         """A subcommand, which must not be refused."""
         status, said = self.run([self.forth83, *words])
         self.cases.same(f"the status of {words}, which said {said}", 0, status)
 
-    def run(self, words, typed=None):
+    def run(self, words: List[Union[pathlib.Path, str]], typed: Optional[bytes] = None) -> Tuple[int, bytes]:
         """The status, and what was said, standard error behind it."""
         done = subprocess.run(words, cwd=self.room, input=typed, stdout=subprocess.PIPE, stderr=subprocess.PIPE, check=False)
         return done.returncode, done.stdout + done.stderr
 
-    def tool(self, *words):
+    def tool(self, *words: str) -> Tuple[int, str]:
         status, said = self.run(["./forth", *words])
         return status, said.decode("utf-8", "replace")
 
-    def film(self, name, line, *more):
+    def film(self, name: str, line: str, *more: str) -> Tuple[Film, str, str]:
         """The film's data, its page, and what was said."""
         out = self.room / "film.html"
         status, said = self.tool("film", "--screens", "21", "22", "-o", "film.html", *more, "--", name, line)
@@ -84,7 +89,7 @@ class Tree:
         return json.loads(re.search(r'id="film">(.*?)</script>', text, re.S)[1]), text, said
 
 
-def expanded(data):
+def expanded(data: Film) -> List[Tuple[Optional[int], Optional[str], Tuple[int, ...], Tuple[int, ...], int, int]]:
     """The film's steps as lines of a trace are: place, name, both stacks; and what is shown, the frame."""
     stacks, found = ([], []), []
     for place, frame, *changes, shown, _ in data["steps"]:
@@ -95,14 +100,14 @@ def expanded(data):
     return found
 
 
-def steps_of(data, name):
+def steps_of(data: Film, name: str) -> List[Tuple[int, str, Tuple[int, ...], Tuple[int, ...], int, int]]:
     """The steps that stand in the thread of a word, as `expanded` has them."""
     word = [one["name"] for one in data["words"]].index(name)
     own = {place[0] for place in data["places"] if place[1] == word}
     return [step for step in expanded(data) if step[0] in own]
 
 
-def trace_of(tree, name, line):
+def trace_of(tree: Tree, name: str, line: str) -> List[Tuple[int, str, Tuple[int, ...], Tuple[int, ...]]]:
     """The lines of `debug` of a word over the image as it is, as tuples."""
     tree.run([tree.forth83, "debug", "own.img", name, "trace.txt", "forth.blk"], line.encode() + b"\n")
     found = []
@@ -113,7 +118,7 @@ def trace_of(tree, name, line):
     return found
 
 
-def check_traces(tree):
+def check_traces(tree: Tree) -> None:
     """The steps of a film are those that `debug` tells of each of its words alone."""
     data, _, _ = tree.film("SQUARES", "5 SQUARES")
     steps = expanded(data)
@@ -125,7 +130,7 @@ def check_traces(tree):
     tree.cases.same("what is shown then", b"0 1 4 9 16 ", base64.b64decode(data["output"])[data["begins"]:steps[-1][4]])
 
 
-def interleaved(tree, name, line):
+def interleaved(tree: Tree, name: str, line: str) -> bytes:
     """What is shown, and the lines of the word's trace, in the order in which they were written: both go to one terminal."""
     master, slave = os.openpty()
     tty.setraw(slave)
@@ -145,7 +150,7 @@ def interleaved(tree, name, line):
     return written
 
 
-def places_by_terminal(tree, name, line):
+def places_by_terminal(tree: Tree, name: str, line: str) -> List[int]:
     """How many bytes were shown before each line of the word's trace, as a terminal saw it."""
     trace_of(tree, name, line)
     lines = (tree.room / "trace.txt").read_bytes().splitlines(keepends=True)
@@ -158,7 +163,7 @@ def places_by_terminal(tree, name, line):
     return found
 
 
-def check_output(tree):
+def check_output(tree: Tree) -> None:
     """What is shown at each step is what a terminal has seen by then."""
     for name, line in (
             ("SQUARES", "5 SQUARES"), ("TICKED", "TICKED"), ("ASKS", "ASKS\nxhello there"), ("DOWN", "3 DOWN .( a text)"),
@@ -168,7 +173,7 @@ def check_output(tree):
         tree.cases.same(f"what {name} shows, step by step", places_by_terminal(tree, name, line), got)
 
 
-def check_ends(tree):
+def check_ends(tree: Tree) -> None:
     """How words end, and what of them is a call."""
     for name, line, frames, ending in (
             ("ONE", "ONE", 1, "ONE is done."),
@@ -195,7 +200,7 @@ def check_ends(tree):
     tree.cases.same("a name in small letters", "SQUARES", data["name"])
 
 
-def check_made(tree):
+def check_made(tree: Tree) -> None:
     """A word that DOES> made: its own calls alone, among others of the same maker. CM multiplies by 10, MM by 3."""
     data, _, _ = tree.film("CM", "3 UNIT MM 7 CM 5 MM 2 CM")
     tree.cases.same("the film's name", "CM", data["name"])
@@ -207,7 +212,7 @@ def check_made(tree):
     tree.cases.same("CM in another film", "CM", data["frames"][1][5])
 
 
-def held(data, name, number):
+def held(data: Film, name: str, number: int) -> List[int]:
     """The bytes of a variable before a step."""
     one = next(one for one in data["memory"] if one["name"] == name)
     found = list(one["bytes"])
@@ -217,7 +222,7 @@ def held(data, name, number):
     return found
 
 
-def check_memory(tree):
+def check_memory(tree: Tree) -> None:
     """What a variable and an array hold at each step; one into which unknown bytes are copied isn't shown."""
     data, _, _ = tree.film("FILLS", "5 BANK ! 0 ROW ! 0 ROW 2+ ! 0 ROW 4 + ! FILLS")
     names = [step[1] for step in expanded(data)]
@@ -233,7 +238,7 @@ def check_memory(tree):
     tree.cases.same("BASE at the first step", [10, 16], bases)
 
 
-def check_doubts(tree):
+def check_doubts(tree: Tree) -> None:
     """A program that sees the copy's other cell gets a film of its own lines alone, and what it shows isn't laid beside them."""
     data, page, _ = tree.film("PEEKS", "PEEKS")
     tree.cases.same("steps of a word that sees it", trace_of(tree, "PEEKS", "PEEKS"), [step[:4] for step in expanded(data)])
@@ -243,7 +248,7 @@ def check_doubts(tree):
     tree.cases.holds("a page of four words", "debug was asked for 4 of the 4 words, SQUARES first", page)
 
 
-def check_given(tree):
+def check_given(tree: Tree) -> None:
     """Traces that are there: of one line, and of 120,003."""
     for name, line, count, more in (("ONE", "ONE", 1, ()), ("ROUND", "40000 ROUND", 120_003, ("--steps", "200000"))):
         trace = trace_of(tree, name, line)
@@ -254,7 +259,7 @@ def check_given(tree):
         tree.cases.same(f"the steps of a trace of {name}", True, trace == [step[:4] for step in expanded(data)])
 
 
-def check_cuts(tree):
+def check_cuts(tree: Tree) -> None:
     """Long traces are cut, and told; 100,000 lines are taken."""
     data, page, said = tree.film("ROUND", "40000 ROUND", "--steps", "500")
     tree.cases.same("steps that are kept", 500, len(data["steps"]))
@@ -273,7 +278,7 @@ def check_cuts(tree):
     tree.cases.same("13 MB that are shown", (False, True), (data["is_laid"], len(page) < 300_000))
 
 
-def check_hostile(tree):
+def check_hostile(tree: Tree) -> None:
     """Names and output with what HTML takes for its own: nothing of it stands in the page as an element."""
     data, page, _ = tree.film("</script><img/src=x>", "</script><img/src=x>")
     (tree.room / "film.html").rename(tree.room / "hostile.html")
@@ -335,12 +340,12 @@ REFUSALS = (
 )
 
 
-def listing(folder):
+def listing(folder: pathlib.Path) -> Dict[str, Tuple[int, int]]:
     kept = [path for path in folder.iterdir() if path.name != "workbench"]
     return {path.name: (path.stat().st_size, path.stat().st_mtime_ns) for path in kept}
 
 
-def in_circle(image):
+def in_circle(image: bytes) -> bytes:
     """An image of version 2 in which the newest word of FORTH's first chain, in cell 42, is before itself."""
     begins = 16
     newest = int.from_bytes(image[begins + 42:begins + 44], "little")
@@ -348,7 +353,7 @@ def in_circle(image):
     return image[:at] + newest.to_bytes(2, "little") + image[at + 2:]
 
 
-def check_refusals(tree):
+def check_refusals(tree: Tree) -> None:
     """What isn't done is told with what and why; nothing is left behind, and nothing is changed."""
     room = tree.room
     (room / "notes.html").write_text("<p>mine</p>", encoding="utf-8")
@@ -368,14 +373,14 @@ def check_refusals(tree):
     tree.cases.same(f"a disk that is full: {text}", (1, before), (status, listing(room)))
 
 
-def kernel_words():
+def kernel_words() -> List[str]:
     """The names of the kernel's words, as docs/WORDS.md has them."""
     page = (ROOT / "docs/WORDS.md").read_text(encoding="utf-8")
     part = page[page.index("\n## The kernel\n"):page.index("\n## The tools\n")]
     return sorted(re.findall(r"^\| `(\S+)` \| `", part, re.M))
 
 
-def check_maps(tree):
+def check_maps(tree: Tree) -> None:
     """The words of a map are the kernel's; its letters stand on the bytes; two images tell what changed."""
     status, text = tree.tool("map", "kernel.img", "--text")
     rows = [line.split() for line in text.splitlines() if re.match(r"^  +\d+ +\d+ +\d+  \S", line) and " words" not in line]
@@ -399,7 +404,7 @@ def check_maps(tree):
         (tree.room / "map.svg").rename(tree.room / f"map{len(words)}-{pathlib.Path(words[-1]).stem}.svg")
 
 
-def check_letters(tree, drawn):
+def check_letters(tree: Tree, drawn: xml.etree.ElementTree.Element) -> None:
     """SQUARE of the map: the letters of DUP are three columns apart at 13, on the row of its address."""
     for word in drawn.iter(f"{SVG}g"):
         if word.get("class") == "word" and word.get("data-told", "").startswith("SPACES, colon word"):
@@ -413,31 +418,31 @@ def check_letters(tree, drawn):
 class Texts(html.parser.HTMLParser):
     """The texts of a page's elements of a kind, in their order."""
 
-    def __init__(self, kind):
+    def __init__(self, kind: str) -> None:
         super().__init__()
         self.kind, self.found, self.is_in = kind, [], False
 
-    def handle_starttag(self, tag, attrs):
+    def handle_starttag(self, tag: str, attrs: List[Tuple[str, str]]) -> None:
         if tag == self.kind:
             self.is_in = True
             self.found.append("")
 
-    def handle_endtag(self, tag):
+    def handle_endtag(self, tag: str) -> None:
         if tag == self.kind:
             self.is_in = False
 
-    def handle_data(self, data):
+    def handle_data(self, data: str) -> None:
         if self.is_in:
             self.found[-1] += data
 
 
-def texts_of(path, kind):
+def texts_of(path: pathlib.Path, kind: str) -> List[str]:
     reader = Texts(kind)
     reader.feed(path.read_text(encoding="utf-8"))
     return reader.found
 
 
-def check_pages(tree):
+def check_pages(tree: Tree) -> None:
     """Each screen stands on its page as it is in its source; the cross reference is that which was made by hand."""
     for words in (["new", "life.blk", "64"], ["screens", str(ROOT / "examples/life.txt"), "life.blk"]):
         tree.forth(*words)
@@ -466,7 +471,7 @@ def check_pages(tree):
     check_shadows(tree)
 
 
-def check_shadows(tree):
+def check_shadows(tree: Tree) -> None:
     """Shadows stand beside their screens, and a byte that is no text is a dot."""
     (tree.room / "shadow.txt").write_text("% screen 33\n<b>& the shadow\n% screen 5\n32 SHADOW !\n", encoding="ascii")
     tree.forth("screens", "shadow.txt", "life.blk")
@@ -525,13 +530,13 @@ WRONG = (
 )
 
 
-def checked(tree, blocks, number):
+def checked(tree: Tree, blocks: str, number: int) -> str:
     """What CHECK says of a lesson."""
     _, said = tree.run([tree.forth83, "run", "tools.img", blocks], f"1 LOAD\n{number} CHECK\n1 2 + .\n".encode())
     return re.sub(r"\x1b\[[0-9;?]*[A-Za-z]", "", said.decode("ascii", "replace"))
 
 
-def answered(tree, number, *texts):
+def answered(tree: Tree, number: int, *texts: str) -> str:
     """What CHECK says of a lesson, over the course's screens and those of these texts."""
     (tree.room / "c.blk").unlink(missing_ok=True)
     tree.forth("new", "c.blk", "64")
@@ -542,7 +547,7 @@ def answered(tree, number, *texts):
     return said
 
 
-def check_chosen(tree):
+def check_chosen(tree: Tree) -> None:
     """Until a screen is chosen PUT writes into a blank one, not into the checkers; behind CHECK into the lesson's."""
     (tree.room / "c.blk").unlink(missing_ok=True)
     for words in (["new", "c.blk", "64"], ["screens", str(ROOT / "teaching/course.txt"), "c.blk"]):
@@ -553,7 +558,7 @@ def check_chosen(tree):
     tree.cases.same("the screens that are chosen", ["20", "23", "23"], re.findall(r"SCR @ \. (\d+)", shown))
 
 
-def check_course(tree):
+def check_course(tree: Tree) -> None:
     """Each solution is right, each blank screen and each wrong answer is told; what is typed behind it is shown."""
     for number in range(1, 15):
         blank = "leaves nothing" if number == 1 else "isn't there yet"
@@ -566,7 +571,7 @@ def check_course(tree):
     check_all_lessons(tree)
 
 
-def check_all_lessons(tree):
+def check_all_lessons(tree: Tree) -> None:
     """0 CHECK goes on to the next lesson after a fault, an endless loop and a missing `;`; the Forth is as before afterwards."""
     (tree.room / "all.txt").write_text(
         "% screen 21\n1 0 /\n% screen 22\n: MINUTES BEGIN AGAIN ;\n% screen 23\n: CUBE ROT ;\n% screen 24\n: PRICE\n"
@@ -579,7 +584,7 @@ def check_all_lessons(tree):
     tree.cases.holds("a fault after CHECK", "NOBODY is unknown (fault 13)", said.decode("ascii", "replace"))
 
 
-def check(tree):
+def check(tree: Tree) -> None:
     for act in (check_traces, check_output, check_ends, check_made, check_memory, check_doubts, check_given, check_cuts, check_hostile, check_refusals,
                 check_maps, check_pages, check_chosen, check_course):
         act(tree)
