@@ -19,7 +19,7 @@ UNKNOWN = -1
 
 
 class Place:
-    """A place of memory where a token stands: as a line says it, and what its step does."""
+    """A place of a token in memory: as a line shows it, and what its step does."""
 
     def __init__(self, memory: images.Memory, dictionary: images.Dictionary, digests: List[traces.Digest], address: int) -> None:
         code_field = memory.cell(address)
@@ -88,7 +88,7 @@ class Whole:
             self.calls.pass_by(place.effect)
 
     def step(self, place: Place, rest: bytes) -> None:
-        """A line that tells more than where the run is."""
+        """A line that says more than where the run is."""
         _, data, returns = rest.split(b"|")
         data, returns = tuple(map(int, data.split())), tuple(map(int, returns.split()))
         if self.cells.test:
@@ -126,7 +126,7 @@ def whole_film(setting: traces.Setting, image: images.Image, dictionary: images.
 
 
 def words_of(film: Film, dictionary: images.Dictionary) -> List[images.Header]:
-    """The colon words whose threads the film's steps stand in, each once, in the order of the film."""
+    """The colon words whose threads have the film's steps, each once, in the order of the film."""
     owner = dictionary.owners()
     return list(dict.fromkeys(owner[step.address] for step in film.calls.steps if step.address in owner))
 

@@ -22,11 +22,11 @@ COLON, VARIABLE, CONSTANT, VOCABULARY = 1, 2, 3, 4
 
 
 CAUSES = {
-    "BadMagic": "it doesn't begin as an image does; ./forth --image makes one, and so does ./forth83 load",
+    "BadMagic": "it does not begin like an image; ./forth --image makes one, and so does ./forth83 load",
     "BadVersion": "its version is neither 1 nor 2",
-    "BadBuffers": "it has no 2 to 16 block buffers",
-    "BadSize": "its size is none that memory has",
-    "TrailingBytes": "it has bytes behind its end",
+    "BadBuffers": "it does not have 2 to 16 block buffers",
+    "BadSize": "its size does not fit in memory",
+    "TrailingBytes": "it has bytes after its end",
     "Truncated": "it ends too soon",
     "ChainTooLong": "a chain of its words never ends",
 }
@@ -35,7 +35,7 @@ CAUSES = {
 class BadImage(program.Refusal):
     """Why a file is no image: its cause, as the program spells it."""
 
-    def told(self) -> str:
+    def reason(self) -> str:
         """The cause in words."""
         return f"{CAUSES[str(self)]} ({self})"
 
@@ -73,7 +73,7 @@ class Memory:
 
 
 def field(data: bytes, at: int, is_good: Callable[[int], bool], cause: str) -> int:
-    """The cell at a place of a file. Where only a part of it is there, that part decides whether the file ends too soon."""
+    """The cell at a place of a file. If only a part of it exists, that part decides whether the file ends too soon."""
     part = data[at:at + 2]
     if len(part) == 2:
         value = int.from_bytes(part, "little")

@@ -61,7 +61,7 @@ class Program:
         proved, unproved = ROOT / "crates/forth83/out/forth83", KEPT / "unproved"
         self.is_proved = subprocess.run([ROOT / "workbench/is-proved"], check=False, stderr=subprocess.DEVNULL).returncode == 0
         if not self.is_proved and not os.access(unproved, os.X_OK):
-            raise Refusal("there is no program yet; ./forth makes one")
+            raise Refusal("there is no program yet; run ./forth once, which builds one in about a minute")
         self.path = proved if self.is_proved else unproved
 
     def version(self) -> str:
@@ -101,5 +101,5 @@ def tools_image(program: Program, room: pathlib.Path) -> pathlib.Path:
     done = subprocess.run([ROOT / "workbench/make", program.path, blocks, made], stdout=subprocess.PIPE,
                           stderr=subprocess.PIPE, check=False)
     if done.returncode:
-        raise Refusal(f"the image of the tools can't be made: {said_by(done)}")
+        raise Refusal(f"the image of the tools cannot be made: {said_by(done)}")
     return made

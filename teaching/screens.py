@@ -20,7 +20,7 @@ class Screens:
         return sorted([*self.lines, *self.refused])
 
     def first(self) -> int:
-        """The first screen that isn't the kernel's: 21 behind a kernel, else 0."""
+        """The first screen that is not the kernel's: 21 in a file with a kernel, otherwise 0."""
         return 21 if self.lines.get(1, [""])[:1] == [KERNEL] else 0
 
     def is_blank(self, number: int) -> bool:
@@ -31,10 +31,10 @@ def count(path: str) -> int:
     """How many screens a file of blocks has."""
     path = pathlib.Path(path)
     if not path.is_file():
-        raise program.Refusal(f"{path} isn't there, or is no file of blocks")
+        raise program.Refusal(f"{path} does not exist, or is not a file of blocks")
     size = path.stat().st_size
     if size % BYTES or size == 0:
-        raise program.Refusal(f"{path} has {size} bytes, which are no whole blocks")
+        raise program.Refusal(f"{path} has {size} bytes, which is not a whole number of blocks")
     return size // BYTES
 
 

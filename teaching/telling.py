@@ -22,7 +22,7 @@ BESIDE = (
 UNFOLLOWED = "What {names} {has} isn't shown, as something wrote into it that the film doesn't follow."
 ALONE = (
     "These are the lines that {version} wrote with debug of {name}, each before its step. The steps of other "
-    "words aren't here: a run over a copy of the image, for the steps of all words, told other lines. That happens if a "
+    "words are missing: a run over a copy of the image, for the steps of all words, wrote other lines. That happens if a "
     "program reads the cell VOC-LINK, which is 0 there, or changes a thread.")
 OF_TRACE = (
     "The steps are the lines of {trace}, of this word alone: each word that it calls is a single step, and the output isn't known.")

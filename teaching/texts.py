@@ -29,13 +29,13 @@ def check_target(path: str, mark: str, what: str) -> None:
     path = pathlib.Path(path)
     folder = path.parent
     if path.is_dir():
-        raise program.Refusal(f"{path} is a folder; name a file by -o")
+        raise program.Refusal(f"{path} is a folder; name a file with -o")
     if not folder.is_dir():
-        raise program.Refusal(f"{path} can't be made: there is no folder {folder}")
+        raise program.Refusal(f"cannot make {path}: there is no folder {folder}")
     if path.exists() and not (path.is_file() and os.access(path, os.R_OK) and is_ours(path, mark)):
-        raise program.Refusal(f"{path} is there already, and is no {what}; name another file by -o")
+        raise program.Refusal(f"{path} already exists and is not a {what}; name another file with -o")
     if not os.access(folder, os.W_OK):
-        raise program.Refusal(f"{path} can't be made: the folder {folder} can't be written; name a file elsewhere by -o")
+        raise program.Refusal(f"cannot make {path}: the folder {folder} cannot be written; name a file elsewhere with -o")
 
 
 def write_whole(path: str, text: str) -> None:
@@ -47,7 +47,7 @@ def write_whole(path: str, text: str) -> None:
             file.write(text)
         os.replace(beside, path)
     except OSError as error:
-        raise program.Refusal(f"{path} can't be written: {error.strerror}") from error
+        raise program.Refusal(f"cannot write {path}: {error.strerror}") from error
     finally:
         if beside.exists():
             beside.unlink()

@@ -74,7 +74,7 @@ def parsed(lines: Iterable[bytes]) -> Iterator[Tuple[int, bytes, Tuple[int, ...]
     while at < len(lines):
         match = LINE.match(lines, at)
         if not match:
-            raise program.Refusal(f"line {number} is no whole line of a trace")
+            raise program.Refusal(f"line {number} is not a complete line of a trace")
         where, name, data, returns = match.groups()
         yield int(where), name, tuple(map(int, data.split())), tuple(map(int, returns.split()))
         at, number = match.end(), number + 1

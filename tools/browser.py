@@ -25,12 +25,12 @@ CONTRAST = """(() => {
   const channel = (part) => (part /= 255, part <= 0.03928 ? part / 12.92 : ((part + 0.055) / 1.055) ** 2.4);
   const numbers = (text) => (text.match(/[\\d.]+/g) || [0, 0, 0, 0]).map(Number);
   const light = (color) => { const [r, g, b] = numbers(color).map(channel); return 0.2126 * r + 0.7152 * g + 0.0722 * b };
-  const behind = (one) => { for (; one; one = one.parentElement) { const color = getComputedStyle(one).backgroundColor, parts = numbers(color);
+  const ground = (one) => { for (; one; one = one.parentElement) { const color = getComputedStyle(one).backgroundColor, parts = numbers(color);
     if (parts.length === 3 || parts[3] > 0) return color; } return "rgb(255, 255, 255)" };
   const low = [];
   for (const one of document.querySelectorAll("body *")) {
     if (!one.offsetParent || one.closest("[aria-hidden], option") || ![...one.childNodes].some((it) => it.nodeType === 3 && it.textContent.trim())) continue;
-    const pair = [light(getComputedStyle(one).color), light(behind(one))].sort((a, b) => b - a), ratio = (pair[0] + 0.05) / (pair[1] + 0.05);
+    const pair = [light(getComputedStyle(one).color), light(ground(one))].sort((a, b) => b - a), ratio = (pair[0] + 0.05) / (pair[1] + 0.05);
     if (ratio < 4.5) low.push(`${one.tagName} ${one.id} ${one.className} ${ratio.toFixed(1)}`);
   }
   return [...new Set(low)];
@@ -117,7 +117,7 @@ class Browser:
             self.note(answer)
 
     def open(self, path: pathlib.Path, mark: str = "") -> None:
-        """Opens a file, and waits until it is there; from a blank page, as a page isn't loaded anew for a mark alone."""
+        """Opens a file, and waits until it is loaded. It starts from a blank page, because a browser does not load a page again for a new mark."""
         for url in ("about:blank", f"file://{os.path.abspath(path)}{mark}"):
             self.events.clear()
             self.call("Page.navigate", url=url)

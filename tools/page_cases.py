@@ -106,17 +106,17 @@ def check_assembly(cases: Cases) -> None:
 NODE = """
 import { linesOf, pageOf, screensOf, textOf, search, Disk } from "./disk.js";
 import { Terminal } from "./terminal.js";
-const told = [];
+const found = [];
 const disk = Disk.ofText("d", 2, "% screen 1\\n( T )\\n%~~C3~A4~7E\\n%%x\\n");
-told.push(linesOf(disk.page(1)).slice(0, 3), textOf(disk));
-told.push(pageOf(["x".repeat(65)]).wrong, pageOf(Array(17).fill("y")).wrong, screensOf("x\\n").wrong, screensOf("% screen 70000\\n").wrong,
+found.push(linesOf(disk.page(1)).slice(0, 3), textOf(disk));
+found.push(pageOf(["x".repeat(65)]).wrong, pageOf(Array(17).fill("y")).wrong, screensOf("x\\n").wrong, screensOf("% screen 70000\\n").wrong,
   screensOf("% screen 1\\n%~~A\\n").wrong);
-told.push(search(2, (block) => disk.page(block), "t )"));
+found.push(search(2, (block) => disk.page(block), "t )"));
 const terminal = new Terminal();
 terminal.take("lost\\x1b[2J\\x1b[2;3HAB\\x1b[1");
 terminal.take(";1HC\\n\\x1b[KD\\x1b[10CE");
-told.push(terminal.text());
-console.log(JSON.stringify(told));
+found.push(terminal.text());
+console.log(JSON.stringify(found));
 """
 TOLD = [["( T )", "\u00e4~", "%x"], "% screen 0\n% screen 1\n( T )\n%~~C3~A4~7E\n%%x\n", "line 0 has 65 characters; 64 fit",
         "a screen has 16 lines, and this one has 17", "line 1 of the file is no line of a screen: x",

@@ -104,7 +104,7 @@ def imported(tree: pathlib.Path, room: pathlib.Path, content: bytes, name: str, 
 
 def check_formats(trial: Trial, program: pathlib.Path, room: pathlib.Path) -> int:
     """Each format with files that fit, and with others, by options of all kinds; how many files were compared."""
-    dice, tree, count, fitting = random.Random(7), room / "laid", 0, set()
+    dice, tree, count, fitting = random.Random(7), room / "tree", 0, set()
     subprocess.run([ROOT / "tools/lay-built", program, tree], check=True)
     for format_ in trial.value("DATA.formats"):
         name, files = str(format_["name"]), cases(dice, format_)

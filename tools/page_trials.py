@@ -102,7 +102,7 @@ def lines(trial: Trial) -> None:
     """Lines, faults, the stack, history, SEE and F1."""
     trial.must("7  ok" in trial.type("3 4 + ."), "3 4 + .")
     trial.type(": squares 0 ?do i dup * . loop ;")
-    trial.must("0 1 4 9 16  ok" in trial.type("5 squares"), "a definition in small letters")
+    trial.must("0 1 4 9 16  ok" in trial.type("5 squares"), "a definition in lower case")
     fault = trial.type("1 0 /")
     trial.must("division by zero" in fault and "(fault 5) at /" in fault, f"a fault: {fault!r}")
     trial.must(trial.value("document.querySelectorAll('#transcript .fault').length") == 1, "a fault isn't colored")
@@ -226,7 +226,7 @@ def editor(trial: Trial) -> None:
 
 
 def reloads(trial: Trial) -> None:
-    """What was typed and written is there after a reload, also one in the middle of a loop."""
+    """A reload keeps what was typed and written, also a reload in the middle of a loop."""
     time.sleep(0.5)
     trial.open()
     trial.must("*\n**\n***" in trial.shown(), "the transcript is gone after a reload")
@@ -422,8 +422,8 @@ def class_list(trial: Trial) -> None:
     wanted = ["ada.blk ✓ ✓ ✓ ✓ ✓ ✓ ✓ ✓ ✓ ✓ ✓ ✓ ✓ ✓ 14", "bob.blk · · · · · · · · · · · · · · 0", "eve.blk ∞ ∞ ✗ · · · · · · · · · · · 0",
               "odd.txt neither blocks nor a whole session"]
     trial.must(rows == wanted, f"the class list: {rows}")
-    told = trial.value("document.querySelectorAll('#class-rows tr')[2].children[3].title")
-    trial.must("CUBE leaves" in told and "is wanted" in told, f"what is wrong in a pupil's lesson: {told!r}")
+    title = trial.value("document.querySelectorAll('#class-rows tr')[2].children[3].title")
+    trial.must("CUBE leaves" in title and "is wanted" in title, f"what is wrong in a pupil's lesson: {title!r}")
     trial.must(trial.value("page.classList.csv().split('\\r\\n')[3]").startswith('"eve.blk","endless L","endless","wrong CUBE","empty"'), "the list as CSV")
     cheats(trial)
 
@@ -448,8 +448,8 @@ def cheats(trial: Trial) -> None:
         trial.must(trial.wait("window.checked", 60), f"a class list with {what} isn't made")
         marks = trial.value("page.classList.rows[0].results.map((one) => one.mark)")
         trial.must(marks.count("right") == 0 and marks.count("empty") == 13, f"a pupil deceives the class list: {what}: {marks}")
-        told = trial.value(f"page.classList.rows[0].results[{lesson - 1}].text")
-        trial.must(told.startswith("The checker was deceived: "), f"{what} doesn't deceive the Forth's checker: {told}")
+        text = trial.value(f"page.classList.rows[0].results[{lesson - 1}].text")
+        trial.must(text.startswith("The checker was deceived: "), f"{what} does not deceive the Forth's checker: {text}")
     forged = [f"{screen}, pageOf(['CR .( Lesson {screen - 40} is right.)']).page" for screen in range(41, 55)]
     trial.value(f"window.tricky = {course}; {''.join(f'tricky.put({one});' for one in forged)} tricky.put(23, pageOf([': CUBE ;']).page); "
                 "window.checked = false; page.classList.check([new File([tricky.bytes], 'x.blk')]).then(() => (window.checked = true)); 0")

@@ -62,7 +62,7 @@ def check_images(cases: Cases) -> None:
         cases.same("an image's fields", (version, 4, 264, 300), (image.version, image.buffers, image.entry, image.size))
         cases.same("an image's memory", content + bytes(65236), bytes(image.memory.bytes))
         cases.same("beginnings of an image", {"Truncated"}, {cause(data[:size]) for size in range(len(data))})
-        cases.same("a byte behind an image", "TrailingBytes", cause(data + b"x"))
+        cases.same("a byte after an image", "TrailingBytes", cause(data + b"x"))
     for what, data, wanted in (
             ("another magic", b"FTH83IMh" + bytes(300), "BadMagic"),
             ("a text", b"hello", "BadMagic"),
@@ -98,14 +98,14 @@ def hand_made() -> images.Memory:
 
 
 def check_headers(cases: Cases) -> None:
-    """EXIT at 256 to 266, DUP to 276, TWICE to 292: each header is 5 bytes and its name, with a code field of 2 behind."""
+    """EXIT at 256 to 266, DUP to 276, TWICE to 292: each header is 5 bytes and its name, and then comes a code field of 2."""
     dictionary = images.Dictionary(hand_made())
     cases.same("headers", [(b"EXIT", 256, 265, 267), (b"DUP", 267, 275, 277), (b"TWICE", 277, 287, 293)],
                [(one.name, one.begins, one.code_field, one.end) for one in dictionary.headers])
     twice = dictionary.find(b"TWICE")
     cases.same("a thread", [(289, b"DUP"), (291, b"EXIT")],
                [(token.address, dictionary.name_of(token.code_field)) for token in threads.thread(dictionary, twice)])
-    cases.same("names that aren't there", (None, None, None), tuple(map(dictionary.find, (b"", b"TWICe", b"X" * 32))))
+    cases.same("names that do not exist", (None, None, None), tuple(map(dictionary.find, (b"", b"TWICe", b"X" * 32))))
     memory = hand_made()
     memory.set_cell(278 + 1, 279)
     cases.same("a chain in a circle", "ChainTooLong", caught(lambda: images.Dictionary(memory)))
@@ -127,11 +127,11 @@ def check_lines(cases: Cases) -> None:
             ("a cut line", lines[:-3], 2),
             ("a text", b"hello\n", 1),
             ("a cell that is none", b"1 A | x | \n", 1)):
-        cases.same(what, f"line {number} is no whole line of a trace", caught(lambda bad=bad: list(traces.parsed(bad))))
+        cases.same(what, f"line {number} is not a complete line of a trace", caught(lambda bad=bad: list(traces.parsed(bad))))
 
 
 def check_calls(cases: Cases) -> None:
-    """A word at 1000 that calls one at 2000, which calls itself once; and one that a fault ends."""
+    """A word at 1000 that calls one at 2000, which calls itself once; and a word that a fault stops."""
     taken, call, end, other = calls.Calls(1000, 1004, 99), (calls.CALL, 2000), (calls.END, None), (calls.OTHER, None)
     for address, effect, data, returns in (
             (500, (calls.CALL, 1000), (7,), (1,)), (1000, call, (7,), (1, 502)), (2000, call, (7,), (1, 502, 1002)),
@@ -215,7 +215,7 @@ def check_shown(cases: Cases) -> None:
 
 
 def check_references(cases: Cases) -> None:
-    """Two screens; words of comments and texts aren't counted, and TABLE defines what stands behind it."""
+    """Two screens; words in comments and texts are not counted, and TABLE defines the word after it."""
     read = screens.Screens()
     read.lines[1] = ["( ROW isn't used here )", ": TABLE ( n -- ) CREATE ALLOT ;", "10 TABLE ROW", ': HI ." TABLE" ROW ;']
     read.lines[1].append("\\ ROW")
@@ -233,7 +233,7 @@ def check_references(cases: Cases) -> None:
 
 
 def check_texts(cases: Cases) -> None:
-    """Names and JSON: nothing of them ends an element, and control bytes are told."""
+    """Names and JSON: nothing in them ends an element, and control bytes are spelled out."""
     cases.same("names", ["A", "<b>&\"'", "\\x07\\x1b", "\\xff\u00e9"],
                [texts.shown(name) for name in (b"A", b"<b>&\"'", b"\x07\x1b", b"\xff\xc3\xa9")])
     cases.same("names of files", ["SQUARE.html", "_2E_22.html", "_2DX-Y.html", "_2F_2E_2E_2F.html"],

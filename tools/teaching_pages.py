@@ -26,8 +26,8 @@ def check_keys(tree: teaching_runs.Tree, one: browser.Browser) -> None:
             (["a"], "8 of 24", "next: SQUARE"),
             (["Home", "Shift+PageDown", "Shift+PageUp"], "1 of 24", "next: 0")):
         one.press(*keys)
-        tree.cases.same(f"steps behind {keys}", f"step {count}", one.value(COUNT))
-        tree.cases.holds(f"what comes next behind {keys}", text, one.value(NEXT))
+        tree.cases.same(f"the step after {keys}", f"step {count}", one.value(COUNT))
+        tree.cases.holds(f"what comes next after {keys}", text, one.value(NEXT))
     help_is_open = 'document.getElementById("help").open'
     for wanted in (True, False):
         one.press("?")
@@ -39,7 +39,7 @@ def check_keys(tree: teaching_runs.Tree, one: browser.Browser) -> None:
 
 
 def check_narrow(tree: teaching_runs.Tree, one: browser.Browser) -> None:
-    """On a narrow window nothing of a film stands beside it."""
+    """In a narrow window nothing of a film is outside it."""
     for width, height in ((320, 568), (901, 700), (1300, 900)):
         one.size(width, height)
         for name in ("film.html", "hostile.html", "bytes.html", "long.html", "life.html"):
@@ -68,7 +68,7 @@ def check_fault(tree: teaching_runs.Tree, one: browser.Browser) -> None:
     tree.cases.same("places that are marked before the fault", "", one.value(failed))
     one.press("End")
     tree.cases.holds("the fault in words", "division by zero", one.value(NEXT))
-    tree.cases.same("the place that is marked behind the fault", "WRECKED", one.value(failed))
+    tree.cases.same("the place that is marked after the fault", "WRECKED", one.value(failed))
 
 
 def check_hostile(tree: teaching_runs.Tree, one: browser.Browser) -> None:
@@ -98,7 +98,7 @@ def check_cut(tree: teaching_runs.Tree, one: browser.Browser) -> None:
         one.open(tree.room / name)
         one.press("End")
         tree.cases.same(f"the end of {name}", f"step {count}", one.value(COUNT))
-        tree.cases.holds(f"what is told at the end of {name}", "The film ends here; the run continued.", one.value(NEXT))
+        tree.cases.holds(f"the text at the end of {name}", "The film ends here; the run continued.", one.value(NEXT))
         tree.cases.same(f"whether {name} says that the word is done", False, "is done" in one.value(NEXT))
 
 
@@ -123,7 +123,7 @@ def check_paper(tree: teaching_runs.Tree, one: browser.Browser) -> None:
     one.size(1300, 900)
     edges = ('Array.from(document.querySelectorAll("thead"), (head) => head.getBoundingClientRect().left - '
              'head.parentNode.querySelector("td").getBoundingClientRect().left)')
-    tree.cases.same("how far heads of tables stand from their first cells", [0, 0], one.value(edges))
+    tree.cases.same("how far the heads of tables are from their first cells", [0, 0], one.value(edges))
     one.open(tree.room / "life.html")
     one.paper(tree.room / "life.pdf")
     tree.cases.same("pages of life: two of screens, and one with the index and the words", 3,
@@ -139,18 +139,18 @@ def check_paper(tree: teaching_runs.Tree, one: browser.Browser) -> None:
 
 def check_map(tree: teaching_runs.Tree, one: browser.Browser) -> None:
     """A map by keys: the newest word, the one before it in its chain."""
-    told = 'document.activeElement.dataset.told'
+    about = 'document.activeElement.dataset.told'
     for name, newest, before in (("map1-kernel.svg", "COLD", "?"), ("map2-two.svg", "SECOND", "COLD")):
         for width in (360, 1300):
             one.size(width, 800)
             one.open(tree.room / name)
             one.press("Home", "End")
-            tree.cases.same(f"the newest word of {name}", newest, one.value(told).split(",")[0])
+            tree.cases.same(f"the newest word of {name}", newest, one.value(about).split(",")[0])
             box = (f'document.querySelector(".{"narrow" if width < 1000 else "wide"} .tell rect").getBoundingClientRect()')
-            tree.cases.same(f"whether what is told of it fits in {width} columns, in {name}", True,
+            tree.cases.same(f"whether the text about it fits in {width} columns, in {name}", True,
                             one.value(f"{box}.left >= 0 && {box}.right <= innerWidth"))
             one.press("Enter")
-            tree.cases.same(f"the word before it in its chain in {name}", before, one.value(told).split(",")[0])
+            tree.cases.same(f"the word before it in its chain in {name}", before, one.value(about).split(",")[0])
             chained = one.value('document.activeElement.parentNode.querySelectorAll(".link.on").length')
             tree.cases.same(f"whether a chain of {name} has links", True, chained > 10)
 

@@ -70,7 +70,7 @@ class Tree:
         self.cases.same(f"the status of {words}, which said {said}", 0, status)
 
     def run(self, words: List[Union[pathlib.Path, str]], typed: Optional[bytes] = None) -> Tuple[int, bytes]:
-        """The status, and what was said, standard error behind it."""
+        """The status, and what was printed: standard output and then standard error."""
         done = subprocess.run(words, cwd=self.room, input=typed, stdout=subprocess.PIPE, stderr=subprocess.PIPE, check=False)
         return done.returncode, done.stdout + done.stderr
 
@@ -101,7 +101,7 @@ def expanded(data: Film) -> List[Tuple[Optional[int], Optional[str], Tuple[int, 
 
 
 def steps_of(data: Film, name: str) -> List[Tuple[int, str, Tuple[int, ...], Tuple[int, ...], int, int]]:
-    """The steps that stand in the thread of a word, as `expanded` has them."""
+    """The steps in the thread of a word, in the form of `expanded`."""
     word = [one["name"] for one in data["words"]].index(name)
     own = {place[0] for place in data["places"] if place[1] == word}
     return [step for step in expanded(data) if step[0] in own]
@@ -119,7 +119,7 @@ def trace_of(tree: Tree, name: str, line: str) -> List[Tuple[int, str, Tuple[int
 
 
 def check_traces(tree: Tree) -> None:
-    """The steps of a film are those that `debug` tells of each of its words alone."""
+    """The steps of a film are those that `debug` writes for each of its words alone."""
     data, _, _ = tree.film("SQUARES", "5 SQUARES")
     steps = expanded(data)
     for name in ("SQUARES", "SQUARE", ".", "SPACE"):
@@ -197,7 +197,7 @@ def check_ends(tree: Tree) -> None:
     status, said = tree.tool("film", "SPACES", "2 SPACES", "-o", "film.html")
     tree.cases.same("a film of a word of the kernel, no screen of which is loaded", (0, False), (status, "screens" in said))
     data, _, _ = tree.film("squares", "2 squares")
-    tree.cases.same("a name in small letters", "SQUARES", data["name"])
+    tree.cases.same("a name in lower case", "SQUARES", data["name"])
 
 
 def check_made(tree: Tree) -> None:
@@ -239,17 +239,17 @@ def check_memory(tree: Tree) -> None:
 
 
 def check_doubts(tree: Tree) -> None:
-    """A program that sees the copy's other cell gets a film of its own lines alone, and what it shows isn't laid beside them."""
+    """A program that sees the changed cell of the copy gets a film of its own lines alone, and its output is not shown with the steps."""
     data, page, _ = tree.film("PEEKS", "PEEKS")
     tree.cases.same("steps of a word that sees it", trace_of(tree, "PEEKS", "PEEKS"), [step[:4] for step in expanded(data)])
     tree.cases.same("its output", False, data["is_laid"])
-    tree.cases.holds("its page", "for the steps of all words, told other lines", page)
+    tree.cases.holds("its page", "for the steps of all words, wrote other lines", page)
     _, page, _ = tree.film("SQUARES", "5 SQUARES")
     tree.cases.holds("a page of four words", "debug was asked for 4 of the 4 words, SQUARES first", page)
 
 
 def check_given(tree: Tree) -> None:
-    """Traces that are there: of one line, and of 120,003."""
+    """Films of given traces: of one line, and of 120,003."""
     for name, line, count, more in (("ONE", "ONE", 1, ()), ("ROUND", "40000 ROUND", 120_003, ("--steps", "200000"))):
         trace = trace_of(tree, name, line)
         status, said = tree.tool("film", name, "--image", "own.img", "--trace", "trace.txt", "-o", "given.html", *more)
@@ -260,7 +260,7 @@ def check_given(tree: Tree) -> None:
 
 
 def check_cuts(tree: Tree) -> None:
-    """Long traces are cut, and told; 100,000 lines are taken."""
+    """Long traces are cut, which is reported; 100,000 lines are used."""
     data, page, said = tree.film("ROUND", "40000 ROUND", "--steps", "500")
     tree.cases.same("steps that are kept", 500, len(data["steps"]))
     (tree.room / "film.html").rename(tree.room / "cut.html")
@@ -279,7 +279,7 @@ def check_cuts(tree: Tree) -> None:
 
 
 def check_hostile(tree: Tree) -> None:
-    """Names and output with what HTML takes for its own: nothing of it stands in the page as an element."""
+    """Names and output that look like HTML: none of it becomes an element of the page."""
     data, page, _ = tree.film("</script><img/src=x>", "</script><img/src=x>")
     (tree.room / "film.html").rename(tree.room / "hostile.html")
     tree.cases.same("the hostile name", "</script><img/src=x>", data["name"])
@@ -301,41 +301,41 @@ def check_hostile(tree: Tree) -> None:
     tree.cases.holds("a word that isn't compared", "Not compared so", page)
 
 
-# The status, a part of what is said, and the words, with a bar between them where a word has blanks.
+# The status, a part of the message, and the words, with a bar between them if a word has spaces.
 REFUSALS = (
     (1, "there is no word GONE in the screens of forth.blk, as they were saved; what was only typed is in none", "film GONE"),
     (1, "there is no word GONE in own.img", "film GONE --image own.img"),
     (1, "DUP has no thread", "film DUP"),
-    (1, "SQUARES wasn't done by: 5 .", "film SQUARES|5 ."),
-    (1, "gone.blk isn't there", "film SQUARES --blocks gone.blk"),
-    (1, "no whole blocks", "film SQUARES --blocks odd.bytes"),
+    (1, "this line did not run SQUARES: 5 .", "film SQUARES|5 ."),
+    (1, "gone.blk does not exist", "film SQUARES --blocks gone.blk"),
+    (1, "not a whole number of blocks", "film SQUARES --blocks odd.bytes"),
     (1, "Fault 13: the word over the mark isn't known", "film TALL --screens 22 22"),
-    (1, "cut.img is no image: it ends too soon (Truncated)", "film SQUARES --image cut.img"),
-    (1, "gone.img can't be read", "film SQUARES --image gone.img"),
-    (1, "cut.txt: line 2 is no whole line of a trace", "film SQUARES --image own.img --trace cut.txt"),
-    (1, "gone.txt can't be read", "film SQUARES --image own.img --trace gone.txt"),
-    (1, "notes.html is there already, and is no film", "film SQUARES|5 SQUARES|-o|notes.html"),
+    (1, "cut.img is not an image: it ends too soon (Truncated)", "film SQUARES --image cut.img"),
+    (1, "cannot read gone.img", "film SQUARES --image gone.img"),
+    (1, "cut.txt: line 2 is not a complete line of a trace", "film SQUARES --image own.img --trace cut.txt"),
+    (1, "cannot read gone.txt", "film SQUARES --image own.img --trace gone.txt"),
+    (1, "notes.html already exists and is not a film", "film SQUARES|5 SQUARES|-o|notes.html"),
     (1, "folder is a folder", "film SQUARES -o folder"),
     (1, "there is no folder none", "film SQUARES -o none/x.html"),
     (1, "as one that shows more than 128 MB", "film SPEWS --screens 21 22"),
     (1, "there is no word \\udcff", "film \udcff"),
-    (1, "/proc/film.html can't be", "film SQUARES|5 SQUARES|-o|/proc/film.html"),
-    (1, "circle.img can't be filmed: a chain of its words never ends (ChainTooLong)", "film SQUARES --image circle.img"),
+    (1, "cannot write /proc/film.html", "film SQUARES|5 SQUARES|-o|/proc/film.html"),
+    (1, "circle.img cannot be filmed: a chain of its words never ends (ChainTooLong)", "film SQUARES --image circle.img"),
     (2, "usage", "film"),
-    (1, "UNIT stands in screen 21: try --screens 21 22", "film TALL"),
-    (2, "a LINE with blanks stands in quotes", "film SQUARES 5 SQUARES"),
+    (1, "UNIT is defined in screen 21: try --screens 21 22", "film TALL"),
+    (2, "put a LINE with spaces in quotes", "film SQUARES 5 SQUARES"),
     (2, "FROM isn't above TO", "film SQUARES --screens 22 21"),
     (2, "usage", "film SQUARES --trace x"),
     (2, "at least 1", "film SQUARES --steps 0"),
-    (1, "cut.img is no image that can be drawn: it ends too soon (Truncated)", "map cut.img"),
-    (1, "forth.blk is no image that can be drawn: it doesn't begin as an image does", "map forth.blk"),
-    (1, "gone.img can't be read", "map gone.img"),
-    (1, "notes.html is there already, and is no map", "map own.img -o notes.html"),
-    (1, "/proc/map.svg can't be", "map own.img -o /proc/map.svg"),
+    (1, "cut.img cannot be drawn: it ends too soon (Truncated)", "map cut.img"),
+    (1, "forth.blk cannot be drawn: it does not begin like an image", "map forth.blk"),
+    (1, "cannot read gone.img", "map gone.img"),
+    (1, "notes.html already exists and is not a map", "map own.img -o notes.html"),
+    (1, "cannot write /proc/map.svg", "map own.img -o /proc/map.svg"),
     (2, "usage", "map"),
-    (1, "gone.blk isn't there", "print gone.blk"),
+    (1, "gone.blk does not exist", "print gone.blk"),
     (1, "has screens 0 to 63", "print forth.blk 3 99"),
-    (1, "notes.html is there already, and is no page of screens", "print forth.blk -o notes.html"),
+    (1, "notes.html already exists and is not a page of screens", "print forth.blk -o notes.html"),
     (2, "two numbers", "print forth.blk 3"),
 )
 
@@ -354,7 +354,7 @@ def in_circle(image: bytes) -> bytes:
 
 
 def check_refusals(tree: Tree) -> None:
-    """What isn't done is told with what and why; nothing is left behind, and nothing is changed."""
+    """Each refusal says what and why; it leaves no file and changes none."""
     room = tree.room
     (room / "notes.html").write_text("<p>mine</p>", encoding="utf-8")
     (room / "cut.img").write_bytes((room / "own.img").read_bytes()[:-1])
@@ -368,7 +368,7 @@ def check_refusals(tree: Tree) -> None:
         got, text = tree.tool(name, *(rest[0].split("|" if "|" in rest[0] else " ") if rest else []))
         tree.cases.same(f"the status of {words}", status, got)
         tree.cases.holds(words, said, text)
-    tree.cases.same("what is there behind refusals", before, listing(room))
+    tree.cases.same("the files after refusals", before, listing(room))
     status, text = tree.run(["bash", "-c", "ulimit -f 64; exec ./forth map kernel.img"])
     tree.cases.same(f"a disk that is full: {text}", (1, before), (status, listing(room)))
 
@@ -381,7 +381,7 @@ def kernel_words() -> List[str]:
 
 
 def check_maps(tree: Tree) -> None:
-    """The words of a map are the kernel's; its letters stand on the bytes; two images tell what changed."""
+    """The words of a map are the kernel's, its letters are on their bytes, and a map of two images shows what changed."""
     status, text = tree.tool("map", "kernel.img", "--text")
     rows = [line.split() for line in text.splitlines() if re.match(r"^  +\d+ +\d+ +\d+  \S", line) and " words" not in line]
     names = sorted(row[3] for row in rows if len(row) > 5 and row[0].isdigit())
@@ -443,7 +443,7 @@ def texts_of(path: pathlib.Path, kind: str) -> List[str]:
 
 
 def check_pages(tree: Tree) -> None:
-    """Each screen stands on its page as it is in its source; the cross reference is that which was made by hand."""
+    """Each screen is on its page as it is in its source; the cross reference is the one worked out by hand."""
     for words in (["new", "life.blk", "64"], ["screens", str(ROOT / "examples/life.txt"), "life.blk"]):
         tree.forth(*words)
     status, said = tree.tool("print", "life.blk")
@@ -472,7 +472,7 @@ def check_pages(tree: Tree) -> None:
 
 
 def check_shadows(tree: Tree) -> None:
-    """Shadows stand beside their screens, and a byte that is no text is a dot."""
+    """Shadows are beside their screens, and a byte that is not text is a dot."""
     (tree.room / "shadow.txt").write_text("% screen 33\n<b>& the shadow\n% screen 5\n32 SHADOW !\n", encoding="ascii")
     tree.forth("screens", "shadow.txt", "life.blk")
     data = bytearray((tree.room / "life.blk").read_bytes())
@@ -543,12 +543,12 @@ def answered(tree: Tree, number: int, *texts: str) -> str:
     for text in (str(ROOT / "teaching/course.txt"), *texts):
         tree.forth("screens", text, "c.blk")
     said = checked(tree, "c.blk", number)
-    tree.cases.holds(f"lesson {number}, what is shown behind CHECK", "1 2 + . 3  ok", said)
+    tree.cases.holds(f"lesson {number}, what is shown after CHECK", "1 2 + . 3  ok", said)
     return said
 
 
 def check_chosen(tree: Tree) -> None:
-    """Until a screen is chosen PUT writes into a blank one, not into the checkers; behind CHECK into the lesson's."""
+    """Until a screen is chosen, PUT writes into a blank one and not into the checkers; after CHECK it writes into the lesson's screen."""
     (tree.room / "c.blk").unlink(missing_ok=True)
     for words in (["new", "c.blk", "64"], ["screens", str(ROOT / "teaching/course.txt"), "c.blk"]):
         tree.forth(*words)
@@ -559,7 +559,7 @@ def check_chosen(tree: Tree) -> None:
 
 
 def check_course(tree: Tree) -> None:
-    """Each solution is right, each blank screen and each wrong answer is told; what is typed behind it is shown."""
+    """Each solution is right; each blank screen and each wrong answer is reported; what is typed after that is shown."""
     for number in range(1, 15):
         blank = "leaves nothing" if number == 1 else "isn't there yet"
         tree.cases.holds(f"lesson {number}, blank", blank, answered(tree, number))
