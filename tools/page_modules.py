@@ -7,13 +7,15 @@ import random
 import subprocess
 import sys
 import tempfile
-from typing import Dict, List, Tuple
+from typing import List, Tuple
 
 ROOT = pathlib.Path(__file__).resolve().parent.parent
 sys.path[:0] = [str(ROOT / "targets"), str(ROOT / "examples/embed")]
 
 import libraries  # noqa: E402
 import records  # noqa: E402
+
+import random_scripts  # noqa: E402
 
 BLOCKS, PAGE, ROOM, BATCH = 16, 1024, 131072, 25
 STOPS = {"halted": 0, "limit": 1, "room": 2, "typed": 3, "block": 4}
@@ -97,19 +99,11 @@ class Native:
             self.blocks[at:at + PAGE] = page.raw
 
 
-def script_of_embed():
-    """The function that makes a random script, of tools/check-embed."""
-    text = (ROOT / "tools/check-embed").read_text(encoding="utf-8")
-    names: Dict[str, object] = {"random": random}
-    exec(text[text.index("def script(dice):"):text.index("def shows_in_pieces")], names)  # pylint: disable=exec-used
-    return names["script"]
-
-
 def plans(count: int) -> List[Plan]:
     """Random scripts, each in random pieces with random limits."""
-    dice, script, made = random.Random(83), script_of_embed(), []
+    dice, made = random.Random(83), []
     for _ in range(count):
-        text, plan = script(dice), []
+        text, plan = random_scripts.script(dice), []
         while text:
             size = dice.randrange(1, 1 + len(text))
             plan.append((text[:size], dice.choice((7, 100, 5000, 100000))))
