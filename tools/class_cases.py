@@ -9,6 +9,8 @@ import subprocess
 from itertools import zip_longest
 from typing import Callable, Dict, List, NamedTuple
 
+import teaching_runs
+
 ROOT = pathlib.Path(__file__).resolve().parent.parent
 SIZE, WIDTH = 1024, 64
 SECONDS = 30  # of processor time for the whole class: so on an idle machine it takes no longer, even with one processor
@@ -134,7 +136,7 @@ def worked() -> float:
     return times.children_user + times.children_system
 
 
-def check_class(tree) -> None:  # type: ignore[no-untyped-def]
+def check_class(tree: teaching_runs.Tree) -> None:
     """All files give their row, in less than half a minute; the page and the text have the same."""
     room = tree.room / "class of files"
     room.mkdir()
@@ -166,7 +168,7 @@ def check_class(tree) -> None:  # type: ignore[no-untyped-def]
     check_forms(tree, room)
 
 
-def check_forms(tree, room: pathlib.Path) -> None:  # type: ignore[no-untyped-def]
+def check_forms(tree: teaching_runs.Tree, room: pathlib.Path) -> None:
     """The page, the text, and what is the same name in several folders."""
     made = (tree.room / "class.html").read_text(encoding="utf-8")
     tree.cases.same("rows of the page", len(PUPILS) + 2, made.count('<th scope="row">'))
@@ -184,7 +186,7 @@ def check_forms(tree, room: pathlib.Path) -> None:  # type: ignore[no-untyped-de
     tree.cases.holds("what is wrong", "1 endless L: Screen 21 never ends: the loop in L goes round more than 30000 times.", said)
 
 
-def check_course_options(tree) -> None:  # type: ignore[no-untyped-def]
+def check_course_options(tree: teaching_runs.Tree) -> None:
     """One lesson's hints and solutions at a time, the course's text, and pages of the lessons; what is not there is refused."""
     status, said = tree.tool("course", "--solutions", "3")
     tree.cases.same("the solutions of lesson 3", (0, solved()[23]), (status, said.splitlines()))

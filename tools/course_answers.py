@@ -3,6 +3,8 @@ import pathlib
 import re
 from typing import Iterator, List, NamedTuple
 
+import teaching_runs
+
 ROOT = pathlib.Path(__file__).resolve().parent.parent
 LIMIT = "60000000"  # ticks: an answer that never ends is stopped, and isn't right
 
@@ -37,7 +39,7 @@ def screen(answer: Answer, solved: List[List[str]]) -> str:
     return "\n".join([f"% screen {answer.lesson + 20}", "( An answer )", *lines]) + "\n"
 
 
-def check(tree) -> int:
+def check(tree: teaching_runs.Tree) -> int:
     """Checks all answers by the tree's program, and answers how many there are."""
     solved, count = solutions(), 0
     tree.run(["workbench/blocks", "teaching/course.txt", "course.blk"])

@@ -5,6 +5,7 @@
 
 FORTH and FORTH83 are the launchers, of the tree or installed, and SHARE is the folder with workbench and teaching.
 """
+import argparse
 import fcntl
 import os
 import pathlib
@@ -119,7 +120,14 @@ def check(forth: str, forth83: str, share: pathlib.Path, at_least: int = 100) ->
     return replay.wrong
 
 
+def main() -> int:
+    words = argparse.ArgumentParser(description="Replays docs/COURSE.md at a pseudo terminal, and reports what is shown differently.")
+    words.add_argument("forth", metavar="FORTH", help="the launcher forth")
+    words.add_argument("forth83", metavar="FORTH83", help="the launcher forth83")
+    words.add_argument("share", type=pathlib.Path, metavar="SHARE", help="the folder with workbench and teaching")
+    asked = words.parse_args()
+    return check(asked.forth, asked.forth83, asked.share)
+
+
 if __name__ == "__main__":
-    if len(sys.argv) != 4:
-        sys.exit("usage: tools/course_terminal.py FORTH FORTH83 SHARE")
-    sys.exit(check(sys.argv[1], sys.argv[2], pathlib.Path(sys.argv[3])))
+    sys.exit(main())

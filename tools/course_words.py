@@ -3,6 +3,8 @@ import pathlib
 import re
 from typing import Dict, List, Set, Tuple
 
+import teaching_cases
+
 ROOT = pathlib.Path(__file__).resolve().parent.parent
 LAST = 14  # the lesson after which nothing is checked
 LAUNCHED = {"LOAD", "CHECK", "SCR", "PUT", "LIST", "EDIT", "BYE"}  # of the editor and the course: in the first pages
@@ -51,7 +53,7 @@ def parts(text: str, heading: str) -> Dict[int, str]:
     return {int(number): body for number, body in re.findall(rf"^% {heading} (\d+)\n((?:(?!% ).*\n)*)", text, re.M)}
 
 
-def check_words(cases) -> None:  # type: ignore[no-untyped-def]
+def check_words(cases: teaching_cases.Cases) -> None:
     """Each word that a lesson needs is in its task, in the course's text, in a hint, and in the solutions."""
     screens = parts((ROOT / "teaching/course.txt").read_text(encoding="ascii"), "screen")
     hints = parts((ROOT / "teaching/hints.txt").read_text(encoding="ascii"), "lesson")
@@ -65,7 +67,7 @@ def check_words(cases) -> None:  # type: ignore[no-untyped-def]
             cases.same(f"where {word} of lesson {number} is missing", [], without)
 
 
-def check(cases) -> None:  # type: ignore[no-untyped-def]
+def check(cases: teaching_cases.Cases) -> None:
     """Nothing is used before it is explained; and a word that is taken out of the text is found."""
     check_words(cases)
     course = (ROOT / "docs/COURSE.md").read_text(encoding="utf-8")

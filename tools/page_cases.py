@@ -9,7 +9,7 @@ import subprocess
 import sys
 import tempfile
 import zlib
-from typing import Callable, List
+from typing import Callable
 
 from page_trials import Cases, Trial
 

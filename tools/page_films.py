@@ -25,7 +25,8 @@ STEPS = """page.film.made.filter((one) => one.word.name === %s)
   .map((one) => one.ip + " | " + one.values.map(signed).join(" ") + " | " + one.returns.join(" "))"""
 
 
-def debugged(program: pathlib.Path, image: pathlib.Path, kernel: pathlib.Path, room: pathlib.Path, word, source: str, line: str) -> List[str]:
+def debugged(program: pathlib.Path, image: pathlib.Path, kernel: pathlib.Path, room: pathlib.Path, word: str, source: str,
+             line: str) -> List[str]:
     """The steps as the program writes them, over the page's own image."""
     blocks, text, own = room / "film.blk", room / "film.txt", room / "film.img"
     text.write_text(f"% screen {SCREEN}\n{source}\n", encoding="ascii")

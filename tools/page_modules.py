@@ -15,6 +15,8 @@ sys.path[:0] = [str(ROOT / "targets"), str(ROOT / "examples/embed")]
 import libraries  # noqa: E402
 import records  # noqa: E402
 
+import browser as browsers  # noqa: E402
+import page_trials  # noqa: E402
 import random_scripts  # noqa: E402
 
 BLOCKS, PAGE, ROOM, BATCH = 16, 1024, 131072, 25
@@ -53,7 +55,7 @@ function runPlan(plan) {
 class Native:
     """The native library, loaded into this process."""
 
-    def __init__(self, library: pathlib.Path, image: bytes):
+    def __init__(self, library: pathlib.Path, image: bytes) -> None:
         import bench  # pylint: disable=import-outside-toplevel
 
         self.bench, self.image, self.calls = bench, image, ctypes.CDLL(str(library))
@@ -130,7 +132,7 @@ def plain_image(program: pathlib.Path, room: pathlib.Path) -> bytes:
     return (room / "plain.img").read_bytes()
 
 
-def compare(cases, browser, program: pathlib.Path, is_proved: bool, count: int) -> None:
+def compare(cases: page_trials.Cases, browser: browsers.Browser, program: pathlib.Path, is_proved: bool, count: int) -> None:
     """Runs the plans on both sides."""
     with tempfile.TemporaryDirectory() as name:
         room = pathlib.Path(name)

@@ -6,7 +6,7 @@ import re
 import subprocess
 import sys
 import time
-from typing import List
+from typing import Any, List
 
 import browser as browsers
 
@@ -38,7 +38,7 @@ class Trial:
         self.browser, self.page, self.cases = browser, page, cases
         self.must = cases.must
 
-    def value(self, expression: str):
+    def value(self, expression: str) -> Any:
         return self.browser.value(expression)
 
     def wait(self, expression: str, seconds: float = 10) -> bool:

@@ -23,7 +23,7 @@ LIMIT = 20
 class Session:
     """A program at a pseudo terminal."""
 
-    def __init__(self, command: List[str], room: pathlib.Path):
+    def __init__(self, command: List[str], room: pathlib.Path) -> None:
         self.shown, self.seen, self.status = b"", 0, -1
         self.pid, self.terminal = pty.fork()
         if self.pid == 0:
@@ -146,7 +146,7 @@ def check_bench(must: Must, place: Place, image: pathlib.Path, wanted: Optional[
 class Board:
     """The Forth of examples/board, in the emulator."""
 
-    def __init__(self, place: Place, program: pathlib.Path, image: pathlib.Path):
+    def __init__(self, place: Place, program: pathlib.Path, image: pathlib.Path) -> None:
         self.room, self.library = place.room / "board", place.library
         shutil.copytree(ROOT / "examples/board", self.room)
         (self.room / "screens.txt").write_bytes(BOARD_SCREENS)

@@ -66,7 +66,7 @@ def build(words: Sequence[object]) -> None:
 class Place:
     """A folder with the library for one target, and what is compiled over it."""
 
-    def __init__(self, target: str, room: pathlib.Path, is_proved: bool):
+    def __init__(self, target: str, room: pathlib.Path, is_proved: bool) -> None:
         self.target, self.room, self.runner = target, room / target, RUNNERS[target]
         self.room.mkdir()
         if target == "native":

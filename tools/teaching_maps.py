@@ -1,5 +1,6 @@
 """What is to be seen of maps: the user's words first, all of the window's width, lines that cross no text, both colors, and paper."""
 import browser as browsers
+import teaching_runs
 
 DRAWN = """document.querySelector(innerWidth < %d ? ".narrow" : ".wide")"""
 # The texts whose contrast with their background is below 4.5 to 1.
@@ -30,7 +31,7 @@ CROSSED = r"""(() => {
 })()"""
 
 
-def check_width(tree, one: browsers.Browser, name: str, narrow: int) -> None:
+def check_width(tree: teaching_runs.Tree, one: browsers.Browser, name: str, narrow: int) -> None:
     """The map is as wide as the window, and no line of a chain crosses a text."""
     for width in (390, 1366, 1920):
         one.size(width, 800)
@@ -42,7 +43,7 @@ def check_width(tree, one: browsers.Browser, name: str, narrow: int) -> None:
         tree.cases.same(f"texts of {name} that a line crosses on {width} columns", [], one.value(CROSSED % (DRAWN % narrow)))
 
 
-def check_order(tree, one: browsers.Browser) -> None:
+def check_order(tree: teaching_runs.Tree, one: browsers.Browser) -> None:
     """The words of the screens come before EXIT, which is the Forth's first; and on paper they are alone."""
     top = "[...document.querySelectorAll('.wide .word')].find((one) => one.firstChild.textContent.startsWith('%s,')).getBoundingClientRect().top"
     one.size(1366, 800)
@@ -55,7 +56,7 @@ def check_order(tree, one: browsers.Browser) -> None:
         tree.cases.same(f"pages of {name}", pages, (tree.room / "map.pdf").read_bytes().count(b"/Type /Page\n"))
 
 
-def check_colors(tree, one: browsers.Browser) -> None:
+def check_colors(tree: teaching_runs.Tree, one: browsers.Browser) -> None:
     """Texts differ enough from their background, in both colors."""
     for scheme in ("light", "dark"):
         one.prefers(color_scheme=scheme)
@@ -67,7 +68,7 @@ def check_colors(tree, one: browsers.Browser) -> None:
     one.prefers(color_scheme="light")
 
 
-def check(tree) -> None:
+def check(tree: teaching_runs.Tree) -> None:
     with browsers.Browser() as one:
         for name, narrow in (("map1-own.svg", 684), ("map1-kernel.svg", 684), ("map2-two.svg", 900)):
             check_width(tree, one, name, narrow)

@@ -3,6 +3,7 @@ import json
 from typing import Dict, List, NamedTuple
 
 import browser as browsers
+import teaching_runs
 
 SOURCES = r"""% screen 41
 ( Films that are looked at: words that call each other )
@@ -111,7 +112,7 @@ HIDDEN = r"""(() => {
 })()"""
 
 
-def prepare(tree) -> None:
+def prepare(tree: teaching_runs.Tree) -> None:
     """The films as files, view-NAME.html."""
     (tree.room / "views.txt").write_text(SOURCES, encoding="ascii")
     tree.forth("screens", "views.txt", "forth.blk")
@@ -120,7 +121,7 @@ def prepare(tree) -> None:
         (tree.room / "film.html").rename(tree.room / f"view-{name}.html")
 
 
-def check_windows(tree, one: browsers.Browser) -> Dict[str, List[int]]:
+def check_windows(tree: teaching_runs.Tree, one: browsers.Browser) -> Dict[str, List[int]]:
     """In each window nothing of a step is hidden; how many steps were looked at, and how many weren't right."""
     found: Dict[str, List[int]] = {}
     one.prefers(reduced_motion="reduce")
@@ -137,7 +138,7 @@ def check_windows(tree, one: browsers.Browser) -> Dict[str, List[int]]:
     return found
 
 
-def check_contrast(tree, one: browsers.Browser) -> None:
+def check_contrast(tree: teaching_runs.Tree, one: browsers.Browser) -> None:
     """Texts of films differ enough from their background, in both colors and in all views; controls and lists have names."""
     one.call("Accessibility.enable")
     for scheme in ("light", "dark"):
@@ -157,7 +158,7 @@ SAID = "part('said').textContent"
 TOPS = "[...document.querySelectorAll('#data li[data-cell]')].map((one) => one.firstChild.data)"
 
 
-def check_remote(tree, one: browsers.Browser) -> None:
+def check_remote(tree: teaching_runs.Tree, one: browsers.Browser) -> None:
     """A presenter's remote, the space bar, and what a screen reader hears."""
     one.open(tree.room / "view-GCD.html")
     one.press("PageDown", "PageDown", "PageUp")
@@ -179,7 +180,7 @@ def check_remote(tree, one: browsers.Browser) -> None:
     tree.cases.same("whether the space bar on a button presses that", "play", one.value("part('play').textContent"))
 
 
-def check_scrolled(tree, one: browsers.Browser) -> None:
+def check_scrolled(tree: teaching_runs.Tree, one: browsers.Browser) -> None:
     """Keys scroll a box that has the focus and doesn't fit, and leave the step."""
     one.size(1366, 650)
     one.open(tree.room / "view-NUMERAL.html")
@@ -192,7 +193,7 @@ def check_scrolled(tree, one: browsers.Browser) -> None:
     tree.cases.same("the step after Page Down in a box that fits", "step 2 of 25", one.value(COUNT))
 
 
-def check_motion(tree, one: browsers.Browser) -> None:
+def check_motion(tree: teaching_runs.Tree, one: browsers.Browser) -> None:
     """SWAP's cells move, each from the other's place; who prefers reduced motion sees none of it."""
     moving = "[...document.querySelectorAll('#data li')].map((one) => one.getAnimations().map((it) => it.effect.getKeyframes()[0].transform).join())"
     one.open(tree.room / "view-GCD.html")
@@ -208,7 +209,7 @@ def check_motion(tree, one: browsers.Browser) -> None:
     one.prefers(reduced_motion="reduce")
 
 
-def check_time(tree, one: browsers.Browser) -> None:
+def check_time(tree: teaching_runs.Tree, one: browsers.Browser) -> None:
     """A click on a column of the stack over time goes to its step; the column has that step's stack and the next word."""
     one.open(tree.room / "view-FACT.html")
     one.press("t")
@@ -250,7 +251,7 @@ ON_PAPER = r"""(() => {
 })()"""
 
 
-def check_paper(tree, one: browsers.Browser) -> None:
+def check_paper(tree: teaching_runs.Tree, one: browsers.Browser) -> None:
     """On A4 paper each of the first 150 steps has its word, the top of the stack and the output, and nothing is cut off."""
     one.call("Emulation.setEmulatedMedia", media="print")
     one.size(695, 1000)
@@ -261,7 +262,7 @@ def check_paper(tree, one: browsers.Browser) -> None:
     one.call("Emulation.setEmulatedMedia", media="")
 
 
-def check(tree) -> None:
+def check(tree: teaching_runs.Tree) -> None:
     """All of it, in a browser."""
     prepare(tree)
     with browsers.Browser() as one:

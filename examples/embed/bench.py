@@ -3,9 +3,11 @@
 
 LIBRARY is libforth83.so, which the Makefile here makes. Block 1 is the instrument, and the others are kept in memory.
 """
+import argparse
 import ctypes
 import os
 import sys
+from typing import Tuple
 
 BLOCKS, INSTRUMENT, TICKS, PAGE, ROOM = 16, 1, 1000000, 1024, 65536
 READ = 3
@@ -44,7 +46,7 @@ class End(ctypes.Structure):
 class Bench:
     """A Forth over the instrument."""
 
-    def __init__(self, library, image):
+    def __init__(self, library: str, image: bytes) -> None:
         self.calls = ctypes.CDLL(library)
         self.machine = Machine()
         self.blocks = [bytearray(PAGE) for _ in range(BLOCKS)]
@@ -52,28 +54,28 @@ class Bench:
         self.must(self.calls.forth83_load(image, ctypes.c_size_t(len(image)), BLOCKS, ctypes.byref(self.machine)), "the image")
 
     @staticmethod
-    def must(status, what):
-        """Ends the program where a call did nothing."""
+    def must(status: int, what: str) -> None:
+        """Ends the program if a call was refused."""
         if status != 0:
             sys.exit(f"bench: {what}: status {status}")
 
-    def enter(self, name):
+    def enter(self, name: str) -> None:
         """Enters the word of that name."""
         machine, word, spelled = ctypes.byref(self.machine), ctypes.c_uint16(), os.fsencode(name)
         self.must(self.calls.forth83_find(machine, spelled, ctypes.c_size_t(len(spelled)), ctypes.byref(word)), name)
         self.must(self.calls.forth83_enter(machine, word), name)
 
-    def measure(self, page):
+    def measure(self, page: bytearray) -> None:
         """The instrument: its first cell counts the measurements, its second is twice the output set in the third."""
         self.measured += 1
         value = 2 * int.from_bytes(page[4:6], "little")
         page[0:4] = (self.measured % 65536).to_bytes(2, "little") + (value % 65536).to_bytes(2, "little")
 
-    def serve(self):
-        """Serves the block that the machine asks."""
+    def serve(self) -> None:
+        """Serves the block that the machine asks for."""
         machine, block, size = ctypes.byref(self.machine), self.machine.asked, ctypes.c_size_t(PAGE)
         if block >= BLOCKS:
-            self.must(self.calls.forth83_failed(machine), "a block that isn't there")
+            self.must(self.calls.forth83_failed(machine), "a block that does not exist")
         elif self.machine.asks == READ:
             if block == INSTRUMENT:
                 self.measure(self.blocks[block])
@@ -84,8 +86,8 @@ class Bench:
             self.blocks[block][:] = page.raw
             self.must(self.calls.forth83_written(machine), "a block that is kept")
 
-    def type(self, line):
-        """Types a line: what it shows, and whether the machine goes on."""
+    def type(self, line: bytes) -> Tuple[bytes, bool]:
+        """Types a line: what it shows, and whether the machine continues."""
         before = bytes(self.machine)
         room = ctypes.create_string_buffer(2 * ROOM)
         left, output = TICKS, b""
@@ -109,20 +111,24 @@ class Bench:
                 return output, end.stop == TYPED
 
 
-def main():
+def main() -> int:
     """Enters the word, if one is named, and types each line of standard input."""
-    if len(sys.argv) not in (3, 4):
-        sys.exit("usage: bench.py LIBRARY IMAGE [WORD] < LINES")
-    with open(sys.argv[2], "rb") as file:
-        bench = Bench(sys.argv[1], file.read())
-    if len(sys.argv) == 4:
-        bench.enter(sys.argv[3])
+    words = argparse.ArgumentParser(description="A test bench: a Forth over an instrument in block 1. It types the lines of standard input.")
+    words.add_argument("library", metavar="LIBRARY", help="libforth83.so")
+    words.add_argument("image", metavar="IMAGE", help="an image file")
+    words.add_argument("word", metavar="WORD", nargs="?", help="a word to enter first")
+    asked = words.parse_args()
+    with open(asked.image, "rb") as file:
+        bench = Bench(asked.library, file.read())
+    if asked.word is not None:
+        bench.enter(asked.word)
     for line in sys.stdin.buffer:
         output, goes = bench.type(line)
         sys.stdout.buffer.write(output)
         if not goes:
             break
+    return 0
 
 
 if __name__ == "__main__":
-    main()
+    sys.exit(main())
