@@ -6,12 +6,14 @@ import re
 
 FOLDER = os.path.join(os.path.dirname(os.path.dirname(os.path.dirname(os.path.realpath(__file__)))), "dialects")
 DIALECTS = ("fig.txt", "f79.txt", "f83.txt", "poly.txt")
+HIDDEN = re.compile(r"^: HELPERS \( -- \) (.*?) ;$", re.M | re.S)
 MADE = re.compile(r"(?:^|\s)(?::|2?VARIABLE|CREATE|2?CONSTANT) +(\S+)")
 
 
 def names_of(text: str) -> set[str]:
-    """The words that a dialect's text makes."""
-    return set(MADE.findall(text))
+    """The words that a dialect's text makes, except those that it hides: its HELPERS."""
+    hidden = HIDDEN.search(text)
+    return set(MADE.findall(text)) - {"HELPERS", *(hidden[1].split() if hidden else ())}
 
 
 def having(name: str, folder: str = FOLDER) -> list[str]:
