@@ -13,7 +13,8 @@ LATER = ("f79", "f83", "poly")
 BEFORE_83 = ("fig", "f79", "poly")
 
 # What systems had beyond these, each with the dialect that it goes back to.
-SYSTEMS = {"mms": ("MMSFORTH", "f79"), "hs": ("HS/FORTH", "f79"), "volks": ("volksFORTH", "f83"), "rsc": ("RSC-FORTH", "fig")}
+SYSTEMS = {"mms": ("MMSFORTH", "f79"), "mvp": ("MVP-FORTH", "f79"), "hs": ("HS/FORTH", "f79"), "volks": ("volksFORTH", "f83"),
+           "rsc": ("RSC-FORTH", "fig")}
 # Those of their words that no other system is likely to have.
 OWN_WORDS = set("ONLYFORTH \\NEEDS CASE? STOP? BANKC@ BANKC! BANKEXECUTE BANKEEC! AUTOSTART NCASE ACASE CASEND PTC $\" VAR".split())
 # Words of one glossary that programs of every system had from listings and neighbors: they say nothing.
@@ -22,7 +23,7 @@ C, HEX BL 0 1 2 3 -TRAILING .R THEN END AGAIN ERASE BLANK DUMP TEXT LINE EDITOR 
 ;CODE END-CODE ASSEMBLER USER COPY DELETE INSERT SEARCH PRINT SET NEXT POP PUT PUSH FIRST LIMIT FILE SHOW STATUS SPACES QUERY ABORT
 FORGET DP FENCE LAST LINK LENGTH START STOP FORMAT SOURCE SELECT INPUT OUTPUT PAGE MS H. D.R DABS UP DEFAULT DOWN RUN BINARY COL ROW LEN
 ASC SCREEN K TAB GET HIS STRING RELOAD SINGLE PAUSE CLOSE OPEN WHERE POINT RESET CRT EMPTY USE IS EQ LINK NEST PLACE SP@ S0 COLD P@ P! PC@
-PC! LABEL WITHIN M+ M* M/ S->D WORDS VLIST L/S C/L FIND CREATE .ID (") ," " TASK ENTRY LOCAL WAKE SLEEP""".split())
+PC! LABEL WITHIN M+ M* M/ S->D WORDS VLIST L/S C/L FIND CREATE .ID (") ," " TASK ENTRY LOCAL WAKE SLEEP CLEAR CHANGE""".split())
 # What stronger and weaker signs of words say, where a glossary alone doesn't: who has them, how much each says, and the words.
 SIGNS: List[Tuple[Tuple[str, ...], int, str]] = [
     (("fig",), 3, "-DUP MINUS DMINUS -FIND ID. !CSP ?CSP ?PAIRS U/ R# +ORIGIN .LINE (LINE) D+- +- WIDTH DLITERAL ?COMP ?EXEC CFA <BUILDS \
@@ -120,9 +121,8 @@ def left_out(name: str) -> Dict[str, str]:
     found = {}
     for reason, names in re.findall(r'^LEAVES ," (.*?)"\n,"  (.*?) "$', text, re.M | re.S):
         found.update(dict.fromkeys(names.split(), reason))
-    told = re.search(r'^: NO .*\n +ABORT"  (.*?)"', text, re.M)
-    if told:
-        found.update(dict.fromkeys(re.findall(r"\bNO (\S+)", text[told.end():]), told[1]))
+    for reason, names in re.findall(r'^BECAUSE (.*?)"\n(.*?)(?=^BECAUSE|^TOOLS|\Z)', text, re.M | re.S):
+        found.update(dict.fromkeys(re.findall(r"(?<!\S)NO (\S+)", names), reason))
     return found
 
 
