@@ -16,7 +16,7 @@ import wild  # noqa: E402
 ROW = re.compile(r"^\| `(\S+)` \| `([^`]*)` \| (?:yes)? ?\| (.+) \|$", re.M)
 # Chapters of docs/WORDS.md whose words the page doesn't need: it edits lines and screens itself, and has no host and no files.
 CHAPTERS_LEFT_OUT = (
-    "Editing the line", "The screen editor", "Lines from a pipe", "Starting", "The line editor", "The host", "Text files", "Searching earlier lines",
+    "Editing the line", "The screen editor", "Lines from a pipe", "Starting", "The line editor", "Text files", "Dialects",
 )  # fmt: skip
 SCREENS, PAGE, WIDTH = 64, 1024, 64
 EXAMPLES = ("kiln", "life", "gold", "sieve")
@@ -106,18 +106,13 @@ def body_of_lesson(body: str) -> str:
     return "".join(pieces).replace("</pre><pre>", "\n")
 
 
-def inner_words(start: str) -> List[str]:
-    """The words that the tools keep in the vocabulary TOOLS, which nobody types."""
-    return " ".join(re.findall(r"^: INNER\d (.*?) ;$", start, re.M | re.S)).split()
-
-
-def manual(words: str, start: str) -> List[List[str]]:
+def manual(words: str) -> List[List[str]]:
     """What docs/WORDS.md says of each word: its name, stack effect, chapter and description."""
-    inner, made = set(inner_words(start)), {}
+    made = {}
     for part in re.split(r"^### \d+\. ", words, flags=re.M)[1:]:
         chapter = part.partition("\n")[0].partition(":")[0]
         if not chapter.startswith(CHAPTERS_LEFT_OUT):
-            made.update({name: [name, effect, chapter, inline(says)] for name, effect, says in ROW.findall(part) if name not in inner})
+            made.update({name: [name, effect, chapter, inline(says)] for name, effect, says in ROW.findall(part)})
     return list(made.values())
 
 

@@ -1,4 +1,4 @@
-"""What docs/WORDS.md says of each word, its stack effect and a sentence, and what the Forth says of each fault."""
+"""What docs/WORDS.md and workbench/INNER.md say of each word, its stack effect and a sentence, and what the Forth says of each fault."""
 import re
 from typing import Dict, List, Tuple
 
@@ -10,13 +10,18 @@ FAULT = re.compile(r'\b(\d+) = IF \." ([^"]*)"')
 
 
 def entries() -> Dict[bytes, List[Tuple[str, str]]]:
-    """The rows of each name, in the order of the page: the kernel's, then the tools'."""
+    """The rows of each name, in the order of the definitions: the kernel's, then the tools' inner words, then their other words."""
+    kernel, _, tools = text_of("docs/WORDS.md").partition("\n## The tools\n")
     found = {}
-    page = program.ROOT / "docs/WORDS.md"
-    if page.is_file():
-        for name, effect, says in ROW.findall(page.read_text(encoding="utf-8")):
-            found.setdefault(name.encode(), []).append((effect, says.replace("`", "")))
+    for name, effect, says in ROW.findall(f"{kernel}\n{text_of('workbench/INNER.md')}\n{tools}"):
+        found.setdefault(name.encode(), []).append((effect, says.replace("`", "")))
     return found
+
+
+def text_of(name: str) -> str:
+    """The text of a page, empty if there is no such page."""
+    page = program.ROOT / name
+    return page.read_text(encoding="utf-8") if page.is_file() else ""
 
 
 def fault(number: int) -> str:

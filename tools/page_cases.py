@@ -46,11 +46,10 @@ FIRST = ('<h2>1. First <code>lines</code></h2><p>Text with <strong>weight</stron
 WORDS = """### 1. The data stack
 
 | `DUP` | `( x -- x x )` |  | Copies the `top`. |
-| `INSIDE` | `( -- )` |  | For others. |
 
 ### 19. Editing the line that you type
 
-| `STROKE` | `( k -- )` |  | One key. |
+| `EXPECT` | `( a n -- )` |  | A line. |
 """
 
 
@@ -61,7 +60,7 @@ def check_contents(cases: Cases) -> None:
     helped = contents.lessons(LESSONS, contents.hints("% lesson 1\n+: a < b\n.: last\n% lesson 2\nno\n"))[0]["html"]
     wanted = FIRST + "<details><summary>Hints</summary><ul><li>+: a &lt; b</li><li>.: last</li></ul></details>"
     cases.must(helped == wanted, f"a lesson with hints: {helped}")
-    words = contents.manual(WORDS, ": INNER1 ( -- ) INSIDE\n  OTHER ;")
+    words = contents.manual(WORDS)
     cases.must(words == [["DUP", "( x -- x x )", "The data stack", "Copies the <code>top</code>."]], f"the manual: {words}")
     block = "% AT".ljust(64) + " " * 64 + "B".ljust(896)
     cases.must(contents.disk_of_blocks((" " * 1024 + block).encode()) == {"count": 2, "text": "% screen 1\n%% AT\n\nB\n"}, "a disk of text")

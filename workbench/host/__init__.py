@@ -9,7 +9,7 @@
     interruption.py   what ^C does, until the Forth has answered it
     window.py         where a typed line begins after the window got another size
     history.py        lines that were typed in earlier sessions
-    manual.py         what docs/WORDS.md says of a word
+    manual.py         what docs/WORDS.md or workbench/INNER.md says of a word
     sources.py        the system's own screens, for VIEW and LOCATE, and the overlay for DEBUG
     dialects.py       which dialects have a word that is unknown
     keeping.py        changed screens that the Forth could not write itself

@@ -1,10 +1,13 @@
-"""What docs/WORDS.md says of a word, for HELP."""
+"""What docs/WORDS.md, or workbench/INNER.md, says of a word, for HELP."""
 from __future__ import annotations
 
 import os
 import re
 
-PAGE = os.path.join(os.path.dirname(os.path.dirname(os.path.dirname(os.path.realpath(__file__)))), "docs", "WORDS.md")
+ROOT = os.path.dirname(os.path.dirname(os.path.dirname(os.path.realpath(__file__))))
+# The words that users type; then the inner words of the tools.
+PAGES = (os.path.join(ROOT, "docs", "WORDS.md"), os.path.join(ROOT, "workbench", "INNER.md"))
+HEADING = re.compile(r"^### \d+\. (.+)$|^## (\S+\.txt): ")
 ROW = re.compile(r"^\| `([^ ]+)` \| `([^`]*)` \| (yes)? ?\| (.+) \|$")
 
 
@@ -17,8 +20,9 @@ def entries(page: str, name: str) -> list[str]:
     """What the page says of a word, as it is typed or in capitals: an entry for each section that has it."""
     found, section = [], ""
     for line in page.splitlines():
-        if line.startswith("### "):
-            section = line[4:].split(". ", 1)[-1]
+        heading = HEADING.match(line)
+        if heading:
+            section = heading.group(1) or f"the inner words of workbench/{heading.group(2)}"
         row = ROW.match(line)
         if row and row.group(1) in (name, name.upper()):
             immediate = ", immediate" if row.group(3) else ""
@@ -29,12 +33,14 @@ def entries(page: str, name: str) -> list[str]:
 def help_for(name: str) -> str:
     """What HELP shows for a word; where the manual is if there is none."""
     if not name:
-        return f"The manual is in {os.path.dirname(PAGE)}"
-    try:
-        with open(PAGE, encoding="utf-8") as page:
-            found = entries(page.read(), name)
-    except OSError as error:
-        return f"cannot read {PAGE}: {error.strerror}"
+        return f"The manual is in {os.path.dirname(PAGES[0])}"
+    found = []
+    for path in PAGES:
+        try:
+            with open(path, encoding="utf-8") as page:
+                found += entries(page.read(), name)
+        except OSError as error:
+            return f"cannot read {path}: {error.strerror}"
     if not found:
         return f"docs/WORDS.md has no word {name}; WORDS {name} lists the names that contain it"
     return "\n".join(found)
