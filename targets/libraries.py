@@ -1,7 +1,8 @@
 """The targets of the machine's C library, and how the library is made for each of them: see `./build-library --help`.
 
-The library's LLVM text (lowering.py) is rewritten for the target (retarget.py), and the Rattle toolchain's own clang compiles it. So
-a library needs no other compiler; only programs that use it do.
+The Rattle toolchain itself compiles a proved library for Linux on x86-64 and on ARM of 64 bits. For any other target the library's
+LLVM text (lowering.py) is rewritten (retarget.py), and the toolchain's own clang compiles it. So a library needs no other compiler;
+only programs that use it do.
 """
 import concurrent.futures
 import hashlib
@@ -21,16 +22,17 @@ STACK = 1 << 20
 
 
 class Target(NamedTuple):
-    """A target: its triple, the options of clang for it, and what it is in words."""
+    """A target: its triple, the options of clang for it, what it is in words, and whether the toolchain compiles a proved library for it."""
 
     triple: str
     options: Sequence[str]
     what: str
+    is_own: bool = False
 
 
 TARGETS: Dict[str, Target] = {
     "x86_64-linux": Target("x86_64-unknown-linux-gnu", ["-O3", "-fPIC", "-march=x86-64"], "Linux on x86-64 processors, any of them"),
-    "aarch64-linux": Target("aarch64-unknown-linux-gnu", ["-O3", "-fPIC"], "Linux on ARM processors of 64 bits"),
+    "aarch64-linux": Target("aarch64-unknown-linux-gnu", ["-O3", "-fPIC"], "Linux on ARM processors of 64 bits", True),
     "armv7-linux": Target("armv7-unknown-linux-gnueabihf", ["-O3", "-fPIC"], "Linux on ARM processors of 32 bits, with hard floats"),
     "riscv64-linux": Target("riscv64-unknown-linux-gnu", ["-O3", "-fPIC", "-march=rv64gc", "-mabi=lp64d"], "Linux on RISC-V of 64 bits"),
     "x86_64-windows": Target("x86_64-w64-windows-gnu", ["-O3", "-march=x86-64"], "Windows, for MinGW's compilers"),
@@ -55,6 +57,8 @@ def sum_of(name: str, text: str) -> str:
 
 def compiled(room: pathlib.Path, name: str, is_proved: bool, takes_kept: bool = True) -> pathlib.Path:
     """The library for the target as an object file; one that was made of the same before is taken."""
+    if is_proved and TARGETS[name].is_own:
+        return own(room, name)
     text, made = lowering.text_of_library(is_proved), room / f"{name}.o"
     kept = lowering.KEPT / f"{name}-{'proved' if is_proved else 'unproved'}.o"
     total = sum_of(name, text)
@@ -70,6 +74,18 @@ def compiled(room: pathlib.Path, name: str, is_proved: bool, takes_kept: bool = 
         kept.with_suffix(".sum").write_text(total + hashlib.sha256(kept.read_bytes()).hexdigest(), encoding="ascii")
     except OSError:
         pass
+    return made
+
+
+def own(room: pathlib.Path, name: str) -> pathlib.Path:
+    """The proved library that the toolchain compiles for the target, with the heap's calls, as one object file."""
+    target, made = TARGETS[name], room / f"{name}.o"
+    library, heap, text = room / f"{name}-library.a", room / f"{name}-heap.o", room / f"{name}-heap.ll"
+    library.write_bytes(lowering.archive_for(target.triple))
+    text.write_text(retarget.heap(64), encoding="utf-8")
+    called([tool("clang"), f"--target={target.triple}", *target.options, "-Wno-override-module", "-x", "ir", text.name, "-c", "-o", str(heap.resolve())],
+           cwd=room)
+    called([tool("ld.lld"), "-r", "--whole-archive", str(library), str(heap), "-o", str(made)])
     return made
 
 

@@ -1,4 +1,4 @@
-"""Makes the LLVM text of the machine's C library, which all libraries for other targets and the page's module are made from.
+"""Makes the LLVM text of the machine's C library, which the libraries for other targets and the page's module are made from.
 
 The Rattle toolchain lowers the library to one LLVM module. With proofs `rt lib` does that; without them `rt try` does it, for a
 program that calls each function of the library once. Both times `rt` is one of links to the toolchain's (workbench/kit) whose clang
@@ -202,16 +202,42 @@ def text_of_library(is_proved: bool) -> str:
     # The first line names a temporary file.
     text = re.sub(r"\A; ModuleID = .*\n", "", text)
     if is_proved:
-        keep("proved.a", (ROOT / "crates/forth83_c/out/libforth83_c.a").read_bytes())
+        keep("proved.a", built_archive().read_bytes())
     keep(name, text.encode())
     return text
+
+
+def built_archive() -> pathlib.Path:
+    """Where `rt lib` puts the library."""
+    return ROOT / "crates/forth83_c/out/libforth83_c.a"
 
 
 def archive_of_toolchain() -> bytes:
     """The proved library as the toolchain makes it for this computer, with nothing rewritten."""
     text_of_library(True)
     found = kept_content("proved.a")
-    return (ROOT / "crates/forth83_c/out/libforth83_c.a").read_bytes() if found is None else found
+    return built_archive().read_bytes() if found is None else found
+
+
+def archive_for(triple: str) -> bytes:
+    """The proved library as the toolchain makes it for another target of its own. What it makes for this computer stays in its place."""
+    name = f"proved-{triple}.a"
+    found = kept_content(name)
+    if found is not None:
+        return found
+    native = archive_of_toolchain()
+    say(f"proving the machine's library for {triple}, about half a minute once its crates are proved")
+    try:
+        done = subprocess.run(["rt", "lib", "--target", triple], cwd=ROOT / "crates/forth83_c", stdin=subprocess.DEVNULL,
+                              stdout=subprocess.PIPE, stderr=subprocess.STDOUT, text=True, errors="replace", check=False)
+        if done.returncode:
+            raise Refused(f"the library could not be proved and built for {triple}; {kept_log(done.stdout)}")
+        made = built_archive().read_bytes()
+    finally:
+        built_archive().parent.mkdir(exist_ok=True)
+        built_archive().write_bytes(native)
+    keep(name, made)
+    return made
 
 
 def layout_of(triple: str) -> str:
