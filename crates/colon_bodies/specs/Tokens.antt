@@ -1,5 +1,5 @@
 -- Words of a body, looked up, and what each writes.
-use Rattle.std.specs.Prelude.{ℕ, Bool, true, false, ◌+◌, List, [], ◌∷◌, length, ◌<◌, Option, Some, None}
+use Rattle.std.specs.Prelude.{ℕ, Bool, if◌then◌else◌, ◌+◌, List, [], ◌∷◌, length, ◌<◌, Option, Some, None}
 use Rattle.memory.specs.Controls.{number_of}
 use Rattle.memory.specs.declared.controls.Control.TheVariants as ctl
 
@@ -27,12 +27,10 @@ pub data Token : Type 0 where
 
 -- the controls that show a text or abort with it, and that end a loop
 abbrev pub text_control : (aborts : Bool) → ℕ
-text_control false = number_of ctl.ShowText
-text_control true = number_of ctl.AbortText
+text_control aborts = number_of (if aborts then ctl.AbortText else ctl.ShowText)
 
 abbrev pub loop_control : (plus : Bool) → ℕ
-loop_control false = number_of ctl.Loop
-loop_control true = number_of ctl.PlusLoop
+loop_control plus = number_of (if plus then ctl.PlusLoop else ctl.Loop)
 
 -- the control primitive that a word writes
 abbrev pub control : Token → Option ℕ
@@ -53,27 +51,19 @@ control DOES = Some (number_of ctl.Does)
 control SEMI = Some (number_of ctl.Exit)
 control _ = None
 
--- how many bytes each word writes, wherever it is
+-- how many bytes each word writes, wherever it is: those below, and otherwise a control's cell and one cell after it
 abbrev pub laid_by : Token → ℕ
 laid_by (NAME w) = 2
-laid_by (NUMBER n) = 4
 laid_by (DOUBLE n) = 8
 laid_by TICK = 2
 laid_by FORCE = 0
 laid_by COMPILE = 2
-laid_by IF = 4
-laid_by ELSE = 4
 laid_by THEN = 0
 laid_by BEGIN = 0
-laid_by UNTIL = 4
-laid_by AGAIN = 4
-laid_by WHILE = 4
-laid_by REPEAT = 4
-laid_by DO = 4
-laid_by (LOOP k) = 4
 laid_by (TEXT k bs) = 3 + length bs
 laid_by DOES = 2
 laid_by SEMI = 2
+laid_by _ = 4
 
 abbrev pub laid : List Token → ℕ
 laid [] = 0

@@ -16,10 +16,6 @@ no_device : (limit : ℕ) (d : Disk) (from to screen offset : ℕ) → AllReadab
 no_device limit d from to screen offset all h = omega (arith, all, h.0, h.1)
 
 -- if all screens can be read, their words are all words
-of_all : (limit : ℕ) (d : Disk) (from to screen offset : ℕ) (cause : Cause) → AllReadable d from to →
-    IsFault limit (all_placed (source_of d from to)) to screen offset cause → IsFault limit (all_placed (readable_words d from to)) to screen offset cause
-of_all limit d from to screen offset cause all = subst (λ n. IsFault limit (all_placed (source_words from (screens d from n))) to screen offset cause) (sym all)
-
 to_all : (limit : ℕ) (d : Disk) (from to screen offset : ℕ) (cause : Cause) → AllReadable d from to →
     IsFault limit (all_placed (readable_words d from to)) to screen offset cause → IsFault limit (all_placed (source_of d from to)) to screen offset cause
 to_all limit d from to screen offset cause all = subst (λ n. IsFault limit (all_placed (source_words from (screens d from n))) to screen offset cause) all
@@ -37,8 +33,8 @@ device_and limit d from to p o q n a h g =
 of_words : (limit : ℕ) (d : Disk) (from to screen offset : ℕ) (cause : Cause) → cause ≢ c.Device → IsWrong limit d from to screen offset cause → IsFault limit (all_placed (readable_words d from to)) to screen offset cause
 of_words limit d from to screen offset c.OutOfMemory e h = tt
 of_words limit d from to screen offset c.Device e h = absurd (e refl)
-of_words limit d from to screen offset c.EndsInside e h = of_all limit d from to screen offset c.EndsInside h.0 h.1
-of_words limit d from to screen offset c.NoBoot e h = of_all limit d from to screen offset c.NoBoot h.0 h.1
+of_words limit d from to screen offset c.EndsInside e h = h.1
+of_words limit d from to screen offset c.NoBoot e h = h.1
 of_words limit d from to screen offset cause e h = h
 
 pub one_refusal : (limit : ℕ) (d : Disk) (from to p o q n : ℕ) (a b : Cause) → IsWrong limit d from to p o a → IsWrong limit d from to q n b → IsSameFault p o a q n b

@@ -27,7 +27,7 @@ use Rattle.image_builder.specs.Meanings.{look, meaning}
 use Rattle.image_builder.specs.Stages.{Stage, Whole, Counted, Due, Chosen, Inside, body_at}
 use Rattle.image_builder.specs.Faults.{AtItem, AtNumber, AtName, AtVocabulary, InBody, Applies, IsFault, IsGood}
 use Rattle.image_builder.specs.State.{IsBuilt}
-use Rattle.image_builder.specs.Sources.{AllReadable, AsksFor, Done, IsRefused, IsBuiltOf, IsFaultless, IsWrong, after_reads, readable, screens, source_of}
+use Rattle.image_builder.specs.Sources.{AllReadable, AsksFor, Done, IsRefused, IsBuiltOf, IsFaultless, IsWrong, after_reads, readable, readable_words, screens, source_of}
 use Rattle.image_builder.specs.Reading.{Stopped, TookAll, Why, refusal, settled}
 use Rattle.image_builder.proofs.Looping.{IsOfWord, sense_cause}
 
@@ -116,13 +116,18 @@ stopped_refused {limit} d from to (stop.Word f) done h =
     let r = settled f.screen f.offset f.cause from in
     as_refused d from to h.k r.screen r.offset r.cause done h.few h.disk (word_answer {limit = limit} d from to h.k f.screen f.offset f.cause done b.0 b.1 b.2 b.3)
 
+-- if all screens can be read, a fault of all words is one of the words that can be read
+of_readable : (limit : ℕ) (d : Disk) (from to screen offset : ℕ) (cause : Cause) → AllReadable d from to →
+    IsFault limit (all_placed (source_of d from to)) to screen offset cause → IsFault limit (all_placed (readable_words d from to)) to screen offset cause
+of_readable limit d from to screen offset cause all = subst (λ n. IsFault limit (all_placed (source_words from (screens d from n))) to screen offset cause) (sym all)
+
 -- the end of all screens, as a refusal
 end_answer : (limit : ℕ) (d : Disk) (from to screen offset : ℕ) (cause : Cause) (done : Done) → AllReadable d from to → done.after ≡ done.before → (cause ≡ c.EndsInside) ⊎ (cause ≡ c.NoBoot) ⊎ (cause ≡ c.OutOfMemory) →
     IsFault limit (all_placed (source_of d from to)) to screen offset cause →
     IsAnswer limit d from to (to + 1 - from) (settled screen offset cause from).screen (settled screen offset cause from).offset (settled screen offset cause from).cause done
 end_answer limit d from to screen offset c.OutOfMemory done t q o h = ((refl, refl), q)
-end_answer limit d from to screen offset c.EndsInside done t q o h = ((t, h), (refl, q))
-end_answer limit d from to screen offset c.NoBoot done t q o h = ((t, h), (refl, q))
+end_answer limit d from to screen offset c.EndsInside done t q o h = ((t, of_readable limit d from to screen offset c.EndsInside t h), (refl, q))
+end_answer limit d from to screen offset c.NoBoot done t q o h = ((t, of_readable limit d from to screen offset c.NoBoot t h), (refl, q))
 end_answer limit d from to screen offset _ done t q (inl o) h = cc
 end_answer limit d from to screen offset _ done t q (inr (inl o)) h = cc
 end_answer limit d from to screen offset _ done t q (inr (inr o)) h = cc

@@ -34,11 +34,10 @@ item_words (Then t ws i) = item_words t ++ ws
 
 -- sizes and addresses
 abbrev pub kind_size : Kind → ℕ
-kind_size (Primitive n) = 0
 kind_size (Constant n) = 2
 kind_size Variable = 2
-kind_size Create = 0
 kind_size Vocabulary = 10
+kind_size _ = 0
 
 -- a header up to its code field
 abbrev pub head_size : Place → ℕ
@@ -50,9 +49,7 @@ item_size (Colon p b) = head_size p + (all_size b + 2)
 item_size (Cell n) = 2
 item_size (Byte n) = 1
 item_size (Allot n) = n
-item_size Immediate = 0
-item_size (Definitions v) = 0
-item_size (Boot w) = 0
+item_size _ = 0
 
 -- the address after the items
 abbrev pub end_of : Items → ℕ

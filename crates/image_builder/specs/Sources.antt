@@ -102,8 +102,8 @@ abbrev pub IsWrong : (limit : ℕ) → Disk → (from to screen offset : ℕ) �
 IsWrong limit d from to screen offset c.OutOfMemory = (screen ≡ from) × (offset ≡ 0)
 IsWrong limit d from to screen offset c.Device =
     (screen ≡ from + readable d from (to + 1 - from)) × (screen ≤ to) × (offset ≡ 0) × IsFaultless limit (readable_words d from to)
-IsWrong limit d from to screen offset c.EndsInside = AllReadable d from to × IsFault limit (places_of d from to) to screen offset c.EndsInside
-IsWrong limit d from to screen offset c.NoBoot = AllReadable d from to × IsFault limit (places_of d from to) to screen offset c.NoBoot
+IsWrong limit d from to screen offset c.EndsInside = AllReadable d from to × IsFault limit (all_placed (readable_words d from to)) to screen offset c.EndsInside
+IsWrong limit d from to screen offset c.NoBoot = AllReadable d from to × IsFault limit (all_placed (readable_words d from to)) to screen offset c.NoBoot
 IsWrong limit d from to screen offset cause = IsFault limit (all_placed (readable_words d from to)) to screen offset cause
 
 -- the refusal of the screens from..to of this disk; there is one, lack of memory aside
@@ -129,7 +129,7 @@ AsksFor limit d from to k screen offset cause done =
 
 -- they are refused so, after one read each of the first k of them, in order
 pub record IsRefused (limit : ℕ) (d : Disk) (from to : ℕ) (e : BuildFault) (done : Done) : Type 0 where
-  pub is : IsRefusal limit d from to e
+  pub is : IsWrong limit d from to e.screen e.offset e.cause
   pub k : ℕ
   pub few : k ≤ to + 1 - from
   pub disk : done.disk ≡ Some (after_reads k d)
