@@ -74,6 +74,7 @@ MEANINGS: Dict[str, Dict[str, str]] = {
               "none": "unknown"},
     "DO": {**dict.fromkeys(BEFORE_83, "runs once if start and limit are equal"), "f83": "runs 65,536 times then", "none": "runs 65,536 times then"},
     "a flag in a sum": {**dict.fromkeys(BEFORE_83, "true is 1"), "f83": "true is -1", "none": "true is -1"},
+    "/LOOP": {**dict.fromkeys((*ALL, "none"), "is +LOOP"), "f79": "is unsigned", "poly": "is unsigned"},
     "OFFSET": {**dict.fromkeys(ALL, "is added to the numbers of blocks"), "none": "unknown"},
     "M/": {**dict.fromkeys(("fig", "f79", "f83"), "leaves remainder and quotient"), "poly": "leaves the quotient", "none": "unknown"},
     "TIB": {**dict.fromkeys((*ALL, "none"), "is the input's address"), "fig": "holds the input's address"},
@@ -371,6 +372,9 @@ def not_kept(source: List[Place], defined: Set[str]) -> List[Tuple[str, Place, s
         for test, why in tests:
             if test(a.word, b.word, c.word):
                 found.append((f"{a.word} {b.word} {c.word}" if b.word in ("+", "2") else f"{a.word} {b.word}", a, why))
+    for a, b, c, d in zip(source, source[1:], source[2:], source[3:]):
+        if a.word == "8" and b.word == "*" and "BLOCK" in (c.word, d.word) and "BLOCK" not in defined:
+            found.append(("8 * .. BLOCK", a, "a block is a whole screen here: write BLOCK with the screen's number"))
     made = None
     for place in source:
         made = place.word if place.word in (":", "CREATE") and not place.inside else made
