@@ -84,6 +84,8 @@ MEANINGS: Dict[str, Dict[str, str]] = {
 COMPARING = set("= < > 0= 0< 0> U< <> NOT D< D= D0=".split())
 SUMMING = set("+ - * +! NEGATE MINUS".split())
 ACCESS = set("@ ! C@ C! +! 2@ 2!".split())
+# How a program looks for the high bit of a name's last letter.
+LAST_LETTER = {("128", "<"), ("127", ">"), ("80", "<"), ("7F", ">"), ("128", "AND"), ("80", "AND")}
 
 # What can't be, and what to write.
 ADVICE = {
@@ -361,17 +363,21 @@ def not_kept(source: List[Place], defined: Set[str]) -> List[Tuple[str, Place, s
     """What no dialect can keep: what is written, where, and why."""
     found: List[Tuple[str, Place, str]] = []
     named = constants(source)
+    is_named = any(place.word in ("NFA", "LATEST", "ID.") for place in source)
     tests: List[Tuple[Callable[[str, str, str], bool], str]] = [
         (lambda a, b, c: is_plain(a) and b in ACCESS, "an address of another machine: write a word for the device"),
         (lambda a, b, c: is_far(a) and b == "+" and c in ACCESS, "an address of another machine: write a word for the device"),
         (lambda a, b, c: a in named and b in ACCESS, "an address of another machine: write a word for the device"),
         (lambda a, b, c: a == "BLOCK" and (b == "2-" or b == "2" and c == "-"), "there is no block number before a buffer: keep it in a variable"),
         (lambda a, b, c: a == "LFA" and b == "!", "links can be read, not written"),
+        (lambda a, b, c: a == "COMPILE" and b in ("(DO)", "(LOOP)", "(+LOOP)"), "loops differ inside: write [COMPILE] DO and [COMPILE] LOOP"),
+        (lambda a, b, c: is_named and a == "C@" and (b, c) in LAST_LETTER, "a name's last letter has no high bit here: use TRAVERSE or COUNT"),
     ]
     for a, b, c in zip(source, source[1:], source[2:] + [Place("", 0, 0, False)]):
         for test, why in tests:
             if test(a.word, b.word, c.word):
-                found.append((f"{a.word} {b.word} {c.word}" if b.word in ("+", "2") else f"{a.word} {b.word}", a, why))
+                found.append((f"{a.word} {b.word} {c.word}" if b.word in ("+", "2") or (b.word, c.word) in LAST_LETTER else
+                              f"{a.word} {b.word}", a, why))
     for a, b, c, d in zip(source, source[1:], source[2:], source[3:]):
         if a.word == "8" and b.word == "*" and "BLOCK" in (c.word, d.word) and "BLOCK" not in defined:
             found.append(("8 * .. BLOCK", a, "a block is a whole screen here: write BLOCK with the screen's number"))
