@@ -16,7 +16,7 @@ BEFORE_83 = ("fig", "f79", "poly")
 SYSTEMS = {"mms": ("MMSFORTH", "f79"), "mvp": ("MVP-FORTH", "f79"), "hs": ("HS/FORTH", "f79"), "volks": ("volksFORTH", "f83"),
            "rsc": ("RSC-FORTH", "fig")}
 # Those of their words that no other system is likely to have.
-OWN_WORDS = set("ONLYFORTH \\NEEDS CASE? STOP? BANKC@ BANKC! BANKEXECUTE BANKEEC! AUTOSTART NCASE ACASE CASEND PTC $\" VAR".split())
+OWN_WORDS = set("ONLYFORTH \\NEEDS CASE? STOP? BANKC@ BANKC! BANKEXECUTE BANKEEC! NCASE ACASE CASEND PTC $\" VAR".split())
 # Words of one glossary that programs of every system had from listings and neighbors: they say nothing.
 EVERYWHERE = set("""| ON OFF 2DUP 2DROP 2SWAP 2OVER 1- 2- 2* 2/ 0> U. U.R DEPTH PICK ROLL J .S --> THRU CASE OF ENDOF ENDCASE MYSELF <> 2! 2@
 C, HEX BL 0 1 2 3 -TRAILING .R THEN END AGAIN ERASE BLANK DUMP TEXT LINE EDITOR FLUSH INDEX B/BUF OFFSET INTERPRET BELL BEEP NOOP AT CODE
@@ -24,14 +24,18 @@ C, HEX BL 0 1 2 3 -TRAILING .R THEN END AGAIN ERASE BLANK DUMP TEXT LINE EDITOR 
 FORGET DP FENCE LAST LINK LENGTH START STOP FORMAT SOURCE SELECT INPUT OUTPUT PAGE MS H. D.R DABS UP DEFAULT DOWN RUN BINARY COL ROW LEN
 ASC SCREEN K TAB GET HIS STRING RELOAD SINGLE PAUSE CLOSE OPEN WHERE POINT RESET CRT EMPTY USE IS EQ LINK NEST PLACE SP@ S0 COLD P@ P! PC@
 PC! LABEL WITHIN M+ M* M/ S->D WORDS VLIST L/S C/L FIND CREATE .ID (") ," " TASK ENTRY LOCAL WAKE SLEEP CLEAR CHANGE""".split())
-# What stronger and weaker signs of words say, where a glossary alone doesn't: who has them, how much each says, and the words.
+# Words of fig-FORTH that are signs only by what they are used for (`patterns`).
+IN_USE = {"R", "IN"}
+# What stronger and weaker signs of words say, where a glossary alone doesn't: who has them, how much each says, and the words. A
+# word speaks also for each dialect of which a glossary has it, and for the dialect to which a system with it goes back: MVP-FORTH's
+# CFA is no sign of fig-FORTH alone (`holders`).
 SIGNS: List[Tuple[Tuple[str, ...], int, str]] = [
     (("fig",), 3, "-DUP MINUS DMINUS -FIND ID. !CSP ?CSP ?PAIRS U/ R# +ORIGIN .LINE (LINE) D+- +- WIDTH DLITERAL ?COMP ?EXEC CFA <BUILDS \
 ENDIF SMUDGE LFA"),
     (("fig",), 2, "?ERROR MESSAGE 0BRANCH NFA PFA LATEST SP! ERROR DR0 DR1 MON ENCLOSE TRAVERSE"),
     (("fig",), 1, "TOGGLE B/SCR TRIAD C/L"),
     (("fig", "f79"), 1, "S->D BLANKS ?TERMINAL VLIST"),
-    (("fig", "f79", "poly"), 2, "U*"),
+    (BEFORE_83, 3, "U*"),
     (("f79",), 6, "79-STANDARD"),
     (("f79",), 3, "D->S LOADS ASHIFT SHIFT NAND NOR \\LOOP IFTRUE"),
     (("f79", "poly"), 3, "U/MOD"),
@@ -50,7 +54,7 @@ ENDIF SMUDGE LFA"),
     (("f79", "poly"), 2, "M*/"),
     (BEFORE_83, 2, "M/"),
     (("poly",), 2, "H EMPTY PAUSE"),
-    (("poly",), 1, "GET RELEASE TAB MS PAGE OUTPUT INPUT"),
+    (("poly",), 1, "GET RELEASE TAB MS PAGE"),
 ]
 
 # What a word does in each dialect and without one ("none"), for those that differ.
@@ -192,9 +196,9 @@ TRIPLES: List[Tuple[str, Tuple[str, ...], int, Callable[[str, str, str], bool]]]
     ("WORD COUNT", LATER, 2, lambda a, b, c: a == "WORD" and b in ("COUNT", "C@", "NUMBER", "DUP", "PAD", "DROP", "1+")),
     ("WORD FIND", ("f83",), 3, lambda a, b, c: a == "WORD" and b == "FIND"),
     ("FIND with a name", ("f79",), 3, lambda a, b, c: a == "FIND" and b not in ("IF", "DUP", "?DUP", "0=", "SWAP", "DROP", ";", "NOT") and is_call(c)),
-    ("a vocabulary that is IMMEDIATE", ("fig",), 2, lambda a, b, c: a == "VOCABULARY" and b == "IMMEDIATE"),
+    ("a vocabulary that is IMMEDIATE", ("fig", "f79"), 2, lambda a, b, c: a == "VOCABULARY" and b == "IMMEDIATE"),
     ("a word without a header, by |", ("f83",), 3, lambda a, b, c: a == "|" and b in (":", "VARIABLE", "CREATE", "CONSTANT", "DEFER")),
-    ("' NAME CFA", ("fig",), 3, lambda a, b, c: a == "'" and c == "CFA"),
+    ("' NAME CFA", ("fig", "f79"), 3, lambda a, b, c: a == "'" and c == "CFA"),
     ("' NAME @", ("fig", "f79"), 1, lambda a, b, c: a == "'" and c in ("@", "C@", "2+", "2@")),
     ("' NAME !", BEFORE_83, 2, lambda a, b, c: a == "'" and c == "!"),
     ("ROT SIGN", LATER, 2, lambda a, b, c: a == "ROT" and b == "SIGN"),
@@ -220,24 +224,40 @@ def of_numbers(source: List[Place], defined: Set[str]) -> Set[Sign]:
     return found
 
 
+def is_smudged(source: List[Place], at: int) -> bool:
+    """Whether SMUDGE comes before the next definition, as after fig-FORTH's CREATE, which hides the name that it makes."""
+    for place in source[at + 1:]:
+        if place.word in (":", "CREATE", "VARIABLE", "CONSTANT"):
+            return False
+        if place.word == "SMUDGE":
+            return True
+    return False
+
+
 def of_makers(source: List[Place]) -> Set[Sign]:
-    """What CREATE says: beside DOES>, or where it makes a table outside of definitions."""
+    """What CREATE says: beside DOES>, or where it makes a table outside of definitions, or a name that SMUDGE shows."""
     found, making = set(), set()
-    for a, b, c in in_threes(source):
+    for at, (a, b, c) in enumerate(in_threes(source)):
         making = {a.word} if a.word == ":" else making | {a.word}
         if a.word == "DOES>" and "CREATE" in making and "<BUILDS" not in making:
             found.add(Sign("CREATE .. DOES>", LATER, 3))
-        if a.word == "CREATE" and not a.inside and (is_plain(b.word) and c.word in (",", "C,", "ALLOT") or b.word in (',"', "HERE")):
+        if a.word != "CREATE" or a.inside:
+            continue
+        if is_smudged(source, at):
+            found.add(Sign("CREATE .. SMUDGE", ("fig",), 4))
+        elif is_plain(b.word) and c.word in (",", "C,", "ALLOT") or b.word in (',"', "HERE"):
             found.add(Sign("CREATE of a table", LATER, 3))
     return found
 
 
 def of_ends(source: List[Place], defined: Set[str]) -> Set[Sign]:
-    """What ends a screen."""
+    """What begins and ends a screen. EXIT, a habit of polyFORTH, ends it in Forth-79 and F83, too."""
     found = set()
     for a, b in zip(source, [*source[1:], Place("", -1, 0, False)]):
         if a.word == "EXIT" and not a.inside and b.screen != a.screen:
-            found.add(Sign("EXIT that ends a screen", ("poly",), 3))
+            found.add(Sign("EXIT that ends a screen", ("f79", "poly"), 1))
+        if a.word == "EMPTY" and a.line == 0 and not a.inside and "EMPTY" not in defined:
+            found.add(Sign("EMPTY on the first line of a screen", ("poly",), 2))
         if a.word == ";S" and not a.inside and ";S" not in defined:
             found.add(Sign(";S that ends a screen", ("fig", "f79"), 1))
     return found
@@ -276,25 +296,50 @@ def known_words() -> Set[str]:
     return EVERYWHERE.union(*(glossary(key) for key in ALL))
 
 
-def of_glossaries(used: Set[str], weighed: Set[str]) -> List[Sign]:
-    """The words that only some of the glossaries have, and those that a system had beyond its dialect."""
+def holders() -> Dict[str, Set[str]]:
+    """The words of each dialect's glossary, and of the glossaries of the systems that go back to it."""
     held = {key: glossary(key) for key in ALL}
+    for system, (_, key) in SYSTEMS.items():
+        held[key] = held[key] | glossary(system)
+    return held
+
+
+def of_systems(used: Set[str], held: Dict[str, Set[str]]) -> List[Sign]:
+    """The words that a system had beyond its dialect, and no dialect has."""
     found = []
-    for word in sorted(used - weighed - EVERYWHERE):
-        holders = tuple(key for key in ALL if word in held[key])
-        if 0 < len(holders) < len(ALL):
-            found.append(Sign(word, holders, 2 if len(holders) == 1 else 1))
-    for system, (name, key) in SYSTEMS.items():
-        found += [Sign(f"{word} of {name}", (key,), 3 if word in OWN_WORDS else 1) for word in sorted(used & glossary(system) - known_words())]
+    for word in sorted(used - known_words()):
+        names = [name for system, (name, _) in SYSTEMS.items() if word in glossary(system)]
+        if names:
+            dialects = tuple(key for key in ALL if word in held[key])
+            found.append(Sign(f"{word} of {' and '.join(names)}", dialects, 3 if word in OWN_WORDS else 1))
     return found
+
+
+def of_words(used: Set[str]) -> List[Sign]:
+    """What the words say: those with a weight of their own, those that only some of the glossaries have, and those of a system. A
+    word that several systems have speaks for each of them."""
+    held, found, weighed = holders(), [], set()
+    for dialects, weight, words in SIGNS:
+        weighed |= set(words.split())
+        for word in words.split():
+            who = tuple(key for key in ALL if key in dialects or word in held[key])
+            if word in used and len(who) < len(ALL):
+                found.append(Sign(word, who, weight))
+    for word in sorted((used & known_words()) - weighed - EVERYWHERE - IN_USE):
+        who = tuple(key for key in ALL if word in held[key])
+        if len(who) < len(ALL):
+            found.append(Sign(word, who, 2 if len(who) == 1 else 1))
+    return found + of_systems(used, held)
 
 
 def signs(source: List[Place], defined: Set[str]) -> List[Sign]:
     """All signs of a source, the strongest first; words that it makes itself aren't any."""
     used = {place.word for place in source} - defined
-    found = [Sign(word, dialects, weight) for dialects, weight, words in SIGNS for word in words.split() if word in used]
-    weighed = {word for _, _, words in SIGNS for word in words.split()}
-    return sorted(found + of_glossaries(used, weighed) + patterns(source, defined), key=lambda sign: -sign.weight)
+    return sorted(of_words(used) + patterns(source, defined), key=lambda sign: -sign.weight)
+
+
+# How far the best dialect must be before the next one: a strong sign, or several weak ones.
+LEAD = 3
 
 
 class Verdict(NamedTuple):
@@ -316,11 +361,13 @@ def decide(found: List[Sign], unknown: Dict[str, int]) -> Verdict:
     best, lead = order[0], score[order[0]] - score[order[1]]
     own = [s for s in found if best in s.dialects and len(s.dialects) < len(ALL)]
     against = [s for s in found if best not in s.dialects]
-    if lead >= 2:
-        is_sure = lead >= 5 and sum(s.weight for s in against) * 3 < sum(s.weight for s in own)
+    if lead >= LEAD:
+        apart = [s.weight for s in own if order[1] not in s.dialects]
+        is_sure = lead >= 5 and (len(apart) > 1 or max(apart) > 5) and sum(s.weight for s in against) * 3 < sum(s.weight for s in own)
         return Verdict((best,), (best,) if is_sure else tuple(order[:2]), "surely" if is_sure else "probably",
                        sorted(own, key=lambda sign: (order[1] in sign.dialects, -sign.weight)), against)
-    tied = tuple(key for key in order if score[best] - score[key] < 2)
+    near = [key for key in order if score[best] - score[key] < 2]
+    tied = tuple(near if len(near) > 1 else [key for key in order if score[best] - score[key] < LEAD])
     return Verdict(tied, tied, "undecided", own, [s for s in against if not set(s.dialects) & set(tied)])
 
 
