@@ -91,6 +91,9 @@ ACCESS = set("@ ! C@ C! +! 2@ 2!".split())
 # How a program looks for the high bit of a name's last letter.
 LAST_LETTER = {("128", "<"), ("127", ">"), ("80", "<"), ("7F", ">"), ("128", "AND"), ("80", "AND")}
 
+# How a program's own structures compile the distance of a branch.
+DISTANCES = {("HERE", "-", ","), ("-", "SWAP", "!"), ("OVER", "-", "SWAP")}
+
 # What can't be, and what to write.
 ADVICE = {
     "CODE": "there is no assembler: write the word with :",
@@ -411,13 +414,15 @@ def not_kept(source: List[Place], defined: Set[str]) -> List[Tuple[str, Place, s
     found: List[Tuple[str, Place, str]] = []
     named = constants(source)
     is_named = any(place.word in ("NFA", "LATEST", "ID.") for place in source)
+    is_branching = any(a.word == "COMPILE" and b.word in ("BRANCH", "0BRANCH") for a, b in pairs(source))
     tests: List[Tuple[Callable[[str, str, str], bool], str]] = [
         (lambda a, b, c: is_plain(a) and b in ACCESS, "an address of another machine: write a word for the device"),
         (lambda a, b, c: is_far(a) and b == "+" and c in ACCESS, "an address of another machine: write a word for the device"),
         (lambda a, b, c: a in named and b in ACCESS, "an address of another machine: write a word for the device"),
         (lambda a, b, c: a == "BLOCK" and (b == "2-" or b == "2" and c == "-"), "there is no block number before a buffer: keep it in a variable"),
         (lambda a, b, c: a == "LFA" and b == "!", "links can be read, not written"),
-        (lambda a, b, c: a == "COMPILE" and b in ("(DO)", "(LOOP)", "(+LOOP)"), "loops differ inside: write [COMPILE] DO and [COMPILE] LOOP"),
+        (lambda a, b, c: a == "COMPILE" and b in ("(DO)", "(?DO)", "(LOOP)", "(+LOOP)"), "loops differ inside: write [COMPILE] DO and [COMPILE] LOOP"),
+        (lambda a, b, c: is_branching and (a, b, c) in DISTANCES, "branches hold addresses, not distances: write BACK or [COMPILE] THEN"),
         (lambda a, b, c: is_named and a == "C@" and (b, c) in LAST_LETTER, "a name's last letter has no high bit here: use TRAVERSE or COUNT"),
     ]
     for a, b, c in zip(source, source[1:], source[2:] + [Place("", 0, 0, False)]):
