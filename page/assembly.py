@@ -1,18 +1,22 @@
 """Puts the page's files together into one HTML file."""
 import base64
-import hashlib
 import html
 import json
 import pathlib
 import re
+import sys
 import zlib
 from typing import Dict, List
 
 HERE = pathlib.Path(__file__).resolve().parent
 # What the page shares with the films of ./forth film.
 SHARED = HERE.parent / "teaching"
+sys.path.append(str(SHARED))
+
+import document  # noqa: E402
+
 FIRST = "main.js"
-POLICY = "default-src 'none'; script-src '{script}' 'wasm-unsafe-eval'; style-src 'unsafe-inline'; img-src data: blob:"
+POLICY = "default-src 'none'; script-src '{script}' '{film}' 'wasm-unsafe-eval'; style-src 'unsafe-inline'; img-src data: blob:"
 IMPORT = re.compile(r'^import \{[^}]*\} from "\./([\w-]+\.js)";\n', re.M)
 
 
@@ -32,13 +36,7 @@ def in_order(name: str, found: List[str]) -> List[str]:
 
 def bundle(first: str = FIRST) -> str:
     """All modules as one script: they have no name twice, so that imports and exports only have to go."""
-    parts = [re.sub(r"^export ", "", IMPORT.sub("", text_of(name)), flags=re.M) for name in in_order(first, [])]
-    return '"use strict";\n' + "\n".join(parts)
-
-
-def sum_for_policy(text: str) -> str:
-    """How a policy names the only script that may run."""
-    return "sha256-" + base64.b64encode(hashlib.sha256(text.encode()).digest()).decode()
+    return document.joined(IMPORT.sub("", text_of(name)) for name in in_order(first, []))
 
 
 def filled(template: str, values: Dict[str, str]) -> str:
@@ -60,7 +58,7 @@ def page(data: Dict[str, object], files: Dict[str, bytes], facts: Dict[str, str]
     values["HELP"] = filled(text_of("help.html"), values)
     values["STYLE"] = text_of("page.css")
     values["SCRIPT"] = script
-    values["POLICY"] = POLICY.format(script=sum_for_policy(script))
-    everything = {"data": json.dumps(data, ensure_ascii=False).encode(), **files}
+    values["POLICY"] = POLICY.format(script=document.hashed(script), film=document.hashed(document.script()))
+    everything = {"data": json.dumps(data, ensure_ascii=False).encode(), "film-page": document.empty().encode(), **files}
     values["PACKED"] = "\n".join(packed(name, content) for name, content in everything.items())
     return filled(text_of("index.html"), values)

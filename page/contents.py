@@ -9,8 +9,12 @@ from typing import Dict, List, Optional
 ROOT = pathlib.Path(__file__).resolve().parent.parent
 sys.path[:0] = [str(ROOT / "teaching"), str(ROOT / "dialects")]
 
+import calls  # noqa: E402
 import canvas  # noqa: E402
+import cells  # noqa: E402
 import images  # noqa: E402
+import manual as manuals  # noqa: E402
+import threads  # noqa: E402
 import wild  # noqa: E402
 
 ROW = re.compile(r"^\| `(\S+)` \| `([^`]*)` \| (?:yes)? ?\| (.+) \|$", re.M)
@@ -114,6 +118,20 @@ def manual(words: str) -> List[List[str]]:
         if not chapter.startswith(CHAPTERS_LEFT_OUT):
             made.update({name: [name, effect, chapter, inline(says)] for name, effect, says in ROW.findall(part)})
     return list(made.values())
+
+
+def rows() -> Dict[str, object]:
+    """The rows of the machine's table that films know: the same numbers as `./forth film` has."""
+    return {
+        "colon": images.COLON, "variable": images.VARIABLE, "constant": images.CONSTANT, "exit": calls.EXIT, "execute": calls.EXECUTE,
+        "does": calls.DOES, "clear": calls.RCLEAR, "do": threads.DO, "literal": threads.LITERAL, "compile": threads.COMPILE,
+        "branches": threads.BRANCHES, "texts": [threads.TEXT, threads.REFUSAL], "bytes": sorted(cells.OF_BYTES),
+    }  # fmt: skip
+
+
+def faults() -> Dict[str, str]:
+    """What each fault is, as the tools print it."""
+    return {number: text for number in map(str, range(1, 32)) for text in [manuals.fault(int(number))] if text}
 
 
 def text_of(name: str) -> str:

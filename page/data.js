@@ -1,4 +1,4 @@
-// What page/make puts into the page: the machine's module and the image as bytes; disks, lessons, the manual and the rest as values.
+// What page/make puts into the page: the machine's module, the image and the page of films as bytes; disks, lessons, the manual and the rest as values.
 
 import { decode, fromBase64 } from "./bytes.js";
 import { inflate } from "./inflate.js";
@@ -9,4 +9,4 @@ function packed(id) {
   return inflate(fromBase64(textContent), Number(dataset.size));
 }
 
-export const DATA = { ...JSON.parse(decode(packed("data"))), wasm: packed("module"), image: packed("image") };
+export const DATA = { ...JSON.parse(decode(packed("data"))), wasm: packed("module"), film: packed("film-page"), image: packed("image") };

@@ -7,7 +7,7 @@ export const ASKS = { NOTHING: 0, KEY: 1, LINE: 2, READ: 3, WRITE: 4 };
 export const PAGE_SIZE = 1024, MEMORY = 65536, STACK = 256;
 const ROOM = 131072, TYPED_ROOM = 4096;
 // Cells of the system in the machine's memory.
-export const SYSTEM = { state: 16, base: 18, toIn: 20, blk: 22, here: 28, scr: 38, vocLink: 52, fence: 54 };
+export const SYSTEM = { state: 16, base: 18, toIn: 20, blk: 22, here: 28, last: 30, scr: 38, vocLink: 52, fence: 54 };
 
 export class Machine {
   // calls: what the module exports. layout: where the fields of its records are.

@@ -21,8 +21,7 @@ async function begin() {
   page.session = new Session(calls, DATA.layout, DATA.image, page);
   page.editor = new Editor(page.session, parts("screen-text", "screen-gutter", "screen-mark", "screen-number", "screen-count", "screen-back",
     "screen-on", "screen-shadow", "screen-load", "screen-index", "screen-said", "screen-find", "screen-found"));
-  page.film = new Film(page.session, calls, parts("film-form", "film-line", "film-slider", "film-back", "film-on", "film-play", "film-base", "film-system", "film-show",
-    "film-typed", "film-word", "film-source", "film-where", "film-words", "film-thread", "film-values", "film-returns", "film-output", "film-number", "film-said", "film-speed", "film-variables", "film-memory"));
+  page.film = new Film(page.session, calls, parts("film-form", "film-line", "film-said", "film-full", "film-frame"), (event) => page.pressAnywhere(event));
   page.map = new MemoryMap(page, parts("map-bar", "map-parts", "map-words", "map-none", "map-again", "map-said"));
   page.canvas = new Canvas(page, parts("canvas-picture", "canvas-none", "canvas-save", "canvas-try"));
   page.oldDisk = new OldDisk(page, parts("old-choose", "old-file", "old-format", "old-clean", "old-half", "old-ebcdic", "old-offset", "old-sector", "old-skew", "old-first", "old-said", "old-screen", "old-preview",

@@ -309,6 +309,7 @@ export class Page {
   size(points) {
     this.points = Math.max(10, Math.min(40, points));
     document.documentElement.style.fontSize = `${this.points}px`;
+    this.film.size();
     this.remember("size", this.points);
     this.transcript.toEnd();
   }

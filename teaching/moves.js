@@ -1,5 +1,5 @@
 // Cells that move from one step to the next: SWAP crosses two, ROT turns three. Who prefers reduced motion sees none of it.
-export const MOST_MOTION = 450;
+const MOST_MOTION = 450;
 
 // Of words that move cells: how many of the top cells they take, and from which of these, the top being 0, those come that they leave,
 // the new top first.
@@ -9,7 +9,7 @@ const CELL_MOVES = {
 };
 
 // From which cell of a stack each cell of it comes, by the step's word: numbers from the bottom, null for what is new.
-export function origins(name, before, after) {
+function origins(name, before, after) {
   let [takes, leaves] = Object.hasOwn(CELL_MOVES, name) ? CELL_MOVES[name] : [0, []];
   if (name === "?DUP" && after.length === before.length) leaves = [0];
   if (name === "ROLL" || name === "PICK") return afterNumber(name, before, after);
@@ -26,10 +26,10 @@ function afterNumber(name, before, after) {
   return after.map((_, place) => (place === top ? from : name === "ROLL" && place >= from ? place + 1 : place));
 }
 
-export const isStill = matchMedia("(prefers-reduced-motion: reduce)");
+const isStill = matchMedia("(prefers-reduced-motion: reduce)");
 
 // A cell goes from where it was to its place. One that rises over others makes a bow, so that both are seen to cross.
-export function fly(one, from, time) {
+function fly(one, from, time) {
   const to = one.getBoundingClientRect(), [x, y] = [from.left - to.left, from.top - to.top];
   if (!x && !y) return;
   const bow = y > 1 ? -0.35 * to.width : 0;
@@ -39,6 +39,6 @@ export function fly(one, from, time) {
 }
 
 // A cell that is new comes into sight.
-export function appear(one, time) {
+function appear(one, time) {
   one.animate([{ opacity: 0, transform: "scale(.7)" }, { opacity: 1, transform: "none" }], { duration: time });
 }

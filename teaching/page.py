@@ -1,13 +1,11 @@
 """A film as one page of HTML: what its script needs as JSON, and the page around it."""
 import base64
-import hashlib
 import html
-import json
 import pathlib
-import re
 from typing import Any, Callable, Dict, List, Optional, Tuple, Union
 
 import calls
+import document
 import filming
 import images
 import manual
@@ -16,11 +14,7 @@ import screens
 import texts
 import threads
 
-HERE = pathlib.Path(__file__).resolve().parent
-MARK = "<!-- a film of ./forth film -->"
-SCRIPTS = ("source.js", "film.js", "showing.js", "moves.js", "motion.js", "overtime.js", "sheet.js", "player.js")
-DO, UNLAID = 9, 100_000
-POLICY = "default-src 'none'; script-src '{}'; style-src '{}'; img-src data:"
+UNLAID = 100_000
 
 
 def source_of(header: images.Header, fence: int, sources: Optional[screens.Screens], forth83: program.Program, image_path: pathlib.Path) -> Tuple[str, str]:
@@ -137,7 +131,7 @@ class Loops:
             self.open += (self.begun,)
         while self.open and depth < self.open[-1] + 3:
             self.open = self.open[:-1]
-        self.begun = depth if row == DO else None
+        self.begun = depth if row == threads.DO else None
         return self.seen.setdefault(self.open, len(self.seen))
 
 
@@ -234,7 +228,7 @@ def data_of(film: filming.Film, words: Words, fence: int, name: str) -> Dict[str
     loops = Loops()
     steps = packed_steps(film, words, loops)
     return {
-        "name": name, "words": words.words, "places": words.entries, "told": list(words.told),
+        "name": name, "words": words.words, "places": words.entries, "says": list(words.told),
         "frames": frames_of(film, words, fence), "steps": steps, "output": output,
         "loops": [list(depths) for depths in loops.seen],
         "begins": film.marks[0] if film.marks else 0, "is_laid": bool(film.marks), 
@@ -243,30 +237,8 @@ def data_of(film: filming.Film, words: Words, fence: int, name: str) -> Dict[str
     }
 
 
-def as_json(data: Dict[str, Any]) -> str:
-    """JSON that ends no element of HTML, whatever its texts are."""
-    text = json.dumps(data, ensure_ascii=True, separators=(",", ":"))
-    return text.replace("&", "\\u0026").replace("<", "\\u003c").replace(">", "\\u003e")
-
-
-def hashed(text: str) -> str:
-    return "sha256-" + base64.b64encode(hashlib.sha256(text.encode()).digest()).decode()
-
-
-def script_of(names: Tuple[str, ...]) -> str:
-    """These files as one script; one that the page of ./forth page imports as a module only loses its `export`."""
-    texts_of_files = [(HERE / name).read_text(encoding="utf-8") for name in names]
-    return '"use strict";\n' + "\n".join(re.sub(r"^export ", "", text, flags=re.M) for text in texts_of_files)
-
-
 def page(title: str, line: str, sentences: List[str], data: Dict[str, Any]) -> str:
-    """The page. Its script and its style are named by their sums, so that no other is done."""
-    script, style = script_of(SCRIPTS), (HERE / "film.css").read_text(encoding="utf-8")
-    told = "".join(f"<p>{html.escape(sentence)}</p>\n" for sentence in sentences)
-    template = (HERE / "film.html").read_text(encoding="utf-8")
-    parts = {
-        "MARK": MARK, "POLICY": POLICY.format(hashed(script), hashed(style)), "TITLE": html.escape(title),
-        "LINE": html.escape(line), "TOLD": told, "STYLE": style, "SCRIPT": script, "DATA": as_json(data),
-    }
-    first, *rest = template.split("{{")
-    return first + "".join(parts[name] + text for name, text in (part.split("}}", 1) for part in rest))
+    """The page."""
+    made = "".join(f"<p>{html.escape(sentence)}</p>\n" for sentence in sentences)
+    parts = {"TITLE": html.escape(title), "LINE": html.escape(line), "MADE": made, "DATA": document.as_json(data)}
+    return document.filled(document.empty(), parts)

@@ -74,7 +74,7 @@ function plainly(source, as) {
 
 // The next word as the source has it, what it was compiled as, and what it does.
 function described(number) {
-  const place = steps[number][0], source = spelled(place), as = token(place), [effect, says] = film.told[film.places[place][4]];
+  const place = steps[number][0], source = spelled(place), as = token(place), [effect, says] = film.says[film.places[place][4]];
   const isSame = source === null || source.toUpperCase() === as.toUpperCase();
   return { name: isSame ? as : source, as: isSame ? "" : `compiled as ${as}`, effect, says: plainly(source, as) || says };
 }
@@ -189,6 +189,15 @@ function showPath(frame) {
   part("path").textContent = names.join(" › ");
 }
 
+// The line that was typed, or the screen's line that was loaded, with its word that the step is in; a film of the page knows these.
+function showLine(frame) {
+  const line = film.lines && film.lines[frames[chain(frame)[0]][6]];
+  if (!line) return;
+  const [where, source, from, to] = line;
+  part("where").textContent = where;
+  part("line").replaceChildren(source.slice(0, from), element("b", source.slice(from, to)), source.slice(to));
+}
+
 // The step as a sentence, for who hears the page.
 function say(number, data) {
   const step = steps[number], next = step[0] < 0 ? `The end. ${endings.get(step[1]) || ""}` : `Next: ${described(number).name}.`;
@@ -213,6 +222,7 @@ function show() {
   const number = visible[at], before = at ? visible[at - 1] : number;
   const step = steps[number], [data, returns] = stacks(number);
   const [oldData, oldReturns] = at ? stacks(before) : [data, returns];
+  showLine(step[1]);
   showPath(step[1]);
   showSource(number);
   showThread(number);

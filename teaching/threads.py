@@ -4,7 +4,7 @@ from typing import List, Optional
 import images
 
 LITERAL, TEXT, REFUSAL, COMPILE, EXIT = 6, 16, 17, 19, 5
-BRANCHES = (7, 8, 9, 10, 11)
+BRANCHES, DO = (7, 8, 9, 10, 11), 9
 LEADS_ON = (8, 9, 10, 11)
 
 

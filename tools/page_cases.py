@@ -15,8 +15,8 @@ from page_trials import Cases, Trial
 
 ROOT = pathlib.Path(__file__).resolve().parent.parent
 PAGE = ROOT / "page"
-# Modules in teaching/ that the page uses, too.
-SHARED = {"source.js", "moves.js"}
+# A module in teaching/ that the page's own script uses, too.
+SHARED = {"source.js"}
 sys.path.insert(0, str(PAGE))
 
 import assembly  # noqa: E402

@@ -7,7 +7,8 @@ import subprocess
 from typing import List
 
 import page_modules
-from page_trials import Trial, squeezed
+import teaching_views
+from page_trials import FILM, Trial, make_film, squeezed
 
 SCREEN = 30
 # A word, its source, and a line with it: loops, recursion, DOES>, choices, a fault, blocks.
@@ -21,8 +22,12 @@ WORDS = [
     ("BAD", ": BAD ( -- ) 3 0 DO I 1- 10 SWAP / . LOOP ;", "BAD"),
     ("SHOW", ": SHOW ( n -- ) DUP BLOCK 16 TYPE DROP ;", "30 SHOW"),
 ]
-STEPS = """page.film.made.filter((one) => one.word.name === %s)
-  .map((one) => one.ip + " | " + one.values.map(signed).join(" ") + " | " + one.returns.join(" "))"""
+# The steps of a word, with the stacks that the film's own page makes of the changes.
+STEPS = """(() => {
+  const { places, words, steps } = page.film.data, { stacks } = document.getElementById("film-frame").contentWindow;
+  const found = steps.map(([place], at) => [places[place], at]).filter(([place]) => place && place[1] !== null && words[place[1]].name === %s);
+  return found.map(([place, at]) => [place[0], ...stacks(at).map((cells) => cells.join(" "))].join(" | "));
+})()"""
 
 
 def debugged(program: pathlib.Path, image: pathlib.Path, kernel: pathlib.Path, room: pathlib.Path, word: str, source: str,
@@ -44,9 +49,32 @@ def filmed(trial: Trial, word: str, source: str, line: str) -> List[str]:
     trial.idle()
     trial.value(f"page.session.put({SCREEN}, pageOf([{json.dumps(source)}]).page); page.enter('{SCREEN} LOAD'); 0")
     trial.idle()
-    trial.value(f"page.film.last = null; page.film.make({json.dumps(line)}); 0")
-    trial.wait("!!page.film.last", 20)
+    make_film(trial, line)
     return [squeezed(one) for one in trial.value(STEPS % json.dumps(word))]
+
+
+# Whether all of the film's frame is in the window.
+FRAMED = "(({ top, bottom, left, right }) => top >= 0 && left >= 0 && bottom <= innerHeight && right <= innerWidth)(document.getElementById('film-frame').getBoundingClientRect())"
+
+
+def check_seen(trial: Trial) -> int:
+    """In windows of a laptop, a projector and a telephone nothing of a film's steps is hidden, as in the pages of ./forth film: how many
+    steps were looked at."""
+    count = 0
+    trial.file("views.txt", json.dumps(teaching_views.SOURCES))
+    trial.type("41 43 THRU")
+    trial.browser.prefers(reduced_motion="reduce")
+    for name, line in teaching_views.FILMS:
+        make_film(trial, line)
+        for window in teaching_views.WINDOWS:
+            trial.browser.size(window.width, window.height, window.scale)
+            steps, lacks = trial.value(f"{teaching_views.HIDDEN}({FILM})")
+            trial.must(not lacks, f"what is hidden of {name} in the page on {window.name}: {lacks[:4]}")
+            trial.must(trial.value(FRAMED), f"the film of {name} doesn't fit in the page on {window.name}")
+            count += steps
+    trial.browser.size(1280, 900)
+    trial.browser.prefers(reduced_motion="no-preference")
+    return count
 
 
 def check(trial: Trial, program: pathlib.Path, room: pathlib.Path) -> int:

@@ -314,21 +314,43 @@ def disks(trial: Trial) -> None:
     trial.must("unknown" in trial.type("ADAS"), "the first person has the other one's words")
 
 
-MARKED = """['film-typed', 'film-source', 'film-thread'].map((id) => (document.querySelector(`#${id} .next`) || {}).textContent || "")"""
-AROUND = "[...document.querySelectorAll('#film-source .around')].map((one) => one.textContent).join(' ')"
-# Definitions, a line, and for some of its steps the word of the line and of the source that is done, and the structures around it.
+# The film's page, in its frame.
+FILM = "document.getElementById('film-frame').contentWindow"
+IN_FILM = f"{FILM}.document"
+MARKED = f"""['#line b', '#source .now', '#thread .here span'].map((one) => ({IN_FILM}.querySelector(one) || {{}}).textContent || "")"""
+AROUND = f"[...{IN_FILM}.querySelectorAll('#source .around')].map((one) => one.textContent).join(' ')"
+CELLS = f"[...{IN_FILM}.querySelectorAll('#cells dt')].map((one) => one.firstChild.data) + ' ' + [...{IN_FILM}.querySelectorAll('#cells span')].map((one) => one.textContent)"
+# Definitions, a line, and for some of its steps the word of the line and of the source that is done, and the words of the structures around it.
 SOURCES = [
     (": PARITY ( n -- ) 2 MOD IF .\" odd \" ELSE .\" even \" THEN ;", "7 PARITY 10 PARITY",
-     {0: ("PARITY", "2", ""), 2: ("PARITY", "IF", "IF ELSE THEN"), 3: ("PARITY", '." odd "', "IF ELSE THEN"), 4: ("PARITY", "ELSE", "IF ELSE THEN"),
-      5: ("PARITY", ";", ""), 9: ("PARITY", '." even "', "IF ELSE THEN")}),
+     {0: ("PARITY", "2", ""), 2: ("PARITY", "IF", "ELSE THEN"), 3: ("PARITY", '." odd "', "IF ELSE THEN"), 4: ("PARITY", "ELSE", "IF THEN"),
+      5: ("PARITY", ";", ""), 10: ("PARITY", '." even "', "IF ELSE THEN")}),
     (": ADDED ( n -- n2 ) 0 SWAP 1+ 0 ?DO ( each ) I + LOOP ;", "2 ADDED DUP .",
-     {0: ("ADDED", "0", ""), 2: ("ADDED", "1+", ""), 4: ("ADDED", "?DO", "?DO LOOP"), 8: ("ADDED", "I", "?DO LOOP"), 10: ("ADDED", "LOOP", "?DO LOOP")}),
+     {0: ("ADDED", "0", ""), 2: ("ADDED", "1+", ""), 4: ("ADDED", "?DO", "LOOP"), 8: ("ADDED", "I", "?DO LOOP"), 10: ("ADDED", "LOOP", "?DO")}),
     (": GCD2 BEGIN ?DUP WHILE SWAP OVER MOD REPEAT ;", "8 6 GCD2 .",
-     {0: ("GCD2", "?DUP", "BEGIN WHILE REPEAT"), 1: ("GCD2", "WHILE", "BEGIN WHILE REPEAT"), 5: ("GCD2", "REPEAT", "BEGIN WHILE REPEAT")}),
+     {0: ("GCD2", "?DUP", "BEGIN WHILE REPEAT"), 1: ("GCD2", "WHILE", "BEGIN REPEAT"), 5: ("GCD2", "REPEAT", "BEGIN WHILE")}),
     (": KIND CASE 1 OF .\" one\" ENDOF 2 OF .\" two\" ENDOF ENDCASE ;", "2 KIND",
-     {0: ("KIND", "1", "CASE ENDCASE"), 1: ("KIND", "OF", "CASE OF ENDOF ENDCASE"), 9: ("KIND", '." two"', "CASE OF ENDOF ENDCASE")}),
-    (": COUNTS CREATE , DOES> @ . ;", "5 COUNTS C5 C5", {0: ("COUNTS", "CREATE", ""), 2: ("COUNTS", "DOES>", ""), 3: ("C5", "@", "")}),
+     {0: ("KIND", "1", "CASE ENDCASE"), 1: ("KIND", "OF", "CASE ENDOF ENDCASE"), 9: ("KIND", '." two"', "CASE OF ENDOF ENDCASE")}),
+    (": COUNTS CREATE , DOES> @ . ;", "5 COUNTS C5 C5", {0: ("COUNTS", "CREATE", ""), 2: ("COUNTS", "DOES>", ""), 4: ("C5", "@", "")}),
 ]
+# Lines whose films end otherwise than by returning, and what the last step says of that.
+ENDINGS = [
+    (": HALVED ( n -- ) 10 SWAP / ;", "0 HALVED", "division by zero, or a quotient too large (fault 5) at /. It ended HALVED"),
+    (': POSITIVE ( n -- ) 0< ABORT" not below 0!" ;', "-3 POSITIVE", '"not below 0!" (fault 17) at (ABORT")'),
+    (": ASKED ( -- c ) KEY ;", "ASKED", "The film ends here, within ASKED"),
+    (": FOREVER ( -- ) BEGIN 0 UNTIL ;", "FOREVER", "The film ends here; the run continued."),
+]
+
+
+def in_film(trial: Trial, name: str) -> str:
+    """What an element of the film shows."""
+    return trial.value(f"{IN_FILM}.getElementById('{name}').textContent")
+
+
+def make_film(trial: Trial, line: str) -> None:
+    """Makes the film of a line, and waits until it is shown."""
+    trial.value(f"page.tab('film'); page.film.isShown = false; page.film.make({json.dumps(line)}); 0")
+    trial.must(trial.wait("page.film.isShown", 30), f"the film of {line} isn't shown")
 
 
 def marked_in_source(trial: Trial) -> None:
@@ -336,64 +358,86 @@ def marked_in_source(trial: Trial) -> None:
     trial.must(trial.value(MARKED) == ["SQUARES", "?DO", "2DUP"], f"what is marked in a film: {trial.value(MARKED)}")
     for source, line, steps in SOURCES:
         trial.type(source)
-        trial.value(f"page.tab('film'); page.film.last = null; page.film.make({json.dumps(line)}); 0")
-        trial.wait("!!page.film.last", 20)
-        trial.value("page.film.choose('all'); 0")
+        make_film(trial, line)
         for at, wanted in steps.items():
-            trial.value(f"page.film.go({at})")
+            trial.value(f"{FILM}.go({at})")
             got = (*trial.value(MARKED)[:2], trial.value(AROUND))
             trial.must(got == wanted, f"{line}, step {at}: {got} is marked in place of {wanted}")
+    trial.must(in_film(trial, "path") == "C5 (made by COUNTS)", f"the call of a word that DOES> made: {in_film(trial, 'path')!r}")
     trial.value("page.session.put(34, pageOf(['( a screen )', ': OF-SCREEN', '  1', '  ( two ) 2 + . ;', 'OF-SCREEN']).page); 0")
     trial.type("34 LOAD")
-    trial.value("page.film.last = null; page.film.make('34 LOAD'); 0")
-    trial.wait("!!page.film.last", 20)
-    trial.value("page.film.go(2)")
-    trial.must(trial.value(MARKED) == ["OF-SCREEN", "+", "+"] and trial.text("film-typed") == "screen 34 line 4: OF-SCREEN",
-               f"a word that the line makes: {trial.value(MARKED)}, {trial.text('film-typed')!r}")
-    trial.value("page.film.last = null; page.film.make('1 . OF-SCREEN'); 0")
-    trial.wait("!!page.film.last", 20)
-    trial.value("page.film.go(2)")
-    trial.must(trial.value(MARKED) == ["OF-SCREEN", "+", "+"] and trial.text("film-word") == "OF-SCREEN, screen 34", f"a word of a screen: {trial.value(MARKED)}")
-    trial.value("page.session.put(34, pageOf([': OF-SCREEN 3 * ;']).page); page.film.last = null; page.film.make('OF-SCREEN'); 0")
-    trial.wait("!!page.film.last", 20)
-    trial.must(trial.value("document.getElementById('film-source').hidden"), "a source that was changed is shown")
+    make_film(trial, "34 LOAD")
+    trial.value(f"{FILM}.go(2)")
+    line = trial.value(f"{IN_FILM}.querySelector('header p').textContent")
+    trial.must(trial.value(MARKED) == ["OF-SCREEN", "+", "+"] and line == "screen 34 line 4: OF-SCREEN", f"a word that the line makes: {trial.value(MARKED)}, {line!r}")
+    make_film(trial, "1 . OF-SCREEN")
+    trial.value(f"{FILM}.go(2)")
+    trial.must(trial.value(MARKED) == ["OF-SCREEN", "+", "+"] and in_film(trial, "name") == "OF-SCREEN, screen 34", f"a word of a screen: {trial.value(MARKED)}")
+    trial.value("page.session.put(34, pageOf([': OF-SCREEN 3 * ;']).page); 0")
+    make_film(trial, "OF-SCREEN")
+    trial.must(in_film(trial, "name") == "OF-SCREEN, as SEE shows it" and in_film(trial, "source").startswith(": OF-SCREEN 1 2 + ."),
+               f"a word whose source was changed: {in_film(trial, 'name')!r}, {in_film(trial, 'source')!r}")
+
+
+def film_endings(trial: Trial) -> None:
+    """Faults, a program that asks for a key, and a line that doesn't end; then the Forth is as it was."""
+    for source, line, wanted in ENDINGS:
+        trial.type(source)
+        make_film(trial, line)
+        trial.value(f"{FILM}.go(1e9)")
+        trial.must(wanted in in_film(trial, "next"), f"the end of the film of {line}: {in_film(trial, 'next')!r}")
+    trial.must("42  ok" in trial.type("42 ."), "the Forth after films that didn't return")
 
 
 def film_controls(trial: Trial) -> None:
-    """A film's variables, a presenter's remote, and the space bar."""
+    """A film's variables, a presenter's remote, the space bar, the second view, the black screen, the size of letters, paper."""
     trial.type("VARIABLE PURSE")
     trial.type(": PAYS PURSE +! ;")
-    trial.value("page.tab('film'); page.film.last = null; page.film.make('5 PURSE ! 3 PAYS'); 0")
-    trial.wait("!!page.film.last", 20)
-    for at, wanted in ((0, "PURSE5"), (1, "PURSE5"), (2, "PURSE8"), (3, "PURSE8")):
-        trial.value(f"page.film.go({at})")
-        trial.must(trial.text("film-memory").split() == [wanted], f"the variables at step {at}: {trial.text('film-memory')!r}")
-    trial.value("document.getElementById('film-show').focus()")
+    make_film(trial, "5 PURSE ! 3 PAYS")
+    for at, wanted in ((0, "PURSE 5"), (1, "PURSE 5"), (2, "PURSE 8"), (3, "PURSE 8")):
+        trial.value(f"{FILM}.go({at})")
+        trial.must(trial.value(CELLS) == wanted, f"the variables at step {at}: {trial.value(CELLS)!r}")
+    trial.value(f"{FILM}.focus()")
     for key, code, wanted in (("Home", 36, "step 1 of 4"), ("PageDown", 34, "step 2 of 4"), ("PageDown", 34, "step 3 of 4"), ("PageUp", 33, "step 2 of 4")):
         trial.press(key, code)
-        trial.must(trial.text("film-number") == wanted, f"{key} in a film: {trial.text('film-number')!r} in place of {wanted!r}")
+        trial.must(in_film(trial, "count") == wanted, f"{key} in a film: {in_film(trial, 'count')!r} in place of {wanted!r}")
     trial.press(" ", 32)
-    trial.must(trial.text("film-play") == "Pause", "the space bar doesn't play a film")
+    trial.must(in_film(trial, "play") == "pause", "the space bar doesn't play a film")
     trial.press(" ", 32)
-    trial.must(trial.text("film-play") == "Play", "the space bar doesn't stop a film")
+    trial.must(in_film(trial, "play") == "play", "the space bar doesn't stop a film")
+    trial.press("t", 84)
+    trial.must(trial.value(f"{IN_FILM}.querySelectorAll('#columns button').length") == 4, "the stack over time")
+    trial.press("b", 66)
+    trial.must(not trial.value(f"{IN_FILM}.getElementById('black').hidden"), "the black screen")
+    size = f"parseFloat({FILM}.getComputedStyle({IN_FILM}.documentElement).fontSize)"
+    trial.value("page.size(26)")
+    trial.must(trial.value(size) == 26, f"the size of letters in a film: {trial.value(size)}")
+    trial.value("page.size(16)")
+    trial.must(trial.value(f"{IN_FILM}.querySelectorAll('#sheet tbody tr').length") == 4, "the steps on paper")
+    trial.press("F6", 117)
+    trial.must(trial.value("document.activeElement.id") == "line", "F6 doesn't lead from the film to the line")
 
 
 def film(trial: Trial) -> None:
     """The steps of a line; the map of the memory; the manual."""
     trial.type(": SQUARES 0 ?DO I DUP * . LOOP ;")
     trial.type(": AFTER 1 ;")
-    trial.value("page.tab('film'); document.getElementById('film-line').value = '3 SQUARES'; document.getElementById('film-form').requestSubmit()")
-    trial.must(trial.wait("/steps/.test(document.getElementById('film-said').textContent)", 20), "no film is made")
-    trial.must(trial.text("film-word") == "SQUARES, typed", "the film's word")
-    trial.must(trial.text("film-thread").strip().endswith("2DROP ;"), f"the film's thread: {trial.text('film-thread')!r}")
-    trial.value("document.getElementById('film-show').focus()")
+    trial.value("page.tab('film'); page.film.isShown = false; document.getElementById('film-line').value = '3 SQUARES'; document.getElementById('film-line').focus();"
+                "document.getElementById('film-form').requestSubmit()")
+    trial.must(trial.wait("page.film.isShown", 20), "no film is made")
+    trial.must(in_film(trial, "name") == "SQUARES, typed", f"the film's word: {in_film(trial, 'name')!r}")
+    thread = trial.value(f"[...{IN_FILM}.querySelectorAll('#thread span')].map((one) => one.textContent).slice(-2)")
+    trial.must(thread == ["2DROP", "EXIT"], f"the film's thread: {thread}")
     trial.press("End", 35)
-    trial.must(trial.text("film-word") == "The end" and "0 1 4" in trial.text("film-output"), "the film's end")
+    trial.must(in_film(trial, "next").startswith("end SQUARES is done.") and "0 1 4" in in_film(trial, "output"), f"the film's end: {in_film(trial, 'next')!r}")
     trial.press("Home", 36)
     trial.press("ArrowRight", 39)
-    trial.must(trial.text("film-number").startswith("step 2 of"), "an arrow in the film")
+    trial.must(in_film(trial, "count").startswith("step 2 of"), "an arrow in the film")
     trial.must(not trial.shown().rstrip().endswith("3 SQUARES"), "the film changed the session")
+    trial.press("ArrowLeft", 37)
+    trial.value(f"{FILM}.go(1)")
     marked_in_source(trial)
+    film_endings(trial)
     film_controls(trial)
     trial.value("page.tab('map')")
     trial.must("SQUARES" in trial.text("map-words") and "your words" in trial.text("map-parts"), "the map")

@@ -10,6 +10,7 @@ sys.path.insert(0, str(TEACHING))
 
 import calls  # noqa: E402
 import cells  # noqa: E402
+import document  # noqa: E402
 import images  # noqa: E402
 import page  # noqa: E402
 import program  # noqa: E402
@@ -238,7 +239,7 @@ def check_texts(cases: Cases) -> None:
                [texts.shown(name) for name in (b"A", b"<b>&\"'", b"\x07\x1b", b"\xff\xc3\xa9")])
     cases.same("names of files", ["SQUARE.html", "_2E_22.html", "_2DX-Y.html", "_2F_2E_2E_2F.html"],
                [texts.file_name(name, ".html") for name in (b"SQUARE", b'."', b"-X-Y", b"/../")])
-    packed = page.as_json({"</script><!--": ["&\u2028\u00e9", "'\""]})
+    packed = document.as_json({"</script><!--": ["&\u2028\u00e9", "'\""]})
     cases.same("JSON in a page", [], [letter for letter in packed if letter in "<>&" or not 31 < ord(letter) < 127])
     cases.same("changes of a stack", [2, 7], page.changes((1, 2, 3), (1, 2, 7)))
 

@@ -70,8 +70,8 @@ class Window(NamedTuple):
 WINDOWS = (Window("1366 x 650", 1366, 650), Window("1920 x 1080", 1920, 1080), Window("1920 x 1080 at 200 %", 960, 540, 2, True),
            Window("390 x 844", 390, 844))
 
-# What of a film isn't seen, step by step. A box is seen if its corners, moved in by two pixels, are in the window and nothing covers them.
-HIDDEN = r"""(() => {
+# A function of a film's window: how many steps were looked at, and what of them isn't seen. A box is seen if its corners, moved in by two pixels, are in the window and nothing covers them.
+HIDDEN = r"""(({ document, innerWidth, go, getComputedStyle }) => {
   const within = (box, one) => [[2, 2], [-2, 2], [2, -2], [-2, -2]].every(([x, y]) => {
     const at = [x > 0 ? box.left + x : box.right + x, y > 0 ? box.top + y : box.bottom + y], over = document.elementFromPoint(...at);
     return over && (one.contains(over) || over.contains(one) && at[0] >= 0 && at[1] >= 0 && clips(over, one, at));
@@ -97,8 +97,8 @@ HIDDEN = r"""(() => {
   };
   const lacks = [];
   // Of a film with very many steps some are looked at.
-  const stride = Math.max(1, Math.floor(visible.length / 130));
-  for (let at = 0; at < visible.length; at += stride) {
+  const count = Number(document.getElementById("slider").max) + 1, stride = Math.max(1, Math.floor(count / 130));
+  for (let at = 0; at < count; at += stride) {
     go(at);
     const now = word(), top = document.querySelector("#data li"), wrong = [];
     if (!now) wrong.push("no word is marked");
@@ -108,8 +108,8 @@ HIDDEN = r"""(() => {
     if (document.documentElement.scrollWidth > innerWidth) wrong.push("the page is too wide");
     if (wrong.length) lacks.push(`step ${at + 1}: ${wrong.join(", ")}`);
   }
-  return [Math.ceil(visible.length / stride), lacks];
-})()"""
+  return [Math.ceil(count / stride), lacks];
+})"""
 
 
 def prepare(tree: teaching_runs.Tree) -> None:
@@ -130,7 +130,7 @@ def check_windows(tree: teaching_runs.Tree, one: browsers.Browser) -> Dict[str, 
         for name, _ in FILMS:
             one.open(tree.room / f"view-{name}.html")
             for unfolds in ("", "foldAll();") if window.unfolds else ("",):
-                steps, lacks = one.value(unfolds + HIDDEN)
+                steps, lacks = one.value(f"{unfolds}{HIDDEN}(window)")
                 counts = found.setdefault(window.name, [0, 0])
                 counts[0] += steps
                 counts[1] += len(lacks)
