@@ -29,7 +29,7 @@ export function trialsOf(page) {
   return found;
 }
 
-// What answer PLACE of a quiz, from 1, contains in place of a number: the word SEAL of the course.
+// What stands for a number as answer PLACE of a quiz, from 1, in place of the number: the word SEAL of the course.
 function seal(number, place) {
   let sealed = (number ^ (31 * place + 7919)) & 0xffff;
   for (let round = 0; round < 5; round++) {

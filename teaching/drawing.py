@@ -121,11 +121,11 @@ def told_of(one: regions.Map, header: images.Header) -> List[str]:
 
 def word(grid: Grid, header: images.Header) -> str:
     """A word as a group that keys reach."""
-    lines = lines_of(grid.one, header)
+    lines = told_of(grid.one, header)
     drawn = "".join(grid.boxes(region.begins, region.end, region.kind) for region in regions.parts_of(header))
     link = grid.boxes(header.link_field, header.link_field + 2, f"cell c{header.chain()}")
-    text = escape("|".join(line.replace("|", "¦") for line in lines))
-    return (f'<g class="word" tabindex="0" data-at="{header.link_field}" data-link="{header.link}" data-told="{text}">'
+    told = escape("|".join(line.replace("|", "¦") for line in lines))
+    return (f'<g class="word" tabindex="0" data-at="{header.link_field}" data-link="{header.link}" data-told="{told}">'
             f'<title>{escape(chr(10).join(lines))}</title>{drawn}{link}{grid.letters(header)}</g>')
 
 
@@ -156,25 +156,25 @@ def draw_grid(canvas: Canvas, grid: Grid, runs: List[Tuple[int, int]]) -> None:
     if images.DICTIONARY <= grid.one.here <= grid.one.top:
         x, y = grid.spot(grid.one.here)
         canvas.add(f'<path class="here" d="M{x} {y}v{ROW - 2}"/>')
-        canvas.add(f'<text class="text" x="{x + 4}" y="{y + 15}">HERE {grid.one.here}</text>')
+        canvas.add(f'<text class="told" x="{x + 4}" y="{y + 15}">HERE {grid.one.here}</text>')
     canvas.add("</g>")
 
 
 def draw_strip(canvas: Canvas, one: regions.Map) -> None:
     """All of memory to scale, and what its parts are."""
     scale, y = (canvas.width - 24) / images.MEMORY, canvas.y + 6
-    for begins, end, kind, text in one.outline():
+    for begins, end, kind, told in one.outline():
         x, width = 8 + begins * scale, max(1, (end - begins) * scale)
         canvas.add(f'<rect class="{kind}" x="{x:.2f}" y="{y}" width="{width:.2f}" height="26">'
-                   f'<title>{escape(text)}: {begins} to {end - 1}</title></rect>')
+                   f'<title>{escape(told)}: {begins} to {end - 1}</title></rect>')
     canvas.room(34)
-    for begins, end, kind, text in one.outline():
+    for begins, end, kind, told in one.outline():
         if kind == "buffer" and begins > one.limit:
             continue
         canvas.add(f'<rect class="{kind}" x="8" y="{canvas.y + 3}" width="12" height="12"/>')
         if kind == "buffer":
-            text, end = f"{one.image.buffers} block buffers", images.MEMORY
-        canvas.line(f"{begins} to {end - 1}: {text}, {end - begins} bytes", x=28)
+            told, end = f"{one.image.buffers} block buffers", images.MEMORY
+        canvas.line(f"{begins} to {end - 1}: {told}, {end - begins} bytes", x=28)
 
 
 def draw_cells(canvas: Canvas, one: regions.Map) -> None:
@@ -208,12 +208,12 @@ def draw_key(canvas: Canvas, heading: str) -> None:
     """What the colors are."""
     canvas.line(heading, "heading")
     x, y = 8, canvas.y + 4
-    for kind, text in COLOURS:
-        width = 20 + (len(text) + 2) * LETTER
+    for kind, told in COLOURS:
+        width = 20 + (len(told) + 2) * LETTER
         if x + width > canvas.width:
             x, y = 8, y + LINE
         canvas.add(f'<rect class="{kind}" x="{x}" y="{y}" width="12" height="12"/>')
-        canvas.add(f'<text class="text" x="{x + 17}" y="{y + 11}">{text}</text>')
+        canvas.add(f'<text class="told" x="{x + 17}" y="{y + 11}">{told}</text>')
         x += width
     canvas.y = y + LINE + 4
     canvas.line(ADVICE)
@@ -265,12 +265,12 @@ def draw_one(one: regions.Map, wide: int) -> Canvas:
 
 def draw_changes(canvas: Canvas, changes: regions.Changes) -> None:
     canvas.line("What changed from the first to the second", "heading")
-    for text, headers in (("Words that came", changes.came), ("Words that went", changes.went),
+    for told, headers in (("Words that came", changes.came), ("Words that went", changes.went),
                           ("Words with other bytes", [header for _, header in changes.changed])):
         names = " ".join(texts.shown(header.name) for header in headers[:200])
-        canvas.line(f"{text}: {len(headers)}. {names}{' ..' if len(headers) > 200 else ''}")
-    for name, before, after in changes.cells():
-        canvas.line(f"{name}: {before}, then {after}", x=28)
+        canvas.line(f"{told}: {len(headers)}. {names}{' ..' if len(headers) > 200 else ''}")
+    for name, before, behind in changes.cells():
+        canvas.line(f"{name}: {before}, then {behind}", x=28)
     canvas.line(f"{changes.bytes()} of 65536 bytes differ. What differs in the dictionary has a frame.")
 
 

@@ -17,8 +17,8 @@ def outline(one: regions.Map) -> Iterator[str]:
     image = one.image
     yield f"{one.name}: version {image.version}, {image.size} bytes, {image.buffers} block buffers, begins with {entry(one)}"
     yield ""
-    for begins, end, _, text in one.outline():
-        yield f"{begins:6}  {end - begins:6}  {text:28} {bar(end - begins, images.MEMORY)}"
+    for begins, end, _, told in one.outline():
+        yield f"{begins:6}  {end - begins:6}  {told:28} {bar(end - begins, images.MEMORY)}"
 
 
 def entry(one: regions.Map) -> str:
@@ -68,8 +68,8 @@ def listing(one: regions.Map) -> Iterator[str]:
 def told_cells(changes: regions.Changes) -> Iterator[str]:
     yield ""
     yield "system cells that changed"
-    for name, before, after in changes.cells():
-        yield f"        {name:20} {before:6} -> {after:6}"
+    for name, before, behind in changes.cells():
+        yield f"        {name:20} {before:6} -> {behind:6}"
 
 
 def told_words(changes: regions.Changes) -> Iterator[str]:

@@ -1,5 +1,5 @@
 "use strict";
-// Keys and pointer of a map: the chosen word shows what it is, and its chain is drawn.
+// Keys and pointer of a map: the word that is chosen tells what it is, and its chain is drawn.
 const space = "http://www.w3.org/2000/svg";
 const drawings = [...document.querySelectorAll(".wide, .narrow")];
 
@@ -19,7 +19,7 @@ function drawChain(word) {
   for (const arc of word.parentNode.querySelectorAll(".link")) arc.classList.toggle("on", chained.has(arc.dataset.from));
 }
 
-function describe(word) {
+function tell(word) {
   const box = word.getBBox(), lines = word.dataset.told.split("|");
   const width = 7.4 * Math.max(...lines.map((line) => line.length)) + 14;
   const group = word.closest(".wide, .narrow").querySelector(".tell");
@@ -31,7 +31,7 @@ function describe(word) {
 
 function choose(word) {
   drawChain(word);
-  describe(word);
+  tell(word);
 }
 
 function follow(word) {

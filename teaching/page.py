@@ -45,7 +45,7 @@ class Words:
     def __init__(self, film: filming.Film, dictionary: images.Dictionary, manual: manual.Manual, source: Callable[[images.Header], Tuple[str, str]]) -> None:
         self.dictionary, self.manual, self.source = dictionary, manual, source
         self.words, self.place_of, self.entries = [], {}, []
-        self.says, self.owner = {}, dictionary.owners()
+        self.told, self.owner = {}, dictionary.owners()
         for header in self.headers(film):
             self.add(header)
         for step in film.calls.steps:
@@ -93,7 +93,7 @@ class Words:
         if header and not text[0]:
             text = self.of_data(header) or self.of_source(header)
         key = tuple(text)
-        return self.says.setdefault(key, len(self.says))
+        return self.told.setdefault(key, len(self.told))
 
     def of_data(self, header: images.Header) -> Optional[List[str]]:
         """What a word of the screens does that VARIABLE, CREATE, CONSTANT or DOES> made; None for others."""
@@ -127,8 +127,8 @@ class Loops:
 
     def at(self, row: Optional[int], depth: int) -> int:
         """The number of the depths before a step of this row, when the return stack has this depth."""
-        if self.started is not None and depth >= self.started + 3:
-            self.open += (self.started,)
+        if self.begun is not None and depth >= self.begun + 3:
+            self.open += (self.begun,)
         while self.open and depth < self.open[-1] + 3:
             self.open = self.open[:-1]
         self.begun = depth if row == threads.DO else None
@@ -182,9 +182,9 @@ def faulted(film: filming.Film, words: Words, root: int, name: str) -> Tuple[str
     outer, inner = (words.token_at(address) for address in (own, steps[end - 1].address))
     number = steps[end].data[-1]
     said = manual.fault(number) or abort_text(words, steps[end - 1].address) or "a fault"
-    text = f"{said} (fault {number}) at {outer}"
-    text += "" if own == steps[end - 1].address else f", within it at {inner}"
-    return f"{text}. It ended {name}: both stacks were emptied, and the fault's number was pushed.", words.place_of[own]
+    told = f"{said} (fault {number}) at {outer}"
+    told += "" if own == steps[end - 1].address else f", within it at {inner}"
+    return f"{told}. It ended {name}: both stacks were emptied, and the fault's number was pushed.", words.place_of[own]
 
 
 def abort_text(words: Words, address: int) -> str:

@@ -17,8 +17,8 @@ WHO = '<p class="who">Name<span></span>Date<span></span></p>'
 def figure(read: screens.Screens, number: int) -> str:
     """A screen with its number and its lines."""
     if number in read.refused:
-        note = f"<p>This screen isn't printed: it has bytes that are no text ({escape(read.refused[number])}).</p>"
-        return f"<figure><figcaption>Screen {number}</figcaption>{note}</figure>"
+        told = f"<p>This screen isn't printed: it has bytes that are no text ({escape(read.refused[number])}).</p>"
+        return f"<figure><figcaption>Screen {number}</figcaption>{told}</figure>"
     lines = read.lines.get(number, []) + [""] * screens.LINES
     text = "\n".join(f"{at:2} {line}".rstrip() for at, line in enumerate(lines[:screens.LINES]))
     return f"<figure><figcaption>Screen {number}</figcaption><pre>{escape(text)}</pre></figure>"
@@ -66,9 +66,9 @@ def cross_reference(references: References) -> str:
     if not references.defined:
         return "<section><h2>Words: where defined, where used</h2><p>No word is defined in these screens.</p></section>"
     rows = "".join(entry(name, references.defined[name], references.uses(name)) for name in sorted(references.defined))
-    note = "<p>21.3 is screen 21, line 3, and 21.3.5 its lines 3 and 5. Names in comments and in texts aren't counted.</p>"
+    told = "<p>21.3 is screen 21, line 3, and 21.3.5 its lines 3 and 5. Names in comments and in texts aren't counted.</p>"
     head = "<thead><tr><th>word</th><th>defined</th><th>used</th></tr></thead>"
-    return f"<section><h2>Words: where defined, where used</h2>{note}{columns(head, rows)}</section>"
+    return f"<section><h2>Words: where defined, where used</h2>{told}{columns(head, rows)}</section>"
 
 
 def columns(head: str, rows: str) -> str:
@@ -81,11 +81,11 @@ def missing(references: References, known: Set[str]) -> str:
     found = references.missing(known)
     if not found:
         return ""
-    rows = "".join(f"<tr><td>{escape(name)}</td><td>{short_places(found[name])}</td></tr>" for name in sorted(found))
-    note = ("<p>Neither defined in these screens nor words of this Forth, or no words at all, such as what a word like TEXT reads "
-            "after it.</p>")
+    rows = "".join(f"<tr><td>{escape(name)}</td><td>{told_places(found[name])}</td></tr>" for name in sorted(found))
+    told = ("<p>Neither defined in these screens nor words of this Forth, or no words at all, as what a word like TEXT reads "
+            "behind it.</p>")
     head = "<thead><tr><th>word</th><th>used</th></tr></thead>"
-    return f"<section><h2>Words that aren't known</h2>{note}{columns(head, rows)}</section>"
+    return f"<section><h2>Words that aren't known</h2>{told}{columns(head, rows)}</section>"
 
 
 def document(name: str, parts: List[str], is_wide: bool) -> str:

@@ -35,20 +35,20 @@ def making(film: filming.Film, taken: argparse.Namespace, version: str, name: st
     if not film.is_whole:
         return [ALONE.format(version=version, name=name)]
     count = len(film.exact) + len(film.others)
-    said = [WHOLE.format(version=version, exact=len(film.exact), all=count, name=name)]
+    told = [WHOLE.format(version=version, exact=len(film.exact), all=count, name=name)]
     if film.others:
-        said.append(OTHERS.format(names=", ".join(texts.shown(word.name) for word in film.others)))
+        told.append(OTHERS.format(names=", ".join(texts.shown(word.name) for word in film.others)))
     unknown = [texts.shown(word.header.name) for word in film.cells.unknown()]
     if unknown:
-        said.append(UNFOLLOWED.format(names=", ".join(unknown), has="has" if len(unknown) == 1 else "have"))
-    return said + [COUNTED if film.marks else UNCOUNTED, BESIDE]
+        told.append(UNFOLLOWED.format(names=", ".join(unknown), has="has" if len(unknown) == 1 else "have"))
+    return told + [COUNTED if film.marks else UNCOUNTED, BESIDE]
 
 
 def cuts(film: filming.Film, taken: argparse.Namespace) -> List[str]:
     """What isn't in it."""
-    said = []
+    told = []
     if film.calls.met > taken.steps:
-        said.append(f"The film was cut: it has the first {taken.steps:,} of {film.calls.met:,} steps; --steps N takes more.")
+        told.append(f"The film was cut: it has the first {taken.steps:,} of {film.calls.met:,} steps; --steps N takes more.")
     if film.status == 4:
-        said.append(f"The run was cut at {taken.limit:,} ticks; --limit TICKS takes more.")
-    return said
+        told.append(f"The run was cut at {taken.limit:,} ticks; --limit TICKS takes more.")
+    return told

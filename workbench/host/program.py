@@ -1,4 +1,4 @@
-"""The Forth of a session, at the other end of its pipes.
+"""The Forth of a session, behind its pipes.
 
 The Forth is started as `forth83 run --save --break FILE -- IMAGE BLOCKS`. It reads keys from a named pipe and writes its output
 into a pipe. FILE is how the host and the Forth speak with each other besides; this is the whole protocol:
