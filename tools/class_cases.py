@@ -200,6 +200,10 @@ def check_course_options(tree: teaching_runs.Tree) -> None:
     tree.cases.same(f"pages of all lessons: {said}", (0, LESSONS, LESSONS, 16 * LESSONS),
                     (status, made.count("<article>"), made.count("Name <span></span> Date <span></span>"), made.count("<tr>")))
     tree.cases.holds("the text of a lesson", "<strong>Exercise</strong>, in screen 28: REVERSED", made)
+    # 70 letters; 8 spaces for the tab and 60 letters; 64 bytes, of which 32 are written as ~C3; 70 letters
+    (tree.room / "long.txt").write_text(f"% screen 25\n{'x' * 70}\n\t{'x' * 60}\n%~{'a~C3' * 32}\n{'x' * 70}\n", encoding="ascii")
+    status, said = tree.run(["workbench/blocks", "long.txt", "long.blk"])
+    tree.cases.same(f"all lines of a text that are too long: {said!r}", (1, True), (status, b"more than 64 bytes: lines 2, 3, 5\n" in said))
     (tree.room / "own.txt").write_text("% screen 25\n( Lesson 5: <own> )\n( write )\n% screen 45\nALL-RIGHT\n", encoding="ascii")
     status, said = tree.tool("course", "--sheets", "--course", "own.txt", "-o", "own.html")
     tree.cases.same(f"a page of one lesson: {said}", (0, 1), (status, (tree.room / "own.html").read_text(encoding="utf-8").count("5. &lt;own&gt;")))
