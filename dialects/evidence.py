@@ -2,9 +2,10 @@
 
 dialects/survey uses it. A source is a list of `Place`s: each word with its screen and line.
 """
+import functools
 import pathlib
 import re
-from typing import Callable, Dict, Iterable, List, NamedTuple, Optional, Set, Tuple
+from typing import Callable, Dict, FrozenSet, Iterable, List, NamedTuple, Optional, Set, Tuple
 
 FOLDER = pathlib.Path(__file__).resolve().parent
 NAMES = {"fig": "fig-FORTH", "f79": "Forth-79", "f83": "F83", "poly": "polyFORTH"}
@@ -119,12 +120,14 @@ NUMBER = re.compile(r"-?[0-9][0-9A-F]*|-?\$[0-9A-F]+|0[0-9A-F]+H?")
 DIGITS = r"-?[0-9A-F]*[0-9][0-9A-F]*"
 
 
-def glossary(name: str) -> Set[str]:
+@functools.lru_cache(maxsize=None)
+def glossary(name: str) -> FrozenSet[str]:
     """The words of a published glossary, as a file of dialects/glossaries lists them below the lines that name it."""
     text = (FOLDER / "glossaries" / name).read_text(encoding="ascii")
-    return set(re.sub(r"\A(# .*\n)+", "", text).split())
+    return frozenset(re.sub(r"\A(# .*\n)+", "", text).split())
 
 
+@functools.lru_cache(maxsize=None)
 def left_out(name: str) -> Dict[str, str]:
     """The words that a text of dialects/ leaves out, each with the reason that the Forth gives: lists after LEAVES, or words of NO."""
     text = (FOLDER / f"{name}.txt").read_text(encoding="ascii")
@@ -301,7 +304,7 @@ def known_words() -> Set[str]:
 
 def holders() -> Dict[str, Set[str]]:
     """The words of each dialect's glossary, and of the glossaries of the systems that go back to it."""
-    held = {key: glossary(key) for key in ALL}
+    held: Dict[str, Set[str]] = {key: set(glossary(key)) for key in ALL}
     for system, (_, key) in SYSTEMS.items():
         held[key] = held[key] | glossary(system)
     return held

@@ -107,20 +107,37 @@ def shown_after(steps: List[Step], output: str) -> List[str]:
     return shown
 
 
-def run_case(folder: Folder, case: Case) -> List[str]:
-    """What is wrong with a case, run in a folder of its own file."""
-    room = pathlib.Path(folder.room)
-    (room / "case.txt").write_text(case.text(), encoding="ascii")
-    (room / "case.blk").unlink(missing_ok=True)
-    said = folder.run(["./forth83", "new", "case.blk", "8"])
-    said += folder.run(["./forth83", "screens", "case.txt", "case.blk"])
-    loads = []
-    for name in case.dialects():
-        said += folder.run(["./forth83", "screens", f"dialects/{name}.txt", "case.blk"])
-        loads.append(Step(f"{FIRST[name]} LOAD"))
-    steps = [*loads, *case.steps]
-    if said:
-        return [said]
-    output = folder.run(["./forth83", "run", "--limit", "100000000", "tools", "case.blk"], "".join(step.lines() for step in steps))
-    output = re.sub(r"\x1b\[[0-9;]*[A-Za-z]", "", output)
-    return [wrong for step, got in zip(steps, shown_after(steps, output)) if (wrong := step.fails(got)) is not None]
+class Runner:
+    """Runs cases in a folder, by its program itself: the launcher would take longer than most cases."""
+
+    def __init__(self, folder: Folder) -> None:
+        self.folder = folder
+        self.room = pathlib.Path(folder.room)
+        self.program = str(self.room / "crates/forth83/out/forth83")
+        self.blocks: Dict[str, bytes] = {}
+
+    def blocks_of(self, case: Case) -> bytes:
+        """A file of blocks with the dialects of a case, made once for all cases that have these."""
+        if case.dialect not in self.blocks:
+            (self.room / "case.blk").unlink(missing_ok=True)
+            said = self.folder.run([self.program, "new", "case.blk", "8"])
+            for name in case.dialects():
+                said += self.folder.run([self.program, "screens", f"dialects/{name}.txt", "case.blk"])
+            if said:
+                raise ValueError(said)
+            self.blocks[case.dialect] = (self.room / "case.blk").read_bytes()
+        return self.blocks[case.dialect]
+
+    def wrong(self, case: Case) -> List[str]:
+        """What is wrong with a case."""
+        data = self.blocks_of(case)
+        (self.room / "case.blk").write_bytes(data)
+        (self.room / "case.txt").write_text(case.text(), encoding="ascii")
+        said = self.folder.run([self.program, "screens", "case.txt", "case.blk"])
+        if said:
+            return [said]
+        steps = [*(Step(f"{FIRST[name]} LOAD") for name in case.dialects()), *case.steps]
+        typed = "".join(step.lines() for step in steps)
+        output = self.folder.run([self.program, "run", "--limit", "100000000", "tools", "case.blk"], typed)
+        output = re.sub(r"\x1b\[[0-9;]*[A-Za-z]", "", output)
+        return [wrong for step, got in zip(steps, shown_after(steps, output)) if (wrong := step.fails(got)) is not None]
