@@ -155,7 +155,11 @@ find_unproved() {
   "$here/workbench/unproved" "$forth83" < /dev/null 2> "$room/said" &
   building=$!
   set +m
-  sleep 0.5
+  # It makes a folder, of which it keeps the name, when it begins to build. Before that it compares the sums of the sources, which takes
+  # a while on a busy machine.
+  while kill -0 "$building" 2> /dev/null && [ ! -e "$forth83.room" ]; do
+    sleep 0.1
+  done
   if kill -0 "$building" 2> /dev/null; then
     say "building the program without its proofs, which takes $(awk '$1 == "unproved" { printf("%d minute%s on %d processors", $3, ($3 > 1 ? "s" : ""), $2); exit }' "$here/workbench/times")"
     show_seconds "$building"
