@@ -427,6 +427,7 @@ def not_kept(source: List[Place], defined: Set[str]) -> List[Tuple[str, Place, s
         (lambda a, b, c: a == "COMPILE" and b in ("(DO)", "(?DO)", "(LOOP)", "(+LOOP)"), "loops differ inside: write [COMPILE] DO and [COMPILE] LOOP"),
         (lambda a, b, c: is_branching and (a, b, c) in DISTANCES, "branches hold addresses, not distances: write BACK or [COMPILE] THEN"),
         (lambda a, b, c: is_named and a == "C@" and (b, c) in LAST_LETTER, "a name's last letter has no high bit here: use TRAVERSE or COUNT"),
+        (lambda a, b, c: {a, b} == {"PAD", "HERE"}, "PAD is 340 bytes after HERE here; elsewhere it is 64 to 84"),
     ]
     for a, b, c in zip(source, source[1:], source[2:] + [Place("", 0, 0, False)]):
         for test, why in tests:
