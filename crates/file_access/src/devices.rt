@@ -1,6 +1,6 @@
 //! A device over a file, or over none.
 
-ghost use Rattle.std.specs.Prelude.{◌≡◌, ◌≤◌, None, []};
+ghost use Rattle.std.specs.Prelude.{◌≡◌, ◌≤◌, None, [], IfOk, IfSome};
 ghost use Rattle.std.specs.Option.{ForNone, ForSome};
 ghost use Rattle.file_access.specs.Streams.{IsApart};
 ghost use Rattle.file_access.specs.Told.{told};
@@ -39,7 +39,9 @@ impl FileDevice {
 
 /// Opens a file of blocks for reading and writing, and holds it against other runs. `CannotOpen`: the system refuses it;
 /// `InUse`: another run has it.
-pub fn open_device(rt: &HostRuntime, name: &str) -> Result<FileDevice, Unopened> {
+pub fn open_device(rt: &HostRuntime, name: &str) -> Result<FileDevice, Unopened>
+    ensures uncalled { IfOk result (λ device. ⟦<FileDevice as Device>⟧.calls device ≡ []) }
+{
     match open_blocks(rt, OpenOptions::new().read(true).write(true), name) {
         Some(device) => {
             if device.file.as_ref().is_some_and(is_in_use) {
@@ -52,11 +54,15 @@ pub fn open_device(rt: &HostRuntime, name: &str) -> Result<FileDevice, Unopened>
 }
 
 /// Opens a file of blocks for reading alone: each write fails. `None`: it can't be opened.
-pub fn open_to_read(rt: &HostRuntime, name: &str) -> Option<FileDevice> {
+pub fn open_to_read(rt: &HostRuntime, name: &str) -> Option<FileDevice>
+    ensures uncalled { IfSome result (λ device. ⟦<FileDevice as Device>⟧.calls device ≡ []) }
+{
     open_blocks(rt, OpenOptions::new().read(true), name)
 }
 
-fn open_blocks(rt: &HostRuntime, options: &OpenOptions, name: &str) -> Option<FileDevice> {
+fn open_blocks(rt: &HostRuntime, options: &OpenOptions, name: &str) -> Option<FileDevice>
+    ensures uncalled { IfSome result (λ device. ⟦<FileDevice as Device>⟧.calls device ≡ []) }
+{
     let file = open_apart(rt, options, name).ok()?;
     let length = file.metadata().ok()?.len();
     let blocks = length / 1024;

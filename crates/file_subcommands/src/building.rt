@@ -1,17 +1,14 @@
 //! `build` and `upgrade`.
 
-ghost use Rattle.std.specs.Prelude.{◌≡◌, ◌↔◌, true, ◌<◌, IfErr};
+ghost use Rattle.std.specs.Prelude.{◌≡◌, ◌↔◌, ◌<◌, true, IfErr, IfOk, IfSome};
 ghost use Rattle.memory.specs.Bytes.{IsCount};
+ghost use Rattle.file_subcommands.specs.Filed.{Builds, Upgrades, done, status_of};
 
 use crate::screens::Screens;
-use file_access::FileDevice;
+use block_buffers::Device;
 use image_builder::{Cause, build};
-use inner_interpreter::Writing;
-use named_files::{
-    image_bytes, keep_apart, keep_image, read_alone, read_screen, say_missing, show_line,
-    standard_output, write_made,
-};
-use std::io::IsTerminal;
+use inner_interpreter::Output;
+use named_files::{Files, read_screen, write_made};
 use subcommands::{Ended, do_build, do_upgrade};
 
 /// A number of block buffers that an image may have. The command line has no other.
@@ -21,25 +18,35 @@ fn is_count(buffers: u16) -> bool
     (2..=16).contains(&buffers)
 }
 
+/// Whether an image may have so many block buffers, if a number is given.
+fn may_be_wanted(buffers: Option<u16>) -> bool
+    ensures { result ≡ true → IfSome buffers (λ count. IsCount count) }
+{
+    match buffers {
+        Some(count) => is_count(count),
+        None => true,
+    }
+}
+
 /// Says on standard error where and why the source in the screens from the first to the last is refused, with that line of
 /// the screen and a mark below the place. Where it can't be found out, or can't be said, nothing is.
-fn show_place(
-    rt: &HostRuntime,
+fn show_place<F: Files, D: Device>(
+    files: &F,
     name: &str,
-    device: &mut FileDevice,
+    device: &mut D,
     screens: (u16, u16),
     buffers: u16,
 )
     requires { IsCount buffers }
 {
     let (from, to) = screens;
-    if let Err(fault) = build(rt.alloc(), device, from, to, buffers) {
+    if let Err(fault) = build(files.alloc(), device, from, to, buffers) {
         match fault.cause {
             Cause::OutOfMemory => {}
-            Cause::Device => say_missing(rt, name, fault.screen),
+            Cause::Device => files.say_missing(name, fault.screen),
             cause => {
-                if let Some(bytes) = read_screen(rt, name, device, fault.screen) {
-                    show_line(rt, name, (fault.screen, &bytes), fault.offset, cause);
+                if let Some(bytes) = read_screen(files, name, device, fault.screen) {
+                    files.show_line(name, (fault.screen, &bytes), fault.offset, cause);
                 }
             }
         }
@@ -47,48 +54,56 @@ fn show_place(
 }
 
 /// Builds the screens that `build` names, and writes the image. `shows_place`: where a source is refused is shown also if
-/// standard error is no terminal.
-pub fn build_image(
-    rt: &HostRuntime,
+/// standard error is no terminal. If it cannot begin, that is printed, and the status is the error.
+pub fn build_image<F: Files, W: Output>(
+    files: &mut F,
+    writer: &mut W,
     screens: Screens<'_>,
     image: &str,
     buffers: u16,
     shows_place: bool,
 ) -> Result<u8, u8>
-    ensures { IfErr result (λ status. 0 < status) }
+    ensures built { IfOk result (λ status. Builds screens.entry.blocks.now screens.entry.from screens.entry.to image.now buffers status
+        (done (F.files_read files.old) (F.blocks_opened files.old) (F.files_written files.old) (W.sent writer.old))
+        (done (F.files_read files.new) (F.blocks_opened files.new) (F.files_written files.new) (W.sent writer.new))) }
+    ensures unwritten { 0 < status_of result → F.files_written files.new ≡ F.files_written files.old }
+    ensures refused { IfErr result (λ status. 0 < status) }
 {
     if !is_count(buffers) {
         return Err(2);
     }
     let Screens { blocks, from, to } = screens;
-    keep_apart(rt, blocks, image, "the blocks and the image")?;
-    keep_image(rt, image)?;
-    let mut device = read_alone(rt, blocks)?;
-    let mut writer = Writing::new(standard_output(rt)?);
-    let Ended { status, file } = do_build(rt.alloc(), &mut device, from, to, buffers, &mut writer);
-    if status == 1 && (shows_place || rt.stderr().is_terminal()) {
-        show_place(rt, blocks, &mut device, (from, to), buffers);
+    files.keep_apart(blocks, image, "the blocks and the image")?;
+    files.keep_image(image)?;
+    files.keep_blocks(blocks)?;
+    let mut device = files.read_alone(blocks)?;
+    let Ended { status, file } = do_build(files.alloc(), &mut device, from, to, buffers, writer);
+    if status == 1 && (shows_place || files.is_watched()) {
+        show_place(files, blocks, &mut device, (from, to), buffers);
     }
-    Ok(write_made(rt, status, file, image))
+    Ok(write_made(files, status, file, image))
 }
 
-/// Writes the image that `upgrade` names anew, for other block buffers.
-pub fn upgrade_image(
-    rt: &HostRuntime,
+/// Writes the image that `upgrade` names anew, for other block buffers. If it cannot begin, that is printed, and the status is the
+/// error.
+pub fn upgrade_image<F: Files, W: Output>(
+    files: &mut F,
+    writer: &mut W,
     image: &str,
     out: &str,
     buffers: Option<u16>,
 ) -> Result<u8, u8>
-    ensures { IfErr result (λ status. 0 < status) }
+    ensures upgraded { IfOk result (λ status. Upgrades image.now out.now buffers status (W.failed writer.new)
+        (done (F.files_read files.old) (F.blocks_opened files.old) (F.files_written files.old) (W.sent writer.old))
+        (done (F.files_read files.new) (F.blocks_opened files.new) (F.files_written files.new) (W.sent writer.new))) }
+    ensures unwritten { 0 < status_of result → F.files_written files.new ≡ F.files_written files.old }
+    ensures refused { IfErr result (λ status. 0 < status) }
 {
-    if let Some(count) = buffers {
-        if !is_count(count) {
-            return Err(2);
-        }
+    if !may_be_wanted(buffers) {
+        return Err(2);
     }
-    keep_image(rt, out)?;
-    let bytes = image_bytes(rt, image)?;
-    let mut writer = Writing::new(standard_output(rt)?);
-    let Ended { status, file } = do_upgrade(rt.alloc(), bytes.as_slice(), buffers, &mut writer);
-    Ok(write_made(rt, status, file, out))
+    files.keep_image(out)?;
+    let bytes = files.image_bytes(image)?;
+    let Ended { status, file } = do_upgrade(files.alloc(), bytes.as_slice(), buffers, writer);
+    Ok(write_made(files, status, file, out))
 }

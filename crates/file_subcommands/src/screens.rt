@@ -1,12 +1,10 @@
 //! `kernel`, `text`, `screens` and `new`.
 
-ghost use Rattle.std.specs.Prelude.{◌<◌, IfErr};
+ghost use Rattle.std.specs.Prelude.{◌≡◌, ◌<◌, true, false, IfErr, IfOk};
+ghost use Rattle.file_subcommands.specs.Filed.{MakesKernel, MakesNew, MakesScreens, Prints, done, status_of};
 
-use inner_interpreter::Writing;
-use named_files::{
-    file_bytes, held, keep_absent, keep_apart, keep_blocks, old_blocks, read_alone, say,
-    standard_output, write_made,
-};
+use inner_interpreter::Output;
+use named_files::{Files, write_made};
 use subcommands::{Ended, do_kernel, do_new, do_screens, do_text};
 
 /// How many blocks a file has at most.
@@ -20,49 +18,81 @@ pub struct Screens<'a> {
     pub to: u16,
 }
 
-/// Writes the new file that `kernel` names.
-pub fn write_kernel(rt: &HostRuntime, blocks: &str) -> Result<u8, u8>
-    ensures { IfErr result (λ status. 0 < status) }
+/// Writes the new file that `kernel` names. If it cannot begin, that is printed, and the status is the error.
+pub fn write_kernel<F: Files, W: Output>(
+    files: &mut F,
+    writer: &mut W,
+    blocks: &str,
+) -> Result<u8, u8>
+    ensures made { MakesKernel blocks.now (status_of result)
+        (done (F.files_read files.old) (F.blocks_opened files.old) (F.files_written files.old) (W.sent writer.old))
+        (done (F.files_read files.new) (F.blocks_opened files.new) (F.files_written files.new) (W.sent writer.new)) }
+    ensures refused { IfErr result (λ status. 0 < status) }
 {
-    let _held = held(rt, blocks)?;
-    let mut writer = Writing::new(standard_output(rt)?);
-    let Ended { status, file } = do_kernel(rt.alloc(), &mut writer);
-    Ok(write_made(rt, status, file, blocks))
+    let _held = files.held(blocks)?;
+    let Ended { status, file } = do_kernel(files.alloc(), writer);
+    Ok(write_made(files, status, file, blocks))
 }
 
-/// Prints the screens that `text` names.
-pub fn print_text(rt: &HostRuntime, screens: Screens<'_>) -> Result<u8, u8>
-    ensures { IfErr result (λ status. 0 < status) }
+/// Prints the screens that `text` names. If it cannot begin, that is printed, and the status is the error.
+pub fn print_text<F: Files, W: Output>(
+    files: &mut F,
+    writer: &mut W,
+    screens: Screens<'_>,
+) -> Result<u8, u8>
+    ensures printed { IfOk result (λ status. Prints screens.entry.blocks.now screens.entry.from screens.entry.to status (W.failed writer.new)
+        (done (F.files_read files.old) (F.blocks_opened files.old) (F.files_written files.old) (W.sent writer.old))
+        (done (F.files_read files.new) (F.blocks_opened files.new) (F.files_written files.new) (W.sent writer.new))) }
+    ensures unwritten { F.files_written files.new ≡ F.files_written files.old }
+    ensures refused { IfErr result (λ status. 0 < status) }
+    ensures cut { W.failed writer.old ≡ false → W.failed writer.new ≡ true → IfOk result (λ status. status ≡ 5) }
 {
     let Screens { blocks, from, to } = screens;
-    let mut device = read_alone(rt, blocks)?;
-    let mut writer = Writing::new(standard_output(rt)?);
-    Ok(do_text(rt.alloc(), &mut device, from, to, &mut writer).status)
+    files.keep_blocks(blocks)?;
+    let mut device = files.read_alone(blocks)?;
+    Ok(do_text(files.alloc(), &mut device, from, to, writer).status)
 }
 
-/// Writes the screens of the text that `screens` names. A text isn't written over by its screens.
-pub fn write_screens(rt: &HostRuntime, text: &str, blocks: &str) -> Result<u8, u8>
-    ensures { IfErr result (λ status. 0 < status) }
+/// Writes the screens of the text that `screens` names. A text isn't written over by its screens. If it cannot begin, that is
+/// printed, and the status is the error.
+pub fn write_screens<F: Files, W: Output>(
+    files: &mut F,
+    writer: &mut W,
+    text: &str,
+    blocks: &str,
+) -> Result<u8, u8>
+    ensures made { IfOk result (λ status. MakesScreens text.now blocks.now status
+        (done (F.files_read files.old) (F.blocks_opened files.old) (F.files_written files.old) (W.sent writer.old))
+        (done (F.files_read files.new) (F.blocks_opened files.new) (F.files_written files.new) (W.sent writer.new))) }
+    ensures unwritten { 0 < status_of result → F.files_written files.new ≡ F.files_written files.old }
+    ensures refused { IfErr result (λ status. 0 < status) }
 {
-    keep_apart(rt, text, blocks, "the text and the blocks")?;
-    let bytes = file_bytes(rt, text)?;
-    keep_blocks(rt, blocks)?;
-    let _held = held(rt, blocks)?;
-    let old = old_blocks(rt, blocks)?;
-    let mut writer = Writing::new(standard_output(rt)?);
-    let Ended { status, file } = do_screens(rt.alloc(), old, bytes.as_slice(), &mut writer);
-    Ok(write_made(rt, status, file, blocks))
+    files.keep_apart(text, blocks, "the text and the blocks")?;
+    let bytes = files.file_bytes(text)?;
+    files.keep_blocks(blocks)?;
+    let _held = files.held(blocks)?;
+    let old = files.old_blocks(blocks)?;
+    let Ended { status, file } = do_screens(files.alloc(), old, bytes.as_slice(), writer);
+    Ok(write_made(files, status, file, blocks))
 }
 
-/// Writes the new file that `new` names; one that exists is left alone.
-pub fn write_new(rt: &HostRuntime, blocks: &str, count: u32) -> Result<u8, u8>
-    ensures { IfErr result (λ status. 0 < status) }
+/// Writes the new file that `new` names; one that exists is left alone. If it cannot begin, that is printed, and the status is the
+/// error.
+pub fn write_new<F: Files, W: Output>(
+    files: &mut F,
+    writer: &mut W,
+    blocks: &str,
+    count: u32,
+) -> Result<u8, u8>
+    ensures made { MakesNew blocks.now count (status_of result)
+        (done (F.files_read files.old) (F.blocks_opened files.old) (F.files_written files.old) (W.sent writer.old))
+        (done (F.files_read files.new) (F.blocks_opened files.new) (F.files_written files.new) (W.sent writer.new)) }
+    ensures refused { IfErr result (λ status. 0 < status) }
 {
     if count > MOST_BLOCKS {
-        return Err(say(rt, "error: a file has at most 65536 blocks", "", 2));
+        return Err(files.refuse_count());
     }
-    keep_absent(rt, blocks)?;
-    let mut writer = Writing::new(standard_output(rt)?);
-    let Ended { status, file } = do_new(rt.alloc(), count, &mut writer);
-    Ok(write_made(rt, status, file, blocks))
+    files.keep_absent(blocks)?;
+    let Ended { status, file } = do_new(files.alloc(), count, writer);
+    Ok(write_made(files, status, file, blocks))
 }

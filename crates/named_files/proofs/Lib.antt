@@ -1,1 +1,2 @@
 mod Copying
+mod Walks

@@ -2,16 +2,15 @@
 //! it is named that is printed, and the program's status is the error.
 #![tactic(auto)]
 
+mod file_log;
+mod files;
 mod keeping;
 mod opening;
 mod places;
 mod refusals;
 mod streams;
 
-pub use keeping::{keep_absent, keep_apart, keep_blocks, keep_image, keep_trace};
-pub use opening::{
-    file_bytes, held, image_bytes, old_blocks, old_file, read_alone, run_blocks, write_made,
-};
-pub use places::{blocks_of, read_screen, say_missing, show_line, word_before, word_behind};
-pub use refusals::{out_of_memory, refuse_use, say};
+pub use file_log::{FileLog, NamedBytes};
+pub use files::{Files, SystemFiles, write_made};
+pub use places::{blocks_of, read_screen, word_before, word_behind};
 pub use streams::{standard_input, standard_output, trace_file};

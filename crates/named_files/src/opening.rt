@@ -1,9 +1,10 @@
 //! Files that are opened, read and written as they are named.
 
-ghost use Rattle.std.specs.Prelude.{◌≡◌, ◌<◌, IfErr, IsNone, OnErr, OnOk};
+ghost use Rattle.std.specs.Prelude.{◌≡◌, ◌<◌, [], IfErr, IfOk};
 
 use crate::keeping::keep_blocks;
 use crate::refusals::{cannot_open, out_of_memory, refuse_blocks, refuse_file};
+use block_buffers::Device;
 use file_access::{
     FileDevice, hold, open_device, open_to_read, read_blocks, read_file, read_image, write_file,
 };
@@ -24,7 +25,8 @@ pub fn image_bytes(rt: &HostRuntime, image: &str) -> Result<Vec<u8>, u8>
 /// The blocks of a run: those of the file, or none where it has no file. Where the file can't be opened that is printed, and the
 /// status is the error.
 pub fn run_blocks(rt: &HostRuntime, blocks: Option<&str>) -> Result<FileDevice, u8>
-    ensures { IfErr result (λ status. 0 < status) }
+    ensures uncalled { IfOk result (λ device. ⟦<FileDevice as Device>⟧.calls device ≡ []) }
+    ensures refused { IfErr result (λ status. 0 < status) }
 {
     let Some(blocks) = blocks else {
         return Ok(FileDevice::without_file());
@@ -38,7 +40,8 @@ pub fn run_blocks(rt: &HostRuntime, blocks: Option<&str>) -> Result<FileDevice, 
 
 /// The file of blocks that is only read. Where it can't be opened that is printed, and the status is the error.
 pub fn read_alone(rt: &HostRuntime, blocks: &str) -> Result<FileDevice, u8>
-    ensures { IfErr result (λ status. 0 < status) }
+    ensures uncalled { IfOk result (λ device. ⟦<FileDevice as Device>⟧.calls device ≡ []) }
+    ensures refused { IfErr result (λ status. 0 < status) }
 {
     keep_blocks(rt, blocks)?;
     match open_to_read(rt, blocks) {
@@ -90,25 +93,22 @@ pub fn held(rt: &HostRuntime, name: &str) -> Result<Option<File>, u8>
     }
 }
 
-/// The status after a file was written, or could not be: then that is printed, and the status is not 0.
-fn status_after(rt: &HostRuntime, done: io::Result<()>, status: u8, name: &str) -> u8
-    ensures written { OnOk done (result ≡ status) }
-    ensures unwritten { OnErr done (0 < result) }
+/// Whether a file of this name exists. Where that can't be found out it is printed, and the status is the error.
+pub fn exists(rt: &HostRuntime, name: &str) -> Result<bool, u8>
+    ensures { IfErr result (λ status. 0 < status) }
 {
-    match done {
-        Ok(()) => status,
-        Err(error) => refuse_file(rt, &error, name),
+    match fs::exists(rt, name) {
+        Ok(exists) => Ok(exists),
+        Err(error) => Err(refuse_file(rt, &error, name)),
     }
 }
 
-/// Writes the file that a subcommand made, if it made one, and answers the status.
-pub fn write_made(rt: &HostRuntime, status: u8, file: Option<Vec<u8>>, name: &str) -> u8
-    ensures none { IsNone file → result ≡ status }
-    ensures failed { 0 < status → 0 < result }
+/// Writes a file whole, or makes it. Where that fails it is as it was, that is printed, and the status is the error.
+pub fn write(rt: &HostRuntime, name: &str, bytes: &[u8]) -> Result<(), u8>
+    ensures { IfErr result (λ status. 0 < status) }
 {
-    let Some(file) = file else {
-        return status;
-    };
-    let done = write_file(rt, name, file.as_slice());
-    status_after(rt, done, status, name)
+    match write_file(rt, name, bytes) {
+        Ok(()) => Ok(()),
+        Err(error) => Err(refuse_file(rt, &error, name)),
+    }
 }

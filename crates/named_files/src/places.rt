@@ -5,6 +5,7 @@ ghost use Rattle.block_buffers.specs.Calls.{KeepsBlocks};
 ghost use Rattle.block_buffers.specs.DeviceCalls.{WasRead};
 ghost use Rattle.block_buffers.specs.ReadPages.{AreReadFrom};
 
+use crate::files::Files;
 use block_buffers::{BLOCK_SIZE, Device, LINE_SIZE, MemoryDevice, screen_line};
 use std::alloc::{AllocError, Global};
 use std::fmt::Display;
@@ -72,8 +73,8 @@ fn block_in<D: Device>(device: &mut D, block: u16) -> Option<[u8; BLOCK_SIZE]>
 }
 
 /// The bytes of a screen. If it cannot be read, that is shown.
-pub fn read_screen<D: Device>(
-    rt: &HostRuntime,
+pub fn read_screen<F: Files, D: Device>(
+    files: &F,
     name: &str,
     device: &mut D,
     number: u16,
@@ -84,7 +85,7 @@ pub fn read_screen<D: Device>(
 {
     let screen = block_in(device, number);
     if screen.is_none() {
-        say_missing(rt, name, number);
+        files.say_missing(name, number);
     }
     screen
 }

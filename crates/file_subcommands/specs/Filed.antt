@@ -1,0 +1,163 @@
+-- What a subcommand did with the files that it was given by name, and what it printed.
+use Rattle.std.specs.Prelude.{◌≡◌, ◌⊎◌, ◌<◌, ◌+◌, ◌-◌, ◌*◌, ℕ, List, [], ◌∷◌, ◌++◌, map, length, eqb, Bool, false, Option, Some, None, Result, Ok, Err, Vec, option_map}
+use Rattle.std.specs.List.{slice_split}
+use Rattle.std.specs.Str.Parse.{digits_value, without_leading_plus}
+use Rattle.std.specs.declared.alloc.Global.{Global}
+use Rattle.block_buffers.specs.DeviceCalls.{DeviceCall}
+use Rattle.containers.specs.Containers as written
+use Rattle.containers.specs.Containers.{new_container}
+use Rattle.containers.specs.Formats.{changed, layout_of, name_of}
+use Rattle.containers.specs.Layouts.{Layout}
+use Rattle.containers.specs.declared.formats.Format.{Format}
+use Rattle.image_loader.specs.Files.{IsWritten}
+use Rattle.file_subcommands.specs.declared.disks.Disk.{Disk}
+use Rattle.named_files.specs.FileBytes.{FileBytes}
+use Rattle.screen_text.specs.Reading.{read}
+use Rattle.subcommands.specs.Disks.{IsImported}
+use Rattle.subcommands.specs.Images.{IsFileOfRead}
+use Rattle.subcommands.specs.Kernel.{blanks, blocks_of, filled}
+use Rattle.subcommands.specs.Lines.{EndsSeen, EndsViewed, OfImageFile, PrintsNoImage, upgraded}
+use Rattle.subcommands.specs.Texts.{HasPrinted, HasScreens}
+use Rattle.subcommands.specs.declared.kernel_text.TheConstants.{TEXT}
+
+-- what was done so far: the files that were read whole, the files of blocks that were opened, the files that were written, and
+-- the bytes that were printed
+pub record Done : Type 0 where
+  pub read : List FileBytes
+  pub opened : List (List ℕ)
+  pub written : List FileBytes
+  pub printed : Option (List ℕ)
+
+-- the status, whether the subcommand could begin or not
+abbrev pub status_of : Result ℕ ℕ → ℕ
+status_of (Ok status) = status
+status_of (Err status) = status
+
+abbrev pub ReadsNone : (old new : Done) → Type 0
+ReadsNone old new = (new.read ≡ old.read) × (new.opened ≡ old.opened)
+
+-- just this file was read, and none was opened
+abbrev pub Reads : (name bytes : List ℕ) → (old new : Done) → Type 0
+Reads name bytes old new = (new.read ≡ old.read ++ (name, bytes) ∷ []) × (new.opened ≡ old.opened)
+
+-- just these two files were read, one after the other, and none was opened
+abbrev pub ReadsBoth : (name bytes name' bytes' : List ℕ) → (old new : Done) → Type 0
+ReadsBoth name bytes name' bytes' old new =
+    (new.read ≡ (old.read ++ (name, bytes) ∷ []) ++ (name', bytes') ∷ []) × (new.opened ≡ old.opened)
+
+-- just this file of blocks was opened, and none was read whole
+abbrev pub Opens : (name : List ℕ) → (old new : Done) → Type 0
+Opens name old new = (new.opened ≡ old.opened ++ name ∷ []) × (new.read ≡ old.read)
+
+-- with status 0 just the file of this name was written, with such bytes; with another status none was
+pub record Makes (name : List ℕ) (status : ℕ) (old new : List FileBytes) (Of : Vec ℕ Global → Type 0) : Type 0 where
+  pub made : status ≡ 0 → (file : Vec ℕ Global) × (new ≡ old ++ (name, file.items) ∷ []) × Of file
+  pub unmade : 0 < status → new ≡ old
+
+-- `kernel BLOCKS`
+pub record MakesKernel (blocks : List ℕ) (status : ℕ) (old new : Done) : Type 0 where
+  pub reads : ReadsNone old new
+  pub makes : Makes blocks status old.written new.written (λ file. file.items ≡ filled 65536 (blocks_of TEXT.now))
+
+-- `new BLOCKS N`
+pub record MakesNew (blocks : List ℕ) (count : ℕ) (status : ℕ) (old new : Done) : Type 0 where
+  pub reads : ReadsNone old new
+  pub makes : Makes blocks status old.written new.written (λ file. file.items ≡ blanks (1024 * count))
+
+-- `see IMAGE NAME`, once the image's file was read
+pub record Sees (image name : List ℕ) (status : ℕ) (failed : Bool) (old new : Done) : Type 0 where
+  pub bytes : List ℕ
+  pub reads : Reads image bytes old new
+  pub seen : failed ≡ false → OfImageFile bytes (λ file. EndsSeen file name status old.printed new.printed)
+  pub refused : failed ≡ false → PrintsNoImage bytes status old.printed new.printed
+
+-- `view IMAGE NAME`, once the image's file was read
+pub record Views (image name : List ℕ) (status : ℕ) (failed : Bool) (old new : Done) : Type 0 where
+  pub bytes : List ℕ
+  pub reads : Reads image bytes old new
+  pub viewed : failed ≡ false → OfImageFile bytes (λ file. EndsViewed file name status old.printed new.printed)
+  pub refused : failed ≡ false → PrintsNoImage bytes status old.printed new.printed
+
+-- `upgrade IMAGE OUT`, once the image's file was read
+pub record Upgrades (image out : List ℕ) (buffers : Option ℕ) (status : ℕ) (failed : Bool) (old new : Done) : Type 0 where
+  pub bytes : List ℕ
+  pub reads : Reads image bytes old new
+  pub makes : Makes out status old.written new.written
+      (λ file. failed ≡ false → OfImageFile bytes (λ i. IsWritten file.items (upgraded i buffers)))
+
+-- `screens TEXT BLOCKS`, once both were read; the blocks have no bytes where they don't exist
+pub record MakesScreens (text blocks : List ℕ) (status : ℕ) (old new : Done) : Type 0 where
+  pub typed : List ℕ
+  pub before : List ℕ
+  pub reads : ReadsBoth text typed blocks before old new
+  pub makes : Makes blocks status old.written new.written (λ file. HasScreens (read typed) before file.items)
+
+-- `text BLOCKS FROM TO`, once the blocks were opened: with status 0 the text of their pages was printed
+pub record Prints (blocks : List ℕ) (from to : ℕ) (status : ℕ) (failed : Bool) (old new : Done) : Type 0 where
+  pub opens : Opens blocks old new
+  pub count : ℕ
+  pub calls : List DeviceCall
+  pub printed : failed ≡ false → status ≡ 0 → HasPrinted from (to + 1 - from) count [] calls old.printed new.printed
+
+-- `build BLOCKS FROM TO IMAGE`, once the blocks were opened: the image is that of their pages
+pub record Builds (blocks : List ℕ) (from to : ℕ) (image : List ℕ) (buffers : ℕ) (status : ℕ) (old new : Done) : Type 0 where
+  pub opens : Opens blocks old new
+  pub count : ℕ
+  pub calls : List DeviceCall
+  pub makes : Makes image status old.written new.written (λ file. IsFileOfRead buffers count from to file [] calls)
+
+abbrev pub done : List FileBytes → List (List ℕ) → List FileBytes → Option (List ℕ) → Done
+done read opened written printed = record { read = read; opened = opened; written = written; printed = printed }
+
+-- the numbers of a text that separates them with commas; none where there is no text
+abbrev pub numbers_in : Option (List ℕ) → List ℕ
+numbers_in None = []
+numbers_in (Some text) = map (λ number. digits_value 10 (without_leading_plus number)) (slice_split (λ b. eqb b 44) text)
+
+-- a container's file, a file of blocks, and how screens lie in the container, as the command line has them
+pub record Wanted : Type 0 where
+  pub container : List ℕ
+  pub blocks : List ℕ
+  pub format : List ℕ
+  pub offset : Option ℕ
+  pub sector : Option ℕ
+  pub skew : Option (List ℕ)
+
+-- the layout is that of the format of this name, with the numbers that were given in place of the format's own
+pub record IsWantedLayout (w : Wanted) (l : Layout) : Type 0 where
+  pub format : Format
+  pub named : name_of format ≡ w.format
+  pub is : l ≡ changed (layout_of format) w.offset w.sector (numbers_in w.skew)
+
+-- `import CONTAINER BLOCKS`, once the container was read
+pub record Imports (w : Wanted) (cleans : Bool) (status : ℕ) (old new : Done) : Type 0 where
+  pub layout : Layout
+  pub is_wanted : IsWantedLayout w layout
+  pub bytes : List ℕ
+  pub reads : Reads w.container bytes old new
+  pub makes : Makes w.blocks status old.written new.written (λ file. IsImported layout bytes cleans file.items)
+
+-- the blocks were read, and then the container; or it didn't exist, and a new one is made for as many bytes
+abbrev pub ReadsOld : Wanted → Layout → (screens before : List ℕ) → (old new : Done) → Type 0
+ReadsOld w layout screens before old new =
+    ReadsBoth w.blocks screens w.container before old new
+    ⊎ Reads w.blocks screens old new × (before ≡ new_container layout (length screens))
+
+-- `export BLOCKS CONTAINER`, once both were read
+pub record Exports (w : Wanted) (status : ℕ) (old new : Done) : Type 0 where
+  pub layout : Layout
+  pub is_wanted : IsWantedLayout w layout
+  pub screens : List ℕ
+  pub before : List ℕ
+  pub reads : ReadsOld w layout screens before old new
+  pub makes : Makes w.container status old.written new.written (λ file. written.IsWritten layout screens before file.items)
+
+abbrev pub wanted_of : Disk → Wanted
+wanted_of disk = record {
+  container = disk.container.now;
+  blocks = disk.blocks.now;
+  format = disk.format.now;
+  offset = disk.offset;
+  sector = disk.sector;
+  skew = option_map (λ text. text.now) disk.skew;
+}
