@@ -1,8 +1,7 @@
--- What a subcommand did with the files that it was given by name, and what it printed.
-use Rattle.std.specs.Prelude.{◌≡◌, ◌⊎◌, ◌<◌, ◌+◌, ◌-◌, ◌*◌, ℕ, List, [], ◌∷◌, ◌++◌, map, length, eqb, Bool, false, Option, Some, None, Result, Ok, Err, Vec, option_map}
+-- What the subcommands that are given files by name did.
+use Rattle.std.specs.Prelude.{◌≡◌, ◌⊎◌, ◌+◌, ◌-◌, ◌*◌, ℕ, List, [], ◌∷◌, ◌++◌, map, length, eqb, Bool, false, Option, Some, None, option_map}
 use Rattle.std.specs.List.{slice_split}
 use Rattle.std.specs.Str.Parse.{digits_value, without_leading_plus}
-use Rattle.std.specs.declared.alloc.Global.{Global}
 use Rattle.block_buffers.specs.DeviceCalls.{DeviceCall}
 use Rattle.containers.specs.Containers as written
 use Rattle.containers.specs.Containers.{new_container}
@@ -11,7 +10,7 @@ use Rattle.containers.specs.Layouts.{Layout}
 use Rattle.containers.specs.declared.formats.Format.{Format}
 use Rattle.image_loader.specs.Files.{IsWritten}
 use Rattle.file_subcommands.specs.declared.disks.Disk.{Disk}
-use Rattle.named_files.specs.FileBytes.{FileBytes}
+use Rattle.named_files.specs.Done.{Done, Makes, Opens, Reads, ReadsBoth, ReadsNone}
 use Rattle.screen_text.specs.Reading.{read}
 use Rattle.subcommands.specs.Disks.{IsImported}
 use Rattle.subcommands.specs.Images.{IsFileOfRead}
@@ -19,40 +18,6 @@ use Rattle.subcommands.specs.Kernel.{blanks, blocks_of, filled}
 use Rattle.subcommands.specs.Lines.{EndsSeen, EndsViewed, OfImageFile, PrintsNoImage, upgraded}
 use Rattle.subcommands.specs.Texts.{HasPrinted, HasScreens}
 use Rattle.subcommands.specs.declared.kernel_text.TheConstants.{TEXT}
-
--- what was done so far: the files that were read whole, the files of blocks that were opened, the files that were written, and
--- the bytes that were printed
-pub record Done : Type 0 where
-  pub read : List FileBytes
-  pub opened : List (List ℕ)
-  pub written : List FileBytes
-  pub printed : Option (List ℕ)
-
--- the status, whether the subcommand could begin or not
-abbrev pub status_of : Result ℕ ℕ → ℕ
-status_of (Ok status) = status
-status_of (Err status) = status
-
-abbrev pub ReadsNone : (old new : Done) → Type 0
-ReadsNone old new = (new.read ≡ old.read) × (new.opened ≡ old.opened)
-
--- just this file was read, and none was opened
-abbrev pub Reads : (name bytes : List ℕ) → (old new : Done) → Type 0
-Reads name bytes old new = (new.read ≡ old.read ++ (name, bytes) ∷ []) × (new.opened ≡ old.opened)
-
--- just these two files were read, one after the other, and none was opened
-abbrev pub ReadsBoth : (name bytes name' bytes' : List ℕ) → (old new : Done) → Type 0
-ReadsBoth name bytes name' bytes' old new =
-    (new.read ≡ (old.read ++ (name, bytes) ∷ []) ++ (name', bytes') ∷ []) × (new.opened ≡ old.opened)
-
--- just this file of blocks was opened, and none was read whole
-abbrev pub Opens : (name : List ℕ) → (old new : Done) → Type 0
-Opens name old new = (new.opened ≡ old.opened ++ name ∷ []) × (new.read ≡ old.read)
-
--- with status 0 just the file of this name was written, with such bytes; with another status none was
-pub record Makes (name : List ℕ) (status : ℕ) (old new : List FileBytes) (Of : Vec ℕ Global → Type 0) : Type 0 where
-  pub made : status ≡ 0 → (file : Vec ℕ Global) × (new ≡ old ++ (name, file.items) ∷ []) × Of file
-  pub unmade : 0 < status → new ≡ old
 
 -- `kernel BLOCKS`
 pub record MakesKernel (blocks : List ℕ) (status : ℕ) (old new : Done) : Type 0 where
@@ -105,9 +70,6 @@ pub record Builds (blocks : List ℕ) (from to : ℕ) (image : List ℕ) (buffer
   pub count : ℕ
   pub calls : List DeviceCall
   pub makes : Makes image status old.written new.written (λ file. IsFileOfRead buffers count from to file [] calls)
-
-abbrev pub done : List FileBytes → List (List ℕ) → List FileBytes → Option (List ℕ) → Done
-done read opened written printed = record { read = read; opened = opened; written = written; printed = printed }
 
 -- the numbers of a text that separates them with commas; none where there is no text
 abbrev pub numbers_in : Option (List ℕ) → List ℕ

@@ -2,7 +2,8 @@
 
 ghost use Rattle.std.specs.Prelude.{◌≡◌, ◌↔◌, ◌<◌, true, IfErr, IfOk, IfSome};
 ghost use Rattle.memory.specs.Bytes.{IsCount};
-ghost use Rattle.file_subcommands.specs.Filed.{Builds, Upgrades, done, status_of};
+ghost use Rattle.file_subcommands.specs.Filed.{Builds, Upgrades};
+ghost use Rattle.named_files.specs.Done.{done, status_of};
 
 use crate::screens::Screens;
 use block_buffers::Device;

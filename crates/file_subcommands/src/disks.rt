@@ -2,7 +2,8 @@
 
 ghost use Rattle.std.specs.Prelude.{◌≡◌, ◌<◌, ◌++◌, ◌∷◌, ◌⊎◌, [], Some, option_map, IfErr, IfOk};
 ghost use Rattle.containers.specs.Containers.{new_container};
-ghost use Rattle.file_subcommands.specs.Filed.{Exports, Imports, IsWantedLayout, done, numbers_in, status_of, wanted_of};
+ghost use Rattle.file_subcommands.specs.Filed.{Exports, Imports, IsWantedLayout, numbers_in, wanted_of};
+ghost use Rattle.named_files.specs.Done.{done, status_of};
 
 use crate::screens::MOST_BLOCKS;
 use containers::{Cause, Layout, named, new_container};

@@ -1,7 +1,8 @@
 //! `kernel`, `text`, `screens` and `new`.
 
 ghost use Rattle.std.specs.Prelude.{◌≡◌, ◌<◌, true, false, IfErr, IfOk};
-ghost use Rattle.file_subcommands.specs.Filed.{MakesKernel, MakesNew, MakesScreens, Prints, done, status_of};
+ghost use Rattle.file_subcommands.specs.Filed.{MakesKernel, MakesNew, MakesScreens, Prints};
+ghost use Rattle.named_files.specs.Done.{done, status_of};
 
 use inner_interpreter::Output;
 use named_files::{Files, write_made};

@@ -1,7 +1,8 @@
 //! `see` and `view`.
 
 ghost use Rattle.std.specs.Prelude.{◌≡◌, ◌<◌, true, false, IfErr, IfOk};
-ghost use Rattle.file_subcommands.specs.Filed.{Sees, Views, done};
+ghost use Rattle.file_subcommands.specs.Filed.{Sees, Views};
+ghost use Rattle.named_files.specs.Done.{done};
 
 use inner_interpreter::Output;
 use named_files::Files;

@@ -1,2 +1,3 @@
 mod Copying
 mod Walks
+pub mod Making

@@ -1,6 +1,7 @@
 -- Files that were read or written whole: each by its name, with its bytes.
-use Rattle.std.specs.Prelude.{◌≡◌, ◌⊎◌, ◌<◌, ℕ, List, [], ◌∷◌, ◌++◌, map, Result, Ok, Err, Vec}
+use Rattle.std.specs.Prelude.{◌≡◌, ◌⊎◌, ◌<◌, ℕ, List, [], ◌∷◌, ◌++◌, map, Option, Some, None, Result, Ok, Err, Vec}
 use Rattle.std.specs.declared.alloc.Global.{Global}
+use Rattle.std.specs.Borrow.{Bor}
 use Rattle.named_files.specs.declared.file_log.NamedBytes.{NamedBytes}
 
 abbrev pub FileBytes : Type 0
@@ -21,3 +22,8 @@ IsWrittenOr name bytes wanted status old new =
 
 abbrev pub names_of : List FileBytes → List (List ℕ)
 names_of files = map (λ file. file.0) files
+
+-- the name that is given, if one is
+abbrev pub given : Option (Bor (List ℕ)) → List (List ℕ)
+given None = []
+given (Some name) = name.now ∷ []

@@ -1,1 +1,2 @@
 pub mod FileBytes
+pub mod Done

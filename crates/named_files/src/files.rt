@@ -4,22 +4,29 @@ ghost use Rattle.std.specs.Prelude.{◌≡◌, IfSome, IsNone};
 ghost use Rattle.named_files.specs.FileBytes.{IsWrittenOr};
 
 use crate::file_log::{FileLog, NamedBytes};
-use crate::{keeping, opening, places, refusals};
+use crate::{keeping, opening, places, refusals, streams};
 use block_buffers::{BLOCK_SIZE, Device};
-use file_access::FileDevice;
+use file_access::{FileDevice, TraceFile};
 use std::alloc::Global;
 use std::fmt::Display;
 use std::fs::File;
-use std::io::IsTerminal;
+use std::io::{BufReader, BufWriter, IsTerminal, Read, Stdin, Write};
+use std::fs;
 
 /// The files of the system, by the names that the command line has. Where one can't be used as it is named that is printed, and the
 /// program's status, which is not 0, is the error.
 pub trait Files {
     ghost use Rattle.std.specs.Prelude.{◌≡◌, ◌<◌, ◌++◌, ◌∷◌, [], List, IfOk, IfErr, OnErr, OnOk, ℕ};
-    ghost use Rattle.named_files.specs.FileBytes.{FileBytes, reading};
+    ghost use Rattle.named_files.specs.FileBytes.{FileBytes, given, reading};
 
     /// A file of blocks that is open.
     type Blocks: Device + Drop;
+
+    /// Where typed bytes come from.
+    type Keys: Read + Drop;
+
+    /// The file of a trace that is open.
+    type Trace: Write + Drop;
 
     /// The files that were read whole so far, in order.
     ghost files_read: { Self → List FileBytes };
@@ -57,6 +64,10 @@ pub trait Files {
     fn keep_blocks(&self, blocks: &str) -> Result<(), u8>
         ensures { IfErr result (λ status. 0 < status) };
 
+    /// Sees to it that a trace isn't written over blocks or an image.
+    fn keep_trace(&self, trace: &str) -> Result<(), u8>
+        ensures { IfErr result (λ status. 0 < status) };
+
     /// Sees to it that an image isn't written over blocks.
     fn keep_image(&self, image: &str) -> Result<(), u8>
         ensures { IfErr result (λ status. 0 < status) };
@@ -72,6 +83,31 @@ pub trait Files {
         ensures written { files_written self.new ≡ files_written self.old }
         ensures fresh { IfOk result (λ device. Self.Blocks.calls device ≡ []) }
         ensures refused { IfErr result (λ status. 0 < status) };
+
+    /// The blocks of a run: those of the file, or none where it has no file.
+    fn run_blocks(&mut self, blocks: Option<&str>) -> Result<Self::Blocks, u8>
+        ensures opened { OnOk result (blocks_opened self.new ≡ blocks_opened self.old ++ given blocks.entry) }
+        ensures read { files_read self.new ≡ files_read self.old }
+        ensures written { files_written self.new ≡ files_written self.old }
+        ensures fresh { IfOk result (λ device. Self.Blocks.calls device ≡ []) }
+        ensures refused { IfErr result (λ status. 0 < status) };
+
+    /// Standard input.
+    fn input(&self) -> Result<Self::Keys, u8>
+        ensures { IfErr result (λ status. 0 < status) };
+
+    /// The file of a trace, which is emptied where the run begins.
+    fn trace(&mut self, name: &str) -> Result<Self::Trace, u8>
+        ensures read { files_read self.new ≡ files_read self.old }
+        ensures opened { blocks_opened self.new ≡ blocks_opened self.old }
+        ensures written { files_written self.new ≡ files_written self.old }
+        ensures refused { IfErr result (λ status. 0 < status) };
+
+    /// Removes the new file of a trace of which nothing came.
+    fn remove_trace(&mut self, name: &str)
+        ensures read { files_read self.new ≡ files_read self.old }
+        ensures opened { blocks_opened self.new ≡ blocks_opened self.old }
+        ensures written { files_written self.new ≡ files_written self.old };
 
     /// The bytes of an image's file.
     fn image_bytes(&mut self, image: &str) -> Result<Vec<u8>, u8>
@@ -132,6 +168,11 @@ pub struct SystemFiles<'a> {
 }
 
 impl<'a> SystemFiles<'a> {
+    /// The system.
+    pub fn rt(&self) -> &'a HostRuntime {
+        self.rt
+    }
+
     /// None was read or written yet.
     pub fn new(rt: &'a HostRuntime) -> SystemFiles<'a> {
         SystemFiles {
@@ -147,6 +188,10 @@ impl<'a> Files for SystemFiles<'a> {
     ghost use Rattle.named_files.specs.FileBytes.{names_of};
 
     type Blocks = FileDevice;
+
+    type Keys = BufReader<Stdin>;
+
+    type Trace = BufWriter<TraceFile>;
 
     ghost files_read = { λ s. s.read.files };
 
@@ -182,6 +227,10 @@ impl<'a> Files for SystemFiles<'a> {
         keeping::keep_blocks(self.rt, blocks)
     }
 
+    fn keep_trace(&self, trace: &str) -> Result<(), u8> {
+        keeping::keep_trace(self.rt, trace)
+    }
+
     fn keep_image(&self, image: &str) -> Result<(), u8> {
         keeping::keep_image(self.rt, image)
     }
@@ -197,6 +246,27 @@ impl<'a> Files for SystemFiles<'a> {
             bytes: &[],
         });
         Ok(device)
+    }
+
+    fn run_blocks(&mut self, blocks: Option<&str>) -> Result<FileDevice, u8> {
+        let Some(name) = blocks else {
+            return Ok(FileDevice::without_file());
+        };
+        let device = opening::run_blocks(self.rt, name)?;
+        self.opened = self.opened.then(&NamedBytes { name, bytes: &[] });
+        Ok(device)
+    }
+
+    fn input(&self) -> Result<BufReader<Stdin>, u8> {
+        streams::standard_input(self.rt)
+    }
+
+    fn trace(&mut self, name: &str) -> Result<BufWriter<TraceFile>, u8> {
+        streams::trace_file(self.rt, name)
+    }
+
+    fn remove_trace(&mut self, name: &str) {
+        let _gone = fs::remove_file(self.rt, name);
     }
 
     fn image_bytes(&mut self, image: &str) -> Result<Vec<u8>, u8> {

@@ -13,4 +13,5 @@ mod streams;
 pub use file_log::{FileLog, NamedBytes};
 pub use files::{Files, SystemFiles, write_made};
 pub use places::{blocks_of, read_screen, word_before, word_behind};
-pub use streams::{standard_input, standard_output, trace_file};
+pub use refusals::out_of_memory;
+pub use streams::standard_output;

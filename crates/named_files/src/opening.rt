@@ -22,15 +22,11 @@ pub fn image_bytes(rt: &HostRuntime, image: &str) -> Result<Vec<u8>, u8>
     }
 }
 
-/// The blocks of a run: those of the file, or none where it has no file. Where the file can't be opened that is printed, and the
-/// status is the error.
-pub fn run_blocks(rt: &HostRuntime, blocks: Option<&str>) -> Result<FileDevice, u8>
+/// The blocks of a run's file. Where it can't be opened that is printed, and the status is the error.
+pub fn run_blocks(rt: &HostRuntime, blocks: &str) -> Result<FileDevice, u8>
     ensures uncalled { IfOk result (λ device. ⟦<FileDevice as Device>⟧.calls device ≡ []) }
     ensures refused { IfErr result (λ status. 0 < status) }
 {
-    let Some(blocks) = blocks else {
-        return Ok(FileDevice::without_file());
-    };
     keep_blocks(rt, blocks)?;
     match open_device(rt, blocks) {
         Ok(device) => Ok(device),

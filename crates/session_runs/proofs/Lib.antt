@@ -2,3 +2,4 @@ mod Breaking
 mod Working
 mod Storing
 mod Sitting
+mod Over

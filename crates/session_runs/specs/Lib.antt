@@ -2,3 +2,4 @@ pub mod Wishes
 pub mod Interrupted
 pub mod Saving
 pub mod Sitting
+pub mod Files

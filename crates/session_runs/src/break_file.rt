@@ -19,7 +19,7 @@ const END: &[u8] = b"end";
 #[derive(Drop)]
 pub struct BreakFile<'a> {
     rt: &'a HostRuntime,
-    name: Option<&'a str>,
+    name: Option<String>,
     /// The file that is written, once there is something to keep.
     file: Option<File>,
     has_ended: bool,
@@ -30,7 +30,7 @@ pub struct BreakFile<'a> {
 
 impl<'a> BreakFile<'a> {
     /// A host that looks for a file of this name, if it is given one.
-    pub fn new(rt: &'a HostRuntime, name: Option<&'a str>) -> BreakFile<'a>
+    pub fn new(rt: &'a HostRuntime, name: Option<String>) -> BreakFile<'a>
         ensures kept { ⟦<BreakFile<'a> as SessionHost>⟧.kept result ≡ [] }
         ensures asked { (⟦<BreakFile<'a> as SessionHost>⟧.interruptions result ≡ 0) × (⟦<BreakFile<'a> as SessionHost>⟧.ended result ≡ false) }
     {
@@ -84,10 +84,10 @@ impl<'a> SessionHost for BreakFile<'a> {
     ghost kept = { λ h. h.kept.bytes };
 
     fn wish(&mut self, can_break: bool) -> Wish {
-        let Some(name) = self.name else {
+        let Some(name) = &self.name else {
             return Wish::GoOn;
         };
-        match wish_in(self.rt, name, can_break) {
+        match wish_in(self.rt, name.as_str(), can_break) {
             Wish::GoOn => Wish::GoOn,
             Wish::Interrupt => {
                 self.interruptions = ByteLog::grown(&self.interruptions, &[1]);
@@ -102,9 +102,9 @@ impl<'a> SessionHost for BreakFile<'a> {
 
     fn keep(&mut self, bytes: &[u8]) {
         self.kept = ByteLog::grown(&self.kept, bytes);
-        if let Some(name) = self.name {
+        if let Some(name) = &self.name {
             let file = self.file.take();
-            self.file = write_on(self.rt, name, file, bytes);
+            self.file = write_on(self.rt, name.as_str(), file, bytes);
         }
     }
 

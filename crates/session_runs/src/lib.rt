@@ -10,7 +10,7 @@ mod slices;
 
 pub use break_file::BreakFile;
 pub use hosts::{SessionHost, Wish};
-pub use runs::{Session, run_image};
+pub use runs::{Session, SessionFiles, run_image};
 pub use saving::{keep_blocks, save_blocks};
 pub use sessions::{Wanted, do_session};
 pub use slices::{Ending, run_sliced};

@@ -1,11 +1,15 @@
 //! `run`.
 
-ghost use Rattle.std.specs.Prelude.{◌<◌, IfErr};
+ghost use Rattle.std.specs.Prelude.{◌≡◌, ◌<◌, [], false, true, IfErr, IfOk};
+ghost use Rattle.named_files.specs.Done.{done};
+ghost use Rattle.named_files.specs.FileBytes.{given};
+ghost use Rattle.session_runs.specs.Files.{Runs, wanted_by};
 
 use crate::break_file::BreakFile;
+use crate::hosts::SessionHost;
 use crate::sessions::{Wanted, do_session};
-use inner_interpreter::{Reading, Writing};
-use named_files::{image_bytes, run_blocks, standard_input, standard_output};
+use inner_interpreter::{Output, Reading};
+use named_files::{Files, SystemFiles};
 
 /// How many ticks a slice has: less than a thousandth of a second of computing, and less than a second where each tick shows a byte at
 /// a terminal.
@@ -20,36 +24,67 @@ pub struct Session<'a> {
     pub saves: bool,
 }
 
-/// Opens what `run` names, and runs the image as a session over it, and over standard input and output. If it cannot start, the reason
-/// is printed, and the status, which is not 0, is the error.
-pub fn run_image(
-    rt: &HostRuntime,
+/// The files of the system, and the host of a session.
+pub trait SessionFiles: Files {
+    ghost use Rattle.std.specs.Prelude.{◌≡◌, ◌<◌, false, [], IfErr, IfOk};
+
+    /// The host of a session.
+    type Host: SessionHost + Drop;
+
+    /// The host that looks for a file of this name, if there is one. If memory runs out, that is printed, and the status is the error.
+    fn host(&self, break_file: Option<&str>) -> Result<Self::Host, u8>
+        ensures fresh { IfOk result (λ host. (Self.Host.interruptions host ≡ 0) × (Self.Host.ended host ≡ false) × (Self.Host.kept host ≡ [])) }
+        ensures refused { IfErr result (λ status. 0 < status) };
+}
+
+impl<'a> SessionFiles for SystemFiles<'a> {
+    type Host = BreakFile<'a>;
+
+    fn host(&self, break_file: Option<&str>) -> Result<BreakFile<'a>, u8> {
+        let Some(name) = break_file else {
+            return Ok(BreakFile::new(self.rt(), None));
+        };
+        match String::from_str(self.alloc(), name) {
+            Ok(name) => Ok(BreakFile::new(self.rt(), Some(name))),
+            Err(_) => Err(self.out_of_memory()),
+        }
+    }
+}
+
+/// Opens what `run` names, and runs the image as a session over it, and over standard input. If it cannot start, the reason is
+/// printed, and the status is the error.
+pub fn run_image<F: SessionFiles, W: Output>(
+    files: &mut F,
+    writer: &mut W,
     image: &str,
     blocks: Option<&str>,
     limit: u64,
     session: Session<'_>,
 ) -> Result<u8, u8>
-    ensures { IfErr result (λ status. 0 < status) }
+    ensures ran { W.failed writer.old ≡ false → IfOk result (λ status. Runs image.now (given blocks.entry) (wanted_by limit session.entry) status (W.failed writer.new)
+        (done (F.files_read files.old) (F.blocks_opened files.old) (F.files_written files.old) (W.sent writer.old))
+        (done (F.files_read files.new) (F.blocks_opened files.new) (F.files_written files.new) (W.sent writer.new))) }
+    ensures unwritten { F.files_written files.new ≡ F.files_written files.old }
+    ensures passed { IfOk result (λ _. W.failed writer.new ≡ false → W.passed writer.new ≡ true) }
+    ensures refused { IfErr result (λ status. 0 < status) }
 {
-    let bytes = image_bytes(rt, image)?;
-    let image = bytes.as_slice();
-    let mut device = run_blocks(rt, blocks)?;
-    let mut reader = Reading::new(standard_input(rt)?);
-    let mut writer = Writing::new(standard_output(rt)?);
+    let bytes = files.image_bytes(image)?;
+    let mut device = files.run_blocks(blocks)?;
+    let mut reader = Reading::new(files.input()?);
+    let mut host = files.host(session.break_file)?;
     let wanted = Wanted {
         limit,
         slice: SLICE,
         saves: session.saves,
         keeps: session.break_file.is_some(),
     };
-    let mut host = BreakFile::new(rt, session.break_file);
     let ended = do_session(
-        rt.alloc(),
-        image,
+        files.alloc(),
+        bytes.as_slice(),
         &mut device,
         wanted,
         &mut reader,
-        &mut writer,
+        writer,
         &mut host,
     );
     Ok(ended.status)

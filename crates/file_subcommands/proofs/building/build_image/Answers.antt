@@ -1,7 +1,5 @@
 use Rattle.std.proofs.Common.{rules, ◌≡◌, ◌<◌, true, false, IfErr, IfOk, ℕ, ◌+◌, ◌-◌, ◌*◌, ◌≤◌, ◌∙◌, length, List, [], ◌∷◌, ◌++◌, Bor, MutBor, subst, IfSome}
-use Rattle.memory.specs.Bytes.{IsCount}
-use Rattle.file_subcommands.specs.Filed.{Builds, Upgrades, done, status_of}
-use Rattle.file_subcommands.proofs.Making.{both, made_after}
+use Rattle.named_files.proofs.Making.{both, made_after}
 use Rattle.subcommands.specs.Images.{IsFileOfRead}
 use Rattle.file_subcommands.proofs.building.build_image.Goals as goal
 

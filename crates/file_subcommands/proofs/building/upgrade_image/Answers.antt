@@ -1,7 +1,6 @@
 use Rattle.std.proofs.Common.{rules, ◌≡◌, ◌<◌, true, false, IfErr, IfOk, ℕ, ◌+◌, ◌-◌, ◌*◌, ◌≤◌, ◌∙◌, length, List, [], ◌∷◌, ◌++◌, Bor, MutBor, subst}
-use Rattle.memory.specs.Bytes.{IsCount}
-use Rattle.file_subcommands.specs.Filed.{Builds, Upgrades, done, status_of}
-use Rattle.file_subcommands.proofs.Making.{both, made_after, upgraded_file}
+use Rattle.named_files.proofs.Making.{both, made_after}
+use Rattle.file_subcommands.proofs.Making.{upgraded_file}
 use Rattle.file_subcommands.proofs.building.upgrade_image.Goals as goal
 
 -- src/building.rt:79:1

@@ -1,6 +1,5 @@
 use Rattle.std.proofs.Common.{rules, ◌≡◌, ◌∙◌, ◌++◌, ◌∷◌, [], inl, inr, ap}
-use Rattle.file_subcommands.specs.Filed.{Exports, done, wanted_of}
-use Rattle.file_subcommands.proofs.Making.{made_after}
+use Rattle.named_files.proofs.Making.{made_after}
 use Rattle.file_subcommands.proofs.disks.export_screens.Goals as goal
 
 -- src/disks.rt:168:1

@@ -1,6 +1,5 @@
 use Rattle.std.proofs.Common.{rules, ◌≡◌, ◌∙◌}
-use Rattle.file_subcommands.specs.Filed.{Imports, done, wanted_of}
-use Rattle.file_subcommands.proofs.Making.{made_after}
+use Rattle.named_files.proofs.Making.{made_after}
 use Rattle.file_subcommands.proofs.disks.import_screens.Goals as goal
 
 -- src/disks.rt:96:1

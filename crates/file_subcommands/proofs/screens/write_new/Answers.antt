@@ -1,6 +1,5 @@
 use Rattle.std.proofs.Common.{rules, ◌≡◌, ◌<◌, true, false, IfErr, IfOk, ℕ, ◌+◌, ◌-◌, ◌*◌, ◌≤◌, length, List, [], ◌∷◌, ◌++◌, Bor, MutBor}
-use Rattle.file_subcommands.specs.Filed.{MakesKernel, MakesNew, MakesScreens, Prints, done, status_of}
-use Rattle.file_subcommands.proofs.Making.{made_by}
+use Rattle.named_files.proofs.Making.{made_by}
 use Rattle.file_subcommands.proofs.screens.write_new.Goals as goal
 
 -- src/screens.rt:83:1

@@ -1,0 +1,37 @@
+-- A session over the files that the command line names, and over standard input and output.
+use Rattle.std.specs.Prelude.{◌≡◌, ◌⊎◌, ℕ, List, [], ◌∷◌, ◌++◌, Option, Bool, false, is_some}
+use Rattle.block_buffers.specs.DeviceCalls.{DeviceCall}
+use Rattle.inner_interpreter.specs.Moves.{logs}
+use Rattle.named_files.specs.Done.{Done}
+use Rattle.session_runs.specs.Sitting.{HasSession, HostLog, Wanted, host_log}
+use Rattle.session_runs.specs.declared.runs.Session.{Session}
+use Rattle.subcommands.specs.Ends.{IsRefusal}
+use Rattle.subcommands.specs.Lines.{OfImageFile, PrintsNoImage, PrintsOutOfMemory}
+
+-- what is wanted of a session: the most ticks; whether changed blocks are written; and, where a file asks for interruptions, that
+-- what could not be written is kept there
+abbrev pub wanted_by : (limit : ℕ) → Session → Wanted
+wanted_by limit session = record { limit = limit; saves = session.saves; keeps = is_some session.break_file }
+
+-- memory ran out before anything was run: nothing was typed and no block asked for, and that was printed
+pub record IsWanting (status : ℕ) (failed : Bool) (keys : List (Option ℕ)) (calls : List DeviceCall) (old new : Option (List ℕ)) : Type 0 where
+  pub untyped : keys ≡ []
+  pub uncalled : calls ≡ []
+  pub status_is : IsRefusal status failed
+  pub printed : failed ≡ false → PrintsOutOfMemory status old new
+
+-- `run IMAGE BLOCKS`, once both were opened: the image is run as a session, over the keys that standard input gave and the calls that
+-- the blocks were given
+pub record Runs (image : List ℕ) (blocks : List (List ℕ)) (wanted : Wanted) (status : ℕ) (failed : Bool) (old new : Done) : Type 0 where
+  pub bytes : List ℕ
+  pub reads : new.read ≡ old.read ++ (image, bytes) ∷ []
+  pub opens : new.opened ≡ old.opened ++ blocks
+  pub count : ℕ
+  pub keys : List (Option ℕ)
+  pub unread : Bool
+  pub calls : List DeviceCall
+  pub host : HostLog
+  pub moved : OfImageFile bytes (λ file.
+      HasSession file count wanted (logs [] old.printed []) (logs calls new.printed keys) (host_log 0 false []) host unread failed status
+      ⊎ IsWanting status failed keys calls old.printed new.printed)
+  pub refused : failed ≡ false → PrintsNoImage bytes status old.printed new.printed
