@@ -65,8 +65,8 @@ pub fn build_image<F: Files, W: Output>(
     shows_place: bool,
 ) -> Result<u8, u8>
     ensures built { IfOk result (λ status. Builds screens.entry.blocks.now screens.entry.from screens.entry.to image.now buffers status
-        (done (F.files_read files.old) (F.blocks_opened files.old) (F.files_written files.old) (W.sent writer.old))
-        (done (F.files_read files.new) (F.blocks_opened files.new) (F.files_written files.new) (W.sent writer.new))) }
+        (done (F.files_read files.old) (F.files_opened files.old) (F.files_written files.old) (W.sent writer.old))
+        (done (F.files_read files.new) (F.files_opened files.new) (F.files_written files.new) (W.sent writer.new))) }
     ensures unwritten { 0 < status_of result → F.files_written files.new ≡ F.files_written files.old }
     ensures refused { IfErr result (λ status. 0 < status) }
 {
@@ -95,8 +95,8 @@ pub fn upgrade_image<F: Files, W: Output>(
     buffers: Option<u16>,
 ) -> Result<u8, u8>
     ensures upgraded { IfOk result (λ status. Upgrades image.now out.now buffers status (W.failed writer.new)
-        (done (F.files_read files.old) (F.blocks_opened files.old) (F.files_written files.old) (W.sent writer.old))
-        (done (F.files_read files.new) (F.blocks_opened files.new) (F.files_written files.new) (W.sent writer.new))) }
+        (done (F.files_read files.old) (F.files_opened files.old) (F.files_written files.old) (W.sent writer.old))
+        (done (F.files_read files.new) (F.files_opened files.new) (F.files_written files.new) (W.sent writer.new))) }
     ensures unwritten { 0 < status_of result → F.files_written files.new ≡ F.files_written files.old }
     ensures refused { IfErr result (λ status. 0 < status) }
 {

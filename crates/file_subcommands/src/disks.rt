@@ -101,8 +101,8 @@ pub fn import_screens<F: Files, W: Output>(
     cleans: bool,
 ) -> Result<u8, u8>
     ensures imported { IfOk result (λ status. Imports (wanted_of disk.entry) cleans status
-        (done (F.files_read files.old) (F.blocks_opened files.old) (F.files_written files.old) (W.sent writer.old))
-        (done (F.files_read files.new) (F.blocks_opened files.new) (F.files_written files.new) (W.sent writer.new))) }
+        (done (F.files_read files.old) (F.files_opened files.old) (F.files_written files.old) (W.sent writer.old))
+        (done (F.files_read files.new) (F.files_opened files.new) (F.files_written files.new) (W.sent writer.new))) }
     ensures unwritten { 0 < status_of result → F.files_written files.new ≡ F.files_written files.old }
     ensures refused { IfErr result (λ status. 0 < status) }
 {
@@ -154,7 +154,7 @@ fn old_container<F: Files, W: Output>(
     ensures read { IfOk result (λ container.
         ((F.files_read files.new ≡ F.files_read files.old ++ (name.now, container.items) ∷ []) ⊎
         ((F.files_read files.new ≡ F.files_read files.old) × (container.items ≡ new_container layout.now bytes)))) }
-    ensures opened { F.blocks_opened files.new ≡ F.blocks_opened files.old }
+    ensures opened { F.files_opened files.new ≡ F.files_opened files.old }
     ensures written { F.files_written files.new ≡ F.files_written files.old }
     ensures refused { IfErr result (λ status. 0 < status) }
 {
@@ -172,8 +172,8 @@ pub fn export_screens<F: Files, W: Output>(
     disk: Disk<'_>,
 ) -> Result<u8, u8>
     ensures exported { IfOk result (λ status. Exports (wanted_of disk.entry) status
-        (done (F.files_read files.old) (F.blocks_opened files.old) (F.files_written files.old) (W.sent writer.old))
-        (done (F.files_read files.new) (F.blocks_opened files.new) (F.files_written files.new) (W.sent writer.new))) }
+        (done (F.files_read files.old) (F.files_opened files.old) (F.files_written files.old) (W.sent writer.old))
+        (done (F.files_read files.new) (F.files_opened files.new) (F.files_written files.new) (W.sent writer.new))) }
     ensures unwritten { 0 < status_of result → F.files_written files.new ≡ F.files_written files.old }
     ensures refused { IfErr result (λ status. 0 < status) }
 {

@@ -26,8 +26,8 @@ pub fn write_kernel<F: Files, W: Output>(
     blocks: &str,
 ) -> Result<u8, u8>
     ensures made { MakesKernel blocks.now (status_of result)
-        (done (F.files_read files.old) (F.blocks_opened files.old) (F.files_written files.old) (W.sent writer.old))
-        (done (F.files_read files.new) (F.blocks_opened files.new) (F.files_written files.new) (W.sent writer.new)) }
+        (done (F.files_read files.old) (F.files_opened files.old) (F.files_written files.old) (W.sent writer.old))
+        (done (F.files_read files.new) (F.files_opened files.new) (F.files_written files.new) (W.sent writer.new)) }
     ensures refused { IfErr result (λ status. 0 < status) }
 {
     let _held = files.held(blocks)?;
@@ -42,8 +42,8 @@ pub fn print_text<F: Files, W: Output>(
     screens: Screens<'_>,
 ) -> Result<u8, u8>
     ensures printed { IfOk result (λ status. Prints screens.entry.blocks.now screens.entry.from screens.entry.to status (W.failed writer.new)
-        (done (F.files_read files.old) (F.blocks_opened files.old) (F.files_written files.old) (W.sent writer.old))
-        (done (F.files_read files.new) (F.blocks_opened files.new) (F.files_written files.new) (W.sent writer.new))) }
+        (done (F.files_read files.old) (F.files_opened files.old) (F.files_written files.old) (W.sent writer.old))
+        (done (F.files_read files.new) (F.files_opened files.new) (F.files_written files.new) (W.sent writer.new))) }
     ensures unwritten { F.files_written files.new ≡ F.files_written files.old }
     ensures refused { IfErr result (λ status. 0 < status) }
     ensures cut { W.failed writer.old ≡ false → W.failed writer.new ≡ true → IfOk result (λ status. status ≡ 5) }
@@ -63,8 +63,8 @@ pub fn write_screens<F: Files, W: Output>(
     blocks: &str,
 ) -> Result<u8, u8>
     ensures made { IfOk result (λ status. MakesScreens text.now blocks.now status
-        (done (F.files_read files.old) (F.blocks_opened files.old) (F.files_written files.old) (W.sent writer.old))
-        (done (F.files_read files.new) (F.blocks_opened files.new) (F.files_written files.new) (W.sent writer.new))) }
+        (done (F.files_read files.old) (F.files_opened files.old) (F.files_written files.old) (W.sent writer.old))
+        (done (F.files_read files.new) (F.files_opened files.new) (F.files_written files.new) (W.sent writer.new))) }
     ensures unwritten { 0 < status_of result → F.files_written files.new ≡ F.files_written files.old }
     ensures refused { IfErr result (λ status. 0 < status) }
 {
@@ -86,8 +86,8 @@ pub fn write_new<F: Files, W: Output>(
     count: u32,
 ) -> Result<u8, u8>
     ensures made { MakesNew blocks.now count (status_of result)
-        (done (F.files_read files.old) (F.blocks_opened files.old) (F.files_written files.old) (W.sent writer.old))
-        (done (F.files_read files.new) (F.blocks_opened files.new) (F.files_written files.new) (W.sent writer.new)) }
+        (done (F.files_read files.old) (F.files_opened files.old) (F.files_written files.old) (W.sent writer.old))
+        (done (F.files_read files.new) (F.files_opened files.new) (F.files_written files.new) (W.sent writer.new)) }
     ensures refused { IfErr result (λ status. 0 < status) }
 {
     if count > MOST_BLOCKS {

@@ -16,8 +16,8 @@ pub fn view_word<F: Files, W: Output>(
     name: &str,
 ) -> Result<u8, u8>
     ensures viewed { IfOk result (λ status. Views image.now name.now status (W.failed writer.new)
-        (done (F.files_read files.old) (F.blocks_opened files.old) (F.files_written files.old) (W.sent writer.old))
-        (done (F.files_read files.new) (F.blocks_opened files.new) (F.files_written files.new) (W.sent writer.new))) }
+        (done (F.files_read files.old) (F.files_opened files.old) (F.files_written files.old) (W.sent writer.old))
+        (done (F.files_read files.new) (F.files_opened files.new) (F.files_written files.new) (W.sent writer.new))) }
     ensures unwritten { F.files_written files.new ≡ F.files_written files.old }
     ensures refused { IfErr result (λ status. 0 < status) }
     ensures cut { W.failed writer.old ≡ false → W.failed writer.new ≡ true → IfOk result (λ status. status ≡ 5) }
@@ -34,8 +34,8 @@ pub fn see_word<F: Files, W: Output>(
     name: &str,
 ) -> Result<u8, u8>
     ensures seen { IfOk result (λ status. Sees image.now name.now status (W.failed writer.new)
-        (done (F.files_read files.old) (F.blocks_opened files.old) (F.files_written files.old) (W.sent writer.old))
-        (done (F.files_read files.new) (F.blocks_opened files.new) (F.files_written files.new) (W.sent writer.new))) }
+        (done (F.files_read files.old) (F.files_opened files.old) (F.files_written files.old) (W.sent writer.old))
+        (done (F.files_read files.new) (F.files_opened files.new) (F.files_written files.new) (W.sent writer.new))) }
     ensures unwritten { F.files_written files.new ≡ F.files_written files.old }
     ensures refused { IfErr result (λ status. 0 < status) }
     ensures cut { W.failed writer.old ≡ false → W.failed writer.new ≡ true → IfOk result (λ status. status ≡ 5) }

@@ -1,18 +1,16 @@
 //! `load` over the files that the command line names.
 
-ghost use Rattle.std.specs.Prelude.{◌<◌, IfErr};
+ghost use Rattle.std.specs.Prelude.{◌≡◌, ◌<◌, IfErr, IfOk};
+ghost use Rattle.load_subcommand.specs.Files.{Loads};
+ghost use Rattle.named_files.specs.Done.{done, status_of};
 
 use crate::load_command::do_load;
 use block_buffers::{BLOCK_SIZE, Device, MemoryDevice};
-use inner_interpreter::{Machine, Writing};
+use inner_interpreter::{Machine, Output};
 use machine_parts::faults::{BAD_LENGTH, NOT_FOUND};
 use memory::system::{BLK, TO_IN};
 use metacompiler::{LoadFault, load_on};
-use named_files::{
-    blocks_of, image_bytes, keep_apart, keep_image, read_screen, run_blocks, show_line,
-    standard_output, word_before, word_behind, write_made,
-};
-use std::io::IsTerminal;
+use named_files::{Files, blocks_of, read_screen, word_before, word_behind, write_made};
 use subcommands::Ended;
 
 /// Where the word begins for which the screen stopped when the stream had come to `place`: a name that isn't found, or that
@@ -26,15 +24,15 @@ fn word_at_fault(screen: &[u8; BLOCK_SIZE], place: u16, cause: LoadFault) -> u16
 
 /// Says on standard error where and why the image couldn't load the screens from the first to the last: it is tried again
 /// with the blocks as they were before. Where that isn't known, nothing is promised.
-fn show_stop(
-    rt: &HostRuntime,
+fn show_stop<F: Files>(
+    files: &F,
     name: &str,
     image: &[u8],
     blocks: &mut MemoryDevice,
     (from, to): (u16, u16),
     limit: u64,
 ) {
-    let alloc = rt.alloc();
+    let alloc = files.alloc();
     let Ok(image) = image_loader::read(alloc, image) else {
         return;
     };
@@ -46,9 +44,9 @@ fn show_stop(
         if number == 0 {
             return;
         }
-        if let Some(bytes) = read_screen(rt, name, blocks, number) {
+        if let Some(bytes) = read_screen(files, name, blocks, number) {
             let offset = word_at_fault(&bytes, machine.memory().cell(TO_IN), cause);
-            show_line(rt, name, (number, &bytes), offset, cause);
+            files.show_line(name, (number, &bytes), offset, cause);
         }
     }
 }
@@ -67,10 +65,19 @@ pub struct Load<'a> {
     pub shows_place: bool,
 }
 
-/// Lets the image that `load` names compile screens, and writes the image that results. Where that can't begin it is printed why, and
+/// Lets the image that `load` names compile screens, and writes the image that results. If that cannot begin, it is printed why, and
 /// the status is the error.
-pub fn load_screens(rt: &HostRuntime, load: Load<'_>) -> Result<u8, u8>
-    ensures { IfErr result (λ status. 0 < status) }
+pub fn load_screens<F: Files, W: Output>(
+    files: &mut F,
+    writer: &mut W,
+    load: Load<'_>,
+) -> Result<u8, u8>
+    ensures loaded { IfOk result (λ status. Loads load.entry.image.now load.entry.blocks.now load.entry.from load.entry.to load.entry.out.now
+        load.entry.limit status (W.failed writer.new)
+        (done (F.files_read files.old) (F.files_opened files.old) (F.files_written files.old) (W.sent writer.old))
+        (done (F.files_read files.new) (F.files_opened files.new) (F.files_written files.new) (W.sent writer.new))) }
+    ensures unwritten { 0 < status_of result → F.files_written files.new ≡ F.files_written files.old }
+    ensures refused { IfErr result (λ status. 0 < status) }
 {
     let Load {
         blocks,
@@ -80,28 +87,27 @@ pub fn load_screens(rt: &HostRuntime, load: Load<'_>) -> Result<u8, u8>
         limit,
         ..
     } = load;
-    keep_apart(rt, blocks, out, "the blocks and the new image")?;
-    keep_image(rt, out)?;
-    let bytes = image_bytes(rt, load.image)?;
+    files.keep_apart(blocks, out, "the blocks and the new image")?;
+    files.keep_image(out)?;
+    let bytes = files.image_bytes(load.image)?;
     let bytes = bytes.as_slice();
-    let mut device = run_blocks(rt, Some(blocks))?;
-    let mut before = if load.shows_place || rt.stderr().is_terminal() {
-        blocks_of(rt.alloc(), &mut device)
+    let mut device = files.run_blocks(Some(blocks))?;
+    let mut before = if load.shows_place || files.is_watched() {
+        blocks_of(files.alloc(), &mut device)
     } else {
         None
     };
-    let mut writer = Writing::new(standard_output(rt)?);
     let Ended { status, file } = do_load(
-        rt.alloc(),
+        files.alloc(),
         bytes,
         &mut device,
         from,
         to,
         limit,
-        &mut writer,
+        writer,
     );
     if let (1, Some(before)) = (status, &mut before) {
-        show_stop(rt, blocks, bytes, before, (from, to), limit);
+        show_stop(files, blocks, bytes, before, (from, to), limit);
     }
-    Ok(write_made(rt, status, file, out))
+    Ok(write_made(files, status, file, out))
 }

@@ -45,3 +45,7 @@ pub both : (Of : Vec ℕ Global → Type 0) (file : Option (Vec ℕ Global)) (en
     → IfSome file Of → MatchOption file (0 < ended) (λ f. (ended ≡ 0) × Of f)
 both Of (Some file) ended h of = (h, of)
 both Of None ended h of = h
+
+pub is_itself : (file : Option (Vec ℕ Global)) → IfSome file (λ f. file ≡ Some f)
+is_itself (Some f) = refl
+is_itself None = tt

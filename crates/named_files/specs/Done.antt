@@ -3,8 +3,8 @@ use Rattle.std.specs.Prelude.{◌≡◌, ◌<◌, ℕ, List, [], ◌∷◌, ◌+
 use Rattle.std.specs.declared.alloc.Global.{Global}
 use Rattle.named_files.specs.FileBytes.{FileBytes}
 
--- what was done so far: the files that were read whole, the files of blocks that were opened, the files that were written, and
--- the bytes that were printed
+-- what was done so far: the files that were read whole, those that were opened to be read or written piece by piece, those that
+-- were written whole, and the bytes that were printed
 pub record Done : Type 0 where
   pub read : List FileBytes
   pub opened : List (List ℕ)
@@ -28,7 +28,7 @@ abbrev pub ReadsBoth : (name bytes name' bytes' : List ℕ) → (old new : Done)
 ReadsBoth name bytes name' bytes' old new =
     (new.read ≡ (old.read ++ (name, bytes) ∷ []) ++ (name', bytes') ∷ []) × (new.opened ≡ old.opened)
 
--- just this file of blocks was opened, and none was read whole
+-- just this file was opened, and none was read whole
 abbrev pub Opens : (name : List ℕ) → (old new : Done) → Type 0
 Opens name old new = (new.opened ≡ old.opened ++ name ∷ []) × (new.read ≡ old.read)
 

@@ -31,8 +31,8 @@ pub trait Files {
     /// The files that were read whole so far, in order.
     ghost files_read: { Self → List FileBytes };
 
-    /// The names of the files of blocks that were opened so far, in order.
-    ghost blocks_opened: { Self → List (List ℕ) };
+    /// The names of the files that were opened so far, to be read or written piece by piece, in order.
+    ghost files_opened: { Self → List (List ℕ) };
 
     /// The files that were written whole so far, in order.
     ghost files_written: { Self → List FileBytes };
@@ -78,7 +78,7 @@ pub trait Files {
 
     /// The blocks of a file that is only read.
     fn read_alone(&mut self, blocks: &str) -> Result<Self::Blocks, u8>
-        ensures opened { OnOk result (blocks_opened self.new ≡ blocks_opened self.old ++ blocks.now ∷ []) }
+        ensures opened { OnOk result (files_opened self.new ≡ files_opened self.old ++ blocks.now ∷ []) }
         ensures read { files_read self.new ≡ files_read self.old }
         ensures written { files_written self.new ≡ files_written self.old }
         ensures fresh { IfOk result (λ device. Self.Blocks.calls device ≡ []) }
@@ -86,7 +86,7 @@ pub trait Files {
 
     /// The blocks of a run: those of the file, or none where it has no file.
     fn run_blocks(&mut self, blocks: Option<&str>) -> Result<Self::Blocks, u8>
-        ensures opened { OnOk result (blocks_opened self.new ≡ blocks_opened self.old ++ given blocks.entry) }
+        ensures opened { OnOk result (files_opened self.new ≡ files_opened self.old ++ given blocks.entry) }
         ensures read { files_read self.new ≡ files_read self.old }
         ensures written { files_written self.new ≡ files_written self.old }
         ensures fresh { IfOk result (λ device. Self.Blocks.calls device ≡ []) }
@@ -98,47 +98,50 @@ pub trait Files {
 
     /// The file of a trace, which is emptied where the run begins.
     fn trace(&mut self, name: &str) -> Result<Self::Trace, u8>
+        ensures opened { OnOk result (files_opened self.new ≡ files_opened self.old ++ name.now ∷ []) }
         ensures read { files_read self.new ≡ files_read self.old }
-        ensures opened { blocks_opened self.new ≡ blocks_opened self.old }
         ensures written { files_written self.new ≡ files_written self.old }
         ensures refused { IfErr result (λ status. 0 < status) };
 
     /// Removes the new file of a trace of which nothing came.
     fn remove_trace(&mut self, name: &str)
         ensures read { files_read self.new ≡ files_read self.old }
-        ensures opened { blocks_opened self.new ≡ blocks_opened self.old }
+        ensures opened { files_opened self.new ≡ files_opened self.old }
         ensures written { files_written self.new ≡ files_written self.old };
 
     /// The bytes of an image's file.
     fn image_bytes(&mut self, image: &str) -> Result<Vec<u8>, u8>
         ensures read { files_read self.new ≡ reading image.now result (files_read self.old) }
         ensures written { files_written self.new ≡ files_written self.old }
-        ensures opened { blocks_opened self.new ≡ blocks_opened self.old }
+        ensures opened { files_opened self.new ≡ files_opened self.old }
         ensures refused { IfErr result (λ status. 0 < status) };
 
     /// The bytes of a file.
     fn file_bytes(&mut self, name: &str) -> Result<Vec<u8>, u8>
         ensures read { files_read self.new ≡ reading name.now result (files_read self.old) }
         ensures written { files_written self.new ≡ files_written self.old }
-        ensures opened { blocks_opened self.new ≡ blocks_opened self.old }
+        ensures opened { files_opened self.new ≡ files_opened self.old }
         ensures refused { IfErr result (λ status. 0 < status) };
 
     /// The bytes of a file of blocks that is to be replaced; none where it doesn't exist.
     fn old_blocks(&mut self, blocks: &str) -> Result<Vec<u8>, u8>
         ensures read { files_read self.new ≡ reading blocks.now result (files_read self.old) }
         ensures written { files_written self.new ≡ files_written self.old }
-        ensures opened { blocks_opened self.new ≡ blocks_opened self.old }
+        ensures opened { files_opened self.new ≡ files_opened self.old }
         ensures refused { IfErr result (λ status. 0 < status) };
 
     /// Whether a file of this name exists.
     fn exists(&self, name: &str) -> Result<bool, u8>
         ensures { IfErr result (λ status. 0 < status) };
 
+    /// Whether it is known that no file of this name exists.
+    fn is_absent(&self, name: &str) -> bool;
+
     /// Writes a file whole, or makes it; where that fails, it is as it was.
     fn write(&mut self, name: &str, bytes: &[u8]) -> Result<(), u8>
         ensures read { files_read self.new ≡ files_read self.old }
         ensures written { OnOk result (files_written self.new ≡ files_written self.old ++ (name.now, bytes.now) ∷ []) }
-        ensures opened { blocks_opened self.new ≡ blocks_opened self.old }
+        ensures opened { files_opened self.new ≡ files_opened self.old }
         ensures unwritten { OnErr result (files_written self.new ≡ files_written self.old) }
         ensures refused { IfErr result (λ status. 0 < status) };
 
@@ -195,7 +198,7 @@ impl<'a> Files for SystemFiles<'a> {
 
     ghost files_read = { λ s. s.read.files };
 
-    ghost blocks_opened = { λ s. names_of s.opened.files };
+    ghost files_opened = { λ s. names_of s.opened.files };
 
     ghost files_written = { λ s. s.written.files };
 
@@ -262,7 +265,9 @@ impl<'a> Files for SystemFiles<'a> {
     }
 
     fn trace(&mut self, name: &str) -> Result<BufWriter<TraceFile>, u8> {
-        streams::trace_file(self.rt, name)
+        let trace = streams::trace_file(self.rt, name)?;
+        self.opened = self.opened.then(&NamedBytes { name, bytes: &[] });
+        Ok(trace)
     }
 
     fn remove_trace(&mut self, name: &str) {
@@ -298,6 +303,10 @@ impl<'a> Files for SystemFiles<'a> {
 
     fn exists(&self, name: &str) -> Result<bool, u8> {
         opening::exists(self.rt, name)
+    }
+
+    fn is_absent(&self, name: &str) -> bool {
+        matches!(fs::exists(self.rt, name), Ok(false))
     }
 
     fn write(&mut self, name: &str, bytes: &[u8]) -> Result<(), u8> {
@@ -336,7 +345,7 @@ pub fn write_made<F: Files>(
     ensures made { IfSome file (λ made. IsWrittenOr name.now made.items status result
         (F.files_written files.old) (F.files_written files.new)) }
     ensures read { F.files_read files.new ≡ F.files_read files.old }
-    ensures opened { F.blocks_opened files.new ≡ F.blocks_opened files.old }
+    ensures opened { F.files_opened files.new ≡ F.files_opened files.old }
 {
     let Some(file) = file else {
         return status;

@@ -62,8 +62,8 @@ pub fn run_image<F: SessionFiles, W: Output>(
     session: Session<'_>,
 ) -> Result<u8, u8>
     ensures ran { W.failed writer.old ≡ false → IfOk result (λ status. Runs image.now (given blocks.entry) (wanted_by limit session.entry) status (W.failed writer.new)
-        (done (F.files_read files.old) (F.blocks_opened files.old) (F.files_written files.old) (W.sent writer.old))
-        (done (F.files_read files.new) (F.blocks_opened files.new) (F.files_written files.new) (W.sent writer.new))) }
+        (done (F.files_read files.old) (F.files_opened files.old) (F.files_written files.old) (W.sent writer.old))
+        (done (F.files_read files.new) (F.files_opened files.new) (F.files_written files.new) (W.sent writer.new))) }
     ensures unwritten { F.files_written files.new ≡ F.files_written files.old }
     ensures passed { IfOk result (λ _. W.failed writer.new ≡ false → W.passed writer.new ≡ true) }
     ensures refused { IfErr result (λ status. 0 < status) }
