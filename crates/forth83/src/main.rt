@@ -1,18 +1,21 @@
 //! A Forth-83 system with block storage.
 #![tactic(auto)]
 
-ghost use Rattle.std.specs.Prelude.{◌≡◌, ◌<◌, IfErr, option_map};
+ghost use Rattle.std.specs.Prelude.{◌≡◌, ◌<◌, [], Some, Bool, false, IfErr, IfOk, option_map};
+ghost use Rattle.forth83.specs.Obeyed.{Obeys};
+ghost use Rattle.named_files.specs.Done.{Done, done, status_of};
 ghost use Rattle.std.specs.String.{string_bytes};
 
-use command_words::{BuildWords, ContainerWords, LoadWords, Parsed, RunWords, ScreenRange, Words};
+use command_words::{ContainerWords, LoadWords, Parsed, RunWords, ScreenRange, Words};
 use debug_subcommand::debug_word;
 use file_subcommands::{
     Disk, Screens, build_image, export_screens, import_screens, print_text, see_word,
     upgrade_image, view_word, write_kernel, write_new, write_screens,
 };
+use inner_interpreter::{Output, Writing};
 use load_subcommand::{Load, load_screens};
-use named_files::out_of_memory;
-use session_runs::{Session, run_image};
+use named_files::{SystemFiles, out_of_memory, standard_output};
+use session_runs::{Session, SessionFiles, run_image};
 use std::process::ExitCode;
 
 /// The screens that words name.
@@ -42,19 +45,6 @@ fn disk_of(words: &ContainerWords) -> Disk<'_>
         sector: words.sector,
         skew: words.skew.as_deref(),
     }
-}
-
-/// Runs what the words of `build` say.
-fn obey_build(rt: &HostRuntime, words: &BuildWords) -> Result<u8, u8>
-    ensures { IfErr result (λ status. 0 < status) }
-{
-    build_image(
-        rt,
-        screens_of(&words.screens),
-        words.image.as_str(),
-        words.buffers,
-        words.shows_place,
-    )
 }
 
 /// What the words of `load` name.
@@ -87,25 +77,42 @@ fn session_of(words: &RunWords) -> Session<'_>
 }
 
 /// Runs what the words say, and answers the status. If a subcommand cannot start, the reason is printed, and the status is the error.
-fn obey(rt: &HostRuntime, words: Words) -> Result<u8, u8>
-    ensures { IfErr result (λ status. 0 < status) }
+fn obey<F: SessionFiles, W: Output>(files: &mut F, writer: &mut W, words: Words) -> Result<u8, u8>
+    ensures obeyed { W.failed writer.old ≡ false → IfOk result (λ status. Obeys words status (W.failed writer.new)
+        (done (F.files_read files.old) (F.files_opened files.old) (F.files_written files.old) (W.sent writer.old))
+        (done (F.files_read files.new) (F.files_opened files.new) (F.files_written files.new) (W.sent writer.new))) }
+    ensures unwritten { 0 < status_of result → F.files_written files.new ≡ F.files_written files.old }
+    ensures refused { IfErr result (λ status. 0 < status) }
 {
     match words {
-        Words::Kernel { blocks } => write_kernel(rt, blocks.as_str()),
-        Words::Build(words) => obey_build(rt, &words),
-        Words::Load(words) => load_screens(rt, load_of(&words)),
+        Words::Kernel { blocks } => write_kernel(files, writer, blocks.as_str()),
+        Words::Build(words) => build_image(
+            files,
+            writer,
+            screens_of(&words.screens),
+            words.image.as_str(),
+            words.buffers,
+            words.shows_place,
+        ),
+        Words::Load(words) => load_screens(files, writer, load_of(&words)),
         Words::Upgrade {
             image,
             out,
             buffers,
-        } => upgrade_image(rt, image.as_str(), out.as_str(), buffers),
-        Words::Text(words) => print_text(rt, screens_of(&words)),
-        Words::Screens { text, blocks } => write_screens(rt, text.as_str(), blocks.as_str()),
-        Words::New { blocks, count } => write_new(rt, blocks.as_str(), count),
-        Words::Import(words) => import_screens(rt, disk_of(&words), words.cleans),
-        Words::Export(words) => export_screens(rt, disk_of(&words)),
+        } => upgrade_image(files, writer, image.as_str(), out.as_str(), buffers),
+        Words::Text(words) => print_text(files, writer, screens_of(&words)),
+        Words::Screens { text, blocks } => write_screens(
+            files,
+            writer,
+            text.as_str(),
+            blocks.as_str(),
+        ),
+        Words::New { blocks, count } => write_new(files, writer, blocks.as_str(), count),
+        Words::Import(words) => import_screens(files, writer, disk_of(&words), words.cleans),
+        Words::Export(words) => export_screens(files, writer, disk_of(&words)),
         Words::Run(words) => run_image(
-            rt,
+            files,
+            writer,
             words.image.as_str(),
             words.blocks.as_deref(),
             words.limit,
@@ -118,23 +125,34 @@ fn obey(rt: &HostRuntime, words: Words) -> Result<u8, u8>
             blocks,
             limit,
         } => debug_word(
-            rt,
+            files,
+            writer,
             image.as_str(),
             name.as_str(),
             trace.as_str(),
             blocks.as_deref(),
             limit,
         ),
-        Words::See { image, name } => see_word(rt, image.as_str(), name.as_str()),
-        Words::View { image, name } => view_word(rt, image.as_str(), name.as_str()),
+        Words::See { image, name } => see_word(files, writer, image.as_str(), name.as_str()),
+        Words::View { image, name } => view_word(files, writer, image.as_str(), name.as_str()),
     }
+}
+
+/// Runs what the words say, over the system's files and standard output.
+fn begin(rt: &HostRuntime, words: Words) -> Result<u8, u8>
+    ensures begun { IfOk result (λ status. (failed : Bool) × (new : Done) × Obeys words status failed (done [] [] [] (Some [])) new) }
+    ensures refused { IfErr result (λ status. 0 < status) }
+{
+    let mut writer = Writing::new(standard_output(rt)?);
+    let mut files = SystemFiles::new(rt);
+    obey(&mut files, &mut writer, words)
 }
 
 fn main(rt: HostRuntime) -> ExitCode {
     let status = match command_words::parse(&rt) {
         Parsed::Exit(status) => status,
         Parsed::OutOfMemory => out_of_memory(&rt),
-        Parsed::Words(words) => match obey(&rt, words) {
+        Parsed::Words(words) => match begin(&rt, words) {
             Ok(status) | Err(status) => status,
         },
     };

@@ -1,6 +1,6 @@
 //! What subcommands ask of the system about the files that the command line names.
 
-ghost use Rattle.std.specs.Prelude.{◌≡◌, IfSome, IsNone};
+ghost use Rattle.std.specs.Prelude.{◌≡◌, [], IfSome, IsNone};
 ghost use Rattle.named_files.specs.FileBytes.{IsWrittenOr};
 
 use crate::file_log::{FileLog, NamedBytes};
@@ -9,9 +9,9 @@ use block_buffers::{BLOCK_SIZE, Device};
 use file_access::{FileDevice, TraceFile};
 use std::alloc::Global;
 use std::fmt::Display;
+use std::fs;
 use std::fs::File;
 use std::io::{BufReader, BufWriter, IsTerminal, Read, Stdin, Write};
-use std::fs;
 
 /// The files of the system, by the names that the command line has. Where one can't be used as it is named that is printed, and the
 /// program's status, which is not 0, is the error.
@@ -177,7 +177,11 @@ impl<'a> SystemFiles<'a> {
     }
 
     /// None was read or written yet.
-    pub fn new(rt: &'a HostRuntime) -> SystemFiles<'a> {
+    pub fn new(rt: &'a HostRuntime) -> SystemFiles<'a>
+        ensures read { ⟦<SystemFiles<'a> as Files>⟧.files_read result ≡ [] }
+        ensures opened { ⟦<SystemFiles<'a> as Files>⟧.files_opened result ≡ [] }
+        ensures written { ⟦<SystemFiles<'a> as Files>⟧.files_written result ≡ [] }
+    {
         SystemFiles {
             rt,
             read: FileLog::new(),
@@ -335,12 +339,7 @@ impl<'a> Files for SystemFiles<'a> {
 }
 
 /// Writes the file that a subcommand made, if it made one, and answers the status.
-pub fn write_made<F: Files>(
-    files: &mut F,
-    status: u8,
-    file: Option<Vec<u8>>,
-    name: &str,
-) -> u8
+pub fn write_made<F: Files>(files: &mut F, status: u8, file: Option<Vec<u8>>, name: &str) -> u8
     ensures none { IsNone file → (result ≡ status) × (F.files_written files.new ≡ F.files_written files.old) }
     ensures made { IfSome file (λ made. IsWrittenOr name.now made.items status result
         (F.files_written files.old) (F.files_written files.new)) }

@@ -1,0 +1,47 @@
+-- What the program does: for each subcommand, with the words that were typed, what is promised of it.
+use Rattle.std.specs.Prelude.{◌≡◌, ℕ, List, [], ◌∷◌, Bool, Option, Some, None, option_map, String, is_some}
+use Rattle.std.specs.declared.alloc.Global.{Global}
+use Rattle.std.specs.String.{string_bytes}
+use Rattle.command_words.specs.declared.Words.{Words}
+use Rattle.command_words.specs.declared.Words.TheVariants as words
+use Rattle.command_words.specs.declared.containers.ContainerWords.{ContainerWords}
+use Rattle.debug_subcommand.specs.Files.{Debugs}
+use Rattle.file_subcommands.specs.Filed.{Builds, Exports, Imports, MakesKernel, MakesNew, MakesScreens, Prints, Sees, Upgrades, Views, Wanted}
+use Rattle.load_subcommand.specs.Files.{Loads}
+use Rattle.named_files.specs.Done.{Done}
+use Rattle.session_runs.specs.Files.{Runs}
+
+-- the name that was typed, if one was
+abbrev pub typed : Option (String Global) → List (List ℕ)
+typed None = []
+typed (Some name) = string_bytes name ∷ []
+
+-- a container's file, a file of blocks, and how screens lie in the container, as typed
+abbrev pub wanted : ContainerWords → Wanted
+wanted w = record {
+  container = string_bytes w.container;
+  blocks = string_bytes w.blocks;
+  format = string_bytes w.format;
+  offset = w.offset;
+  sector = w.sector;
+  skew = option_map string_bytes w.skew;
+}
+
+abbrev pub Obeys : Words → (status : ℕ) → (failed : Bool) → (old new : Done) → Type 0
+Obeys (words.Kernel blocks) status failed old new = MakesKernel (string_bytes blocks) status old new
+Obeys (words.Build w) status failed old new =
+    Builds (string_bytes w.screens.blocks) w.screens.from w.screens.to (string_bytes w.image) w.buffers status old new
+Obeys (words.Upgrade image out buffers) status failed old new = Upgrades (string_bytes image) (string_bytes out) buffers status failed old new
+Obeys (words.Load w) status failed old new =
+    Loads (string_bytes w.image) (string_bytes w.screens.blocks) w.screens.from w.screens.to (string_bytes w.out) w.limit status failed old new
+Obeys (words.Text w) status failed old new = Prints (string_bytes w.blocks) w.from w.to status failed old new
+Obeys (words.Screens text blocks) status failed old new = MakesScreens (string_bytes text) (string_bytes blocks) status old new
+Obeys (words.New blocks count) status failed old new = MakesNew (string_bytes blocks) count status old new
+Obeys (words.Import w) status failed old new = Imports (wanted w) w.cleans status old new
+Obeys (words.Export w) status failed old new = Exports (wanted w) status old new
+Obeys (words.Run w) status failed old new =
+    Runs (string_bytes w.image) (typed w.blocks) (record { limit = w.limit; saves = w.saves; keeps = is_some w.break_file }) status failed old new
+Obeys (words.Debug image name trace blocks limit) status failed old new =
+    Debugs (string_bytes image) (string_bytes name) (string_bytes trace) (typed blocks) limit status failed old new
+Obeys (words.See image name) status failed old new = Sees (string_bytes image) (string_bytes name) status failed old new
+Obeys (words.View image name) status failed old new = Views (string_bytes image) (string_bytes name) status failed old new
