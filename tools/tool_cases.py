@@ -125,6 +125,14 @@ class BareFunctions(unittest.TestCase):
             found = list(command("tools/bare-functions").bare_in("low", file))
         self.assertEqual([(it.crate, it.file, it.name, it.lines) for it in found], [("low", "a.rt", "bare", 3)])
 
+    def test_a_method_that_a_trait_declares_has_no_body(self) -> None:
+        text = "pub trait T {\n    fn size(&self) -> u8;\n\n    fn kept(&self)\n        ensures { true };\n}\n\nfn last() {\n    one();\n}\n"
+        with tempfile.TemporaryDirectory() as room:
+            file = pathlib.Path(room, "a.rt")
+            file.write_text(text)
+            found = list(command("tools/bare-functions").bare_in("low", file))
+        self.assertEqual([(it.name, it.lines) for it in found], [("size", 1), ("last", 3)])
+
 
 class Sessions(unittest.TestCase):
     def test_steps_have_what_is_typed_and_what_is_shown(self) -> None:

@@ -12,9 +12,9 @@ over_file : {R D T : Type 0} (reads : R → List (Option ℕ)) (calls : D → Li
     (name : List ℕ) (count limit : ℕ) (r r' : R) (d d' : D) (t t' : T) (unread failed untraced : Bool) (sent sent' : Option (List ℕ)) (status : ℕ)
     → reads r ≡ [] → calls d ≡ [] → lines t ≡ Some []
     → HasTracedWith status file name count (logs (calls d) sent (reads r)) (logs (calls d') sent' (reads r')) limit unread failed untraced (lines t) (lines t')
-      ⊎ IsUnmarked status failed r r' d d' t t'
+    ⊎ IsUnmarked status failed r r' d d' t t'
     → HasTracedWith status file name count (logs [] sent []) (logs (calls d') sent' (reads r')) limit unread failed untraced (Some []) (lines t')
-      ⊎ IsWanting status failed (reads r') (calls d') (lines t')
+    ⊎ IsWanting status failed (reads r') (calls d') (lines t')
 over_file reads calls lines file name count limit r r' d d' t t' unread failed untraced sent sent' status hr hd ht (inl h) =
     inl (subst (λ x. HasTracedWith status file name count (logs [] sent []) (logs (calls d') sent' (reads r')) limit unread failed untraced x (lines t')) ht
     (subst (λ x. HasTracedWith status file name count (logs x sent []) (logs (calls d') sent' (reads r')) limit unread failed untraced (lines t) (lines t')) hd
@@ -31,10 +31,10 @@ pub over : {R D T : Type 0} (reads : R → List (Option ℕ)) (calls : D → Lis
     (name : List ℕ) (count limit : ℕ) (r r' : R) (d d' : D) (t t' : T) (unread failed untraced : Bool) (sent sent' : Option (List ℕ)) (status : ℕ)
     → reads r ≡ [] → calls d ≡ [] → lines t ≡ Some []
     → OfImageFile bytes (λ file. IsOk (debugged (memory_of file) name) →
-      HasTracedWith status file name count (logs (calls d) sent (reads r)) (logs (calls d') sent' (reads r')) limit unread failed untraced (lines t) (lines t')
-      ⊎ IsUnmarked status failed r r' d d' t t')
+    HasTracedWith status file name count (logs (calls d) sent (reads r)) (logs (calls d') sent' (reads r')) limit unread failed untraced (lines t) (lines t')
+    ⊎ IsUnmarked status failed r r' d d' t t')
     → OfImageFile bytes (λ file. IsOk (debugged (memory_of file) name) →
-      HasTracedWith status file name count (logs [] sent []) (logs (calls d') sent' (reads r')) limit unread failed untraced (Some []) (lines t')
-      ⊎ IsWanting status failed (reads r') (calls d') (lines t'))
+    HasTracedWith status file name count (logs [] sent []) (logs (calls d') sent' (reads r')) limit unread failed untraced (Some []) (lines t')
+    ⊎ IsWanting status failed (reads r') (calls d') (lines t'))
 over reads calls lines bytes name count limit r r' d d' t t' unread failed untraced sent sent' status hr hd ht h =
     λ file is ok. over_file reads calls lines file name count limit r r' d d' t t' unread failed untraced sent sent' status hr hd ht (h file is ok)

@@ -70,11 +70,7 @@ fn skew_of<F: Files>(files: &F, skew: Option<&str>) -> Result<Vec<usize>, u8>
 }
 
 /// How screens lie in the container. If nothing can lie so, it is printed why, and the status is the error.
-fn layout_of<F: Files, W: Output>(
-    files: &F,
-    writer: &mut W,
-    disk: Disk<'_>,
-) -> Result<Layout, u8>
+fn layout_of<F: Files, W: Output>(files: &F, writer: &mut W, disk: Disk<'_>) -> Result<Layout, u8>
     ensures wanted { IfOk result (IsWantedLayout (wanted_of disk.entry)) }
     ensures refused { IfErr result (λ status. 0 < status) }
 {
@@ -189,12 +185,6 @@ pub fn export_screens<F: Files, W: Output>(
     let screens = files.file_bytes(blocks)?;
     let _held = files.held(container)?;
     let old = old_container(files, writer, &layout, container, screens.len())?;
-    let Ended { status, file } = do_export(
-        files.alloc(),
-        &layout,
-        screens.as_slice(),
-        old,
-        writer,
-    );
+    let Ended { status, file } = do_export(files.alloc(), &layout, screens.as_slice(), old, writer);
     Ok(write_made(files, status, file, container))
 }

@@ -11,9 +11,9 @@ over_file : {R D : Type 0} (reads : R → List (Option ℕ)) (calls : D → List
     (r r' : R) (d d' : D) (n : ℕ) (e : Bool) (k : List ℕ) (host : HostLog) (unread failed : Bool) (sent sent' : Option (List ℕ)) (status : ℕ)
     → reads r ≡ [] → calls d ≡ [] → n ≡ 0 → e ≡ false → k ≡ []
     → HasSession file count wanted (logs (calls d) sent (reads r)) (logs (calls d') sent' (reads r')) (host_log n e k) host unread failed status
-      ⊎ IsUnsat status failed r r' d d' sent sent'
+    ⊎ IsUnsat status failed r r' d d' sent sent'
     → HasSession file count wanted (logs [] sent []) (logs (calls d') sent' (reads r')) (host_log 0 false []) host unread failed status
-      ⊎ IsWanting status failed (reads r') (calls d') sent sent'
+    ⊎ IsWanting status failed (reads r') (calls d') sent sent'
 over_file reads calls file count wanted r r' d d' n e k host unread failed sent sent' status hr hd hn he hk (inl h) =
     inl (subst (λ x. HasSession file count wanted (logs [] sent []) (logs (calls d') sent' (reads r')) (host_log 0 false x) host unread failed status) hk
     (subst (λ x. HasSession file count wanted (logs [] sent []) (logs (calls d') sent' (reads r')) (host_log 0 x k) host unread failed status) he
@@ -32,8 +32,8 @@ pub over : {R D : Type 0} (reads : R → List (Option ℕ)) (calls : D → List 
     (r r' : R) (d d' : D) (n : ℕ) (e : Bool) (k : List ℕ) (host : HostLog) (unread failed : Bool) (sent sent' : Option (List ℕ)) (status : ℕ)
     → reads r ≡ [] → calls d ≡ [] → n ≡ 0 → e ≡ false → k ≡ []
     → OfImageFile bytes (λ file. HasSession file count wanted (logs (calls d) sent (reads r)) (logs (calls d') sent' (reads r')) (host_log n e k) host unread failed status
-      ⊎ IsUnsat status failed r r' d d' sent sent')
+    ⊎ IsUnsat status failed r r' d d' sent sent')
     → OfImageFile bytes (λ file. HasSession file count wanted (logs [] sent []) (logs (calls d') sent' (reads r')) (host_log 0 false []) host unread failed status
-      ⊎ IsWanting status failed (reads r') (calls d') sent sent')
+    ⊎ IsWanting status failed (reads r') (calls d') sent sent')
 over reads calls bytes count wanted r r' d d' n e k host unread failed sent sent' status hr hd hn he hk h =
     λ file is. over_file reads calls file count wanted r r' d d' n e k host unread failed sent sent' status hr hd hn he hk (h file is)

@@ -13,8 +13,8 @@ returns-clause-exported g c =
       screens = c.as_slice.result.now;
       before = c.in_ok-old.old.items;
       reads = elim c.in_ok-old.ensures.read [
-        inl read ↦ inl ((c.write_made.ensures.read ∙ (read ∙ ap (λ files. files ++ (c.args.disk.container.now, c.in_ok-old.old.items) ∷ []) screens)), opened)
-      | inr new ↦ inr ((((c.write_made.ensures.read ∙ (new.0 ∙ screens)), opened)), search (rules, new.1))
+        | inl read ↦ inl ((c.write_made.ensures.read ∙ (read ∙ ap (λ files. files ++ (c.args.disk.container.now, c.in_ok-old.old.items) ∷ []) screens)), opened)
+        | inr new ↦ inr ((((c.write_made.ensures.read ∙ (new.0 ∙ screens)), opened)), search (rules, new.1))
       ];
       makes = made_after _ c.do_export-status.result.file c.do_export-status.result.status _ _ _ _ _
           (c.old_container.ensures.written ∙ c.file_bytes.ensures.written)
