@@ -64,7 +64,7 @@ pub fn build_image<F: Files, W: Output>(
     buffers: u16,
     shows_place: bool,
 ) -> Result<u8, u8>
-    ensures built { IfOk result (λ status. Builds screens.entry.blocks.now screens.entry.from screens.entry.to image.now buffers status
+    ensures built { IfOk result (λ status. Builds screens.entry.blocks.now screens.entry.from screens.entry.to image.now buffers status (W.failed writer.new)
         (done (F.files_read files.old) (F.files_opened files.old) (F.files_written files.old) (W.sent writer.old))
         (done (F.files_read files.new) (F.files_opened files.new) (F.files_written files.new) (W.sent writer.new))) }
     ensures unwritten { 0 < status_of result → F.files_written files.new ≡ F.files_written files.old }

@@ -1,6 +1,6 @@
 //! `import` and `export`.
 
-ghost use Rattle.std.specs.Prelude.{◌≡◌, ◌<◌, ◌++◌, ◌∷◌, ◌⊎◌, [], Some, option_map, IfErr, IfOk};
+ghost use Rattle.std.specs.Prelude.{◌≡◌, ◌<◌, ◌++◌, ◌∷◌, ◌⊎◌, [], Some, option_map, IfErr, IfOk, OnOk};
 ghost use Rattle.containers.specs.Containers.{new_container};
 ghost use Rattle.file_subcommands.specs.Filed.{Exports, Imports, IsWantedLayout, numbers_in, wanted_of};
 ghost use Rattle.named_files.specs.Done.{done, status_of};
@@ -72,6 +72,7 @@ fn skew_of<F: Files>(files: &F, skew: Option<&str>) -> Result<Vec<usize>, u8>
 /// How screens lie in the container. If nothing can lie so, it is printed why, and the status is the error.
 fn layout_of<F: Files, W: Output>(files: &F, writer: &mut W, disk: Disk<'_>) -> Result<Layout, u8>
     ensures wanted { IfOk result (IsWantedLayout (wanted_of disk.entry)) }
+    ensures silent { OnOk result (writer.new ≡ writer.old) }
     ensures refused { IfErr result (λ status. 0 < status) }
 {
     let Some(format) = named(disk.format) else {
@@ -96,7 +97,7 @@ pub fn import_screens<F: Files, W: Output>(
     disk: Disk<'_>,
     cleans: bool,
 ) -> Result<u8, u8>
-    ensures imported { IfOk result (λ status. Imports (wanted_of disk.entry) cleans status
+    ensures imported { IfOk result (λ status. Imports (wanted_of disk.entry) cleans status (W.failed writer.new)
         (done (F.files_read files.old) (F.files_opened files.old) (F.files_written files.old) (W.sent writer.old))
         (done (F.files_read files.new) (F.files_opened files.new) (F.files_written files.new) (W.sent writer.new))) }
     ensures unwritten { 0 < status_of result → F.files_written files.new ≡ F.files_written files.old }
@@ -128,6 +129,7 @@ fn empty_container<F: Files, W: Output>(
     bytes: usize,
 ) -> Result<Vec<u8>, u8>
     ensures made { IfOk result (λ container. container.items ≡ new_container layout.now bytes) }
+    ensures silent { OnOk result (writer.new ≡ writer.old) }
     ensures refused { IfErr result (λ status. 0 < status) }
 {
     if bytes > BLOCK_BYTES * MOST_BLOCKS as usize {
@@ -152,6 +154,7 @@ fn old_container<F: Files, W: Output>(
         ((F.files_read files.new ≡ F.files_read files.old) × (container.items ≡ new_container layout.now bytes)))) }
     ensures opened { F.files_opened files.new ≡ F.files_opened files.old }
     ensures written { F.files_written files.new ≡ F.files_written files.old }
+    ensures silent { OnOk result (writer.new ≡ writer.old) }
     ensures refused { IfErr result (λ status. 0 < status) }
 {
     if files.exists(name)? {
@@ -167,7 +170,7 @@ pub fn export_screens<F: Files, W: Output>(
     writer: &mut W,
     disk: Disk<'_>,
 ) -> Result<u8, u8>
-    ensures exported { IfOk result (λ status. Exports (wanted_of disk.entry) status
+    ensures exported { IfOk result (λ status. Exports (wanted_of disk.entry) status (W.failed writer.new)
         (done (F.files_read files.old) (F.files_opened files.old) (F.files_written files.old) (W.sent writer.old))
         (done (F.files_read files.new) (F.files_opened files.new) (F.files_written files.new) (W.sent writer.new))) }
     ensures unwritten { 0 < status_of result → F.files_written files.new ≡ F.files_written files.old }

@@ -25,9 +25,10 @@ pub fn write_kernel<F: Files, W: Output>(
     writer: &mut W,
     blocks: &str,
 ) -> Result<u8, u8>
-    ensures made { MakesKernel blocks.now (status_of result)
+    ensures made { IfOk result (λ status. MakesKernel blocks.now status (W.failed writer.new)
         (done (F.files_read files.old) (F.files_opened files.old) (F.files_written files.old) (W.sent writer.old))
-        (done (F.files_read files.new) (F.files_opened files.new) (F.files_written files.new) (W.sent writer.new)) }
+        (done (F.files_read files.new) (F.files_opened files.new) (F.files_written files.new) (W.sent writer.new))) }
+    ensures unwritten { 0 < status_of result → F.files_written files.new ≡ F.files_written files.old }
     ensures refused { IfErr result (λ status. 0 < status) }
 {
     let _held = files.held(blocks)?;
@@ -62,7 +63,7 @@ pub fn write_screens<F: Files, W: Output>(
     text: &str,
     blocks: &str,
 ) -> Result<u8, u8>
-    ensures made { IfOk result (λ status. MakesScreens text.now blocks.now status
+    ensures made { IfOk result (λ status. MakesScreens text.now blocks.now status (W.failed writer.new)
         (done (F.files_read files.old) (F.files_opened files.old) (F.files_written files.old) (W.sent writer.old))
         (done (F.files_read files.new) (F.files_opened files.new) (F.files_written files.new) (W.sent writer.new))) }
     ensures unwritten { 0 < status_of result → F.files_written files.new ≡ F.files_written files.old }
@@ -85,9 +86,10 @@ pub fn write_new<F: Files, W: Output>(
     blocks: &str,
     count: u32,
 ) -> Result<u8, u8>
-    ensures made { MakesNew blocks.now count (status_of result)
+    ensures made { IfOk result (λ status. MakesNew blocks.now count status (W.failed writer.new)
         (done (F.files_read files.old) (F.files_opened files.old) (F.files_written files.old) (W.sent writer.old))
-        (done (F.files_read files.new) (F.files_opened files.new) (F.files_written files.new) (W.sent writer.new)) }
+        (done (F.files_read files.new) (F.files_opened files.new) (F.files_written files.new) (W.sent writer.new))) }
+    ensures unwritten { 0 < status_of result → F.files_written files.new ≡ F.files_written files.old }
     ensures refused { IfErr result (λ status. 0 < status) }
 {
     if count > MOST_BLOCKS {

@@ -28,17 +28,17 @@ wanted w = record {
 }
 
 abbrev pub Obeys : Words → (status : ℕ) → (failed : Bool) → (old new : Done) → Type 0
-Obeys (words.Kernel blocks) status failed old new = MakesKernel (string_bytes blocks) status old new
+Obeys (words.Kernel blocks) status failed old new = MakesKernel (string_bytes blocks) status failed old new
 Obeys (words.Build w) status failed old new =
-    Builds (string_bytes w.screens.blocks) w.screens.from w.screens.to (string_bytes w.image) w.buffers status old new
+    Builds (string_bytes w.screens.blocks) w.screens.from w.screens.to (string_bytes w.image) w.buffers status failed old new
 Obeys (words.Upgrade image out buffers) status failed old new = Upgrades (string_bytes image) (string_bytes out) buffers status failed old new
 Obeys (words.Load w) status failed old new =
     Loads (string_bytes w.image) (string_bytes w.screens.blocks) w.screens.from w.screens.to (string_bytes w.out) w.limit status failed old new
 Obeys (words.Text w) status failed old new = Prints (string_bytes w.blocks) w.from w.to status failed old new
-Obeys (words.Screens text blocks) status failed old new = MakesScreens (string_bytes text) (string_bytes blocks) status old new
-Obeys (words.New blocks count) status failed old new = MakesNew (string_bytes blocks) count status old new
-Obeys (words.Import w) status failed old new = Imports (wanted w) w.cleans status old new
-Obeys (words.Export w) status failed old new = Exports (wanted w) status old new
+Obeys (words.Screens text blocks) status failed old new = MakesScreens (string_bytes text) (string_bytes blocks) status failed old new
+Obeys (words.New blocks count) status failed old new = MakesNew (string_bytes blocks) count status failed old new
+Obeys (words.Import w) status failed old new = Imports (wanted w) w.cleans status failed old new
+Obeys (words.Export w) status failed old new = Exports (wanted w) status failed old new
 Obeys (words.Run w) status failed old new =
     Runs (string_bytes w.image) (typed w.blocks) (record { limit = w.limit; saves = w.saves; keeps = is_some w.break_file }) status failed old new
 Obeys (words.Debug image name trace blocks limit) status failed old new =

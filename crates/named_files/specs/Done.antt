@@ -1,5 +1,5 @@
 -- What a subcommand did with the files that it was given by name, and what it printed.
-use Rattle.std.specs.Prelude.{◌≡◌, ◌<◌, ℕ, List, [], ◌∷◌, ◌++◌, Option, Result, Ok, Err, Vec}
+use Rattle.std.specs.Prelude.{◌≡◌, ◌⊎◌, ◌<◌, ℕ, List, [], ◌∷◌, ◌++◌, Option, Result, Ok, Err, Vec}
 use Rattle.std.specs.declared.alloc.Global.{Global}
 use Rattle.named_files.specs.FileBytes.{FileBytes}
 
@@ -39,3 +39,7 @@ pub record Makes (name : List ℕ) (status : ℕ) (old new : List FileBytes) (Of
 
 abbrev pub done : List FileBytes → List (List ℕ) → List FileBytes → Option (List ℕ) → Done
 done read opened written printed = record { read = read; opened = opened; written = written; printed = printed }
+
+-- the status after the file was written: the one that the subcommand ended with, or, if the file could not be written, one above 0
+abbrev pub IsAfter : (ended status : ℕ) → Type 0
+IsAfter ended status = (status ≡ ended) ⊎ (0 < status)
