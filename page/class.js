@@ -141,13 +141,13 @@ export class ClassList {
 
 // The mark of a lesson that isn't right, by the last line of what CHECK says.
 function markOf(said) {
-  if (/^\S+ isn.t there yet/.test(said)) return "missing";
+  if (/^\S+ is not defined yet/.test(said)) return "missing";
   return /never ends: the loop in /.test(said) ? "endless" : "wrong";
 }
 
 // The word that a message of CHECK is about: the one that is missing, or whose trial begins the message, or that has an endless loop.
 function subjectOf(said, trials) {
-  const missing = /^(\S+) isn.t there yet/.exec(said), looping = /never ends: the loop in (\S+) /.exec(said), plain = `${said.replace(/\s+/g, " ")} `;
+  const missing = /^(\S+) is not defined yet/.exec(said), looping = /never ends: the loop in (\S+) /.exec(said), plain = `${said.replace(/\s+/g, " ")} `;
   if (missing) return missing[1];
   let word = "", found = "", length = 0;
   for (const { needs, line } of trials) {

@@ -70,7 +70,7 @@ export class Page {
   // What the session asks of its view.
   show(bytes, isTyped) { this.transcript.show(bytes, isTyped); }
   note(text) { this.transcript.note(text); }
-  begun(isAnswer) { this.transcript.begin(isAnswer); }
+  started(isAnswer) { this.transcript.begin(isAnswer); }
   mark() { return this.transcript.mark(); }
   back(mark) { this.transcript.back(mark); }
 
@@ -364,7 +364,7 @@ export class Page {
 
   remember(name, value) { this.store.put(name, value); }
 
-  // Only the window that was opened last keeps its work; the others are told by the storage of the browser.
+  // Only the window that was opened last keeps its work; the others learn of it from the browser's storage.
   claim() {
     this.claimed = `forth83/${this.store.place}/${this.work}`;
     try {

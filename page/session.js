@@ -13,7 +13,7 @@ const OWN = { BREAK: ["break", 0], NOTES: ["notes", 2], SHADOW: ["shadow", 2], R
 const numbers = (places) => Object.fromEntries(Object.entries(places).map(([name, place]) => [name, Number(place)]));
 
 export class Session {
-  // view: show(bytes, isTyped), note(text), begun(), changed(), fault(notes), edit(screen), retype(screen, line), looks(), keeps(),
+  // view: show(bytes, isTyped), note(text), started(), changed(), fault(notes), edit(screen), retype(screen, line), looks(), keeps(),
   // mark() and back(mark)
   constructor(calls, layout, image, view) {
     Object.assign(this, { image, view, layout, machine: new Machine(calls, layout) });
@@ -197,7 +197,7 @@ export class Session {
   nextOfTerminal() {
     if (!this.lines.length) return new Uint8Array(0);
     const bytes = encode(this.lines.shift() + "\n");
-    this.view.begun(true);
+    this.view.started(true);
     this.view.show(bytes, true);
     return bytes;
   }
@@ -209,7 +209,7 @@ export class Session {
       return new Uint8Array(0);
     }
     this.lines.shift();
-    this.view.begun(this.machine.returns.length > this.places.depth);
+    this.view.started(this.machine.returns.length > this.places.depth);
     this.echo = bytes.length;
     // A line as long as was asked for ends without a return.
     return bytes.length < most ? Uint8Array.from([...bytes, 10]) : bytes;

@@ -59,7 +59,7 @@ export class Store {
     return answer ? answer.value.filter((name) => name.startsWith(full)).map((name) => name.slice(full.length)) : [];
   }
 
-  // The last state of a work, as the page is closed: a small place, written at once. A state that is too big for it isn't there.
+  // The last state of a work, as the page is closed: a small place, written at once. A state that is too big for it is not kept.
   putLast(work, value) {
     try {
       localStorage.setItem(`${this.place}/last/${work}`, JSON.stringify(value));

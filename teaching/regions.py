@@ -1,4 +1,4 @@
-"""What stands where in an image's memory, as regions one behind another, and what two images differ in."""
+"""The regions of an image's memory, in the order of their addresses, and the differences of two images."""
 from typing import Dict, List, Optional, Tuple
 
 import images
@@ -37,7 +37,7 @@ class Map:
         return rows
 
     def regions(self) -> List[Region]:
-        """The dictionary's regions: of each word its header, its code field and what is behind; what belongs to none between."""
+        """The dictionary's regions: each word's header, its code field and what follows it; and the bytes between that belong to no word."""
         found, at = [], images.DICTIONARY
         for header in self.words:
             if header.begins > at:
@@ -88,7 +88,7 @@ class Changes:
         return self.first.image.memory.span(one.begins, size) != self.second.image.memory.span(one.begins, size)
 
     def cells(self) -> List[Tuple[str, int, int]]:
-        """The system's cells that hold another value: name, before, behind."""
+        """The system cells whose values differ: the name, the value before and the value after."""
         old, new = self.first.image.memory, self.second.image.memory
         names = dict(images.CELLS)
         names.update({42 + 2 * number: f"FORTH-VOC, chain {number}" for number in range(4)})

@@ -98,7 +98,7 @@ function showNext(number) {
   box.replaceChildren(...parts);
 }
 
-// A stack as cells, the top first; those that weren't there at the step before are new.
+// A stack as cells, the top first; those that the step before did not have are new.
 function showStack(place, cells, before, labels, lowest) {
   const list = document.querySelector(`#${place} ol`), made = [], first = Math.max(0, cells.length - MOST_CELLS, part("system").checked ? 0 : lowest);
   let same = 0;

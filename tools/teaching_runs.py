@@ -407,7 +407,7 @@ def check_maps(tree: Tree) -> None:
 def check_letters(tree: Tree, drawn: xml.etree.ElementTree.Element) -> None:
     """SQUARE of the map: the letters of DUP are three columns apart at 13, on the row of its address."""
     for word in drawn.iter(f"{SVG}g"):
-        if word.get("class") == "word" and word.get("data-told", "").startswith("SPACES, colon word"):
+        if word.get("class") == "word" and word.get("data-about", "").startswith("SPACES, colon word"):
             letters = [(one.text, float(one.get("x"))) for one in word.iter(f"{SVG}text")]
             tree.cases.same("the letters of SPACES", ["S", "P", "A", "C", "E", "S"], [letter for letter, _ in letters])
             tree.cases.same("their columns", [13.0] * 5, [b - a for (_, a), (_, b) in zip(letters, letters[1:])])
@@ -561,7 +561,7 @@ def check_chosen(tree: Tree) -> None:
 def check_course(tree: Tree) -> None:
     """Each solution is right; each blank screen and each wrong answer is reported; what is typed after that is shown."""
     for number in range(1, 15):
-        blank = "leaves nothing" if number == 1 else "isn't there yet"
+        blank = "leaves nothing" if number == 1 else "is not defined yet"
         tree.cases.holds(f"lesson {number}, blank", blank, answered(tree, number))
         solved = answered(tree, number, str(ROOT / "teaching/solutions.txt"))
         tree.cases.holds(f"lesson {number}, solved", f"Lesson {number} is right.", solved)

@@ -58,7 +58,7 @@ def create_beside(name: str) -> tuple[str, int] | None:
 
 
 def write_all(descriptor: int, content: bytes) -> bool:
-    """Writes the content to the disk, and closes the file; whether it is there now."""
+    """Writes the content to the disk, and closes the file; whether that worked."""
     try:
         with open(descriptor, "wb") as file:
             file.write(content)

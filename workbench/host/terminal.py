@@ -83,7 +83,7 @@ class Terminal:
         return (columns, rows) if columns and rows else None
 
     def read(self) -> bytes | None:
-        """Some keys, b"" if none are there, or None if the terminal is gone."""
+        """Some keys, b"" if there are none, or None if the terminal is gone."""
         try:
             keys = os.read(self.keyboard, READ_AT_ONCE)
         except BlockingIOError:

@@ -1,6 +1,6 @@
 """Where a typed line begins after the window got another size, so that it can be shown anew there.
 
-Most terminals break the text on them into rows of the new width then; some cut the rows off instead. Where the cursor is now tells
+Most terminals break the text on them into rows of the new width then; some cut the rows off instead. Where the cursor is now shows
 which: the terminal reports that when it is asked.
 """
 from __future__ import annotations
