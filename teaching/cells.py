@@ -1,7 +1,7 @@
 """What variables and arrays hold at each step of a run: the writes of its steps, done over the image's memory.
 
 Only bytes of words of the screens are followed, and BASE. Each `@`, `C@`, `2@` and `COUNT` among the lines is a test: what it leaves
-must be what is held here. Where it isn't, something else has written into the word, and the film leaves it out.
+must be what is held here. If it is not, something else has written into the word, and the film leaves it out.
 """
 import bisect
 from typing import Iterable, Iterator, List, Optional, Tuple

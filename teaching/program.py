@@ -40,7 +40,7 @@ def guarded(tool: str, act: Callable[[], int]) -> int:
 
 
 class Progress:
-    """A line on standard error that is written anew, where that is a terminal."""
+    """A line of progress on standard error, which replaces the one before, if that is a terminal."""
 
     def __init__(self, tool: str) -> None:
         self.tool, self.is_shown = tool, sys.stderr.isatty()
