@@ -324,7 +324,7 @@ REFUSALS = (
     (2, "usage", "film"),
     (1, "UNIT is defined in screen 21: try --screens 21 22", "film TALL"),
     (2, "put a LINE with spaces in quotes", "film SQUARES 5 SQUARES"),
-    (2, "FROM isn't above TO", "film SQUARES --screens 22 21"),
+    (2, "FROM must be 0 or more, and not above TO", "film SQUARES --screens 22 21"),
     (2, "usage", "film SQUARES --trace x"),
     (2, "at least 1", "film SQUARES --steps 0"),
     (1, "cut.img cannot be drawn: it ends too soon (Truncated)", "map cut.img"),
