@@ -326,7 +326,7 @@ REFUSALS = (
     (2, "put a LINE with spaces in quotes", "film SQUARES 5 SQUARES"),
     (2, "FROM must be 0 or more, and not above TO", "film SQUARES --screens 22 21"),
     (2, "usage", "film SQUARES --trace x"),
-    (2, "at least 1", "film SQUARES --steps 0"),
+    (2, "must be 1 or more", "film SQUARES --steps 0"),
     (1, "cut.img cannot be drawn: it ends too soon (Truncated)", "map cut.img"),
     (1, "forth.blk cannot be drawn: it does not begin like an image", "map forth.blk"),
     (1, "cannot read gone.img", "map gone.img"),
@@ -336,7 +336,7 @@ REFUSALS = (
     (1, "gone.blk does not exist", "print gone.blk"),
     (1, "has screens 0 to 63", "print forth.blk 3 99"),
     (1, "notes.html already exists and is not a page of screens", "print forth.blk -o notes.html"),
-    (2, "two numbers", "print forth.blk 3"),
+    (2, "give both FROM and TO", "print forth.blk 3"),
 )
 
 
