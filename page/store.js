@@ -30,7 +30,7 @@ export class Store {
     return store;
   }
 
-  // A request to the database; what it answers, or null where it fails.
+  // The answer of a request to the database, or null if it fails.
   ask(mode, act) {
     if (!this.database) return Promise.resolve(null);
     return new Promise((resolve) => {
@@ -72,7 +72,7 @@ export class Store {
     try {
       localStorage.removeItem(`${this.place}/last/${work}`);
     } catch {
-      // Then there is none.
+      // Then there is no such state.
     }
   }
 

@@ -41,7 +41,7 @@ export class Transcript {
     return !last || last[1].endsWith("\n");
   }
 
-  // Takes what waits into the texts.
+  // Adds the waiting pieces to the texts.
   draw() {
     for (const [kind, text] of this.waiting.splice(0)) {
       if (kind === "note") this.terminal = null;
@@ -98,7 +98,7 @@ export class Transcript {
     if (size > MOST_SHOWN) this.replace(0, tail(this.texts[0][1]));
   }
 
-  // A line is typed now: what follows belongs to it, and not to the screen of a program before it.
+  // Begins the line that is typed now: what follows belongs to it, and not to the screen of a program before it.
   begin(isAnswer) {
     this.draw();
     if (!isAnswer) this.terminal = null;

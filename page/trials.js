@@ -57,7 +57,7 @@ export function helpOf(disk) {
   return [];
 }
 
-// Why a trial isn't right, or null. RUN types a line and gives what it shows, or null where it doesn't end.
+// Why a trial isn't right, or null. RUN types a line and gives what it shows, or null if it does not end.
 export async function why(machine, trial, run) {
   machine.setCell(SYSTEM.base, 10);
   const { needs, line, leaves, shows } = trial, before = machine.values;

@@ -29,7 +29,7 @@ class Step:
 
 
 def effect_of(memory: images.Memory, code_field: int) -> Tuple[str, Optional[int]]:
-    """What a step does to calls, and where a call goes on. A code of 256 or more is a thread after DOES>."""
+    """What a step does to the calls, and the address where a call continues. A code of 256 or more is a thread after DOES>."""
     row = memory.cell(code_field)
     if row == images.COLON:
         return CALL, (code_field + 2) & 0xFFFF
@@ -55,7 +55,7 @@ class Calls:
         self.pass_by(effect, len(returns))
 
     def pass_by(self, effect: Tuple[str, Optional[int]], depth: int = 0) -> None:
-        """A step of this effect comes, when the return stack has this depth."""
+        """Notes the effect of the coming step, and the depth of the return stack before it."""
         (self.last, self.target), self.depth = effect, depth
 
     def is_begun(self, address: int, depth: int) -> bool:
@@ -67,7 +67,7 @@ class Calls:
         return self.begins <= address < self.after and (self.data is None or bool(data) and data[-1] & 0xFFFF == self.data)
 
     def follow(self, address: int, data: Tuple[int, ...], returns: Tuple[int, ...], mark: Tuple[int, int]) -> None:
-        """What the step before did to the calls."""
+        """Applies to the calls what the step before did."""
         if self.open:
             if not returns and len(data) == 1 and self.frames[self.open[0]].base > 0 and self.last not in (END, CLEAR):
                 self.leave(data, returns, mark, FAULTED)

@@ -1,4 +1,4 @@
-"""An image's map as SVG: memory in rows of as many bytes as are wide, each byte a column; each letter of a name is on its byte.
+"""An image's map as SVG: memory in rows, each byte a column; each letter of a name is on its byte.
 
 The words after FENCE, which are the user's, come first. Each map is drawn twice into one file, for wide and for narrow windows; the
 style shows one of them, as wide as the window. On paper the Forth's own words are left out if there are others.
@@ -18,7 +18,7 @@ BYTE, ROW, GUTTER, LINE, ABOVE, LETTER, TITLE_LETTER = 13, 24, 56, 17, 8, 7.3, 8
 
 
 class Canvas:
-    """What is drawn, and how far down it reaches."""
+    """The parts of a drawing, and how far down they reach."""
 
     def __init__(self, width: int) -> None:
         self.width, self.y, self.parts, self.on_paper = width, 8, [], None
@@ -27,7 +27,7 @@ class Canvas:
         self.parts.append(text)
 
     def line(self, text: str, kind: str = "text", x: int = 8) -> None:
-        """A line of text, cut into as many as the width needs."""
+        """Adds a text, broken into as many lines as the width needs."""
         most = max(12, int((self.width - x) / (TITLE_LETTER if kind == "title" else LETTER)))
         self.y += ABOVE if kind in ("title", "heading") and self.parts else 0
         while text:
@@ -199,7 +199,7 @@ ALL, OWN, SYSTEM = "The dictionary, each byte a column", "Your words, each byte 
 
 
 def split_of(one: regions.Map) -> int:
-    """Where the user's words begin: at FENCE, or with the dictionary if FENCE divides it in no two parts."""
+    """Where the user's words begin: at FENCE, or where the dictionary begins if FENCE does not divide it in two."""
     fence = one.image.memory.cell(images.FENCE)
     return fence if images.DICTIONARY < fence < one.here <= one.top else images.DICTIONARY
 
@@ -294,7 +294,7 @@ def draw_two(first: regions.Map, second: regions.Map, wide: int) -> Canvas:
 
 
 def drawing(canvas: Canvas, kind: str) -> str:
-    """A drawing that is as wide as the window. Its box is what comes on paper, and what is below that shows where there is room."""
+    """A drawing that is as wide as the window. Its box is printed; what is below the box is shown if the window has room for it."""
     box = f"0 0 {canvas.width} {canvas.on_paper or canvas.y}"
     return (f'<svg class="{kind}" viewBox="{box}" preserveAspectRatio="xMinYMin meet" overflow="visible">{"".join(canvas.parts)}'
             f'<g class="about"></g></svg>')

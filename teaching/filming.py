@@ -31,7 +31,7 @@ class Place:
 
 
 class Subject:
-    """What is filmed: a colon word, or a word that DOES> made; the thread of that one is a part of its maker's."""
+    """The word that is filmed: a colon word, or a word that DOES> made, whose thread is a part of its maker's."""
 
     def __init__(self, header: images.Header, maker: Optional[images.Header] = None) -> None:
         self.header = maker or header

@@ -9,7 +9,7 @@ BAR = 40
 
 
 def bar(size: int, most: int) -> str:
-    """A length to scale, at least one sign for what isn't nothing."""
+    """A bar whose length is to scale, with at least one sign unless the length is 0."""
     return "#" * (max(1, round(BAR * size / most)) if size else 0)
 
 

@@ -70,7 +70,7 @@ class Words:
         return self.entries[self.place_of[address]][2]
 
     def word_at(self, address: int) -> int:
-        """The number of the word in whose thread an address lies, -1 where it is none of the film's."""
+        """The number of the word in whose thread an address lies, -1 if it is not one of the film's."""
         word = self.entries[self.place_of[address]][1] if address in self.place_of else None
         return -1 if word is None else word
 
@@ -88,7 +88,7 @@ class Words:
                              texts.shown(token.taken), self.say(header)])
 
     def say(self, header: images.Header) -> int:
-        """The number of what is said of a token's word."""
+        """The number of the text about a token's word."""
         text = list(self.manual.of(header))
         if header and not text[0]:
             text = self.of_data(header) or self.of_source(header)
@@ -112,7 +112,7 @@ class Words:
 
 
 def changes(before: Tuple[int, ...], after: Tuple[int, ...]) -> List[int]:
-    """A stack as how many cells it keeps from below, and those above."""
+    """The change of a stack: how many cells stay at the bottom, and the cells above them."""
     same = 0
     while same < len(before) and same < len(after) and before[same] == after[same]:
         same += 1
@@ -120,7 +120,7 @@ def changes(before: Tuple[int, ...], after: Tuple[int, ...]) -> List[int]:
 
 
 class Loops:
-    """Where the return stack has what counted loops keep: three cells from each of these depths on."""
+    """The depths in the return stack at which counted loops keep their three cells."""
 
     def __init__(self) -> None:
         self.open, self.started, self.seen = (), None, {(): 0}

@@ -28,7 +28,7 @@ class Map:
         self.words = [header for header in self.dictionary.headers if images.DICTIONARY <= header.begins < self.limit]
 
     def outline(self) -> List[Tuple[int, int, str, str]]:
-        """All of memory in few regions, each with what it is."""
+        """All of memory in a few regions, each with a description."""
         rows = [(0, images.TIB, "system", "system cells"), (images.TIB, images.TIB_END, "tib", "TIB, the line that is typed"),
                 (images.DICTIONARY, self.top, "words", "the dictionary"), (self.top, self.limit, "free", "free room")]
         for slot in range(self.image.buffers):
@@ -73,7 +73,7 @@ def what(header: images.Header) -> str:
 
 
 class Changes:
-    """What is otherwise in the second of two images."""
+    """The differences between two images."""
 
     def __init__(self, first: Map, second: Map) -> None:
         self.first, self.second = first, second

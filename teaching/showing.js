@@ -198,7 +198,7 @@ function showLine(frame) {
   part("line").replaceChildren(source.slice(0, from), element("b", source.slice(from, to)), source.slice(to));
 }
 
-// The step as a sentence, for who hears the page.
+// The step as a sentence, for screen readers.
 function say(number, data) {
   const step = steps[number], next = step[0] < 0 ? `The end. ${endings.get(step[1]) || ""}` : `Next: ${described(number).name}.`;
   const cells = data.length ? data.slice(-8).reverse().map(cell).join(", ") : "empty";
