@@ -350,7 +350,7 @@ LEAD = 3
 
 class Verdict(NamedTuple):
     """Which dialects it may be, how sure that is, and the signs for and against the first one. Those in question are these, and the
-    next one where it isn't sure."""
+    next one if it is not sure."""
 
     dialects: Tuple[str, ...]
     in_question: Tuple[str, ...]

@@ -56,7 +56,7 @@ ROW = re.compile(r"\| `([^ `]+)` \| `")
 
 
 def replaced(text: str, rows: Dict[str, str]) -> Tuple[str, List[str]]:
-    """The page with these rows in place of those that name the same primitives, and the rows that it lacks or has besides."""
+    """The page with these rows in place of those that name the same primitives, and the rows that it lacks or has too many."""
     out: List[str] = []
     left = dict(rows)
     strange: List[str] = []

@@ -165,7 +165,7 @@ def check_made_words(cases: Cases) -> None:
 
 
 def data_word() -> images.Memory:
-    """The memory of hand_made, where TWICE is a variable of four bytes at 289, of a screen."""
+    """The memory of hand_made, in which TWICE is a variable of a screen, with four bytes at 289."""
     memory = hand_made()
     for address, value in ((287, images.VARIABLE), (54, 277), (289, 0), (291, 0)):
         memory.set_cell(address, value)

@@ -1,4 +1,4 @@
-"""Films, maps and pages of screens in a browser: by keys alone, on wide and on narrow windows."""
+"""Films, maps and pages of screens in a browser: with the keyboard alone, in wide and in narrow windows."""
 import browser
 import teaching_runs
 

@@ -119,7 +119,7 @@ def trace_of(tree: Tree, name: str, line: str) -> List[Tuple[int, str, Tuple[int
 
 
 def check_traces(tree: Tree) -> None:
-    """The steps of a film are those that `debug` writes for each of its words alone."""
+    """The steps of a film are those that `debug` writes for each of its words."""
     data, _, _ = tree.film("SQUARES", "5 SQUARES")
     steps = expanded(data)
     for name in ("SQUARES", "SQUARE", ".", "SPACE"):
@@ -201,7 +201,7 @@ def check_ends(tree: Tree) -> None:
 
 
 def check_made(tree: Tree) -> None:
-    """A word that DOES> made: its own calls alone, among others of the same maker. CM multiplies by 10, MM by 3."""
+    """A word that DOES> made: only its own calls are filmed, not those of others of the same maker. CM multiplies by 10, MM by 3."""
     data, _, _ = tree.film("CM", "3 UNIT MM 7 CM 5 MM 2 CM")
     tree.cases.same("the film's name", "CM", data["name"])
     tree.cases.same("the calls of CM", ["CM", "CM"], [frame[5] for frame in data["frames"]])
@@ -239,7 +239,7 @@ def check_memory(tree: Tree) -> None:
 
 
 def check_doubts(tree: Tree) -> None:
-    """A program that sees the changed cell of the copy gets a film of its own lines alone, and its output is not shown with the steps."""
+    """A program that sees the changed cell of the copy gets a film of only its own lines, and its output is not shown with the steps."""
     data, page, _ = tree.film("PEEKS", "PEEKS")
     tree.cases.same("steps of a word that sees it", trace_of(tree, "PEEKS", "PEEKS"), [step[:4] for step in expanded(data)])
     tree.cases.same("its output", False, data["is_laid"])

@@ -396,7 +396,7 @@ class Host:
             self._refusal = ""
 
     def _resized(self) -> None:
-        """The window got another size: EDIT draws its frame again, and a line that is typed is shown anew."""
+        """The window got another size: EDIT draws its frame again, and a line that is typed is shown again."""
         if not self._frame.is_shown:
             self._resizing.is_due = self._resizing.is_line
             if not self._resizing.is_due:

@@ -85,7 +85,7 @@ def keep_file(name: str, content: bytes) -> str | None:
 
 
 class Blocks:
-    """The block file, held open from the session's start: it is found again where another file takes its name meanwhile."""
+    """The block file, held open from the session's start: so it can still be read if another file takes its name meanwhile."""
 
     def __init__(self, name: str) -> None:
         self.name = name
