@@ -1,7 +1,7 @@
 #!/usr/bin/env bash
-# The Forth over a file of blocks; `./forth --help` says how. It has the workbench's tools, at a terminal, where it takes lines by
-# KEY, and in pipes, and makes images of programs with them. Where the program isn't proved yet it runs the same one without its
-# proofs, and has the proof made meanwhile.
+# The Forth over a file of blocks; `./forth --help` says how. It runs the Forth with the workbench's tools, at a terminal or in a pipe,
+# and makes images of programs. If the program is not proved yet, it runs the same program without its proofs, and starts the proof in
+# the background.
 set -uo pipefail
 here=$(cd "$(dirname "$(readlink -f "${BASH_SOURCE[0]}")")" && pwd)
 forth83=$here/crates/forth83/out/forth83
@@ -182,7 +182,7 @@ begin_proof() {
   fi
 }
 
-# The program that runs: the proved one, or, where it doesn't exist and isn't waited for, that without proofs.
+# The program that runs: the proved one or, if it does not exist and nobody waits for it, the one without proofs.
 find_program() {
   if [ "$wanted" = unproved ]; then
     find_unproved
@@ -237,7 +237,7 @@ make_blocks() {
   is_new=', a new file'
 }
 
-# The process that has a lock on the block file, where the system says it.
+# The process that has a lock on the block file, if the system says it.
 holder() {
   local inode pid
   inode=$(stat -L -c %i -- "$blocks")

@@ -27,7 +27,7 @@ ASC SCREEN K TAB GET HIS STRING RELOAD SINGLE PAUSE CLOSE OPEN WHERE POINT RESET
 PC! LABEL WITHIN M+ M* M/ S->D WORDS VLIST L/S C/L FIND CREATE .ID (") ," " TASK ENTRY LOCAL WAKE SLEEP CLEAR CHANGE""".split())
 # Words of fig-FORTH that are signs only by what they are used for (`patterns`).
 IN_USE = {"R", "IN"}
-# What stronger and weaker signs of words say, where a glossary alone doesn't: who has them, how much each says, and the words. A
+# Stronger and weaker signs, for words that a glossary alone does not decide: who has them, how much each says, and the words. A
 # word speaks also for each dialect of which a glossary has it, and for the dialect to which a system with it goes back: MVP-FORTH's
 # CFA is no sign of fig-FORTH alone (`holders`).
 SIGNS: List[Tuple[Tuple[str, ...], int, str]] = [
@@ -350,7 +350,7 @@ LEAD = 3
 
 class Verdict(NamedTuple):
     """Which dialects it may be, how sure that is, and the signs for and against the first one. Those in question are these, and the
-    next one where it isn't sure."""
+    next one if it is not sure."""
 
     dialects: Tuple[str, ...]
     in_question: Tuple[str, ...]

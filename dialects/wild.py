@@ -104,7 +104,7 @@ def widened(body: bytes) -> bytes:
 
 
 def narrowed(screens: bytes) -> bytes:
-    """The same back again; what stands in a line's second half has no place."""
+    """The same in the other direction; what a line has in its second half is lost."""
     lines = []
     for at in range(0, len(screens), LINE):
         if screens[at + 32:at + LINE].strip():

@@ -1,6 +1,6 @@
-// Bytes, and the texts that they are.
+// Conversions between bytes and texts.
 
-// Bytes are UTF-8 where they can be, and else a character a byte, as on old disks.
+// Bytes are read as UTF-8 if that is possible, otherwise as a character for each byte, as on old disks.
 const STRICT = new TextDecoder("utf-8", { fatal: true });
 export function decode(bytes) {
   try {

@@ -27,7 +27,7 @@ export class Calls {
     if (this.open.length) this.steps.push({ ...step, frame: this.open[this.open.length - 1] });
   }
 
-  // What the step before did to the calls. A fault empties the return stack, and leaves its number.
+  // Applies to the calls what the step before did. A fault empties the return stack, and leaves its number.
   follow(step) {
     const { does } = this.last, { data, returns } = step;
     if (!returns.length && data.length === 1 && this.frames[this.open[0]].base > 0 && does !== "end" && does !== "clear") this.leave(step, "faulted");

@@ -15,7 +15,7 @@ export class Canvas {
 
   get session() { return this.page.session; }
 
-  // The first block of the canvas, or null where no variable CANVAS says one, or the disk doesn't have all of it.
+  // The first block of the canvas, or null if there is no variable CANVAS or the disk does not have the whole canvas.
   first() {
     const { machine, disk } = this.session, here = machine.cell(SYSTEM.here);
     if (here !== this.here) {
@@ -26,7 +26,7 @@ export class Canvas {
     return first !== null && first + BLOCKS <= disk.count ? first : null;
   }
 
-  // Called often: draws if the canvas is to be seen, and plays a tone that is new.
+  // Called often: draws if the canvas is visible, and plays a new tone.
   look() {
     const first = this.first();
     this.play(first);
@@ -67,7 +67,7 @@ export class Canvas {
     data[at + 3] = 255;
   }
 
-  // A new count of tones: the last one is played. An empty canvas has the count 0.
+  // If the count of tones is new, plays the last one. An empty canvas has the count 0.
   play(first) {
     if (first === null) return void (this.tones = null);
     const block = first + BLOCKS - 1, page = this.session.page(block), cell = (at) => page[TONES + at] + 256 * page[TONES + at + 1];
@@ -89,7 +89,7 @@ export class Canvas {
     tone.stop(this.until);
   }
 
-  // Puts in the disk with the words for the canvas, and draws something.
+  // Opens the disk with the words for the canvas, and draws something.
   async try() {
     if (this.session.disk.name !== "draw.blk" && !(await this.page.files.insertNamed("draw.blk"))) return;
     this.page.enter("1 LOAD 8 LOAD ROSE");

@@ -1,4 +1,4 @@
-// A class list: the files of pupils are checked lesson by lesson, by the page's own checkers, each lesson on a machine of its own.
+// A class list: the files of pupils are checked lesson by lesson, with the page's own checkers, each lesson on a machine of its own.
 
 import { decode, element, encode, fromBase64 } from "./bytes.js";
 import { CHECKERS, COURSE, lessonsOf } from "./course.js";
@@ -59,7 +59,7 @@ export class ClassList {
     return disk;
   }
 
-  // What the checker says of a lesson: { mark, word, text }, the word that it is about. Where it says that it is right, the page makes the trials, too.
+  // What the checker says of a lesson: { mark, word, text }, the word that it is about. If it says that the lesson is right, the page makes the trials, too.
   async lesson(lesson, bytes) {
     const { number, screen } = lesson, textOfScreen = (disk) => linesOf(disk.page(screen)).join("\n");
     if (bytes.length < (screen + 1) * PAGE_SIZE) return { mark: "empty", text: "the file ends before this screen" };
@@ -97,7 +97,7 @@ export class ClassList {
     return null;
   }
 
-  // What a line shows, or null where it doesn't end, or asks for a key.
+  // What a line shows, or null if it does not end or asks for a key.
   async run(disk, line) {
     let typed = encode(line), shown = "";
     for (let slices = 0; slices < MOST_SLICES; ) {
@@ -139,15 +139,15 @@ export class ClassList {
   }
 }
 
-// The mark of a lesson that isn't right, by the last line of what CHECK says.
+// The mark of a lesson that is not right, according to the last line that CHECK prints.
 function markOf(said) {
-  if (/^\S+ isn.t there yet/.test(said)) return "missing";
+  if (/^\S+ is not defined yet/.test(said)) return "missing";
   return /never ends: the loop in /.test(said) ? "endless" : "wrong";
 }
 
 // The word that a message of CHECK is about: the one that is missing, or whose trial begins the message, or that has an endless loop.
 function subjectOf(said, trials) {
-  const missing = /^(\S+) isn.t there yet/.exec(said), looping = /never ends: the loop in (\S+) /.exec(said), plain = `${said.replace(/\s+/g, " ")} `;
+  const missing = /^(\S+) is not defined yet/.exec(said), looping = /never ends: the loop in (\S+) /.exec(said), plain = `${said.replace(/\s+/g, " ")} `;
   if (missing) return missing[1];
   let word = "", found = "", length = 0;
   for (const { needs, line } of trials) {

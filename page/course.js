@@ -32,7 +32,7 @@ export class Course {
     this.go(Math.max(0, this.lessons.findIndex((lesson) => lesson.title === title)));
   }
 
-  // The lesson's disk is put in, and its words are loaded.
+  // Opens the lesson's disk, and loads its words.
   async insert() {
     if (!this.isIn && !(await this.page.files.insertNamed(this.lesson.disk))) return;
     this.page.enter("1 LOAD");
@@ -44,7 +44,7 @@ export class Course {
     this.page.enter(line);
   }
 
-  // Checks the lesson by the checkers that the page brings: where the disk's differ from these, they are put back first.
+  // Checks the lesson with the page's checkers; if those on the disk differ, they are restored first.
   async check() {
     if (!this.isIn) await this.insert();
     if (this.restore()) {
@@ -53,7 +53,7 @@ export class Course {
     } else this.page.enter(`${this.lesson.number} CHECK`);
   }
 
-  // Puts changed checkers back, which are before the first lesson's screen and 20 after each; whether there were some.
+  // Restores changed checkers, in the screens before the first lesson's and 20 after each lesson's; returns whether there were any.
   restore() {
     const { session, files } = this.page, { disk } = session;
     if (!DATA.disks[disk.name]) return false;

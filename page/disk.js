@@ -98,7 +98,7 @@ export function screensOf(text) {
   return { screens };
 }
 
-// Where a text is in the screens: of each place the screen, the line, its text and the column. Capitals and small letters count the same.
+// Where a text is in the screens: of each place the screen, the line, its text and the column. Upper and lower case count the same.
 export function search(count, pageOfBlock, wanted, most = 200) {
   const found = [], sought = wanted.toUpperCase();
   for (let block = 0; block < count && found.length < most; block++)

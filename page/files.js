@@ -38,7 +38,7 @@ export class Files {
     document.body.classList.remove("printing");
   }
 
-  // A file that is dropped on the page is opened.
+  // Opens a file that is dropped on the page.
   dropFile(event) {
     const types = event.dataTransfer ? [...event.dataTransfer.types] : [];
     if (!types.includes("Files")) return;
@@ -84,7 +84,7 @@ export class Files {
     else this.saveBlob("img", new Blob([made.image]), name.trim().toLowerCase());
   }
 
-  // The whole session as a text, to go on with elsewhere.
+  // The whole session as a text, to continue elsewhere.
   wholeSession() {
     return JSON.stringify({ format: "forth83", ...withTexts(this.session.kept()), texts: this.page.transcript.mark() });
   }
@@ -94,7 +94,7 @@ export class Files {
     try {
       kept = withBytes(JSON.parse(text));
     } catch {
-      // What is wrong is reported below.
+      // Reports below what is wrong.
     }
     if (!kept || !this.session.resume(kept)) return this.page.note(`${name} isn't a whole session that this page can go on with.`);
     this.page.transcript.back(kept.texts || []);
@@ -114,7 +114,7 @@ export class Files {
     this.page.note(`${name}: ${read.screens.length} ${read.screens.length === 1 ? "screen is" : "screens are"} on the disk now.`);
   }
 
-  // Another disk comes in; the one before is kept under its name. Whether it is in.
+  // Opens another disk, and keeps the one before under its name; returns whether that worked.
   async insert(disk) {
     if (this.session.isRunning) return this.page.note("The Forth is busy: stop it first.");
     this.session.settle();
@@ -127,7 +127,7 @@ export class Files {
     return true;
   }
 
-  // Puts in the disk of that name, as it was left, or as the page brings it.
+  // Opens the disk of that name, as it was left or as the page has it.
   async insertNamed(name) {
     if (!name || name === this.session.disk.name) return false;
     const kept = await this.page.store.get(`disk/${name}`);
@@ -163,7 +163,7 @@ export class Files {
     this.page.changed();
   }
 
-  // A disk of the user's goes; one of the page's own is as the page brings it again.
+  // Removes a disk of the user's; restores one of the page's own.
   async removeDisk() {
     const { name } = this.session.disk;
     const what = DATA.disks[name] ? `Put ${name} back as the page brings it? Your changes to its screens will be gone.` : `Remove ${name} from this browser?`;

@@ -63,7 +63,7 @@ export class Film {
   say(text) { this.parts.said.textContent = text; }
 }
 
-// A stack as how many cells it keeps from below, and those above.
+// The change of a stack: how many cells stay at the bottom, and the cells above them.
 function changes(before, after) {
   let same = 0;
   while (same < before.length && same < after.length && before[same] === after[same]) same++;
@@ -205,7 +205,7 @@ function comment(text, after) {
   return at < 0 ? "" : text.slice(at, text.indexOf(")", at) + 1);
 }
 
-// Where the return stack has what counted loops keep: three cells from each of these depths on.
+// The depths in the return stack at which counted loops keep their three cells.
 class Loops {
   constructor() { Object.assign(this, { open: [], all: [[]], loopDepth: null }); }
 

@@ -83,7 +83,7 @@ export class Filming {
     else disk.set(machine.answerWritten(), at);
   }
 
-  // A step comes. Of those that no call of yours makes nothing is kept but what they do to calls.
+  // Notes a step. Of steps outside your calls, only what they do to the calls is kept.
   look(ip) {
     const { machine, calls } = this, here = machine.cell(SYSTEM.here);
     if (machine.cell(SYSTEM.last) !== this.last || here < this.here) this.learn();
@@ -93,7 +93,7 @@ export class Filming {
     calls.last = effect;
   }
 
-  // The word that a step does: that of its token, or with EXECUTE that on the stack.
+  // The word that a step executes: its token's word or, for EXECUTE, the one on the stack.
   executed(ip) {
     const { machine } = this;
     let codeField = machine.cell(ip);
@@ -177,7 +177,7 @@ export class Filming {
     return tokens;
   }
 
-  // What the Forth itself shows of words, by SEE: on a copy that nothing else sees.
+  // What SEE shows of a word, on a copy of the Forth that nothing else uses.
   seen(names) {
     const { machine } = this, state = this.isWhole ? machine.copy() : this.start, disk = this.disk.slice(), found = new Map();
     for (const name of names) {

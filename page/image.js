@@ -16,7 +16,7 @@ function setCell(bytes, at, x) {
 // The compilation address that an image starts with. Version 1 doesn't have the number of buffers before it.
 export const entryOf = (image) => cellAt(image, cellAt(image, PLACES.version) === 1 ? PLACES.buffers : PLACES.entry);
 
-// An image with another memory, in which some cells have other values; it starts as that one does.
+// An image that starts like this one, with another memory in which some cells have other values.
 export function imageOf(image, memory, cells) {
   const made = new Uint8Array(HEAD + memory.length);
   made.set(image.subarray(0, HEAD));

@@ -18,7 +18,7 @@ export class Machine {
     this.bytes(this.record, layout.size).fill(0);
   }
 
-  // Memory may grow with each call; its views are new ones then.
+  // Memory may grow with each call, and then needs new views.
   bytes(at, size) { return new Uint8Array(this.calls.memory.buffer, at, size); }
   view() { return new DataView(this.calls.memory.buffer); }
 
@@ -33,7 +33,7 @@ export class Machine {
     this.calls.free(at);
   }
 
-  // Goes on with these bytes for at most so many ticks.
+  // Runs the machine with these bytes for at most so many ticks.
   run(typed, ticks) {
     this.bytes(this.typed, typed.length).set(typed);
     const words = [this.record, this.typed, BigInt(typed.length), this.shown, BigInt(ROOM), BigInt(ticks), this.end];
@@ -106,7 +106,7 @@ export class Machine {
     return found;
   }
 
-  // A buffer forgets its block; or only that it was changed.
+  // Makes a buffer forget its block, or only that it was changed.
   release(buffer) {
     const view = this.view(), { has_block, block, updated } = this.layout.buffer;
     for (const part of [has_block, block, updated]) view.setUint16(buffer.at + part, 0, true);

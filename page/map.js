@@ -27,7 +27,7 @@ export class MemoryMap {
     this.drawWords(session.places.fence);
   }
 
-  // All of memory in few parts, each with its addresses.
+  // All of memory in a few parts, each with its addresses.
   regions() {
     const { machine } = this, here = machine.cell(SYSTEM.here), { fence } = this.page.session.places;
     const buffers = machine.buffers.sort((a, b) => a.place - b.place), limit = buffers.length ? buffers[0].place : MEMORY;

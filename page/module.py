@@ -47,7 +47,7 @@ def kept(is_proved: bool, total: Optional[str]) -> Optional[Module]:
 
 
 def keep(module: Module, total: str) -> None:
-    """Keeps a module for the next page, where the folder can be written."""
+    """Keeps a module for the next page, if the folder can be written."""
     file = file_of(module.is_proved)
     record = {"sources": total, "module": module.sha256(), "layout": module.layout}
     try:

@@ -1,4 +1,4 @@
-// Old disks: a file of another system is shown by a format, its screens are put in as a disk, and its dialect is named.
+// Old disks: shows a file of another system in a format, adds its screens as a disk, and names its dialect.
 
 import { DATA } from "./data.js";
 import { Disk, linesOf } from "./disk.js";
@@ -37,7 +37,7 @@ export class OldDisk {
     shown.scrollIntoView();
   }
 
-  // What was chosen beside the format; or what is wrong with it.
+  // The options that were chosen besides the format, or what is wrong with them.
   options() {
     const { clean, half, ebcdic, offset, sector, skew, first } = this.parts;
     const [before, size, from] = [offset, sector, first].map(({ value }) => (value.trim() ? Number(value) : null));
@@ -47,7 +47,7 @@ export class OldDisk {
       table: DATA.ebcdic };
   }
 
-  // Reads the container by the chosen format.
+  // Reads the container in the chosen format.
   draw() {
     if (!this.container) return;
     const { format, said, screen, insert } = this.parts, chosen = DATA.formats.find((one) => one.name === format.value), options = this.options();

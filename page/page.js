@@ -34,7 +34,7 @@ export class Page {
     by("line").focus();
   }
 
-  // Goes on with the work that was kept under the present name, or starts a new one.
+  // Continues with the work that was kept under the present name, or starts a new one.
   async beginWork() {
     const kept = this.newest(await this.store.get(`session/${this.work}`), this.store.last(this.work));
     this.history = (kept && kept.history) || [];
@@ -46,7 +46,7 @@ export class Page {
     await this.listWorks();
   }
 
-  // What was kept last: as the page was closed, or before.
+  // What was kept last: when the page was closed, or before.
   newest(kept, last) {
     if (!last || (kept && kept.when >= last.when)) return kept;
     return withBytes(last);
@@ -58,7 +58,7 @@ export class Page {
     if (DATA.start.length) this.session.type(DATA.start);
   }
 
-  // What was kept isn't a machine of this version of the page: its screens are.
+  // What was kept is not a machine of this version of the page; its screens can be used.
   startAgain(kept) {
     this.note("The words of your last session don't fit this version of the page, and are gone. The screens are here.");
     const { name, disk } = kept, isDisk = disk && disk.length && disk.length % PAGE_SIZE === 0;
@@ -70,7 +70,7 @@ export class Page {
   // What the session asks of its view.
   show(bytes, isTyped) { this.transcript.show(bytes, isTyped); }
   note(text) { this.transcript.note(text); }
-  begun(isAnswer) { this.transcript.begin(isAnswer); }
+  started(isAnswer) { this.transcript.begin(isAnswer); }
   mark() { return this.transcript.mark(); }
   back(mark) { this.transcript.back(mark); }
 
@@ -197,7 +197,7 @@ export class Page {
     this.manual.explain(word.toUpperCase());
   }
 
-  // Goes from the line to what is beside it, and back.
+  // Moves the focus from the line to the tabs, and back.
   otherSide(event) {
     event.preventDefault();
     if (document.activeElement === by("line")) document.querySelector("[role=tab][aria-selected=true]").focus();
@@ -279,7 +279,7 @@ export class Page {
     by("line").focus();
   }
 
-  // Shows a tab. Where there is room the Forth is beside it.
+  // Shows a tab, beside the Forth if there is room.
   tab(name, isForNarrow) {
     const isNarrow = matchMedia(NARROW).matches;
     if (isForNarrow && !isNarrow) return;
@@ -314,7 +314,7 @@ export class Page {
     this.transcript.toEnd();
   }
 
-  // Works: several people at one computer keep theirs under their names.
+  // Several people at one computer keep their work under their names.
   async listWorks() {
     const kept = await this.store.names("session/");
     const names = [...new Set([this.work, "", ...kept])];
@@ -332,7 +332,7 @@ export class Page {
       return this.listWorks();
     }
     await this.keep();
-    // Until the other work is here, nothing is kept under its name.
+    // Until the other work is loaded, nothing is kept under its name.
     this.isKeeping = false;
     this.work = name;
     await this.store.put("work", name);
@@ -344,10 +344,10 @@ export class Page {
     this.changed();
   }
 
-  // What is kept: the whole machine, its disk, and what is to be seen.
+  // What is kept: the whole machine, its disk, and what is visible.
   state() { return { ...this.session.kept(), texts: this.transcript.mark(), history: this.history, when: Date.now() }; }
 
-  // The page is closed or hidden: what the database may not take any more is kept in a smaller place.
+  // When the page is closed or hidden, keeps in a smaller place what the database may no longer accept.
   keepAtOnce() {
     if (!this.isKeeping) return;
     this.store.putLast(this.work, withTexts(this.state()));
@@ -364,13 +364,13 @@ export class Page {
 
   remember(name, value) { this.store.put(name, value); }
 
-  // Only the window that was opened last keeps its work; the others are told by the storage of the browser.
+  // Only the window that was opened last keeps its work; the others learn of it from the browser's storage.
   claim() {
     this.claimed = `forth83/${this.store.place}/${this.work}`;
     try {
       localStorage.setItem(this.claimed, this.mine);
     } catch {
-      // Then no other window hears of it.
+      // Then other windows do not learn of it.
     }
   }
 

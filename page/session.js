@@ -1,4 +1,4 @@
-// A session: a machine with a disk. It runs in slices of time, so that the page answers meanwhile, and any program can be stopped.
+// A session: a machine with a disk. It runs in slices of time, so that the page still responds, and any program can be stopped.
 
 import { encode } from "./bytes.js";
 import { Disk } from "./disk.js";
@@ -13,7 +13,7 @@ const OWN = { BREAK: ["break", 0], NOTES: ["notes", 2], SHADOW: ["shadow", 2], R
 const numbers = (places) => Object.fromEntries(Object.entries(places).map(([name, place]) => [name, Number(place)]));
 
 export class Session {
-  // view: show(bytes, isTyped), note(text), begun(), changed(), fault(notes), edit(screen), retype(screen, line), looks(), keeps(),
+  // view: show(bytes, isTyped), note(text), started(), changed(), fault(notes), edit(screen), retype(screen, line), looks(), keeps(),
   // mark() and back(mark)
   constructor(calls, layout, image, view) {
     Object.assign(this, { image, view, layout, machine: new Machine(calls, layout) });
@@ -23,7 +23,7 @@ export class Session {
     this.ticks = 200000;
     this.isStopped = false;
     this.isRunning = false;
-    // Where the image has what the page reads. It is sought here, before anyone can give these names to other words.
+    // The addresses that the page reads, found before anyone can give these names to other words.
     this.machine.load(image, 1);
     this.own = this.placesOf(OWN);
   }
@@ -42,7 +42,7 @@ export class Session {
     this.machine.load(this.image, this.disk.count);
   }
 
-  // Runs an image in place of the Forth, which goes on where it was when that ends; whether it is an image.
+  // Runs an image in place of the Forth, which continues where it was when the image ends; returns whether it is an image.
   runImage(program, image) {
     this.settle();
     this.remember();
@@ -60,7 +60,7 @@ export class Session {
     return true;
   }
 
-  // The program has ended, and the Forth before it goes on. A record that isn't a machine's is refused, and a new Forth starts.
+  // When the program has ended, continues with the Forth from before. A record that isn't a machine's is refused, and a new Forth starts.
   leave(why) {
     const { program, outer } = this;
     this.settle();
@@ -77,7 +77,7 @@ export class Session {
     this.view.note(`${program} ${why}. The Forth goes on where it was.`);
   }
 
-  // Goes on with a machine and a disk that were kept; whether they are good. A record that isn't a machine's is refused by its first run.
+  // Continues with a machine and a disk that were kept; returns whether they are valid. A record that isn't a machine's is refused by its first run.
   resume(kept) {
     const { disk, places, outer, program } = this, before = { disk, places, outer, program }, record = this.machine.copy();
     try {
@@ -96,7 +96,7 @@ export class Session {
     return true;
   }
 
-  // Takes what was kept; it throws where sizes are others.
+  // Restores what was kept; throws if the sizes differ.
   take({ name, disk, record, places, outer, program }) {
     const { size } = this.layout;
     if (record.length !== size || disk.length % PAGE_SIZE || (outer && outer.record.length !== size)) throw new Error("other sizes");
@@ -124,7 +124,7 @@ export class Session {
     return isOwn ? { ...this.own } : this.placesOf({ BREAK: OWN.BREAK });
   }
 
-  // An image of the Forth with its words, which starts with a word, or with the Forth itself where none is named: { image } or { wrong }.
+  // An image of the Forth with its words, which starts with a word or, if none is named, with the Forth itself: { image } or { wrong }.
   saved(name) {
     const { machine, places } = this, sought = name.toUpperCase();
     if (!this.waitsForLine || this.waitsForAnswer || this.isForeign) return { wrong: "the Forth must wait for a line" };
@@ -167,7 +167,7 @@ export class Session {
     else if (this.waitsForAnswer) this.answerAndInterrupt([10]);
   }
 
-  // What a program waits for is given, and the program is interrupted before it does anything with it.
+  // Gives a program what it waits for, and interrupts it before it does anything with that.
   answerAndInterrupt(bytes) {
     if (this.canBreak) this.machine.run(Uint8Array.from(bytes), 1);
     this.interrupt();
@@ -197,7 +197,7 @@ export class Session {
   nextOfTerminal() {
     if (!this.lines.length) return new Uint8Array(0);
     const bytes = encode(this.lines.shift() + "\n");
-    this.view.begun(true);
+    this.view.started(true);
     this.view.show(bytes, true);
     return bytes;
   }
@@ -209,13 +209,13 @@ export class Session {
       return new Uint8Array(0);
     }
     this.lines.shift();
-    this.view.begun(this.machine.returns.length > this.places.depth);
+    this.view.started(this.machine.returns.length > this.places.depth);
     this.echo = bytes.length;
     // A line as long as was asked for ends without a return.
     return bytes.length < most ? Uint8Array.from([...bytes, 10]) : bytes;
   }
 
-  // Goes on until a person is needed. After each slice of time the page draws and takes events.
+  // Runs until a person is needed. After each slice of time the page draws and takes events.
   async go() {
     if (this.isRunning) return;
     this.isRunning = true;
@@ -240,7 +240,7 @@ export class Session {
     this.end();
   }
 
-  // One call of the machine, and what it asks for; the bytes that come next, or null where a person is needed.
+  // One call of the machine, and what it asks for; the bytes that come next, or null if a person is needed.
   advance(typed) {
     const began = performance.now(), ended = this.machine.run(typed, this.ticks);
     this.show(ended.shown);
@@ -275,7 +275,7 @@ export class Session {
     this.ticks = Math.round(Math.min(20e6, Math.max(10000, this.ticks * Math.min(2, SLICE / Math.max(took, 0.5)))));
   }
 
-  // Whether something has to wait until the run has stopped. It doesn't need BREAK, which may be gone where memory was overwritten.
+  // Whether something has to wait until the run has stopped. This does not need BREAK, which may be gone if memory was overwritten.
   waits(wish) {
     if (!this.isRunning) return false;
     this.drop("");
@@ -293,7 +293,7 @@ export class Session {
 
   get canBreak() { return this.places.break !== undefined; }
 
-  // Goes on with the word BREAK. A program without it ends.
+  // Continues with the word BREAK. A program without that word ends.
   interrupt() {
     this.isStopped = false;
     if (!this.canBreak) this.leave("was stopped");
@@ -312,7 +312,7 @@ export class Session {
     this.before = null;
   }
 
-  // Looks whether a fault was reported since the last look, and whether the Forth asks for the editor or for a line to be typed anew.
+  // Looks whether a fault was reported since the last look, and whether the Forth asks for the editor or for a line to be typed again.
   look() {
     if (this.isForeign) return false;
     const notes = this.notes, isFault = notes.faults !== this.faults, retyped = this.machine.cell(this.places.retyped);
@@ -338,13 +338,13 @@ export class Session {
     this.view.note("The Forth ended and started again: its words are gone, the screens are kept.");
   }
 
-  // What is shown of a block, and edited: the bytes of its buffer, if one has it.
+  // The bytes of a block as they are shown and edited: those of its buffer, if it has one.
   page(block) {
     const buffer = this.machine.buffers.find((one) => one.block === block);
     return buffer ? buffer.bytes : this.disk.page(block);
   }
 
-  // Puts a block's bytes where the disk and the machine have them.
+  // Stores a block's bytes on the disk and in the machine.
   put(block, page) {
     const what = `screen ${block}`;
     if (this.undos.length === 0 || this.undos[this.undos.length - 1].what !== what) this.remember(what);
@@ -360,7 +360,7 @@ export class Session {
     }
   }
 
-  // Another disk is put in; the machine and its words stay.
+  // Opens another disk; the machine and its words stay.
   change(disk) {
     this.settle();
     for (const buffer of this.machine.buffers) this.machine.release(buffer);
@@ -378,7 +378,7 @@ export class Session {
     if (this.undos.length > UNDOS) this.undos.shift();
   }
 
-  // All is as before the last line that was typed, or the last screen that was edited.
+  // Restores everything from before the last line that was typed, or the last screen that was edited.
   undo() {
     if (!this.undos.length || this.waits(() => this.undo())) return;
     const before = this.undos.pop();

@@ -30,7 +30,7 @@ export class Store {
     return store;
   }
 
-  // A request to the database; what it answers, or null where it fails.
+  // The answer of a request to the database, or null if it fails.
   ask(mode, act) {
     if (!this.database) return Promise.resolve(null);
     return new Promise((resolve) => {
@@ -59,7 +59,7 @@ export class Store {
     return answer ? answer.value.filter((name) => name.startsWith(full)).map((name) => name.slice(full.length)) : [];
   }
 
-  // The last state of a work, as the page is closed: a small place, written at once. A state that is too big for it isn't there.
+  // The last state of a work, as the page is closed: a small place, written at once. A state that is too big for it is not kept.
   putLast(work, value) {
     try {
       localStorage.setItem(`${this.place}/last/${work}`, JSON.stringify(value));
@@ -72,7 +72,7 @@ export class Store {
     try {
       localStorage.removeItem(`${this.place}/last/${work}`);
     } catch {
-      // Then there is none.
+      // Then there is no such state.
     }
   }
 

@@ -73,6 +73,6 @@ export class Terminal {
     line[this.column++] = letter;
   }
 
-  // What is to be seen, without empty rows at the end.
+  // The visible rows, without empty ones at the end.
   text() { return this.lines.map((line) => line.join("").trimEnd()).join("\n").trimEnd() + "\n"; }
 }

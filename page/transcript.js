@@ -19,7 +19,7 @@ export class Transcript {
     this.texts = []; // [kind, text]
     this.waiting = [];
     this.decoder = new TextDecoder();
-    this.begun = 0;
+    this.started = 0;
     this.terminal = null;
   }
 
@@ -41,7 +41,7 @@ export class Transcript {
     return !last || last[1].endsWith("\n");
   }
 
-  // Takes what waits into the texts.
+  // Adds the waiting pieces to the texts.
   draw() {
     for (const [kind, text] of this.waiting.splice(0)) {
       if (kind === "note") this.terminal = null;
@@ -93,22 +93,22 @@ export class Transcript {
     while (size > MOST_SHOWN && this.texts.length > 1) {
       size -= this.texts.shift()[1].length;
       this.place.firstChild.remove();
-      this.begun--;
+      this.started--;
     }
     if (size > MOST_SHOWN) this.replace(0, tail(this.texts[0][1]));
   }
 
-  // A line is typed now: what follows belongs to it, and not to the screen of a program before it.
+  // Begins the line that is typed now: what follows belongs to it, and not to the screen of a program before it.
   begin(isAnswer) {
     this.draw();
     if (!isAnswer) this.terminal = null;
-    this.begun = this.texts.length;
+    this.started = this.texts.length;
   }
 
   // What was shown since then reports a fault.
   fault() {
     this.draw();
-    for (let at = Math.max(0, this.begun); at < this.texts.length; at++)
+    for (let at = Math.max(0, this.started); at < this.texts.length; at++)
       if (this.texts[at][0] === "shown") {
         this.texts[at][0] = "fault";
         this.place.childNodes[at].className = "fault";

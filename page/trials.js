@@ -29,7 +29,7 @@ export function trialsOf(page) {
   return found;
 }
 
-// What stands for a number as answer PLACE of a quiz, from 1, in place of the number: the word SEAL of the course.
+// What answer PLACE of a quiz, from 1, contains in place of a number: the word SEAL of the course.
 function seal(number, place) {
   let sealed = (number ^ (31 * place + 7919)) & 0xffff;
   for (let round = 0; round < 5; round++) {
@@ -57,11 +57,11 @@ export function helpOf(disk) {
   return [];
 }
 
-// Why a trial isn't right, or null. RUN types a line and gives what it shows, or null where it doesn't end.
+// Why a trial isn't right, or null. RUN types a line and gives what it shows, or null if it does not end.
 export async function why(machine, trial, run) {
   machine.setCell(SYSTEM.base, 10);
   const { needs, line, leaves, shows } = trial, before = machine.values;
-  if (needs) return machine.words().some((one) => one.name === needs) ? null : `${needs} isn't there`;
+  if (needs) return machine.words().some((one) => one.name === needs) ? null : `${needs} is not defined`;
   const shown = await run(`${line}\n`);
   if (shown === null) return `${line} doesn't end`;
   const now = machine.values, left = now.slice(before.length), isKept = before.every((cell, at) => now[at] === cell);

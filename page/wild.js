@@ -1,4 +1,4 @@
-// Containers as they end in the wild, as `./forth83 import` takes them beside the program's own: dialects/bring and dialects/wild.py.
+// Containers that `./forth83 import` reads in addition to the program's own formats, as dialects/bring and dialects/wild.py do.
 
 import { ENDINGS, MOST_BLOCKS, blocksOf, changed, cleaned } from "./containers.js";
 import { COLUMNS, LINES } from "./disk.js";
@@ -10,7 +10,7 @@ const PLAIN = new Set(["blocks", "poly", "fig"]);
 // The sizes of disks that are known, and the format that such a file has most often.
 const KNOWN = { 256256: "cpm8-data", 252928: "rx01", 512512: "rx02", 505856: "rx02", 143360: "apple-dos", 174848: "d64", 196608: "d64", 89600: "jv1" };
 
-// Whether nothing is in these bytes but what fills records.
+// Whether these bytes only fill a record.
 const isPadding = (bytes) => bytes.every((byte) => [CTRL_Z, 0, BLANK, FILLER].includes(byte));
 
 // Bytes without the ^Z and the zeros at their end.
@@ -58,7 +58,7 @@ function lined(container, ending) {
 // Whether sectors follow one another without endings, so that a container may end anywhere.
 const isPlain = (format) => !format.hasSkew && (PLAIN.has(format.name) || (format.isAdded && !format.turning && format.name !== "text"));
 
-// Whether something must be done beside what the program does.
+// Whether more must be done than the program does.
 function isAdded(container, format, { isHalf, isEbcdic, first }) {
   const ending = ENDINGS[format.name], tail = container.subarray(container.length - (container.length % (2 * PAGE_SIZE)));
   const isOdd = format.name === "f83" && !format.hasOffset && tail.length > 0 && isPadding(tail);

@@ -1,8 +1,8 @@
 """The steps of a word's calls, and of what it calls, among the lines of a run.
 
-A call begins behind a step whose token is a colon word, or one that DOES> made; it ends behind EXIT, when the return stack is
-no deeper than before the call. A fault empties the return stack and ends all of them. Where EXECUTE does a word that was made
-in the run, its code isn't known: it is a call where the return stack grew.
+A call begins after a step whose token is a colon word, or a word that DOES> made; it ends after EXIT, when the return stack is
+no deeper than before the call. A fault empties the return stack and ends all calls. If EXECUTE executes a word that was made
+during the run, its code is not known: it counts as a call if the return stack grew.
 """
 from typing import Optional, Tuple
 
@@ -21,7 +21,7 @@ class Frame:
 
 
 class Step:
-    """What stands before a step: the place of its token or None behind the last one, the call that it belongs to, the stacks,
+    """The state before a step: the place of its token or None after the last one, the call that it belongs to, the stacks,
     and the mark of what was shown."""
 
     def __init__(self, address: Optional[int], frame: int, data: Tuple[int, ...], returns: Tuple[int, ...], mark: Tuple[int, int]) -> None:
@@ -29,7 +29,7 @@ class Step:
 
 
 def effect_of(memory: images.Memory, code_field: int) -> Tuple[str, Optional[int]]:
-    """What a step does to calls, and where a call goes on. A code of 256 or more is a thread behind DOES>."""
+    """What a step does to the calls, and the address where a call continues. A code of 256 or more is a thread after DOES>."""
     row = memory.cell(code_field)
     if row == images.COLON:
         return CALL, (code_field + 2) & 0xFFFF
@@ -43,7 +43,7 @@ class Calls:
     calls alone that begin with this address on the stack, as a word that DOES> made begins."""
 
     def __init__(self, begins: int, end: int, most: int, data: Optional[int] = None) -> None:
-        self.begins, self.behind, self.most, self.data = begins, end, most, data
+        self.begins, self.after, self.most, self.data = begins, end, most, data
         self.frames, self.steps, self.ends = [], [], []
         self.open, self.last, self.target, self.depth, self.met = [], OTHER, None, 0, 0
 
@@ -55,7 +55,7 @@ class Calls:
         self.pass_by(effect, len(returns))
 
     def pass_by(self, effect: Tuple[str, Optional[int]], depth: int = 0) -> None:
-        """A step of this effect comes, when the return stack has this depth."""
+        """Notes the effect of the coming step, and the depth of the return stack before it."""
         (self.last, self.target), self.depth = effect, depth
 
     def is_begun(self, address: int, depth: int) -> bool:
@@ -64,10 +64,10 @@ class Calls:
 
     def is_wanted(self, address: int, data: Tuple[int, ...]) -> bool:
         """Whether a call that begins here is one of the word."""
-        return self.begins <= address < self.behind and (self.data is None or bool(data) and data[-1] & 0xFFFF == self.data)
+        return self.begins <= address < self.after and (self.data is None or bool(data) and data[-1] & 0xFFFF == self.data)
 
     def follow(self, address: int, data: Tuple[int, ...], returns: Tuple[int, ...], mark: Tuple[int, int]) -> None:
-        """What the step before did to the calls."""
+        """Applies to the calls what the step before did."""
         if self.open:
             if not returns and len(data) == 1 and self.frames[self.open[0]].base > 0 and self.last not in (END, CLEAR):
                 self.leave(data, returns, mark, FAULTED)
@@ -95,7 +95,7 @@ class Calls:
         self.close(root, data, returns, mark, how)
 
     def close(self, root: int, data: Tuple[int, ...], returns: Tuple[int, ...], mark: Tuple[int, int], how: str) -> None:
-        """The state behind a call of the word, which no step follows."""
+        """The state after a call of the word, which no step follows."""
         if self.steps and self.steps[-1].frame >= root and self.met <= self.most:
             self.steps.append(Step(None, root, data, returns, mark))
         self.ends.append((root, how))

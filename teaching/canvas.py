@@ -17,7 +17,7 @@ def chunk(kind: bytes, content: bytes) -> bytes:
 
 
 def png(canvas: bytes) -> bytes:
-    """The canvas as a PNG file, whose points have four bits as here: each row follows a byte that says that it is as it is."""
+    """The canvas as a PNG file with four bits for each point; a byte before each row says that the row is not filtered."""
     row = WIDTH // 2
     rows = b"".join(b"\0" + canvas[at:at + row] for at in range(0, row * HEIGHT, row))
     head = struct.pack(">IIBBBBB", WIDTH, HEIGHT, 4, 3, 0, 0, 0)
@@ -26,6 +26,6 @@ def png(canvas: bytes) -> bytes:
 
 
 def canvas_of(blocks: bytes, first: int) -> bytes:
-    """The canvas that begins at a block, or no bytes where the file ends before its end."""
+    """The canvas that begins at a block, or no bytes if the file ends too soon."""
     content = blocks[first * PAGE:(first + BLOCKS) * PAGE]
     return content if len(content) == BLOCKS * PAGE else b""

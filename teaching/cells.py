@@ -1,7 +1,7 @@
 """What variables and arrays hold at each step of a run: the writes of its steps, done over the image's memory.
 
 Only bytes of words of the screens are followed, and BASE. Each `@`, `C@`, `2@` and `COUNT` among the lines is a test: what it leaves
-must be what is held here. Where it isn't, something else has written into the word, and the film leaves it out.
+must be what is held here. If it is not, something else has written into the word, and the film leaves it out.
 """
 import bisect
 from typing import Iterable, Iterator, List, Optional, Tuple
@@ -48,7 +48,7 @@ class Cells:
         return word if word and address < word.header.end else None
 
     def begin(self) -> None:
-        """The film's first step comes: what is held now is where it starts."""
+        """The film begins: variables and arrays start with what they hold now."""
         if self.base is None:
             self.base = self.memory.cell(BASE)
             for word in self.words:
@@ -72,7 +72,7 @@ class Cells:
         return word
 
     def lose(self, address: int, is_open: bool) -> None:
-        """What is typed, or what isn't followed, is written here: the word's bytes aren't known any more."""
+        """Something that is not followed, such as typed bytes, is written here: the word's bytes are no longer known."""
         word = self.touch(address, is_open)
         if word:
             word.is_wrong = True
@@ -85,7 +85,7 @@ class Cells:
             self.test = (word, value)
 
     def check(self, data: Tuple[int, ...]) -> None:
-        """The line after a read: whether the top is what is held here."""
+        """Whether the line after a read has on top what is held here."""
         word, value = self.test
         word.is_wrong |= not data or data[-1] & 0xFFFF != value
         self.test = None

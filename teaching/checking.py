@@ -111,7 +111,7 @@ class Check:
     def judged(self, said: List[str]) -> Result:
         """The result of what CHECK says of a lesson that is not right."""
         last = said[-1] if said else "CHECK says nothing"
-        missing = re.match(r"(\S+) isn.t there yet", last)
+        missing = re.match(r"(\S+) is not defined yet", last)
         if missing:
             return Result(MISSING, missing[1], last)
         unended = re.search(r"is the ; of (\S+) missing\?", " ".join(said))

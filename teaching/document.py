@@ -33,7 +33,7 @@ def script() -> str:
 
 
 def as_json(data: Dict[str, Any]) -> str:
-    """JSON that ends no element of HTML, whatever its texts are."""
+    """JSON in which no text can end an element of HTML."""
     text = json.dumps(data, ensure_ascii=True, separators=(",", ":"))
     return text.replace("&", "\\u0026").replace("<", "\\u003c").replace(">", "\\u003e")
 

@@ -1,4 +1,4 @@
-"""An image's map as SVG: memory in rows of as many bytes as are wide, each byte a column; each letter of a name is on its byte.
+"""An image's map as SVG: memory in rows, each byte a column; each letter of a name is on its byte.
 
 The words after FENCE, which are the user's, come first. Each map is drawn twice into one file, for wide and for narrow windows; the
 style shows one of them, as wide as the window. On paper the Forth's own words are left out if there are others.
@@ -18,7 +18,7 @@ BYTE, ROW, GUTTER, LINE, ABOVE, LETTER, TITLE_LETTER = 13, 24, 56, 17, 8, 7.3, 8
 
 
 class Canvas:
-    """What is drawn, and how far down it reaches."""
+    """The parts of a drawing, and how far down they reach."""
 
     def __init__(self, width: int) -> None:
         self.width, self.y, self.parts, self.on_paper = width, 8, [], None
@@ -26,8 +26,8 @@ class Canvas:
     def add(self, text: str) -> None:
         self.parts.append(text)
 
-    def line(self, text: str, kind: str = "told", x: int = 8) -> None:
-        """A line of text, cut into as many as the width needs."""
+    def line(self, text: str, kind: str = "text", x: int = 8) -> None:
+        """Adds a text, broken into as many lines as the width needs."""
         most = max(12, int((self.width - x) / (TITLE_LETTER if kind == "title" else LETTER)))
         self.y += ABOVE if kind in ("title", "heading") and self.parts else 0
         while text:
@@ -107,8 +107,8 @@ class Grid:
         return f'<path class="link c{header.chain()}" data-from="{header.link_field}" d="{way}"/>'
 
 
-def told_of(one: regions.Map, header: images.Header) -> List[str]:
-    """What is told of a word, in lines."""
+def lines_of(one: regions.Map, header: images.Header) -> List[str]:
+    """The lines that a map shows for a word."""
     found = one.at_link_field()
     before = texts.shown(found[header.link].name) if header.link in found else "none"
     size = max(0, header.end - header.body)
@@ -121,11 +121,11 @@ def told_of(one: regions.Map, header: images.Header) -> List[str]:
 
 def word(grid: Grid, header: images.Header) -> str:
     """A word as a group that keys reach."""
-    lines = told_of(grid.one, header)
+    lines = lines_of(grid.one, header)
     drawn = "".join(grid.boxes(region.begins, region.end, region.kind) for region in regions.parts_of(header))
     link = grid.boxes(header.link_field, header.link_field + 2, f"cell c{header.chain()}")
-    told = escape("|".join(line.replace("|", "¦") for line in lines))
-    return (f'<g class="word" tabindex="0" data-at="{header.link_field}" data-link="{header.link}" data-told="{told}">'
+    text = escape("|".join(line.replace("|", "¦") for line in lines))
+    return (f'<g class="word" tabindex="0" data-at="{header.link_field}" data-link="{header.link}" data-about="{text}">'
             f'<title>{escape(chr(10).join(lines))}</title>{drawn}{link}{grid.letters(header)}</g>')
 
 
@@ -156,25 +156,25 @@ def draw_grid(canvas: Canvas, grid: Grid, runs: List[Tuple[int, int]]) -> None:
     if images.DICTIONARY <= grid.one.here <= grid.one.top:
         x, y = grid.spot(grid.one.here)
         canvas.add(f'<path class="here" d="M{x} {y}v{ROW - 2}"/>')
-        canvas.add(f'<text class="told" x="{x + 4}" y="{y + 15}">HERE {grid.one.here}</text>')
+        canvas.add(f'<text class="text" x="{x + 4}" y="{y + 15}">HERE {grid.one.here}</text>')
     canvas.add("</g>")
 
 
 def draw_strip(canvas: Canvas, one: regions.Map) -> None:
     """All of memory to scale, and what its parts are."""
     scale, y = (canvas.width - 24) / images.MEMORY, canvas.y + 6
-    for begins, end, kind, told in one.outline():
+    for begins, end, kind, text in one.outline():
         x, width = 8 + begins * scale, max(1, (end - begins) * scale)
         canvas.add(f'<rect class="{kind}" x="{x:.2f}" y="{y}" width="{width:.2f}" height="26">'
-                   f'<title>{escape(told)}: {begins} to {end - 1}</title></rect>')
+                   f'<title>{escape(text)}: {begins} to {end - 1}</title></rect>')
     canvas.room(34)
-    for begins, end, kind, told in one.outline():
+    for begins, end, kind, text in one.outline():
         if kind == "buffer" and begins > one.limit:
             continue
         canvas.add(f'<rect class="{kind}" x="8" y="{canvas.y + 3}" width="12" height="12"/>')
         if kind == "buffer":
-            told, end = f"{one.image.buffers} block buffers", images.MEMORY
-        canvas.line(f"{begins} to {end - 1}: {told}, {end - begins} bytes", x=28)
+            text, end = f"{one.image.buffers} block buffers", images.MEMORY
+        canvas.line(f"{begins} to {end - 1}: {text}, {end - begins} bytes", x=28)
 
 
 def draw_cells(canvas: Canvas, one: regions.Map) -> None:
@@ -199,7 +199,7 @@ ALL, OWN, SYSTEM = "The dictionary, each byte a column", "Your words, each byte 
 
 
 def split_of(one: regions.Map) -> int:
-    """Where the user's words begin: at FENCE, or with the dictionary if FENCE divides it in no two parts."""
+    """Where the user's words begin: at FENCE, or where the dictionary begins if FENCE does not divide it in two."""
     fence = one.image.memory.cell(images.FENCE)
     return fence if images.DICTIONARY < fence < one.here <= one.top else images.DICTIONARY
 
@@ -208,12 +208,12 @@ def draw_key(canvas: Canvas, heading: str) -> None:
     """What the colors are."""
     canvas.line(heading, "heading")
     x, y = 8, canvas.y + 4
-    for kind, told in COLOURS:
-        width = 20 + (len(told) + 2) * LETTER
+    for kind, text in COLOURS:
+        width = 20 + (len(text) + 2) * LETTER
         if x + width > canvas.width:
             x, y = 8, y + LINE
         canvas.add(f'<rect class="{kind}" x="{x}" y="{y}" width="12" height="12"/>')
-        canvas.add(f'<text class="told" x="{x + 17}" y="{y + 11}">{told}</text>')
+        canvas.add(f'<text class="text" x="{x + 17}" y="{y + 11}">{text}</text>')
         x += width
     canvas.y = y + LINE + 4
     canvas.line(ADVICE)
@@ -265,12 +265,12 @@ def draw_one(one: regions.Map, wide: int) -> Canvas:
 
 def draw_changes(canvas: Canvas, changes: regions.Changes) -> None:
     canvas.line("What changed from the first to the second", "heading")
-    for told, headers in (("Words that came", changes.came), ("Words that went", changes.went),
+    for text, headers in (("Words that came", changes.came), ("Words that went", changes.went),
                           ("Words with other bytes", [header for _, header in changes.changed])):
         names = " ".join(texts.shown(header.name) for header in headers[:200])
-        canvas.line(f"{told}: {len(headers)}. {names}{' ..' if len(headers) > 200 else ''}")
-    for name, before, behind in changes.cells():
-        canvas.line(f"{name}: {before}, then {behind}", x=28)
+        canvas.line(f"{text}: {len(headers)}. {names}{' ..' if len(headers) > 200 else ''}")
+    for name, before, after in changes.cells():
+        canvas.line(f"{name}: {before}, then {after}", x=28)
     canvas.line(f"{changes.bytes()} of 65536 bytes differ. What differs in the dictionary has a frame.")
 
 
@@ -294,10 +294,10 @@ def draw_two(first: regions.Map, second: regions.Map, wide: int) -> Canvas:
 
 
 def drawing(canvas: Canvas, kind: str) -> str:
-    """A drawing that is as wide as the window. Its box is what comes on paper, and what is below that shows where there is room."""
+    """A drawing that is as wide as the window. Its box is printed; what is below the box is shown if the window has room for it."""
     box = f"0 0 {canvas.width} {canvas.on_paper or canvas.y}"
     return (f'<svg class="{kind}" viewBox="{box}" preserveAspectRatio="xMinYMin meet" overflow="visible">{"".join(canvas.parts)}'
-            f'<g class="tell"></g></svg>')
+            f'<g class="about"></g></svg>')
 
 
 def height_of(canvas: Canvas, units: int) -> str:

@@ -74,7 +74,7 @@ function chain(frame) {
   return found;
 }
 
-// The place of memory that a step is at. After the end of a call that is where it ended.
+// The address at which a step is; after the end of a call, the address at which it ended.
 function placeOf(number) {
   const step = steps[number];
   if (step[0] >= 0) return step[0];
@@ -95,7 +95,7 @@ const definitions = film.words.map((one, number) => {
   return places && { ...found, places };
 });
 
-// The definition that a place is in, and the number of its word there; -1 where that isn't known.
+// The definition that a place is in, and the number of its word there; -1 if that is not known.
 function sourceAt(place) {
   const found = place >= 0 && film.places[place][1] !== null ? definitions[film.places[place][1]] : null;
   const now = found ? found.places.get(film.places[place][0]) : undefined;

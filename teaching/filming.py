@@ -1,7 +1,7 @@
 """A word's film: the steps of its calls in one run, and what is known of them.
 
-The steps come from one run of all words' lines (traces.py). They count where `debug` of the word itself, over the image as it
-is, tells the same lines, and shows the same. Else the film is made of the word's own lines alone.
+The steps come from one run of all words' lines (traces.py). They count if `debug` of the word itself, over the image as it
+is, writes the same lines and shows the same. Otherwise the film is made of the word's own lines only.
 """
 import pathlib
 from typing import Dict, List, Optional, Tuple
@@ -31,7 +31,7 @@ class Place:
 
 
 class Subject:
-    """What is filmed: a colon word, or a word that DOES> made; the thread of that one is a part of its maker's."""
+    """The word that is filmed: a colon word, or a word that DOES> made, whose thread is a part of its maker's."""
 
     def __init__(self, header: images.Header, maker: Optional[images.Header] = None) -> None:
         self.header = maker or header
@@ -81,7 +81,7 @@ class Whole:
         place = self.places.get(line[:blank]) or self.place(line[:blank])
         rest = line[blank + 2:]
         place.digest.take(place.line + rest)
-        is_near = self.calls.open or self.calls.begins <= place.address < self.calls.behind
+        is_near = self.calls.open or self.calls.begins <= place.address < self.calls.after
         if is_near or place.shows or place.touches or self.cells.test:
             self.step(place, rest)
         else:

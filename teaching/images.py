@@ -41,7 +41,7 @@ class BadImage(program.Refusal):
 
 
 class Image:
-    """What an image's file has; memory is all of it."""
+    """The contents of an image's file; `memory` is all of memory."""
 
     def __init__(self, version: int, buffers: int, entry: int, content: bytes) -> None:
         self.version, self.buffers, self.entry, self.size = version, buffers, entry, len(content)

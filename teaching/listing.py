@@ -9,7 +9,7 @@ BAR = 40
 
 
 def bar(size: int, most: int) -> str:
-    """A length to scale, at least one sign for what isn't nothing."""
+    """A bar whose length is to scale, with at least one sign unless the length is 0."""
     return "#" * (max(1, round(BAR * size / most)) if size else 0)
 
 
@@ -17,8 +17,8 @@ def outline(one: regions.Map) -> Iterator[str]:
     image = one.image
     yield f"{one.name}: version {image.version}, {image.size} bytes, {image.buffers} block buffers, begins with {entry(one)}"
     yield ""
-    for begins, end, _, told in one.outline():
-        yield f"{begins:6}  {end - begins:6}  {told:28} {bar(end - begins, images.MEMORY)}"
+    for begins, end, _, text in one.outline():
+        yield f"{begins:6}  {end - begins:6}  {text:28} {bar(end - begins, images.MEMORY)}"
 
 
 def entry(one: regions.Map) -> str:
@@ -65,14 +65,14 @@ def listing(one: regions.Map) -> Iterator[str]:
         yield from lines
 
 
-def told_cells(changes: regions.Changes) -> Iterator[str]:
+def cell_lines(changes: regions.Changes) -> Iterator[str]:
     yield ""
     yield "system cells that changed"
-    for name, before, behind in changes.cells():
-        yield f"        {name:20} {before:6} -> {behind:6}"
+    for name, before, after in changes.cells():
+        yield f"        {name:20} {before:6} -> {after:6}"
 
 
-def told_words(changes: regions.Changes) -> Iterator[str]:
+def word_lines(changes: regions.Changes) -> Iterator[str]:
     yield ""
     yield f" {HEADING}"
     rows = [("+", changes.second, header) for header in changes.came]
@@ -85,6 +85,6 @@ def told_words(changes: regions.Changes) -> Iterator[str]:
 
 def comparison(first: regions.Map, second: regions.Map) -> Iterator[str]:
     changes = regions.Changes(first, second)
-    for lines in (outline(first), [""], outline(second), told_cells(changes), told_words(changes)):
+    for lines in (outline(first), [""], outline(second), cell_lines(changes), word_lines(changes)):
         yield from lines
     yield f" {changes.bytes()} of 65536 bytes differ; HERE went from {first.here} to {second.here}"

@@ -1,5 +1,5 @@
 "use strict";
-// Keys and pointer of a map: the word that is chosen tells what it is, and its chain is drawn.
+// Keys and pointer of a map: the chosen word shows what it is, and its chain is drawn.
 const space = "http://www.w3.org/2000/svg";
 const drawings = [...document.querySelectorAll(".wide, .narrow")];
 
@@ -19,10 +19,10 @@ function drawChain(word) {
   for (const arc of word.parentNode.querySelectorAll(".link")) arc.classList.toggle("on", chained.has(arc.dataset.from));
 }
 
-function tell(word) {
-  const box = word.getBBox(), lines = word.dataset.told.split("|");
+function describe(word) {
+  const box = word.getBBox(), lines = word.dataset.about.split("|");
   const width = 7.4 * Math.max(...lines.map((line) => line.length)) + 14;
-  const group = word.closest(".wide, .narrow").querySelector(".tell");
+  const group = word.closest(".wide, .narrow").querySelector(".about");
   const limit = word.ownerSVGElement.viewBox.baseVal.width;
   const x = Math.max(2, Math.min(box.x, limit - width - 4)), y = box.y + box.height + 4;
   group.replaceChildren(made("rect", { x, y, width, height: 17 * lines.length + 8, rx: 4 }),
@@ -31,7 +31,7 @@ function tell(word) {
 
 function choose(word) {
   drawChain(word);
-  tell(word);
+  describe(word);
 }
 
 function follow(word) {

@@ -28,7 +28,7 @@ function afterNumber(name, before, after) {
 
 const isStill = matchMedia("(prefers-reduced-motion: reduce)");
 
-// A cell goes from where it was to its place. One that rises over others makes a bow, so that both are seen to cross.
+// Moves a cell from where it was to its place. A cell that rises over others moves in a bow, so that one can see them cross.
 function fly(one, from, time) {
   const to = one.getBoundingClientRect(), [x, y] = [from.left - to.left, from.top - to.top];
   if (!x && !y) return;
@@ -38,7 +38,7 @@ function fly(one, from, time) {
     { duration: time, easing: "ease-in-out" });
 }
 
-// A cell that is new comes into sight.
+// Fades in a new cell.
 function appear(one, time) {
   one.animate([{ opacity: 0, transform: "scale(.7)" }, { opacity: 1, transform: "none" }], { duration: time });
 }

@@ -27,7 +27,7 @@ function roomOf(list) {
   return Math.max(2, Math.floor((list.clientHeight - 3.6 * rem) / (1.6 * rem)));
 }
 
-// Makes the columns around the step, anew where others are needed, and marks the step's own.
+// Makes the columns around the step, if others are needed, and marks the step's own column.
 function showTime() {
   const wanted = Math.max(0, Math.min(at - COLUMNS / 2, visible.length - COLUMNS)), list = part("columns");
   const isThere = shownOf === visible && at >= shownFrom && at < shownFrom + COLUMNS && list.dataset.hex === String(hex) && most === roomOf(list);

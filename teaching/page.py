@@ -45,7 +45,7 @@ class Words:
     def __init__(self, film: filming.Film, dictionary: images.Dictionary, manual: manual.Manual, source: Callable[[images.Header], Tuple[str, str]]) -> None:
         self.dictionary, self.manual, self.source = dictionary, manual, source
         self.words, self.place_of, self.entries = [], {}, []
-        self.told, self.owner = {}, dictionary.owners()
+        self.says, self.owner = {}, dictionary.owners()
         for header in self.headers(film):
             self.add(header)
         for step in film.calls.steps:
@@ -53,7 +53,7 @@ class Words:
                 self.add_place(None, threads.token_at(dictionary, step.address))
 
     def headers(self, film: filming.Film) -> List[images.Header]:
-        """The colon words in whose threads the steps stand, in the order of the film."""
+        """The colon words whose threads have the steps, in the order of the film."""
         found = [self.owner.get(frame.begins) for frame in film.calls.frames]
         found += [self.owner.get(step.address) for step in film.calls.steps]
         return list(dict.fromkeys(header for header in found if header))
@@ -70,7 +70,7 @@ class Words:
         return self.entries[self.place_of[address]][2]
 
     def word_at(self, address: int) -> int:
-        """The number of the word in whose thread an address lies, -1 where it is none of the film's."""
+        """The number of the word in whose thread an address lies, -1 if it is not one of the film's."""
         word = self.entries[self.place_of[address]][1] if address in self.place_of else None
         return -1 if word is None else word
 
@@ -88,12 +88,12 @@ class Words:
                              texts.shown(token.taken), self.say(header)])
 
     def say(self, header: images.Header) -> int:
-        """The number of what is said of a token's word."""
+        """The number of the text about a token's word."""
         text = list(self.manual.of(header))
         if header and not text[0]:
             text = self.of_data(header) or self.of_source(header)
         key = tuple(text)
-        return self.told.setdefault(key, len(self.told))
+        return self.says.setdefault(key, len(self.says))
 
     def of_data(self, header: images.Header) -> Optional[List[str]]:
         """What a word of the screens does that VARIABLE, CREATE, CONSTANT or DOES> made; None for others."""
@@ -112,7 +112,7 @@ class Words:
 
 
 def changes(before: Tuple[int, ...], after: Tuple[int, ...]) -> List[int]:
-    """A stack as how many cells it keeps from below, and those above."""
+    """The change of a stack: how many cells stay at the bottom, and the cells above them."""
     same = 0
     while same < len(before) and same < len(after) and before[same] == after[same]:
         same += 1
@@ -120,23 +120,23 @@ def changes(before: Tuple[int, ...], after: Tuple[int, ...]) -> List[int]:
 
 
 class Loops:
-    """Where the return stack has what counted loops keep: three cells from each of these depths on."""
+    """The depths in the return stack at which counted loops keep their three cells."""
 
     def __init__(self) -> None:
-        self.open, self.begun, self.seen = (), None, {(): 0}
+        self.open, self.started, self.seen = (), None, {(): 0}
 
     def at(self, row: Optional[int], depth: int) -> int:
         """The number of the depths before a step of this row, when the return stack has this depth."""
-        if self.begun is not None and depth >= self.begun + 3:
-            self.open += (self.begun,)
+        if self.started is not None and depth >= self.started + 3:
+            self.open += (self.started,)
         while self.open and depth < self.open[-1] + 3:
             self.open = self.open[:-1]
-        self.begun = depth if row == threads.DO else None
+        self.started = depth if row == threads.DO else None
         return self.seen.setdefault(self.open, len(self.seen))
 
 
 def packed_steps(film: filming.Film, words: Words, loops: Loops) -> List[List[Any]]:
-    """For each step its place (-1 behind a call), its frame, the changes of both stacks, what is shown, and its loops."""
+    """For each step its place (-1 after a call), its frame, the changes of both stacks, what is shown, and its loops."""
     rows, data, returns = [], (), ()
     for number, step in enumerate(film.calls.steps):
         place = -1 if step.address is None else words.place_of[step.address]
@@ -182,9 +182,9 @@ def faulted(film: filming.Film, words: Words, root: int, name: str) -> Tuple[str
     outer, inner = (words.token_at(address) for address in (own, steps[end - 1].address))
     number = steps[end].data[-1]
     said = manual.fault(number) or abort_text(words, steps[end - 1].address) or "a fault"
-    told = f"{said} (fault {number}) at {outer}"
-    told += "" if own == steps[end - 1].address else f", within it at {inner}"
-    return f"{told}. It ended {name}: both stacks were emptied, and the fault's number was pushed.", words.place_of[own]
+    text = f"{said} (fault {number}) at {outer}"
+    text += "" if own == steps[end - 1].address else f", within it at {inner}"
+    return f"{text}. It ended {name}: both stacks were emptied, and the fault's number was pushed.", words.place_of[own]
 
 
 def abort_text(words: Words, address: int) -> str:
@@ -228,7 +228,7 @@ def data_of(film: filming.Film, words: Words, fence: int, name: str) -> Dict[str
     loops = Loops()
     steps = packed_steps(film, words, loops)
     return {
-        "name": name, "words": words.words, "places": words.entries, "says": list(words.told),
+        "name": name, "words": words.words, "places": words.entries, "says": list(words.says),
         "frames": frames_of(film, words, fence), "steps": steps, "output": output,
         "loops": [list(depths) for depths in loops.seen],
         "begins": film.marks[0] if film.marks else 0, "is_laid": bool(film.marks), 

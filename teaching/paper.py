@@ -17,8 +17,8 @@ WHO = '<p class="who">Name<span></span>Date<span></span></p>'
 def figure(read: screens.Screens, number: int) -> str:
     """A screen with its number and its lines."""
     if number in read.refused:
-        told = f"<p>This screen isn't printed: it has bytes that are no text ({escape(read.refused[number])}).</p>"
-        return f"<figure><figcaption>Screen {number}</figcaption>{told}</figure>"
+        note = f"<p>This screen isn't printed: it has bytes that are no text ({escape(read.refused[number])}).</p>"
+        return f"<figure><figcaption>Screen {number}</figcaption>{note}</figure>"
     lines = read.lines.get(number, []) + [""] * screens.LINES
     text = "\n".join(f"{at:2} {line}".rstrip() for at, line in enumerate(lines[:screens.LINES]))
     return f"<figure><figcaption>Screen {number}</figcaption><pre>{escape(text)}</pre></figure>"
@@ -49,8 +49,8 @@ def index(read: screens.Screens, numbers: List[int]) -> str:
     return f'<section><h2>Index</h2><table class="index"><tbody>{rows}</tbody></table></section>'
 
 
-def told_places(places: List[Tuple[int, int]]) -> str:
-    """Places in short: 21.3 is screen 21, line 3; lines of one screen stand behind one another."""
+def short_places(places: List[Tuple[int, int]]) -> str:
+    """Places in short: 21.3 is screen 21, line 3; 21.3.5 is its lines 3 and 5."""
     found = {}
     for number, line in places:
         found.setdefault(number, []).append(str(line))
@@ -58,21 +58,21 @@ def told_places(places: List[Tuple[int, int]]) -> str:
 
 
 def entry(name: str, defined: List[Tuple[int, int]], used: List[Tuple[int, int]]) -> str:
-    where = f"<td>{told_places(used)}</td>" if used else '<td class="none">nowhere here</td>'
-    return f"<tr><td>{escape(name)}</td><td>{told_places(defined)}</td>{where}</tr>"
+    where = f"<td>{short_places(used)}</td>" if used else '<td class="none">nowhere here</td>'
+    return f"<tr><td>{escape(name)}</td><td>{short_places(defined)}</td>{where}</tr>"
 
 
 def cross_reference(references: References) -> str:
     if not references.defined:
         return "<section><h2>Words: where defined, where used</h2><p>No word is defined in these screens.</p></section>"
     rows = "".join(entry(name, references.defined[name], references.uses(name)) for name in sorted(references.defined))
-    told = "<p>21.3 is screen 21, line 3, and 21.3.5 its lines 3 and 5. Names in comments and in texts aren't counted.</p>"
+    note = "<p>21.3 is screen 21, line 3, and 21.3.5 its lines 3 and 5. Names in comments and in texts aren't counted.</p>"
     head = "<thead><tr><th>word</th><th>defined</th><th>used</th></tr></thead>"
-    return f"<section><h2>Words: where defined, where used</h2>{told}{columns(head, rows)}</section>"
+    return f"<section><h2>Words: where defined, where used</h2>{note}{columns(head, rows)}</section>"
 
 
 def columns(head: str, rows: str) -> str:
-    """A table in as many columns as the page has room for; one of few rows in one, as its head would stand apart."""
+    """A table in as many columns as the page has room for; a table of few rows gets one column, since a column break would part its head from its rows."""
     kind = "columns" if rows.count("<tr>") > FEW else "column"
     return f'<div class="{kind}"><table>{head}<tbody>{rows}</tbody></table></div>'
 
@@ -81,11 +81,11 @@ def missing(references: References, known: Set[str]) -> str:
     found = references.missing(known)
     if not found:
         return ""
-    rows = "".join(f"<tr><td>{escape(name)}</td><td>{told_places(found[name])}</td></tr>" for name in sorted(found))
-    told = ("<p>Neither defined in these screens nor words of this Forth, or no words at all, as what a word like TEXT reads "
-            "behind it.</p>")
+    rows = "".join(f"<tr><td>{escape(name)}</td><td>{short_places(found[name])}</td></tr>" for name in sorted(found))
+    note = ("<p>Neither defined in these screens nor words of this Forth, or no words at all, such as what a word like TEXT reads "
+            "after it.</p>")
     head = "<thead><tr><th>word</th><th>used</th></tr></thead>"
-    return f"<section><h2>Words that aren't known</h2>{told}{columns(head, rows)}</section>"
+    return f"<section><h2>Words that aren't known</h2>{note}{columns(head, rows)}</section>"
 
 
 def document(name: str, parts: List[str], is_wide: bool) -> str:

@@ -9,7 +9,7 @@ function go(place) {
   else show();
 }
 
-// What someone does ends the playing.
+// Any key or click ends the playing.
 function goByHand(place) {
   pause();
   go(place);

@@ -22,7 +22,7 @@ def say(tool: str, text: str) -> None:
 
 
 def guarded(tool: str, act: Callable[[], int]) -> int:
-    """Does what a tool does, or says why it cannot; the status."""
+    """Runs a tool, or reports why it cannot be run; returns the status."""
     try:
         return act()
     except Refusal as refusal:
@@ -40,7 +40,7 @@ def guarded(tool: str, act: Callable[[], int]) -> int:
 
 
 class Progress:
-    """A line on standard error that is written anew, where that is a terminal."""
+    """A line of progress on standard error, which replaces the one before, if that is a terminal."""
 
     def __init__(self, tool: str) -> None:
         self.tool, self.is_shown = tool, sys.stderr.isatty()
@@ -69,11 +69,11 @@ class Program:
         return f"{name}, proved" if self.is_proved else name
 
     def run(self, words: List[Union[pathlib.Path, str]], **ends: Any) -> "subprocess.CompletedProcess[bytes]":
-        """Runs the program; all that it says is taken as bytes."""
+        """Runs the program; its output is bytes."""
         return subprocess.run([self.path, *words], stdout=subprocess.PIPE, stderr=subprocess.PIPE, check=False, **ends)
 
     def text(self, words: List[Union[pathlib.Path, str]]) -> str:
-        """What it says; a refusal where it refuses."""
+        """What the program prints; raises a refusal if it refuses."""
         done = self.run(words, stdin=subprocess.DEVNULL)
         if done.returncode:
             raise Refusal(said_by(done))

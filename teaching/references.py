@@ -16,13 +16,13 @@ NAMING = {":", "[COMPILE]", "[']", "'"}
 
 
 def flat(lines: List[str]) -> str:
-    """A screen as its 1,024 bytes: a word at the end of a line goes on in the next."""
+    """A screen as its 1,024 bytes: a word at the end of a line continues in the next line."""
     padded = [line.ljust(screens.WIDTH)[:screens.WIDTH] for line in lines]
     return "".join(padded).ljust(screens.BYTES)
 
 
 def words(lines: List[str]) -> Iterator[Tuple[str, int]]:
-    """The words of a screen, each with its line; what comments and texts have is passed over."""
+    """The words of a screen, each with its line, without those in comments and texts."""
     text, at, before = flat(lines), 0, ""
     while at < len(text):
         if text[at] == " ":

@@ -1,4 +1,4 @@
-"""What stands where in an image's memory, as regions one behind another, and what two images differ in."""
+"""The regions of an image's memory, in the order of their addresses, and the differences of two images."""
 from typing import Dict, List, Optional, Tuple
 
 import images
@@ -28,7 +28,7 @@ class Map:
         self.words = [header for header in self.dictionary.headers if images.DICTIONARY <= header.begins < self.limit]
 
     def outline(self) -> List[Tuple[int, int, str, str]]:
-        """All of memory in few regions, each with what it is."""
+        """All of memory in a few regions, each with a description."""
         rows = [(0, images.TIB, "system", "system cells"), (images.TIB, images.TIB_END, "tib", "TIB, the line that is typed"),
                 (images.DICTIONARY, self.top, "words", "the dictionary"), (self.top, self.limit, "free", "free room")]
         for slot in range(self.image.buffers):
@@ -37,7 +37,7 @@ class Map:
         return rows
 
     def regions(self) -> List[Region]:
-        """The dictionary's regions: of each word its header, its code field and what is behind; what belongs to none between."""
+        """The dictionary's regions: each word's header, its code field and what follows it; and the bytes between that belong to no word."""
         found, at = [], images.DICTIONARY
         for header in self.words:
             if header.begins > at:
@@ -73,7 +73,7 @@ def what(header: images.Header) -> str:
 
 
 class Changes:
-    """What is otherwise in the second of two images."""
+    """The differences between two images."""
 
     def __init__(self, first: Map, second: Map) -> None:
         self.first, self.second = first, second
@@ -88,7 +88,7 @@ class Changes:
         return self.first.image.memory.span(one.begins, size) != self.second.image.memory.span(one.begins, size)
 
     def cells(self) -> List[Tuple[str, int, int]]:
-        """The system's cells that hold another value: name, before, behind."""
+        """The system cells whose values differ: the name, the value before and the value after."""
         old, new = self.first.image.memory, self.second.image.memory
         names = dict(images.CELLS)
         names.update({42 + 2 * number: f"FORTH-VOC, chain {number}" for number in range(4)})

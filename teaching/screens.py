@@ -1,4 +1,4 @@
-"""Screens of a block file as lines, by `forth83 text`."""
+"""Screens of a block file as lines, as `forth83 text` prints them."""
 import pathlib
 import re
 from typing import List

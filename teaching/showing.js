@@ -98,7 +98,7 @@ function showNext(number) {
   box.replaceChildren(...parts);
 }
 
-// A stack as cells, the top first; those that weren't there at the step before are new.
+// A stack as cells, the top first; those that the step before did not have are new.
 function showStack(place, cells, before, labels, lowest) {
   const list = document.querySelector(`#${place} ol`), made = [], first = Math.max(0, cells.length - MOST_CELLS, part("system").checked ? 0 : lowest);
   let same = 0;
@@ -198,7 +198,7 @@ function showLine(frame) {
   part("line").replaceChildren(source.slice(0, from), element("b", source.slice(from, to)), source.slice(to));
 }
 
-// The step as a sentence, for who hears the page.
+// The step as a sentence, for screen readers.
 function say(number, data) {
   const step = steps[number], next = step[0] < 0 ? `The end. ${endings.get(step[1]) || ""}` : `Next: ${described(number).name}.`;
   const cells = data.length ? data.slice(-8).reverse().map(cell).join(", ") : "empty";

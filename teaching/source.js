@@ -18,7 +18,7 @@ function wordFrom(text, at) {
   return found && { word: found[0].toUpperCase(), from: at + found.index, to: at + found.index + found[0].length };
 }
 
-// Where the last definition of a name begins in a text, and the place after the name; null where there is none.
+// Where the last definition of a name begins in a text, and the place after the name; null if there is none.
 function headOf(text, name) {
   let head = null;
   for (let at = 0, one; (one = wordFrom(text, at)); at = one.to) {
@@ -28,7 +28,7 @@ function headOf(text, name) {
   return head;
 }
 
-// A definition: its text, and its words with their places in that, without comments; null where the text doesn't have all of it.
+// A definition: its text, and its words with their places in that, without comments; null if the text does not have all of it.
 export function definitionOf(text, name) {
   const head = headOf(text, name), words = [];
   if (!head) return null;
@@ -68,7 +68,7 @@ function matched(words, thread, own) {
 }
 
 // For each address of a thread the number of the source's word that was compiled to it. Tokens that no word fits belong to a word that
-// compiles several. Null where a word that compiles itself isn't in the thread: the source has changed since.
+// compiles several. Null if a word that compiles itself is not in the thread: then the source has changed since.
 export function placesIn({ words }, thread, own, isPlain) {
   const found = matched(words, thread, own), tokens = new Map([...found].map(([word, token]) => [token, word])), places = new Map();
   if (words.some(({ word }, at) => !found.has(at) && isPlain(word))) return null;

@@ -35,20 +35,20 @@ def making(film: filming.Film, taken: argparse.Namespace, version: str, name: st
     if not film.is_whole:
         return [ALONE.format(version=version, name=name)]
     count = len(film.exact) + len(film.others)
-    told = [WHOLE.format(version=version, exact=len(film.exact), all=count, name=name)]
+    said = [WHOLE.format(version=version, exact=len(film.exact), all=count, name=name)]
     if film.others:
-        told.append(OTHERS.format(names=", ".join(texts.shown(word.name) for word in film.others)))
+        said.append(OTHERS.format(names=", ".join(texts.shown(word.name) for word in film.others)))
     unknown = [texts.shown(word.header.name) for word in film.cells.unknown()]
     if unknown:
-        told.append(UNFOLLOWED.format(names=", ".join(unknown), has="has" if len(unknown) == 1 else "have"))
-    return told + [COUNTED if film.marks else UNCOUNTED, BESIDE]
+        said.append(UNFOLLOWED.format(names=", ".join(unknown), has="has" if len(unknown) == 1 else "have"))
+    return said + [COUNTED if film.marks else UNCOUNTED, BESIDE]
 
 
 def cuts(film: filming.Film, taken: argparse.Namespace) -> List[str]:
     """What isn't in it."""
-    told = []
+    said = []
     if film.calls.met > taken.steps:
-        told.append(f"The film was cut: it has the first {taken.steps:,} of {film.calls.met:,} steps; --steps N takes more.")
+        said.append(f"The film was cut: it has the first {taken.steps:,} of {film.calls.met:,} steps; --steps N takes more.")
     if film.status == 4:
-        told.append(f"The run was cut at {taken.limit:,} ticks; --limit TICKS takes more.")
-    return told
+        said.append(f"The run was cut at {taken.limit:,} ticks; --limit TICKS takes more.")
+    return said

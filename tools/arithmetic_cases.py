@@ -51,7 +51,7 @@ def unsigned_division(n: int, m: int) -> Optional[Tuple[int, int]]:
 
 
 def loop_goes_on(index: int, limit: int, step: int) -> Optional[int]:
-    """The new index, or None where the walk from `index` by `step` crosses between limit - 1 and limit."""
+    """The new index, or None if the walk from `index` by `step` crosses between limit - 1 and limit."""
     direction = 1 if step > 0 else -1
     for _ in range(abs(step)):
         following = wrap(index + direction, 16)
@@ -71,7 +71,7 @@ def halves(d: int) -> Tuple[int, int]:
 
 
 def leaves(number: int, name: str, given: str, left: Optional[Union[int, str]]) -> str:
-    """The line of a row that takes `given` and leaves `left`, or is fault 5 where that is None."""
+    """The line of a row that takes `given` and leaves `left`, or is fault 5 if that is None."""
     if left is None:
         return f"{number} {name} ( {given} -- same ) fault 5"
     return f"{number} {name} ( {given} -- {left} )"

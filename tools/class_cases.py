@@ -187,7 +187,7 @@ def check_forms(tree: teaching_runs.Tree, room: pathlib.Path) -> None:
 
 
 def check_course_options(tree: teaching_runs.Tree) -> None:
-    """One lesson's hints and solutions at a time, the course's text, and pages of the lessons; what is not there is refused."""
+    """One lesson's hints and solutions at a time, the course's text, and pages of the lessons; names of no lesson are refused."""
     status, said = tree.tool("course", "--solutions", "3")
     tree.cases.same("the solutions of lesson 3", (0, solved()[23]), (status, said.splitlines()))
     status, said = tree.tool("course", "--hints", "7")

@@ -63,7 +63,7 @@ class Terminal:
         os.write(self.screen, line.encode() + b"\r")
         shown = self.read(lambda so_far: so_far.endswith(DONE))
         text = ESCAPES.sub(b"", shown).decode("utf-8", "replace").replace("\r\n", "\n").replace("\r", "")
-        return sessions.behind(text.partition(line)[2])
+        return sessions.answer_in(text.partition(line)[2])
 
     def leave(self) -> None:
         """BYE."""

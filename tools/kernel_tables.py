@@ -1,4 +1,4 @@
-"""The primitives of docs/primitives.txt, and their rows in the tables of docs/MACHINE.md and docs/WORDS.md."""
+"""The primitives of docs/primitives.txt, and their rows in the tables of docs/WORDS.md."""
 import re
 from typing import Dict, List, NamedTuple, Tuple
 
@@ -32,19 +32,13 @@ def primitive_of(line: str) -> Primitive:
 
 
 def primitives_of(text: str) -> List[Primitive]:
-    """The primitives of the list, in its order; a line that begins with `# ` is a remark."""
-    return [primitive_of(line) for line in text.splitlines() if line and not line.startswith("# ")]
+    """The primitives of the list, in its order; a line that begins with `#` is a remark."""
+    return [primitive_of(line) for line in text.splitlines() if line and not line.startswith("#")]
 
 
 def raised(faults: str) -> str:
     """The faults without what a word asks for."""
     return ", ".join(it for it in faults.split(", ") if it != "asks")
-
-
-def machine_row(it: Primitive) -> str:
-    """The primitive's row in MACHINE.md."""
-    immediate = " (i)" if it.is_immediate else ""
-    return f"| {it.number} | `{it.word}`{immediate} | `{it.effect}` | {it.faults} | {it.sentence} |"
 
 
 def words_row(it: Primitive) -> str:
@@ -54,36 +48,28 @@ def words_row(it: Primitive) -> str:
     return f"| `{it.word}` | `{it.effect}` | {'yes' if it.is_immediate else ''} | {it.sentence}{after} |"
 
 
-class Table(NamedTuple):
-    """Where a page has its rows: the headings around them, and how a row names its primitive."""
-    page: str
-    begins: str
-    ends: str
-    pattern: "re.Pattern[str]"
+# The page, the headings between which it has the rows, and how a row names its primitive.
+PAGE = "docs/WORDS.md"
+BEGINS = "## The kernel"
+ENDS = "### 13. "
+ROW = re.compile(r"\| `([^ `]+)` \| `")
 
 
-MACHINE = Table("docs/MACHINE.md", "## The primitives", "\x00", re.compile(r"\| (\d+) \| `[^`]+`(?: \(i\))? \| "))
-WORDS = Table("docs/WORDS.md", "## The kernel", "### 13. ", re.compile(r"\| `([^ `]+)` \| `"))
-
-
-def replaced(text: str, table: Table, rows: Dict[str, str]) -> Tuple[str, List[str]]:
-    """The page with these rows in place of those that name the same primitives, and the rows that it lacks or has besides."""
+def replaced(text: str, rows: Dict[str, str]) -> Tuple[str, List[str]]:
+    """The page with these rows in place of those that name the same primitives, and the rows that it lacks or has too many."""
     out: List[str] = []
     left = dict(rows)
     strange: List[str] = []
     inside = False
     for line in text.split("\n"):
-        inside = (inside or line.startswith(table.begins)) and not line.startswith(table.ends)
-        found = table.pattern.match(line) if inside else None
+        inside = (inside or line.startswith(BEGINS)) and not line.startswith(ENDS)
+        found = ROW.match(line) if inside else None
         if found and found[1] not in left:
-            strange.append(f"{table.page}: a row of {found[1]}, which the list doesn't have, or a second one")
+            strange.append(f"{PAGE}: a row of {found[1]}, which the list does not have, or a second one")
         out.append(left.pop(found[1], line) if found else line)
-    return "\n".join(out), strange + [f"{table.page}: no row of {name}" for name in left]
+    return "\n".join(out), strange + [f"{PAGE}: no row of {name}" for name in left]
 
 
-def pages(listed: List[Primitive], machine: str, words: str) -> Tuple[Dict[str, str], List[str]]:
-    """Both pages with the rows of the list, by their names; and what is wrong with them."""
-    new_machine, first = replaced(machine, MACHINE, {str(it.number): machine_row(it) for it in listed})
-    named = [it for it in listed if it.number not in UNNAMED]
-    new_words, second = replaced(words, WORDS, {it.word: words_row(it) for it in named})
-    return {MACHINE.page: new_machine, WORDS.page: new_words}, first + second
+def page(listed: List[Primitive], words: str) -> Tuple[str, List[str]]:
+    """The page with the rows of the list; and what is wrong with it."""
+    return replaced(words, {it.word: words_row(it) for it in listed if it.number not in UNNAMED})

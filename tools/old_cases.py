@@ -21,7 +21,7 @@ class Step:
         self.typed = typed
         self.answers: List[str] = []
         self.shown: Optional[str] = None
-        self.told: Optional[str] = None
+        self.printed: Optional[str] = None
 
     def lines(self) -> str:
         return "".join(f"{line}\n" for line in [self.typed, *self.answers])
@@ -31,8 +31,8 @@ class Step:
         got = " ".join(output.split())
         for answer in self.answers:
             got = (got[len(answer):] if got.startswith(answer) else got).strip()
-        if self.told is not None:
-            return None if " ".join(self.told.split()) in got else f"wanted .. {self.told} ..\n  got    {got:.300}"
+        if self.printed is not None:
+            return None if " ".join(self.printed.split()) in got else f"wanted .. {self.printed} ..\n  got    {got:.300}"
         wanted = f"{self.shown} ok" if self.shown else "ok"
         return None if self.shown is None and got.endswith("ok") or got == wanted else f"wanted {wanted}\n  got    {got:.300}"
 
@@ -60,7 +60,7 @@ class Case:
         elif sign == "<":
             self.steps[-1].shown = rest
         elif sign == "!":
-            self.steps[-1].told = rest
+            self.steps[-1].printed = rest
         else:
             raise ValueError(f"{CASES.name}: {line}")
 
@@ -74,7 +74,7 @@ class Case:
 
     def is_whole(self) -> bool:
         """Whether it has a reason, and something that must be shown."""
-        return bool(self.reason) and any(step.shown is not None or step.told is not None for step in self.steps)
+        return bool(self.reason) and any(step.shown is not None or step.printed is not None for step in self.steps)
 
 
 def read_cases(text: str) -> List[Case]:

@@ -141,7 +141,7 @@ console.log(JSON.stringify(JSON.parse(readFileSync(0)).map(answer)));
 
 
 def in_node(script: str, given: str = "") -> object:
-    """What a script with the page's modules prints in node, as JSON; or its errors. None where there is no node."""
+    """What a script with the page's modules prints in node, as JSON; or its errors. None if node is not installed."""
     node = shutil.which("node")
     if not node:
         return None

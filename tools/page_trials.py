@@ -146,7 +146,7 @@ def stops(trial: Trial) -> None:
 
 
 def undo(trial: Trial) -> None:
-    """Undo gives back what a line has forgotten, or overwritten, even where BREAK is gone."""
+    """Undo gives back what a line has forgotten, or overwritten, even if BREAK is gone."""
     trial.type("FORGET squares 99")
     trial.click("undo")
     trial.must("0 1 4  ok" in trial.type("3 squares"), "Undo of FORGET")
@@ -545,7 +545,7 @@ def widths(trial: Trial) -> None:
 
 
 def names(trial: Trial) -> None:
-    """Each control has a name for screen readers, and the keyboard alone reaches it."""
+    """Each control has a name for screen readers, and can be reached with the keyboard alone."""
     trial.browser.call("Accessibility.enable")
     trial.value("document.querySelectorAll('details').forEach((one) => (one.open = true))")
     for tab in TABS:
@@ -595,7 +595,7 @@ def prints(trial: Trial) -> None:
 
 
 def undo_of_edit(trial: Trial) -> None:
-    """Undo takes back an edit alone, and then the line before it."""
+    """Undo takes back first only the edit, then the line before it."""
     trial.type("SCLEAR")
     trial.value("page.tab('screens'); page.editor.go(33)")
     trial.type("4 5")

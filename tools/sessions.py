@@ -1,12 +1,13 @@
-"""Runs the sessions of a page by the built program, and says where one shows another thing than the page says.
+"""Runs the sessions of a page with the built program, and reports where the program shows something else than the page.
 
-They are between lines of three backquotes, and are done one after another in a folder of their own, as `tools/lay-built`
-makes it of the program.
+Sessions are between lines of three backquotes. They run one after another in a folder of their own, which `tools/lay-built`
+makes of the program.
 
-- A line after `$` is done by the shell. `$ ./forth [BLOCKS]` starts the Forth with the workbench's tools.
+- A line after `$` is run by the shell. `$ ./forth [BLOCKS]` starts the Forth with the workbench's tools.
 - A line after `>` is typed there. One after `>>` is typed, too, as the answer to a question; after `>>>` are keys
   without a return.
-- What is shown is below. Places that are given to a terminal (`ESC [`) and blanks at line ends are left out.
+- What is shown is below. If nothing is below a line after `>`, the Forth must answer ok, and nothing else; only BYE shows nothing.
+  Control sequences of a terminal (`ESC [`) and blanks at line ends are left out.
 """
 import pathlib
 import re
@@ -38,11 +39,14 @@ def steps_of(text: str) -> List[Step]:
                 steps[-1].answers += rest + ("\n" if sign == ">>" else "")
             else:
                 steps[-1].shown.append(line)
+    for step in steps:
+        if not (step.shown or step.at_shell or step.typed == "BYE"):
+            step.shown = ["ok"]
     return steps
 
 
-def behind(text: str) -> List[str]:
-    """The lines that are shown after what was typed, without the blanks that part them from it."""
+def answer_in(text: str) -> List[str]:
+    """The lines that are shown after what was typed, without the blanks that separate them from it."""
     first, *rest = [line.rstrip() for line in (text[:-1] if text.endswith("\n") else text).split("\n")]
     return [first.lstrip(), *rest] if first else rest
 
@@ -54,13 +58,13 @@ def parted(steps: List[Step], output: str) -> List[List[str]]:
         at += len(step.typed)
         end = output.find(f"\n{following.typed} ", at) if following else len(output)
         end = len(output) if end < 0 else end
-        shown.append(behind(output[at:end]))
+        shown.append(answer_in(output[at:end]))
         at = end + 1
     return shown
 
 
 class Folder:
-    """Where the sessions are done."""
+    """The folder in which the sessions run."""
 
     def __init__(self, room: str, program: pathlib.Path) -> None:
         self.room = room
@@ -90,10 +94,10 @@ def differs(page: str, step: Step, got: List[str]) -> int:
 
 
 def check(page: str, program: str, at_least: int) -> int:
-    """Returns 1 where a session differs, or where the page has fewer lines to type than that."""
+    """Returns 1 if a session differs, or if the page has fewer lines to type than that."""
     steps, wrong = steps_of((ROOT / page).read_text(encoding="utf-8")), 0
     if len(steps) < at_least or not steps[0].at_shell:
-        print(f"{page}: {len(steps)} lines to type were found, the first of them at no shell", file=sys.stderr)
+        print(f"{page}: {len(steps)} lines to type were found, and the first of them is not the shell's", file=sys.stderr)
         return 1
     with tempfile.TemporaryDirectory() as room:
         folder = Folder(room, pathlib.Path(program).resolve())

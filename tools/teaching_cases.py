@@ -165,7 +165,7 @@ def check_made_words(cases: Cases) -> None:
 
 
 def data_word() -> images.Memory:
-    """The memory of hand_made, where TWICE is a variable of four bytes at 289, of a screen."""
+    """The memory of hand_made, in which TWICE is a variable of a screen, with four bytes at 289."""
     memory = hand_made()
     for address, value in ((287, images.VARIABLE), (54, 277), (289, 0), (291, 0)):
         memory.set_cell(address, value)
@@ -229,7 +229,7 @@ def check_references(cases: Cases) -> None:
     read.lines[3] = [': ." ( -- ) 34 WORD HI ; IMMEDIATE', 'VARIABLE X : Y [COMPILE] ." X ;', ': Z ." X" ;']
     found = references.References(read, [3])
     defined = {'."': [(3, 0)], "X": [(3, 1)], "Y": [(3, 1)], "Z": [(3, 2)]}
-    cases.same("defined, where a word of texts is one of them", defined, found.defined)
+    cases.same("words that are defined, if the program also redefines a word that takes a text", defined, found.defined)
     cases.same("where X is used", [(3, 1)], found.uses("X"))
 
 

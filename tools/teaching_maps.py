@@ -44,7 +44,7 @@ def check_width(tree: teaching_runs.Tree, one: browsers.Browser, name: str, narr
 
 
 def check_order(tree: teaching_runs.Tree, one: browsers.Browser) -> None:
-    """The words of the screens come before EXIT, which is the Forth's first; and on paper they are alone."""
+    """The words of the screens come before EXIT, which is the Forth's first; and only they are printed."""
     top = "[...document.querySelectorAll('.wide .word')].find((one) => one.firstChild.textContent.startsWith('%s,')).getBoundingClientRect().top"
     one.size(1366, 800)
     one.open(tree.room / "map1-own.svg")

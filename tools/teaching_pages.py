@@ -1,4 +1,4 @@
-"""Films, maps and pages of screens in a browser: by keys alone, on wide and on narrow windows."""
+"""Films, maps and pages of screens in a browser: with the keyboard alone, in wide and in narrow windows."""
 import browser
 import teaching_runs
 
@@ -139,14 +139,14 @@ def check_paper(tree: teaching_runs.Tree, one: browser.Browser) -> None:
 
 def check_map(tree: teaching_runs.Tree, one: browser.Browser) -> None:
     """A map by keys: the newest word, the one before it in its chain."""
-    about = 'document.activeElement.dataset.told'
+    about = 'document.activeElement.dataset.about'
     for name, newest, before in (("map1-kernel.svg", "COLD", "?"), ("map2-two.svg", "SECOND", "COLD")):
         for width in (360, 1300):
             one.size(width, 800)
             one.open(tree.room / name)
             one.press("Home", "End")
             tree.cases.same(f"the newest word of {name}", newest, one.value(about).split(",")[0])
-            box = (f'document.querySelector(".{"narrow" if width < 1000 else "wide"} .tell rect").getBoundingClientRect()')
+            box = (f'document.querySelector(".{"narrow" if width < 1000 else "wide"} .about rect").getBoundingClientRect()')
             tree.cases.same(f"whether the text about it fits in {width} columns, in {name}", True,
                             one.value(f"{box}.left >= 0 && {box}.right <= innerWidth"))
             one.press("Enter")

@@ -119,7 +119,7 @@ def trace_of(tree: Tree, name: str, line: str) -> List[Tuple[int, str, Tuple[int
 
 
 def check_traces(tree: Tree) -> None:
-    """The steps of a film are those that `debug` writes for each of its words alone."""
+    """The steps of a film are those that `debug` writes for each of its words."""
     data, _, _ = tree.film("SQUARES", "5 SQUARES")
     steps = expanded(data)
     for name in ("SQUARES", "SQUARE", ".", "SPACE"):
@@ -201,7 +201,7 @@ def check_ends(tree: Tree) -> None:
 
 
 def check_made(tree: Tree) -> None:
-    """A word that DOES> made: its own calls alone, among others of the same maker. CM multiplies by 10, MM by 3."""
+    """A word that DOES> made: only its own calls are filmed, not those of others of the same maker. CM multiplies by 10, MM by 3."""
     data, _, _ = tree.film("CM", "3 UNIT MM 7 CM 5 MM 2 CM")
     tree.cases.same("the film's name", "CM", data["name"])
     tree.cases.same("the calls of CM", ["CM", "CM"], [frame[5] for frame in data["frames"]])
@@ -239,7 +239,7 @@ def check_memory(tree: Tree) -> None:
 
 
 def check_doubts(tree: Tree) -> None:
-    """A program that sees the changed cell of the copy gets a film of its own lines alone, and its output is not shown with the steps."""
+    """A program that sees the changed cell of the copy gets a film of only its own lines, and its output is not shown with the steps."""
     data, page, _ = tree.film("PEEKS", "PEEKS")
     tree.cases.same("steps of a word that sees it", trace_of(tree, "PEEKS", "PEEKS"), [step[:4] for step in expanded(data)])
     tree.cases.same("its output", False, data["is_laid"])
@@ -324,9 +324,9 @@ REFUSALS = (
     (2, "usage", "film"),
     (1, "UNIT is defined in screen 21: try --screens 21 22", "film TALL"),
     (2, "put a LINE with spaces in quotes", "film SQUARES 5 SQUARES"),
-    (2, "FROM isn't above TO", "film SQUARES --screens 22 21"),
+    (2, "FROM must be 0 or more, and not above TO", "film SQUARES --screens 22 21"),
     (2, "usage", "film SQUARES --trace x"),
-    (2, "at least 1", "film SQUARES --steps 0"),
+    (2, "must be 1 or more", "film SQUARES --steps 0"),
     (1, "cut.img cannot be drawn: it ends too soon (Truncated)", "map cut.img"),
     (1, "forth.blk cannot be drawn: it does not begin like an image", "map forth.blk"),
     (1, "cannot read gone.img", "map gone.img"),
@@ -336,7 +336,7 @@ REFUSALS = (
     (1, "gone.blk does not exist", "print gone.blk"),
     (1, "has screens 0 to 63", "print forth.blk 3 99"),
     (1, "notes.html already exists and is not a page of screens", "print forth.blk -o notes.html"),
-    (2, "two numbers", "print forth.blk 3"),
+    (2, "give both FROM and TO", "print forth.blk 3"),
 )
 
 
@@ -407,7 +407,7 @@ def check_maps(tree: Tree) -> None:
 def check_letters(tree: Tree, drawn: xml.etree.ElementTree.Element) -> None:
     """SQUARE of the map: the letters of DUP are three columns apart at 13, on the row of its address."""
     for word in drawn.iter(f"{SVG}g"):
-        if word.get("class") == "word" and word.get("data-told", "").startswith("SPACES, colon word"):
+        if word.get("class") == "word" and word.get("data-about", "").startswith("SPACES, colon word"):
             letters = [(one.text, float(one.get("x"))) for one in word.iter(f"{SVG}text")]
             tree.cases.same("the letters of SPACES", ["S", "P", "A", "C", "E", "S"], [letter for letter, _ in letters])
             tree.cases.same("their columns", [13.0] * 5, [b - a for (_, a), (_, b) in zip(letters, letters[1:])])
@@ -561,7 +561,7 @@ def check_chosen(tree: Tree) -> None:
 def check_course(tree: Tree) -> None:
     """Each solution is right; each blank screen and each wrong answer is reported; what is typed after that is shown."""
     for number in range(1, 15):
-        blank = "leaves nothing" if number == 1 else "isn't there yet"
+        blank = "leaves nothing" if number == 1 else "is not defined yet"
         tree.cases.holds(f"lesson {number}, blank", blank, answered(tree, number))
         solved = answered(tree, number, str(ROOT / "teaching/solutions.txt"))
         tree.cases.holds(f"lesson {number}, solved", f"Lesson {number} is right.", solved)

@@ -141,6 +141,8 @@ class Sessions(unittest.TestCase):
             ("./forth", True, "", []), ("1 .", False, "", ["1  ok"]), ("KEY", False, "xa line\n", ["shown"])])
 
     def test_the_output_is_divided_at_what_was_typed(self) -> None:
+        steps = sessions.steps_of("```\n> 1 .\n> 2 .\n> BYE\n$ ls\n```\n")
+        self.assertEqual([it.shown for it in steps], [["ok"], ["ok"], [], []])
         steps = sessions.steps_of("```\n> 1 .\n> 2 .\n```\n")
         self.assertEqual(sessions.parted(steps, "1 . 1  ok\n2 . 2  ok\n"), [["1  ok"], ["2  ok"]])
 

@@ -1,4 +1,4 @@
-"""The terminal host: the one process that owns the terminal during a session, with the Forth behind pipes.
+"""The terminal host: the one process that owns the terminal during a session, with the Forth at the other end of pipes.
 
 `program.py` has the protocol between the host and the Forth; `host.py` joins the parts:
 

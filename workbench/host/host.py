@@ -396,7 +396,7 @@ class Host:
             self._refusal = ""
 
     def _resized(self) -> None:
-        """The window got another size: EDIT draws its frame again, and a line that is typed is shown anew."""
+        """The window got another size: EDIT draws its frame again, and a line that is typed is shown again."""
         if not self._frame.is_shown:
             self._resizing.is_due = self._resizing.is_line
             if not self._resizing.is_due:
@@ -409,7 +409,7 @@ class Host:
             self._type(REDRAW)
 
     def _show_anew(self) -> None:
-        """Tells a Forth that reads a line, and has no keys to read, that the window got another size."""
+        """Lets a Forth that reads a line, and has no keys to read, know that the window got another size."""
         is_busy = self._interruption.is_open() or self._interruption.is_stale()
         is_free = not self._typed and not self._program.unread() and not is_busy
         if self._resizing.is_line and is_free and not self._resizing.is_open() and self._ending is None:
@@ -425,7 +425,7 @@ class Host:
             self._terminal.show(b"\x1b[%d;1H\x1b7" % row)
         self._answer(answer(b"." if row is None else b"="))
 
-    # Signals, and the keys that stand for them.
+    # Signals, and the keys for them.
 
     def _obey(self, numbers: list[int]) -> None:
         for number in numbers:

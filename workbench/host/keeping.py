@@ -58,7 +58,7 @@ def create_beside(name: str) -> tuple[str, int] | None:
 
 
 def write_all(descriptor: int, content: bytes) -> bool:
-    """Writes the content to the disk, and closes the file; whether it is there now."""
+    """Writes the content to the disk, and closes the file; whether that worked."""
     try:
         with open(descriptor, "wb") as file:
             file.write(content)
@@ -85,7 +85,7 @@ def keep_file(name: str, content: bytes) -> str | None:
 
 
 class Blocks:
-    """The block file, held open from the session's start: it is found again where another file takes its name meanwhile."""
+    """The block file, held open from the session's start: so it can still be read if another file takes its name meanwhile."""
 
     def __init__(self, name: str) -> None:
         self.name = name

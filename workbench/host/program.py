@@ -1,4 +1,4 @@
-"""The Forth of a session, behind its pipes.
+"""The Forth of a session, at the other end of its pipes.
 
 The Forth is started as `forth83 run --save --break FILE -- IMAGE BLOCKS`. It reads keys from a named pipe and writes its output
 into a pipe. FILE is how the host and the Forth speak with each other besides; this is the whole protocol:
@@ -8,7 +8,7 @@ into a pipe. FILE is how the host and the Forth speak with each other besides; t
   withdraw the request by removing FILE itself: exactly one of the two removals succeeds.
 - FILE contains `end` (written as FILE.new and renamed): the Forth is to stop at the end of its slice, with status 6.
 - The Forth writes FILE when it ends by anything but BYE, the end of its input, or a stream that failed, or if it could not write
-  the block file then, since its changed screens are not there: `kept`, for each changed screen its number (two bytes, the low
+  the block file then, since it lacks the changed screens: `kept`, for each changed screen its number (two bytes, the low
   one first) and its 1,024 bytes, and `done`. A file without that end was cut off.
 - At BYE and at the end of its input the Forth writes its changed screens into the block file.
 """

@@ -13,7 +13,7 @@ TRIES = 20
 
 
 def open_terminal() -> int:
-    """Opens the terminal anew, so that making it non-blocking does not affect the shell, which shares descriptor 0."""
+    """Opens the terminal a second time, so that making it non-blocking does not affect the shell, which shares descriptor 0."""
     flags = os.O_RDWR | os.O_NOCTTY | os.O_NONBLOCK
     try:
         return os.open(os.ttyname(0), flags)
@@ -83,7 +83,7 @@ class Terminal:
         return (columns, rows) if columns and rows else None
 
     def read(self) -> bytes | None:
-        """Some keys, b"" if none are there, or None if the terminal is gone."""
+        """Some keys, b"" if there are none, or None if the terminal is gone."""
         try:
             keys = os.read(self.keyboard, READ_AT_ONCE)
         except BlockingIOError:

@@ -1,6 +1,6 @@
-"""Where a typed line begins after the window got another size, so that it can be shown anew there.
+"""Where a typed line begins after the window got another size, so that it can be shown again there.
 
-Most terminals break the text on them into rows of the new width then; some cut the rows off instead. Where the cursor is now tells
+Most terminals break the text on them into rows of the new width then; some cut the rows off instead. Where the cursor is now shows
 which: the terminal reports that when it is asked.
 """
 from __future__ import annotations
@@ -43,7 +43,7 @@ def beginning(before: bytes, report: tuple[int, int], width: int, old_width: int
 
 
 class Resizing:
-    """A window that got another size while a line was typed, until the line is shown anew."""
+    """A window that got another size while a line was typed, until the line is shown again."""
 
     def __init__(self) -> None:
         self.is_line = False  # whether the Forth reads a line that began at the left edge
