@@ -5,7 +5,7 @@
  * The word, where one is named, comes in place of the image's own first one: a test plan that ends by QUIT, say. Each line is
  * typed at the Forth, and what it shows goes to standard output. Block 1 is the instrument: reading it takes a measurement,
  * writing it sets the outputs. Other blocks, up to 15, are kept in memory. A line may take a million ticks; one that takes more is
- * broken off, and all is as it was before that line. */
+ * interrupted, and all is as it was before that line. */
 #include "forth83.h"
 
 #include <stdbool.h>
@@ -51,7 +51,7 @@ static void serve(forth83 *machine)
 {
     uint16_t block = machine->asked;
     if (block >= BLOCKS) {
-        must(forth83_failed(machine), "a block that isn't there");
+        must(forth83_failed(machine), "a block that does not exist");
     } else if (machine->asks == FORTH83_ASKS_READ) {
         if (block == INSTRUMENT)
             measure(blocks[block]);
@@ -85,7 +85,7 @@ static bool type(forth83 *machine, const uint8_t *line, size_t size)
         case FORTH83_STOP_TYPED:
             return true;
         case FORTH83_STOP_LIMIT:
-            printf("\n(broken off)\n");
+            printf("\n(interrupted)\n");
             memcpy(machine, &before, sizeof before);
             return true;
         default:

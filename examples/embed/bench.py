@@ -106,7 +106,7 @@ class Bench:
                 self.serve()
             elif end.stop == LIMIT:
                 ctypes.memmove(ctypes.byref(self.machine), before, len(before))
-                return output + b"\n(broken off)\n", True
+                return output + b"\n(interrupted)\n", True
             elif end.stop != SHORT:
                 return output, end.stop == TYPED
 

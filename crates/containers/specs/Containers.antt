@@ -48,7 +48,7 @@ pub record IsRead (l : Layout) (container screens : List ℕ) : Type 0 where
   pub size : length screens ≡ capacity l container
   pub bytes : (i : ℕ) → i < capacity l container → slice_index screens i ≡ slice_index container (place l i)
 
--- no byte of so many of the screens is there
+-- no place of the container has a byte of so many of the screens
 abbrev pub IsBeside : Layout → (count : ℕ) → (at : ℕ) → Type 0
 IsBeside l count at = (i : ℕ) → i < count → place l i ≢ at
 

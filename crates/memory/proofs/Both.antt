@@ -23,7 +23,7 @@ pub cell_both : (m n : List ℕ) (i x j : ℕ) → length m ≡ 65536 → length
 unfolding put_cell
 cell_both m n i x j l k g h = rw (wrap_small (i + 1) g) (byte_both (put_byte m i (x % 256)) (put_byte n i (x % 256)) (i + 1) (x / 256) j (length_byte m i (x % 256) ∙ l) (length_byte n i (x % 256) ∙ k) g (byte_both m n i (x % 256) j l k (omega arith) h))
 
--- what was written is there
+-- a place holds what was written to it
 pub laid_has : (m : List ℕ) (a i : ℕ) (bs : List ℕ) → length m ≡ 65536 → a + length bs < 65536 → i < length bs → byte (put_bytes m a bs) (a + i) ≡ slice_index bs i
 unfolding put_bytes
 laid_has m a i [] l g h = absurd (omega arith)

@@ -37,7 +37,7 @@ fn marked(alloc: Global, line: &[u8], column: usize) -> Result<String, AllocErro
 
 /// Says that a screen can't be shown.
 pub fn say_missing(rt: &HostRuntime, name: &str, number: u16) {
-    let _said = eprintln!(rt; "{name}: screen {number} isn't there, or can't be read");
+    let _said = eprintln!(rt; "{name}: screen {number} does not exist or cannot be read");
 }
 
 /// Says where a refusal is, and why it is, with that line of the screen.

@@ -67,7 +67,7 @@ pub record MayCome (b : Beginning) (before : State) (word : Token) (s : Whole) :
   pub room : FitsHere s (laid_by word)
   pub cells : length s.values ≤ 250
 
--- The body of a definition is written at a place: its bytes are there, up to HERE, and below it nothing has changed.
+-- The body of a definition is written at a place: its bytes are between that and HERE, and below it nothing has changed.
 pub record Bodied (before : List ℕ) (at : ℕ) (body : Definition) (m : List ℕ) : Type 0 where
   pub stands : Stands m at (all_code (runtime before) body at)
   pub here : cell m DP ≡ at + all_size body
