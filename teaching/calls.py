@@ -7,9 +7,9 @@ during the run, its code is not known: it counts as a call if the return stack g
 from typing import Optional, Tuple
 
 import images
+from rows import DOES, EXECUTE, EXIT, RCLEAR
 
 CALL, MAYBE, END, CLEAR, OTHER = "call", "maybe", "end", "clear", "other"
-EXIT, EXECUTE, DOES, RCLEAR = 5, 15, 18, 24
 RETURNED, FAULTED, LEFT, CUT = "returned", "faulted", "left", "cut"
 
 

@@ -7,6 +7,7 @@ import bisect
 from typing import Callable, Dict, Iterator, List, Optional
 
 import program
+from rows import COLON, CONSTANT, VARIABLE, VOCABULARY
 
 MAGIC = b"FTH83IMG"
 MEMORY = 65536
@@ -18,7 +19,6 @@ CELLS = {
     34: "CURRENT", 36: "HLD", 38: "SCR", 40: "FAULT", 52: "VOC-LINK", 54: "FENCE",
 }
 MOST_HEADERS = 32768
-COLON, VARIABLE, CONSTANT, VOCABULARY = 1, 2, 3, 4
 
 
 CAUSES = {

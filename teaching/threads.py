@@ -2,10 +2,10 @@
 from typing import List, Optional
 
 import images
+from rows import BRANCH, COMPILE, DO, EXIT, LITERAL, LOOP, PLUS_LOOP, REFUSAL, TEXT, ZERO_BRANCH
 
-LITERAL, TEXT, REFUSAL, COMPILE, EXIT = 6, 16, 17, 19, 5
-BRANCHES, DO = (7, 8, 9, 10, 11), 9
-LEADS_ON = (8, 9, 10, 11)
+LEADS_ON = (ZERO_BRANCH, DO, LOOP, PLUS_LOOP)
+BRANCHES = (BRANCH, *LEADS_ON)
 
 
 class Token:

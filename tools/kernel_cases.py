@@ -33,4 +33,7 @@ def wrong() -> List[str]:
     text, said = tables.replaced(PAGE, {"DUP": "| new |", "DROP": "| none |"})
     if text != PAGE.replace("| `DUP` | `( -- )` |  | Old. |", "| new |") or len(said) != 2:
         found.append("a page with a row too few and one too many")
+    listed = tables.primitives_of(f"{ROWS[0][0]}\n{ROWS[1][0]}\n")
+    if not tables.numbers(listed, {"COPY": "DUP", "END": ";"}).endswith('"""\n\nCOPY = 32  # DUP\nEND = 172  # ;\n'):
+        found.append("a file of numbers")
     return found

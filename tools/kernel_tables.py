@@ -70,6 +70,24 @@ def replaced(text: str, rows: Dict[str, str]) -> Tuple[str, List[str]]:
     return "\n".join(out), strange + [f"{PAGE}: no row of {name}" for name in left]
 
 
+# The primitives that films and maps know, by the names that they have there.
+FILE = "teaching/rows.py"
+NAMES: Dict[str, str] = {
+    "COLON": "colon", "VARIABLE": "variable", "CONSTANT": "constant", "VOCABULARY": "vocabulary", "EXIT": "EXIT", "LITERAL": "(LIT)",
+    "BRANCH": "BRANCH", "ZERO_BRANCH": "?BRANCH", "DO": "(DO)", "LOOP": "(LOOP)", "PLUS_LOOP": "(+LOOP)", "EXECUTE": "EXECUTE",
+    "TEXT": '(.")', "REFUSAL": '(ABORT")', "DOES": "(DOES>)", "COMPILE": "COMPILE", "RCLEAR": "RCLEAR", "FETCH": "@", "STORE": "!",
+    "BYTE_FETCH": "C@", "BYTE_STORE": "C!", "ADD": "+!", "FETCH2": "2@", "STORE2": "2!", "MOVE": "CMOVE", "MOVE_DOWN": "CMOVE>",
+    "FILL": "FILL", "COUNT": "COUNT", "KEY": "KEY", "EXPECT": "EXPECT", "EMIT": "EMIT", "TYPE": "TYPE", "PARSED": ".(",
+}
+
+
+def numbers(listed: List[Primitive], names: Dict[str, str]) -> str:
+    """The text of the file that gives these names the numbers of the list."""
+    by_word = {it.word: it.number for it in listed}
+    head = '"""The numbers of the primitives that films and maps know. tools/kernel-tables writes this file from docs/primitives.txt."""\n\n'
+    return head + "".join(f"{name} = {by_word[word]}  # {word}\n" for name, word in names.items())
+
+
 def page(listed: List[Primitive], words: str) -> Tuple[str, List[str]]:
     """The page with the rows of the list; and what is wrong with it."""
     return replaced(words, {it.word: words_row(it) for it in listed if it.number not in UNNAMED})

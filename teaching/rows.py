@@ -1,0 +1,35 @@
+"""The numbers of the primitives that films and maps know. tools/kernel-tables writes this file from docs/primitives.txt."""
+
+COLON = 1  # colon
+VARIABLE = 2  # variable
+CONSTANT = 3  # constant
+VOCABULARY = 4  # vocabulary
+EXIT = 5  # EXIT
+LITERAL = 6  # (LIT)
+BRANCH = 7  # BRANCH
+ZERO_BRANCH = 8  # ?BRANCH
+DO = 9  # (DO)
+LOOP = 10  # (LOOP)
+PLUS_LOOP = 11  # (+LOOP)
+EXECUTE = 15  # EXECUTE
+TEXT = 16  # (.")
+REFUSAL = 17  # (ABORT")
+DOES = 18  # (DOES>)
+COMPILE = 19  # COMPILE
+RCLEAR = 24  # RCLEAR
+FETCH = 96  # @
+STORE = 97  # !
+BYTE_FETCH = 98  # C@
+BYTE_STORE = 99  # C!
+ADD = 100  # +!
+FETCH2 = 101  # 2@
+STORE2 = 102  # 2!
+MOVE = 103  # CMOVE
+MOVE_DOWN = 104  # CMOVE>
+FILL = 105  # FILL
+COUNT = 106  # COUNT
+KEY = 118  # KEY
+EXPECT = 119  # EXPECT
+EMIT = 120  # EMIT
+TYPE = 121  # TYPE
+PARSED = 146  # .(
