@@ -5,7 +5,7 @@ ghost use Rattle.colon_bodies.specs.Tree.{Body};
 ghost use Rattle.colon_bodies.specs.Draft.{token};
 ghost use Rattle.colon_bodies.specs.Structures.{Frames, In, step, else_at, again_at, repeat_at, split, shut};
 ghost use Rattle.colon_bodies.specs.Instructions.{IQuery, IBranch, IDo, ILoop, IDoes};
-ghost use Rattle.see.specs.Seen.{Seen, frames_of, top_frame, beneath, start, begins_at, EndsHere};
+ghost use Rattle.see.specs.Seen.{Seen, Takes, TakesOne, frames_of, top_frame, beneath, start, begins_at, EndsHere};
 ghost use Rattle.see.specs.declared.structures.Frame.{Frame};
 
 use crate::places::count_begin;
@@ -35,10 +35,8 @@ pub fn take_query(
     to: usize,
 ) -> Result<bool, AllocError>
     requires { here + 4 < 2 ^ 64 }
-    ensures { (f g : Frames) (c d : Body) → Seen at f c here (map token words.old.items) begins.old frames.old.items →
-        here < at + length begins.old → step f c here (IQuery to) ≡ Some (In g d) →
-        IfOk result (λ ok. (ok ≡ true) × Seen at g d (here + 4)
-        (map token words.new.items) begins.new frames.new.items) }
+    ensures { here < at + length begins.old → TakesOne at here (IQuery to)
+        words.old.items begins.old frames.old.items result words.new.items begins.new frames.new.items }
 {
     if here < to {
         frames.push(Frame::If(words.len(), to, here + 4))?;
@@ -70,9 +68,8 @@ fn take_else(
     to: usize,
 ) -> Result<bool, AllocError>
     requires { here + 4 < 2 ^ 64 }
-    ensures { (at : ℕ) (begins : List ℕ) (f g : Frames) (c d : Body) →
-        Seen at f c here (map token words.old.items) begins frames.old.items → else_at f c to ≡ Some (In g d) →
-        IfOk result (λ ok. (ok ≡ true) × Seen at g d (here + 4) (map token words.new.items) begins frames.new.items) }
+    ensures { (at : ℕ) (begins : List ℕ) → Takes at here (here + 4) (λ f c. else_at f c to)
+        words.old.items begins frames.old.items result words.new.items begins frames.new.items }
 {
     match pop_frame(frames) {
         Some(Frame::If(_, _, _)) => {
@@ -94,10 +91,9 @@ fn take_again(
 ) -> Result<bool, AllocError>
     requires room { here + 4 < 2 ^ 64 }
     requires back { to ≤ here }
-    ensures { (f g : Frames) (c d : Body) (frames : List Frame) →
-        Seen at f c here (map token words.old.items) begins.old frames → here < at + length begins.old →
-        again_at f (split c (here - to)) ≡ Some (In g d) →
-        IfOk result (λ ok. (ok ≡ true) × Seen at g d (here + 4) (map token words.new.items) begins.new frames) }
+    ensures { (frames : List Frame) → here < at + length begins.old →
+        Takes at here (here + 4) (λ f c. again_at f (split c (here - to)))
+        words.old.items begins.old frames result words.new.items begins.new frames }
 {
     if !count_begin(begins, at, to) {
         return Ok(false);
@@ -144,9 +140,8 @@ pub fn take_do(
     here: usize,
 ) -> Result<bool, AllocError>
     requires { here + 4 < 2 ^ 64 }
-    ensures { (at to : ℕ) (begins : List ℕ) (f g : Frames) (c d : Body) →
-        Seen at f c here (map token words.old.items) begins frames.old.items → step f c here (IDo to) ≡ Some (In g d) →
-        IfOk result (λ ok. (ok ≡ true) × Seen at g d (here + 4) (map token words.new.items) begins frames.new.items) }
+    ensures { (at to : ℕ) (begins : List ℕ) → TakesOne at here (IDo to)
+        words.old.items begins frames.old.items result words.new.items begins frames.new.items }
 {
     frames.push(Frame::Do(here + 4))?;
     words.push(BodyWord::Do)?;
@@ -159,10 +154,8 @@ pub fn take_loop(
     frames: &mut Vec<Frame>,
     plus: bool,
 ) -> Result<bool, AllocError>
-    ensures { (at here to : ℕ) (begins : List ℕ) (f g : Frames) (c d : Body) →
-        Seen at f c here (map token words.old.items) begins frames.old.items →
-        step f c here (ILoop plus to) ≡ Some (In g d) →
-        IfOk result (λ ok. (ok ≡ true) × Seen at g d (here + 4) (map token words.new.items) begins frames.new.items) }
+    ensures { (at here to : ℕ) (begins : List ℕ) → TakesOne at here (ILoop plus to)
+        words.old.items begins frames.old.items result words.new.items begins frames.new.items }
 {
     match pop_frame(frames) {
         Some(Frame::Do(_)) => {
@@ -180,9 +173,8 @@ pub fn take_does(
     here: usize,
 ) -> Result<bool, AllocError>
     requires { here + 2 < 2 ^ 64 }
-    ensures { (at : ℕ) (begins : List ℕ) (f g : Frames) (c d : Body) →
-        Seen at f c here (map token words.old.items) begins frames.old.items → step f c here IDoes ≡ Some (In g d) →
-        IfOk result (λ ok. (ok ≡ true) × Seen at g d (here + 2) (map token words.new.items) begins frames.new.items) }
+    ensures { (at : ℕ) (begins : List ℕ) → TakesOne at here IDoes
+        words.old.items begins frames.old.items result words.new.items begins frames.new.items }
 {
     frames.push(Frame::Past(here + 2))?;
     words.push(BodyWord::Does)?;
@@ -226,10 +218,8 @@ pub fn take_branch(
     to: usize,
 ) -> Result<bool, AllocError>
     requires { here + 4 < 2 ^ 64 }
-    ensures { (f g : Frames) (c d : Body) → Seen at f c here (map token words.old.items) begins.old frames.old.items →
-        here < at + length begins.old → step f c here (IBranch to) ≡ Some (In g d) →
-        IfOk result (λ ok. (ok ≡ true) × Seen at g d (here + 4)
-        (map token words.new.items) begins.new frames.new.items) }
+    ensures { here < at + length begins.old → TakesOne at here (IBranch to)
+        words.old.items begins.old frames.old.items result words.new.items begins.new frames.new.items }
 {
     if here < to {
         return take_else(words, frames, here, to);
