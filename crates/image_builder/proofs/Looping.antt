@@ -75,9 +75,6 @@ pub nothing_built : {limit : ℕ} (b : Build) → b.image.items ≡ [] → b.nam
 nothing_built b i n r v w o l few =
     record { limit_is = l; limited = few; laid = i; named = ap newest_first n; runtime = no_runtime b.runtime.items r; all = ap length r ∙ length-zeros 256; current_is = v; record_is = w; boot_is = o }
 
-pub starts : {limit : ℕ} (b : Build) → Built limit b Nothing → IsBlank b.draft → IsRead limit b g.Whole []
-starts b h d = record { items = Nothing; words = []; stage = Whole; shows = tt; is = record { built = h; sound = tt; begun = refl; drafts = d }; front = refl }
-
 pub read_on : {limit : ℕ} (b new : Build) (x y : Begun) (done : List Place) (w : Place) (r : IsRead limit b x done) → Goes limit new y r.items r.words w → IsRead limit new y (done ++ w ∷ [])
 read_on b new x y done w r o =
     record {
