@@ -28,7 +28,6 @@ use Rattle.image_builder.specs.Grammar.{AreSound, IsLimit}
 use Rattle.colon_bodies.proofs.Cells.{length-cell}
 use Rattle.image_builder.proofs.Sound.{sound_end, end_above}
 use Rattle.image_builder.proofs.Imaging.{length-bytes}
-use Rattle.colon_bodies.specs.Draft.{IsBlank}
 use Rattle.image_builder.specs.State.{IsRead, Goes, TakenAt, all_cells}
 
 pub cells_more : (xs : List ℕ) (i d : ℕ) → i < length xs → all_cells (take (suc i) xs) ≡ all_cells (take i xs) ++ cell_bytes (get_or xs i d)

@@ -19,7 +19,7 @@ use Rattle.machine.specs.Answer as answering
 use Rattle.machine.specs.Answer.{Reply, asked_by, answered, answer_of, key_answered, line_answered, read_answered, write_answered}
 use Rattle.inner_interpreter.specs.Served.{Serves}
 use Rattle.inner_interpreter.specs.Runs.{served}
-use Rattle.metacompiler.specs.Rounds.{is_end, Stop, Ended, Limit, Fault, Halted, Asked, Out, out, is_ended, stop_by, went, by_answer, by_device, by_request, by_tick, rounds, entered, then_screens, screens}
+use Rattle.metacompiler.specs.Rounds.{is_end, Stop, Ended, Limit, Fault, Halted, Asked, Out, out, is_ended, stop_by, went, by_answer, by_device, by_request, by_tick, rounds, entered, then_screens}
 use Rattle.metacompiler.specs.Making.{continued, GoesOn, IsSettled, IsRound, StopsAt, IsSoFar, AreSoFar}
 
 -- what an event says of the state after a move

@@ -1,17 +1,15 @@
 -- The words of plain definitions.
-use Rattle.std.proofs.Common.{◌≡◌, ◌≢◌, Bool, true, false, ℕ, inl, inr, cond, List, [], ◌∷◌, ◌++◌, Some, None, refl, sym, ap, ◌∙◌, subst, arith, append_assoc}
+use Rattle.std.proofs.Common.{◌≡◌, true, false, ℕ, List, [], ◌∷◌, ◌++◌, refl, sym, ap, ◌∙◌, subst, append_assoc}
 use Rattle.colon_bodies.specs.declared.words.Half.{Half}
 use Rattle.colon_bodies.specs.declared.words.Half.TheVariants.{Free}
 use Rattle.colon_bodies.specs.Tokens.{Token, DOES, SEMI}
 use Rattle.colon_bodies.specs.Tree.{Body, Empty, Call, Tick, Pair, Literal, Double, Text, IfThen, IfElse, Until, Again, While, Loop, Definition, Simple, Doing, words, all_words}
 use Rattle.colon_bodies.specs.Rules.{half_after, half_of, AreKnown}
 use Rattle.colon_bodies.specs.Open.{Top}
-use Rattle.colon_bodies.specs.Plain.{IsPlainCell, IsPlainBody, IsPlainDefinition}
+use Rattle.colon_bodies.specs.Plain.{IsPlainBody, IsPlainDefinition}
 use Rattle.see.specs.PlainWords.{IsPlainWord, ArePlainWords}
-use Rattle.colon_bodies.specs.Found.{is_cell, pick, controls}
 use Rattle.std.specs.Prelude.{IsTrue}
 use Rattle.colon_bodies.proofs.Taking.{half-open, half-append}
-use Rattle.colon_bodies.proofs.Bytes.{is_true, not_picked, all_within}
 use Rattle.colon_bodies.proofs.Exact.{known_front}
 
 words_free : (t : Body) → half_of Free (words t) ≡ Free

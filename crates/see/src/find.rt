@@ -1,10 +1,9 @@
 //! The words of a thread.
 
 ghost use Rattle.std.specs.Prelude.{◌≡◌, ◌↔◌, IsTrue, ◌≤◌, ◌<◌, ◌^◌, ◌+◌, true, ℕ, List, ◌∷◌, [], ◌++◌, IfOk, IfSome, IsSome, length, map, Some, slice_index};
-ghost use Rattle.colon_bodies.specs.Tree.{Body, Definition, all_words};
+ghost use Rattle.colon_bodies.specs.Tree.{Definition, all_words};
 ghost use Rattle.colon_bodies.specs.Tokens.{SEMI};
 ghost use Rattle.colon_bodies.specs.Draft.{token};
-ghost use Rattle.colon_bodies.specs.Structures.{Frames, In, step};
 ghost use Rattle.colon_bodies.specs.Instructions.{ICall, INum, ICompile, IText, len};
 ghost use Rattle.colon_bodies.specs.Found.{found};
 ghost use Rattle.see.specs.Apart.{instr};

@@ -3,7 +3,7 @@
 ghost use Rattle.std.specs.Prelude.{◌≡◌, ◌↔◌, IsTrue, IsSome, OnOk, true, ◌≤◌, ◌<◌, ◌^◌, ◌+◌, ◌-◌, ℕ, List, IfOk, length, map, Some};
 ghost use Rattle.colon_bodies.specs.Tree.{Body};
 ghost use Rattle.colon_bodies.specs.Draft.{token};
-ghost use Rattle.colon_bodies.specs.Structures.{Frames, In, step, else_at, again_at, repeat_at, split, shut};
+ghost use Rattle.colon_bodies.specs.Structures.{Frames, In, else_at, again_at, repeat_at, split, shut};
 ghost use Rattle.colon_bodies.specs.Instructions.{IQuery, IBranch, IDo, ILoop, IDoes};
 ghost use Rattle.see.specs.Seen.{Seen, Takes, TakesOne, frames_of, top_frame, beneath, start, begins_at, EndsHere};
 ghost use Rattle.see.specs.declared.structures.Frame.{Frame};
@@ -12,17 +12,28 @@ use crate::places::count_begin;
 use colon_bodies::BodyWord;
 use std::alloc::AllocError;
 
-/// A structure that is open. An address is that of the byte where its innermost body begins, or of the one after its end.
+/// A structure that is open: the addresses at which its innermost body starts, and after its last byte.
 #[derive(Clone, Copy)]
 pub enum Frame {
-    /// What is after DOES>: where it begins.
-    Past(usize),
-    /// IF, or the WHILE of a loop: the index of its word, where it ends, and where its body begins.
-    If(usize, usize, usize),
-    /// ELSE: where it ends, and where its body begins.
-    Else(usize, usize),
-    /// DO: where its body begins.
-    Do(usize),
+    /// What is after DOES>.
+    Past {
+        start: usize,
+    },
+    /// IF, or the WHILE of a loop, with the index of its word.
+    If {
+        index: usize,
+        end: usize,
+        start: usize,
+    },
+    /// ELSE.
+    Else {
+        end: usize,
+        start: usize,
+    },
+    /// DO.
+    Do {
+        start: usize,
+    },
 }
 
 /// ?BRANCH: forward it is an IF, back an UNTIL.
@@ -39,7 +50,11 @@ pub fn take_query(
         words.old.items begins.old frames.old.items result words.new.items begins.new frames.new.items }
 {
     if here < to {
-        frames.push(Frame::If(words.len(), to, here + 4))?;
+        frames.push(Frame::If {
+            index: words.len(),
+            end: to,
+            start: here + 4,
+        })?;
         words.push(BodyWord::If)?;
         return Ok(true);
     }
@@ -72,8 +87,11 @@ fn take_else(
         words.old.items begins frames.old.items result words.new.items begins frames.new.items }
 {
     match pop_frame(frames) {
-        Some(Frame::If(_, _, _)) => {
-            frames.push(Frame::Else(to, here + 4))?;
+        Some(Frame::If { .. }) => {
+            frames.push(Frame::Else {
+                end: to,
+                start: here + 4,
+            })?;
             words.push(BodyWord::Else)?;
             Ok(true)
         }
@@ -118,7 +136,7 @@ fn take_repeat(
         (map token words.new.items) begins.new frames.new.items) }
 {
     match pop_frame(frames) {
-        Some(Frame::If(index, _, start)) => {
+        Some(Frame::If { index, start, .. }) => {
             if index >= words.len() {
                 return Ok(false);
             }
@@ -143,7 +161,7 @@ pub fn take_do(
     ensures { (at to : ℕ) (begins : List ℕ) → TakesOne at here (IDo to)
         words.old.items begins frames.old.items result words.new.items begins frames.new.items }
 {
-    frames.push(Frame::Do(here + 4))?;
+    frames.push(Frame::Do { start: here + 4 })?;
     words.push(BodyWord::Do)?;
     Ok(true)
 }
@@ -158,7 +176,7 @@ pub fn take_loop(
         words.old.items begins frames.old.items result words.new.items begins frames.new.items }
 {
     match pop_frame(frames) {
-        Some(Frame::Do(_)) => {
+        Some(Frame::Do { .. }) => {
             words.push(BodyWord::Loop(plus))?;
             Ok(true)
         }
@@ -176,7 +194,7 @@ pub fn take_does(
     ensures { (at : ℕ) (begins : List ℕ) → TakesOne at here IDoes
         words.old.items begins frames.old.items result words.new.items begins frames.new.items }
 {
-    frames.push(Frame::Past(here + 2))?;
+    frames.push(Frame::Past { start: here + 2 })?;
     words.push(BodyWord::Does)?;
     Ok(true)
 }
@@ -194,10 +212,10 @@ fn start_in(at: usize, top: Option<Frame>) -> usize
 {
     match top {
         None => at,
-        Some(Frame::Past(start)) => start,
-        Some(Frame::If(_, _, start)) => start,
-        Some(Frame::Else(_, start)) => start,
-        Some(Frame::Do(start)) => start,
+        Some(Frame::Past { start }) => start,
+        Some(Frame::If { start, .. }) => start,
+        Some(Frame::Else { start, .. }) => start,
+        Some(Frame::Do { start }) => start,
     }
 }
 
@@ -236,8 +254,8 @@ fn ends_here(frames: &Vec<Frame>, here: usize) -> bool
     ensures some { IsTrue result → 0 < length frames.now.items }
 {
     match frames.last() {
-        Some(Frame::If(_, to, _)) => *to <= here,
-        Some(Frame::Else(to, _)) => *to <= here,
+        Some(Frame::If { end, .. }) => *end <= here,
+        Some(Frame::Else { end, .. }) => *end <= here,
         _ => false,
     }
 }
