@@ -83,6 +83,20 @@ class Edits(unittest.TestCase):
         self.assertEqual(self.misfits("a\n", "file: src/lib.rt\nodd: a\n"), ["not a field: odd: a"])
 
 
+class Unnamed(unittest.TestCase):
+    def found(self, text: str) -> List[str]:
+        return command("tools/check-definitions").UNNAMED.findall(text)
+
+    def test_numbers_of_what_has_a_name(self) -> None:
+        for number in ("cell m 16", "put_cell (written m ws) 20", "PutCell 20", "control_code s.memory 8", "runtime m 18", "rt 5", "row 149",
+                       "creates t w name false 2", "fault s 7", "needs t 8", "cell m word == 1"):
+            self.assertEqual(self.found(f"x = {number} y"), [number])
+
+    def test_other_numbers(self) -> None:
+        for text in ("cell m (a + 2)", "cell m DP", "cell m STATE == 0", "cell m BASE ≡ 10", "put_cell m STATE 65535", "head_of t 16", "wrap (w + 2)"):
+            self.assertEqual(self.found(text), [])
+
+
 class Audit(unittest.TestCase):
     SOURCE = """pub fn free(x: u16) -> Option<u16>
     ensures done { x ≡ result }

@@ -14,6 +14,8 @@ use Rattle.colon_bodies.specs.Tokens.{Token, NAME, NUMBER, DOUBLE, TEXT, TICK, F
 use Rattle.colon_bodies.specs.Tree.{Body, Definition}
 use Rattle.colon_bodies.specs.Code.{size, thread}
 use Rattle.memory.specs.Bytes.{cell_bytes}
+use Rattle.memory.specs.Controls.{number_of}
+use Rattle.memory.specs.declared.controls.Control.{Control}
 use Rattle.colon_bodies.specs.Rules.{IsKnown, AreKnown}
 use Rattle.colon_bodies.specs.Faults.{FirstCause, IsGood}
 use Rattle.colon_bodies.specs.Open.{Outer, Top, Past, InIf, InElse, InBegin, InWhile, InDo, State, At, outer_size, open_code, open_words, open_depth, past, whole, read}
@@ -71,6 +73,14 @@ After rt at None (Ok u) image marks = ⊥
 After rt at None (Err e) image marks = e ≡ r.Unbalanced
 After rt at (Some (At o t h)) (Ok u) image marks = Drafted rt at o t h image marks
 After rt at (Some (At o t h)) (Err e) image marks = e ≡ r.Memory
+
+-- the runtime cell of a control has this address
+abbrev pub Calls : (ℕ → ℕ) → Control → ℕ → Type 0
+Calls rt control w = rt (number_of control) ≡ w
+
+-- what a step makes of the bytes and the marks, where they are those of the words that were read
+abbrev pub Steps : (ℕ → ℕ) → ℕ → Outer → Body → Half → Token → List ℕ → List Mark → Result (Unit {0}) BodyCause → List ℕ → List Mark → Type 0
+Steps rt at o t h w image marks result written kept = Drafted rt at o t h image marks → After rt at (read o t h w) result written kept
 
 -- the mark of the innermost open structure, and the structures outside it
 abbrev pub top_mark : ℕ → Outer → Option Mark

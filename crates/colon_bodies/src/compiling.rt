@@ -6,7 +6,8 @@ ghost use Rattle.colon_bodies.specs.Tokens.{SEMI, IsShort, control, laid};
 ghost use Rattle.colon_bodies.specs.Rules.{suits};
 ghost use Rattle.colon_bodies.specs.Faults.{IsFault};
 ghost use Rattle.colon_bodies.specs.Open.{Outer, read, past, open_depth};
-ghost use Rattle.colon_bodies.specs.Draft.{token, After, Drafted, Drafts, Drafting, Taken, Ended, Compiled, jump_by};
+ghost use Rattle.colon_bodies.specs.Draft.{token, After, Calls, Drafts, Drafting, Steps, Taken, Ended, Compiled, jump_by};
+ghost use Rattle.memory.specs.declared.controls.Control.TheVariants as ctl;
 ghost use Rattle.colon_bodies.specs.declared.words.Half.{Half};
 ghost use Rattle.colon_bodies.specs.declared.words.Half.TheVariants.{Free};
 
@@ -40,8 +41,8 @@ fn step(
     requires controls { 28 ≤ length runtime.now }
     requires short { IsShort (token word) }
     ensures { (o : Outer) (t : Body) → is_past ≡ past o →
-        Drafted (slice_index runtime.now) at o t Free image.old.items marks.old.items →
-        After (slice_index runtime.now) at (read o t Free (token word.entry)) result image.new.items marks.new.items }
+        Steps (slice_index runtime.now) at o t Free (token word.entry)
+        image.old.items marks.old.items result image.new.items marks.new.items }
 {
     match word {
         BodyWord::Name(w) => lay_name(image, w),
@@ -73,8 +74,8 @@ fn step(
 /// Writes what one word writes after what is half read.
 fn complete_half(image: &mut Vec<u8>, word: BodyWord) -> Result<(), BodyCause>
     ensures { (rt : ℕ → ℕ) (at : ℕ) (o : Outer) (t : Body) (h : Half) (marks : List Mark) → h ≢ Free →
-        suits h (token word.entry) ≡ true → Drafted rt at o t h image.old.items marks →
-        After rt at (read o t h (token word.entry)) result image.new.items marks }
+        suits h (token word.entry) ≡ true →
+        Steps rt at o t h (token word.entry) image.old.items marks result image.new.items marks }
 {
     match word {
         BodyWord::Name(w) => lay_name(image, w),
@@ -147,7 +148,7 @@ pub fn take_word(
 
 /// Takes the last word, and gives the bytes; where it is refused, the draft is gone.
 pub fn finish(d: Draft, at: u16, limit: u16, control: u16) -> Result<Vec<u8>, BodyCause>
-    ensures { (rt : ℕ → ℕ) (o : Outer) (t : Body) (h : Half) → rt 5 ≡ control → Drafts rt at o t h d →
+    ensures { (rt : ℕ → ℕ) (o : Outer) (t : Body) (h : Half) → Calls rt ctl.Exit control → Drafts rt at o t h d →
         open_depth o t ≤ 64 → Ended rt at limit o t h result }
 {
     if !is_suited(d.half, BodyWord::Semicolon) {

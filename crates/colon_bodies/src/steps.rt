@@ -3,8 +3,9 @@
 ghost use Rattle.std.specs.Prelude.{◌≡◌, Bool, ℕ, ◌+◌, ◌<◌, ◌^◌, List, length};
 ghost use Rattle.colon_bodies.specs.Tree.{Body};
 ghost use Rattle.colon_bodies.specs.Tokens.{NAME, NUMBER, TEXT, IF, ELSE, THEN, BEGIN, UNTIL, AGAIN, WHILE, REPEAT, DO, LOOP, DOUBLE, TICK, COMPILE, DOES, text_control, loop_control};
-ghost use Rattle.colon_bodies.specs.Open.{Outer, read, past};
-ghost use Rattle.colon_bodies.specs.Draft.{After, Drafted, Drafting};
+ghost use Rattle.colon_bodies.specs.Open.{Outer, past};
+ghost use Rattle.colon_bodies.specs.Draft.{Calls, Drafting, Steps};
+ghost use Rattle.memory.specs.declared.controls.Control.TheVariants as ctl;
 ghost use Rattle.colon_bodies.specs.declared.words.Half.{Half};
 ghost use Rattle.colon_bodies.specs.declared.words.Half.TheVariants.{Free};
 ghost use Rattle.colon_bodies.specs.declared.draft.Mark.{Mark};
@@ -16,16 +17,15 @@ use crate::image::{here, lay_cell, patch, pop_mark};
 /// A name writes its compilation address.
 pub fn lay_name(image: &mut Vec<u8>, w: u16) -> Result<(), BodyCause>
     ensures { (rt : ℕ → ℕ) (at : ℕ) (o : Outer) (t : Body) (h : Half) (marks : List Mark) →
-        Drafted rt at o t h image.old.items marks → After rt at (read o t h (NAME w)) result image.new.items marks }
+        Steps rt at o t h (NAME w) image.old.items marks result image.new.items marks }
 {
     lay_cell(image, w)
 }
 
 /// A number writes (LIT) and its value.
 pub fn lay_number(image: &mut Vec<u8>, control: u16, n: u16) -> Result<(), BodyCause>
-    ensures { (rt : ℕ → ℕ) (at : ℕ) (o : Outer) (t : Body) (marks : List Mark) → rt 6 ≡ control →
-        Drafted rt at o t Free image.old.items marks →
-        After rt at (read o t Free (NUMBER n)) result image.new.items marks }
+    ensures { (rt : ℕ → ℕ) (at : ℕ) (o : Outer) (t : Body) (marks : List Mark) → Calls rt ctl.Literal control →
+        Steps rt at o t Free (NUMBER n) image.old.items marks result image.new.items marks }
 {
     lay_cell(image, control)?;
     lay_cell(image, n)
@@ -33,9 +33,8 @@ pub fn lay_number(image: &mut Vec<u8>, control: u16, n: u16) -> Result<(), BodyC
 
 /// A double writes (LIT) and its low cell, (LIT) and its high cell.
 pub fn lay_double(image: &mut Vec<u8>, control: u16, n: u32) -> Result<(), BodyCause>
-    ensures { (rt : ℕ → ℕ) (at : ℕ) (o : Outer) (t : Body) (marks : List Mark) → rt 6 ≡ control →
-        Drafted rt at o t Free image.old.items marks →
-        After rt at (read o t Free (DOUBLE n)) result image.new.items marks }
+    ensures { (rt : ℕ → ℕ) (at : ℕ) (o : Outer) (t : Body) (marks : List Mark) → Calls rt ctl.Literal control →
+        Steps rt at o t Free (DOUBLE n) image.old.items marks result image.new.items marks }
 {
     lay_cell(image, control)?;
     lay_cell(image, (n % 65536) as u16)?;
@@ -45,17 +44,16 @@ pub fn lay_double(image: &mut Vec<u8>, control: u16, n: u32) -> Result<(), BodyC
 
 /// `[']` writes (LIT).
 pub fn begin_tick(image: &mut Vec<u8>, control: u16) -> Result<(), BodyCause>
-    ensures { (rt : ℕ → ℕ) (at : ℕ) (o : Outer) (t : Body) (marks : List Mark) → rt 6 ≡ control →
-        Drafted rt at o t Free image.old.items marks → After rt at (read o t Free TICK) result image.new.items marks }
+    ensures { (rt : ℕ → ℕ) (at : ℕ) (o : Outer) (t : Body) (marks : List Mark) → Calls rt ctl.Literal control →
+        Steps rt at o t Free TICK image.old.items marks result image.new.items marks }
 {
     lay_cell(image, control)
 }
 
 /// COMPILE writes its own control.
 pub fn begin_pair(image: &mut Vec<u8>, control: u16) -> Result<(), BodyCause>
-    ensures { (rt : ℕ → ℕ) (at : ℕ) (o : Outer) (t : Body) (marks : List Mark) → rt 19 ≡ control →
-        Drafted rt at o t Free image.old.items marks →
-        After rt at (read o t Free COMPILE) result image.new.items marks }
+    ensures { (rt : ℕ → ℕ) (at : ℕ) (o : Outer) (t : Body) (marks : List Mark) → Calls rt ctl.Compile control →
+        Steps rt at o t Free COMPILE image.old.items marks result image.new.items marks }
 {
     lay_cell(image, control)
 }
@@ -67,9 +65,8 @@ pub fn lay_does(
     is_past: bool,
     control: u16,
 ) -> Result<(), BodyCause>
-    ensures { (rt : ℕ → ℕ) (at : ℕ) (o : Outer) (t : Body) → rt 18 ≡ control → is_past ≡ past o →
-        Drafted rt at o t Free image.old.items marks.now.items →
-        After rt at (read o t Free DOES) result image.new.items marks.now.items }
+    ensures { (rt : ℕ → ℕ) (at : ℕ) (o : Outer) (t : Body) → Calls rt ctl.Does control → is_past ≡ past o →
+        Steps rt at o t Free DOES image.old.items marks.now.items result image.new.items marks.now.items }
 {
     if is_past || !marks.is_empty() {
         return Err(BodyCause::Unbalanced);
@@ -81,8 +78,8 @@ pub fn lay_does(
 pub fn lay_text(image: &mut Vec<u8>, control: u16, text: &[u8]) -> Result<(), BodyCause>
     requires { length text.now < 256 }
     ensures { (rt : ℕ → ℕ) (at : ℕ) (o : Outer) (t : Body) (k : Bool) (marks : List Mark) →
-        rt (text_control k) ≡ control → Drafted rt at o t Free image.old.items marks →
-        After rt at (read o t Free (TEXT k text.now)) result image.new.items marks }
+        rt (text_control k) ≡ control →
+        Steps rt at o t Free (TEXT k text.now) image.old.items marks result image.new.items marks }
 {
     lay_cell(image, control)?;
     image.push(text.len() as u8)?;
@@ -92,9 +89,8 @@ pub fn lay_text(image: &mut Vec<u8>, control: u16, text: &[u8]) -> Result<(), Bo
 
 /// IF writes ?BRANCH and a cell that waits.
 pub fn open_if(image: &mut Vec<u8>, marks: &mut Vec<Mark>, control: u16) -> Result<(), BodyCause>
-    ensures { (rt : ℕ → ℕ) (at : ℕ) (o : Outer) (t : Body) → rt 8 ≡ control →
-        Drafted rt at o t Free image.old.items marks.old.items →
-        After rt at (read o t Free IF) result image.new.items marks.new.items }
+    ensures { (rt : ℕ → ℕ) (at : ℕ) (o : Outer) (t : Body) → Calls rt ctl.ZeroBranch control →
+        Steps rt at o t Free IF image.old.items marks.old.items result image.new.items marks.new.items }
 {
     lay_cell(image, control)?;
     marks.push(Mark::If(image.len()))?;
@@ -104,9 +100,8 @@ pub fn open_if(image: &mut Vec<u8>, marks: &mut Vec<Mark>, control: u16) -> Resu
 
 /// DO writes (DO) and a cell that waits.
 pub fn open_do(image: &mut Vec<u8>, marks: &mut Vec<Mark>, control: u16) -> Result<(), BodyCause>
-    ensures { (rt : ℕ → ℕ) (at : ℕ) (o : Outer) (t : Body) → rt 9 ≡ control →
-        Drafted rt at o t Free image.old.items marks.old.items →
-        After rt at (read o t Free DO) result image.new.items marks.new.items }
+    ensures { (rt : ℕ → ℕ) (at : ℕ) (o : Outer) (t : Body) → Calls rt ctl.Do control →
+        Steps rt at o t Free DO image.old.items marks.old.items result image.new.items marks.new.items }
 {
     lay_cell(image, control)?;
     marks.push(Mark::Do(image.len()))?;
@@ -117,8 +112,8 @@ pub fn open_do(image: &mut Vec<u8>, marks: &mut Vec<Mark>, control: u16) -> Resu
 /// BEGIN keeps the address after.
 pub fn open_begin(image: &Vec<u8>, marks: &mut Vec<Mark>, at: u16) -> Result<(), BodyCause>
     requires { at + length image.now.items < 2 ^ 16 }
-    ensures { (rt : ℕ → ℕ) (o : Outer) (t : Body) → Drafted rt at o t Free image.now.items marks.old.items →
-        After rt at (read o t Free BEGIN) result image.now.items marks.new.items }
+    ensures { (rt : ℕ → ℕ) (o : Outer) (t : Body) →
+        Steps rt at o t Free BEGIN image.now.items marks.old.items result image.now.items marks.new.items }
 {
     marks.push(Mark::Begin(here(at, image)))?;
     Ok(())
@@ -133,9 +128,8 @@ pub fn switch_else(
 ) -> Result<(), BodyCause>
     requires drafting { Drafting at image.old.items marks.old.items }
     requires room { at + length image.old.items + 4 < 2 ^ 16 }
-    ensures { (rt : ℕ → ℕ) (o : Outer) (t : Body) → rt 7 ≡ control →
-        Drafted rt at o t Free image.old.items marks.old.items →
-        After rt at (read o t Free ELSE) result image.new.items marks.new.items }
+    ensures { (rt : ℕ → ℕ) (o : Outer) (t : Body) → Calls rt ctl.Branch control →
+        Steps rt at o t Free ELSE image.old.items marks.old.items result image.new.items marks.new.items }
 {
     match pop_mark(marks) {
         Some(Mark::If(place)) => {
@@ -153,8 +147,8 @@ pub fn switch_else(
 pub fn close_then(image: &mut Vec<u8>, marks: &mut Vec<Mark>, at: u16) -> Result<(), BodyCause>
     requires drafting { Drafting at image.old.items marks.old.items }
     requires room { at + length image.old.items < 2 ^ 16 }
-    ensures { (rt : ℕ → ℕ) (o : Outer) (t : Body) → Drafted rt at o t Free image.old.items marks.old.items →
-        After rt at (read o t Free THEN) result image.new.items marks.new.items }
+    ensures { (rt : ℕ → ℕ) (o : Outer) (t : Body) →
+        Steps rt at o t Free THEN image.old.items marks.old.items result image.new.items marks.new.items }
 {
     match pop_mark(marks) {
         Some(Mark::If(place)) => {
@@ -171,12 +165,10 @@ pub fn close_then(image: &mut Vec<u8>, marks: &mut Vec<Mark>, at: u16) -> Result
 
 /// UNTIL and AGAIN write ?BRANCH or BRANCH, and the address of BEGIN.
 pub fn close_back(image: &mut Vec<u8>, marks: &mut Vec<Mark>, control: u16) -> Result<(), BodyCause>
-    ensures until { (rt : ℕ → ℕ) (at : ℕ) (o : Outer) (t : Body) → rt 8 ≡ control →
-        Drafted rt at o t Free image.old.items marks.old.items →
-        After rt at (read o t Free UNTIL) result image.new.items marks.new.items }
-    ensures again { (rt : ℕ → ℕ) (at : ℕ) (o : Outer) (t : Body) → rt 7 ≡ control →
-        Drafted rt at o t Free image.old.items marks.old.items →
-        After rt at (read o t Free AGAIN) result image.new.items marks.new.items }
+    ensures until { (rt : ℕ → ℕ) (at : ℕ) (o : Outer) (t : Body) → Calls rt ctl.ZeroBranch control →
+        Steps rt at o t Free UNTIL image.old.items marks.old.items result image.new.items marks.new.items }
+    ensures again { (rt : ℕ → ℕ) (at : ℕ) (o : Outer) (t : Body) → Calls rt ctl.Branch control →
+        Steps rt at o t Free AGAIN image.old.items marks.old.items result image.new.items marks.new.items }
 {
     match pop_mark(marks) {
         Some(Mark::Begin(target)) => {
@@ -189,9 +181,8 @@ pub fn close_back(image: &mut Vec<u8>, marks: &mut Vec<Mark>, control: u16) -> R
 
 /// WHILE writes ?BRANCH and a cell that waits.
 pub fn test_while(image: &mut Vec<u8>, marks: &mut Vec<Mark>, control: u16) -> Result<(), BodyCause>
-    ensures { (rt : ℕ → ℕ) (at : ℕ) (o : Outer) (t : Body) → rt 8 ≡ control →
-        Drafted rt at o t Free image.old.items marks.old.items →
-        After rt at (read o t Free WHILE) result image.new.items marks.new.items }
+    ensures { (rt : ℕ → ℕ) (at : ℕ) (o : Outer) (t : Body) → Calls rt ctl.ZeroBranch control →
+        Steps rt at o t Free WHILE image.old.items marks.old.items result image.new.items marks.new.items }
 {
     match pop_mark(marks) {
         Some(Mark::Begin(target)) => {
@@ -213,9 +204,8 @@ pub fn close_repeat(
 ) -> Result<(), BodyCause>
     requires drafting { Drafting at image.old.items marks.old.items }
     requires room { at + length image.old.items + 4 < 2 ^ 16 }
-    ensures { (rt : ℕ → ℕ) (o : Outer) (t : Body) → rt 7 ≡ control →
-        Drafted rt at o t Free image.old.items marks.old.items →
-        After rt at (read o t Free REPEAT) result image.new.items marks.new.items }
+    ensures { (rt : ℕ → ℕ) (o : Outer) (t : Body) → Calls rt ctl.Branch control →
+        Steps rt at o t Free REPEAT image.old.items marks.old.items result image.new.items marks.new.items }
 {
     match pop_mark(marks) {
         Some(Mark::While(target, place)) => {
@@ -247,8 +237,7 @@ pub fn close_loop(
     requires drafting { Drafting at image.old.items marks.old.items }
     requires room { at + length image.old.items + 4 < 2 ^ 16 }
     ensures { (rt : ℕ → ℕ) (o : Outer) (t : Body) (k : Bool) → rt (loop_control k) ≡ control →
-        Drafted rt at o t Free image.old.items marks.old.items →
-        After rt at (read o t Free (LOOP k)) result image.new.items marks.new.items }
+        Steps rt at o t Free (LOOP k) image.old.items marks.old.items result image.new.items marks.new.items }
 {
     match pop_mark(marks) {
         Some(Mark::Do(place)) => {

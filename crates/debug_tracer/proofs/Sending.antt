@@ -1,18 +1,12 @@
 -- Lines that are sent in several pieces.
-use Rattle.std.proofs.Common.{◌≡◌, ℕ, zero, suc, ◌+◌, List, [], ◌∷◌, ◌++◌, Option, Some, None, refl, sym, ap, ◌∙◌, subst, arith, append_assoc, append-nil}
-use Rattle.std.specs.Prelude.{take, drop, slice_get, Result, Ok, Err, OnErr}
+use Rattle.std.proofs.Common.{◌≡◌, ℕ, zero, suc, ◌+◌, List, [], ◌∷◌, ◌++◌, Option, Some, refl, sym, ap, ◌∙◌, arith, append_assoc, append-nil}
+use Rattle.std.specs.Prelude.{take, drop, slice_get}
 use Rattle.std.specs.List.{flat_map}
 use Rattle.std.specs.Io.KnownBytes.{Appends}
 use Rattle.inner_interpreter.specs.Sent.{AppendsPart}
 use Rattle.inner_interpreter.proofs.Sending.{appends_both, part_first, part_second}
 
 -- the texts of some cells, of which the first i were sent
-past_end : {X : Type 0} (i : ℕ) (xs : List X) → slice_get xs i ≡ None → take i xs ≡ xs
-past_end zero [] h = refl
-past_end zero (x ∷ xs) h = cc
-past_end (suc i) [] h = refl
-past_end (suc i) (x ∷ xs) h = ap (λ ys. x ∷ ys) (past_end i xs h)
-
 cut_at : (f : ℕ → List ℕ) (i : ℕ) (xs : List ℕ) (x : ℕ) → slice_get xs i ≡ Some x → flat_map f (take (suc i) xs) ≡ flat_map f (take i xs) ++ f x
 cut_at f i [] x h = cc
 cut_at f zero (y ∷ ys) x h = let same : y ≡ x = cc in rw same (append-nil (f x))

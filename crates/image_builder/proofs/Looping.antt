@@ -28,7 +28,6 @@ use Rattle.image_builder.specs.Grammar.{AreSound, IsLimit}
 use Rattle.colon_bodies.proofs.Cells.{length-cell}
 use Rattle.image_builder.proofs.Sound.{sound_end, end_above}
 use Rattle.image_builder.proofs.Imaging.{length-bytes}
-use Rattle.colon_bodies.specs.Draft.{IsBlank}
 use Rattle.image_builder.specs.State.{IsRead, Goes, TakenAt, all_cells}
 
 pub cells_more : (xs : List ℕ) (i d : ℕ) → i < length xs → all_cells (take (suc i) xs) ≡ all_cells (take i xs) ++ cell_bytes (get_or xs i d)
@@ -74,9 +73,6 @@ length-zeros (suc n) = ap suc (length-zeros n)
 pub nothing_built : {limit : ℕ} (b : Build) → b.image.items ≡ [] → b.names.items ≡ [] → b.runtime.items ≡ zeros 256 → b.current ≡ 42 → b.newest_record ≡ 42 → b.boot ≡ None → b.limit ≡ limit → IsLimit limit → Built limit b Nothing
 nothing_built b i n r v w o l few =
     record { limit_is = l; limited = few; laid = i; named = ap newest_first n; runtime = no_runtime b.runtime.items r; all = ap length r ∙ length-zeros 256; current_is = v; record_is = w; boot_is = o }
-
-pub starts : {limit : ℕ} (b : Build) → Built limit b Nothing → IsBlank b.draft → IsRead limit b g.Whole []
-starts b h d = record { items = Nothing; words = []; stage = Whole; shows = tt; is = record { built = h; sound = tt; begun = refl; drafts = d }; front = refl }
 
 pub read_on : {limit : ℕ} (b new : Build) (x y : Begun) (done : List Place) (w : Place) (r : IsRead limit b x done) → Goes limit new y r.items r.words w → IsRead limit new y (done ++ w ∷ [])
 read_on b new x y done w r o =

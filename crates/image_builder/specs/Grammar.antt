@@ -4,6 +4,8 @@ use Rattle.std.specs.Prelude.{◌≡◌, ◌≢◌, ℕ, Bool, false, ◌||◌, 
 use Rattle.colon_bodies.specs.Tokens.{SEMI}
 use Rattle.colon_bodies.specs.Tree.{all_words, all_depth}
 use Rattle.colon_bodies.specs.declared.words.Half.TheVariants.{Free}
+use Rattle.memory.specs.Controls.{number_of}
+use Rattle.memory.specs.declared.controls.Control.TheVariants as ctl
 use Rattle.memory.specs.declared.limit.TheConstants.{GREATEST_LIMIT}
 use Rattle.image_builder.specs.Places.{Place}
 use Rattle.image_builder.specs.Names.{Name, address}
@@ -11,6 +13,7 @@ use Rattle.image_builder.specs.Items.{Item, Header, Colon, Cell, Byte, Allot, Im
 use Rattle.image_builder.specs.declared.entry.Kind.TheVariants.{Primitive, Constant, Variable, Create, Vocabulary}
 use Rattle.image_builder.specs.declared.entry.Lead.{Lead}
 use Rattle.image_builder.specs.declared.entry.Lead.TheVariants.{Makes, Defines, Starts}
+use Rattle.image_builder.specs.declared.source.TheConstants.{PRIMITIVES_END, CONTROLS_END}
 use Rattle.image_builder.specs.declared.spot.Sort.{Sort}
 use Rattle.colon_bodies.specs.Rules as rules
 use Rattle.colon_bodies.specs.Tokens as tokens
@@ -25,7 +28,7 @@ is_gap n =
 
 -- a number of a primitive that may be named
 abbrev pub IsPrimitive : Items → ℕ → Type 0
-IsPrimitive t n = (5 ≤ n) × (n < 205) × (is_gap n ≡ false) × (n < 28 → controls t n ≡ 0)
+IsPrimitive t n = (number_of ctl.Exit ≤ n) × (n < PRIMITIVES_END) × (is_gap n ≡ false) × (n < CONTROLS_END → controls t n ≡ 0)
 
 -- the words are one, or two, of these sorts
 abbrev pub One : List Place → Sort → Type 0

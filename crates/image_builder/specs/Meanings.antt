@@ -1,7 +1,8 @@
 -- What a word means where it is.
+use Rattle.memory.specs.Controls.{number_of}
+use Rattle.memory.specs.declared.controls.Control.TheVariants as ctl
 use Rattle.memory.specs.declared.system.TheConstants.{FORTH_VOC}
-use Rattle.std.proofs.Math.Dec.{ltb}
-use Rattle.std.specs.Prelude.{ℕ, Bool, false, cond, ◌||◌, ◌&&◌, List, [], ◌∷◌, Option, Some, None, Result, Ok, Err, codes}
+use Rattle.std.specs.Prelude.{ℕ, Bool, false, nat_le, cond, ◌||◌, ◌&&◌, List, [], ◌∷◌, Option, Some, None, Result, Ok, Err, codes}
 use Rattle.std.specs.Str.{bytes_eq}
 use Rattle.colon_bodies.specs.Tokens.{Token, NAME}
 use Rattle.colon_bodies.specs.Meaning.{Sense, by_spelling, keyword_first}
@@ -32,9 +33,9 @@ record_if (Some n) = if_record n.sign (record_of n)
 abbrev pub record_named : Items → Place → Option ℕ
 record_named t p = cond (bytes_eq p.name (codes "FORTH")) (Some FORTH_VOC) (record_if (look t p))
 
--- the controls that only a keyword or a number writes
+-- the controls that only a keyword or a number writes: from (LIT) to (+LOOP), and from (.") to (DOES>)
 abbrev pub is_inner : Sign → Bool
-is_inner (g.Control n) = (ltb 5 n && ltb n 12) || (ltb 15 n && ltb n 19)
+is_inner (g.Control n) = (nat_le (number_of ctl.Literal) n && nat_le n (number_of ctl.PlusLoop)) || (nat_le (number_of ctl.ShowText) n && nat_le n (number_of ctl.Does))
 is_inner _ = false
 
 -- a name that can't come after what is half read

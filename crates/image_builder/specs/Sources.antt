@@ -3,6 +3,7 @@ use Rattle.std.specs.Prelude.{◌≡◌, ℕ, zero, suc, cond, ◌+◌, ◌-◌,
 use Rattle.block_buffers.specs.Calls.{failures}
 use Rattle.block_buffers.specs.DeviceCalls.{DeviceCall}
 use Rattle.block_buffers.specs.Disks.{Disk, called, succeeds}
+use Rattle.block_buffers.specs.Likeness.{DidAs}
 use Rattle.block_buffers.specs.ReadPages.{AreReadFrom}
 use Rattle.image_loader.specs.Files.{Contents}
 use Rattle.memory.specs.Bytes.{limit_of}
@@ -45,6 +46,10 @@ pub record Done : Type 0 where
 -- the same by what the device says: its disk after, and its calls before and after
 abbrev pub done_of : Option Disk → (calls calls' : List DeviceCall) → Done
 done_of disk calls calls' = record { disk = disk; before = failures calls; after = failures calls' }
+
+-- of each disk as which a device did in its calls, something holds: of the disk before, and of what was done
+abbrev pub ForDisks : (count : ℕ) → (calls calls' : List DeviceCall) → (Disk → Done → Type 0) → Type 0
+ForDisks count calls calls' holds = (d e : Disk) → DidAs d e count calls calls' → holds d (done_of (Some e) calls calls')
 
 -- nothing is wrong with these words, whatever comes after them
 pub record IsFaultless (limit : ℕ) (source : List SourceWord) : Type 0 where

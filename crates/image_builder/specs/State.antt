@@ -91,6 +91,10 @@ pub record Somewhere (b : Build) (title : Title) : Type 0 where
   pub titled : IsTitle title.screen title.name.items place
   pub is : IsState b.limit b items words (Inside place before)
 
+-- what holds within the body of a definition with this title, after these items and words
+abbrev pub InBody : Build → Title → Items → List Place → List Token → Place → Type 0 → Type 0
+InBody b title t ws before p holds = IsTitle title.screen title.name.items p → IsState b.limit b t ws (Inside p before) → holds
+
 -- what came of one more word of a draft
 abbrev pub TakenSo : ℕ → (ℕ → ℕ) → ℕ → Outer → Body → Half → Token → Result (Unit {0}) Cause → Build → Type 0
 TakenSo limit rt at o t h w (Ok u) b = BodyGoes rt at limit o t h w b.draft

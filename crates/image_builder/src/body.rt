@@ -8,12 +8,12 @@ ghost use Rattle.colon_bodies.specs.Open.{Outer, open_depth};
 ghost use Rattle.colon_bodies.specs.Draft.{token, Drafting, Drafts};
 ghost use Rattle.memory.specs.declared.limit.TheConstants.{GREATEST_LIMIT};
 ghost use Rattle.image_builder.specs.Names.{entry};
-ghost use Rattle.image_builder.specs.Places.{Place, place, sense, IsTitle};
+ghost use Rattle.image_builder.specs.Places.{Place, place, sense};
 ghost use Rattle.image_builder.specs.Items.{Items};
 ghost use Rattle.image_builder.specs.Stages.{Inside, body_at};
 ghost use Rattle.image_builder.specs.Meanings.{look, meaning, name_first, unnamed, is_barred, is_inner};
 ghost use Rattle.image_builder.specs.Built.{Built, Building};
-ghost use Rattle.image_builder.specs.State.{IsState, Taken, Means, Looks, Somewhere, TakenSo, EndsSo, IsSame};
+ghost use Rattle.image_builder.specs.State.{InBody, Taken, Means, Looks, Somewhere, TakenSo, EndsSo, IsSame};
 
 use crate::cause::Cause;
 use crate::entry::{Entry, Sign, find_name};
@@ -124,9 +124,8 @@ fn draft_word(b: &mut Build, word: BodyWord, at: u16) -> Result<(), Cause>
 fn end_body(b: &mut Build, p: &Title, at: u16) -> Result<(), Cause>
     requires somewhere { Somewhere b.old p.now }
     requires short { length p.now.name.items < 32 }
-    ensures { (t : Items) (ws : List Place) (before : List Token) (q : Place) →
-        IsTitle p.now.screen p.now.name.items q → IsState b.old.limit b.old t ws (Inside q before) → at ≡ body_at t q →
-        EndsSo b.old.limit t q before result b.new }
+    ensures { (t : Items) (ws : List Place) (before : List Token) (q : Place) → InBody b.old p.now t ws before q
+        (at ≡ body_at t q → EndsSo b.old.limit t q before result b.new) }
 {
     let exit = cell_of(b.runtime.as_slice(), Control::Exit);
     let draft = mem::replace(&mut b.draft, Draft::new(b.alloc));
@@ -139,9 +138,8 @@ fn end_body(b: &mut Build, p: &Title, at: u16) -> Result<(), Cause>
 pub fn take_body(b: &mut Build, p: Title, w: Spot) -> Result<Begun, Cause>
     requires somewhere { Somewhere b.old p }
     requires short { length p.name.items < 32 }
-    ensures { (t : Items) (ws after : List Place) (before : List Token) (q : Place) → IsTitle p.screen p.name.items q →
-        IsState b.old.limit b.old t ws (Inside q before) →
-        Taken b.old.limit t ws (Inside q before) (place w.entry) after result b.new }
+    ensures { (t : Items) (ws after : List Place) (before : List Token) (q : Place) → InBody b.old p t ws before q
+        (Taken b.old.limit t ws (Inside q before) (place w.entry) after result b.new) }
 {
     let at = here(b) + 7 + p.name.len() as u16;
     let word = meaning_of(b, w)?;

@@ -2,14 +2,14 @@
 
 ghost use Rattle.std.specs.Prelude.{◌≡◌, ℕ, ◌≤◌, ◌⊎◌, [], List, Some, IfOk, IfErr, vec_len};
 ghost use Rattle.block_buffers.specs.Disks.{Disk};
-ghost use Rattle.block_buffers.specs.Likeness.{DidAs, IsLike};
+ghost use Rattle.block_buffers.specs.Likeness.{IsLike};
 ghost use Rattle.memory.specs.Bytes.{IsCount, limit_of};
 ghost use Rattle.image_builder.specs.Places.{Place};
 ghost use Rattle.image_builder.specs.Faults.{IsFault};
 ghost use Rattle.image_builder.specs.Grammar.{IsLimit};
 ghost use Rattle.image_builder.specs.Built.{Building};
 ghost use Rattle.image_builder.specs.State.{IsRead, IsBuilt, tells_whole};
-ghost use Rattle.image_builder.specs.Sources.{IsBuiltOf, IsBuiltOfRead, IsRefused, done_of};
+ghost use Rattle.image_builder.specs.Sources.{ForDisks, IsBuiltOf, IsBuiltOfRead, IsRefused};
 ghost use Rattle.image_builder.specs.Reading.{Holds};
 ghost use Rattle.image_builder.specs.declared.cause.Cause.TheVariants as c;
 
@@ -97,11 +97,10 @@ pub fn build<D: Device>(
         IsBuiltOfRead count (D.block_count device.old) from to i (D.calls device.old) (D.calls device.new)) }
 
     // For each disk as which the device did, the image, or the refusal, is that of this disk's screens.
-    ensures built { (d e : Disk) → DidAs d e (D.block_count device.old) (D.calls device.old) (D.calls device.new) →
-        IfOk result (λ i. IsBuiltOf count d from to i (done_of (Some e) (D.calls device.old) (D.calls device.new))) }
-    ensures refused { (d e : Disk) → DidAs d e (D.block_count device.old) (D.calls device.old) (D.calls device.new) →
-        IfErr result (λ f. IsRefused (limit_of count) d from to f
-        (done_of (Some e) (D.calls device.old) (D.calls device.new))) }
+    ensures built { ForDisks (D.block_count device.old) (D.calls device.old) (D.calls device.new) (λ d done.
+        IfOk result (λ i. IsBuiltOf count d from to i done)) }
+    ensures refused { ForDisks (D.block_count device.old) (D.calls device.old) (D.calls device.new) (λ d done.
+        IfErr result (λ f. IsRefused (limit_of count) d from to f done)) }
 
     // A device that reports its disk did as that disk.
     ensures like { (d : Disk) → D.disk device.old ≡ Some d →

@@ -9,6 +9,7 @@ ghost use Rattle.image_loader.specs.Files.{Contents};
 ghost use Rattle.image_builder.specs.Sources.{Done, AllReadable, AreGood, IsBuiltOf, IsDecided, IsFirstFault, IsRefusal};
 ghost use Rattle.image_builder.specs.declared.cause.BuildFault.{BuildFault};
 ghost use Rattle.dictionary.specs.Header.{is_immediate};
+ghost use Rattle.image_builder.specs.declared.source.TheConstants.{PRIMITIVES_END, CONTROLS_END};
 ghost use Rattle.image_builder.specs.Places.{Place};
 ghost use Rattle.image_builder.specs.declared.entry.Kind.{Kind};
 ghost use Rattle.image_builder.specs.Items.{Items, image, system, controls, names, current, code_of, end_of, field, head_size, heads_of, kind_size, link_of};
@@ -59,6 +60,12 @@ pub fn refusal_law()
 pub fn size_law()
     ensures length { (t : Items) → length (image t) ≡ 256 + sum (sizes t) }
     ensures end { (t : Items) → cell (memory_of t) DP ≡ 256 + sum (sizes t) }
+{}
+
+/// The numbers of primitives end before 205, and those of controls before 28.
+pub fn primitives_law()
+    ensures primitives { PRIMITIVES_END ≡ 205 }
+    ensures controls { CONTROLS_END ≡ 28 }
 {}
 
 /// The cells of an image's memory below 64 are the system's, as its items make them; and each runtime cell is the compilation

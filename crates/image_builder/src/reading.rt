@@ -2,11 +2,11 @@
 
 ghost use Rattle.std.specs.Prelude.{◌≡◌, ℕ, ◌+◌, ◌-◌, ◌<◌, [], List, Some, length, OnOk};
 ghost use Rattle.block_buffers.specs.Disks.{Disk};
-ghost use Rattle.block_buffers.specs.Likeness.{DidAs, IsLike};
+ghost use Rattle.block_buffers.specs.Likeness.{IsLike};
 ghost use Rattle.source_words.specs.Words.{SourceWord, screen_words};
 ghost use Rattle.source_words.specs.Scanned.{source_word};
 ghost use Rattle.block_buffers.specs.ReadPages.{AreReadFrom};
-ghost use Rattle.image_builder.specs.Sources.{done_of};
+ghost use Rattle.image_builder.specs.Sources.{ForDisks};
 ghost use Rattle.image_builder.specs.Reading.{Asks, Holds, IsHeld, Takes, TakesAll, TakesScreen, TakesScreens, refusal, settled};
 ghost use Rattle.image_builder.specs.declared.reading.Stop.TheVariants as stop;
 
@@ -115,10 +115,9 @@ fn take_screen<D: Device>(
     mode: Mode,
 ) -> Result<Mode, Stop>
     requires { IsHeld compilation.old.build.limit compilation.old }
-    ensures taken { (d e : Disk) → DidAs d e (D.block_count device.old) (D.calls device.old) (D.calls device.new) →
+    ensures taken { ForDisks (D.block_count device.old) (D.calls device.old) (D.calls device.new) (λ d done.
         (limit : ℕ) (front : List SourceWord) → Holds limit compilation.old front →
-        TakesScreen limit d screen mode front result compilation.old compilation.new
-        (done_of (Some e) (D.calls device.old) (D.calls device.new)) }
+        TakesScreen limit d screen mode front result compilation.old compilation.new done) }
     ensures like { (d : Disk) → D.disk device.old ≡ Some d →
         IsLike d (D.disk device.new) (D.block_count device.old) (D.calls device.old) (D.calls device.new) }
     ensures asked { Asks screen (D.block_count device.old) result (D.calls device.old) (D.calls device.new) }
@@ -143,9 +142,8 @@ pub fn take_screens<D: Device>(
     to: u16,
 ) -> Result<(), Stop>
     requires { Holds compilation.old.build.limit compilation.old [] }
-    ensures taken { (d e : Disk) → DidAs d e (D.block_count device.old) (D.calls device.old) (D.calls device.new) →
-        TakesScreens compilation.old.build.limit d from to result compilation.new
-        (done_of (Some e) (D.calls device.old) (D.calls device.new)) }
+    ensures taken { ForDisks (D.block_count device.old) (D.calls device.old) (D.calls device.new) (λ d done.
+        TakesScreens compilation.old.build.limit d from to result compilation.new done) }
     ensures like { (d : Disk) → D.disk device.old ≡ Some d →
         IsLike d (D.disk device.new) (D.block_count device.old) (D.calls device.old) (D.calls device.new) }
     ensures read { OnOk result (AreReadFrom from (to + 1 - from) (D.block_count device.old) (D.calls device.old)

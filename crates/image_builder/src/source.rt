@@ -15,6 +15,13 @@ use crate::name::take_name;
 use crate::spot::{Sort, Spot};
 use crate::state::{Begun, Build, Site};
 use crate::take::{take_counted, take_definitions, take_item};
+use memory::controls::Control;
+
+/// One more than the number of the last primitive.
+pub const PRIMITIVES_END: u16 = 205;
+
+/// The primitives with numbers below this one, the controls, have runtime cells.
+pub const CONTROLS_END: u16 = 28;
 
 /// Whether no primitive has this number.
 fn is_in_gap(n: u16) -> bool
@@ -59,7 +66,10 @@ fn is_primitive(b: &Build, n: u16) -> bool
     requires building { Building b.now }
     ensures { (t : Items) → Built b.now.limit b.now t → IsTrue result ↔ IsPrimitive t n }
 {
-    5 <= n && n < 205 && !is_in_gap(n) && (28 <= n || is_free_control(b, n))
+    Control::Exit as u16 <= n
+        && n < PRIMITIVES_END
+        && !is_in_gap(n)
+        && (CONTROLS_END <= n || is_free_control(b, n))
 }
 
 /// The fault of a number, once the next word is known.

@@ -1,5 +1,5 @@
 -- What a reader gave.
-use Rattle.std.proofs.Common.{◌≡◌, ◌<◌, ◌≤◌, ℕ, List, [], ◌∷◌, ◌++◌, Bool, true, false, Option, Some, None, Result, Ok, Err, IfOk, length, vec_len, inl, inr, refl, sym, ap, subst, ◌∙◌, arith, append-nil, append_assoc, ◌+◌}
+use Rattle.std.proofs.Common.{◌≡◌, ℕ, List, [], ◌∷◌, ◌++◌, Bool, true, false, Option, Some, None, length, inl, inr, refl, sym, ap, ◌∙◌, arith, append_assoc, ◌+◌}
 use Rattle.std.proofs.lemmas.List.{length-append}
 use Rattle.machine.specs.Answer.{is_return}
 use Rattle.inner_interpreter.specs.Reads.{IsLineGiven, as_given}

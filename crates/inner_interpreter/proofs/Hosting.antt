@@ -15,7 +15,7 @@ use Rattle.machine.specs.Tick.{Runs, running, is_quiet, ran, ticked, IsRefused}
 use Rattle.machine.specs.Answer.{asked_by, is_answer}
 use Rattle.inner_interpreter.specs.Moves.{Turn, Tick, Answer, shown_bytes}
 use Rattle.inner_interpreter.proofs.HostCalls.{Call, Ticked, Answered, ManyTicked, Ensures, moves_of, seen_bytes, seen_events}
-use Rattle.inner_interpreter.specs.Histories.{Made, acted, behind, made, takes, told_event}
+use Rattle.inner_interpreter.specs.Histories.{acted, behind, made, takes, told_event}
 use Rattle.inner_interpreter.proofs.Quiet.{ticked_runs, quiet_shows}
 use Rattle.machine.proofs.Ran.{ran_quiet, ran_loud}
 

@@ -1,12 +1,12 @@
 -- Moves that a host makes, one after another.
-use Rattle.std.proofs.Common.{◌≡◌, ℕ, zero, suc, ◌-◌, arith, replicate, Ok, List, [], ◌∷◌, ◌++◌, Option, Some, None, Bool, true, false, is_none, ◌&&◌, refl, sym, ap, subst, ◌∙◌, append-nil, append_assoc, map, drop, length, ◌<◌, ◌≤◌, ◌+◌, get_or}
+use Rattle.std.proofs.Common.{◌≡◌, ℕ, zero, suc, ◌-◌, arith, replicate, Ok, List, [], ◌∷◌, ◌++◌, Option, true, false, refl, sym, ap, subst, ◌∙◌, append-nil, append_assoc, map, drop, length, ◌<◌, ◌≤◌, ◌+◌, get_or}
 use Rattle.std.proofs.lemmas.List.{drop_more, drop_all}
 use Rattle.inner_interpreter.specs.declared.hosts.Move.{Move}
 use Rattle.std.specs.Io.KnownBytes.{Appends}
 use Rattle.machine.specs.declared.act.Act.{Act}
 use Rattle.machine.specs.declared.act.Event.{Event}
 use Rattle.machine.specs.State.{State}
-use Rattle.inner_interpreter.specs.Moves.{Turn, Tick, Answer, shown_bytes}
+use Rattle.inner_interpreter.specs.Moves.{Turn, Tick, shown_bytes}
 use Rattle.inner_interpreter.specs.Histories.{Made, acted, behind, made, takes, told_event}
 use Rattle.inner_interpreter.proofs.HostCalls.{ManyTicked}
 use Rattle.inner_interpreter.specs.Hosts.{IsMade, HasMade, turn_of}

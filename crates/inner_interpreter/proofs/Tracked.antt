@@ -1,5 +1,5 @@
 -- The trace of a run, by the moves that it made.
-use Rattle.std.proofs.Common.{◌≡◌, ◌≢◌, ℕ, zero, suc, ◌+◌, ◌-◌, ◌≤◌, ◌<◌, List, [], ◌∷◌, ◌++◌, Option, Some, None, Bool, true, false, refl, sym, ap, subst, ◌∙◌, inl, inr, arith, append-nil, append_assoc, if◌then◌else◌, is_none, ◌&&◌}
+use Rattle.std.proofs.Common.{◌≡◌, ℕ, zero, suc, ◌+◌, ◌-◌, ◌≤◌, ◌<◌, List, [], ◌∷◌, ◌++◌, Option, Some, None, Bool, true, false, refl, sym, ap, subst, ◌∙◌, inl, inr, arith, append-nil, append_assoc, if◌then◌else◌, is_none, ◌&&◌}
 use Rattle.std.proofs.lemmas.List.Sums.{sum_by-cons}
 use Rattle.std.specs.Io.KnownBytes.{Appends, Keeps}
 use Rattle.machine_parts.specs.Whole.{Whole}
@@ -14,12 +14,11 @@ use Rattle.machine.proofs.Ran.{ran_quiet, ran_loud}
 use Rattle.block_buffers.specs.DeviceCalls.{DeviceCall}
 use Rattle.inner_interpreter.specs.declared.stop.Stop.{Stop}
 use Rattle.inner_interpreter.specs.declared.stop.Stop.TheVariants as stop
-use Rattle.inner_interpreter.specs.Moves.{Turn, Tick, Answer, Enter, after, turned, AreAccepted, Logs, logs, is_sent, is_tick, words_in, ticks_in, answers_in, HasMoved, HasRun}
+use Rattle.inner_interpreter.specs.Moves.{Turn, Tick, Answer, Enter, after, turned, AreAccepted, Logs, logs, is_sent, is_tick, words_in, ticks_in, HasMoved, HasRun}
 use Rattle.inner_interpreter.specs.Sent.{AppendsPart}
 use Rattle.inner_interpreter.specs.Tracing.{AddsFirst, HasRunTraced, line_next, lines_by}
-use Rattle.inner_interpreter.specs.Worlds.{waiting}
 use Rattle.inner_interpreter.proofs.Ending.{one_waits}
-use Rattle.inner_interpreter.proofs.Moving.{after-append, appends_none, asked_waits, few_answers, kept_appends, moved_add, moved_kept, moved_none, moved_so}
+use Rattle.inner_interpreter.proofs.Moving.{appends_none, asked_waits, few_answers, kept_appends, moved_add, moved_kept, moved_none, moved_so}
 use Rattle.inner_interpreter.proofs.Quiet.{ticked_runs}
 use Rattle.inner_interpreter.proofs.Sending.{appends_both}
 

@@ -1,5 +1,5 @@
 -- Moves that are accepted leave what a list of moves is written to leave.
-use Rattle.std.proofs.Common.{◌≡◌, List, [], ◌∷◌, ◌++◌, true, refl, sym, ap, ◌∙◌}
+use Rattle.std.proofs.Common.{◌≡◌, List, [], ◌∷◌, ◌++◌, true, refl, ap, ◌∙◌}
 use Rattle.machine.specs.State.{State}
 use Rattle.inner_interpreter.specs.Moves.{Turn, Tick, Answer, Enter, Accepts, AreAccepted, after, turned, turn_bytes, shown_by, shown_bytes}
 use Rattle.inner_interpreter.specs.Histories.{Made, acted, behind, made, takes, told_event}

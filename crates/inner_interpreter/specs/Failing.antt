@@ -1,5 +1,5 @@
 -- Rounds that fail.
-use Rattle.std.specs.Prelude.{Bool, true, false, Result, Ok, Err}
+use Rattle.std.specs.Prelude.{Bool, true, false, Result, Err}
 use Rattle.inner_interpreter.specs.declared.rounds.Failed.{Failed}
 use Rattle.inner_interpreter.specs.declared.rounds.Failed.TheVariants.{Writer}
 

@@ -1,5 +1,5 @@
 -- What a reader gave for the requests that were answered.
-use Rattle.std.specs.Prelude.{◌≡◌, ◌⊎◌, ◌<◌, ℕ, zero, Bool, true, false, List, [], ◌∷◌, ◌++◌, Option, Some, None, Result, Ok, Err, map, length}
+use Rattle.std.specs.Prelude.{◌≡◌, ◌⊎◌, ℕ, Bool, true, false, List, [], ◌∷◌, ◌++◌, Option, Some, None, Result, Ok, Err, map, length}
 use Rattle.std.specs.List.{list_all}
 use Rattle.machine_parts.specs.declared.parts.Request.{Request}
 use Rattle.machine_parts.specs.declared.parts.Request.TheVariants as request

@@ -29,6 +29,15 @@ pub record Answered (s : State) (r : Request) (typed : List ℕ) (disk : Disk) (
   pub unread_is : unread ≡ Some (served s r typed disk).typed
   pub disk_is : left ≡ Some (served s r typed disk).disk
 
+-- of what the reader and the device hold, where they report it
+abbrev pub WhereTold : Option (List ℕ) → Option Disk → (List ℕ → Disk → Type 0) → Type 0
+WhereTold unread disk holds = (typed : List ℕ) → unread ≡ Some typed → (d : Disk) → disk ≡ Some d → holds typed d
+
+-- the request was answered from that, and the bytes that this shows were sent so
+abbrev pub AnswersAndSends : State → Request → Option (List ℕ) → Option Disk → State → Option (List ℕ) → Option Disk → (List ℕ → Type 0) → Type 0
+AnswersAndSends s r unread disk after left_unread left sends =
+    WhereTold unread disk (λ typed d. Answered s r typed d after left_unread left × sends (served_move s r typed d).bytes)
+
 -- the reader failed, and the machine learned of it
 pub record Faults (s after : State) : Type 0 where
   pub asked : is_answer (asked_by s.wait) InputFault ≡ true

@@ -6,7 +6,7 @@ ghost use Rattle.block_buffers.specs.DeviceCalls.{DeviceCall};
 ghost use Rattle.machine.specs.Answer.{asked_by};
 ghost use Rattle.inner_interpreter.specs.Ends.{Marks};
 ghost use Rattle.inner_interpreter.specs.Lines.{IsBegun, IsLeft};
-ghost use Rattle.inner_interpreter.specs.Served.{Serves, Faults, HasActed, HasSettled, HasNotFailed};
+ghost use Rattle.inner_interpreter.specs.Served.{Serves, Faults, HasActed, HasSettled, HasNotFailed, WhereTold};
 
 use crate::ends::{EndFault, Input};
 use crate::lines::take_line;
@@ -128,10 +128,8 @@ pub fn settle<R: Input, D: Device>(
     requires waits { asked_by machine.old.wait ≡ Some request }
     requires goes { machine.old.halt ≡ None }
     requires room { 65535 ≤ vec_capacity line.old }
-    ensures told { (typed : List ℕ) → R.unread reader.old ≡ Some typed → (disk : Disk) →
-        D.disk device.old ≡ Some disk →
-        IfOk result (λ act. Serves machine.old request typed disk machine.new (R.unread reader.new)
-        (D.disk device.new) act) }
+    ensures told { WhereTold (R.unread reader.old) (D.disk device.old) (λ typed d. IfOk result (λ act.
+        Serves machine.old request typed d machine.new (R.unread reader.new) (D.disk device.new) act)) }
     ensures answered { HasSettled machine.old machine.new (D.calls device.old) (D.calls device.new)
         (R.reads reader.old) (R.reads reader.new) result }
     ensures settled { machine.new.wait ≡ None }

@@ -2,14 +2,13 @@
 
 ghost use Rattle.std.specs.Prelude.{◌≡◌, ◌≤◌, ◌<◌, ◌-◌, ℕ, List, [], Some, None, true, vec_capacity, OnOk, OnErr, IsErrOf};
 ghost use Rattle.std.specs.Io.KnownBytes.{Appends, Keeps};
-ghost use Rattle.block_buffers.specs.Disks.{Disk};
 ghost use Rattle.machine.specs.Answer.{InputFault, asked_by, is_answer};
 ghost use Rattle.inner_interpreter.specs.Ends.{Marks};
 ghost use Rattle.inner_interpreter.specs.Lines.{IsLeft};
 ghost use Rattle.inner_interpreter.specs.Moves.{HasMoved, logs};
 ghost use Rattle.inner_interpreter.specs.Runs.{World};
 ghost use Rattle.inner_interpreter.specs.Sent.{AppendsPart};
-ghost use Rattle.inner_interpreter.specs.Served.{Answered, served_move, Faults, HasNotFailed};
+ghost use Rattle.inner_interpreter.specs.Served.{AnswersAndSends, Faults, HasNotFailed};
 ghost use Rattle.inner_interpreter.specs.Tracing.{AddsFirst, Reached, ReachedCut};
 ghost use Rattle.inner_interpreter.specs.Failing.{sends_all};
 ghost use Rattle.inner_interpreter.specs.Worlds.{IsAt, IsFaulted, rounds_left};
@@ -48,14 +47,11 @@ fn make_answer<R: Input, W: Output, D: Device>(
     ensures room { 65535 ≤ vec_capacity line.new }
     ensures moved { HasMoved machine.old machine.new (logs (D.calls device.old) (W.sent writer.old) (R.reads reader.old))
         (logs (D.calls device.new) (W.sent writer.new) (R.reads reader.new)) (sends_all result) [] 0 }
-    ensures ok { OnOk result ((typed : List ℕ) → R.unread reader.old ≡ Some typed → (disk : Disk) →
-        D.disk device.old ≡ Some disk → Answered machine.old request typed disk machine.new (R.unread reader.new)
-        (D.disk device.new) × Appends (W.sent writer.old) (W.sent writer.new)
-        (served_move machine.old request typed disk).bytes) }
-    ensures cut { IsErrOf result Failed.Writer → (typed : List ℕ) → R.unread reader.old ≡ Some typed → (disk : Disk) →
-        D.disk device.old ≡ Some disk → Answered machine.old request typed disk machine.new (R.unread reader.new)
-        (D.disk device.new) × AppendsPart (W.sent writer.old) (W.sent writer.new)
-        (served_move machine.old request typed disk).bytes }
+    ensures ok { OnOk result (AnswersAndSends machine.old request (R.unread reader.old) (D.disk device.old)
+        machine.new (R.unread reader.new) (D.disk device.new) (Appends (W.sent writer.old) (W.sent writer.new))) }
+    ensures cut { IsErrOf result Failed.Writer → AnswersAndSends machine.old request (R.unread reader.old)
+        (D.disk device.old) machine.new (R.unread reader.new) (D.disk device.new)
+        (AppendsPart (W.sent writer.old) (W.sent writer.new)) }
     ensures left { IsErrOf result Failed.Reader → (typed : List ℕ) → R.unread reader.old ≡ Some typed →
         IsLeft (Some request) typed (R.unread reader.new) }
     ensures faulted { IsErrOf result Failed.Reader →

@@ -19,7 +19,7 @@ use Rattle.machine.specs.Answer as answering
 use Rattle.machine.specs.Answer.{Reply, asked_by, answered, answer_of, key_answered, line_answered, read_answered, write_answered}
 use Rattle.inner_interpreter.specs.Served.{Serves}
 use Rattle.inner_interpreter.specs.Runs.{served}
-use Rattle.metacompiler.specs.Rounds.{is_end, Stop, Ended, Limit, Fault, Halted, Asked, Out, out, is_ended, stop_by, went, by_answer, by_device, by_request, by_tick, rounds, entered, then_screens, screens}
+use Rattle.metacompiler.specs.Rounds.{is_end, Stop, Ended, Limit, Fault, Halted, Asked, Out, out, is_ended, stop_by, went, by_answer, by_device, by_request, by_tick, rounds, entered, then_screens}
 use Rattle.metacompiler.specs.Making.{continued, GoesOn, IsSettled, IsRound, StopsAt, IsSoFar, AreSoFar}
 
 -- what an event says of the state after a move
@@ -207,10 +207,7 @@ pub all_so_far : (o : Out) (s : State) (disk : Option Disk) → IsSoFar o s disk
 unfolding rounds
 all_so_far o s disk h = record { told = h.told; disk_is = h.disk_is; stop_is = sym h.same; goes = tt }
 
--- the screens so far
-pub none_read : (w count screen : ℕ) (s : State) (d : Disk) (disk : Option Disk) (left : ℕ) → Runs s → disk ≡ Some d → AreSoFar w count screen (screens w count screen left s.parts d) s disk left
-none_read w count screen s d disk left h q = record { told = d; disk_is = q; same = refl; goes = h }
-
+-- the screens so far, and one more
 pub one_read : (w more screen : ℕ) (o : Out) (s new : State) (disk disk' : Option Disk) (left left' : ℕ) → AreSoFar w (suc more) screen o s disk left
     → ((d : Disk) → disk ≡ Some d → Runs s → StopsAt (rounds left (entered s.parts w screen) d) new disk' left' Ended) → AreSoFar w more (screen + 1) o new disk' left'
 unfolding then_screens

@@ -88,9 +88,6 @@ aside_on {limit} a b c p q x y = record {
   above = λ i g h. y.above i g h ∙ x.above i g h;
 }
 
-pub moved_on : {limit : ℕ} (a b c : List ℕ) → MovesStream limit a b → MovesStream limit b c → MovesStream limit a c
-moved_on {limit} a b c x y = record { all = y.all; same = λ i g h. y.same i g h ∙ x.same i g h }
-
 pub leaves_is : (t : Whole) (w : Word) (d : List ℕ) → length d ≤ 256 → leaves_past t w d ≡ (record t { values = d; memory = put_cell t.memory 20 w.next }, Done)
 unfolding leaves_past room
 leaves_is t w d h = rw (room_is (length d) h) refl

@@ -79,12 +79,6 @@ marks nm text =
 pub marks_of : (nm text : List ℕ) (k : Option Token) → keyword nm text ≡ k → Marks nm text k
 marks_of nm text k e = subst (λ x. Marks nm text x) e (marks nm text)
 
--- a number of base 10
-record IsFigure (nm : List ℕ) (y : ℕ) (double : Bool) : Type 0 where
-  pub number : is_number 10 nm ≡ true
-  pub double_is : is_double nm ≡ double
-  pub value : (if double then number_value 10 nm else number_value 10 nm % 65536) ≡ y
-
 -- what a word is in a body, where no name is due
 abbrev pub Case : List ℕ → (voc : ℕ) → (nm text : List ℕ) → Token → Type 0
 Case n voc nm text k =

@@ -13,6 +13,7 @@ use Rattle.colon_bodies.specs.declared.words.Half.{Half}
 use Rattle.source_words.specs.Words.{SourceWord}
 use Rattle.image_builder.specs.Spelled.{keyword, sense_of_word, text_of}
 use Rattle.resident_bodies.specs.Words.{row_of}
+use Rattle.metacompiler.specs.declared.rows.TheConstants as rows
 
 -- what a name stands for after what is half read, by its header; any control may be named
 abbrev pub named_token : List ℕ → Half → ℕ → Option Token
@@ -57,11 +58,11 @@ number_or (Some n) = n
 number_or None = 0
 
 abbrev pub number_of : Token → ℕ
-number_of TICK = 176
-number_of FORCE = 177
-number_of SEMI = 169
-number_of (TEXT false text) = 190
-number_of (TEXT true text) = 191
+number_of TICK = rows.BRACKET_TICK
+number_of FORCE = rows.BRACKET_COMPILE
+number_of SEMI = rows.SEMICOLON
+number_of (TEXT false text) = rows.DOT_QUOTE
+number_of (TEXT true text) = rows.ABORT_QUOTE
 number_of w = number_or (row_of w)
 
 -- what is asked of a keyword's name: its primitive, immediate; of COMPILE the primitive at runtime cell 19, which is
@@ -73,6 +74,6 @@ IsKey m voc name w = Key m voc name (number_of w) true
 
 -- the words that the resident compiler knows, as a vocabulary has them
 pub record Keys (m : List ℕ) (voc : ℕ) : Type 0 where
-  pub colon : Key m voc (codes ":") 168 false
-  pub paren : Key m voc (codes "(") 145 true
+  pub colon : Key m voc (codes ":") rows.COLON false
+  pub paren : Key m voc (codes "(") rows.PAREN true
   pub keywords : (name text : List ℕ) (w : Token) → keyword name text ≡ Some w → IsKey m voc name w

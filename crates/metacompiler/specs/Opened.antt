@@ -1,6 +1,7 @@
 -- A definition that was started, and what holds while its body is read.
 use Rattle.std.specs.Prelude.{◌≡◌, ◌≤◌, ◌+◌, ℕ, List, length}
 use Rattle.memory.specs.Bytes.{byte, cell}
+use Rattle.memory.specs.declared.system.TheConstants.{BASE, CONTEXT, STATE}
 use Rattle.memory.specs.declared.limit.TheConstants.{GREATEST_LIMIT}
 use Rattle.dictionary.proofs.Fronted.{Fronted}
 use Rattle.block_buffers.specs.Disks.{Disk}
@@ -22,9 +23,9 @@ pub record Opened (limit : ℕ) (ws : Words) (a cur ctx most here head pf : ℕ)
   pub fronted : Fronted n m1 here head (here + 2)
   pub short : length title ≤ 31
   pub count : byte m1 (here + 4) ≡ 160 + length title
-  pub context : cell m1 32 ≡ cur
-  pub compiling : cell m1 16 ≡ 65535
-  pub ten : cell m1 18 ≡ 10
+  pub context : cell m1 CONTEXT ≡ cur
+  pub compiling : cell m1 STATE ≡ 65535
+  pub ten : cell m1 BASE ≡ 10
   pub place : pf ≡ here + (7 + length title)
   pub high : pf ≤ limit
   pub top : limit ≤ GREATEST_LIMIT

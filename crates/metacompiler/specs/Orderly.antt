@@ -1,6 +1,7 @@
 -- An orderly dictionary: what must hold of a memory in which definitions are written.
 use Rattle.std.specs.Prelude.{◌≡◌, ◌≤◌, ◌<◌, ◌+◌, ◌∷◌, [], ℕ, List, length, ◌⊎◌}
 use Rattle.memory.specs.Bytes.{cell}
+use Rattle.memory.specs.declared.system.TheConstants.{BASE, CURRENT, DP, STATE}
 use Rattle.memory.specs.declared.limit.TheConstants.{GREATEST_LIMIT}
 use Rattle.dictionary.specs.Header.{name_length}
 use Rattle.dictionary.specs.Chain.{chain}
@@ -27,7 +28,7 @@ pub record ChainClear (cur ctx most here : ℕ) (n : List ℕ) (h : ℕ) : Type 
   pub members : HeadersClear cur ctx here n (chain n 32769 (cell n h))
   pub short : length (chain n 32769 (cell n h)) ≤ most
 
--- a cell from 34 to here that doesn't meet a head
+-- a cell from CURRENT to here that doesn't meet a head
 pub record CellApart (here g l : ℕ) : Type 0 where
   pub low : 34 ≤ l
   pub high : l + 1 < here
@@ -50,10 +51,10 @@ pub record ThreadApart (ws : Words) (a here g : ℕ) : Type 0 where
 -- n is an orderly dictionary, on which definitions can be written: HERE is below the limit, and each chain has at most so
 -- many headers. The vocabulary CURRENT is cur, CONTEXT is ctx, and INTERPRET's thread is at a.
 pub record Orderly (limit : ℕ) (ws : Words) (a cur ctx most here : ℕ) (n : List ℕ) : Type 0 where
-  pub dp : cell n 28 ≡ here
-  pub current : cell n 34 ≡ cur
-  pub executing : cell n 16 ≡ 0
-  pub ten : cell n 18 ≡ 10
+  pub dp : cell n DP ≡ here
+  pub current : cell n CURRENT ≡ cur
+  pub executing : cell n STATE ≡ 0
+  pub ten : cell n BASE ≡ 10
   pub low : 256 ≤ here
   pub high : here ≤ limit
   pub top : limit ≤ GREATEST_LIMIT

@@ -5,11 +5,12 @@ use Rattle.input_source.specs.declared.words.Word.{Word}
 use Rattle.input_source.specs.declared.words.Stream.{Stream}
 use Rattle.input_source.specs.Words.{word_at, bytes_of}
 use Rattle.memory.specs.Bytes.{IsCount, cell, bytes}
+use Rattle.memory.specs.declared.system.TheConstants.{BLK, TO_IN}
 use Rattle.machine_parts.specs.Whole.{Whole}
 
 -- screen b is in a buffer, and was referenced last; its text is read from p on
 pub record Reading (u : Whole) (b p : ℕ) (text : List ℕ) : Type 0 where
-  pub blk : cell u.memory 22 ≡ b
+  pub blk : cell u.memory BLK ≡ b
   pub some : (b == 0) ≡ false
   pub available : nat_lt b u.block_count ≡ true
   pub held : holds u.buffers b ≡ true
@@ -17,7 +18,7 @@ pub record Reading (u : Whole) (b p : ℕ) (text : List ℕ) : Type 0 where
   pub count : IsCount (length u.buffers)
   pub slot : slot_of u.buffers b < length u.buffers
   pub there : bytes u.memory (address_of u.buffers (slot_of u.buffers b)) 1024 ≡ text
-  pub place : cell u.memory 20 ≡ p
+  pub place : cell u.memory TO_IN ≡ p
   pub within : p ≤ 1024
   pub all : length u.memory ≡ 65536
 

@@ -6,12 +6,14 @@ use Rattle.memory.specs.Controls.{number_of}
 use Rattle.memory.specs.Bytes.{cell}
 use Rattle.memory.specs.declared.system.TheConstants.{STATE, BASE, DP, CONTEXT, CURRENT}
 use Rattle.compiling_words.specs.Code.{runtime}
+use Rattle.dictionary.specs.declared.code_fields.TheConstants.{COLON}
 use Rattle.dictionary.specs.Chain.{chain}
 use Rattle.dictionary.specs.Header.{is_immediate, compilation_address}
 use Rattle.dictionary.specs.Search.{Sought, Found, head_of, sought_from}
 use Rattle.metacompiler.specs.Loop.{Words}
 use Rattle.metacompiler.specs.Resident.{end_of_header, Resident}
 use Rattle.metacompiler.specs.Orderly.{IsHead}
+use Rattle.metacompiler.specs.declared.rows.TheConstants as rows
 
 -- what was found is immediate, and has this primitive
 abbrev pub is_keyword_at : List ℕ → (number : ℕ) → Sought → Bool
@@ -23,7 +25,7 @@ has_keyword m voc name number = is_keyword_at m number (sought_from m voc name)
 
 -- `:` isn't immediate, and neither is COMPILE, whose primitive runtime cell 19 names
 abbrev pub is_colon_at : List ℕ → Sought → Bool
-is_colon_at m (Found l) = not (is_immediate m l) && (cell m (compilation_address m l) == 168)
+is_colon_at m (Found l) = not (is_immediate m l) && (cell m (compilation_address m l) == rows.COLON)
 is_colon_at m _ = false
 
 unfoldable pub has_colon : List ℕ → (voc : ℕ) → Bool
@@ -39,32 +41,34 @@ has_compile m voc = is_compile_at m (sought_from m voc (codes "COMPILE"))
 -- the keywords, as the metacompiler's table has them
 abbrev pub has_naming : List ℕ → (voc : ℕ) → Bool
 has_naming m voc =
-    has_keyword m voc (codes "[']") 176 && (has_keyword m voc (codes "[COMPILE]") 177 && has_compile m voc)
+    has_keyword m voc (codes "[']") rows.BRACKET_TICK && (has_keyword m voc (codes "[COMPILE]") rows.BRACKET_COMPILE
+    && has_compile m voc)
 
 abbrev pub has_choosing : List ℕ → (voc : ℕ) → Bool
 has_choosing m voc =
-    has_keyword m voc (codes "IF") 179 && (has_keyword m voc (codes "ELSE") 180 && has_keyword m voc (codes "THEN") 181)
+    has_keyword m voc (codes "IF") rows.IF && (has_keyword m voc (codes "ELSE") rows.ELSE
+    && has_keyword m voc (codes "THEN") rows.THEN)
 
 abbrev pub has_repeating : List ℕ → (voc : ℕ) → Bool
 has_repeating m voc =
-    has_keyword m voc (codes "BEGIN") 182 && (has_keyword m voc (codes "UNTIL") 183
-    && (has_keyword m voc (codes "AGAIN") 186 && (has_keyword m voc (codes "WHILE") 184
-    && has_keyword m voc (codes "REPEAT") 185)))
+    has_keyword m voc (codes "BEGIN") rows.BEGIN && (has_keyword m voc (codes "UNTIL") rows.UNTIL
+    && (has_keyword m voc (codes "AGAIN") rows.AGAIN && (has_keyword m voc (codes "WHILE") rows.WHILE
+    && has_keyword m voc (codes "REPEAT") rows.REPEAT)))
 
 abbrev pub has_counting : List ℕ → (voc : ℕ) → Bool
 has_counting m voc =
-    has_keyword m voc (codes "DO") 187 && (has_keyword m voc (codes "LOOP") 188
-    && has_keyword m voc (codes "+LOOP") 189)
+    has_keyword m voc (codes "DO") rows.DO && (has_keyword m voc (codes "LOOP") rows.LOOP
+    && has_keyword m voc (codes "+LOOP") rows.PLUS_LOOP)
 
 abbrev pub has_saying : List ℕ → (voc : ℕ) → Bool
 has_saying m voc =
-    has_keyword m voc (codes ".\"") 190 && (has_keyword m voc (codes "ABORT\"") 191
-    && (has_keyword m voc (codes "DOES>") 178 && has_keyword m voc (codes ";") 169))
+    has_keyword m voc (codes ".\"") rows.DOT_QUOTE && (has_keyword m voc (codes "ABORT\"") rows.ABORT_QUOTE
+    && (has_keyword m voc (codes "DOES>") rows.DOES && has_keyword m voc (codes ";") rows.SEMICOLON))
 
 -- a vocabulary, and then FORTH, has all words of the resident compiler
 unfoldable pub has_keys : List ℕ → (voc : ℕ) → Bool
 has_keys m voc =
-    has_colon m voc && (has_keyword m voc (codes "(") 145 && (has_naming m voc && (has_choosing m voc
+    has_colon m voc && (has_keyword m voc (codes "(") rows.PAREN && (has_naming m voc && (has_choosing m voc
     && (has_repeating m voc && (has_counting m voc && has_saying m voc)))))
 
 -- the words of a thread after a code field, as INTERPRET's has them
@@ -87,13 +91,14 @@ has_jumps m word =
 
 abbrev pub has_primitives : List ℕ → Words → Bool
 has_primitives m ws =
-    (cell m ws.scan == 149) && ((cell m ws.query_dup == 39) && ((cell m ws.zero_branch == 8)
-    && ((cell m ws.zero_greater == 77) && ((cell m ws.execute == 15)
-    && ((cell m ws.branch == 7) && (cell m ws.exit == 5))))))
+    (cell m ws.scan == rows.INTERPRET) && ((cell m ws.query_dup == rows.QUESTION_DUP)
+    && ((cell m ws.zero_branch == number_of ctl.ZeroBranch) && ((cell m ws.zero_greater == rows.ZERO_GREATER)
+    && ((cell m ws.execute == rows.EXECUTE)
+    && ((cell m ws.branch == number_of ctl.Branch) && (cell m ws.exit == number_of ctl.Exit))))))
 
 unfoldable pub has_thread : List ℕ → (word : ℕ) → Bool
 has_thread m word =
-    nat_le word 65511 && ((cell m word == 1) && (has_jumps m word && has_primitives m (words_at m word)))
+    nat_le word 65511 && ((cell m word == COLON) && (has_jumps m word && has_primitives m (words_at m word)))
 
 -- two headers don't overlap
 unfoldable pub are_apart : List ℕ → (l k : ℕ) → Bool

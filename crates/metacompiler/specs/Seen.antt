@@ -1,6 +1,7 @@
 -- What a machine's memory m shows of a memory n in which definitions are written.
 use Rattle.std.specs.Prelude.{◌≡◌, ◌≤◌, ◌<◌, ◌+◌, ℕ, List}
 use Rattle.memory.specs.Bytes.{cell}
+use Rattle.memory.specs.declared.system.TheConstants.{BASE}
 use Rattle.memory.specs.declared.limit.TheConstants.{GREATEST_LIMIT}
 use Rattle.dictionary.specs.Header.{is_immediate, compilation_address}
 use Rattle.dictionary.specs.Search.{Found, sought, sought_from}
@@ -19,7 +20,7 @@ pub record Sees (limit : ℕ) (ws : Words) (a here : ℕ) (n : List ℕ) (voc : 
   pub sought_is : (x : List ℕ) → sought m x ≡ sought_from n voc x
   pub header : (x : List ℕ) (l : ℕ) → sought_from n voc x ≡ Found l → IsSeen here n m l
   pub thread : Thread ws m a
-  pub ten : cell m 18 ≡ 10
+  pub ten : cell m BASE ≡ 10
   pub fits : here ≤ limit
   pub top : limit ≤ GREATEST_LIMIT
   pub start : 34 ≤ a

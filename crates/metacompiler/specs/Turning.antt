@@ -1,6 +1,7 @@
 -- A machine at a turn of INTERPRET's loop, with the screens that are still to come.
 use Rattle.std.specs.Prelude.{◌≡◌, ◌≢◌, ◌≤◌, ◌<◌, ◌+◌, ◌/◌, ◌++◌, ◌∷◌, [], ℕ, suc, List, false, length, take, drop, ◌==◌}
 use Rattle.memory.specs.Bytes.{byte, cell, limit_of}
+use Rattle.memory.specs.declared.system.TheConstants.{BLK, TO_IN}
 use Rattle.block_buffers.specs.Disks.{Disk, next_fails, block_at}
 use Rattle.block_buffers.specs.Entries.{holds, has_updated, AreBuffers}
 use Rattle.machine_parts.specs.Whole.{Whole}
@@ -20,8 +21,8 @@ pub record MovesStream (limit : ℕ) (m m' : List ℕ) : Type 0 where
 -- the stream is the same, from p on, and so are the buffers, whatever else was written
 pub record KeepsStream (limit : ℕ) (m m' : List ℕ) (p : ℕ) : Type 0 where
   pub all : length m' ≡ 65536
-  pub blk : cell m' 22 ≡ cell m 22
-  pub place : cell m' 20 ≡ p
+  pub blk : cell m' BLK ≡ cell m BLK
+  pub place : cell m' TO_IN ≡ p
   pub within : p ≤ 1024
   pub above : (i : ℕ) → limit ≤ i → i < 65536 → byte m' i ≡ byte m i
 

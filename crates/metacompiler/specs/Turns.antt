@@ -6,6 +6,7 @@ use Rattle.machine_parts.specs.Whole.{Whole}
 use Rattle.machine_parts.specs.declared.parts.Outcome.TheVariants.{Done}
 use Rattle.primitives.specs.Table.{row}
 use Rattle.metacompiler.specs.Loop.{Words, Thread}
+use Rattle.metacompiler.specs.declared.rows.TheConstants.{INTERPRET}
 use Rattle.metacompiler.specs.Rounds.{Goes, at, out, rounds, Ended}
 
 -- (INTERPRET) makes v of u, and leaves the stack e in place of d; INTERPRET's thread is in both
@@ -14,7 +15,7 @@ pub record Scanned (ws : Words) (a : ℕ) (u v : Whole) (d e : List ℕ) : Type 
   pub before : Thread ws u.memory a
   pub behind : Thread ws v.memory a
   pub room : length d ≤ 250
-  pub scanned : row 149 ws.scan (at u d (a + 2)) ≡ (at v e (a + 2), Done)
+  pub scanned : row INTERPRET ws.scan (at u d (a + 2)) ≡ (at v e (a + 2), Done)
 
 -- six ticks where it compiled a word or a number
 abbrev pub CompiledIn6 : Type 0

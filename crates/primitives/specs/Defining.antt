@@ -3,6 +3,7 @@ use Rattle.compiling_words.specs.Code.{runtime, literal_code, text_code, text_nu
 use Rattle.compiling_words.specs.declared.text.TextWord.{TextWord}
 use Rattle.compiling_words.specs.declared.text.TextWord.TheVariants.{Show, Abort}
 use Rattle.dictionary.specs.Laying.{laid_at}
+use Rattle.dictionary.specs.declared.code_fields.TheConstants.{COLON, CONSTANT, VARIABLE}
 use Rattle.input_source.specs.declared.words.Word.{Word}
 use Rattle.memory.specs.Bytes.{cell, put_cell, cell_bytes, PutCell}
 use Rattle.memory.specs.declared.system.TheConstants.{STATE, TO_IN, DP, CONTEXT, CURRENT}
@@ -14,7 +15,7 @@ use Rattle.primitives.specs.Names.{reads_name, parses, reads_word}
 
 -- 168 : ( -- ): as CREATE with code field 1, hidden; then STATE := -1, CONTEXT := CURRENT
 abbrev pub colon : Whole → After
-colon s = reads_name s (λ t w name. creates t w name true 1 []
+colon s = reads_name s (λ t w name. creates t w name true COLON []
     (PutCell STATE 65535 ∷ PutCell CONTEXT (cell t.memory CURRENT) ∷ []) t.values)
 
 -- the bytes are written, and >IN is after the word
@@ -50,8 +51,8 @@ abort_quote s = quotes Abort s
 
 -- 192 CONSTANT ( x -- )
 abbrev pub constant : Whole → After
-constant s = takes1 s (λ x rest. reads_name s (λ t w name. creates t w name false 3 (cell_bytes x) [] rest))
+constant s = takes1 s (λ x rest. reads_name s (λ t w name. creates t w name false CONSTANT (cell_bytes x) [] rest))
 
 -- 193 VARIABLE ( -- )
 abbrev pub variable : Whole → After
-variable s = reads_name s (λ t w name. creates t w name false 2 (cell_bytes 0) [] t.values)
+variable s = reads_name s (λ t w name. creates t w name false VARIABLE (cell_bytes 0) [] t.values)

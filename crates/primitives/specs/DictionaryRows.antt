@@ -5,6 +5,7 @@ use Rattle.dictionary.specs.Forgetting.{target, cuts}
 use Rattle.dictionary.specs.Header.{compilation_address, is_immediate}
 use Rattle.dictionary.specs.Newest.{with_immediate}
 use Rattle.dictionary.specs.Search.{sought}
+use Rattle.dictionary.specs.declared.code_fields.TheConstants.{VARIABLE, VOCABULARY}
 use Rattle.input_source.specs.declared.words.Stream.{Stream}
 use Rattle.input_source.specs.declared.words.Word.{Word}
 use Rattle.memory.specs.Bytes.{cell, put_cell, Write, PutCell, written}
@@ -57,7 +58,7 @@ IsHeaderMade old new stream hidden code extra (Err o) =
 
 -- 150 CREATE ( -- )
 abbrev pub create : Whole → After
-create s = reads_name s (λ t w name. creates t w name false 2 [] [] t.values)
+create s = reads_name s (λ t w name. creates t w name false VARIABLE [] [] t.values)
 
 -- 151 IMMEDIATE ( -- )
 abbrev pub immediate : Whole → After
@@ -80,10 +81,10 @@ here s = leaves s (s.values ▸ cell s.memory DP)
 abbrev pub pad_row : Whole → After
 pad_row s = leaves s (s.values ▸ pad s.memory)
 
--- 156 VOCABULARY ( -- ): as CREATE with code field 4 and a record written with it: four empty chains and VOC-LINK; last
+-- 156 VOCABULARY ( -- ): as CREATE with its own code field and a record written with it: four empty chains and VOC-LINK; last
 -- VOC-LINK := it
 abbrev pub vocabulary : Whole → After
-vocabulary s = reads_name s (λ t w name. creates t w name false 4 (record_bytes (cell t.memory VOC_LINK))
+vocabulary s = reads_name s (λ t w name. creates t w name false VOCABULARY (record_bytes (cell t.memory VOC_LINK))
     (PutCell VOC_LINK (new_body t.memory name) ∷ []) t.values)
 
 -- 157 DEFINITIONS ( -- ): CURRENT := CONTEXT

@@ -8,8 +8,8 @@ ghost use Rattle.primitives.specs.Compiling.{compiles, resolves, ahead, semicolo
 use crate::writing::end_definition;
 use compiling_words::{Control, control_code, literal_code, runtime};
 use machine_parts::faults::{DATA_OVERFLOW, DATA_UNDERFLOW, DICTIONARY_FULL};
-use machine_parts::leaves;
 use machine_parts::parts::{Outcome, Parts};
+use machine_parts::{leaves, top_first};
 use memory::cell_bytes;
 use memory::system::{DP, STATE};
 
@@ -216,7 +216,7 @@ pub fn do_row(parts: &mut Parts) -> Outcome
     let code = control_code(&parts.memory, Control::Do, 0);
     let a = ahead(parts, 2);
     let b = ahead(parts, 4);
-    compile(parts, &code, 0, &[b, a])
+    compile(parts, &code, 0, &top_first!([] a, b))
 }
 
 /// 188 `LOOP` ( a b -- )

@@ -15,6 +15,7 @@ use dictionary::{compilation_address, is_immediate};
 use input_source::{Stream, Word, next_word};
 use machine_parts::faults::{BAD_BASE, CHAIN_TOO_LONG, DATA_OVERFLOW, DICTIONARY_FULL, NOT_FOUND};
 use machine_parts::parts::{Outcome, Parts};
+use machine_parts::top_first;
 use memory::system::{BASE, DP, STATE, TO_IN};
 use memory::{Memory, cell_bytes};
 use number_text::Number;
@@ -42,10 +43,10 @@ fn take_word(parts: &mut Parts, word: Word, link_field: u16) -> Outcome
 {
     let w = compilation_address(&parts.memory, link_field);
     if is_immediate(&parts.memory, link_field) {
-        return leave_past(parts, word, &[1, w]);
+        return leave_past(parts, word, &top_first!([] w, 1));
     }
     if parts.memory.cell(STATE) == 0 {
-        return leave_past(parts, word, &[1, w]);
+        return leave_past(parts, word, &top_first!([] w, 1));
     }
     compile_past(parts, word, &cell_bytes(w))
 }
@@ -65,7 +66,7 @@ fn take_single(parts: &mut Parts, word: Word, x: u16) -> Outcome
     ensures { (parts.new, result) ≡ single_word parts.old word x }
 {
     if parts.memory.cell(STATE) == 0 {
-        return leave_past(parts, word, &[65535, x]);
+        return leave_past(parts, word, &top_first!([] x, 65535));
     }
     let code = literal_code(&parts.memory, x);
     compile_past(parts, word, &code)
@@ -78,7 +79,7 @@ fn take_double(parts: &mut Parts, word: Word, n: u32) -> Outcome
     let low = (n % 65536) as u16;
     let high = (n / 65536) as u16;
     if parts.memory.cell(STATE) == 0 {
-        return leave_past(parts, word, &[65535, high, low]);
+        return leave_past(parts, word, &top_first!([] low, high, 65535));
     }
     let code = literals_code(&parts.memory, low, high);
     compile_past(parts, word, &code)

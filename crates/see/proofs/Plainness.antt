@@ -1,17 +1,15 @@
 -- The words of plain definitions.
-use Rattle.std.proofs.Common.{◌≡◌, ◌≢◌, Bool, true, false, ℕ, inl, inr, cond, List, [], ◌∷◌, ◌++◌, Some, None, refl, sym, ap, ◌∙◌, subst, arith, append_assoc}
+use Rattle.std.proofs.Common.{◌≡◌, true, false, ℕ, List, [], ◌∷◌, ◌++◌, refl, sym, ap, ◌∙◌, subst, append_assoc}
 use Rattle.colon_bodies.specs.declared.words.Half.{Half}
 use Rattle.colon_bodies.specs.declared.words.Half.TheVariants.{Free}
 use Rattle.colon_bodies.specs.Tokens.{Token, DOES, SEMI}
 use Rattle.colon_bodies.specs.Tree.{Body, Empty, Call, Tick, Pair, Literal, Double, Text, IfThen, IfElse, Until, Again, While, Loop, Definition, Simple, Doing, words, all_words}
 use Rattle.colon_bodies.specs.Rules.{half_after, half_of, AreKnown}
 use Rattle.colon_bodies.specs.Open.{Top}
-use Rattle.colon_bodies.specs.Plain.{IsPlainCell, IsPlainBody, IsPlainDefinition}
+use Rattle.colon_bodies.specs.Plain.{IsPlainBody, IsPlainDefinition}
 use Rattle.see.specs.PlainWords.{IsPlainWord, ArePlainWords}
-use Rattle.colon_bodies.specs.Found.{is_cell, pick, controls}
 use Rattle.std.specs.Prelude.{IsTrue}
 use Rattle.colon_bodies.proofs.Taking.{half-open, half-append}
-use Rattle.colon_bodies.proofs.Bytes.{is_true, not_picked, all_within}
 use Rattle.colon_bodies.proofs.Exact.{known_front}
 
 words_free : (t : Body) → half_of Free (words t) ≡ Free
@@ -110,24 +108,6 @@ pub are_all_plain : (rt : ℕ → ℕ) (d : Definition) → IsPlainDefinition rt
 are_all_plain rt (Simple t) h = along rt t _ (is_plain rt t h) (tt, tt)
 are_all_plain rt (Doing t a) h =
     subst (λ l. ArePlainWords rt Free l) (sym (append_assoc (words t) (DOES ∷ words a) (SEMI ∷ []))) (along rt t _ (is_plain rt t h.0) (tt, along rt a _ (is_plain rt a h.2) (tt, tt)))
-
--- the cell of no control
-abbrev NoneOf : (ℕ → ℕ) → ℕ → List ℕ → Type 0
-NoneOf rt w [] = Unit {0}
-NoneOf rt w (k ∷ ks) = (is_cell rt k w ≡ false) × NoneOf rt w ks
-
-none_of : (rt : ℕ → ℕ) (w : ℕ) (ks : List ℕ) → pick rt w ks ≡ None → NoneOf rt w ks
-none_of rt w [] e = tt
-none_of rt w (k ∷ ks) e = by (is_cell rt k w) refl (λ f. none_of rt w ks f) e
-  where
-    by : (b : Bool) → is_cell rt k w ≡ b → (pick rt w ks ≡ None → NoneOf rt w ks) → cond b (Some k) (pick rt w ks) ≡ None → NoneOf rt w (k ∷ ks)
-    by true q ih f = cc
-    by false q ih f = (q, ih f)
-
-other : (rt : ℕ → ℕ) (w k j : ℕ) → is_cell rt j w ≡ false → rt k ≢ 0 → w ≡ rt k → k ≡ j → ⊥
-other rt w k j e n q r =
-    let t : is_cell rt j w ≡ true = ap (λ i. is_cell rt i w) (sym r) ∙ ap (is_cell rt k) q ∙ is_true rt k n in
-    let z : true ≡ false = sym t ∙ e in cc
 
 -- word by word
 pub record Plainly (rt : ℕ → ℕ) (h : Half) (done : List Token) : Type 0 where

@@ -6,6 +6,7 @@ use Rattle.memory.specs.declared.system.TheConstants.{RUNTIME_CELLS}
 use Rattle.dictionary.specs.Header.{compilation_address}
 use Rattle.dictionary.specs.Order.{headers}
 use Rattle.dictionary.specs.Extents.{extent_end}
+use Rattle.image_builder.specs.declared.source.TheConstants.{CONTROLS_END}
 
 -- the address after a header's code field
 unfoldable pub parameter_field : List ℕ → ℕ → ℕ
@@ -22,4 +23,4 @@ first_controls m (suc n) = first_controls m n ++ cell m (RUNTIME_CELLS + 2 * n) 
 
 -- all of them
 unfoldable pub controls_of : List ℕ → List ℕ
-controls_of m = first_controls m 28
+controls_of m = first_controls m CONTROLS_END

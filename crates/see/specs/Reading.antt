@@ -1,6 +1,8 @@
 -- A definition's text read again as a source is, with the names and the runtime cells of the same memory.
 use Rattle.std.specs.Prelude.{◌≡◌, ◌<◌, ℕ, Bool, not, ◌==◌, ◌&&◌, List, [], ◌∷◌, Option, Some, None, if◌then◌else◌, map, codes, slice_index}
 use Rattle.std.specs.List.{list_any}
+use Rattle.memory.specs.Controls.{number_of}
+use Rattle.memory.specs.declared.controls.Control.TheVariants as ctl
 use Rattle.dictionary.specs.Header.{is_immediate, compilation_address}
 use Rattle.dictionary.specs.Search.{Sought, Found, Nowhere, TooLong, sought_hiding}
 use Rattle.source_words.specs.declared.modes.Mode.TheVariants.{Outside}
@@ -18,7 +20,9 @@ use Rattle.see.specs.Printing.{its_words}
 
 -- the controls that only a keyword or a number writes
 abbrev pub inner_controls : List ℕ
-inner_controls = 6 ∷ 7 ∷ 8 ∷ 9 ∷ 10 ∷ 11 ∷ 16 ∷ 17 ∷ 18 ∷ []
+inner_controls =
+    number_of ctl.Literal ∷ number_of ctl.Branch ∷ number_of ctl.ZeroBranch ∷ number_of ctl.Do ∷ number_of ctl.Loop
+    ∷ number_of ctl.PlusLoop ∷ number_of ctl.ShowText ∷ number_of ctl.AbortText ∷ number_of ctl.Does ∷ []
 
 -- the address is that of one of them
 unfoldable pub is_inner : List ℕ → ℕ → Bool

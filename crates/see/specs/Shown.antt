@@ -1,5 +1,7 @@
 -- What the decompiler shows.
 use Rattle.std.specs.Prelude.{◌≡◌, ◌≢◌, ℕ, ◌+◌, ◌≤◌, List, [], ◌∷◌, ◌++◌}
+use Rattle.memory.specs.Controls.{number_of}
+use Rattle.memory.specs.declared.controls.Control.TheVariants as ctl
 use Rattle.colon_bodies.specs.Tokens.{Token, SEMI, laid, AreShort}
 use Rattle.colon_bodies.specs.Tree.{Definition, all_words, all_depth}
 use Rattle.colon_bodies.specs.Code.{thread}
@@ -9,7 +11,7 @@ use Rattle.colon_bodies.specs.Plain.{AreApart, IsPlainDefinition}
 -- these bytes are the thread of a plain definition, whose structures lie at most 64 deep and whose texts have at most 255 bytes
 pub record IsThread (rt : ℕ → ℕ) (at : ℕ) (bytes : List ℕ) (d : Definition) : Type 0 where
   pub plain : IsPlainDefinition rt d
-  pub exit : rt 5 ≢ 0
+  pub exit : rt (number_of ctl.Exit) ≢ 0
   pub shallow : all_depth d ≤ 64
   pub short : AreShort (all_words d)
   pub is : thread rt d at ≡ bytes

@@ -1,14 +1,13 @@
 //! The words of a thread.
 
 ghost use Rattle.std.specs.Prelude.{◌≡◌, ◌↔◌, IsTrue, ◌≤◌, ◌<◌, ◌^◌, ◌+◌, true, ℕ, List, ◌∷◌, [], ◌++◌, IfOk, IfSome, IsSome, length, map, Some, slice_index};
-ghost use Rattle.colon_bodies.specs.Tree.{Body, Definition, all_words};
+ghost use Rattle.colon_bodies.specs.Tree.{Definition, all_words};
 ghost use Rattle.colon_bodies.specs.Tokens.{SEMI};
 ghost use Rattle.colon_bodies.specs.Draft.{token};
-ghost use Rattle.colon_bodies.specs.Structures.{Frames, In, step};
 ghost use Rattle.colon_bodies.specs.Instructions.{ICall, INum, ICompile, IText, len};
 ghost use Rattle.colon_bodies.specs.Found.{found};
 ghost use Rattle.see.specs.Apart.{instr};
-ghost use Rattle.see.specs.Seen.{Seen};
+ghost use Rattle.see.specs.Seen.{TakesOne};
 ghost use Rattle.see.specs.declared.structures.Frame.{Frame};
 
 use crate::front::{Instruction, first_off};
@@ -21,9 +20,9 @@ use std::alloc::{AllocError, Global};
 
 /// A word.
 fn take_call(words: &mut Vec<BodyWord>, w: u16) -> Result<bool, AllocError>
-    ensures { (at here : ℕ) (begins : List ℕ) (f g : Frames) (c d : Body) (frames : List Frame) →
-        Seen at f c here (map token words.old.items) begins frames → step f c here (ICall w) ≡ Some (In g d) →
-        IfOk result (λ ok. (ok ≡ true) × Seen at g d (here + 2) (map token words.new.items) begins frames) }
+    ensures { (at here : ℕ) (begins : List ℕ) (frames : List Frame) →
+        TakesOne at here (ICall w)
+        words.old.items begins frames result words.new.items begins frames }
 {
     words.push(BodyWord::Name(w))?;
     Ok(true)
@@ -31,9 +30,9 @@ fn take_call(words: &mut Vec<BodyWord>, w: u16) -> Result<bool, AllocError>
 
 /// A number.
 fn take_number(words: &mut Vec<BodyWord>, n: u16) -> Result<bool, AllocError>
-    ensures { (at here : ℕ) (begins : List ℕ) (f g : Frames) (c d : Body) (frames : List Frame) →
-        Seen at f c here (map token words.old.items) begins frames → step f c here (INum n) ≡ Some (In g d) →
-        IfOk result (λ ok. (ok ≡ true) × Seen at g d (here + 4) (map token words.new.items) begins frames) }
+    ensures { (at here : ℕ) (begins : List ℕ) (frames : List Frame) →
+        TakesOne at here (INum n)
+        words.old.items begins frames result words.new.items begins frames }
 {
     words.push(BodyWord::Number(n))?;
     Ok(true)
@@ -41,9 +40,9 @@ fn take_number(words: &mut Vec<BodyWord>, n: u16) -> Result<bool, AllocError>
 
 /// COMPILE and a word.
 fn take_pair(words: &mut Vec<BodyWord>, w: u16) -> Result<bool, AllocError>
-    ensures { (at here : ℕ) (begins : List ℕ) (f g : Frames) (c d : Body) (frames : List Frame) →
-        Seen at f c here (map token words.old.items) begins frames → step f c here (ICompile w) ≡ Some (In g d) →
-        IfOk result (λ ok. (ok ≡ true) × Seen at g d (here + 4) (map token words.new.items) begins frames) }
+    ensures { (at here : ℕ) (begins : List ℕ) (frames : List Frame) →
+        TakesOne at here (ICompile w)
+        words.old.items begins frames result words.new.items begins frames }
 {
     words.push(BodyWord::Compile)?;
     words.push(BodyWord::Name(w))?;
@@ -56,11 +55,9 @@ fn take_text<'a>(
     aborts: bool,
     text: &'a [u8],
 ) -> Result<bool, AllocError>
-    ensures { (at here : ℕ) (begins : List ℕ) (f g : Frames) (c d : Body) (frames : List Frame) →
-        Seen at f c here (map token words.old.items) begins frames →
-        step f c here (IText aborts text.now) ≡ Some (In g d) →
-        IfOk result (λ ok. (ok ≡ true) × Seen at g d (here + (3 + length text.now))
-        (map token words.new.items) begins frames) }
+    ensures { (at here : ℕ) (begins : List ℕ) (frames : List Frame) →
+        TakesOne at here (IText aborts text.now)
+        words.old.items begins frames result words.new.items begins frames }
 {
     words.push(BodyWord::Text(aborts, text))?;
     Ok(true)
@@ -87,10 +84,9 @@ fn take<'a>(
     flat: Instruction<'a>,
 ) -> Result<bool, AllocError>
     requires { here + len (instr flat) < 2 ^ 64 }
-    ensures { (f g : Frames) (c d : Body) → Seen at f c here (map token words.old.items) begins.old frames.old.items →
-        here < at + length begins.old → step f c here (instr flat.entry) ≡ Some (In g d) →
-        IfOk result (λ ok. (ok ≡ true) × Seen at g d (here + len (instr flat.entry))
-        (map token words.new.items) begins.new frames.new.items) }
+    ensures { here < at + length begins.old →
+        TakesOne at here (instr flat.entry)
+        words.old.items begins.old frames.old.items result words.new.items begins.new frames.new.items }
 {
     match flat {
         Instruction::Call(w) => take_call(words, w),

@@ -3,26 +3,37 @@
 ghost use Rattle.std.specs.Prelude.{◌≡◌, ◌↔◌, IsTrue, IsSome, OnOk, true, ◌≤◌, ◌<◌, ◌^◌, ◌+◌, ◌-◌, ℕ, List, IfOk, length, map, Some};
 ghost use Rattle.colon_bodies.specs.Tree.{Body};
 ghost use Rattle.colon_bodies.specs.Draft.{token};
-ghost use Rattle.colon_bodies.specs.Structures.{Frames, In, step, else_at, again_at, repeat_at, split, shut};
+ghost use Rattle.colon_bodies.specs.Structures.{Frames, In, else_at, again_at, repeat_at, split, shut};
 ghost use Rattle.colon_bodies.specs.Instructions.{IQuery, IBranch, IDo, ILoop, IDoes};
-ghost use Rattle.see.specs.Seen.{Seen, frames_of, top_frame, beneath, start, begins_at, EndsHere};
+ghost use Rattle.see.specs.Seen.{Seen, Takes, TakesOne, frames_of, top_frame, beneath, start, begins_at, EndsHere};
 ghost use Rattle.see.specs.declared.structures.Frame.{Frame};
 
 use crate::places::count_begin;
 use colon_bodies::BodyWord;
 use std::alloc::AllocError;
 
-/// A structure that is open. An address is that of the byte where its innermost body begins, or of the one after its end.
+/// A structure that is open: the addresses at which its innermost body starts, and after its last byte.
 #[derive(Clone, Copy)]
 pub enum Frame {
-    /// What is after DOES>: where it begins.
-    Past(usize),
-    /// IF, or the WHILE of a loop: the index of its word, where it ends, and where its body begins.
-    If(usize, usize, usize),
-    /// ELSE: where it ends, and where its body begins.
-    Else(usize, usize),
-    /// DO: where its body begins.
-    Do(usize),
+    /// What is after DOES>.
+    Past {
+        start: usize,
+    },
+    /// IF, or the WHILE of a loop, with the index of its word.
+    If {
+        index: usize,
+        end: usize,
+        start: usize,
+    },
+    /// ELSE.
+    Else {
+        end: usize,
+        start: usize,
+    },
+    /// DO.
+    Do {
+        start: usize,
+    },
 }
 
 /// ?BRANCH: forward it is an IF, back an UNTIL.
@@ -35,13 +46,15 @@ pub fn take_query(
     to: usize,
 ) -> Result<bool, AllocError>
     requires { here + 4 < 2 ^ 64 }
-    ensures { (f g : Frames) (c d : Body) → Seen at f c here (map token words.old.items) begins.old frames.old.items →
-        here < at + length begins.old → step f c here (IQuery to) ≡ Some (In g d) →
-        IfOk result (λ ok. (ok ≡ true) × Seen at g d (here + 4)
-        (map token words.new.items) begins.new frames.new.items) }
+    ensures { here < at + length begins.old → TakesOne at here (IQuery to)
+        words.old.items begins.old frames.old.items result words.new.items begins.new frames.new.items }
 {
     if here < to {
-        frames.push(Frame::If(words.len(), to, here + 4))?;
+        frames.push(Frame::If {
+            index: words.len(),
+            end: to,
+            start: here + 4,
+        })?;
         words.push(BodyWord::If)?;
         return Ok(true);
     }
@@ -70,13 +83,15 @@ fn take_else(
     to: usize,
 ) -> Result<bool, AllocError>
     requires { here + 4 < 2 ^ 64 }
-    ensures { (at : ℕ) (begins : List ℕ) (f g : Frames) (c d : Body) →
-        Seen at f c here (map token words.old.items) begins frames.old.items → else_at f c to ≡ Some (In g d) →
-        IfOk result (λ ok. (ok ≡ true) × Seen at g d (here + 4) (map token words.new.items) begins frames.new.items) }
+    ensures { (at : ℕ) (begins : List ℕ) → Takes at here (here + 4) (λ f c. else_at f c to)
+        words.old.items begins frames.old.items result words.new.items begins frames.new.items }
 {
     match pop_frame(frames) {
-        Some(Frame::If(_, _, _)) => {
-            frames.push(Frame::Else(to, here + 4))?;
+        Some(Frame::If { .. }) => {
+            frames.push(Frame::Else {
+                end: to,
+                start: here + 4,
+            })?;
             words.push(BodyWord::Else)?;
             Ok(true)
         }
@@ -94,10 +109,9 @@ fn take_again(
 ) -> Result<bool, AllocError>
     requires room { here + 4 < 2 ^ 64 }
     requires back { to ≤ here }
-    ensures { (f g : Frames) (c d : Body) (frames : List Frame) →
-        Seen at f c here (map token words.old.items) begins.old frames → here < at + length begins.old →
-        again_at f (split c (here - to)) ≡ Some (In g d) →
-        IfOk result (λ ok. (ok ≡ true) × Seen at g d (here + 4) (map token words.new.items) begins.new frames) }
+    ensures { (frames : List Frame) → here < at + length begins.old →
+        Takes at here (here + 4) (λ f c. again_at f (split c (here - to)))
+        words.old.items begins.old frames result words.new.items begins.new frames }
 {
     if !count_begin(begins, at, to) {
         return Ok(false);
@@ -122,7 +136,7 @@ fn take_repeat(
         (map token words.new.items) begins.new frames.new.items) }
 {
     match pop_frame(frames) {
-        Some(Frame::If(index, _, start)) => {
+        Some(Frame::If { index, start, .. }) => {
             if index >= words.len() {
                 return Ok(false);
             }
@@ -144,11 +158,10 @@ pub fn take_do(
     here: usize,
 ) -> Result<bool, AllocError>
     requires { here + 4 < 2 ^ 64 }
-    ensures { (at to : ℕ) (begins : List ℕ) (f g : Frames) (c d : Body) →
-        Seen at f c here (map token words.old.items) begins frames.old.items → step f c here (IDo to) ≡ Some (In g d) →
-        IfOk result (λ ok. (ok ≡ true) × Seen at g d (here + 4) (map token words.new.items) begins frames.new.items) }
+    ensures { (at to : ℕ) (begins : List ℕ) → TakesOne at here (IDo to)
+        words.old.items begins frames.old.items result words.new.items begins frames.new.items }
 {
-    frames.push(Frame::Do(here + 4))?;
+    frames.push(Frame::Do { start: here + 4 })?;
     words.push(BodyWord::Do)?;
     Ok(true)
 }
@@ -159,13 +172,11 @@ pub fn take_loop(
     frames: &mut Vec<Frame>,
     plus: bool,
 ) -> Result<bool, AllocError>
-    ensures { (at here to : ℕ) (begins : List ℕ) (f g : Frames) (c d : Body) →
-        Seen at f c here (map token words.old.items) begins frames.old.items →
-        step f c here (ILoop plus to) ≡ Some (In g d) →
-        IfOk result (λ ok. (ok ≡ true) × Seen at g d (here + 4) (map token words.new.items) begins frames.new.items) }
+    ensures { (at here to : ℕ) (begins : List ℕ) → TakesOne at here (ILoop plus to)
+        words.old.items begins frames.old.items result words.new.items begins frames.new.items }
 {
     match pop_frame(frames) {
-        Some(Frame::Do(_)) => {
+        Some(Frame::Do { .. }) => {
             words.push(BodyWord::Loop(plus))?;
             Ok(true)
         }
@@ -180,11 +191,10 @@ pub fn take_does(
     here: usize,
 ) -> Result<bool, AllocError>
     requires { here + 2 < 2 ^ 64 }
-    ensures { (at : ℕ) (begins : List ℕ) (f g : Frames) (c d : Body) →
-        Seen at f c here (map token words.old.items) begins frames.old.items → step f c here IDoes ≡ Some (In g d) →
-        IfOk result (λ ok. (ok ≡ true) × Seen at g d (here + 2) (map token words.new.items) begins frames.new.items) }
+    ensures { (at : ℕ) (begins : List ℕ) → TakesOne at here IDoes
+        words.old.items begins frames.old.items result words.new.items begins frames.new.items }
 {
-    frames.push(Frame::Past(here + 2))?;
+    frames.push(Frame::Past { start: here + 2 })?;
     words.push(BodyWord::Does)?;
     Ok(true)
 }
@@ -202,10 +212,10 @@ fn start_in(at: usize, top: Option<Frame>) -> usize
 {
     match top {
         None => at,
-        Some(Frame::Past(start)) => start,
-        Some(Frame::If(_, _, start)) => start,
-        Some(Frame::Else(_, start)) => start,
-        Some(Frame::Do(start)) => start,
+        Some(Frame::Past { start }) => start,
+        Some(Frame::If { start, .. }) => start,
+        Some(Frame::Else { start, .. }) => start,
+        Some(Frame::Do { start }) => start,
     }
 }
 
@@ -226,10 +236,8 @@ pub fn take_branch(
     to: usize,
 ) -> Result<bool, AllocError>
     requires { here + 4 < 2 ^ 64 }
-    ensures { (f g : Frames) (c d : Body) → Seen at f c here (map token words.old.items) begins.old frames.old.items →
-        here < at + length begins.old → step f c here (IBranch to) ≡ Some (In g d) →
-        IfOk result (λ ok. (ok ≡ true) × Seen at g d (here + 4)
-        (map token words.new.items) begins.new frames.new.items) }
+    ensures { here < at + length begins.old → TakesOne at here (IBranch to)
+        words.old.items begins.old frames.old.items result words.new.items begins.new frames.new.items }
 {
     if here < to {
         return take_else(words, frames, here, to);
@@ -246,8 +254,8 @@ fn ends_here(frames: &Vec<Frame>, here: usize) -> bool
     ensures some { IsTrue result → 0 < length frames.now.items }
 {
     match frames.last() {
-        Some(Frame::If(_, to, _)) => *to <= here,
-        Some(Frame::Else(to, _)) => *to <= here,
+        Some(Frame::If { end, .. }) => *end <= here,
+        Some(Frame::Else { end, .. }) => *end <= here,
         _ => false,
     }
 }

@@ -2,9 +2,9 @@
 
 ghost use Rattle.std.specs.Prelude.{◌≡◌, ◌≢◌, ◌⊎◌, ◌<◌, codes, decimal, false, true, Some, IsNone, IsSome, IfSome, MatchOption, OnOk};
 ghost use Rattle.std.specs.Io.KnownBytes.{Appends};
-ghost use Rattle.image_builder.specs.Sources.{done_of};
+ghost use Rattle.image_builder.specs.Sources.{ForDisks};
 ghost use Rattle.block_buffers.specs.Disks.{Disk};
-ghost use Rattle.block_buffers.specs.Likeness.{DidAs, IsLike};
+ghost use Rattle.block_buffers.specs.Likeness.{IsLike};
 ghost use Rattle.subcommands.specs.Kernel.{filled, blocks_of};
 ghost use Rattle.subcommands.specs.Images.{IsBuilding, IsBuiltFile, IsFileOfRead};
 ghost use Rattle.subcommands.specs.Causes.{IsNoFile, build_cause, image_cause};
@@ -225,12 +225,11 @@ pub fn do_build<W: Output, D: Device>(
     ensures read { IfSome result.file (λ file.
         IsFileOfRead buffers (D.block_count device.old) from to file (D.calls device.old) (D.calls device.new)) }
     // For each disk as which the device did, the image is that of this disk's screens.
-    ensures file { (d e : Disk) → DidAs d e (D.block_count device.old) (D.calls device.old) (D.calls device.new) →
-        IfSome result.file
-        (IsBuiltFile buffers d from to (done_of (Some e) (D.calls device.old) (D.calls device.new))) }
+    ensures file { ForDisks (D.block_count device.old) (D.calls device.old) (D.calls device.new) (λ d done.
+        IfSome result.file (IsBuiltFile buffers d from to done)) }
     // Whether a line can be printed or not, the device is as building the screens, or refusing them, leaves it.
-    ensures device { (d e : Disk) → DidAs d e (D.block_count device.old) (D.calls device.old) (D.calls device.new) →
-        IsBuilding buffers d from to (done_of (Some e) (D.calls device.old) (D.calls device.new)) }
+    ensures device { ForDisks (D.block_count device.old) (D.calls device.old) (D.calls device.new) (λ d done.
+        IsBuilding buffers d from to done) }
     // A device that reports its disk did as that disk.
     ensures like { (d : Disk) → D.disk device.old ≡ Some d →
         IsLike d (D.disk device.new) (D.block_count device.old) (D.calls device.old) (D.calls device.new) }
@@ -238,8 +237,8 @@ pub fn do_build<W: Output, D: Device>(
     ensures told { W.failed writer.new ≡ false →
         IfSome result.file (λ file. IsTold file.items (W.sent writer.old) (W.sent writer.new)) }
     ensures refused { W.failed writer.new ≡ false → IsNone result.file →
-        (d e : Disk) → DidAs d e (D.block_count device.old) (D.calls device.old) (D.calls device.new) →
-        EndsUnbuilt buffers d from to (done_of (Some e) (D.calls device.old) (D.calls device.new)) result.status (W.sent writer.old) (W.sent writer.new) }
+        ForDisks (D.block_count device.old) (D.calls device.old) (D.calls device.new) (λ d done.
+        EndsUnbuilt buffers d from to done result.status (W.sent writer.old) (W.sent writer.new)) }
     // Where a line can't be printed, there is no file.
     ensures passed { W.failed writer.new ≡ false → W.passed writer.new ≡ true }
     ensures cut { W.failed writer.old ≡ false → W.failed writer.new ≡ true → (result.status ≡ 5) × IsNone result.file }

@@ -1,7 +1,7 @@
 use Rattle.std.proofs.Common.{◌≡◌, ◌++◌, ◌∷◌, [], arith, refl, true, false, ◌∙◌, rules}
 use Rattle.machine.specs.Answer.{is_return}
 use Rattle.inner_interpreter.proofs.Lining.{at_end, took, line_ends, returned_here, more_here, is_taken, typed_more, read_more, begun, kept_unread, if_err}
-use Rattle.inner_interpreter.proofs.Givens.{longer, given_more, given_return, given_end, given_full}
+use Rattle.inner_interpreter.proofs.Givens.{longer, given_more}
 use Rattle.inner_interpreter.proofs.lines.take_line.Goals as goal
 
 pub returns-in_default-clause-told : goal.returns-in_default-clause-told

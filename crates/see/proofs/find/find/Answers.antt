@@ -40,7 +40,7 @@ returns-then-not-branch c = λ t e.
     let v = c.deref_mut.ensures.value in
     let n = ap length v in
     let within : c.loop-next.here < c.args.at + length c.deref_mut.result.now = omega (arith, n, c.loop-next.invariant.0, c.loop-next.invariant.1, c.in-Some.ensures.lengths, some_bytes (instr c.in-Some.next.first)) in
-    let y = c.in_ok-take.ensures x.frame x.next_frame x.body x.next_body (subst (λ l. Seen c.args.at x.frame x.body c.loop-next.here (map token c.close_here.new.words.items) l c.close_here.new.frames.items) (sym v) s) within x.steps in
+    let y = c.in_ok-take.ensures within x.frame x.next_frame x.body x.next_body (subst (λ l. Seen c.args.at x.frame x.body c.loop-next.here (map token c.close_here.new.words.items) l c.close_here.new.frames.items) (sym v) s) x.steps in
     absurd (let z = c.if-not-branch.true in let o = y.0 in cc)
 
 pub loop-next-preserved : goal.loop-next-preserved
@@ -56,6 +56,6 @@ loop-next-preserved c =
           let x = walk_on (slice_index c.args.runtime.now) t _ i.frame i.body c.loop-next.here (instr c.in-Some.next.first) _ i.walk (sym c.in-Some.ensures.is) (some_length _ (false_test _ _ c.is_nothing.ensures c.if-is_nothing.false)) in
           let s = c.in_ok-close_here.ensures c.args.at _ i.frame x.frame i.body x.body i.is x.shuts in
           let within : c.loop-next.here < c.args.at + length c.deref_mut.result.now = omega (arith, n, c.loop-next.invariant.0, c.loop-next.invariant.1, c.in-Some.ensures.lengths, some_bytes (instr c.in-Some.next.first)) in
-          let y = c.in_ok-take.ensures x.frame x.next_frame x.body x.next_body (subst (λ l. Seen c.args.at x.frame x.body c.loop-next.here (map token c.close_here.new.words.items) l c.close_here.new.frames.items) (sym v) s) within x.steps in
+          let y = c.in_ok-take.ensures within x.frame x.next_frame x.body x.next_body (subst (λ l. Seen c.args.at x.frame x.body c.loop-next.here (map token c.close_here.new.words.items) l c.close_here.new.frames.items) (sym v) s) x.steps in
           rw back (rw c.bytes_of.ensures (record { frame = x.next_frame; body = x.next_body; walk = x.walk; is = y.1 })),
     )

@@ -9,5 +9,5 @@ use Rattle.see.proofs.Growing.{one_more}
 use Rattle.see.proofs.find.take_call.Goals as goal
 
 pub returns : goal.returns
-returns c = λ at here n f g b d frames s e.
+returns c = λ at here n frames f g b d s e.
     (refl, one_more token at f f g b (Call b false c.args.w) d here (here + 2) _ _ (w.Name c.args.w) (NAME c.args.w) n frames frames s tt refl c.in_ok-push.ensures.items (sym (append_assoc (frame_words f) (words b) (NAME c.args.w ∷ []))) s.frames_are (omega (arith, s.here_is)) (omega arith) e)

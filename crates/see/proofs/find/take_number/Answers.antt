@@ -8,5 +8,5 @@ use Rattle.see.proofs.Growing.{one_more}
 use Rattle.see.proofs.find.take_number.Goals as goal
 
 pub returns : goal.returns
-returns c = λ at here n f g b d frames s e.
+returns c = λ at here n frames f g b d s e.
     (refl, one_more token at f f g b (Literal b c.args.n) d here (here + 4) _ _ (w.Number c.args.n) (NUMBER c.args.n) n frames frames s tt refl c.in_ok-push.ensures.items (sym (append_assoc (frame_words f) (words b) (NUMBER c.args.n ∷ []))) s.frames_are (omega (arith, s.here_is)) (omega arith) e)

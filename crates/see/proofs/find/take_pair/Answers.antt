@@ -9,7 +9,7 @@ use Rattle.see.proofs.Growing.{grown}
 use Rattle.see.proofs.find.take_pair.Goals as goal
 
 pub returns : goal.returns
-returns c = λ at here n f g b d frames s e.
+returns c = λ at here n frames f g b d s e.
     let old = c.args.words.now.items in
     let both = ap (map token) c.in_ok-push-2.ensures.items
     ∙ map_snoc token _ (w.Name c.args.w)

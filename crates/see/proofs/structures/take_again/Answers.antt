@@ -9,7 +9,7 @@ use Rattle.see.proofs.Growing.{back_place, back_seen}
 use Rattle.see.proofs.structures.take_again.Goals as goal
 
 pub returns-then-not-count_begin : goal.returns-then-not-count_begin
-returns-then-not-count_begin c = λ f g b d frames s within e.
+returns-then-not-count_begin c = λ frames within f g b d s e.
     let u = again_cut f g b d (c.args.here - c.args.to) e in
     let place = laid (frame_words f ++ words u.0) in
     let p = back_place c.args.at f b u.0 u.1 c.args.here c.args.to _ _ _ c.requires.back s u.2 in
@@ -17,7 +17,7 @@ returns-then-not-count_begin c = λ f g b d frames s within e.
     absurd (let z = c.if-not-count_begin.true in let y = r.0 in cc)
 
 pub returns : goal.returns
-returns c = λ f g b d frames s within e.
+returns c = λ frames within f g b d s e.
     let u = again_cut f g b d (c.args.here - c.args.to) e in
     let place = laid (frame_words f ++ words u.0) in
     let p = back_place c.args.at f b u.0 u.1 c.args.here c.args.to _ _ _ c.requires.back s u.2 in

@@ -3,18 +3,18 @@ use Rattle.see.proofs.Shutting.{branch_forward, branch_over, branch_back, start_
 use Rattle.see.proofs.structures.take_branch.Goals as goal
 
 pub returns-then-here-to : goal.returns-then-here-to
-returns-then-here-to c = λ f g b d s within e. c.take_else.ensures c.args.at _ f g b d s (branch_forward f b c.args.here c.args.to _ c.if-here-to.true e)
+returns-then-here-to c = λ within f g b d s e. c.take_else.ensures c.args.at _ f g b d s (branch_forward f b c.args.here c.args.to _ c.if-here-to.true e)
 
 pub returns-then-to-body_start : goal.returns-then-to-body_start
-returns-then-to-body_start c = λ f g b d s within e.
+returns-then-to-body_start c = λ within f g b d s e.
     let i = c.body_start.ensures f s.frames_are in
     let j = start_back c.args.at f b c.args.here _ _ _ s in
     let lt = c.if-to-body_start.true in
     c.take_repeat.ensures c.args.here f g b d s within c.requires (omega (arith, i, lt)) (branch_over f b c.args.here c.args.to _ (omega arith) (omega (arith, i, j, lt)) e)
 
 pub returns : goal.returns
-returns c = λ f g b d s within e.
+returns c = λ within f g b d s e.
     let i = c.body_start.ensures f s.frames_are in
     let j = start_back c.args.at f b c.args.here _ _ _ s in
     let ge = c.if-to-body_start.false in
-    c.take_again.ensures f g b d c.args.frames.now.items s within (branch_back f b c.args.here c.args.to _ (omega arith) (omega (arith, i, j, ge)) e)
+    c.take_again.ensures c.args.frames.now.items within f g b d s (branch_back f b c.args.here c.args.to _ (omega arith) (omega (arith, i, j, ge)) e)

@@ -9,11 +9,11 @@ use Rattle.see.proofs.Growing.{if_seen, back_place, back_seen}
 use Rattle.see.proofs.structures.take_query.Goals as goal
 
 pub returns-then-here-to : goal.returns-then-here-to
-returns-then-here-to c = λ f g b d s within e.
+returns-then-here-to c = λ within f g b d s e.
     (refl, if_seen token c.args.at f g b d c.args.here c.args.to _ (c.args.here + 4) _ _ w.If _ _ _ refl s (c.len.ensures ∙ c.args.words.now.ok.0) refl c.in_ok-push-2.ensures.items c.in_ok-push.ensures.items (if_cut f g b d c.args.here c.args.to c.if-here-to.true e))
 
 pub returns-then-not-count_begin : goal.returns-then-not-count_begin
-returns-then-not-count_begin c = λ f g b d s within e.
+returns-then-not-count_begin c = λ within f g b d s e.
     let u = until_cut f g b d c.args.here c.args.to (omega arith) e in
     let place = laid (frame_words f ++ words u.0) in
     let p = back_place c.args.at f b u.0 u.1 c.args.here c.args.to _ _ _ (omega arith) s u.2 in
@@ -21,7 +21,7 @@ returns-then-not-count_begin c = λ f g b d s within e.
     absurd (let z = c.if-not-count_begin.true in let y = r.0 in cc)
 
 pub returns : goal.returns
-returns c = λ f g b d s within e.
+returns c = λ within f g b d s e.
     let u = until_cut f g b d c.args.here c.args.to (omega arith) e in
     let place = laid (frame_words f ++ words u.0) in
     let p = back_place c.args.at f b u.0 u.1 c.args.here c.args.to _ _ _ (omega arith) s u.2 in
