@@ -19,7 +19,7 @@ extern "C" {
 /* The layout of the records below; each record that was loaded has it as `abi`. */
 #define FORTH83_ABI 1
 
-/* The least room for what is shown, in bytes: any act may show as many. */
+/* Room for anything that one act may show, in bytes. With less, the host shows long pieces from memory by itself. */
 #define FORTH83_ROOM 65536
 
 /* How many bytes a block has. */
@@ -30,7 +30,7 @@ enum forth83_status {
   FORTH83_DONE = 0,
   FORTH83_NO_MACHINE = 1,     /* the record keeps no machine */
   FORTH83_OUT_OF_MEMORY = 2,  /* malloc gave no memory */
-  FORTH83_SHORT_ROOM = 3,     /* fewer than FORTH83_ROOM bytes of room */
+  FORTH83_SHORT_ROOM = 3,     /* no room for what is shown, or too little for a file */
   FORTH83_TRUNCATED = 4,      /* an image's file that ends too soon */
   FORTH83_TRAILING_BYTES = 5, /* bytes after an image's file */
   FORTH83_BAD_MAGIC = 6,      /* no image's file */
@@ -50,9 +50,11 @@ enum forth83_status {
 enum forth83_stop {
   FORTH83_STOP_HALTED = 0, /* the machine is halted: `halts` says why */
   FORTH83_STOP_LIMIT = 1,  /* all ticks that were allowed are done */
-  FORTH83_STOP_ROOM = 2,   /* fewer than FORTH83_ROOM bytes of room are left */
+  FORTH83_STOP_ROOM = 2,   /* fewer than FORTH83_ROOM bytes of room are left; if there never were as many, none is */
   FORTH83_STOP_TYPED = 3,  /* a key is asked and no byte is left, or a line and no whole line is: call again with more */
-  FORTH83_STOP_BLOCK = 4   /* a block is asked: `asks` and `asked` say which */
+  FORTH83_STOP_BLOCK = 4,  /* a block is asked: `asks` and `asked` say which */
+  FORTH83_STOP_SPAN = 5,   /* `len` bytes of memory from `at` on are shown next, and do not fit: show them, and call again */
+  FORTH83_STOP_LINE = 6    /* the same bytes, and a blank after them */
 };
 
 /* What a machine asks. */
@@ -108,12 +110,16 @@ typedef struct forth83_end {
   uint64_t shown; /* how many bytes are shown */
   uint64_t left;  /* how many ticks of the limit are left */
   uint32_t stop;  /* enum forth83_stop */
+  uint16_t at;    /* where the bytes are that do not fit, which go on at address 0 after the end of memory */
+  uint16_t len;   /* how many they are; 0 after any other stop */
 } forth83_end;
 
 /* Loads an image, of which these are the bytes of the file, for a device of block_count blocks. */
 uint32_t forth83_load(const uint8_t *image, uint64_t image_size, uint32_t block_count, forth83 *machine);
 
-/* Goes on with the machine: by the typed bytes, for at most limit ticks, up to where the host is needed. */
+/* Goes on with the machine: by the typed bytes, for at most limit ticks, up to where the host is needed. With room for FORTH83_ROOM
+ * bytes or more, all that is shown is put into `shown`. With less, but 1 at least, a longer piece of memory may come after that:
+ * forth83_take_span gives it. */
 uint32_t forth83_run(forth83 *machine, const uint8_t *typed, uint64_t typed_size, uint8_t *shown, uint64_t shown_size,
                      uint64_t limit, forth83_end *end);
 
@@ -158,6 +164,22 @@ static inline void forth83_set_cell(forth83 *machine, uint16_t address, uint16_t
 static inline unsigned forth83_depth(const forth83 *machine)
 {
     return machine->values_top > 256 ? 0 : 256u - machine->values_top;
+}
+
+/* Gives the bytes that did not fit into the room to `take`, with `host`: in one piece, or in two where they go on at address 0; and a
+ * blank after a line. It gives none if all that was shown fitted. Call it after what is in the room is taken. */
+static inline void forth83_take_span(const forth83 *machine, const forth83_end *end,
+                                     void (*take)(void *host, const uint8_t *bytes, uint64_t size), void *host)
+{
+    static const uint8_t blank = 32;
+    uint32_t before_end = 65536u - end->at;
+    uint32_t front = end->len < before_end ? end->len : before_end;
+    if (front > 0)
+        take(host, machine->memory + end->at, front);
+    if (front < end->len)
+        take(host, machine->memory, end->len - front);
+    if (end->stop == FORTH83_STOP_LINE)
+        take(host, &blank, 1);
 }
 
 #ifdef __cplusplus

@@ -15,6 +15,7 @@ from terminals import Glass
 
 Must = Callable[[bool, str], None]
 SCREENS = 8
+RP2040, STACK = 264 << 10, 96 << 10
 LINES = b": SQUARE DUP * ;\n12 SQUARE .\n3 BLOCK C@ . 5 BUFFER 1024 66 FILL UPDATE\nKEY A .\n1 0 /\n99 BLOCK\n5 .\n"
 BOARD_SCREENS = b"% screen 1\n( In flash )\n: CUBE ( n -- n*n*n ) DUP DUP * * ;\n"
 LIMIT = 20
@@ -173,6 +174,7 @@ def board_steps(session: Session, must: Must) -> None:
     must(session.types(b"2 BLOCK 1024 67 FILL UPDATE FLUSH 2 BLOCK C@ .\r", b"67  ok"), "a block in RAM")
     must(session.types(b"1 BLOCK DROP UPDATE FLUSH\r", b"fault 10"), "a block in flash that is written")
     must(session.types(b"EMPTY-BUFFERS 6 BLOCK\r", b"fault 7"), "a block that does not exist")
+    must(session.types(b"PAD 300 65 FILL PAD 300 TYPE 7 .\r", b"A" * 300 + b"7  ok"), "a text that is longer than the board's room")
     must(session.types(b": K KEY . ; K\r", b"; K ") and session.types(b"A", b"65  ok"), "a key")
     must(session.types(b": L 42 EMIT BEGIN AGAIN ; L\r", b"; L *") and session.types(b"\x03", b"\n"), "^C in a loop")
     must(session.types(b"FORGET L 8 .\r", b"8  ok"), "FORGET, after ^C")
@@ -182,9 +184,9 @@ def board_steps(session: Session, must: Must) -> None:
 
 
 def check_board(must: Must, place: Place, program: pathlib.Path, image: pathlib.Path) -> None:
-    """The board with much RAM does all that it must."""
+    """The board does all that it must, with as much RAM as an RP2040 has."""
     board = Board(place, program, image)
-    board.make(4 << 20, 1 << 19)
+    board.make(RP2040, STACK)
     session = board.session()
     board_steps(session, lambda is_so, what: must(is_so, f"the board: {what}: {session.rows() if not is_so else ''}"))
 

@@ -12,11 +12,11 @@
 #ifndef RAM_BLOCKS
 #define RAM_BLOCKS 4
 #endif
-enum { SLICE = 20000, LONGEST = 160, CTRL_C = 3 };
+enum { SLICE = 20000, ROOM = 128, LONGEST = 160, CTRL_C = 3 };
 
 extern const uint8_t image_begins[], image_ends[], screens_begin[], screens_end[];
 static forth83 machine;
-static uint8_t shown[FORTH83_ROOM], ram_blocks[RAM_BLOCKS][FORTH83_PAGE], line[LONGEST];
+static uint8_t shown[ROOM], ram_blocks[RAM_BLOCKS][FORTH83_PAGE], line[LONGEST];
 static uint16_t interrupting; /* the word that ^C enters; 0 if the image has none */
 static uint64_t echoed;       /* how many bytes the line shows already that the machine will show */
 static uint8_t ahead[LONGEST]; /* bytes that came while the machine ran */
@@ -28,14 +28,16 @@ static void put_text(const char *text)
         put_byte((uint8_t)*text++);
 }
 
-static void show(uint64_t size)
+/* Sends what the machine shows, except what the line shows already. */
+static void show(void *unused, const uint8_t *bytes, uint64_t size)
 {
     uint64_t at = size < echoed ? size : echoed;
+    (void)unused;
     echoed -= at;
     for (; at < size; at++) {
-        if (shown[at] == 10)
+        if (bytes[at] == 10)
             put_byte(13);
-        put_byte(shown[at]);
+        put_byte(bytes[at]);
     }
 }
 
@@ -124,7 +126,8 @@ static uint32_t run(size_t size, uint32_t *stop)
     forth83_end end;
     uint32_t status = forth83_run(&machine, line, size, shown, sizeof shown, SLICE, &end);
     if (status == FORTH83_DONE) {
-        show(end.shown);
+        show(NULL, shown, end.shown);
+        forth83_take_span(&machine, &end, show, NULL);
         *stop = end.stop;
     }
     return status;

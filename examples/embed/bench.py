@@ -40,6 +40,8 @@ class End(ctypes.Structure):
         ("shown", ctypes.c_size_t),
         ("left", ctypes.c_uint64),
         ("stop", ctypes.c_uint32),
+        ("at", ctypes.c_uint16),
+        ("len", ctypes.c_uint16),
     ]
 
 

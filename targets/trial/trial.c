@@ -61,19 +61,33 @@ static void serve(void)
     }
 }
 
+static void mix_span(void *unused, const uint8_t *bytes, uint64_t size)
+{
+    (void)unused;
+    mix(bytes, (size_t)size);
+}
+
+/* Half of the scripts get room for a few bytes only, so that longer pieces are taken from memory. */
+static uint32_t room_of_script(void)
+{
+    return roll(2) ? (uint32_t)sizeof shown : 1 + roll(100);
+}
+
 static void script(const uint8_t *image, size_t image_size, const uint8_t *text, size_t size)
 {
     size_t at = 0, given = 0;
+    uint32_t room = room_of_script();
     memset(&machine, 0, sizeof machine);
     memset(blocks, 0, sizeof blocks);
     must(forth83_load(image, image_size, BLOCKS, &machine), "load");
     for (;;) {
         forth83_end end;
         memset(&end, 0, sizeof end);
-        must(forth83_run(&machine, text + at, given - at, shown, sizeof shown, roll(4) ? 1000000 : roll(500), &end), "run");
+        must(forth83_run(&machine, text + at, given - at, shown, room, roll(4) ? 1000000 : roll(500), &end), "run");
         mix(shown, (size_t)end.shown);
+        forth83_take_span(&machine, &end, mix_span, NULL);
         mix(&machine, sizeof machine);
-        mix(&end.left, sizeof end.left);
+        mix(&end, sizeof end);
         at += (size_t)end.read;
         if (end.stop == FORTH83_STOP_HALTED)
             break;

@@ -2,6 +2,7 @@
 use Rattle.std.specs.Prelude.{◌≡◌, ◌≢◌, ◌≤◌, ◌-◌, ◌<◌, ℕ, List, [], ◌∷◌, length, take, drop, None, Some, IsSome, true, false}
 use Rattle.dictionary.specs.Header.{compilation_address}
 use Rattle.dictionary.specs.Search.{Found, Nowhere, TooLong, sought}
+use Rattle.machine_parts.specs.declared.parts.Span.{Span}
 use Rattle.machine.specs.Answer.{Reply, answer_of, asked_by, asked_page, is_answer}
 use Rattle.image_loader.specs.Files.{IsWritten}
 use Rattle.machine.specs.Entering.{can_save, entered, saved, with_parts}
@@ -13,7 +14,7 @@ use Rattle.forth83_c.specs.declared.status.Status.{Status}
 use Rattle.forth83_c.specs.declared.status.Status.TheVariants as status
 use Rattle.forth83_c.specs.declared.stop.Stop.{Stop}
 use Rattle.forth83_c.specs.declared.stop.Stop.TheVariants as stop
-use Rattle.forth83_c.specs.Driven.{IsDriven, HasStopped}
+use Rattle.forth83_c.specs.Driven.{IsDriven, HasStopped, told}
 use Rattle.forth83_c.specs.Kept.{IsKept, IsRecord}
 
 -- the numbers of the header
@@ -42,6 +43,14 @@ stop_code stop.Limit = 1
 stop_code stop.Room = 2
 stop_code stop.Typed = 3
 stop_code stop.Block = 4
+stop_code (stop.Span span) = 5
+stop_code (stop.Line span) = 6
+
+-- the bytes of memory that such a stop leaves to the host; none of other stops
+abbrev pub span_of : Stop → Span
+span_of (stop.Span span) = span
+span_of (stop.Line span) = span
+span_of _ = record { at = 0; len = 0 }
 
 -- by this number of the header no machine is reported exactly where the record is none
 abbrev pub TellsMachine : Forth83 → (code : ℕ) → Type 0
@@ -99,16 +108,19 @@ abbrev pub TellsByCode : (State → Status → Type 0) → Forth83 → (code : �
 TellsByCode Why k code = (status : Status) × (code ≡ code_of status) × Tells Why k status
 
 -- the machine that the record kept was driven to that which it keeps now, by the typed bytes and for at most `limit` ticks;
--- `end` says how many of them were read, how many bytes shown, how many ticks left, and why it ended there
+-- `end` says how many of them were read, how many bytes shown, how many ticks left, why it ended there, and which bytes of memory
+-- are shown then
 pub record HasRun (old new : Forth83) (typed shown : List ℕ) (limit : ℕ) (end : Forth83End) : Type 0 where
   pub before : State
   pub after : State
   pub was_kept : IsKept old before
   pub is_kept : IsKept new after
-  pub driven : IsDriven before typed limit after (drop end.read typed) (take end.shown shown) end.left
   pub stop : Stop
-  pub stopped : HasStopped stop after (drop end.read typed) end.left (length shown - end.shown)
-  pub told : end.stop ≡ stop_code stop
+  pub driven : IsDriven before typed limit after (drop end.read typed) (told stop after.parts.memory (take end.shown shown)) end.left
+  pub stopped : HasStopped stop after (drop end.read typed) end.left (length shown) (length shown - end.shown)
+  pub why : end.stop ≡ stop_code stop
+  pub at : end.at ≡ (span_of stop).at
+  pub len : end.len ≡ (span_of stop).len
   pub read : end.read ≤ length typed
   pub fits : end.shown ≤ length shown
   pub fewer : end.left ≤ limit

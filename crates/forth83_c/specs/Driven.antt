@@ -1,7 +1,8 @@
 -- How far a call drives a machine: rounds of a run, up to where its host is needed.
-use Rattle.std.specs.Prelude.{◌≡◌, ℕ, ◌<◌, ◌≤◌, true, List, [], length, None, Some, IsSome}
+use Rattle.std.specs.Prelude.{◌≡◌, ℕ, ◌+◌, ◌<◌, ◌≤◌, nat_le, true, List, [], ◌∷◌, ◌++◌, length, Option, None, Some, IsSome, if◌then◌else◌}
 use Rattle.std.specs.List.{list_all}
 use Rattle.block_buffers.specs.Disks.{Disk}
+use Rattle.memory.specs.Bytes.{bytes}
 use Rattle.machine_parts.specs.declared.parts.Request.{Request}
 use Rattle.machine_parts.specs.declared.parts.Request.TheVariants.{Key, Line, Read, Write}
 use Rattle.machine.specs.Answer.{asked_by, is_typed}
@@ -9,7 +10,7 @@ use Rattle.inner_interpreter.specs.Requests.{asks_device}
 use Rattle.inner_interpreter.specs.Runs.{World, rounds}
 use Rattle.machine.specs.State.{State}
 use Rattle.forth83_c.specs.declared.stop.Stop.{Stop}
-use Rattle.forth83_c.specs.declared.stop.Stop.TheVariants.{Halted, Limit, Room, Typed, Block}
+use Rattle.forth83_c.specs.declared.stop.Stop.TheVariants.{Halted, Limit, Room, Typed, Block, Span, Line as LineLeft}
 
 -- a run from this state over typed bytes and a device, with so many ticks left, that has shown nothing yet
 abbrev pub begun : State → List ℕ → Disk → ℕ → World
@@ -33,12 +34,29 @@ AreTooFew (Line n) unread = (list_all is_typed unread ≡ true) × (length unrea
 AreTooFew (Read u) unread = ⊥
 AreTooFew (Write u) unread = ⊥
 
--- why the call ended: the machine is halted; else no tick is left; else an act may show more than there is room for; else
--- a key or a line is asked that doesn't exist; or a block is asked
-abbrev pub HasStopped : Stop → State → (unread : List ℕ) → (left room : ℕ) → Type 0
-HasStopped Halted s unread left room = IsSome s.halt
-HasStopped Limit s unread left room = (s.halt ≡ None) × (left ≡ 0)
-HasStopped Room s unread left room = (s.halt ≡ None) × (0 < left) × (room < 65536)
-HasStopped Typed s unread left room =
-    (s.halt ≡ None) × (0 < left) × (65536 ≤ room) × ((r : Request) × (asked_by s.wait ≡ Some r) × AreTooFew r unread)
-HasStopped Block s unread left room = (s.halt ≡ None) × (0 < left) × (65536 ≤ room) × (asks_device (asked_by s.wait) ≡ true)
+-- the least room that is left before each act, by the room for all: any act fits into 65,536 bytes, and smaller rooms have a byte left
+unfoldable pub least_room : (size : ℕ) → ℕ
+least_room size = if nat_le 65536 size then 65536 else 1
+
+-- why the call ended: the machine is halted; else no tick is left; else there is less than the least room; else a key or a line
+-- is asked that doesn't exist; or a block is asked; or, in a small room, the last act showed more bytes of memory than fit
+abbrev pub HasStopped : Stop → State → (unread : List ℕ) → (left size room : ℕ) → Type 0
+HasStopped Halted s unread left size room = IsSome s.halt
+HasStopped Limit s unread left size room = (s.halt ≡ None) × (left ≡ 0)
+HasStopped Room s unread left size room = (s.halt ≡ None) × (0 < left) × (room < least_room size)
+HasStopped Typed s unread left size room =
+    (s.halt ≡ None) × (0 < left) × (least_room size ≤ room) × ((r : Request) × (asked_by s.wait ≡ Some r) × AreTooFew r unread)
+HasStopped Block s unread left size room = (s.halt ≡ None) × (0 < left) × (least_room size ≤ room) × (asks_device (asked_by s.wait) ≡ true)
+HasStopped (Span span) s unread left size room = (size < 65536) × (room < span.len)
+HasStopped (LineLeft span) s unread left size room = (size < 65536) × (room < span.len + 1)
+
+-- all that the call shows, by the new memory: what it puts into the room, and the bytes of memory that are left to the host,
+-- a line's with a blank after them
+abbrev pub told : Stop → (memory put : List ℕ) → List ℕ
+told (Span span) memory put = put ++ bytes memory span.at span.len
+told (LineLeft span) memory put = put ++ (bytes memory span.at span.len ++ 32 ∷ [])
+told _ memory put = put
+
+abbrev pub told_by : Option Stop → (memory put : List ℕ) → List ℕ
+told_by None memory put = put
+told_by (Some stop) memory put = told stop memory put

@@ -7,10 +7,10 @@ ghost use Rattle.machine.specs.Answer.{answer_of, asked_by, is_typed};
 ghost use Rattle.inner_interpreter.specs.Lines.{line_reply};
 ghost use Rattle.machine.specs.Tick.{Runs};
 ghost use Rattle.inner_interpreter.specs.Worlds.{rounds_left};
-ghost use Rattle.forth83_c.specs.Driven.{IsDriven, DrivesOn, HasStopped};
+ghost use Rattle.forth83_c.specs.Driven.{IsDriven, DrivesOn, HasStopped, least_room, told, told_by};
 
 use crate::lines::whole_line;
-use crate::showing::{ROOM, show};
+use crate::showing::{least_room, show};
 use crate::stop::Stop;
 use inner_interpreter::{Act, Answer, Machine};
 use machine_parts::parts::Request;
@@ -31,13 +31,16 @@ fn behind(bytes: &[u8], at: usize) -> &[u8]
     &bytes[at..]
 }
 
-/// Ticks up to the first act that isn't quiet.
-fn tick_on(machine: &mut Machine, out: &mut [u8], course: &mut Course)
+/// Ticks up to the first act that isn't quiet; why the call ends there, if what that shows does not fit.
+fn tick_on(machine: &mut Machine, out: &mut [u8], course: &mut Course) -> Option<Stop>
     requires runs { Runs machine.old }
     requires some { 0 < course.old.left }
-    requires room { course.old.shown + 65536 ≤ length out.old }
+    requires inside { course.old.shown ≤ length out.old }
+    requires room { least_room (length out.old) ≤ length out.old - course.old.shown }
     ensures on { (unread : List ℕ) → DrivesOn machine.old unread (take course.old.shown out.old) course.old.left
-        machine.new unread (take course.new.shown out.new) course.new.left }
+        machine.new unread (told_by result machine.new.parts.memory (take course.new.shown out.new)) course.new.left }
+    ensures stopped { (unread : List ℕ) → IfSome result (λ stop. HasStopped stop machine.new unread course.new.left
+        (length out.new) (length out.new - course.new.shown)) }
     ensures read { course.new.read ≡ course.old.read }
     ensures beyond { drop course.new.shown out.new ≡ drop course.new.shown out.old }
     ensures more { course.old.shown ≤ course.new.shown }
@@ -47,7 +50,9 @@ fn tick_on(machine: &mut Machine, out: &mut [u8], course: &mut Course)
 {
     let (count, act) = machine.ticks(course.left).unwrap();
     course.left -= count;
-    course.shown = show(machine, out, course.shown, act.shown);
+    let (place, stop) = show(machine, out, course.shown, act.shown);
+    course.shown = place;
+    stop
 }
 
 /// A key from the typed bytes.
@@ -61,11 +66,13 @@ fn answer_key(
     requires goes { machine.old.halt ≡ None }
     requires some { 0 < course.old.left }
     requires read { course.old.read ≤ length typed.now }
-    requires room { course.old.shown + 65536 ≤ length out.old }
+    requires inside { course.old.shown ≤ length out.old }
+    requires room { least_room (length out.old) ≤ length out.old - course.old.shown }
     ensures on { DrivesOn machine.old (drop course.old.read typed.now) (take course.old.shown out.old) course.old.left
-        machine.new (drop course.new.read typed.now) (take course.new.shown out.new) course.new.left }
+        machine.new (drop course.new.read typed.now) (told_by result machine.new.parts.memory (take course.new.shown out.new))
+        course.new.left }
     ensures stopped { IfSome result (λ stop. HasStopped stop machine.new (drop course.new.read typed.now) course.new.left
-        (length out.new - course.new.shown)) }
+        (length out.new) (length out.new - course.new.shown)) }
     ensures settled { IsNone result → machine.new.wait ≡ None }
     ensures left { course.new.left ≡ course.old.left }
     ensures read { course.new.read ≤ length typed.now }
@@ -78,9 +85,10 @@ fn answer_key(
         return Some(Stop::Typed);
     }
     let act = machine.answer(Answer::Key(typed[course.read])).unwrap();
-    course.shown = show(machine, out, course.shown, act.shown);
+    let (place, stop) = show(machine, out, course.shown, act.shown);
+    course.shown = place;
     course.read += 1;
-    None
+    stop
 }
 
 /// Answers with a line; no byte and no return are the end of input.
@@ -123,11 +131,13 @@ fn answer_line(
     requires goes { machine.old.halt ≡ None }
     requires some { 0 < course.old.left }
     requires read { course.old.read ≤ length typed.now }
-    requires room { course.old.shown + 65536 ≤ length out.old }
+    requires inside { course.old.shown ≤ length out.old }
+    requires room { least_room (length out.old) ≤ length out.old - course.old.shown }
     ensures on { DrivesOn machine.old (drop course.old.read typed.now) (take course.old.shown out.old) course.old.left
-        machine.new (drop course.new.read typed.now) (take course.new.shown out.new) course.new.left }
+        machine.new (drop course.new.read typed.now) (told_by result machine.new.parts.memory (take course.new.shown out.new))
+        course.new.left }
     ensures stopped { IfSome result (λ stop. HasStopped stop machine.new (drop course.new.read typed.now) course.new.left
-        (length out.new - course.new.shown)) }
+        (length out.new) (length out.new - course.new.shown)) }
     ensures settled { IsNone result → machine.new.wait ≡ None }
     ensures left { course.new.left ≡ course.old.left }
     ensures read { course.new.read ≤ length typed.now }
@@ -141,9 +151,10 @@ fn answer_line(
         return Some(Stop::Typed);
     };
     let act = give_line(machine, &unread[..line.count], line.returned, n);
-    course.shown = show(machine, out, course.shown, act.shown);
+    let (place, stop) = show(machine, out, course.shown, act.shown);
+    course.shown = place;
     course.read += line.next;
-    None
+    stop
 }
 
 /// A move: a request is answered from the typed bytes, else ticks are made up to the first act that isn't quiet. Or why there
@@ -153,9 +164,10 @@ fn step(machine: &mut Machine, typed: &[u8], out: &mut [u8], course: &mut Course
     requires read { course.old.read ≤ length typed.now }
     requires shown { course.old.shown ≤ length out.old }
     ensures on { DrivesOn machine.old (drop course.old.read typed.now) (take course.old.shown out.old) course.old.left
-        machine.new (drop course.new.read typed.now) (take course.new.shown out.new) course.new.left }
+        machine.new (drop course.new.read typed.now) (told_by result machine.new.parts.memory (take course.new.shown out.new))
+        course.new.left }
     ensures stopped { IfSome result (λ stop. HasStopped stop machine.new (drop course.new.read typed.now) course.new.left
-        (length out.new - course.new.shown)) }
+        (length out.new) (length out.new - course.new.shown)) }
     ensures fewer { IsNone result →
         rounds_left course.new.left machine.new.wait < rounds_left course.old.left machine.old.wait }
     ensures left { course.new.left ≤ course.old.left }
@@ -171,14 +183,11 @@ fn step(machine: &mut Machine, typed: &[u8], out: &mut [u8], course: &mut Course
     if course.left == 0 {
         return Some(Stop::Limit);
     }
-    if out.len() - course.shown < ROOM {
+    if out.len() - course.shown < least_room(out.len()) {
         return Some(Stop::Room);
     }
     match machine.asked() {
-        None => {
-            tick_on(machine, out, course);
-            None
-        }
+        None => tick_on(machine, out, course),
         Some(Request::Key) => answer_key(machine, typed, out, course),
         Some(Request::Line { n }) => answer_line(machine, typed, out, course, n),
         Some(Request::Read { block: _ }) => Some(Stop::Block),
@@ -191,9 +200,9 @@ fn step(machine: &mut Machine, typed: &[u8], out: &mut [u8], course: &mut Course
 #[tactic(auto, using(crate::proofs::Bytes::beyond_both))]
 pub fn drive(machine: &mut Machine, typed: &[u8], out: &mut [u8], limit: u64) -> (Course, Stop)
     ensures driven { IsDriven machine.old typed.now limit machine.new (drop result.0.read typed.now)
-        (take result.0.shown out.new) result.0.left }
+        (told result.1 machine.new.parts.memory (take result.0.shown out.new)) result.0.left }
     ensures stopped { HasStopped result.1 machine.new (drop result.0.read typed.now) result.0.left
-        (length out.new - result.0.shown) }
+        (length out.new) (length out.new - result.0.shown) }
     ensures left { result.0.left ≤ limit }
     ensures read { result.0.read ≤ length typed.now }
     ensures beyond { drop result.0.shown out.new ≡ drop result.0.shown out.old }

@@ -182,6 +182,9 @@ pub fn resume(alloc: Global, kept: &Forth83) -> Result<Machine, NotResumed>
     let Ok(memory) = memory_of(alloc, &kept.memory) else {
         return Err(NotResumed::OutOfMemory);
     };
+    let Ok(index) = NameIndex::new(alloc) else {
+        return Err(NotResumed::OutOfMemory);
+    };
     let parts = Parts {
         memory,
         values: stack_of(&kept.values, kept.values_top),
@@ -191,7 +194,7 @@ pub fn resume(alloc: Global, kept: &Forth83) -> Result<Machine, NotResumed>
         buffers,
         block_count: kept.block_count,
         limit,
-        index: NameIndex::new(),
+        index,
     };
     let wait = wait_of(kept.asks, kept.asked, kept.token);
     let halt = halt_of(kept.halts, kept.fault);

@@ -56,7 +56,8 @@ pub extern "C" fn forth83_load(
 }
 
 /// Goes on with the machine: by the typed bytes, for at most `limit` ticks, up to where the host is needed. What it shows is
-/// put into `shown`, which has room for 65,536 bytes at least.
+/// put into `shown`. With room for 65,536 bytes all of it is; with less, bytes of memory that do not fit are left to the host,
+/// and `end` says which they are.
 #[unsafe(no_mangle)]
 pub extern "C" fn forth83_run(
     alloc: Global,
@@ -69,12 +70,12 @@ pub extern "C" fn forth83_run(
     ensures ran { result ≡ 0 → HasRun machine.old machine.new typed.now shown.new limit end.new }
     ensures beyond { result ≡ 0 → drop end.new.shown shown.new ≡ drop end.new.shown shown.old }
 
-    // It is refused where there is too little room, where the record keeps no machine, or where memory runs out; all is then
+    // It is refused where there is no room, where the record keeps no machine, or where memory runs out; all is then
     // as it was.
     ensures refused { (result ≡ 0) ⊎ ((result ≡ 1) ⊎ ((result ≡ 2) ⊎ (result ≡ 3))) }
-    ensures room { length shown.old < 65536 → result ≡ 3 }
-    ensures roomy { result ≡ 3 → length shown.old < 65536 }
-    ensures no_machine { 65536 ≤ length shown.old → TellsMachine machine.old result }
+    ensures room { length shown.old ≡ 0 → result ≡ 3 }
+    ensures roomy { result ≡ 3 → length shown.old ≡ 0 }
+    ensures no_machine { 0 < length shown.old → TellsMachine machine.old result }
     ensures stays { result ≢ 0 → machine.new ≡ machine.old }
     ensures silent { result ≢ 0 → shown.new ≡ shown.old }
     ensures untold { result ≢ 0 → end.new ≡ end.old }

@@ -64,6 +64,11 @@ pub struct Forth83End {
     pub shown: usize,
     /// How many ticks of the limit are left.
     pub left: u64,
-    /// Why it ended: 0 the machine is halted, 1 no tick is left, 2 too little room, 3 typed bytes are wanted, 4 a block is.
+    /// Why it ended: 0 the machine is halted, 1 no tick is left, 2 too little room, 3 typed bytes are wanted, 4 a block is,
+    /// 5 the host shows bytes of memory by itself, 6 these and a blank.
     pub stop: u32,
+    /// The address of these bytes; they go on at address 0 after memory's end.
+    pub at: u16,
+    /// How many they are; 0 where it ended for another reason.
+    pub len: u16,
 }

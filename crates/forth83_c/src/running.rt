@@ -11,7 +11,7 @@ ghost use Rattle.forth83_c.specs.Kept.{IsKept};
 use crate::driving::drive;
 use crate::kept::{NotResumed, is_record, keep, keep_stack, resume, stack_of};
 use crate::record::{Forth83, Forth83End};
-use crate::showing::{ROOM, put};
+use crate::showing::put;
 use crate::status::Status;
 use image_loader::ImageFault;
 use inner_interpreter::{Answer, Machine, Refused, SaveRefused};
@@ -63,14 +63,14 @@ pub fn run(
     ensures beyond { result ≡ status.Done → drop end.new.shown shown.new ≡ drop end.new.shown shown.old }
     ensures refused { (result ≡ status.Done) ⊎ ((result ≡ status.NoMachine) ⊎
         ((result ≡ status.OutOfMemory) ⊎ (result ≡ status.ShortRoom))) }
-    ensures room { length shown.old < 65536 → result ≡ status.ShortRoom }
-    ensures roomy { result ≡ status.ShortRoom → length shown.old < 65536 }
-    ensures no_machine { 65536 ≤ length shown.old → TellsMachine kept.old (code_of result) }
+    ensures room { length shown.old ≡ 0 → result ≡ status.ShortRoom }
+    ensures roomy { result ≡ status.ShortRoom → length shown.old ≡ 0 }
+    ensures no_machine { 0 < length shown.old → TellsMachine kept.old (code_of result) }
     ensures stays { result ≢ status.Done → kept.new ≡ kept.old }
     ensures silent { result ≢ status.Done → shown.new ≡ shown.old }
     ensures untold { result ≢ status.Done → end.new ≡ end.old }
 {
-    if shown.len() < ROOM {
+    if shown.is_empty() {
         return Status::ShortRoom;
     }
     match resume(alloc, kept) {
@@ -78,11 +78,14 @@ pub fn run(
             let mut machine = machine;
             let (course, stop) = drive(&mut machine, typed, shown, limit);
             keep(machine, kept);
+            let span = stop.span();
             *end = Forth83End {
                 read: course.read,
                 shown: course.shown,
                 left: course.left,
                 stop: stop.code(),
+                at: span.at,
+                len: span.len,
             };
             Status::Done
         }

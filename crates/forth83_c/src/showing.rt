@@ -1,14 +1,25 @@
 //! What a machine shows, put into a host's bytes.
 
-ghost use Rattle.std.specs.Prelude.{◌≡◌, ◌+◌, ◌++◌, ◌≤◌, length, take, drop};
+ghost use Rattle.std.specs.Prelude.{◌≡◌, ◌+◌, ◌-◌, ◌++◌, ◌≤◌, ℕ, List, length, take, drop, IfSome};
 ghost use Rattle.memory.specs.Bytes.{bytes};
 ghost use Rattle.inner_interpreter.specs.Moves.{shown_bytes};
+ghost use Rattle.machine.specs.State.{State};
+ghost use Rattle.forth83_c.specs.Driven.{HasStopped, least_room, told_by};
 
+use crate::stop::Stop;
 use inner_interpreter::{Machine, Shown};
 use machine_parts::parts::Span;
 
 /// Room for what any act shows.
-pub const ROOM: usize = 65536;
+const ROOM: usize = 65536;
+
+/// The least room that is left before each act, by the room for all: for any act, or a byte where all is less than that.
+#[tactic(auto, unfolding(crate::specs::Driven::least_room))]
+pub fn least_room(size: usize) -> usize
+    ensures { result ≡ least_room size }
+{
+    if ROOM <= size { ROOM } else { 1 }
+}
 
 /// Puts bytes from a place on, and answers the place after them.
 #[tactic(auto, using(crate::proofs::Bytes::put_behind))]
@@ -38,23 +49,36 @@ fn put_span(machine: &Machine, out: &mut [u8], at: usize, span: Span) -> usize
     put(out, seam, back)
 }
 
-/// Puts what a move showed.
-#[tactic(auto, using(crate::proofs::Bytes::append_both, crate::proofs::Bytes::beyond_both), unfolding(inner_interpreter::specs::Moves::shown_bytes))]
-pub fn show(machine: &Machine, out: &mut [u8], at: usize, shown: Shown) -> usize
-    requires { at + 65536 ≤ length out.old }
-    ensures front { take result out.new ≡ take at out.old ++ shown_bytes machine.now.parts.memory shown }
-    ensures beyond { drop result out.new ≡ drop result out.old }
-    ensures more { at ≤ result }
-    ensures end { result ≤ length out.new }
+/// Puts what a move showed, or answers the bytes that do not fit: the place after what is put.
+#[tactic(auto, using(crate::proofs::Bytes::append_both, crate::proofs::Bytes::beyond_both), unfolding(inner_interpreter::specs::Moves::shown_bytes, crate::specs::Driven::least_room))]
+pub fn show(machine: &Machine, out: &mut [u8], at: usize, shown: Shown) -> (usize, Option<Stop>)
+    requires inside { at ≤ length out.old }
+    requires room { least_room (length out.old) ≤ length out.old - at }
+    ensures front { told_by result.1 machine.now.parts.memory (take result.0 out.new)
+        ≡ take at out.old ++ shown_bytes machine.now.parts.memory shown }
+    ensures stopped { (s : State) (unread : List ℕ) (left : ℕ) →
+        IfSome result.1 (λ stop. HasStopped stop s unread left (length out.new) (length out.new - result.0)) }
+    ensures beyond { drop result.0 out.new ≡ drop result.0 out.old }
+    ensures more { at ≤ result.0 }
+    ensures end { result.0 ≤ length out.new }
     ensures len { length out.new ≡ length out.old }
 {
+    let room = out.len() - at;
     match shown {
-        Shown::Nothing => at,
-        Shown::Byte(byte) => put(out, at, &[byte]),
-        Shown::Span(span) => put_span(machine, out, at, span),
+        Shown::Nothing => (at, None),
+        Shown::Byte(byte) => (put(out, at, &[byte]), None),
+        Shown::Span(span) => {
+            if usize::from(span.len) > room {
+                return (at, Some(Stop::Span(span)));
+            }
+            (put_span(machine, out, at, span), None)
+        }
         Shown::Line(span) => {
+            if usize::from(span.len) >= room {
+                return (at, Some(Stop::Line(span)));
+            }
             let end = put_span(machine, out, at, span);
-            put(out, end, &[b' '])
+            (put(out, end, &[b' ']), None)
         }
     }
 }

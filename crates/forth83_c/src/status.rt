@@ -13,7 +13,7 @@ pub enum Status {
     NoMachine,
     /// There was no memory for the call.
     OutOfMemory,
-    /// There is room for fewer bytes than an act may show.
+    /// There is no room for a byte that is shown, or too little for a file.
     ShortRoom,
     /// No image: its file ends too soon.
     Truncated,
@@ -81,6 +81,8 @@ impl Stop {
             Stop::Room => 2,
             Stop::Typed => 3,
             Stop::Block => 4,
+            Stop::Span(_) => 5,
+            Stop::Line(_) => 6,
         }
     }
 }

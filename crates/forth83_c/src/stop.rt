@@ -1,5 +1,10 @@
 //! Why a call ended.
 
+ghost use Rattle.std.specs.Prelude.{◌≡◌};
+ghost use Rattle.forth83_c.specs.Called.{span_of};
+
+use machine_parts::parts::Span;
+
 /// Why a call ended.
 #[derive(Clone, Copy, Debug, PartialEq, Eq)]
 pub enum Stop {
@@ -13,4 +18,21 @@ pub enum Stop {
     Typed,
     /// A block is asked.
     Block,
+    /// These bytes of memory are shown next, and do not fit into the room.
+    Span(Span),
+    /// These bytes and a blank are shown next, and do not fit into the room.
+    Line(Span),
+}
+
+impl Stop {
+    /// The bytes of memory that the host shows by itself; none where it need not.
+    pub fn span(self) -> Span
+        ensures { result ≡ span_of self }
+    {
+        match self {
+            Stop::Span(span) => span,
+            Stop::Line(span) => span,
+            _ => Span { at: 0, len: 0 },
+        }
+    }
 }

@@ -21,7 +21,7 @@ none_case m k b =
     let h : slice_index (replicate 4 0) (k % 4) ≡ 0 = get_or-replicate 4 (k % 4) 0 0 (omega arith) in
     rw (s, h) (record { older = omega arith; same = same_none 256 k m })
 
-pub holds_none : (index : NameIndex) (limit : ℕ) (m : List ℕ) → index.table ≡ replicate 8192 0 → index.heads ≡ replicate 4 0 → index.top ≡ 256 → Holds limit index m
+pub holds_none : (index : NameIndex) (limit : ℕ) (m : List ℕ) → index.table.value ≡ replicate 8192 0 → index.heads ≡ replicate 4 0 → index.top ≡ 256 → Holds limit index m
 unfolding Holds
 holds_none index limit m table heads top = record {
   bound = λ h. absurd (omega (arith, h, top));
@@ -29,7 +29,7 @@ holds_none index limit m table heads top = record {
 }
 
 -- an index holds as another does with the same table, heads and top
-pub holds_same : (limit : ℕ) (index other : NameIndex) (m : List ℕ) → other.table ≡ index.table → other.heads ≡ index.heads → other.top ≡ index.top
+pub holds_same : (limit : ℕ) (index other : NameIndex) (m : List ℕ) → other.table.value ≡ index.table.value → other.heads ≡ index.heads → other.top ≡ index.top
     → Holds limit index m → Holds limit other m
 unfolding Holds
 holds_same limit index other m table heads top holds = record {
@@ -49,7 +49,7 @@ unfolding Holds
 holds_by limit index m other s holds = record {
   bound = holds.bound;
   slots = λ k b.
-      serves_by index.top k (slice_index index.heads (k % 4)) (slice_index index.table k) m other
+      serves_by index.top k (slice_index index.heads (k % 4)) (slice_index index.table.value k) m other
       (elim (cases_lt 256 index.top) [ inl h ↦ s h (holds.bound h) | inr h ↦ λ a w. absurd (watched_none index.top a h w) ])
       (holds.slots k b);
 }

@@ -93,9 +93,9 @@ first_rounds top class known f m heads before e serves = record {
 
 -- an index that holds
 pub begin_rounds : (limit class f : ℕ) (index : NameIndex) (m : List ℕ) → Holds limit index m
-    → Rounds index.top m class (slice_index index.heads class) f f index.table index.table
+    → Rounds index.top m class (slice_index index.heads class) f f index.table.value index.table.value
 unfolding Holds
-begin_rounds limit class f index m holds = first_rounds index.top class (slice_index index.heads class) f m index.heads index.table refl holds.slots
+begin_rounds limit class f index m holds = first_rounds index.top class (slice_index index.heads class) f m index.heads index.table.value refl holds.slots
 
 pub begin_bound : (limit : ℕ) (index : NameIndex) (m : List ℕ) → Holds limit index m → 256 < index.top → index.top ≤ limit
 unfolding Holds

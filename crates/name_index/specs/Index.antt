@@ -25,7 +25,7 @@ top_of index = index.top
 
 -- an index that keeps nothing
 pub record IsEmpty (index : NameIndex) : Type 0 where
-  pub table : index.table ≡ replicate 8192 0
+  pub table : index.table.value ≡ replicate 8192 0
   pub heads : index.heads ≡ replicate 4 0
   pub top : index.top ≡ 256
 
@@ -36,7 +36,7 @@ floor_of index = if nat_lt 256 index.top then index.top else 16
 -- each slot serves the member that is known of its class, and what is watched ends at the limit at the latest
 pub record IsRight (limit : ℕ) (index : NameIndex) (m : List ℕ) : Type 0 where
   pub bound : 256 < index.top → index.top ≤ limit
-  pub slots : (k : ℕ) → k < 8192 → Serves index.top m k (slice_index index.heads (k % 4)) (slice_index index.table k)
+  pub slots : (k : ℕ) → k < 8192 → Serves index.top m k (slice_index index.heads (k % 4)) (slice_index index.table.value k)
 
 unfoldable pub Holds : ℕ → NameIndex → List ℕ → Type 0
 Holds limit index m = IsRight limit index m

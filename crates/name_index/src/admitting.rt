@@ -41,7 +41,7 @@ fn admit_members(
     ensures top { top_of index.new ≡ top_of index.old }
     ensures more { IfSome result (λ top. top_of index.old ≤ top) }
     ensures bound { IfSome result (λ top. 256 < top → top ≤ limit) }
-    ensures admitted { IfSome result (λ top. IsAdmitted top memory.now class first index.old.table index.new.table) }
+    ensures admitted { IfSome result (λ top. IsAdmitted top memory.now class first index.old.table.value index.new.table.value) }
 {
     let _ = memory.len();
     let known = index.head(class);

@@ -1,6 +1,8 @@
 //! The table, and when it is emptied.
 
 use crate::watch::{DICTIONARY, is_touched};
+use memory::OutOfMemory;
+use std::alloc::Global;
 
 /// How many bytes of memory's beginning a loop may keep after its end too: below them a store is never in place.
 const LEAST_FLOOR: u16 = 16;
@@ -12,10 +14,11 @@ const FIRST_WAIT: u16 = 16;
 const LONGEST_WAIT: u16 = 512;
 
 /// For each slot a member of FORTH's chain of a class, 0 for none: the newest whose name has that slot, of those from the
-/// class's head in `heads` on. It rests on what is in the dictionary below `top`.
+/// class's head in `heads` on. It rests on what is in the dictionary below `top`. The table is in a box, so that a machine can be
+/// moved at little cost.
 #[derive(Drop)]
 pub struct NameIndex {
-    table: [u16; 8192],
+    table: Box<[u16; 8192]>,
     heads: [u16; 4],
     top: u16,
     wait: u16,
@@ -23,22 +26,25 @@ pub struct NameIndex {
 }
 
 impl NameIndex {
-    ghost use Rattle.std.specs.Prelude.{ℕ, ◌≡◌, ◌<◌, ◌≤◌, ◌+◌, List, length, true, slice_index, slice_set};
+    ghost use Rattle.std.specs.Prelude.{ℕ, ◌≡◌, ◌<◌, ◌≤◌, ◌+◌, List, length, true, slice_index, slice_set, IfOk};
     ghost use Rattle.name_index.specs.Watch.{is_watched, IsUnwatched, AgreeBelow, AgreeBeside};
     ghost use Rattle.name_index.specs.Index.{Holds, IsEmpty, top_of, floor_of};
     ghost use Rattle.cells.specs.Cell.{wrap};
 
-    /// An index that keeps nothing.
-    pub fn new() -> NameIndex
-        ensures nothing { IsEmpty result }
-        ensures holds { (limit : ℕ) (m : List ℕ) → Holds limit result m }
+    /// An index that keeps nothing. It fails only where there is no memory for its table.
+    pub fn new(alloc: Global) -> Result<NameIndex, OutOfMemory>
+        ensures nothing { IfOk result IsEmpty }
+        ensures holds { IfOk result (λ index. (limit : ℕ) (m : List ℕ) → Holds limit index m) }
     {
-        NameIndex {
-            table: [0; 8192],
-            heads: [0; 4],
-            top: DICTIONARY,
-            wait: FIRST_WAIT,
-            next_wait: FIRST_WAIT,
+        match Box::new(alloc, [0; 8192]) {
+            Ok(table) => Ok(NameIndex {
+                table,
+                heads: [0; 4],
+                top: DICTIONARY,
+                wait: FIRST_WAIT,
+                next_wait: FIRST_WAIT,
+            }),
+            Err(_) => Err(OutOfMemory),
         }
     }
 
@@ -48,7 +54,7 @@ impl NameIndex {
         ensures nothing { IsEmpty self.new }
         ensures holds { (limit : ℕ) (m : List ℕ) → Holds limit self.new m }
     {
-        self.table = [0; 8192];
+        *self.table = [0; 8192];
         self.heads = [0; 4];
         self.top = DICTIONARY;
         self.next_wait = self.next_wait.saturating_mul(2).min(LONGEST_WAIT);
@@ -95,7 +101,7 @@ impl NameIndex {
     /// What a slot holds, 0 for none.
     pub(crate) fn entry(&self, slot: u16) -> u16
         requires { slot < 8192 }
-        ensures { result ≡ slice_index self.now.table slot }
+        ensures { result ≡ slice_index self.now.table.value slot }
     {
         self.table[usize::from(slot)]
     }
@@ -122,11 +128,11 @@ impl NameIndex {
     /// Puts a member in a slot that holds none which is newer than the member `known`.
     pub(crate) fn admit(&mut self, slot: u16, member: u16, known: u16)
         requires { slot < 8192 }
-        ensures newer { known < slice_index self.old.table slot → self.new.table ≡ self.old.table }
-        ensures set { slice_index self.old.table slot ≤ known → self.new.table ≡ slice_set self.old.table slot member }
+        ensures newer { known < slice_index self.old.table.value slot → self.new.table.value ≡ self.old.table.value }
+        ensures set { slice_index self.old.table.value slot ≤ known → self.new.table.value ≡ slice_set self.old.table.value slot member }
         ensures heads { self.new.heads ≡ self.old.heads }
         ensures top { top_of self.new ≡ top_of self.old }
-        ensures size { length self.old.table ≡ 8192 }
+        ensures size { length self.old.table.value ≡ 8192 }
     {
         let place = usize::from(slot);
         if self.table[place] <= known {
@@ -138,7 +144,7 @@ impl NameIndex {
     pub(crate) fn raise(&mut self, class: u8, first: u16, top: u16)
         requires { class < 4 }
         ensures heads { self.new.heads ≡ slice_set self.old.heads class first }
-        ensures table { self.new.table ≡ self.old.table }
+        ensures table { self.new.table.value ≡ self.old.table.value }
         ensures top { top_of self.new ≡ top }
         ensures size { length self.old.heads ≡ 4 }
     {

@@ -26,7 +26,7 @@ loop-l-preserved c =
     } in
     record {
       rounds = next_rounds c.loop-l.top c.max-top.result c.args.class c.head-known.result c.args.first c.loop-l.l c.cell-link.result c.slot_at.result
-          c.args.memory.now c.args.index.now.table c.loop-l.index.table c.admit.new.self.table (search rules) (search rules) (search (rules, c.admit.ensures.size))
+          c.args.memory.now c.args.index.now.table.value c.loop-l.index.table.value c.admit.new.self.table.value (search rules) (search rules) (search (rules, c.admit.ensures.size))
           c.admit.ensures.newer c.admit.ensures.set (search rules) (search rules) (search (rules, may)) here c.loop-l.invariant.rounds;
       heads = search rules;
       top = search rules;
