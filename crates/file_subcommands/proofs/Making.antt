@@ -1,6 +1,10 @@
--- The image that `upgrade` makes.
-use Rattle.std.proofs.Common.{◌≡◌, ℕ, List, Option, Some, None, Vec, IfSome, Bool, false}
+-- The image that `upgrade` makes, and what `export` reads.
+use Rattle.std.proofs.Common.{◌≡◌, ◌∙◌, ◌∷◌, ◌++◌, [], ap, ℕ, List, Option, Some, None, Ok, Vec, IfSome, Bool, false}
 use Rattle.std.specs.declared.alloc.Global.{Global}
+use Rattle.file_subcommands.specs.Filed.{ReadsOld, Wanted, items_of}
+use Rattle.named_files.specs.Asking.{Answered}
+use Rattle.named_files.specs.Done.{done}
+use Rattle.named_files.specs.FileBytes.{FileLogs, reading_old}
 use Rattle.subcommands.specs.Lines.{IsUpgraded, OfImageFile, upgraded}
 
 pub upgraded_file : (bytes : List ℕ) (buffers : Option ℕ) (failed : Bool) (file : Option (Vec ℕ Global)) (sent sent' : Option (List ℕ))
@@ -8,3 +12,9 @@ pub upgraded_file : (bytes : List ℕ) (buffers : Option ℕ) (failed : Bool) (f
     → IfSome file (λ f. failed ≡ false → OfImageFile bytes (λ i. IsUpgraded f.items (upgraded i buffers) sent sent'))
 upgraded_file bytes buffers failed (Some file) sent sent' h = h
 upgraded_file bytes buffers failed None sent sent' h = tt
+
+pub read_old : (w : Wanted) (screens : List ℕ) (before : Option (Vec ℕ Global)) (files middle after last : FileLogs) (asked asked' : List Answered) (printed printed' : Option (List ℕ))
+    → middle.read ≡ files.read ++ (w.blocks, screens) ∷ [] → after ≡ reading_old w.container (Ok before) middle → last.read ≡ after.read
+    → ReadsOld w screens (items_of before) (done asked files printed) (done asked' last printed')
+read_old w screens (Some old) files middle after last asked asked' printed printed' first next same = same ∙ ap (λ f. f.read) next ∙ ap (λ r. r ++ (w.container, old.items) ∷ []) first
+read_old w screens None files middle after last asked asked' printed printed' first next same = same ∙ ap (λ f. f.read) next ∙ first

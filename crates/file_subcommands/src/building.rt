@@ -1,9 +1,9 @@
 //! `build` and `upgrade`.
 
-ghost use Rattle.std.specs.Prelude.{◌≡◌, ◌↔◌, ◌<◌, true, IfErr, IfOk, IfSome};
+ghost use Rattle.std.specs.Prelude.{◌≡◌, ◌↔◌, true, IfErr, IfOk, IfSome};
 ghost use Rattle.memory.specs.Bytes.{IsCount};
-ghost use Rattle.file_subcommands.specs.Filed.{Builds, Upgrades};
-ghost use Rattle.named_files.specs.Done.{done, status_of};
+ghost use Rattle.file_subcommands.specs.Filed.{Builds, RefusesBuild, RefusesUpgrade, Upgrades};
+ghost use Rattle.named_files.specs.Done.{done};
 
 use crate::screens::Screens;
 use block_buffers::Device;
@@ -21,7 +21,7 @@ fn is_count(buffers: u16) -> bool
 
 /// Whether an image may have so many block buffers, if a number is given.
 fn may_be_wanted(buffers: Option<u16>) -> bool
-    ensures { result ≡ true → IfSome buffers (λ count. IsCount count) }
+    ensures { (result ≡ true) ↔ IfSome buffers IsCount }
 {
     match buffers {
         Some(count) => is_count(count),
@@ -65,13 +65,12 @@ pub fn build_image<F: Files, W: Output>(
     shows_place: bool,
 ) -> Result<u8, u8>
     ensures built { IfOk result (λ status. Builds screens.entry.blocks.now screens.entry.from screens.entry.to image.now buffers status (W.failed writer.new)
-        (done (F.files_read files.old) (F.files_opened files.old) (F.files_written files.old) (W.sent writer.old))
-        (done (F.files_read files.new) (F.files_opened files.new) (F.files_written files.new) (W.sent writer.new))) }
-    ensures unwritten { 0 < status_of result → F.files_written files.new ≡ F.files_written files.old }
-    ensures refused { IfErr result (λ status. 0 < status) }
+        (done (F.asked files.old) (F.files files.old) (W.sent writer.old)) (done (F.asked files.new) (F.files files.new) (W.sent writer.new))) }
+    ensures refused { IfErr result (λ status. RefusesBuild screens.entry.blocks.now image.now buffers status
+        (done (F.asked files.old) (F.files files.old) (W.sent writer.old)) (done (F.asked files.new) (F.files files.new) (W.sent writer.new))) }
 {
     if !is_count(buffers) {
-        return Err(2);
+        return Err(files.refuse_use("--buffers", "takes a number from 2 to 16"));
     }
     let Screens { blocks, from, to } = screens;
     files.keep_apart(blocks, image, "the blocks and the image")?;
@@ -95,13 +94,12 @@ pub fn upgrade_image<F: Files, W: Output>(
     buffers: Option<u16>,
 ) -> Result<u8, u8>
     ensures upgraded { IfOk result (λ status. Upgrades image.now out.now buffers status (W.failed writer.new)
-        (done (F.files_read files.old) (F.files_opened files.old) (F.files_written files.old) (W.sent writer.old))
-        (done (F.files_read files.new) (F.files_opened files.new) (F.files_written files.new) (W.sent writer.new))) }
-    ensures unwritten { 0 < status_of result → F.files_written files.new ≡ F.files_written files.old }
-    ensures refused { IfErr result (λ status. 0 < status) }
+        (done (F.asked files.old) (F.files files.old) (W.sent writer.old)) (done (F.asked files.new) (F.files files.new) (W.sent writer.new))) }
+    ensures refused { IfErr result (λ status. RefusesUpgrade image.now out.now buffers status
+        (done (F.asked files.old) (F.files files.old) (W.sent writer.old)) (done (F.asked files.new) (F.files files.new) (W.sent writer.new))) }
 {
     if !may_be_wanted(buffers) {
-        return Err(2);
+        return Err(files.refuse_use("--buffers", "takes a number from 2 to 16"));
     }
     files.keep_image(out)?;
     let bytes = files.image_bytes(image)?;

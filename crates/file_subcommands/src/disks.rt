@@ -1,16 +1,24 @@
 //! `import` and `export`.
 
-ghost use Rattle.std.specs.Prelude.{◌≡◌, ◌<◌, ◌++◌, ◌∷◌, ◌⊎◌, [], Some, option_map, IfErr, IfOk, OnOk};
+ghost use Rattle.std.specs.Prelude.{◌≡◌, ◌≢◌, ◌<◌, ◌*◌, ◌∷◌, ◌⊎◌, [], false, true, Some, None, Err, option_map, IfErr, IfOk, IfSome, IsNone, IsSome, OnOk, MatchOption, codes};
+ghost use Rattle.containers.specs.Containers as written;
 ghost use Rattle.containers.specs.Containers.{new_container};
-ghost use Rattle.file_subcommands.specs.Filed.{Exports, Imports, IsWantedLayout, numbers_in, wanted_of};
-ghost use Rattle.named_files.specs.Done.{done, status_of};
+ghost use Rattle.containers.specs.declared.cause.Cause.TheVariants as cause;
+ghost use Rattle.file_subcommands.specs.Filed as filed;
+ghost use Rattle.file_subcommands.specs.Filed.{AreNumbers, Exports, Imports, IsWantedLayout, PrintsUnexported, RefusesLayout, export_steps, import_steps, items_of, numbers_in, wanted_of};
+ghost use Rattle.named_files.specs.Asking.{Refused, step};
+ghost use Rattle.named_files.specs.Done.{Refuses, done};
+ghost use Rattle.named_files.specs.declared.step_log.Deed.TheVariants as deed;
+ghost use Rattle.subcommands.specs.Disks.{PrintsCause};
+ghost use Rattle.subcommands.specs.Ends.{IsRefusal};
+ghost use Rattle.subcommands.specs.Lines.{PrintsOutOfMemory};
 
 use crate::screens::MOST_BLOCKS;
 use containers::{Cause, Layout, named, new_container};
 use inner_interpreter::Output;
 use named_files::{Files, write_made};
 use std::alloc::Global;
-use subcommands::{Ended, do_export, do_import, refuse_container};
+use subcommands::{Ended, do_export, do_import, print_out_of_memory, refuse_container};
 
 /// How many bytes a block has.
 const BLOCK_BYTES: usize = 1024;
@@ -28,16 +36,10 @@ pub struct Disk<'a> {
     pub skew: Option<&'a str>,
 }
 
-/// Prints why a container isn't read or written, and answers the status.
-fn refuse_cause<W: Output>(writer: &mut W, why: Cause) -> u8
-    ensures { 0 < result }
-{
-    refuse_container(why, writer).status
-}
-
 /// The numbers of a text that separates them with commas. The error: one is no number of 16 bits (`true`), or memory ran out.
 fn numbers_of(alloc: Global, text: &str) -> Result<Vec<usize>, bool>
-    ensures { IfOk result (λ numbers. numbers.items ≡ numbers_in (Some text.now)) }
+    ensures numbers { IfOk result (λ numbers. numbers.items ≡ numbers_in (Some text.now)) }
+    ensures none { result ≡ Err true → ¬ AreNumbers (Some text.now) }
 {
     let mut numbers = Vec::new(alloc);
     for number in text.split(',') {
@@ -52,9 +54,13 @@ fn numbers_of(alloc: Global, text: &str) -> Result<Vec<usize>, bool>
 }
 
 /// The numbers of a skew, or none if it is not given. If one is no number of 16 bits, that is printed, and the status is the error.
-fn skew_of<F: Files>(files: &F, skew: Option<&str>) -> Result<Vec<usize>, u8>
+fn skew_of<F: Files>(files: &mut F, skew: Option<&str>) -> Result<Vec<usize>, u8>
     ensures numbers { IfOk result (λ numbers. numbers.items ≡ numbers_in (option_map (λ text. text.now) skew.entry)) }
-    ensures refused { IfErr result (λ status. 0 < status) }
+    ensures same { OnOk result (files.new ≡ files.old) }
+    ensures files { F.files files.new ≡ F.files files.old }
+    ensures refused { IfErr result (λ status.
+        (¬ AreNumbers (option_map (λ text. text.now) skew.entry) × Refused (step deed.Take (codes "--skew" ∷ [])) status (F.asked files.old) (F.asked files.new))
+        ⊎ Refused (step deed.Allocate []) status (F.asked files.old) (F.asked files.new)) }
 {
     let Some(skew) = skew else {
         return Ok(Vec::new(files.alloc()));
@@ -70,10 +76,12 @@ fn skew_of<F: Files>(files: &F, skew: Option<&str>) -> Result<Vec<usize>, u8>
 }
 
 /// How screens lie in the container. If nothing can lie so, it is printed why, and the status is the error.
-fn layout_of<F: Files, W: Output>(files: &F, writer: &mut W, disk: Disk<'_>) -> Result<Layout, u8>
+fn layout_of<F: Files, W: Output>(files: &mut F, writer: &mut W, disk: Disk<'_>) -> Result<Layout, u8>
     ensures wanted { IfOk result (IsWantedLayout (wanted_of disk.entry)) }
     ensures silent { OnOk result (writer.new ≡ writer.old) }
-    ensures refused { IfErr result (λ status. 0 < status) }
+    ensures same { OnOk result (files.new ≡ files.old) }
+    ensures refused { IfErr result (λ status. RefusesLayout (wanted_of disk.entry) status (W.failed writer.new)
+        (done (F.asked files.old) (F.files files.old) (W.sent writer.old)) (done (F.asked files.new) (F.files files.new) (W.sent writer.new))) }
 {
     let Some(format) = named(disk.format) else {
         return Err(files.refuse_use(
@@ -85,7 +93,7 @@ fn layout_of<F: Files, W: Output>(files: &F, writer: &mut W, disk: Disk<'_>) -> 
     let skew = skew_of(files, disk.skew)?;
     match format.layout(files.alloc(), disk.offset, sector, skew.as_slice()) {
         Ok(layout) => Ok(layout),
-        Err(why) => Err(refuse_cause(writer, why)),
+        Err(why) => Err(refuse_container(why, writer).status),
     }
 }
 
@@ -98,18 +106,20 @@ pub fn import_screens<F: Files, W: Output>(
     cleans: bool,
 ) -> Result<u8, u8>
     ensures imported { IfOk result (λ status. Imports (wanted_of disk.entry) cleans status (W.failed writer.new)
-        (done (F.files_read files.old) (F.files_opened files.old) (F.files_written files.old) (W.sent writer.old))
-        (done (F.files_read files.new) (F.files_opened files.new) (F.files_written files.new) (W.sent writer.new))) }
-    ensures unwritten { 0 < status_of result → F.files_written files.new ≡ F.files_written files.old }
-    ensures refused { IfErr result (λ status. 0 < status) }
+        (done (F.asked files.old) (F.files files.old) (W.sent writer.old)) (done (F.asked files.new) (F.files files.new) (W.sent writer.new))) }
+    ensures refused { IfErr result (λ status.
+        RefusesLayout (wanted_of disk.entry) status (W.failed writer.new)
+        (done (F.asked files.old) (F.files files.old) (W.sent writer.old)) (done (F.asked files.new) (F.files files.new) (W.sent writer.new))
+        ⊎ Refuses (import_steps (wanted_of disk.entry)) status
+        (done (F.asked files.old) (F.files files.old) (W.sent writer.old)) (done (F.asked files.new) (F.files files.new) (W.sent writer.new))) }
 {
     let Disk {
         container,
         blocks,
         ..
     } = disk;
-    files.keep_absent(blocks)?;
     let layout = layout_of(files, writer, disk)?;
+    files.keep_absent(blocks)?;
     let bytes = files.file_bytes(container)?;
     let Ended { status, file } = do_import(
         files.alloc(),
@@ -121,46 +131,52 @@ pub fn import_screens<F: Files, W: Output>(
     Ok(write_made(files, status, file, blocks))
 }
 
-/// The bytes of a new container for so many bytes of screens. If they are too many, that is printed, and the status is the error.
-fn empty_container<F: Files, W: Output>(
-    files: &F,
+/// The bytes of the container: those that it has, or else those of a new one for so many bytes of screens. If these are too many, or
+/// memory runs out, that is printed, and how the program ends is the error.
+fn container_for<W: Output>(
+    alloc: Global,
     writer: &mut W,
     layout: &Layout,
+    before: Option<Vec<u8>>,
     bytes: usize,
-) -> Result<Vec<u8>, u8>
-    ensures made { IfOk result (λ container. container.items ≡ new_container layout.now bytes) }
+) -> Result<Vec<u8>, Ended>
+    ensures made { IfOk result (λ container. MatchOption before (container.items ≡ new_container layout.now bytes) (λ old. container ≡ old)) }
     ensures silent { OnOk result (writer.new ≡ writer.old) }
-    ensures refused { IfErr result (λ status. 0 < status) }
+    ensures new { IfErr result (λ ended. (before ≡ None) × (ended.file ≡ None) × IsRefusal ended.status (W.failed writer.new)) }
+    ensures refused { IfErr result (λ ended. W.failed writer.new ≡ false →
+        ((1024 * 65536 < bytes) × PrintsCause cause.TooLarge ended.status (W.sent writer.old) (W.sent writer.new))
+        ⊎ PrintsOutOfMemory ended.status (W.sent writer.old) (W.sent writer.new)) }
 {
-    if bytes > BLOCK_BYTES * MOST_BLOCKS as usize {
-        return Err(refuse_cause(writer, Cause::TooLarge));
+    if let Some(before) = before {
+        return Ok(before);
     }
-    match new_container(files.alloc(), layout, bytes) {
+    if bytes > BLOCK_BYTES * MOST_BLOCKS as usize {
+        return Err(refuse_container(Cause::TooLarge, writer));
+    }
+    match new_container(alloc, layout, bytes) {
         Ok(container) => Ok(container),
-        Err(_) => Err(files.out_of_memory()),
+        Err(_) => Err(print_out_of_memory(writer)),
     }
 }
 
-/// The bytes of the container that `export` names, or of a new one for so many bytes of screens.
-fn old_container<F: Files, W: Output>(
-    files: &mut F,
+/// Writes screens into the bytes of a container, or of a new one.
+fn exported<W: Output>(
+    alloc: Global,
     writer: &mut W,
     layout: &Layout,
-    name: &str,
-    bytes: usize,
-) -> Result<Vec<u8>, u8>
-    ensures read { IfOk result (λ container.
-        ((F.files_read files.new ≡ F.files_read files.old ++ (name.now, container.items) ∷ []) ⊎
-        ((F.files_read files.new ≡ F.files_read files.old) × (container.items ≡ new_container layout.now bytes)))) }
-    ensures opened { F.files_opened files.new ≡ F.files_opened files.old }
-    ensures written { F.files_written files.new ≡ F.files_written files.old }
-    ensures silent { OnOk result (writer.new ≡ writer.old) }
-    ensures refused { IfErr result (λ status. 0 < status) }
+    screens: &[u8],
+    before: Option<Vec<u8>>,
+) -> Ended
+    ensures file { MatchOption result.file (0 < result.status)
+        (λ file. (result.status ≡ 0) × written.IsWritten layout.now screens.now (filed.container_for layout.now screens.now (items_of before)) file.items) }
+    ensures silent { IsSome result.file → writer.new ≡ writer.old }
+    ensures refused { W.failed writer.new ≡ false → IsNone result.file →
+        PrintsUnexported layout.now screens.now (items_of before) result.status (W.sent writer.old) (W.sent writer.new) }
 {
-    if files.exists(name)? {
-        return files.file_bytes(name);
+    match container_for(alloc, writer, layout, before, screens.len()) {
+        Ok(container) => do_export(alloc, layout, screens, container, writer),
+        Err(ended) => ended,
     }
-    empty_container(files, writer, layout, bytes)
 }
 
 /// Writes the container that `export` names: the old one with the screens of the blocks, or a new one. If it cannot begin, that is
@@ -171,23 +187,25 @@ pub fn export_screens<F: Files, W: Output>(
     disk: Disk<'_>,
 ) -> Result<u8, u8>
     ensures exported { IfOk result (λ status. Exports (wanted_of disk.entry) status (W.failed writer.new)
-        (done (F.files_read files.old) (F.files_opened files.old) (F.files_written files.old) (W.sent writer.old))
-        (done (F.files_read files.new) (F.files_opened files.new) (F.files_written files.new) (W.sent writer.new))) }
-    ensures unwritten { 0 < status_of result → F.files_written files.new ≡ F.files_written files.old }
-    ensures refused { IfErr result (λ status. 0 < status) }
+        (done (F.asked files.old) (F.files files.old) (W.sent writer.old)) (done (F.asked files.new) (F.files files.new) (W.sent writer.new))) }
+    ensures refused { IfErr result (λ status.
+        RefusesLayout (wanted_of disk.entry) status (W.failed writer.new)
+        (done (F.asked files.old) (F.files files.old) (W.sent writer.old)) (done (F.asked files.new) (F.files files.new) (W.sent writer.new))
+        ⊎ Refuses (export_steps (wanted_of disk.entry)) status
+        (done (F.asked files.old) (F.files files.old) (W.sent writer.old)) (done (F.asked files.new) (F.files files.new) (W.sent writer.new))) }
 {
     let Disk {
         container,
         blocks,
         ..
     } = disk;
+    let layout = layout_of(files, writer, disk)?;
     files.keep_apart(blocks, container, "the blocks and the container")?;
     files.keep_blocks(blocks)?;
     files.keep_blocks(container)?;
-    let layout = layout_of(files, writer, disk)?;
     let screens = files.file_bytes(blocks)?;
     let _held = files.held(container)?;
-    let old = old_container(files, writer, &layout, container, screens.len())?;
-    let Ended { status, file } = do_export(files.alloc(), &layout, screens.as_slice(), old, writer);
+    let before = files.old_file(container)?;
+    let Ended { status, file } = exported(files.alloc(), writer, &layout, screens.as_slice(), before);
     Ok(write_made(files, status, file, container))
 }

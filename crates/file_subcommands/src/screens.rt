@@ -1,8 +1,8 @@
 //! `kernel`, `text`, `screens` and `new`.
 
-ghost use Rattle.std.specs.Prelude.{◌≡◌, ◌<◌, true, false, IfErr, IfOk};
-ghost use Rattle.file_subcommands.specs.Filed.{MakesKernel, MakesNew, MakesScreens, Prints};
-ghost use Rattle.named_files.specs.Done.{done, status_of};
+ghost use Rattle.std.specs.Prelude.{◌≡◌, true, false, IfErr, IfOk};
+ghost use Rattle.file_subcommands.specs.Filed.{MakesKernel, MakesNew, MakesScreens, Prints, RefusesNew, kernel_steps, screens_steps, text_steps};
+ghost use Rattle.named_files.specs.Done.{Refuses, done};
 
 use inner_interpreter::Output;
 use named_files::{Files, write_made};
@@ -26,10 +26,9 @@ pub fn write_kernel<F: Files, W: Output>(
     blocks: &str,
 ) -> Result<u8, u8>
     ensures made { IfOk result (λ status. MakesKernel blocks.now status (W.failed writer.new)
-        (done (F.files_read files.old) (F.files_opened files.old) (F.files_written files.old) (W.sent writer.old))
-        (done (F.files_read files.new) (F.files_opened files.new) (F.files_written files.new) (W.sent writer.new))) }
-    ensures unwritten { 0 < status_of result → F.files_written files.new ≡ F.files_written files.old }
-    ensures refused { IfErr result (λ status. 0 < status) }
+        (done (F.asked files.old) (F.files files.old) (W.sent writer.old)) (done (F.asked files.new) (F.files files.new) (W.sent writer.new))) }
+    ensures refused { IfErr result (λ status. Refuses (kernel_steps blocks.now) status
+        (done (F.asked files.old) (F.files files.old) (W.sent writer.old)) (done (F.asked files.new) (F.files files.new) (W.sent writer.new))) }
 {
     let _held = files.held(blocks)?;
     let Ended { status, file } = do_kernel(files.alloc(), writer);
@@ -43,10 +42,9 @@ pub fn print_text<F: Files, W: Output>(
     screens: Screens<'_>,
 ) -> Result<u8, u8>
     ensures printed { IfOk result (λ status. Prints screens.entry.blocks.now screens.entry.from screens.entry.to status (W.failed writer.new)
-        (done (F.files_read files.old) (F.files_opened files.old) (F.files_written files.old) (W.sent writer.old))
-        (done (F.files_read files.new) (F.files_opened files.new) (F.files_written files.new) (W.sent writer.new))) }
-    ensures unwritten { F.files_written files.new ≡ F.files_written files.old }
-    ensures refused { IfErr result (λ status. 0 < status) }
+        (done (F.asked files.old) (F.files files.old) (W.sent writer.old)) (done (F.asked files.new) (F.files files.new) (W.sent writer.new))) }
+    ensures refused { IfErr result (λ status. Refuses (text_steps screens.entry.blocks.now) status
+        (done (F.asked files.old) (F.files files.old) (W.sent writer.old)) (done (F.asked files.new) (F.files files.new) (W.sent writer.new))) }
     ensures cut { W.failed writer.old ≡ false → W.failed writer.new ≡ true → IfOk result (λ status. status ≡ 5) }
 {
     let Screens { blocks, from, to } = screens;
@@ -64,10 +62,9 @@ pub fn write_screens<F: Files, W: Output>(
     blocks: &str,
 ) -> Result<u8, u8>
     ensures made { IfOk result (λ status. MakesScreens text.now blocks.now status (W.failed writer.new)
-        (done (F.files_read files.old) (F.files_opened files.old) (F.files_written files.old) (W.sent writer.old))
-        (done (F.files_read files.new) (F.files_opened files.new) (F.files_written files.new) (W.sent writer.new))) }
-    ensures unwritten { 0 < status_of result → F.files_written files.new ≡ F.files_written files.old }
-    ensures refused { IfErr result (λ status. 0 < status) }
+        (done (F.asked files.old) (F.files files.old) (W.sent writer.old)) (done (F.asked files.new) (F.files files.new) (W.sent writer.new))) }
+    ensures refused { IfErr result (λ status. Refuses (screens_steps text.now blocks.now) status
+        (done (F.asked files.old) (F.files files.old) (W.sent writer.old)) (done (F.asked files.new) (F.files files.new) (W.sent writer.new))) }
 {
     files.keep_apart(text, blocks, "the text and the blocks")?;
     let bytes = files.file_bytes(text)?;
@@ -87,13 +84,12 @@ pub fn write_new<F: Files, W: Output>(
     count: u32,
 ) -> Result<u8, u8>
     ensures made { IfOk result (λ status. MakesNew blocks.now count status (W.failed writer.new)
-        (done (F.files_read files.old) (F.files_opened files.old) (F.files_written files.old) (W.sent writer.old))
-        (done (F.files_read files.new) (F.files_opened files.new) (F.files_written files.new) (W.sent writer.new))) }
-    ensures unwritten { 0 < status_of result → F.files_written files.new ≡ F.files_written files.old }
-    ensures refused { IfErr result (λ status. 0 < status) }
+        (done (F.asked files.old) (F.files files.old) (W.sent writer.old)) (done (F.asked files.new) (F.files files.new) (W.sent writer.new))) }
+    ensures refused { IfErr result (λ status. RefusesNew blocks.now count status
+        (done (F.asked files.old) (F.files files.old) (W.sent writer.old)) (done (F.asked files.new) (F.files files.new) (W.sent writer.new))) }
 {
     if count > MOST_BLOCKS {
-        return Err(files.refuse_count());
+        return Err(files.refuse_use("a file", "has at most 65536 blocks"));
     }
     files.keep_absent(blocks)?;
     let Ended { status, file } = do_new(files.alloc(), count, writer);

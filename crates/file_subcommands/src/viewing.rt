@@ -1,8 +1,8 @@
 //! `see` and `view`.
 
-ghost use Rattle.std.specs.Prelude.{◌≡◌, ◌<◌, true, false, IfErr, IfOk};
-ghost use Rattle.file_subcommands.specs.Filed.{Sees, Views};
-ghost use Rattle.named_files.specs.Done.{done};
+ghost use Rattle.std.specs.Prelude.{◌≡◌, true, false, IfErr, IfOk};
+ghost use Rattle.file_subcommands.specs.Filed.{Sees, Views, image_steps};
+ghost use Rattle.named_files.specs.Done.{Refuses, done};
 
 use inner_interpreter::Output;
 use named_files::Files;
@@ -16,10 +16,9 @@ pub fn view_word<F: Files, W: Output>(
     name: &str,
 ) -> Result<u8, u8>
     ensures viewed { IfOk result (λ status. Views image.now name.now status (W.failed writer.new)
-        (done (F.files_read files.old) (F.files_opened files.old) (F.files_written files.old) (W.sent writer.old))
-        (done (F.files_read files.new) (F.files_opened files.new) (F.files_written files.new) (W.sent writer.new))) }
-    ensures unwritten { F.files_written files.new ≡ F.files_written files.old }
-    ensures refused { IfErr result (λ status. 0 < status) }
+        (done (F.asked files.old) (F.files files.old) (W.sent writer.old)) (done (F.asked files.new) (F.files files.new) (W.sent writer.new))) }
+    ensures refused { IfErr result (λ status. Refuses (image_steps image.now) status
+        (done (F.asked files.old) (F.files files.old) (W.sent writer.old)) (done (F.asked files.new) (F.files files.new) (W.sent writer.new))) }
     ensures cut { W.failed writer.old ≡ false → W.failed writer.new ≡ true → IfOk result (λ status. status ≡ 5) }
 {
     let bytes = files.image_bytes(image)?;
@@ -34,10 +33,9 @@ pub fn see_word<F: Files, W: Output>(
     name: &str,
 ) -> Result<u8, u8>
     ensures seen { IfOk result (λ status. Sees image.now name.now status (W.failed writer.new)
-        (done (F.files_read files.old) (F.files_opened files.old) (F.files_written files.old) (W.sent writer.old))
-        (done (F.files_read files.new) (F.files_opened files.new) (F.files_written files.new) (W.sent writer.new))) }
-    ensures unwritten { F.files_written files.new ≡ F.files_written files.old }
-    ensures refused { IfErr result (λ status. 0 < status) }
+        (done (F.asked files.old) (F.files files.old) (W.sent writer.old)) (done (F.asked files.new) (F.files files.new) (W.sent writer.new))) }
+    ensures refused { IfErr result (λ status. Refuses (image_steps image.now) status
+        (done (F.asked files.old) (F.files files.old) (W.sent writer.old)) (done (F.asked files.new) (F.files files.new) (W.sent writer.new))) }
     ensures cut { W.failed writer.old ≡ false → W.failed writer.new ≡ true → IfOk result (λ status. status ≡ 5) }
 {
     let bytes = files.image_bytes(image)?;

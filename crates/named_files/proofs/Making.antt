@@ -1,44 +1,97 @@
--- What a subcommand makes is written, and nothing else.
-use Rattle.std.proofs.Common.{◌≡◌, ◌<◌, ◌⊎◌, ℕ, List, ◌∷◌, ◌++◌, [], Option, Some, None, Vec, refl, sym, subst, ◌∙◌, inl, inr, arith, MatchOption, IfSome, IsNone, IsSome, Bool, false}
+-- What a subcommand asks for, and what it makes: that is written, and nothing else.
+use Rattle.std.proofs.Common.{◌≡◌, ◌<◌, ◌⊎◌, ℕ, List, ◌∷◌, ◌++◌, [], Option, Some, None, Vec, refl, sym, ap, subst, ◌∙◌, inl, inr, arith, MatchOption, IfSome, IsNone, IsSome, Bool, false, Result, Ok, Err, IfErr}
+use Rattle.std.specs.Result.{IsErrAnd}
 use Rattle.std.specs.declared.alloc.Global.{Global}
-use Rattle.named_files.specs.FileBytes.{FileBytes, IsWrittenOr}
-use Rattle.named_files.specs.Done.{IsAfter, Makes}
+use Rattle.named_files.specs.Asking.{Answered, Asks, Refused, Step, answered, step}
+use Rattle.named_files.specs.FileBytes.{FileBytes, FileLogs}
+use Rattle.named_files.specs.Done.{IsWrittenOr, Makes, Refuses, done}
+use Rattle.named_files.specs.declared.step_log.Deed.TheVariants.{Write}
 
 no_less : {B : Type 0} (n : ℕ) → n ≡ 0 → 0 < n → B
 no_less n e lt = absurd (omega arith)
 
+-- no step
+pub none_asked : (old new : List Answered) → new ≡ old → Asks [] 0 old new
+unfolding Asks
+none_asked old new h = (refl, h)
+
+-- a step that was taken, and those after it
+pub takes : (s : Step) (more : List Step) (status : ℕ) (old middle new : List Answered)
+    → middle ≡ old ++ answered s 0 ∷ [] → Asks more status middle new → Asks (s ∷ more) status old new
+unfolding Asks
+takes s more status old middle new e h = inr (subst (λ m. Asks more status m new) e h)
+
+-- the last of some steps was taken
+pub taken : (s : Step) (old new : List Answered) → new ≡ old ++ answered s 0 ∷ [] → Asks (s ∷ []) 0 old new
+unfolding Asks
+taken s old new h = inr (refl, h)
+
+-- a step that was refused, so that none came after it
+pub refused : (s : Step) (more : List Step) (status : ℕ) (old new : List Answered) → Refused s status old new → Asks (s ∷ more) status old new
+unfolding Asks
+refused s more status old new h = inl h
+
+-- steps after others that were all taken
+pub then : (first next : List Step) (status : ℕ) (old middle new : List Answered) → Asks first 0 old middle → Asks next status middle new
+    → Asks (first ++ next) status old new
+unfolding Asks
+then [] next status old middle new h k = subst (λ m. Asks next status m new) h.1 k
+then (s ∷ first) next status old middle new (inl w) k = no_less 0 refl w.0
+then (s ∷ first) next status old middle new (inr h) k = inr (then first next status (old ++ answered s 0 ∷ []) middle new h k)
+
+-- steps of which one was refused, so that none came after it
+pub stopped : (first next : List Step) (status : ℕ) (old new : List Answered) → 0 < status → Asks first status old new → Asks (first ++ next) status old new
+unfolding Asks
+stopped [] next status old new lt h = no_less status h.0 lt
+stopped (s ∷ first) next status old new lt (inl w) = inl w
+stopped (s ∷ first) next status old new lt (inr h) = inr (stopped first next status (old ++ answered s 0 ∷ []) new lt h)
+
 -- the file that a subcommand ended with was written, or could not be
-written_or : (Of : Vec ℕ Global → Type 0) (file : Vec ℕ Global) (ended status : ℕ) (name : List ℕ) (old new : List FileBytes)
-    → (ended ≡ 0) × Of file → IsWrittenOr name file.items ended status old new → Makes name status old new Of
-written_or Of file ended status name old new h (inl w) =
-    record { made = λ e. (file, w.1, h.1); unmade = λ lt. no_less status (w.0 ∙ h.0) lt }
-written_or Of file ended status name old new h (inr w) =
-    record { made = λ e. no_less status e w.0; unmade = λ lt. w.1 }
+written_or : (Of : Vec ℕ Global → Type 0) (steps : List Step) (file : Vec ℕ Global) (ended status : ℕ) (name : List ℕ) (old middle new : List Answered)
+    (files files' files'' : FileLogs) (printed printed' : Option (List ℕ))
+    → Asks steps 0 old middle → files'.written ≡ files.written → (ended ≡ 0) × Of file
+    → IsWrittenOr name file.items ended status middle new files' files''
+    → Makes steps name ended status (record { asked = old; read = files.read; written = files.written; printed = printed })
+    (record { asked = new; read = files''.read; written = files''.written; printed = printed' }) Of
+written_or Of steps file ended status name old middle new files files' files'' printed printed' asks same h (inl w) = record {
+  unmade = λ lt. no_less ended h.0 lt;
+  made = λ e. then steps (step Write (name ∷ []) ∷ []) status old middle new asks (subst (λ n. Asks (step Write (name ∷ []) ∷ []) n middle new) (sym (w.0 ∙ h.0)) (taken (step Write (name ∷ [])) middle new w.1));
+  file = λ e. (file, ap (λ f. f.written) w.2 ∙ ap (λ l. l ++ (name, file.items) ∷ []) same, h.1);
+  none = λ lt. no_less status (w.0 ∙ h.0) lt;
+}
+written_or Of steps file ended status name old middle new files files' files'' printed printed' asks same h (inr w) = record {
+  unmade = λ lt. no_less ended h.0 lt;
+  made = λ e. then steps (step Write (name ∷ []) ∷ []) status old middle new asks (refused (step Write (name ∷ [])) [] status middle new (w.0, w.1));
+  file = λ e. no_less status e w.0;
+  none = λ lt. ap (λ f. f.written) w.2 ∙ same;
+}
 
-pub made_by : (Of : Vec ℕ Global → Type 0) (file : Option (Vec ℕ Global)) (ended status : ℕ) (name : List ℕ) (old new : List FileBytes)
-    → MatchOption file (0 < ended) (λ f. (ended ≡ 0) × Of f)
-    → (IsNone file → (status ≡ ended) × (new ≡ old))
-    → IfSome file (λ f. IsWrittenOr name f.items ended status old new)
-    → Makes name status old new Of
-made_by Of (Some file) ended status name old new h none some = written_or Of file ended status name old new h some
-made_by Of None ended status name old new h none some =
-    let kept : (status ≡ ended) × (new ≡ old) = none refl in
-    record { made = λ e. no_less ended (sym kept.0 ∙ e) h; unmade = λ lt. kept.1 }
+pub made : (Of : Vec ℕ Global → Type 0) (steps : List Step) (file : Option (Vec ℕ Global)) (ended status : ℕ) (name : List ℕ) (old middle new : List Answered)
+    (files files' files'' : FileLogs) (printed printed' : Option (List ℕ))
+    → Asks steps 0 old middle → files'.written ≡ files.written → MatchOption file (0 < ended) (λ f. (ended ≡ 0) × Of f)
+    → (IsNone file → (status ≡ ended) × (new ≡ middle) × (files'' ≡ files'))
+    → IfSome file (λ f. IsWrittenOr name f.items ended status middle new files' files'')
+    → Makes steps name ended status (record { asked = old; read = files.read; written = files.written; printed = printed })
+    (record { asked = new; read = files''.read; written = files''.written; printed = printed' }) Of
+made Of steps (Some file) ended status name old middle new files files' files'' printed printed' asks same h none some =
+    written_or Of steps file ended status name old middle new files files' files'' printed printed' asks same h some
+made Of steps None ended status name old middle new files files' files'' printed printed' asks same h none some =
+    let kept : (status ≡ ended) × (new ≡ middle) × (files'' ≡ files') = none refl in
+    record {
+      unmade = λ lt. (kept.0, subst (λ n. Asks steps 0 old n) (sym kept.1) asks);
+      made = λ e. no_less ended e h;
+      file = λ e. no_less ended (sym kept.0 ∙ e) h;
+      none = λ lt. ap (λ f. f.written) kept.2 ∙ same;
+    }
 
--- a subcommand that could not begin wrote nothing
-pub not_made : (Of : Vec ℕ Global → Type 0) (status : ℕ) (name : List ℕ) (old new : List FileBytes)
-    → 0 < status → new ≡ old → Makes name status old new Of
-not_made Of status name old new lt e = record { made = λ z. no_less status z lt; unmade = λ h. e }
-
--- the same, where files were read before
-pub made_after : (Of : Vec ℕ Global → Type 0) (file : Option (Vec ℕ Global)) (ended status : ℕ) (name : List ℕ) (old middle new : List FileBytes)
-    → middle ≡ old
-    → MatchOption file (0 < ended) (λ f. (ended ≡ 0) × Of f)
-    → (IsNone file → (status ≡ ended) × (new ≡ middle))
-    → IfSome file (λ f. IsWrittenOr name f.items ended status middle new)
-    → Makes name status old new Of
-made_after Of file ended status name old middle new e h none some =
-    subst (λ w. Makes name status w new Of) e (made_by Of file ended status name middle new h none some)
+-- what was read beside the file that was written
+pub read_so : (file : Option (Vec ℕ Global)) (ended status : ℕ) (name : List ℕ) (middle new : List Answered) (files' files'' : FileLogs)
+    → (IsNone file → (status ≡ ended) × (new ≡ middle) × (files'' ≡ files'))
+    → IfSome file (λ f. IsWrittenOr name f.items ended status middle new files' files'')
+    → files''.read ≡ files'.read
+read_so (Some file) ended status name middle new files' files'' none (inl w) = ap (λ f. f.read) w.2
+read_so (Some file) ended status name middle new files' files'' none (inr w) = ap (λ f. f.read) w.2
+read_so None ended status name middle new files' files'' none some = ap (λ f. f.read) (none refl).2
 
 -- what is said of a file beside the status
 pub both : (Of : Vec ℕ Global → Type 0) (file : Option (Vec ℕ Global)) (ended : ℕ) → MatchOption file (0 < ended) (λ f. ended ≡ 0)
@@ -49,14 +102,6 @@ both Of None ended h of = h
 pub is_itself : (file : Option (Vec ℕ Global)) → IfSome file (λ f. file ≡ Some f)
 is_itself (Some f) = refl
 is_itself None = tt
-
-pub after : (file : Option (Vec ℕ Global)) (ended status : ℕ) (name : List ℕ) (old new : List FileBytes)
-    → (IsNone file → (status ≡ ended) × (new ≡ old))
-    → IfSome file (λ f. IsWrittenOr name f.items ended status old new)
-    → IsAfter ended status
-after (Some file) ended status name old new none (inl w) = inl w.0
-after (Some file) ended status name old new none (inr w) = inr w.0
-after None ended status name old new none some = inl (none refl).0
 
 -- a subcommand that ended with a status above 0 has no file
 pub no_file : (Of : Vec ℕ Global → Type 0) (file : Option (Vec ℕ Global)) (ended : ℕ) → MatchOption file (0 < ended) (λ f. (ended ≡ 0) × Of f) → 0 < ended
@@ -79,3 +124,13 @@ beside A B failed None a b = tt
 pub any : (file : Option (Vec ℕ Global)) → IfSome file (λ f. f ≡ f)
 any (Some file) = refl
 any None = tt
+
+-- a subcommand that takes these steps could not begin
+pub refuses : (steps : List Step) (status : ℕ) (old new : List Answered) (files files' : FileLogs) (printed : Option (List ℕ))
+    → 0 < status → Asks steps status old new → files'.written ≡ files.written → Refuses steps status (done old files printed) (done new files' printed)
+refuses steps status old new files files' printed lt asks same = record { above_0 = lt; asks = asks; silent = refl; unwritten = same }
+
+-- what holds of the status that `?` passes on
+pub of_err : {T : Type 0} (r : Result T ℕ) (status : ℕ) (P : ℕ → Type 0) → IsErrAnd r (λ e. e ≡ status) → P status → IfErr r P
+of_err (Err e) status P is h = subst P (sym is) h
+of_err (Ok x) status P is h = tt

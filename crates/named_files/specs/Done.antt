@@ -1,45 +1,48 @@
 -- What a subcommand did with the files that it was given by name, and what it printed.
-use Rattle.std.specs.Prelude.{◌≡◌, ◌⊎◌, ◌<◌, ℕ, List, [], ◌∷◌, ◌++◌, Option, Result, Ok, Err, Vec}
+use Rattle.std.specs.Prelude.{◌≡◌, ◌⊎◌, ◌<◌, ℕ, List, [], ◌∷◌, ◌++◌, Option, Vec}
 use Rattle.std.specs.declared.alloc.Global.{Global}
-use Rattle.named_files.specs.FileBytes.{FileBytes}
+use Rattle.named_files.specs.Asking.{Answered, Asks, Step, answered, step}
+use Rattle.named_files.specs.FileBytes.{FileBytes, FileLogs}
+use Rattle.named_files.specs.declared.step_log.Deed.TheVariants.{Write}
 
--- what was done so far: the files that were read whole, those that were opened to be read or written piece by piece, those that
--- were written whole, and the bytes that were printed
+-- what was done so far: what the system was asked and answered, the files that were read whole, those that were written whole, and the
+-- bytes that were printed
 pub record Done : Type 0 where
+  pub asked : List Answered
   pub read : List FileBytes
-  pub opened : List (List ℕ)
   pub written : List FileBytes
   pub printed : Option (List ℕ)
 
--- the status, whether the subcommand could begin or not
-abbrev pub status_of : Result ℕ ℕ → ℕ
-status_of (Ok status) = status
-status_of (Err status) = status
+abbrev pub done : List Answered → FileLogs → Option (List ℕ) → Done
+done asked files printed = record { asked = asked; read = files.read; written = files.written; printed = printed }
 
-abbrev pub ReadsNone : (old new : Done) → Type 0
-ReadsNone old new = (new.read ≡ old.read) × (new.opened ≡ old.opened)
+-- a subcommand that takes these steps could not begin: the system refused one of them, with this status. It printed nothing by itself,
+-- and wrote no file.
+pub record Refuses (steps : List Step) (status : ℕ) (old new : Done) : Type 0 where
+  pub above_0 : 0 < status
+  pub asks : Asks steps status old.asked new.asked
+  pub silent : new.printed ≡ old.printed
+  pub unwritten : new.written ≡ old.written
 
--- just this file was read, and none was opened
+-- just this file was read
 abbrev pub Reads : (name bytes : List ℕ) → (old new : Done) → Type 0
-Reads name bytes old new = (new.read ≡ old.read ++ (name, bytes) ∷ []) × (new.opened ≡ old.opened)
+Reads name bytes old new = new.read ≡ old.read ++ (name, bytes) ∷ []
 
--- just these two files were read, one after the other, and none was opened
+-- just these two files were read, one after the other
 abbrev pub ReadsBoth : (name bytes name' bytes' : List ℕ) → (old new : Done) → Type 0
-ReadsBoth name bytes name' bytes' old new =
-    (new.read ≡ (old.read ++ (name, bytes) ∷ []) ++ (name', bytes') ∷ []) × (new.opened ≡ old.opened)
+ReadsBoth name bytes name' bytes' old new = new.read ≡ (old.read ++ (name, bytes) ∷ []) ++ (name', bytes') ∷ []
 
--- just this file was opened, and none was read whole
-abbrev pub Opens : (name : List ℕ) → (old new : Done) → Type 0
-Opens name old new = (new.opened ≡ old.opened ++ name ∷ []) × (new.read ≡ old.read)
+-- a subcommand that takes these steps ended with a status. After 0 it asked for one thing more: that its file is written, such as it
+-- must be; where that was refused, the program ends with the status of that, and nothing was written. After another status it asked for
+-- nothing more.
+pub record Makes (steps : List Step) (name : List ℕ) (ended status : ℕ) (old new : Done) (Of : Vec ℕ Global → Type 0) : Type 0 where
+  pub unmade : 0 < ended → (status ≡ ended) × Asks steps 0 old.asked new.asked
+  pub made : ended ≡ 0 → Asks (steps ++ step Write (name ∷ []) ∷ []) status old.asked new.asked
+  pub file : status ≡ 0 → (file : Vec ℕ Global) × (new.written ≡ old.written ++ (name, file.items) ∷ []) × Of file
+  pub none : 0 < status → new.written ≡ old.written
 
--- with status 0 just the file of this name was written, with such bytes; with another status none was
-pub record Makes (name : List ℕ) (status : ℕ) (old new : List FileBytes) (Of : Vec ℕ Global → Type 0) : Type 0 where
-  pub made : status ≡ 0 → (file : Vec ℕ Global) × (new ≡ old ++ (name, file.items) ∷ []) × Of file
-  pub unmade : 0 < status → new ≡ old
-
-abbrev pub done : List FileBytes → List (List ℕ) → List FileBytes → Option (List ℕ) → Done
-done read opened written printed = record { read = read; opened = opened; written = written; printed = printed }
-
--- the status after the file was written: the one that the subcommand ended with, or, if the file could not be written, one above 0
-abbrev pub IsAfter : (ended status : ℕ) → Type 0
-IsAfter ended status = (status ≡ ended) ⊎ (0 < status)
+-- the file of this name was written, and the status is the wanted one; or that was refused
+abbrev pub IsWrittenOr : (name bytes : List ℕ) → (wanted status : ℕ) → (asked asked' : List Answered) → (old new : FileLogs) → Type 0
+IsWrittenOr name bytes wanted status asked asked' old new =
+    ((status ≡ wanted) × (asked' ≡ asked ++ answered (step Write (name ∷ [])) 0 ∷ []) × (new ≡ record old { written = old.written ++ (name, bytes) ∷ [] }))
+    ⊎ ((0 < status) × (asked' ≡ asked ++ answered (step Write (name ∷ [])) status ∷ []) × (new ≡ old))

@@ -1,2 +1,3 @@
 pub mod FileBytes
 pub mod Done
+pub mod Asking

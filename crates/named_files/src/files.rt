@@ -1,9 +1,12 @@
 //! What subcommands ask of the system about the files that the command line names.
 
 ghost use Rattle.std.specs.Prelude.{◌≡◌, [], IfSome, IsNone};
-ghost use Rattle.named_files.specs.FileBytes.{IsWrittenOr};
+ghost use Rattle.named_files.specs.Asking as asking;
+ghost use Rattle.named_files.specs.FileBytes.{file_logs};
+ghost use Rattle.named_files.specs.Done.{IsWrittenOr};
 
 use crate::file_log::{FileLog, NamedBytes};
+use crate::step_log::{Asked, Deed, StepLog};
 use crate::{keeping, opening, places, refusals, streams};
 use block_buffers::{BLOCK_SIZE, Device};
 use file_access::{FileDevice, TraceFile};
@@ -14,10 +17,12 @@ use std::fs::File;
 use std::io::{BufReader, BufWriter, IsTerminal, Read, Stdin, Write};
 
 /// The files of the system, by the names that the command line has. Where one can't be used as it is named that is printed, and the
-/// program's status, which is not 0, is the error.
+/// program's status, which is not 0, is the error. Each thing that it is asked to do is noted with the answer.
 pub trait Files {
-    ghost use Rattle.std.specs.Prelude.{◌≡◌, ◌<◌, ◌++◌, ◌∷◌, [], List, IfOk, IfErr, OnErr, OnOk, ℕ};
-    ghost use Rattle.named_files.specs.FileBytes.{FileBytes, given, reading};
+    ghost use Rattle.std.specs.Prelude.{◌≡◌, ◌++◌, ◌∷◌, [], List, IfOk};
+    ghost use Rattle.named_files.specs.Asking.{Answered, Answers, AnswersAll, Refused, answered, given, opens, step};
+    ghost use Rattle.named_files.specs.FileBytes.{FileLogs, reading, reading_old, writing};
+    ghost use Rattle.named_files.specs.declared.step_log.Deed.TheVariants as deed;
 
     /// A file of blocks that is open.
     type Blocks: Device + Drop;
@@ -28,122 +33,109 @@ pub trait Files {
     /// The file of a trace that is open.
     type Trace: Write + Drop;
 
-    /// The files that were read whole so far, in order.
-    ghost files_read: { Self → List FileBytes };
+    /// What was asked so far, in order, with the answers.
+    ghost asked: { Self → List Answered };
 
-    /// The names of the files that were opened so far, to be read or written piece by piece, in order.
-    ghost files_opened: { Self → List (List ℕ) };
-
-    /// The files that were written whole so far, in order.
-    ghost files_written: { Self → List FileBytes };
+    /// The files that were read and written whole so far.
+    ghost files: { Self → FileLogs };
 
     /// Where memory comes from.
     fn alloc(&self) -> Global;
 
     /// Prints that memory ran out, and answers the status.
-    fn out_of_memory(&self) -> u8
-        ensures { 0 < result };
+    fn out_of_memory(&mut self) -> u8
+        ensures asked { Refused (step deed.Allocate []) result (asked self.old) (asked self.new) }
+        ensures files { files self.new ≡ files self.old };
 
     /// Prints why a file or an option can't be used as it is given, and answers the status.
-    fn refuse_use(&self, name: &str, why: &str) -> u8
-        ensures { 0 < result };
+    fn refuse_use(&mut self, name: &str, why: &str) -> u8
+        ensures asked { Refused (step deed.Take (name.now ∷ [])) result (asked self.old) (asked self.new) }
+        ensures files { files self.new ≡ files self.old };
 
-    /// Prints that a file of blocks can't have so many, and answers the status.
-    fn refuse_count(&self) -> u8
-        ensures { 0 < result };
-
-    /// Sees to it that a file isn't written over one that is read; `files` is what they are.
-    fn keep_apart(&self, read: &str, written: &str, files: &str) -> Result<(), u8>
-        ensures { IfErr result (λ status. 0 < status) };
+    /// Sees to it that a file isn't written over one that is read; `what` is what they are.
+    fn keep_apart(&mut self, read: &str, written: &str, what: &str) -> Result<(), u8>
+        ensures asked { Answers (step deed.KeepApart (read.now ∷ written.now ∷ [])) result (asked self.old) (asked self.new) }
+        ensures files { files self.new ≡ files self.old };
 
     /// Sees to it that a new file isn't written over one that exists.
-    fn keep_absent(&self, name: &str) -> Result<(), u8>
-        ensures { IfErr result (λ status. 0 < status) };
+    fn keep_absent(&mut self, name: &str) -> Result<(), u8>
+        ensures asked { Answers (step deed.KeepAbsent (name.now ∷ [])) result (asked self.old) (asked self.new) }
+        ensures files { files self.new ≡ files self.old };
 
     /// Sees to it that an image isn't taken for a file of blocks.
-    fn keep_blocks(&self, blocks: &str) -> Result<(), u8>
-        ensures { IfErr result (λ status. 0 < status) };
+    fn keep_blocks(&mut self, blocks: &str) -> Result<(), u8>
+        ensures asked { Answers (step deed.KeepBlocks (blocks.now ∷ [])) result (asked self.old) (asked self.new) }
+        ensures files { files self.new ≡ files self.old };
 
     /// Sees to it that a trace isn't written over blocks or an image.
-    fn keep_trace(&self, trace: &str) -> Result<(), u8>
-        ensures { IfErr result (λ status. 0 < status) };
+    fn keep_trace(&mut self, trace: &str) -> Result<(), u8>
+        ensures asked { Answers (step deed.KeepTrace (trace.now ∷ [])) result (asked self.old) (asked self.new) }
+        ensures files { files self.new ≡ files self.old };
 
     /// Sees to it that an image isn't written over blocks.
-    fn keep_image(&self, image: &str) -> Result<(), u8>
-        ensures { IfErr result (λ status. 0 < status) };
+    fn keep_image(&mut self, image: &str) -> Result<(), u8>
+        ensures asked { Answers (step deed.KeepImage (image.now ∷ [])) result (asked self.old) (asked self.new) }
+        ensures files { files self.new ≡ files self.old };
 
     /// A file that is to be replaced, held against other runs for as long as it is open; none where it doesn't exist.
-    fn held(&self, name: &str) -> Result<Option<File>, u8>
-        ensures { IfErr result (λ status. 0 < status) };
+    fn held(&mut self, name: &str) -> Result<Option<File>, u8>
+        ensures asked { Answers (step deed.Hold (name.now ∷ [])) result (asked self.old) (asked self.new) }
+        ensures files { files self.new ≡ files self.old };
 
     /// The blocks of a file that is only read.
     fn read_alone(&mut self, blocks: &str) -> Result<Self::Blocks, u8>
-        ensures opened { OnOk result (files_opened self.new ≡ files_opened self.old ++ blocks.now ∷ []) }
-        ensures read { files_read self.new ≡ files_read self.old }
-        ensures written { files_written self.new ≡ files_written self.old }
-        ensures fresh { IfOk result (λ device. Self.Blocks.calls device ≡ []) }
-        ensures refused { IfErr result (λ status. 0 < status) };
+        ensures asked { Answers (step deed.Open (blocks.now ∷ [])) result (asked self.old) (asked self.new) }
+        ensures files { files self.new ≡ files self.old }
+        ensures fresh { IfOk result (λ device. Self.Blocks.calls device ≡ []) };
 
     /// The blocks of a run: those of the file, or none where it has no file.
     fn run_blocks(&mut self, blocks: Option<&str>) -> Result<Self::Blocks, u8>
-        ensures opened { OnOk result (files_opened self.new ≡ files_opened self.old ++ given blocks.entry) }
-        ensures read { files_read self.new ≡ files_read self.old }
-        ensures written { files_written self.new ≡ files_written self.old }
-        ensures fresh { IfOk result (λ device. Self.Blocks.calls device ≡ []) }
-        ensures refused { IfErr result (λ status. 0 < status) };
+        ensures asked { AnswersAll (opens (given blocks.entry)) result (asked self.old) (asked self.new) }
+        ensures files { files self.new ≡ files self.old }
+        ensures fresh { IfOk result (λ device. Self.Blocks.calls device ≡ []) };
 
     /// Standard input.
-    fn input(&self) -> Result<Self::Keys, u8>
-        ensures { IfErr result (λ status. 0 < status) };
+    fn input(&mut self) -> Result<Self::Keys, u8>
+        ensures asked { Answers (step deed.Listen []) result (asked self.old) (asked self.new) }
+        ensures files { files self.new ≡ files self.old };
 
     /// The file of a trace, which is emptied where the run begins.
     fn trace(&mut self, name: &str) -> Result<Self::Trace, u8>
-        ensures opened { OnOk result (files_opened self.new ≡ files_opened self.old ++ name.now ∷ []) }
-        ensures read { files_read self.new ≡ files_read self.old }
-        ensures written { files_written self.new ≡ files_written self.old }
-        ensures refused { IfErr result (λ status. 0 < status) };
+        ensures asked { Answers (step deed.Open (name.now ∷ [])) result (asked self.old) (asked self.new) }
+        ensures files { files self.new ≡ files self.old };
 
     /// Removes the new file of a trace of which nothing came.
     fn remove_trace(&mut self, name: &str)
-        ensures read { files_read self.new ≡ files_read self.old }
-        ensures opened { files_opened self.new ≡ files_opened self.old }
-        ensures written { files_written self.new ≡ files_written self.old };
+        ensures asked { asked self.new ≡ asked self.old ++ answered (step deed.Remove (name.now ∷ [])) 0 ∷ [] }
+        ensures files { files self.new ≡ files self.old };
 
     /// The bytes of an image's file.
     fn image_bytes(&mut self, image: &str) -> Result<Vec<u8>, u8>
-        ensures read { files_read self.new ≡ reading image.now result (files_read self.old) }
-        ensures written { files_written self.new ≡ files_written self.old }
-        ensures opened { files_opened self.new ≡ files_opened self.old }
-        ensures refused { IfErr result (λ status. 0 < status) };
+        ensures asked { Answers (step deed.Read (image.now ∷ [])) result (asked self.old) (asked self.new) }
+        ensures read { files self.new ≡ reading image.now result (files self.old) };
 
     /// The bytes of a file.
     fn file_bytes(&mut self, name: &str) -> Result<Vec<u8>, u8>
-        ensures read { files_read self.new ≡ reading name.now result (files_read self.old) }
-        ensures written { files_written self.new ≡ files_written self.old }
-        ensures opened { files_opened self.new ≡ files_opened self.old }
-        ensures refused { IfErr result (λ status. 0 < status) };
+        ensures asked { Answers (step deed.Read (name.now ∷ [])) result (asked self.old) (asked self.new) }
+        ensures read { files self.new ≡ reading name.now result (files self.old) };
 
     /// The bytes of a file of blocks that is to be replaced; none where it doesn't exist.
     fn old_blocks(&mut self, blocks: &str) -> Result<Vec<u8>, u8>
-        ensures read { files_read self.new ≡ reading blocks.now result (files_read self.old) }
-        ensures written { files_written self.new ≡ files_written self.old }
-        ensures opened { files_opened self.new ≡ files_opened self.old }
-        ensures refused { IfErr result (λ status. 0 < status) };
+        ensures asked { Answers (step deed.Read (blocks.now ∷ [])) result (asked self.old) (asked self.new) }
+        ensures read { files self.new ≡ reading blocks.now result (files self.old) };
 
-    /// Whether a file of this name exists.
-    fn exists(&self, name: &str) -> Result<bool, u8>
-        ensures { IfErr result (λ status. 0 < status) };
+    /// The bytes of a file that is to be replaced, where it exists.
+    fn old_file(&mut self, name: &str) -> Result<Option<Vec<u8>>, u8>
+        ensures asked { Answers (step deed.Read (name.now ∷ [])) result (asked self.old) (asked self.new) }
+        ensures read { files self.new ≡ reading_old name.now result (files self.old) };
 
     /// Whether it is known that no file of this name exists.
     fn is_absent(&self, name: &str) -> bool;
 
     /// Writes a file whole, or makes it; where that fails, it is as it was.
     fn write(&mut self, name: &str, bytes: &[u8]) -> Result<(), u8>
-        ensures read { files_read self.new ≡ files_read self.old }
-        ensures written { OnOk result (files_written self.new ≡ files_written self.old ++ (name.now, bytes.now) ∷ []) }
-        ensures opened { files_opened self.new ≡ files_opened self.old }
-        ensures unwritten { OnErr result (files_written self.new ≡ files_written self.old) }
-        ensures refused { IfErr result (λ status. 0 < status) };
+        ensures asked { Answers (step deed.Write (name.now ∷ [])) result (asked self.old) (asked self.new) }
+        ensures written { files self.new ≡ writing name.now bytes.now result (files self.old) };
 
     /// Whether someone reads standard error at a terminal.
     fn is_watched(&self) -> bool;
@@ -161,38 +153,58 @@ pub trait Files {
     );
 }
 
-/// The files of the system that the program runs on, with a log of them for contracts.
+/// The files of the system that the program runs on, with logs for contracts.
 #[derive(Drop)]
 pub struct SystemFiles<'a> {
     rt: &'a HostRuntime,
+    asked: StepLog,
     read: FileLog,
-    opened: FileLog,
     written: FileLog,
 }
 
+/// The status of an answer: 0 where what was asked was done.
+fn status_of<T>(answer: &Result<T, u8>) -> u8
+    ensures { result ≡ asking.answer answer.now }
+{
+    match answer {
+        Ok(_) => 0,
+        Err(status) => *status,
+    }
+}
+
 impl<'a> SystemFiles<'a> {
+    ghost use Rattle.std.specs.Prelude.{◌≡◌, ◌∷◌, ◌++◌, [], map};
+    ghost use Rattle.named_files.specs.Asking.{answered, step};
+
     /// The system.
     pub fn rt(&self) -> &'a HostRuntime {
         self.rt
     }
 
-    /// None was read or written yet.
+    /// Nothing was asked yet.
     pub fn new(rt: &'a HostRuntime) -> SystemFiles<'a>
-        ensures read { ⟦<SystemFiles<'a> as Files>⟧.files_read result ≡ [] }
-        ensures opened { ⟦<SystemFiles<'a> as Files>⟧.files_opened result ≡ [] }
-        ensures written { ⟦<SystemFiles<'a> as Files>⟧.files_written result ≡ [] }
+        ensures asked { ⟦<SystemFiles<'a> as Files>⟧.asked result ≡ [] }
+        ensures files { ⟦<SystemFiles<'a> as Files>⟧.files result ≡ file_logs [] [] }
     {
         SystemFiles {
             rt,
+            asked: StepLog::new(),
             read: FileLog::new(),
-            opened: FileLog::new(),
             written: FileLog::new(),
         }
+    }
+
+    /// Notes what was asked, and the status of the answer.
+    fn note(&mut self, deed: Deed, names: &[&str], status: u8)
+        ensures asked { self.new.asked.asked ≡ self.old.asked.asked ++ answered (step deed (map (λ name. name.now) names.now)) status ∷ [] }
+        ensures rest { (self.new.read ≡ self.old.read) × (self.new.written ≡ self.old.written) × (self.new.rt ≡ self.old.rt) }
+    {
+        self.asked = self.asked.then(&Asked { deed, names, status });
     }
 }
 
 impl<'a> Files for SystemFiles<'a> {
-    ghost use Rattle.named_files.specs.FileBytes.{names_of};
+    ghost use Rattle.named_files.specs.FileBytes.{file_logs};
 
     type Blocks = FileDevice;
 
@@ -200,86 +212,99 @@ impl<'a> Files for SystemFiles<'a> {
 
     type Trace = BufWriter<TraceFile>;
 
-    ghost files_read = { λ s. s.read.files };
+    ghost asked = { λ s. s.asked.asked };
 
-    ghost files_opened = { λ s. names_of s.opened.files };
-
-    ghost files_written = { λ s. s.written.files };
+    ghost files = { λ s. file_logs s.read.files s.written.files };
 
     fn alloc(&self) -> Global {
         self.rt.alloc()
     }
 
-    fn out_of_memory(&self) -> u8 {
-        refusals::out_of_memory(self.rt)
+    fn out_of_memory(&mut self) -> u8 {
+        let status = refusals::out_of_memory(self.rt);
+        self.note(Deed::Allocate, &[], status);
+        status
     }
 
-    fn refuse_use(&self, name: &str, why: &str) -> u8 {
-        refusals::refuse_use(self.rt, name, why)
+    fn refuse_use(&mut self, name: &str, why: &str) -> u8 {
+        let status = refusals::refuse_use(self.rt, name, why);
+        self.note(Deed::Take, &[name], status);
+        status
     }
 
-    fn refuse_count(&self) -> u8 {
-        refusals::say(self.rt, "error: a file has at most 65536 blocks", "", 2)
+    fn keep_apart(&mut self, read: &str, written: &str, what: &str) -> Result<(), u8> {
+        let answer = keeping::keep_apart(self.rt, read, written, what);
+        self.note(Deed::KeepApart, &[read, written], status_of(&answer));
+        answer
     }
 
-    fn keep_apart(&self, read: &str, written: &str, files: &str) -> Result<(), u8> {
-        keeping::keep_apart(self.rt, read, written, files)
+    fn keep_absent(&mut self, name: &str) -> Result<(), u8> {
+        let answer = keeping::keep_absent(self.rt, name);
+        self.note(Deed::KeepAbsent, &[name], status_of(&answer));
+        answer
     }
 
-    fn keep_absent(&self, name: &str) -> Result<(), u8> {
-        keeping::keep_absent(self.rt, name)
+    fn keep_blocks(&mut self, blocks: &str) -> Result<(), u8> {
+        let answer = keeping::keep_blocks(self.rt, blocks);
+        self.note(Deed::KeepBlocks, &[blocks], status_of(&answer));
+        answer
     }
 
-    fn keep_blocks(&self, blocks: &str) -> Result<(), u8> {
-        keeping::keep_blocks(self.rt, blocks)
+    fn keep_trace(&mut self, trace: &str) -> Result<(), u8> {
+        let answer = keeping::keep_trace(self.rt, trace);
+        self.note(Deed::KeepTrace, &[trace], status_of(&answer));
+        answer
     }
 
-    fn keep_trace(&self, trace: &str) -> Result<(), u8> {
-        keeping::keep_trace(self.rt, trace)
+    fn keep_image(&mut self, image: &str) -> Result<(), u8> {
+        let answer = keeping::keep_image(self.rt, image);
+        self.note(Deed::KeepImage, &[image], status_of(&answer));
+        answer
     }
 
-    fn keep_image(&self, image: &str) -> Result<(), u8> {
-        keeping::keep_image(self.rt, image)
-    }
-
-    fn held(&self, name: &str) -> Result<Option<File>, u8> {
-        opening::held(self.rt, name)
+    fn held(&mut self, name: &str) -> Result<Option<File>, u8> {
+        let answer = opening::held(self.rt, name);
+        self.note(Deed::Hold, &[name], status_of(&answer));
+        answer
     }
 
     fn read_alone(&mut self, blocks: &str) -> Result<FileDevice, u8> {
-        let device = opening::read_alone(self.rt, blocks)?;
-        self.opened = self.opened.then(&NamedBytes {
-            name: blocks,
-            bytes: &[],
-        });
-        Ok(device)
+        let answer = opening::read_alone(self.rt, blocks);
+        self.note(Deed::Open, &[blocks], status_of(&answer));
+        answer
     }
 
+    #[tactic(auto, unfolding(crate::specs::Asking::Asks))]
     fn run_blocks(&mut self, blocks: Option<&str>) -> Result<FileDevice, u8> {
         let Some(name) = blocks else {
             return Ok(FileDevice::without_file());
         };
-        let device = opening::run_blocks(self.rt, name)?;
-        self.opened = self.opened.then(&NamedBytes { name, bytes: &[] });
-        Ok(device)
+        let answer = opening::run_blocks(self.rt, name);
+        self.note(Deed::Open, &[name], status_of(&answer));
+        answer
     }
 
-    fn input(&self) -> Result<BufReader<Stdin>, u8> {
-        streams::standard_input(self.rt)
+    fn input(&mut self) -> Result<BufReader<Stdin>, u8> {
+        let answer = streams::standard_input(self.rt);
+        self.note(Deed::Listen, &[], status_of(&answer));
+        answer
     }
 
     fn trace(&mut self, name: &str) -> Result<BufWriter<TraceFile>, u8> {
-        let trace = streams::trace_file(self.rt, name)?;
-        self.opened = self.opened.then(&NamedBytes { name, bytes: &[] });
-        Ok(trace)
+        let answer = streams::trace_file(self.rt, name);
+        self.note(Deed::Open, &[name], status_of(&answer));
+        answer
     }
 
     fn remove_trace(&mut self, name: &str) {
         let _gone = fs::remove_file(self.rt, name);
+        self.note(Deed::Remove, &[name], 0);
     }
 
     fn image_bytes(&mut self, image: &str) -> Result<Vec<u8>, u8> {
-        let bytes = opening::image_bytes(self.rt, image)?;
+        let answer = opening::image_bytes(self.rt, image);
+        self.note(Deed::Read, &[image], status_of(&answer));
+        let bytes = answer?;
         self.read = self.read.then(&NamedBytes {
             name: image,
             bytes: bytes.as_slice(),
@@ -288,7 +313,9 @@ impl<'a> Files for SystemFiles<'a> {
     }
 
     fn file_bytes(&mut self, name: &str) -> Result<Vec<u8>, u8> {
-        let bytes = opening::file_bytes(self.rt, name)?;
+        let answer = opening::file_bytes(self.rt, name);
+        self.note(Deed::Read, &[name], status_of(&answer));
+        let bytes = answer?;
         self.read = self.read.then(&NamedBytes {
             name,
             bytes: bytes.as_slice(),
@@ -297,7 +324,9 @@ impl<'a> Files for SystemFiles<'a> {
     }
 
     fn old_blocks(&mut self, blocks: &str) -> Result<Vec<u8>, u8> {
-        let bytes = opening::old_blocks(self.rt, blocks)?;
+        let answer = opening::old_blocks(self.rt, blocks);
+        self.note(Deed::Read, &[blocks], status_of(&answer));
+        let bytes = answer?;
         self.read = self.read.then(&NamedBytes {
             name: blocks,
             bytes: bytes.as_slice(),
@@ -305,8 +334,17 @@ impl<'a> Files for SystemFiles<'a> {
         Ok(bytes)
     }
 
-    fn exists(&self, name: &str) -> Result<bool, u8> {
-        opening::exists(self.rt, name)
+    fn old_file(&mut self, name: &str) -> Result<Option<Vec<u8>>, u8> {
+        let answer = opening::old_file(self.rt, name);
+        self.note(Deed::Read, &[name], status_of(&answer));
+        let file = answer?;
+        if let Some(bytes) = &file {
+            self.read = self.read.then(&NamedBytes {
+                name,
+                bytes: bytes.as_slice(),
+            });
+        }
+        Ok(file)
     }
 
     fn is_absent(&self, name: &str) -> bool {
@@ -314,9 +352,12 @@ impl<'a> Files for SystemFiles<'a> {
     }
 
     fn write(&mut self, name: &str, bytes: &[u8]) -> Result<(), u8> {
-        opening::write(self.rt, name, bytes)?;
-        self.written = self.written.then(&NamedBytes { name, bytes });
-        Ok(())
+        let answer = opening::write(self.rt, name, bytes);
+        self.note(Deed::Write, &[name], status_of(&answer));
+        if answer.is_ok() {
+            self.written = self.written.then(&NamedBytes { name, bytes });
+        }
+        answer
     }
 
     fn is_watched(&self) -> bool {
@@ -340,11 +381,9 @@ impl<'a> Files for SystemFiles<'a> {
 
 /// Writes the file that a subcommand made, if it made one, and answers the status.
 pub fn write_made<F: Files>(files: &mut F, status: u8, file: Option<Vec<u8>>, name: &str) -> u8
-    ensures none { IsNone file → (result ≡ status) × (F.files_written files.new ≡ F.files_written files.old) }
+    ensures none { IsNone file → (result ≡ status) × (F.asked files.new ≡ F.asked files.old) × (F.files files.new ≡ F.files files.old) }
     ensures made { IfSome file (λ made. IsWrittenOr name.now made.items status result
-        (F.files_written files.old) (F.files_written files.new)) }
-    ensures read { F.files_read files.new ≡ F.files_read files.old }
-    ensures opened { F.files_opened files.new ≡ F.files_opened files.old }
+        (F.asked files.old) (F.asked files.new) (F.files files.old) (F.files files.new)) }
 {
     let Some(file) = file else {
         return status;

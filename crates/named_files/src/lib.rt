@@ -3,6 +3,7 @@
 #![tactic(auto)]
 
 mod file_log;
+mod step_log;
 mod files;
 mod keeping;
 mod opening;
@@ -11,6 +12,7 @@ mod refusals;
 mod streams;
 
 pub use file_log::{FileLog, NamedBytes};
+pub use step_log::Deed;
 pub use files::{Files, SystemFiles, write_made};
 pub use places::{blocks_of, read_screen, word_before, word_behind};
 pub use refusals::out_of_memory;

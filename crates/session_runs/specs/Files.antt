@@ -2,7 +2,9 @@
 use Rattle.std.specs.Prelude.{◌≡◌, ◌⊎◌, ℕ, List, [], ◌∷◌, ◌++◌, Option, Bool, false, is_some}
 use Rattle.block_buffers.specs.DeviceCalls.{DeviceCall}
 use Rattle.inner_interpreter.specs.Moves.{logs}
-use Rattle.named_files.specs.Done.{Done}
+use Rattle.named_files.specs.Asking.{Asks, Step, opens, step}
+use Rattle.named_files.specs.Done.{Done, Reads}
+use Rattle.named_files.specs.declared.step_log.Deed.TheVariants as deed
 use Rattle.session_runs.specs.Sitting.{HasSession, HostLog, Wanted, host_log}
 use Rattle.session_runs.specs.declared.runs.Session.{Session}
 use Rattle.subcommands.specs.Ends.{IsRefusal}
@@ -20,12 +22,16 @@ pub record IsWanting (status : ℕ) (failed : Bool) (keys : List (Option ℕ)) (
   pub status_is : IsRefusal status failed
   pub printed : failed ≡ false → PrintsOutOfMemory status old new
 
--- `run IMAGE BLOCKS`, once both were opened: the image is run as a session, over the keys that standard input gave and the calls that
+abbrev pub run_steps : (image : List ℕ) → (blocks : List (List ℕ)) → List Step
+run_steps image blocks = step deed.Read (image ∷ []) ∷ (opens blocks ++ (step deed.Listen [] ∷ step deed.Allocate [] ∷ []))
+
+-- `run IMAGE BLOCKS`, once these steps were taken: the image is run as a session, over the keys that standard input gave and the calls that
 -- the blocks were given
 pub record Runs (image : List ℕ) (blocks : List (List ℕ)) (wanted : Wanted) (status : ℕ) (failed : Bool) (old new : Done) : Type 0 where
   pub bytes : List ℕ
-  pub reads : new.read ≡ old.read ++ (image, bytes) ∷ []
-  pub opens : new.opened ≡ old.opened ++ blocks
+  pub asks : Asks (run_steps image blocks) 0 old.asked new.asked
+  pub reads : Reads image bytes old new
+  pub unwritten : new.written ≡ old.written
   pub count : ℕ
   pub keys : List (Option ℕ)
   pub unread : Bool

@@ -1,9 +1,9 @@
 //! `run`.
 
-ghost use Rattle.std.specs.Prelude.{◌≡◌, ◌<◌, [], false, true, IfErr, IfOk};
-ghost use Rattle.named_files.specs.Done.{done};
-ghost use Rattle.named_files.specs.FileBytes.{given};
-ghost use Rattle.session_runs.specs.Files.{Runs, wanted_by};
+ghost use Rattle.std.specs.Prelude.{◌≡◌, [], false, true, IfErr, IfOk};
+ghost use Rattle.named_files.specs.Asking.{given};
+ghost use Rattle.named_files.specs.Done.{Refuses, done};
+ghost use Rattle.session_runs.specs.Files.{Runs, run_steps, wanted_by};
 
 use crate::break_file::BreakFile;
 use crate::hosts::SessionHost;
@@ -26,21 +26,24 @@ pub struct Session<'a> {
 
 /// The files of the system, and the host of a session.
 pub trait SessionFiles: Files {
-    ghost use Rattle.std.specs.Prelude.{◌≡◌, ◌<◌, false, [], IfErr, IfOk};
+    ghost use Rattle.std.specs.Prelude.{◌≡◌, false, [], IfOk};
+    ghost use Rattle.named_files.specs.Asking.{Answers, step};
+    ghost use Rattle.named_files.specs.declared.step_log.Deed.TheVariants as deed;
 
     /// The host of a session.
     type Host: SessionHost + Drop;
 
     /// The host that looks for a file of this name, if there is one. If memory runs out, that is printed, and the status is the error.
-    fn host(&self, break_file: Option<&str>) -> Result<Self::Host, u8>
-        ensures fresh { IfOk result (λ host. (Self.Host.interruptions host ≡ 0) × (Self.Host.ended host ≡ false) × (Self.Host.kept host ≡ [])) }
-        ensures refused { IfErr result (λ status. 0 < status) };
+    fn host(&mut self, break_file: Option<&str>) -> Result<Self::Host, u8>
+        ensures asked { Answers (step deed.Allocate []) result (Self.asked self.old) (Self.asked self.new) }
+        ensures files { Self.files self.new ≡ Self.files self.old }
+        ensures fresh { IfOk result (λ host. (Self.Host.interruptions host ≡ 0) × (Self.Host.ended host ≡ false) × (Self.Host.kept host ≡ [])) };
 }
 
 impl<'a> SessionFiles for SystemFiles<'a> {
     type Host = BreakFile<'a>;
 
-    fn host(&self, break_file: Option<&str>) -> Result<BreakFile<'a>, u8> {
+    fn host(&mut self, break_file: Option<&str>) -> Result<BreakFile<'a>, u8> {
         let Some(name) = break_file else {
             return Ok(BreakFile::new(self.rt(), None));
         };
@@ -62,11 +65,10 @@ pub fn run_image<F: SessionFiles, W: Output>(
     session: Session<'_>,
 ) -> Result<u8, u8>
     ensures ran { W.failed writer.old ≡ false → IfOk result (λ status. Runs image.now (given blocks.entry) (wanted_by limit session.entry) status (W.failed writer.new)
-        (done (F.files_read files.old) (F.files_opened files.old) (F.files_written files.old) (W.sent writer.old))
-        (done (F.files_read files.new) (F.files_opened files.new) (F.files_written files.new) (W.sent writer.new))) }
-    ensures unwritten { F.files_written files.new ≡ F.files_written files.old }
+        (done (F.asked files.old) (F.files files.old) (W.sent writer.old)) (done (F.asked files.new) (F.files files.new) (W.sent writer.new))) }
     ensures passed { IfOk result (λ _. W.failed writer.new ≡ false → W.passed writer.new ≡ true) }
-    ensures refused { IfErr result (λ status. 0 < status) }
+    ensures refused { IfErr result (λ status. Refuses (run_steps image.now (given blocks.entry)) status
+        (done (F.asked files.old) (F.files files.old) (W.sent writer.old)) (done (F.asked files.new) (F.files files.new) (W.sent writer.new))) }
 {
     let bytes = files.image_bytes(image)?;
     let mut device = files.run_blocks(blocks)?;

@@ -1,29 +1,41 @@
-use Rattle.std.proofs.Common.{rules, ◌≡◌, ◌<◌, true, false, IfErr, IfOk, ℕ, ◌+◌, ◌-◌, ◌*◌, ◌≤◌, ◌∙◌, length, List, [], ◌∷◌, ◌++◌, Bor, MutBor, subst, IfSome, IsNone, Some}
-use Rattle.block_buffers.specs.Disks.{Disk}
-use Rattle.block_buffers.specs.Likeness.{DidAs}
-use Rattle.image_builder.specs.Sources.{done_of}
-use Rattle.subcommands.specs.Lines.{EndsUnbuilt}
-use Rattle.named_files.proofs.Making.{after, any, beside, both, made_after, no_file}
-use Rattle.subcommands.specs.Images.{IsFileOfRead}
+use Rattle.std.proofs.Common.{ap, rules, ◌≡◌, ◌<◌, ◌∙◌, [], ◌∷◌, inl, inr, subst}
+use Rattle.named_files.proofs.Making.{a_file, any, beside, both, made, no_file, of_err, read_so, refused, refuses, taken, takes}
 use Rattle.file_subcommands.proofs.building.build_image.Goals as goal
 
--- src/building.rt:48:1
+pub returns-then-not-is_count-clause-refused : goal.returns-then-not-is_count-clause-refused
+returns-then-not-is_count-clause-refused g c = inl (search rules, refuses _ _ _ _ _ _ _ c.refuse_use.ensures.asked.0 (refused _ _ _ _ _ c.refuse_use.ensures.asked) (ap (λ f. f.written) c.refuse_use.ensures.files))
+
+pub returns-in_err-keep_apart-clause-refused : goal.returns-in_err-keep_apart-clause-refused
+returns-in_err-keep_apart-clause-refused g c =
+    of_err c.from_residual.result _ _ c.from_residual.ensures.1
+    (inr (refuses _ _ _ _ _ _ _ c.in_err-keep_apart.ensures.asked.0 (refused _ _ _ _ _ c.in_err-keep_apart.ensures.asked) (search rules)))
+
+pub returns-in_err-keep_image-clause-refused : goal.returns-in_err-keep_image-clause-refused
+returns-in_err-keep_image-clause-refused g c =
+    of_err c.from_residual-in_err-keep_image.result _ _ c.from_residual-in_err-keep_image.ensures.1
+    (inr (refuses _ _ _ _ _ _ _ c.in_err-keep_image.ensures.asked.0 (takes _ _ _ _ _ _ c.in_ok-keep_apart.ensures.asked (refused _ _ _ _ _ c.in_err-keep_image.ensures.asked)) (search rules)))
+
+pub returns-in_err-keep_blocks-clause-refused : goal.returns-in_err-keep_blocks-clause-refused
+returns-in_err-keep_blocks-clause-refused g c =
+    of_err c.from_residual-in_err-keep_blocks.result _ _ c.from_residual-in_err-keep_blocks.ensures.1
+    (inr (refuses _ _ _ _ _ _ _ c.in_err-keep_blocks.ensures.asked.0 (takes _ _ _ _ _ _ c.in_ok-keep_apart.ensures.asked (takes _ _ _ _ _ _ c.in_ok-keep_image.ensures.asked (refused _ _ _ _ _ c.in_err-keep_blocks.ensures.asked))) (search rules)))
+
+pub returns-in_err-device-clause-refused : goal.returns-in_err-device-clause-refused
+returns-in_err-device-clause-refused g c =
+    of_err c.from_residual-in_err-device.result _ _ c.from_residual-in_err-device.ensures.1
+    (inr (refuses _ _ _ _ _ _ _ c.in_err-device.ensures.asked.0 (takes _ _ _ _ _ _ c.in_ok-keep_apart.ensures.asked (takes _ _ _ _ _ _ c.in_ok-keep_image.ensures.asked (takes _ _ _ _ _ _ c.in_ok-keep_blocks.ensures.asked (refused _ _ _ _ _ c.in_err-device.ensures.asked)))) (search rules)))
+
 pub returns-clause-built : goal.returns-clause-built
 returns-clause-built g c = record {
-  opens = search rules;
+  reads = read_so _ _ _ _ _ _ _ _ c.write_made.ensures.none c.write_made.ensures.made ∙ search rules;
   count = g.F.Blocks.Device.block_count c.in_ok-device.device;
   calls = g.F.Blocks.Device.calls c.do_build-status.new.device;
-  makes = made_after _ c.do_build-status.result.file c.do_build-status.result.status _ _ _ _ _ c.read_alone.ensures.written
-      (both _ _ _ c.do_build-status.ensures.status
-      (beside _ _ (g.W.Output.failed c.do_build-status.new.writer) c.do_build-status.result.file (subst (λ calls. IfSome c.do_build-status.result.file (λ file. IsFileOfRead c.args.buffers (g.F.Blocks.Device.block_count c.in_ok-device.device) c.args.screens.from c.args.screens.to file calls (g.F.Blocks.Device.calls c.do_build-status.new.device)))
-      c.in_ok-device.ensures.fresh c.do_build-status.ensures.read) c.do_build-status.ensures.told))
-      c.write_made.ensures.none c.write_made.ensures.made;
   ended = c.do_build-status.result.status;
-  after = after c.do_build-status.result.file c.do_build-status.result.status _ _ _ _ c.write_made.ensures.none c.write_made.ensures.made;
-  refused = λ fine lt. subst
-      (λ calls. g.W.Output.failed c.do_build-status.new.writer ≡ false → IsNone c.do_build-status.result.file → (d e : Disk)
-      → DidAs d e (g.F.Blocks.Device.block_count c.in_ok-device.device) calls (g.F.Blocks.Device.calls c.do_build-status.new.device)
-      → EndsUnbuilt c.args.buffers d c.args.screens.from c.args.screens.to (done_of (Some e) calls (g.F.Blocks.Device.calls c.do_build-status.new.device))
-      c.do_build-status.result.status (g.W.Output.sent c.args.writer.now) (g.W.Output.sent c.do_build-status.new.writer))
-      c.in_ok-device.ensures.fresh c.do_build-status.ensures.refused fine (no_file _ _ _ (both (λ f. f ≡ f) _ _ c.do_build-status.ensures.status (any c.do_build-status.result.file)) lt);
+  makes = made _ _ c.do_build-status.result.file _ _ _ _ _ _ _ _ _ _ _
+      (takes _ _ _ _ _ _ c.in_ok-keep_apart.ensures.asked (takes _ _ _ _ _ _ c.in_ok-keep_image.ensures.asked (takes _ _ _ _ _ _ c.in_ok-keep_blocks.ensures.asked (taken _ _ _ c.in_ok-device.ensures.asked))))
+      (search rules)
+      (both _ _ _ c.do_build-status.ensures.status
+      (beside _ _ (g.W.Output.failed c.do_build-status.new.writer) c.do_build-status.result.file (rw (← c.in_ok-device.ensures.fresh) c.do_build-status.ensures.read) c.do_build-status.ensures.told))
+      c.write_made.ensures.none c.write_made.ensures.made;
+  refused = λ fine lt. rw (← c.in_ok-device.ensures.fresh) (c.do_build-status.ensures.refused fine (no_file _ _ _ (both (λ f. f ≡ f) _ _ c.do_build-status.ensures.status (any c.do_build-status.result.file)) lt));
 }

@@ -1,30 +1,59 @@
-use Rattle.std.proofs.Common.{rules, ◌≡◌, ◌∙◌, ◌++◌, ◌∷◌, [], inl, inr, ap, subst}
-use Rattle.containers.specs.Containers.{unwritten}
-use Rattle.subcommands.specs.Disks.{PrintsUnread}
-use Rattle.named_files.proofs.Making.{made_after, after, a_file, no_file}
+use Rattle.std.proofs.Common.{ap, rules, ◌≡◌, ◌<◌, ◌∙◌, [], ◌∷◌, inl, inr, subst}
+use Rattle.named_files.proofs.Making.{a_file, made, no_file, of_err, read_so, refused, refuses, taken, takes}
+use Rattle.file_subcommands.specs.Filed.{wanted_of}
+use Rattle.file_subcommands.proofs.Making.{read_old}
 use Rattle.file_subcommands.proofs.disks.export_screens.Goals as goal
 
--- src/disks.rt:168:1
+pub returns-in_err-keep_apart-clause-refused : goal.returns-in_err-keep_apart-clause-refused
+returns-in_err-keep_apart-clause-refused g c =
+    of_err c.from_residual-in_err-keep_apart.result _ _ c.from_residual-in_err-keep_apart.ensures.1
+    (inr (rw (← c.in_ok-layout.ensures.same, ← c.in_ok-layout.ensures.silent)
+    (refuses _ _ _ _ _ _ _ c.in_err-keep_apart.ensures.asked.0 (refused _ _ _ _ _ c.in_err-keep_apart.ensures.asked) (search rules))))
+
+pub returns-in_err-keep_blocks-clause-refused : goal.returns-in_err-keep_blocks-clause-refused
+returns-in_err-keep_blocks-clause-refused g c =
+    of_err c.from_residual-in_err-keep_blocks.result _ _ c.from_residual-in_err-keep_blocks.ensures.1
+    (inr (rw (← c.in_ok-layout.ensures.same, ← c.in_ok-layout.ensures.silent)
+    (refuses _ _ _ _ _ _ _ c.in_err-keep_blocks.ensures.asked.0 (takes _ _ _ _ _ _ c.in_ok-keep_apart.ensures.asked (refused _ _ _ _ _ c.in_err-keep_blocks.ensures.asked)) (search rules))))
+
+pub returns-in_err-keep_blocks-2-clause-refused : goal.returns-in_err-keep_blocks-2-clause-refused
+returns-in_err-keep_blocks-2-clause-refused g c =
+    of_err c.from_residual-in_err-keep_blocks-2.result _ _ c.from_residual-in_err-keep_blocks-2.ensures.1
+    (inr (rw (← c.in_ok-layout.ensures.same, ← c.in_ok-layout.ensures.silent)
+    (refuses _ _ _ _ _ _ _ c.in_err-keep_blocks-2.ensures.asked.0 (takes _ _ _ _ _ _ c.in_ok-keep_apart.ensures.asked (takes _ _ _ _ _ _ c.in_ok-keep_blocks.ensures.asked (refused _ _ _ _ _ c.in_err-keep_blocks-2.ensures.asked))) (search rules))))
+
+pub returns-in_err-screens-clause-refused : goal.returns-in_err-screens-clause-refused
+returns-in_err-screens-clause-refused g c =
+    of_err c.from_residual-in_err-screens.result _ _ c.from_residual-in_err-screens.ensures.1
+    (inr (rw (← c.in_ok-layout.ensures.same, ← c.in_ok-layout.ensures.silent)
+    (refuses _ _ _ _ _ _ _ c.in_err-screens.ensures.asked.0 (takes _ _ _ _ _ _ c.in_ok-keep_apart.ensures.asked (takes _ _ _ _ _ _ c.in_ok-keep_blocks.ensures.asked (takes _ _ _ _ _ _ c.in_ok-keep_blocks-2.ensures.asked (refused _ _ _ _ _ c.in_err-screens.ensures.asked)))) (search rules))))
+
+pub returns-in_err-_held-clause-refused : goal.returns-in_err-_held-clause-refused
+returns-in_err-_held-clause-refused g c =
+    of_err c.from_residual-in_err-_held.result _ _ c.from_residual-in_err-_held.ensures.1
+    (inr (rw (← c.in_ok-layout.ensures.same, ← c.in_ok-layout.ensures.silent)
+    (refuses _ _ _ _ _ _ _ c.in_err-_held.ensures.asked.0 (takes _ _ _ _ _ _ c.in_ok-keep_apart.ensures.asked (takes _ _ _ _ _ _ c.in_ok-keep_blocks.ensures.asked (takes _ _ _ _ _ _ c.in_ok-keep_blocks-2.ensures.asked (takes _ _ _ _ _ _ c.in_ok-screens.ensures.asked (refused _ _ _ _ _ c.in_err-_held.ensures.asked))))) (search rules))))
+
+pub returns-in_err-before-clause-refused : goal.returns-in_err-before-clause-refused
+returns-in_err-before-clause-refused g c =
+    of_err c.from_residual-in_err-before.result _ _ c.from_residual-in_err-before.ensures.1
+    (inr (rw (← c.in_ok-layout.ensures.same, ← c.in_ok-layout.ensures.silent)
+    (refuses _ _ _ _ _ _ _ c.in_err-before.ensures.asked.0 (takes _ _ _ _ _ _ c.in_ok-keep_apart.ensures.asked (takes _ _ _ _ _ _ c.in_ok-keep_blocks.ensures.asked (takes _ _ _ _ _ _ c.in_ok-keep_blocks-2.ensures.asked (takes _ _ _ _ _ _ c.in_ok-screens.ensures.asked (takes _ _ _ _ _ _ c.in_ok-_held.ensures.asked (refused _ _ _ _ _ c.in_err-before.ensures.asked)))))) (search rules))))
+
 pub returns-clause-exported : goal.returns-clause-exported
-returns-clause-exported g c =
-    let opened = c.write_made.ensures.opened ∙ (c.old_container.ensures.opened ∙ c.file_bytes.ensures.opened) in
-    let screens : g.F.Files.files_read c.file_bytes.new.self ≡ g.F.Files.files_read c.args.files.now ++ (c.args.disk.blocks.now, c.as_slice.result.now) ∷ [] = search rules in
-    let untouched = c.in_ok-old.ensures.silent ∙ c.in_ok-layout.ensures.silent in
-    record {
-      layout = c.in_ok-layout.layout;
-      is_wanted = c.in_ok-layout.ensures.wanted;
-      screens = c.as_slice.result.now;
-      before = c.in_ok-old.old.items;
-      reads = elim c.in_ok-old.ensures.read [
-        | inl read ↦ inl ((c.write_made.ensures.read ∙ (read ∙ ap (λ files. files ++ (c.args.disk.container.now, c.in_ok-old.old.items) ∷ []) screens)), opened)
-        | inr new ↦ inr ((((c.write_made.ensures.read ∙ (new.0 ∙ screens)), opened)), search (rules, new.1))
-      ];
-      makes = made_after _ c.do_export-status.result.file c.do_export-status.result.status _ _ _ _ _
-          (c.old_container.ensures.written ∙ c.file_bytes.ensures.written)
-          c.do_export-status.ensures.file c.write_made.ensures.none c.write_made.ensures.made;
-      ended = c.do_export-status.result.status;
-      after = after c.do_export-status.result.file c.do_export-status.result.status _ _ _ _ c.write_made.ensures.none c.write_made.ensures.made;
-      silent = λ e. ap g.W.Output.sent (c.do_export-status.ensures.silent (a_file _ _ _ c.do_export-status.ensures.file e) ∙ untouched);
-      refused = λ fine lt. subst (λ w. PrintsUnread (unwritten c.in_ok-layout.layout c.as_slice.result.now c.in_ok-old.old.items) c.do_export-status.result.status (g.W.Output.sent w) (g.W.Output.sent c.do_export-status.new.writer))
-          untouched (c.do_export-status.ensures.refused fine (no_file _ _ _ c.do_export-status.ensures.file lt));
-    }
+returns-clause-exported g c = rw (← c.in_ok-layout.ensures.same, ← c.in_ok-layout.ensures.silent) (record {
+  layout = c.in_ok-layout.layout;
+  is_wanted = c.in_ok-layout.ensures.wanted;
+  screens = c.as_slice.result.now;
+  before = _;
+  reads = read_old (wanted_of c.args.disk) _ c.in_ok-before.before _ _ _ _ _ _ _ _ (search rules) c.in_ok-before.ensures.read
+      (read_so _ _ _ _ _ _ _ _ c.write_made.ensures.none c.write_made.ensures.made);
+  ended = c.exported-status.result.status;
+  makes = made _ _ c.exported-status.result.file _ _ _ _ _ _ _ _ _ _ _
+      (takes _ _ _ _ _ _ c.in_ok-keep_apart.ensures.asked (takes _ _ _ _ _ _ c.in_ok-keep_blocks.ensures.asked
+      (takes _ _ _ _ _ _ c.in_ok-keep_blocks-2.ensures.asked (takes _ _ _ _ _ _ c.in_ok-screens.ensures.asked
+      (takes _ _ _ _ _ _ c.in_ok-_held.ensures.asked (taken _ _ _ c.in_ok-before.ensures.asked))))))
+      (search rules) c.exported-status.ensures.file c.write_made.ensures.none c.write_made.ensures.made;
+  silent = λ e. ap g.W.Output.sent (c.exported-status.ensures.silent (a_file _ _ _ c.exported-status.ensures.file e));
+  refused = λ fine lt. c.exported-status.ensures.refused fine (no_file _ _ _ c.exported-status.ensures.file lt);
+})
