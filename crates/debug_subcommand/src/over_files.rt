@@ -1,19 +1,31 @@
 //! `debug` over the files that the command line names.
 
-ghost use Rattle.std.specs.Prelude.{◌≡◌, ◌<◌, false, true, IfErr, IfOk};
-ghost use Rattle.debug_subcommand.specs.Files.{Debugs};
-ghost use Rattle.named_files.specs.Done.{done};
-ghost use Rattle.named_files.specs.FileBytes.{given};
+ghost use Rattle.std.specs.Prelude.{◌≡◌, IfErr, IfOk};
+ghost use Rattle.debug_subcommand.specs.Files.{Debugs, apart_from, debug_steps, removal};
+ghost use Rattle.named_files.specs.Asking.{AnswersAll, Asks, given};
+ghost use Rattle.named_files.specs.Done.{Refuses, done};
 
 use crate::debug_command::do_debug;
 use inner_interpreter::{Output, Reading, Writing};
 use named_files::Files;
 
+/// Sees to it that the trace isn't written over the blocks, if the run has some.
+#[tactic(auto, unfolding(named_files::specs::Asking::Asks))]
+fn keep_blocks_apart<F: Files>(files: &mut F, blocks: Option<&str>, trace: &str) -> Result<(), u8>
+    ensures asked { AnswersAll (apart_from trace.now (given blocks.entry)) result (F.asked files.old) (F.asked files.new) }
+    ensures files { F.files files.new ≡ F.files files.old }
+{
+    match blocks {
+        Some(file) => files.keep_apart(file, trace, "the blocks and the trace"),
+        None => Ok(()),
+    }
+}
+
 /// Removes the new file of a trace of which nothing came.
+#[tactic(auto, unfolding(named_files::specs::Asking::Asks))]
 fn leave_trace<F: Files>(files: &mut F, trace: &str, is_unused: bool)
-    ensures read { F.files_read files.new ≡ F.files_read files.old }
-    ensures opened { F.files_opened files.new ≡ F.files_opened files.old }
-    ensures written { F.files_written files.new ≡ F.files_written files.old }
+    ensures asked { Asks (removal trace.now is_unused) 0 (F.asked files.old) (F.asked files.new) }
+    ensures files { F.files files.new ≡ F.files files.old }
 {
     if is_unused {
         files.remove_trace(trace);
@@ -32,15 +44,12 @@ pub fn debug_word<F: Files, W: Output>(
     limit: u64,
 ) -> Result<u8, u8>
     ensures debugged { IfOk result (λ status. Debugs image.now name.now trace.now (given blocks.entry) limit status (W.failed writer.new)
-        (done (F.files_read files.old) (F.files_opened files.old) (F.files_written files.old) (W.sent writer.old))
-        (done (F.files_read files.new) (F.files_opened files.new) (F.files_written files.new) (W.sent writer.new))) }
-    ensures unwritten { F.files_written files.new ≡ F.files_written files.old }
-    ensures refused { IfErr result (λ status. 0 < status) }
+        (done (F.asked files.old) (F.files files.old) (W.sent writer.old)) (done (F.asked files.new) (F.files files.new) (W.sent writer.new))) }
+    ensures refused { IfErr result (λ status. Refuses (debug_steps image.now trace.now (given blocks.entry)) status
+        (done (F.asked files.old) (F.files files.old) (W.sent writer.old)) (done (F.asked files.new) (F.files files.new) (W.sent writer.new))) }
 {
     files.keep_apart(image, trace, "the image and the trace")?;
-    if let Some(file) = blocks {
-        files.keep_apart(file, trace, "the blocks and the trace")?;
-    }
+    keep_blocks_apart(files, blocks, trace)?;
     files.keep_trace(trace)?;
     let bytes = files.image_bytes(image)?;
     let mut device = files.run_blocks(blocks)?;

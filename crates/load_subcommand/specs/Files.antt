@@ -1,20 +1,28 @@
 -- `load` over the files that the command line names.
-use Rattle.std.specs.Prelude.{◌≡◌, ℕ, List, [], ◌∷◌, ◌++◌, Bool, Some}
+use Rattle.std.specs.Prelude.{◌≡◌, ℕ, List, [], ◌∷◌, Bool, false, Some}
 use Rattle.block_buffers.specs.DeviceCalls.{DeviceCall}
 use Rattle.load_subcommand.specs.Loads.{EndsMoved}
-use Rattle.named_files.specs.Done.{Done, Makes}
-use Rattle.subcommands.specs.Lines.{OfImageFile}
+use Rattle.named_files.specs.Asking.{Step, opens, step}
+use Rattle.named_files.specs.Done.{Done, Makes, Reads}
+use Rattle.named_files.specs.Trying.{OnlyReads}
+use Rattle.named_files.specs.declared.step_log.Deed.TheVariants as deed
+use Rattle.subcommands.specs.Lines.{OfImageFile, PrintsNoImage}
 use Rattle.subcommands.specs.declared.commands.Ended.{Ended}
 
--- `load IMAGE BLOCKS FROM TO OUT`, once image and blocks were opened: a machine with the image compiled the screens, over a device that
--- had been given some calls before, and just the file that this ended with was written
+abbrev pub load_steps : (image blocks out : List ℕ) → List Step
+load_steps image blocks out =
+    step deed.KeepApart (blocks ∷ out ∷ []) ∷ step deed.KeepImage (out ∷ []) ∷ step deed.Read (image ∷ []) ∷ opens (blocks ∷ [])
+
+-- `load IMAGE BLOCKS FROM TO OUT`, once these steps were taken: a machine with the image compiled the screens, over a device of which
+-- blocks may have been read before, and just the file that this ended with was written
 pub record Loads (image blocks : List ℕ) (from to : ℕ) (out : List ℕ) (limit : ℕ) (status : ℕ) (failed : Bool) (old new : Done) : Type 0 where
   pub bytes : List ℕ
-  pub reads : new.read ≡ old.read ++ (image, bytes) ∷ []
-  pub opens : new.opened ≡ old.opened ++ blocks ∷ []
+  pub reads : Reads image bytes old new
   pub count : ℕ
   pub before : List DeviceCall
+  pub tried : OnlyReads [] before
   pub after : List DeviceCall
   pub ended : Ended
   pub moved : OfImageFile bytes (λ i. EndsMoved i count from to limit before after ended failed old.printed new.printed)
-  pub makes : Makes out status old.written new.written (λ file. ended.file ≡ Some file)
+  pub refused : failed ≡ false → PrintsNoImage bytes ended.status old.printed new.printed
+  pub makes : Makes (load_steps image blocks out) out ended.status status old new (λ file. ended.file ≡ Some file)

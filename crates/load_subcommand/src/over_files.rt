@@ -1,8 +1,8 @@
 //! `load` over the files that the command line names.
 
-ghost use Rattle.std.specs.Prelude.{◌≡◌, ◌<◌, IfErr, IfOk};
-ghost use Rattle.load_subcommand.specs.Files.{Loads};
-ghost use Rattle.named_files.specs.Done.{done, status_of};
+ghost use Rattle.std.specs.Prelude.{IfErr, IfOk};
+ghost use Rattle.load_subcommand.specs.Files.{Loads, load_steps};
+ghost use Rattle.named_files.specs.Done.{Refuses, done};
 
 use crate::load_command::do_load;
 use block_buffers::{BLOCK_SIZE, Device, MemoryDevice};
@@ -74,10 +74,9 @@ pub fn load_screens<F: Files, W: Output>(
 ) -> Result<u8, u8>
     ensures loaded { IfOk result (λ status. Loads load.entry.image.now load.entry.blocks.now load.entry.from load.entry.to load.entry.out.now
         load.entry.limit status (W.failed writer.new)
-        (done (F.files_read files.old) (F.files_opened files.old) (F.files_written files.old) (W.sent writer.old))
-        (done (F.files_read files.new) (F.files_opened files.new) (F.files_written files.new) (W.sent writer.new))) }
-    ensures unwritten { 0 < status_of result → F.files_written files.new ≡ F.files_written files.old }
-    ensures refused { IfErr result (λ status. 0 < status) }
+        (done (F.asked files.old) (F.files files.old) (W.sent writer.old)) (done (F.asked files.new) (F.files files.new) (W.sent writer.new))) }
+    ensures refused { IfErr result (λ status. Refuses (load_steps load.entry.image.now load.entry.blocks.now load.entry.out.now) status
+        (done (F.asked files.old) (F.files files.old) (W.sent writer.old)) (done (F.asked files.new) (F.files files.new) (W.sent writer.new))) }
 {
     let Load {
         blocks,

@@ -1,9 +1,11 @@
 -- Blocks that are read one after another.
-use Rattle.std.proofs.Common.{◌≡◌, ◌∙◌, ℕ, ◌+◌, ◌-◌, ◌<◌, List, [], ◌∷◌, ◌++◌, Option, Some, None, refl, arith}
+use Rattle.std.proofs.Common.{◌≡◌, ◌∙◌, ℕ, ◌+◌, ◌-◌, ◌<◌, List, [], ◌∷◌, ◌++◌, Option, Some, None, ap, sym, refl, arith, append-nil, append_assoc}
+use Rattle.std.proofs.lemmas.List.Elements.{All-append, All-nil}
 use Rattle.block_buffers.specs.Calls.{KeepsBlocks}
 use Rattle.block_buffers.specs.DeviceCalls.{DeviceCall, WasRead}
 use Rattle.block_buffers.specs.Disks.{Disk}
 use Rattle.block_buffers.specs.ReadPages.{AreReadFrom}
+use Rattle.named_files.specs.Trying.{IsRead, OnlyReads}
 use Rattle.block_buffers.proofs.ReadPages.{as_many, none_read, one_read}
 
 pub keeps_all : (a : Option Disk) → KeepsBlocks a a
@@ -27,3 +29,13 @@ one_block n count count' page a b c q h e l =
 
 pub all_blocks : (n count : ℕ) (a b : List DeviceCall) → n ≡ count → AreReadFrom 0 n count a b → AreReadFrom 0 count count a b
 all_blocks n count a b e h = as_many 0 n count count a b e h
+
+pub no_reads : (calls : List DeviceCall) → OnlyReads calls calls
+no_reads calls = record { reads = []; all = All-nil IsRead; appended = sym (append-nil calls) }
+
+pub reads_more : (a b c : List DeviceCall) → OnlyReads a b → OnlyReads b c → OnlyReads a c
+reads_more a b c h k = record {
+  reads = h.reads ++ k.reads;
+  all = All-append IsRead h.reads k.reads h.all k.all;
+  appended = k.appended ∙ ap (λ l. l ++ k.reads) h.appended ∙ append_assoc a h.reads k.reads;
+}

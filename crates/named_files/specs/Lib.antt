@@ -1,3 +1,4 @@
 pub mod FileBytes
 pub mod Done
 pub mod Asking
+pub mod Trying

@@ -4,6 +4,7 @@ ghost use Rattle.std.specs.Prelude.{◌≡◌, ◌<◌, ◌++◌, ◌∷◌, ◌
 ghost use Rattle.block_buffers.specs.Calls.{KeepsBlocks};
 ghost use Rattle.block_buffers.specs.DeviceCalls.{WasRead};
 ghost use Rattle.block_buffers.specs.ReadPages.{AreReadFrom};
+ghost use Rattle.named_files.specs.Trying.{OnlyReads};
 
 use crate::files::Files;
 use block_buffers::{BLOCK_SIZE, Device, LINE_SIZE, MemoryDevice, screen_line};
@@ -64,6 +65,7 @@ fn block_in<D: Device>(device: &mut D, block: u16) -> Option<[u8; BLOCK_SIZE]>
     ensures counted { D.block_count device.new ≡ D.block_count device.old }
     ensures read { IfSome result (λ page. (D.calls device.new ≡ D.calls device.old ++ WasRead block page ∷ []) ×
         (block < D.block_count device.old)) }
+    ensures only_reads { OnlyReads (D.calls device.old) (D.calls device.new) }
 {
     let mut page = [0; BLOCK_SIZE];
     match device.read(block, &mut page) {
@@ -95,6 +97,7 @@ pub fn blocks_of<D: Device>(alloc: Global, device: &mut D) -> Option<MemoryDevic
     ensures kept { KeepsBlocks (D.disk device.old) (D.disk device.new) }
     ensures read { IfSome result (λ _. AreReadFrom 0 (D.block_count device.old) (D.block_count device.old)
         (D.calls device.old) (D.calls device.new)) }
+    ensures only_reads { OnlyReads (D.calls device.old) (D.calls device.new) }
 {
     let mut blocks = Vec::new(alloc);
     for number in 0..device.count() {

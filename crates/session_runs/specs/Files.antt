@@ -3,7 +3,7 @@ use Rattle.std.specs.Prelude.{◌≡◌, ◌⊎◌, ℕ, List, [], ◌∷◌, �
 use Rattle.block_buffers.specs.DeviceCalls.{DeviceCall}
 use Rattle.inner_interpreter.specs.Moves.{logs}
 use Rattle.named_files.specs.Asking.{Asks, Step, opens, step}
-use Rattle.named_files.specs.Done.{Done, Reads}
+use Rattle.named_files.specs.Done.{Done, Reads, Refuses}
 use Rattle.named_files.specs.declared.step_log.Deed.TheVariants as deed
 use Rattle.session_runs.specs.Sitting.{HasSession, HostLog, Wanted, host_log}
 use Rattle.session_runs.specs.declared.runs.Session.{Session}
@@ -23,7 +23,11 @@ pub record IsWanting (status : ℕ) (failed : Bool) (keys : List (Option ℕ)) (
   pub printed : failed ≡ false → PrintsOutOfMemory status old new
 
 abbrev pub run_steps : (image : List ℕ) → (blocks : List (List ℕ)) → List Step
-run_steps image blocks = step deed.Read (image ∷ []) ∷ (opens blocks ++ (step deed.Listen [] ∷ step deed.Allocate [] ∷ []))
+run_steps image blocks = step deed.Read (image ∷ []) ∷ (opens blocks ++ step deed.Listen [] ∷ [])
+
+-- `run` could not begin: a step was refused, or memory ran out after them
+abbrev pub RefusesRun : (image : List ℕ) → (blocks : List (List ℕ)) → (status : ℕ) → (old new : Done) → Type 0
+RefusesRun image blocks status old new = Refuses (run_steps image blocks ++ step deed.Allocate [] ∷ []) status old new
 
 -- `run IMAGE BLOCKS`, once these steps were taken: the image is run as a session, over the keys that standard input gave and the calls that
 -- the blocks were given

@@ -2,8 +2,8 @@
 
 ghost use Rattle.std.specs.Prelude.{◌≡◌, [], false, true, IfErr, IfOk};
 ghost use Rattle.named_files.specs.Asking.{given};
-ghost use Rattle.named_files.specs.Done.{Refuses, done};
-ghost use Rattle.session_runs.specs.Files.{Runs, run_steps, wanted_by};
+ghost use Rattle.named_files.specs.Done.{done};
+ghost use Rattle.session_runs.specs.Files.{RefusesRun, Runs, wanted_by};
 
 use crate::break_file::BreakFile;
 use crate::hosts::SessionHost;
@@ -26,8 +26,8 @@ pub struct Session<'a> {
 
 /// The files of the system, and the host of a session.
 pub trait SessionFiles: Files {
-    ghost use Rattle.std.specs.Prelude.{◌≡◌, false, [], IfOk};
-    ghost use Rattle.named_files.specs.Asking.{Answers, step};
+    ghost use Rattle.std.specs.Prelude.{◌≡◌, false, [], IfErr, IfOk, OnOk};
+    ghost use Rattle.named_files.specs.Asking.{Refused, step};
     ghost use Rattle.named_files.specs.declared.step_log.Deed.TheVariants as deed;
 
     /// The host of a session.
@@ -35,8 +35,9 @@ pub trait SessionFiles: Files {
 
     /// The host that looks for a file of this name, if there is one. If memory runs out, that is printed, and the status is the error.
     fn host(&mut self, break_file: Option<&str>) -> Result<Self::Host, u8>
-        ensures asked { Answers (step deed.Allocate []) result (Self.asked self.old) (Self.asked self.new) }
+        ensures same { OnOk result (self.new ≡ self.old) }
         ensures files { Self.files self.new ≡ Self.files self.old }
+        ensures refused { IfErr result (λ status. Refused (step deed.Allocate []) status (Self.asked self.old) (Self.asked self.new)) }
         ensures fresh { IfOk result (λ host. (Self.Host.interruptions host ≡ 0) × (Self.Host.ended host ≡ false) × (Self.Host.kept host ≡ [])) };
 }
 
@@ -67,7 +68,7 @@ pub fn run_image<F: SessionFiles, W: Output>(
     ensures ran { W.failed writer.old ≡ false → IfOk result (λ status. Runs image.now (given blocks.entry) (wanted_by limit session.entry) status (W.failed writer.new)
         (done (F.asked files.old) (F.files files.old) (W.sent writer.old)) (done (F.asked files.new) (F.files files.new) (W.sent writer.new))) }
     ensures passed { IfOk result (λ _. W.failed writer.new ≡ false → W.passed writer.new ≡ true) }
-    ensures refused { IfErr result (λ status. Refuses (run_steps image.now (given blocks.entry)) status
+    ensures refused { IfErr result (λ status. RefusesRun image.now (given blocks.entry) status
         (done (F.asked files.old) (F.files files.old) (W.sent writer.old)) (done (F.asked files.new) (F.files files.new) (W.sent writer.new))) }
 {
     let bytes = files.image_bytes(image)?;
