@@ -202,6 +202,9 @@ RefusesLayout w status failed old new =
 abbrev pub import_steps : Wanted → List Step
 import_steps w = step deed.KeepAbsent (w.blocks ∷ []) ∷ step deed.Read (w.container ∷ []) ∷ []
 
+abbrev pub RefusesImport : Wanted → (status : ℕ) → (failed : Bool) → (old new : Done) → Type 0
+RefusesImport w status failed old new = RefusesLayout w status failed old new ⊎ Refuses (import_steps w) status old new
+
 -- `import CONTAINER BLOCKS`
 pub record Imports (w : Wanted) (cleans : Bool) (status : ℕ) (failed : Bool) (old new : Done) : Type 0 where
   pub layout : Layout
@@ -217,6 +220,9 @@ abbrev pub export_steps : Wanted → List Step
 export_steps w =
     step deed.KeepApart (w.blocks ∷ w.container ∷ []) ∷ step deed.KeepBlocks (w.blocks ∷ []) ∷ step deed.KeepBlocks (w.container ∷ [])
     ∷ step deed.Read (w.blocks ∷ []) ∷ step deed.Hold (w.container ∷ []) ∷ step deed.Read (w.container ∷ []) ∷ []
+
+abbrev pub RefusesExport : Wanted → (status : ℕ) → (failed : Bool) → (old new : Done) → Type 0
+RefusesExport w status failed old new = RefusesLayout w status failed old new ⊎ Refuses (export_steps w) status old new
 
 -- the blocks were read, and then the container, if it exists
 abbrev pub ReadsOld : Wanted → (screens : List ℕ) → (before : Option (List ℕ)) → (old new : Done) → Type 0

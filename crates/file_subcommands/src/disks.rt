@@ -5,9 +5,9 @@ ghost use Rattle.containers.specs.Containers as written;
 ghost use Rattle.containers.specs.Containers.{new_container};
 ghost use Rattle.containers.specs.declared.cause.Cause.TheVariants as cause;
 ghost use Rattle.file_subcommands.specs.Filed as filed;
-ghost use Rattle.file_subcommands.specs.Filed.{AreNumbers, Exports, Imports, IsWantedLayout, PrintsUnexported, RefusesLayout, export_steps, import_steps, items_of, numbers_in, wanted_of};
+ghost use Rattle.file_subcommands.specs.Filed.{AreNumbers, Exports, Imports, IsWantedLayout, PrintsUnexported, RefusesExport, RefusesImport, RefusesLayout, items_of, numbers_in, wanted_of};
 ghost use Rattle.named_files.specs.Asking.{Refused, step};
-ghost use Rattle.named_files.specs.Done.{Refuses, done};
+ghost use Rattle.named_files.specs.Done.{done};
 ghost use Rattle.named_files.specs.declared.step_log.Deed.TheVariants as deed;
 ghost use Rattle.subcommands.specs.Disks.{PrintsCause};
 ghost use Rattle.subcommands.specs.Ends.{IsRefusal};
@@ -107,10 +107,7 @@ pub fn import_screens<F: Files, W: Output>(
 ) -> Result<u8, u8>
     ensures imported { IfOk result (λ status. Imports (wanted_of disk.entry) cleans status (W.failed writer.new)
         (done (F.asked files.old) (F.files files.old) (W.sent writer.old)) (done (F.asked files.new) (F.files files.new) (W.sent writer.new))) }
-    ensures refused { IfErr result (λ status.
-        RefusesLayout (wanted_of disk.entry) status (W.failed writer.new)
-        (done (F.asked files.old) (F.files files.old) (W.sent writer.old)) (done (F.asked files.new) (F.files files.new) (W.sent writer.new))
-        ⊎ Refuses (import_steps (wanted_of disk.entry)) status
+    ensures refused { IfErr result (λ status. RefusesImport (wanted_of disk.entry) status (W.failed writer.new)
         (done (F.asked files.old) (F.files files.old) (W.sent writer.old)) (done (F.asked files.new) (F.files files.new) (W.sent writer.new))) }
 {
     let Disk {
@@ -188,10 +185,7 @@ pub fn export_screens<F: Files, W: Output>(
 ) -> Result<u8, u8>
     ensures exported { IfOk result (λ status. Exports (wanted_of disk.entry) status (W.failed writer.new)
         (done (F.asked files.old) (F.files files.old) (W.sent writer.old)) (done (F.asked files.new) (F.files files.new) (W.sent writer.new))) }
-    ensures refused { IfErr result (λ status.
-        RefusesLayout (wanted_of disk.entry) status (W.failed writer.new)
-        (done (F.asked files.old) (F.files files.old) (W.sent writer.old)) (done (F.asked files.new) (F.files files.new) (W.sent writer.new))
-        ⊎ Refuses (export_steps (wanted_of disk.entry)) status
+    ensures refused { IfErr result (λ status. RefusesExport (wanted_of disk.entry) status (W.failed writer.new)
         (done (F.asked files.old) (F.files files.old) (W.sent writer.old)) (done (F.asked files.new) (F.files files.new) (W.sent writer.new))) }
 {
     let Disk {

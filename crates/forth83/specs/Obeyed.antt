@@ -5,11 +5,11 @@ use Rattle.std.specs.String.{string_bytes}
 use Rattle.command_words.specs.declared.Words.{Words}
 use Rattle.command_words.specs.declared.Words.TheVariants as words
 use Rattle.command_words.specs.declared.containers.ContainerWords.{ContainerWords}
-use Rattle.debug_subcommand.specs.Files.{Debugs}
-use Rattle.file_subcommands.specs.Filed.{Builds, Exports, Imports, MakesKernel, MakesNew, MakesScreens, Prints, Sees, Upgrades, Views, Wanted}
-use Rattle.load_subcommand.specs.Files.{Loads}
-use Rattle.named_files.specs.Done.{Done}
-use Rattle.session_runs.specs.Files.{Runs}
+use Rattle.debug_subcommand.specs.Files.{Debugs, debug_steps}
+use Rattle.file_subcommands.specs.Filed.{Builds, Exports, Imports, MakesKernel, MakesNew, MakesScreens, Prints, RefusesBuild, RefusesExport, RefusesImport, RefusesNew, RefusesUpgrade, Sees, Upgrades, Views, Wanted, image_steps, kernel_steps, screens_steps, text_steps}
+use Rattle.load_subcommand.specs.Files.{Loads, load_steps}
+use Rattle.named_files.specs.Done.{Done, Refuses}
+use Rattle.session_runs.specs.Files.{RefusesRun, Runs}
 
 -- the name that was typed, if one was
 abbrev pub typed : Option (String Global) → List (List ℕ)
@@ -45,3 +45,21 @@ Obeys (words.Debug image name trace blocks limit) status failed old new =
     Debugs (string_bytes image) (string_bytes name) (string_bytes trace) (typed blocks) limit status failed old new
 Obeys (words.See image name) status failed old new = Sees (string_bytes image) (string_bytes name) status failed old new
 Obeys (words.View image name) status failed old new = Views (string_bytes image) (string_bytes name) status failed old new
+
+-- the subcommand could not begin: a step that it must take was refused, or what was typed can't be used
+abbrev pub RefusesWords : Words → (status : ℕ) → (failed : Bool) → (old new : Done) → Type 0
+RefusesWords (words.Kernel blocks) status failed old new = Refuses (kernel_steps (string_bytes blocks)) status old new
+RefusesWords (words.Build w) status failed old new = RefusesBuild (string_bytes w.screens.blocks) (string_bytes w.image) w.buffers status old new
+RefusesWords (words.Upgrade image out buffers) status failed old new = RefusesUpgrade (string_bytes image) (string_bytes out) buffers status old new
+RefusesWords (words.Load w) status failed old new =
+    Refuses (load_steps (string_bytes w.image) (string_bytes w.screens.blocks) (string_bytes w.out)) status old new
+RefusesWords (words.Text w) status failed old new = Refuses (text_steps (string_bytes w.blocks)) status old new
+RefusesWords (words.Screens text blocks) status failed old new = Refuses (screens_steps (string_bytes text) (string_bytes blocks)) status old new
+RefusesWords (words.New blocks count) status failed old new = RefusesNew (string_bytes blocks) count status old new
+RefusesWords (words.Import w) status failed old new = RefusesImport (wanted w) status failed old new
+RefusesWords (words.Export w) status failed old new = RefusesExport (wanted w) status failed old new
+RefusesWords (words.Run w) status failed old new = RefusesRun (string_bytes w.image) (typed w.blocks) status old new
+RefusesWords (words.Debug image name trace blocks limit) status failed old new =
+    Refuses (debug_steps (string_bytes image) (string_bytes trace) (typed blocks)) status old new
+RefusesWords (words.See image name) status failed old new = Refuses (image_steps (string_bytes image)) status old new
+RefusesWords (words.View image name) status failed old new = Refuses (image_steps (string_bytes image)) status old new

@@ -1,9 +1,9 @@
 //! A Forth-83 system with block storage.
 #![tactic(auto)]
 
-ghost use Rattle.std.specs.Prelude.{◌≡◌, ◌<◌, [], Some, Bool, false, IfErr, IfOk, option_map};
-ghost use Rattle.forth83.specs.Obeyed.{Obeys};
-ghost use Rattle.named_files.specs.Done.{Done, done, status_of};
+ghost use Rattle.std.specs.Prelude.{◌≡◌, false, IfErr, IfOk, option_map};
+ghost use Rattle.forth83.specs.Obeyed.{Obeys, RefusesWords};
+ghost use Rattle.named_files.specs.Done.{done};
 ghost use Rattle.std.specs.String.{string_bytes};
 
 use command_words::{ContainerWords, LoadWords, Parsed, RunWords, ScreenRange, Words};
@@ -79,10 +79,9 @@ fn session_of(words: &RunWords) -> Session<'_>
 /// Runs what the words say, and answers the status. If a subcommand cannot start, the reason is printed, and the status is the error.
 fn obey<F: SessionFiles, W: Output>(files: &mut F, writer: &mut W, words: Words) -> Result<u8, u8>
     ensures obeyed { W.failed writer.old ≡ false → IfOk result (λ status. Obeys words status (W.failed writer.new)
-        (done (F.files_read files.old) (F.files_opened files.old) (F.files_written files.old) (W.sent writer.old))
-        (done (F.files_read files.new) (F.files_opened files.new) (F.files_written files.new) (W.sent writer.new))) }
-    ensures unwritten { 0 < status_of result → F.files_written files.new ≡ F.files_written files.old }
-    ensures refused { IfErr result (λ status. 0 < status) }
+        (done (F.asked files.old) (F.files files.old) (W.sent writer.old)) (done (F.asked files.new) (F.files files.new) (W.sent writer.new))) }
+    ensures refused { IfErr result (λ status. RefusesWords words status (W.failed writer.new)
+        (done (F.asked files.old) (F.files files.old) (W.sent writer.old)) (done (F.asked files.new) (F.files files.new) (W.sent writer.new))) }
 {
     match words {
         Words::Kernel { blocks } => write_kernel(files, writer, blocks.as_str()),
@@ -138,22 +137,19 @@ fn obey<F: SessionFiles, W: Output>(files: &mut F, writer: &mut W, words: Words)
     }
 }
 
-/// Runs what the words say, over the system's files and standard output.
-fn begin(rt: &HostRuntime, words: Words) -> Result<u8, u8>
-    ensures begun { IfOk result (λ status. (failed : Bool) × (new : Done) × Obeys words status failed (done [] [] [] (Some [])) new) }
-    ensures refused { IfErr result (λ status. 0 < status) }
-{
-    let mut writer = Writing::new(standard_output(rt)?);
-    let mut files = SystemFiles::new(rt);
-    obey(&mut files, &mut writer, words)
-}
-
 fn main(rt: HostRuntime) -> ExitCode {
     let status = match command_words::parse(&rt) {
         Parsed::Exit(status) => status,
         Parsed::OutOfMemory => out_of_memory(&rt),
-        Parsed::Words(words) => match begin(&rt, words) {
-            Ok(status) | Err(status) => status,
+        Parsed::Words(words) => match standard_output(&rt) {
+            Ok(output) => {
+                let mut files = SystemFiles::new(&rt);
+                let mut writer = Writing::new(output);
+                match obey(&mut files, &mut writer, words) {
+                    Ok(status) | Err(status) => status,
+                }
+            }
+            Err(status) => status,
         },
     };
     ExitCode::from(status)
