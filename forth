@@ -396,7 +396,7 @@ look_at_own() {
 # of what is shown else says with which word the image starts, if BOOT named one.
 try_own() {
   cp -- "$blocks" "$room/copy.blk" || exit 1
-  printf 'TOOLS 0 AT-LINE ! FORTH %d %d THRU [ CR TOOLS .BOOTED\n' "$from" "$to" |
+  printf 'TOOLS 0 LINE-NO ! FORTH %d %d THRU [ CR TOOLS .BOOT\n' "$from" "$to" |
     "$forth83" run -- "$images/quiet.img" "$room/copy.blk" > "$room/shown" 9>&-
 }
 

@@ -129,10 +129,10 @@ def glossary(name: str) -> FrozenSet[str]:
 
 @functools.lru_cache(maxsize=None)
 def left_out(name: str) -> Dict[str, str]:
-    """The words that a text of dialects/ leaves out, each with the reason that the Forth gives: lists after LEAVES, or words of NO."""
+    """The words that a text of dialects/ leaves out, each with the reason that the Forth gives: lists after LEAVE-OUT, or words of NO."""
     text = (FOLDER / f"{name}.txt").read_text(encoding="ascii")
     found = {}
-    for reason, names in re.findall(r'^LEAVES ," (.*?)"\n,"  (.*?) "$', text, re.M | re.S):
+    for reason, names in re.findall(r'^LEAVE-OUT ," (.*?)"\n,"  (.*?) "$', text, re.M | re.S):
         found.update(dict.fromkeys(names.split(), reason))
     for reason, names in re.findall(r'^BECAUSE (.*?)"\n(.*?)(?=^BECAUSE|^TOOLS|\Z)', text, re.M | re.S):
         found.update(dict.fromkeys(re.findall(r"(?<!\S)NO (\S+)", names), reason))
@@ -449,6 +449,6 @@ def tool_names(text: Optional[str] = None) -> Set[str]:
     """The tools that a screen doesn't find, by the workbench's own list."""
     if text is None:
         text = (FOLDER.parent / "workbench/dialect.txt").read_text(encoding="ascii")
-    match = re.search(r"^: UNASKED \( -- \) (.*?) ;$", text, re.M | re.S)
+    match = re.search(r"^: TOOL-WORDS \( -- \) (.*?) ;$", text, re.M | re.S)
     assert match is not None
     return set(match[1].split()) - {"[COMPILE]"}

@@ -8,7 +8,7 @@ import { ASKS, Machine, PAGE_SIZE, STOP, SYSTEM } from "./machine.js";
 const SLICE = 12, UNDOS = 100, LONG = 2000;
 // Places of the cells that page/paged.txt notes for the page, and the words of its image that the page uses.
 const NOTES = { faults: 0, block: 2, byte: 4, edits: 6 };
-const OWN = { BREAK: ["break", 0], NOTES: ["notes", 2], SHADOW: ["shadow", 2], RETYPED: ["retyped", 2], "'BOOT": ["boot", 2] };
+const OWN = { BREAK: ["break", 0], NOTES: ["notes", 2], SHADOW: ["shadow", 2], "RETYPE#": ["retyped", 2], "'BOOT": ["boot", 2] };
 
 const numbers = (places) => Object.fromEntries(Object.entries(places).map(([name, place]) => [name, Number(place)]));
 

@@ -7,6 +7,9 @@ from typing import Any, Callable, List, Union
 
 ROOT = pathlib.Path(__file__).resolve().parent.parent
 KEPT = ROOT / "workbench/out"
+sys.path.append(str(ROOT / "workbench"))
+
+import quiet_end  # noqa: E402
 
 
 class Refusal(Exception):
@@ -24,13 +27,10 @@ def say(tool: str, text: str) -> None:
 def guarded(tool: str, act: Callable[[], int]) -> int:
     """Runs a tool, or reports why it cannot be run; returns the status."""
     try:
-        return act()
+        return quiet_end.status_of(act)
     except Refusal as refusal:
         say(tool, str(refusal))
         return refusal.status
-    except BrokenPipeError:
-        os.dup2(os.open(os.devnull, os.O_WRONLY), sys.stdout.fileno())
-        return 1
     except OSError as error:
         say(tool, f"{error.filename or 'a file'}: {error.strerror}")
         return 1

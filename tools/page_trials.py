@@ -477,7 +477,7 @@ CHEATS = {
     "says so": (3, ['CR .( Lesson 3 is right. Lesson 4 is next.) QUIT']),
     "other words for trials": (3, [": CUBE ; : TWIST ; : SUMSQ ;", ': T{ ; : -> ; : }T ; : NEEDS BL WORD DROP ; : ALL-RIGHT', '  CR ." Lesson 3 is right." ;']),
     "a blank checker": (3, ["43 BLOCK 1024 32 FILL UPDATE", ": CUBE ; : TWIST ; : SUMSQ ;", "CR .( Lesson 3 is right.)"]),
-    "no trial is wrong": (3, [": CUBE ; : TWIST ; : SUMSQ ;", ": OVER-WITH ; ' OVER-WITH ' CUBE DROP DROP", ": }T SCLEAR ;"]),
+    "no trial is wrong": (3, [": CUBE ; : TWIST ; : SUMSQ ;", ": FAIL ; ' FAIL ' CUBE DROP DROP", ": }T SCLEAR ;"]),
     "another ALL-RIGHT at once": (2, [": MINUTES ; : FAHRENHEIT ; : BORDER ;", ": NEEDS CR .\" Lesson 2 is right.\" QUIT ;"]),
     "an end before the trials": (1, ["CR .( Lesson 1 is right.) QUIT"]),
 }

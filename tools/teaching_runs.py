@@ -455,7 +455,7 @@ def check_pages(tree: Tree) -> None:
     tree.cases.same("the screens on pages", wanted, texts_of(tree.room / "life.html", "pre"))
     cells = texts_of(tree.room / "life.html", "td")
     for name, defined, used in (
-            ("ALIVE", "1.11", "3.3"), ("POPULATION", "2.14", "nowhere here"), ("CELL", "1.7", "1.11.14, 2.3.7.12"),
+            ("BIRTH", "1.11", "3.3"), ("POPULATION", "2.14", "nowhere here"), ("CELL", "1.7", "1.11.14, 2.3.7.12"),
             ("WIDE", "1.2", "1.4.5.7.9, 2.6.8.11.14")):
         tree.cases.same(f"where {name} is", [defined, used], cells[cells.index(name) + 1:cells.index(name) + 3])
     (tree.room / "few.txt").write_text("% screen 1\n: ONLY ( -- ) MISSPELT ;\n", encoding="ascii")

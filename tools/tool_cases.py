@@ -6,6 +6,7 @@ import io
 import os
 import pathlib
 import re
+import subprocess
 import sys
 import tempfile
 import types
@@ -18,6 +19,9 @@ import command_lines
 import sessions
 
 ROOT = pathlib.Path(__file__).resolve().parent.parent
+sys.path.append(str(ROOT / "workbench"))
+
+import quiet_end  # noqa: E402
 
 
 def command(path: str) -> types.ModuleType:
@@ -28,6 +32,25 @@ def command(path: str) -> types.ModuleType:
     module = importlib.util.module_from_spec(spec)
     loader.exec_module(module)
     return module
+
+
+class QuietEnds(unittest.TestCase):
+    """Commands that print a list, whose reader ends first: nothing is printed on standard error."""
+
+    COMMANDS = (["tools/check-english", "--words"], ["tools/bare-functions"], ["workbench/command-line", "--help"],
+                ["dialects/capitals", "dialects/f83.txt"], ["dialects/bring", "--help"])
+
+    def test_a_reader_that_ends_first_costs_no_message(self) -> None:
+        for words in self.COMMANDS:
+            with self.subTest(command=" ".join(words)):
+                read, write = os.pipe()
+                os.close(read)
+                with os.fdopen(write, "wb") as output:
+                    done = subprocess.run([ROOT / words[0], *words[1:]], stdout=output, stderr=subprocess.PIPE, cwd=ROOT, check=False)
+                self.assertEqual((141, b""), (done.returncode, done.stderr))
+
+    def test_a_list_that_is_read_ends_with_the_status_of_the_command(self) -> None:
+        self.assertEqual(7, quiet_end.status_of(lambda: 7))
 
 
 class Refusals(unittest.TestCase):
