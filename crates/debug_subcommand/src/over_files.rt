@@ -1,9 +1,9 @@
 //! `debug` over the files that the command line names.
 
-ghost use Rattle.std.specs.Prelude.{◌≡◌, IfErr, IfOk};
+ghost use Rattle.std.specs.Prelude.{◌≡◌, false, true, IfErr, IfOk};
 ghost use Rattle.debug_subcommand.specs.Files.{Debugs, apart_from, debug_steps, removal};
 ghost use Rattle.named_files.specs.Asking.{AnswersAll, Asks, given};
-ghost use Rattle.named_files.specs.Done.{Refuses, done};
+ghost use Rattle.named_files.specs.Done.{Refuses, done, status_of};
 
 use crate::debug_command::do_debug;
 use inner_interpreter::{Output, Reading, Writing};
@@ -47,6 +47,7 @@ pub fn debug_word<F: Files, W: Output>(
         (done (F.asked files.old) (F.files files.old) (W.sent writer.old)) (done (F.asked files.new) (F.files files.new) (W.sent writer.new))) }
     ensures refused { IfErr result (λ status. Refuses (debug_steps image.now trace.now (given blocks.entry)) status
         (done (F.asked files.old) (F.files files.old) (W.sent writer.old)) (done (F.asked files.new) (F.files files.new) (W.sent writer.new))) }
+    ensures cut { W.failed writer.old ≡ false → W.failed writer.new ≡ true → status_of result ≡ 5 }
 {
     files.keep_apart(image, trace, "the image and the trace")?;
     keep_blocks_apart(files, blocks, trace)?;

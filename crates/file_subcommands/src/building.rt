@@ -1,9 +1,9 @@
 //! `build` and `upgrade`.
 
-ghost use Rattle.std.specs.Prelude.{◌≡◌, ◌↔◌, true, IfErr, IfOk, IfSome};
+ghost use Rattle.std.specs.Prelude.{◌≡◌, ◌↔◌, false, true, IfErr, IfOk, IfSome};
 ghost use Rattle.memory.specs.Bytes.{IsCount};
 ghost use Rattle.file_subcommands.specs.Filed.{Builds, RefusesBuild, RefusesUpgrade, Upgrades};
-ghost use Rattle.named_files.specs.Done.{done};
+ghost use Rattle.named_files.specs.Done.{done, status_of};
 
 use crate::screens::Screens;
 use block_buffers::Device;
@@ -68,6 +68,7 @@ pub fn build_image<F: Files, W: Output>(
         (done (F.asked files.old) (F.files files.old) (W.sent writer.old)) (done (F.asked files.new) (F.files files.new) (W.sent writer.new))) }
     ensures refused { IfErr result (λ status. RefusesBuild screens.entry.blocks.now image.now buffers status
         (done (F.asked files.old) (F.files files.old) (W.sent writer.old)) (done (F.asked files.new) (F.files files.new) (W.sent writer.new))) }
+    ensures cut { W.failed writer.old ≡ false → W.failed writer.new ≡ true → status_of result ≡ 5 }
 {
     if !is_count(buffers) {
         return Err(files.refuse_use("--buffers", "takes a number from 2 to 16"));
@@ -97,6 +98,7 @@ pub fn upgrade_image<F: Files, W: Output>(
         (done (F.asked files.old) (F.files files.old) (W.sent writer.old)) (done (F.asked files.new) (F.files files.new) (W.sent writer.new))) }
     ensures refused { IfErr result (λ status. RefusesUpgrade image.now out.now buffers status
         (done (F.asked files.old) (F.files files.old) (W.sent writer.old)) (done (F.asked files.new) (F.files files.new) (W.sent writer.new))) }
+    ensures cut { W.failed writer.old ≡ false → W.failed writer.new ≡ true → status_of result ≡ 5 }
 {
     if !may_be_wanted(buffers) {
         return Err(files.refuse_use("--buffers", "takes a number from 2 to 16"));

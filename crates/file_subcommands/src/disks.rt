@@ -7,7 +7,7 @@ ghost use Rattle.containers.specs.declared.cause.Cause.TheVariants as cause;
 ghost use Rattle.file_subcommands.specs.Filed as filed;
 ghost use Rattle.file_subcommands.specs.Filed.{AreNumbers, Exports, Imports, IsWantedLayout, PrintsUnexported, RefusesExport, RefusesImport, RefusesLayout, items_of, numbers_in, wanted_of};
 ghost use Rattle.named_files.specs.Asking.{Refused, step};
-ghost use Rattle.named_files.specs.Done.{done};
+ghost use Rattle.named_files.specs.Done.{done, status_of};
 ghost use Rattle.named_files.specs.declared.step_log.Deed.TheVariants as deed;
 ghost use Rattle.subcommands.specs.Disks.{PrintsCause};
 ghost use Rattle.subcommands.specs.Ends.{IsRefusal};
@@ -82,6 +82,7 @@ fn layout_of<F: Files, W: Output>(files: &mut F, writer: &mut W, disk: Disk<'_>)
     ensures same { OnOk result (files.new ≡ files.old) }
     ensures refused { IfErr result (λ status. RefusesLayout (wanted_of disk.entry) status (W.failed writer.new)
         (done (F.asked files.old) (F.files files.old) (W.sent writer.old)) (done (F.asked files.new) (F.files files.new) (W.sent writer.new))) }
+    ensures cut { W.failed writer.old ≡ false → W.failed writer.new ≡ true → IfErr result (λ status. status ≡ 5) }
 {
     let Some(format) = named(disk.format) else {
         return Err(files.refuse_use(
@@ -109,6 +110,7 @@ pub fn import_screens<F: Files, W: Output>(
         (done (F.asked files.old) (F.files files.old) (W.sent writer.old)) (done (F.asked files.new) (F.files files.new) (W.sent writer.new))) }
     ensures refused { IfErr result (λ status. RefusesImport (wanted_of disk.entry) status (W.failed writer.new)
         (done (F.asked files.old) (F.files files.old) (W.sent writer.old)) (done (F.asked files.new) (F.files files.new) (W.sent writer.new))) }
+    ensures cut { W.failed writer.old ≡ false → W.failed writer.new ≡ true → status_of result ≡ 5 }
 {
     let Disk {
         container,
@@ -143,6 +145,7 @@ fn container_for<W: Output>(
     ensures refused { IfErr result (λ ended. W.failed writer.new ≡ false →
         ((1024 * 65536 < bytes) × PrintsCause cause.TooLarge ended.status (W.sent writer.old) (W.sent writer.new))
         ⊎ PrintsOutOfMemory ended.status (W.sent writer.old) (W.sent writer.new)) }
+    ensures cut { W.failed writer.old ≡ false → W.failed writer.new ≡ true → IfErr result (λ ended. ended.status ≡ 5) }
 {
     if let Some(before) = before {
         return Ok(before);
@@ -169,6 +172,7 @@ fn exported<W: Output>(
     ensures silent { IsSome result.file → writer.new ≡ writer.old }
     ensures refused { W.failed writer.new ≡ false → IsNone result.file →
         PrintsUnexported layout.now screens.now (items_of before) result.status (W.sent writer.old) (W.sent writer.new) }
+    ensures cut { W.failed writer.old ≡ false → W.failed writer.new ≡ true → (result.status ≡ 5) × IsNone result.file }
 {
     match container_for(alloc, writer, layout, before, screens.len()) {
         Ok(container) => do_export(alloc, layout, screens, container, writer),
@@ -187,6 +191,7 @@ pub fn export_screens<F: Files, W: Output>(
         (done (F.asked files.old) (F.files files.old) (W.sent writer.old)) (done (F.asked files.new) (F.files files.new) (W.sent writer.new))) }
     ensures refused { IfErr result (λ status. RefusesExport (wanted_of disk.entry) status (W.failed writer.new)
         (done (F.asked files.old) (F.files files.old) (W.sent writer.old)) (done (F.asked files.new) (F.files files.new) (W.sent writer.new))) }
+    ensures cut { W.failed writer.old ≡ false → W.failed writer.new ≡ true → status_of result ≡ 5 }
 {
     let Disk {
         container,

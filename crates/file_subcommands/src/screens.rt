@@ -2,7 +2,7 @@
 
 ghost use Rattle.std.specs.Prelude.{◌≡◌, true, false, IfErr, IfOk};
 ghost use Rattle.file_subcommands.specs.Filed.{MakesKernel, MakesNew, MakesScreens, Prints, RefusesNew, kernel_steps, screens_steps, text_steps};
-ghost use Rattle.named_files.specs.Done.{Refuses, done};
+ghost use Rattle.named_files.specs.Done.{Refuses, done, status_of};
 
 use inner_interpreter::Output;
 use named_files::{Files, write_made};
@@ -29,6 +29,7 @@ pub fn write_kernel<F: Files, W: Output>(
         (done (F.asked files.old) (F.files files.old) (W.sent writer.old)) (done (F.asked files.new) (F.files files.new) (W.sent writer.new))) }
     ensures refused { IfErr result (λ status. Refuses (kernel_steps blocks.now) status
         (done (F.asked files.old) (F.files files.old) (W.sent writer.old)) (done (F.asked files.new) (F.files files.new) (W.sent writer.new))) }
+    ensures cut { W.failed writer.old ≡ false → W.failed writer.new ≡ true → status_of result ≡ 5 }
 {
     let _held = files.held(blocks)?;
     let Ended { status, file } = do_kernel(files.alloc(), writer);
@@ -45,7 +46,7 @@ pub fn print_text<F: Files, W: Output>(
         (done (F.asked files.old) (F.files files.old) (W.sent writer.old)) (done (F.asked files.new) (F.files files.new) (W.sent writer.new))) }
     ensures refused { IfErr result (λ status. Refuses (text_steps screens.entry.blocks.now) status
         (done (F.asked files.old) (F.files files.old) (W.sent writer.old)) (done (F.asked files.new) (F.files files.new) (W.sent writer.new))) }
-    ensures cut { W.failed writer.old ≡ false → W.failed writer.new ≡ true → IfOk result (λ status. status ≡ 5) }
+    ensures cut { W.failed writer.old ≡ false → W.failed writer.new ≡ true → status_of result ≡ 5 }
 {
     let Screens { blocks, from, to } = screens;
     files.keep_blocks(blocks)?;
@@ -65,6 +66,7 @@ pub fn write_screens<F: Files, W: Output>(
         (done (F.asked files.old) (F.files files.old) (W.sent writer.old)) (done (F.asked files.new) (F.files files.new) (W.sent writer.new))) }
     ensures refused { IfErr result (λ status. Refuses (screens_steps text.now blocks.now) status
         (done (F.asked files.old) (F.files files.old) (W.sent writer.old)) (done (F.asked files.new) (F.files files.new) (W.sent writer.new))) }
+    ensures cut { W.failed writer.old ≡ false → W.failed writer.new ≡ true → status_of result ≡ 5 }
 {
     files.keep_apart(text, blocks, "the text and the blocks")?;
     let bytes = files.file_bytes(text)?;
@@ -87,6 +89,7 @@ pub fn write_new<F: Files, W: Output>(
         (done (F.asked files.old) (F.files files.old) (W.sent writer.old)) (done (F.asked files.new) (F.files files.new) (W.sent writer.new))) }
     ensures refused { IfErr result (λ status. RefusesNew blocks.now count status
         (done (F.asked files.old) (F.files files.old) (W.sent writer.old)) (done (F.asked files.new) (F.files files.new) (W.sent writer.new))) }
+    ensures cut { W.failed writer.old ≡ false → W.failed writer.new ≡ true → status_of result ≡ 5 }
 {
     if count > MOST_BLOCKS {
         return Err(files.refuse_use("a file", "has at most 65536 blocks"));

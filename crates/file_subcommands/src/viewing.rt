@@ -2,7 +2,7 @@
 
 ghost use Rattle.std.specs.Prelude.{◌≡◌, true, false, IfErr, IfOk};
 ghost use Rattle.file_subcommands.specs.Filed.{Sees, Views, image_steps};
-ghost use Rattle.named_files.specs.Done.{Refuses, done};
+ghost use Rattle.named_files.specs.Done.{Refuses, done, status_of};
 
 use inner_interpreter::Output;
 use named_files::Files;
@@ -19,7 +19,7 @@ pub fn view_word<F: Files, W: Output>(
         (done (F.asked files.old) (F.files files.old) (W.sent writer.old)) (done (F.asked files.new) (F.files files.new) (W.sent writer.new))) }
     ensures refused { IfErr result (λ status. Refuses (image_steps image.now) status
         (done (F.asked files.old) (F.files files.old) (W.sent writer.old)) (done (F.asked files.new) (F.files files.new) (W.sent writer.new))) }
-    ensures cut { W.failed writer.old ≡ false → W.failed writer.new ≡ true → IfOk result (λ status. status ≡ 5) }
+    ensures cut { W.failed writer.old ≡ false → W.failed writer.new ≡ true → status_of result ≡ 5 }
 {
     let bytes = files.image_bytes(image)?;
     Ok(do_view(files.alloc(), bytes.as_slice(), name, writer).status)
@@ -36,7 +36,7 @@ pub fn see_word<F: Files, W: Output>(
         (done (F.asked files.old) (F.files files.old) (W.sent writer.old)) (done (F.asked files.new) (F.files files.new) (W.sent writer.new))) }
     ensures refused { IfErr result (λ status. Refuses (image_steps image.now) status
         (done (F.asked files.old) (F.files files.old) (W.sent writer.old)) (done (F.asked files.new) (F.files files.new) (W.sent writer.new))) }
-    ensures cut { W.failed writer.old ≡ false → W.failed writer.new ≡ true → IfOk result (λ status. status ≡ 5) }
+    ensures cut { W.failed writer.old ≡ false → W.failed writer.new ≡ true → status_of result ≡ 5 }
 {
     let bytes = files.image_bytes(image)?;
     Ok(do_see(files.alloc(), bytes.as_slice(), name, writer).status)

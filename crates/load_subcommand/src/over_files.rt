@@ -1,8 +1,8 @@
 //! `load` over the files that the command line names.
 
-ghost use Rattle.std.specs.Prelude.{IfErr, IfOk};
+ghost use Rattle.std.specs.Prelude.{◌≡◌, false, true, IfErr, IfOk};
 ghost use Rattle.load_subcommand.specs.Files.{Loads, load_steps};
-ghost use Rattle.named_files.specs.Done.{Refuses, done};
+ghost use Rattle.named_files.specs.Done.{Refuses, done, status_of};
 
 use crate::load_command::do_load;
 use block_buffers::{BLOCK_SIZE, Device, MemoryDevice};
@@ -77,6 +77,7 @@ pub fn load_screens<F: Files, W: Output>(
         (done (F.asked files.old) (F.files files.old) (W.sent writer.old)) (done (F.asked files.new) (F.files files.new) (W.sent writer.new))) }
     ensures refused { IfErr result (λ status. Refuses (load_steps load.entry.image.now load.entry.blocks.now load.entry.out.now) status
         (done (F.asked files.old) (F.files files.old) (W.sent writer.old)) (done (F.asked files.new) (F.files files.new) (W.sent writer.new))) }
+    ensures cut { W.failed writer.old ≡ false → W.failed writer.new ≡ true → status_of result ≡ 5 }
 {
     let Load {
         blocks,

@@ -1,5 +1,5 @@
 -- What a subcommand did with the files that it was given by name, and what it printed.
-use Rattle.std.specs.Prelude.{◌≡◌, ◌⊎◌, ◌<◌, ℕ, List, [], ◌∷◌, ◌++◌, Option, Vec}
+use Rattle.std.specs.Prelude.{◌≡◌, ◌⊎◌, ◌<◌, ℕ, List, [], ◌∷◌, ◌++◌, Option, Result, Ok, Err, Vec}
 use Rattle.std.specs.declared.alloc.Global.{Global}
 use Rattle.named_files.specs.Asking.{Answered, Asks, Step, answered, step}
 use Rattle.named_files.specs.FileBytes.{FileBytes, FileLogs}
@@ -15,6 +15,11 @@ pub record Done : Type 0 where
 
 abbrev pub done : List Answered → FileLogs → Option (List ℕ) → Done
 done asked files printed = record { asked = asked; read = files.read; written = files.written; printed = printed }
+
+-- the status, whether the subcommand could begin or not
+abbrev pub status_of : Result ℕ ℕ → ℕ
+status_of (Ok status) = status
+status_of (Err status) = status
 
 -- a subcommand that takes these steps could not begin: the system refused one of them, with this status. It printed nothing by itself,
 -- and wrote no file.
