@@ -1,5 +1,5 @@
 -- What the program does: for each subcommand, with the words that were typed, what is promised of it.
-use Rattle.std.specs.Prelude.{◌≡◌, ℕ, List, [], ◌∷◌, Bool, Option, Some, None, option_map, String, is_some}
+use Rattle.std.specs.Prelude.{◌≡◌, ◌⊎◌, ℕ, List, [], ◌∷◌, Bool, Option, Some, None, option_map, String, is_some}
 use Rattle.std.specs.declared.alloc.Global.{Global}
 use Rattle.std.specs.String.{string_bytes}
 use Rattle.command_words.specs.declared.Words.{Words}
@@ -63,3 +63,8 @@ RefusesWords (words.Debug image name trace blocks limit) status failed old new =
     Refuses (debug_steps (string_bytes image) (string_bytes trace) (typed blocks)) status old new
 RefusesWords (words.See image name) status failed old new = Refuses (image_steps (string_bytes image)) status old new
 RefusesWords (words.View image name) status failed old new = Refuses (image_steps (string_bytes image)) status old new
+
+-- the status where a line could not be printed: of a session it may also be 1, where a changed block could not be written, or memory ran out
+abbrev pub IsCut : Words → (status : ℕ) → Type 0
+IsCut (words.Run w) status = (status ≡ 5) ⊎ (status ≡ 1)
+IsCut _ status = status ≡ 5

@@ -1,9 +1,9 @@
 //! A Forth-83 system with block storage.
 #![tactic(auto)]
 
-ghost use Rattle.std.specs.Prelude.{◌≡◌, false, IfErr, IfOk, option_map};
-ghost use Rattle.forth83.specs.Obeyed.{Obeys, RefusesWords};
-ghost use Rattle.named_files.specs.Done.{done};
+ghost use Rattle.std.specs.Prelude.{◌≡◌, false, true, IfErr, IfOk, option_map};
+ghost use Rattle.forth83.specs.Obeyed.{IsCut, Obeys, RefusesWords};
+ghost use Rattle.named_files.specs.Done.{done, status_of};
 ghost use Rattle.std.specs.String.{string_bytes};
 
 use command_words::{ContainerWords, LoadWords, Parsed, RunWords, ScreenRange, Words};
@@ -82,6 +82,7 @@ fn obey<F: SessionFiles, W: Output>(files: &mut F, writer: &mut W, words: Words)
         (done (F.asked files.old) (F.files files.old) (W.sent writer.old)) (done (F.asked files.new) (F.files files.new) (W.sent writer.new))) }
     ensures refused { IfErr result (λ status. RefusesWords words status (W.failed writer.new)
         (done (F.asked files.old) (F.files files.old) (W.sent writer.old)) (done (F.asked files.new) (F.files files.new) (W.sent writer.new))) }
+    ensures cut { W.failed writer.old ≡ false → W.failed writer.new ≡ true → IsCut words (status_of result) }
 {
     match words {
         Words::Kernel { blocks } => write_kernel(files, writer, blocks.as_str()),

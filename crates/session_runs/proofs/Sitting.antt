@@ -1,5 +1,6 @@
 -- A session, by what its run and its end come to.
 use Rattle.std.proofs.Common.{◌≡◌, ◌⊎◌, ◌↔◌, ℕ, List, Option, Some, None, Bool, true, false, Result, Ok, Err, inl, inr, refl, sym, ap, subst, ◌∙◌}
+use Rattle.std.specs.Prelude.{if◌then◌else◌}
 use Rattle.block_buffers.specs.DeviceCalls.{DeviceCall}
 use Rattle.image_loader.specs.Files.{Contents}
 use Rattle.inner_interpreter.specs.declared.stop.Stop.{Stop}
@@ -11,7 +12,8 @@ use Rattle.memory.specs.declared.OutOfMemory.{OutOfMemory}
 use Rattle.session_runs.specs.declared.slices.Ending.{Ending}
 use Rattle.session_runs.specs.declared.slices.Ending.TheVariants as ending
 use Rattle.session_runs.specs.Interrupted.{HasWorked, IfStopped}
-use Rattle.session_runs.specs.Sitting.{EndsBy, HasFinished, HasSession, HostLog, Wanted, break_word}
+use Rattle.session_runs.specs.Sitting.{EndsBy, HasFinished, HasSession, HostLog, Wanted, break_word, ending_status}
+use Rattle.machine_parts.specs.Whole.{Whole}
 
 -- what is known of a run in slices that ended, by what its ends did
 pub record HasEndedSo (state : State) (reader writer ended : Bool) (how : Ending) : Type 0 where
@@ -62,3 +64,12 @@ session_of image count wanted log log' host host' reader writer status machine s
       asked = λ q. is_ended ∙ so.asked q;
       finished = subst (λ k. HasFinished state.parts wanted.saves wanted.keeps how calls log'.calls k host'.kept status) is_kept finished;
     }
+
+-- the status of a session whose output failed: 5, unless a changed block could not be written
+by_all : (all : Bool) (how : Ending) (status : ℕ) → status ≡ (if all then ending_status how else 1) → how ≡ ending.Stopped OutputFault → (status ≡ 5) ⊎ (status ≡ 1)
+by_all true how status is h = inl (is ∙ ap ending_status h)
+by_all false how status is h = inr is
+
+pub cut_status : (s : Whole) (saves keeps : Bool) (how : Ending) (calls calls' : List DeviceCall) (kept kept' : List ℕ) (status : ℕ)
+    → HasFinished s saves keeps how calls calls' kept kept' status → how ≡ ending.Stopped OutputFault → (status ≡ 5) ⊎ (status ≡ 1)
+cut_status s saves keeps how calls calls' kept kept' status h is = by_all h.all how status h.status_is is

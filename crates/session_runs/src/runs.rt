@@ -1,8 +1,8 @@
 //! `run`.
 
-ghost use Rattle.std.specs.Prelude.{◌≡◌, [], false, true, IfErr, IfOk};
+ghost use Rattle.std.specs.Prelude.{◌≡◌, ◌⊎◌, [], false, true, IfErr, IfOk};
 ghost use Rattle.named_files.specs.Asking.{given};
-ghost use Rattle.named_files.specs.Done.{done};
+ghost use Rattle.named_files.specs.Done.{done, status_of};
 ghost use Rattle.session_runs.specs.Files.{RefusesRun, Runs, wanted_by};
 
 use crate::break_file::BreakFile;
@@ -67,6 +67,7 @@ pub fn run_image<F: SessionFiles, W: Output>(
 ) -> Result<u8, u8>
     ensures ran { W.failed writer.old ≡ false → IfOk result (λ status. Runs image.now (given blocks.entry) (wanted_by limit session.entry) status (W.failed writer.new)
         (done (F.asked files.old) (F.files files.old) (W.sent writer.old)) (done (F.asked files.new) (F.files files.new) (W.sent writer.new))) }
+    ensures cut { W.failed writer.old ≡ false → W.failed writer.new ≡ true → (status_of result ≡ 5) ⊎ (status_of result ≡ 1) }
     ensures passed { IfOk result (λ _. W.failed writer.new ≡ false → W.passed writer.new ≡ true) }
     ensures refused { IfErr result (λ status. RefusesRun image.now (given blocks.entry) status
         (done (F.asked files.old) (F.files files.old) (W.sent writer.old)) (done (F.asked files.new) (F.files files.new) (W.sent writer.new))) }

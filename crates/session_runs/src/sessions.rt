@@ -145,6 +145,7 @@ fn sit<R: Input, W: Output, D: Device, H: SessionHost>(
         (host_log (H.interruptions host.old) (H.ended host.old) (H.kept host.old))
         (host_log (H.interruptions host.new) (H.ended host.new) (H.kept host.new))
         (R.failed reader.new) (W.failed writer.new) status) }
+    ensures cut { R.failed reader.old ≡ false → W.failed writer.old ≡ false → W.failed writer.new ≡ true → IfOk result (λ status. (status ≡ 5) ⊎ (status ≡ 1)) }
     ensures passed { IfOk result (λ _. W.failed writer.new ≡ false → W.passed writer.new ≡ true) }
     ensures reader { OnErr result (reader.new ≡ reader.old) }
     ensures writer { OnErr result (writer.new ≡ writer.old) }
@@ -201,6 +202,8 @@ pub fn do_session<R: Input, W: Output, D: Device, H: SessionHost>(
         PrintsNoImage image.now result.status (W.sent writer.old) (W.sent writer.new) }
     ensures unrun { (fault : ImageFault) → IsNoFile image.now fault →
         (reader.new ≡ reader.old) × (device.new ≡ device.old) × (H.kept host.new ≡ H.kept host.old) }
+    // Where it fails, the status is 5, or 1: a changed block could not be written, or memory ran out.
+    ensures cut { R.failed reader.old ≡ false → W.failed writer.old ≡ false → W.failed writer.new ≡ true → (result.status ≡ 5) ⊎ (result.status ≡ 1) }
     // Where the writer doesn't fail, all that was printed was passed on.
     ensures passed { W.failed writer.new ≡ false → W.passed writer.new ≡ true }
     ensures file { IsNone result.file }

@@ -1,7 +1,7 @@
 use Rattle.std.proofs.Common.{◌∙◌, ap, Ok}
 use Rattle.machine.specs.State.{start}
 use Rattle.session_runs.specs.Sitting.{break_word}
-use Rattle.session_runs.proofs.Sitting.{ended_so, session_of}
+use Rattle.session_runs.proofs.Sitting.{cut_status, ended_so, session_of}
 use Rattle.session_runs.proofs.sessions.sit.Goals as goal
 
 pub returns-clause-moved : goal.returns-clause-moved
@@ -13,3 +13,8 @@ returns-clause-moved g c = λ fine good.
     e.moved
     (ended_so _ _ _ _ _ _ _ fine good e.ended e.output e.input (λ q. e.asked (ap Ok q)) (λ q. e.unfailed (ap Ok q)))
     e.kept c.finish.ensures.same.0 c.finish.ensures.same.1 c.finish.ensures.finished
+
+pub returns-clause-cut : goal.returns-clause-cut
+returns-clause-cut g c = λ fine good failed.
+    let session = returns-clause-moved g c fine good in
+    cut_status _ _ _ _ _ _ _ _ _ session.finished (session.output failed)
