@@ -12,8 +12,8 @@ use named_files::Files;
 /// Sees to it that the trace isn't written over the blocks, if the run has some.
 #[tactic(auto, unfolding(named_files::specs::Asking::Asks))]
 fn keep_blocks_apart<F: Files>(files: &mut F, blocks: Option<&str>, trace: &str) -> Result<(), u8>
-    ensures asked { AnswersAll (apart_from trace.now (given blocks.entry)) result (F.asked files.old) (F.asked files.new) }
-    ensures files { F.files files.new ≡ F.files files.old }
+    ensures asked { AnswersAll (apart_from trace.now (given blocks.entry)) result (F.log files.old).asked (F.log files.new).asked }
+    ensures files { (F.log files.new).files ≡ (F.log files.old).files }
 {
     match blocks {
         Some(file) => files.keep_apart(file, trace, "the blocks and the trace"),
@@ -24,8 +24,8 @@ fn keep_blocks_apart<F: Files>(files: &mut F, blocks: Option<&str>, trace: &str)
 /// Removes the new file of a trace of which nothing came.
 #[tactic(auto, unfolding(named_files::specs::Asking::Asks))]
 fn leave_trace<F: Files>(files: &mut F, trace: &str, is_unused: bool)
-    ensures asked { Asks (removal trace.now is_unused) 0 (F.asked files.old) (F.asked files.new) }
-    ensures files { F.files files.new ≡ F.files files.old }
+    ensures asked { Asks (removal trace.now is_unused) 0 (F.log files.old).asked (F.log files.new).asked }
+    ensures files { (F.log files.new).files ≡ (F.log files.old).files }
 {
     if is_unused {
         files.remove_trace(trace);
@@ -44,9 +44,9 @@ pub fn debug_word<F: Files, W: Output>(
     limit: u64,
 ) -> Result<u8, u8>
     ensures debugged { IfOk result (λ status. Debugs image.now name.now trace.now (given blocks.entry) limit status (W.failed writer.new)
-        (done (F.asked files.old) (F.files files.old) (W.sent writer.old)) (done (F.asked files.new) (F.files files.new) (W.sent writer.new))) }
+        (done (F.log files.old) (W.sent writer.old)) (done (F.log files.new) (W.sent writer.new))) }
     ensures refused { IfErr result (λ status. Refuses (debug_steps image.now trace.now (given blocks.entry)) status
-        (done (F.asked files.old) (F.files files.old) (W.sent writer.old)) (done (F.asked files.new) (F.files files.new) (W.sent writer.new))) }
+        (done (F.log files.old) (W.sent writer.old)) (done (F.log files.new) (W.sent writer.new))) }
     ensures cut { W.failed writer.old ≡ false → W.failed writer.new ≡ true → status_of result ≡ 5 }
 {
     files.keep_apart(image, trace, "the image and the trace")?;

@@ -2,8 +2,7 @@
 use Rattle.std.proofs.Common.{◌≡◌, ◌∙◌, ◌∷◌, ◌++◌, [], ap, ℕ, List, Option, Some, None, Ok, Vec, IfSome, Bool, false}
 use Rattle.std.specs.declared.alloc.Global.{Global}
 use Rattle.file_subcommands.specs.Filed.{ReadsOld, Wanted, items_of}
-use Rattle.named_files.specs.Asking.{Answered}
-use Rattle.named_files.specs.Done.{done}
+use Rattle.named_files.specs.Done.{SystemLog, done}
 use Rattle.named_files.specs.FileBytes.{FileLogs, reading_old}
 use Rattle.subcommands.specs.Lines.{IsUpgraded, OfImageFile, upgraded}
 
@@ -13,8 +12,9 @@ pub upgraded_file : (bytes : List ℕ) (buffers : Option ℕ) (failed : Bool) (f
 upgraded_file bytes buffers failed (Some file) sent sent' h = h
 upgraded_file bytes buffers failed None sent sent' h = tt
 
-pub read_old : (w : Wanted) (screens : List ℕ) (before : Option (Vec ℕ Global)) (files middle after last : FileLogs) (asked asked' : List Answered) (printed printed' : Option (List ℕ))
-    → middle.read ≡ files.read ++ (w.blocks, screens) ∷ [] → after ≡ reading_old w.container (Ok before) middle → last.read ≡ after.read
-    → ReadsOld w screens (items_of before) (done asked files printed) (done asked' last printed')
-read_old w screens (Some old) files middle after last asked asked' printed printed' first next same = same ∙ ap (λ f. f.read) next ∙ ap (λ r. r ++ (w.container, old.items) ∷ []) first
-read_old w screens None files middle after last asked asked' printed printed' first next same = same ∙ ap (λ f. f.read) next ∙ first
+pub read_old : (w : Wanted) (screens : List ℕ) (before : Option (Vec ℕ Global)) (old new : SystemLog) (middle after : FileLogs) (printed printed' : Option (List ℕ))
+    → middle.read ≡ old.files.read ++ (w.blocks, screens) ∷ [] → after ≡ reading_old w.container (Ok before) middle → new.files.read ≡ after.read
+    → ReadsOld w screens (items_of before) (done old printed) (done new printed')
+read_old w screens (Some file) old new middle after printed printed' first next same =
+    same ∙ ap (λ f. f.read) next ∙ ap (λ r. r ++ (w.container, file.items) ∷ []) first
+read_old w screens None old new middle after printed printed' first next same = same ∙ ap (λ f. f.read) next ∙ first

@@ -65,9 +65,9 @@ pub fn build_image<F: Files, W: Output>(
     shows_place: bool,
 ) -> Result<u8, u8>
     ensures built { IfOk result (λ status. Builds screens.entry.blocks.now screens.entry.from screens.entry.to image.now buffers status (W.failed writer.new)
-        (done (F.asked files.old) (F.files files.old) (W.sent writer.old)) (done (F.asked files.new) (F.files files.new) (W.sent writer.new))) }
+        (done (F.log files.old) (W.sent writer.old)) (done (F.log files.new) (W.sent writer.new))) }
     ensures refused { IfErr result (λ status. RefusesBuild screens.entry.blocks.now image.now buffers status
-        (done (F.asked files.old) (F.files files.old) (W.sent writer.old)) (done (F.asked files.new) (F.files files.new) (W.sent writer.new))) }
+        (done (F.log files.old) (W.sent writer.old)) (done (F.log files.new) (W.sent writer.new))) }
     ensures cut { W.failed writer.old ≡ false → W.failed writer.new ≡ true → status_of result ≡ 5 }
 {
     if !is_count(buffers) {
@@ -95,9 +95,9 @@ pub fn upgrade_image<F: Files, W: Output>(
     buffers: Option<u16>,
 ) -> Result<u8, u8>
     ensures upgraded { IfOk result (λ status. Upgrades image.now out.now buffers status (W.failed writer.new)
-        (done (F.asked files.old) (F.files files.old) (W.sent writer.old)) (done (F.asked files.new) (F.files files.new) (W.sent writer.new))) }
+        (done (F.log files.old) (W.sent writer.old)) (done (F.log files.new) (W.sent writer.new))) }
     ensures refused { IfErr result (λ status. RefusesUpgrade image.now out.now buffers status
-        (done (F.asked files.old) (F.files files.old) (W.sent writer.old)) (done (F.asked files.new) (F.files files.new) (W.sent writer.new))) }
+        (done (F.log files.old) (W.sent writer.old)) (done (F.log files.new) (W.sent writer.new))) }
     ensures cut { W.failed writer.old ≡ false → W.failed writer.new ≡ true → status_of result ≡ 5 }
 {
     if !may_be_wanted(buffers) {

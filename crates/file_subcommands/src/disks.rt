@@ -57,10 +57,10 @@ fn numbers_of(alloc: Global, text: &str) -> Result<Vec<usize>, bool>
 fn skew_of<F: Files>(files: &mut F, skew: Option<&str>) -> Result<Vec<usize>, u8>
     ensures numbers { IfOk result (λ numbers. numbers.items ≡ numbers_in (option_map (λ text. text.now) skew.entry)) }
     ensures same { OnOk result (files.new ≡ files.old) }
-    ensures files { F.files files.new ≡ F.files files.old }
+    ensures files { (F.log files.new).files ≡ (F.log files.old).files }
     ensures refused { IfErr result (λ status.
-        (¬ AreNumbers (option_map (λ text. text.now) skew.entry) × Refused (step deed.Take (codes "--skew" ∷ [])) status (F.asked files.old) (F.asked files.new))
-        ⊎ Refused (step deed.Allocate []) status (F.asked files.old) (F.asked files.new)) }
+        (¬ AreNumbers (option_map (λ text. text.now) skew.entry) × Refused (step deed.Take (codes "--skew" ∷ [])) status (F.log files.old).asked (F.log files.new).asked)
+        ⊎ Refused (step deed.Allocate []) status (F.log files.old).asked (F.log files.new).asked) }
 {
     let Some(skew) = skew else {
         return Ok(Vec::new(files.alloc()));
@@ -76,12 +76,16 @@ fn skew_of<F: Files>(files: &mut F, skew: Option<&str>) -> Result<Vec<usize>, u8
 }
 
 /// How screens lie in the container. If nothing can lie so, it is printed why, and the status is the error.
-fn layout_of<F: Files, W: Output>(files: &mut F, writer: &mut W, disk: Disk<'_>) -> Result<Layout, u8>
+fn layout_of<F: Files, W: Output>(
+    files: &mut F,
+    writer: &mut W,
+    disk: Disk<'_>,
+) -> Result<Layout, u8>
     ensures wanted { IfOk result (IsWantedLayout (wanted_of disk.entry)) }
     ensures silent { OnOk result (writer.new ≡ writer.old) }
     ensures same { OnOk result (files.new ≡ files.old) }
     ensures refused { IfErr result (λ status. RefusesLayout (wanted_of disk.entry) status (W.failed writer.new)
-        (done (F.asked files.old) (F.files files.old) (W.sent writer.old)) (done (F.asked files.new) (F.files files.new) (W.sent writer.new))) }
+        (done (F.log files.old) (W.sent writer.old)) (done (F.log files.new) (W.sent writer.new))) }
     ensures cut { W.failed writer.old ≡ false → W.failed writer.new ≡ true → IfErr result (λ status. status ≡ 5) }
 {
     let Some(format) = named(disk.format) else {
@@ -107,9 +111,9 @@ pub fn import_screens<F: Files, W: Output>(
     cleans: bool,
 ) -> Result<u8, u8>
     ensures imported { IfOk result (λ status. Imports (wanted_of disk.entry) cleans status (W.failed writer.new)
-        (done (F.asked files.old) (F.files files.old) (W.sent writer.old)) (done (F.asked files.new) (F.files files.new) (W.sent writer.new))) }
+        (done (F.log files.old) (W.sent writer.old)) (done (F.log files.new) (W.sent writer.new))) }
     ensures refused { IfErr result (λ status. RefusesImport (wanted_of disk.entry) status (W.failed writer.new)
-        (done (F.asked files.old) (F.files files.old) (W.sent writer.old)) (done (F.asked files.new) (F.files files.new) (W.sent writer.new))) }
+        (done (F.log files.old) (W.sent writer.old)) (done (F.log files.new) (W.sent writer.new))) }
     ensures cut { W.failed writer.old ≡ false → W.failed writer.new ≡ true → status_of result ≡ 5 }
 {
     let Disk {
@@ -188,9 +192,9 @@ pub fn export_screens<F: Files, W: Output>(
     disk: Disk<'_>,
 ) -> Result<u8, u8>
     ensures exported { IfOk result (λ status. Exports (wanted_of disk.entry) status (W.failed writer.new)
-        (done (F.asked files.old) (F.files files.old) (W.sent writer.old)) (done (F.asked files.new) (F.files files.new) (W.sent writer.new))) }
+        (done (F.log files.old) (W.sent writer.old)) (done (F.log files.new) (W.sent writer.new))) }
     ensures refused { IfErr result (λ status. RefusesExport (wanted_of disk.entry) status (W.failed writer.new)
-        (done (F.asked files.old) (F.files files.old) (W.sent writer.old)) (done (F.asked files.new) (F.files files.new) (W.sent writer.new))) }
+        (done (F.log files.old) (W.sent writer.old)) (done (F.log files.new) (W.sent writer.new))) }
     ensures cut { W.failed writer.old ≡ false → W.failed writer.new ≡ true → status_of result ≡ 5 }
 {
     let Disk {
@@ -205,6 +209,12 @@ pub fn export_screens<F: Files, W: Output>(
     let screens = files.file_bytes(blocks)?;
     let _held = files.held(container)?;
     let before = files.old_file(container)?;
-    let Ended { status, file } = exported(files.alloc(), writer, &layout, screens.as_slice(), before);
+    let Ended { status, file } = exported(
+        files.alloc(),
+        writer,
+        &layout,
+        screens.as_slice(),
+        before,
+    );
     Ok(write_made(files, status, file, container))
 }

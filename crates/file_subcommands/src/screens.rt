@@ -26,9 +26,9 @@ pub fn write_kernel<F: Files, W: Output>(
     blocks: &str,
 ) -> Result<u8, u8>
     ensures made { IfOk result (λ status. MakesKernel blocks.now status (W.failed writer.new)
-        (done (F.asked files.old) (F.files files.old) (W.sent writer.old)) (done (F.asked files.new) (F.files files.new) (W.sent writer.new))) }
+        (done (F.log files.old) (W.sent writer.old)) (done (F.log files.new) (W.sent writer.new))) }
     ensures refused { IfErr result (λ status. Refuses (kernel_steps blocks.now) status
-        (done (F.asked files.old) (F.files files.old) (W.sent writer.old)) (done (F.asked files.new) (F.files files.new) (W.sent writer.new))) }
+        (done (F.log files.old) (W.sent writer.old)) (done (F.log files.new) (W.sent writer.new))) }
     ensures cut { W.failed writer.old ≡ false → W.failed writer.new ≡ true → status_of result ≡ 5 }
 {
     let _held = files.held(blocks)?;
@@ -43,9 +43,9 @@ pub fn print_text<F: Files, W: Output>(
     screens: Screens<'_>,
 ) -> Result<u8, u8>
     ensures printed { IfOk result (λ status. Prints screens.entry.blocks.now screens.entry.from screens.entry.to status (W.failed writer.new)
-        (done (F.asked files.old) (F.files files.old) (W.sent writer.old)) (done (F.asked files.new) (F.files files.new) (W.sent writer.new))) }
+        (done (F.log files.old) (W.sent writer.old)) (done (F.log files.new) (W.sent writer.new))) }
     ensures refused { IfErr result (λ status. Refuses (text_steps screens.entry.blocks.now) status
-        (done (F.asked files.old) (F.files files.old) (W.sent writer.old)) (done (F.asked files.new) (F.files files.new) (W.sent writer.new))) }
+        (done (F.log files.old) (W.sent writer.old)) (done (F.log files.new) (W.sent writer.new))) }
     ensures cut { W.failed writer.old ≡ false → W.failed writer.new ≡ true → status_of result ≡ 5 }
 {
     let Screens { blocks, from, to } = screens;
@@ -63,9 +63,9 @@ pub fn write_screens<F: Files, W: Output>(
     blocks: &str,
 ) -> Result<u8, u8>
     ensures made { IfOk result (λ status. MakesScreens text.now blocks.now status (W.failed writer.new)
-        (done (F.asked files.old) (F.files files.old) (W.sent writer.old)) (done (F.asked files.new) (F.files files.new) (W.sent writer.new))) }
+        (done (F.log files.old) (W.sent writer.old)) (done (F.log files.new) (W.sent writer.new))) }
     ensures refused { IfErr result (λ status. Refuses (screens_steps text.now blocks.now) status
-        (done (F.asked files.old) (F.files files.old) (W.sent writer.old)) (done (F.asked files.new) (F.files files.new) (W.sent writer.new))) }
+        (done (F.log files.old) (W.sent writer.old)) (done (F.log files.new) (W.sent writer.new))) }
     ensures cut { W.failed writer.old ≡ false → W.failed writer.new ≡ true → status_of result ≡ 5 }
 {
     files.keep_apart(text, blocks, "the text and the blocks")?;
@@ -86,9 +86,9 @@ pub fn write_new<F: Files, W: Output>(
     count: u32,
 ) -> Result<u8, u8>
     ensures made { IfOk result (λ status. MakesNew blocks.now count status (W.failed writer.new)
-        (done (F.asked files.old) (F.files files.old) (W.sent writer.old)) (done (F.asked files.new) (F.files files.new) (W.sent writer.new))) }
+        (done (F.log files.old) (W.sent writer.old)) (done (F.log files.new) (W.sent writer.new))) }
     ensures refused { IfErr result (λ status. RefusesNew blocks.now count status
-        (done (F.asked files.old) (F.files files.old) (W.sent writer.old)) (done (F.asked files.new) (F.files files.new) (W.sent writer.new))) }
+        (done (F.log files.old) (W.sent writer.old)) (done (F.log files.new) (W.sent writer.new))) }
     ensures cut { W.failed writer.old ≡ false → W.failed writer.new ≡ true → status_of result ≡ 5 }
 {
     if count > MOST_BLOCKS {

@@ -79,9 +79,9 @@ fn session_of(words: &RunWords) -> Session<'_>
 /// Runs what the words say, and answers the status. If a subcommand cannot start, the reason is printed, and the status is the error.
 fn obey<F: SessionFiles, W: Output>(files: &mut F, writer: &mut W, words: Words) -> Result<u8, u8>
     ensures obeyed { W.failed writer.old ≡ false → IfOk result (λ status. Obeys words status (W.failed writer.new)
-        (done (F.asked files.old) (F.files files.old) (W.sent writer.old)) (done (F.asked files.new) (F.files files.new) (W.sent writer.new))) }
+        (done (F.log files.old) (W.sent writer.old)) (done (F.log files.new) (W.sent writer.new))) }
     ensures refused { IfErr result (λ status. RefusesWords words status (W.failed writer.new)
-        (done (F.asked files.old) (F.files files.old) (W.sent writer.old)) (done (F.asked files.new) (F.files files.new) (W.sent writer.new))) }
+        (done (F.log files.old) (W.sent writer.old)) (done (F.log files.new) (W.sent writer.new))) }
     ensures cut { W.failed writer.old ≡ false → W.failed writer.new ≡ true → IsCut words (status_of result) }
 {
     match words {

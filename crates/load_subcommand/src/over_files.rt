@@ -74,9 +74,9 @@ pub fn load_screens<F: Files, W: Output>(
 ) -> Result<u8, u8>
     ensures loaded { IfOk result (λ status. Loads load.entry.image.now load.entry.blocks.now load.entry.from load.entry.to load.entry.out.now
         load.entry.limit status (W.failed writer.new)
-        (done (F.asked files.old) (F.files files.old) (W.sent writer.old)) (done (F.asked files.new) (F.files files.new) (W.sent writer.new))) }
+        (done (F.log files.old) (W.sent writer.old)) (done (F.log files.new) (W.sent writer.new))) }
     ensures refused { IfErr result (λ status. Refuses (load_steps load.entry.image.now load.entry.blocks.now load.entry.out.now) status
-        (done (F.asked files.old) (F.files files.old) (W.sent writer.old)) (done (F.asked files.new) (F.files files.new) (W.sent writer.new))) }
+        (done (F.log files.old) (W.sent writer.old)) (done (F.log files.new) (W.sent writer.new))) }
     ensures cut { W.failed writer.old ≡ false → W.failed writer.new ≡ true → status_of result ≡ 5 }
 {
     let Load {

@@ -1,10 +1,9 @@
 -- What a subcommand asks for, and what it makes: that is written, and nothing else.
-use Rattle.std.proofs.Common.{◌≡◌, ◌<◌, ◌⊎◌, ℕ, List, ◌∷◌, ◌++◌, [], Option, Some, None, Vec, refl, sym, ap, subst, ◌∙◌, inl, inr, arith, MatchOption, IfSome, IsNone, IsSome, Bool, false, Result, Ok, Err, IfErr}
+use Rattle.std.proofs.Common.{◌≡◌, ◌<◌, ℕ, List, ◌∷◌, ◌++◌, [], Option, Some, None, Vec, refl, sym, ap, subst, ◌∙◌, inl, inr, arith, MatchOption, IfSome, IsNone, IsSome, Bool, false, Result, Ok, Err, IfErr}
 use Rattle.std.specs.Result.{IsErrAnd}
 use Rattle.std.specs.declared.alloc.Global.{Global}
 use Rattle.named_files.specs.Asking.{Answered, Asks, Refused, Step, answered, step}
-use Rattle.named_files.specs.FileBytes.{FileBytes, FileLogs}
-use Rattle.named_files.specs.Done.{IsWrittenOr, Makes, Refuses, done}
+use Rattle.named_files.specs.Done.{IsWrittenOr, Makes, Refuses, SystemLog, done}
 use Rattle.named_files.specs.declared.step_log.Deed.TheVariants.{Write}
 
 no_less : {B : Type 0} (n : ℕ) → n ≡ 0 → 0 < n → B
@@ -47,51 +46,50 @@ stopped (s ∷ first) next status old new lt (inl w) = inl w
 stopped (s ∷ first) next status old new lt (inr h) = inr (stopped first next status (old ++ answered s 0 ∷ []) new lt h)
 
 -- the file that a subcommand ended with was written, or could not be
-written_or : (Of : Vec ℕ Global → Type 0) (steps : List Step) (file : Vec ℕ Global) (ended status : ℕ) (name : List ℕ) (old middle new : List Answered)
-    (files files' files'' : FileLogs) (printed printed' : Option (List ℕ))
-    → Asks steps 0 old middle → files'.written ≡ files.written → (ended ≡ 0) × Of file
-    → IsWrittenOr name file.items ended status middle new files' files''
-    → Makes steps name ended status (record { asked = old; read = files.read; written = files.written; printed = printed })
-    (record { asked = new; read = files''.read; written = files''.written; printed = printed' }) Of
-written_or Of steps file ended status name old middle new files files' files'' printed printed' asks same h (inl w) = record {
+written_or : (Of : Vec ℕ Global → Type 0) (steps : List Step) (file : Vec ℕ Global) (ended status : ℕ) (name : List ℕ) (old middle new : SystemLog)
+    (printed printed' : Option (List ℕ))
+    → Asks steps 0 old.asked middle.asked → middle.files.written ≡ old.files.written → (ended ≡ 0) × Of file
+    → IsWrittenOr name file.items ended status middle new
+    → Makes steps name ended status (done old printed) (done new printed') Of
+written_or Of steps file ended status name old middle new printed printed' asks same h (inl w) = record {
   unmade = λ lt. no_less ended h.0 lt;
-  made = λ e. then steps (step Write (name ∷ []) ∷ []) status old middle new asks (subst (λ n. Asks (step Write (name ∷ []) ∷ []) n middle new) (sym (w.0 ∙ h.0)) (taken (step Write (name ∷ [])) middle new w.1));
+  made = λ e. then steps (step Write (name ∷ []) ∷ []) status old.asked middle.asked new.asked asks
+      (subst (λ n. Asks (step Write (name ∷ []) ∷ []) n middle.asked new.asked) (sym (w.0 ∙ h.0)) (taken (step Write (name ∷ [])) middle.asked new.asked w.1));
   file = λ e. (file, ap (λ f. f.written) w.2 ∙ ap (λ l. l ++ (name, file.items) ∷ []) same, h.1);
   none = λ lt. no_less status (w.0 ∙ h.0) lt;
 }
-written_or Of steps file ended status name old middle new files files' files'' printed printed' asks same h (inr w) = record {
+written_or Of steps file ended status name old middle new printed printed' asks same h (inr w) = record {
   unmade = λ lt. no_less ended h.0 lt;
-  made = λ e. then steps (step Write (name ∷ []) ∷ []) status old middle new asks (refused (step Write (name ∷ [])) [] status middle new (w.0, w.1));
+  made = λ e. then steps (step Write (name ∷ []) ∷ []) status old.asked middle.asked new.asked asks (refused (step Write (name ∷ [])) [] status middle.asked new.asked (w.0, w.1));
   file = λ e. no_less status e w.0;
   none = λ lt. ap (λ f. f.written) w.2 ∙ same;
 }
 
-pub made : (Of : Vec ℕ Global → Type 0) (steps : List Step) (file : Option (Vec ℕ Global)) (ended status : ℕ) (name : List ℕ) (old middle new : List Answered)
-    (files files' files'' : FileLogs) (printed printed' : Option (List ℕ))
-    → Asks steps 0 old middle → files'.written ≡ files.written → MatchOption file (0 < ended) (λ f. (ended ≡ 0) × Of f)
-    → (IsNone file → (status ≡ ended) × (new ≡ middle) × (files'' ≡ files'))
-    → IfSome file (λ f. IsWrittenOr name f.items ended status middle new files' files'')
-    → Makes steps name ended status (record { asked = old; read = files.read; written = files.written; printed = printed })
-    (record { asked = new; read = files''.read; written = files''.written; printed = printed' }) Of
-made Of steps (Some file) ended status name old middle new files files' files'' printed printed' asks same h none some =
-    written_or Of steps file ended status name old middle new files files' files'' printed printed' asks same h some
-made Of steps None ended status name old middle new files files' files'' printed printed' asks same h none some =
-    let kept : (status ≡ ended) × (new ≡ middle) × (files'' ≡ files') = none refl in
+pub made : (Of : Vec ℕ Global → Type 0) (steps : List Step) (file : Option (Vec ℕ Global)) (ended status : ℕ) (name : List ℕ) (old middle new : SystemLog)
+    (printed printed' : Option (List ℕ))
+    → Asks steps 0 old.asked middle.asked → middle.files.written ≡ old.files.written → MatchOption file (0 < ended) (λ f. (ended ≡ 0) × Of f)
+    → (IsNone file → (status ≡ ended) × (new ≡ middle))
+    → IfSome file (λ f. IsWrittenOr name f.items ended status middle new)
+    → Makes steps name ended status (done old printed) (done new printed') Of
+made Of steps (Some file) ended status name old middle new printed printed' asks same h none some =
+    written_or Of steps file ended status name old middle new printed printed' asks same h some
+made Of steps None ended status name old middle new printed printed' asks same h none some =
+    let kept : (status ≡ ended) × (new ≡ middle) = none refl in
     record {
-      unmade = λ lt. (kept.0, subst (λ n. Asks steps 0 old n) (sym kept.1) asks);
+      unmade = λ lt. (kept.0, subst (λ n. Asks steps 0 old.asked n.asked) (sym kept.1) asks);
       made = λ e. no_less ended e h;
       file = λ e. no_less ended (sym kept.0 ∙ e) h;
-      none = λ lt. ap (λ f. f.written) kept.2 ∙ same;
+      none = λ lt. ap (λ n. n.files.written) kept.1 ∙ same;
     }
 
 -- what was read beside the file that was written
-pub read_so : (file : Option (Vec ℕ Global)) (ended status : ℕ) (name : List ℕ) (middle new : List Answered) (files' files'' : FileLogs)
-    → (IsNone file → (status ≡ ended) × (new ≡ middle) × (files'' ≡ files'))
-    → IfSome file (λ f. IsWrittenOr name f.items ended status middle new files' files'')
-    → files''.read ≡ files'.read
-read_so (Some file) ended status name middle new files' files'' none (inl w) = ap (λ f. f.read) w.2
-read_so (Some file) ended status name middle new files' files'' none (inr w) = ap (λ f. f.read) w.2
-read_so None ended status name middle new files' files'' none some = ap (λ f. f.read) (none refl).2
+pub read_so : (file : Option (Vec ℕ Global)) (ended status : ℕ) (name : List ℕ) (middle new : SystemLog)
+    → (IsNone file → (status ≡ ended) × (new ≡ middle))
+    → IfSome file (λ f. IsWrittenOr name f.items ended status middle new)
+    → new.files.read ≡ middle.files.read
+read_so (Some file) ended status name middle new none (inl w) = ap (λ f. f.read) w.2
+read_so (Some file) ended status name middle new none (inr w) = ap (λ f. f.read) w.2
+read_so None ended status name middle new none some = ap (λ n. n.files.read) (none refl).1
 
 -- what is said of a file beside the status
 pub both : (Of : Vec ℕ Global → Type 0) (file : Option (Vec ℕ Global)) (ended : ℕ) → MatchOption file (0 < ended) (λ f. ended ≡ 0)
@@ -126,9 +124,9 @@ any (Some file) = refl
 any None = tt
 
 -- a subcommand that takes these steps could not begin
-pub refuses : (steps : List Step) (status : ℕ) (old new : List Answered) (files files' : FileLogs) (printed : Option (List ℕ))
-    → 0 < status → Asks steps status old new → files'.written ≡ files.written → Refuses steps status (done old files printed) (done new files' printed)
-refuses steps status old new files files' printed lt asks same = record { above_0 = lt; asks = asks; silent = refl; unwritten = same }
+pub refuses : (steps : List Step) (status : ℕ) (old new : SystemLog) (printed : Option (List ℕ))
+    → 0 < status → Asks steps status old.asked new.asked → new.files.written ≡ old.files.written → Refuses steps status (done old printed) (done new printed)
+refuses steps status old new printed lt asks same = record { above_0 = lt; asks = asks; silent = refl; unwritten = same }
 
 -- what holds of the status that `?` passes on
 pub of_err : {T : Type 0} (r : Result T ℕ) (status : ℕ) (P : ℕ → Type 0) → IsErrAnd r (λ e. e ≡ status) → P status → IfErr r P

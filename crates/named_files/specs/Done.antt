@@ -5,6 +5,14 @@ use Rattle.named_files.specs.Asking.{Answered, Asks, Step, answered, step}
 use Rattle.named_files.specs.FileBytes.{FileBytes, FileLogs}
 use Rattle.named_files.specs.declared.step_log.Deed.TheVariants.{Write}
 
+-- what the system was asked, and the files that it read and wrote whole for that
+pub record SystemLog : Type 0 where
+  pub asked : List Answered
+  pub files : FileLogs
+
+abbrev pub system_log : List Answered → FileLogs → SystemLog
+system_log asked files = record { asked = asked; files = files }
+
 -- what was done so far: what the system was asked and answered, the files that were read whole, those that were written whole, and the
 -- bytes that were printed
 pub record Done : Type 0 where
@@ -13,8 +21,8 @@ pub record Done : Type 0 where
   pub written : List FileBytes
   pub printed : Option (List ℕ)
 
-abbrev pub done : List Answered → FileLogs → Option (List ℕ) → Done
-done asked files printed = record { asked = asked; read = files.read; written = files.written; printed = printed }
+abbrev pub done : SystemLog → (printed : Option (List ℕ)) → Done
+done log printed = record { asked = log.asked; read = log.files.read; written = log.files.written; printed = printed }
 
 -- the status, whether the subcommand could begin or not
 abbrev pub status_of : Result ℕ ℕ → ℕ
@@ -47,7 +55,8 @@ pub record Makes (steps : List Step) (name : List ℕ) (ended status : ℕ) (old
   pub none : 0 < status → new.written ≡ old.written
 
 -- the file of this name was written, and the status is the wanted one; or that was refused
-abbrev pub IsWrittenOr : (name bytes : List ℕ) → (wanted status : ℕ) → (asked asked' : List Answered) → (old new : FileLogs) → Type 0
-IsWrittenOr name bytes wanted status asked asked' old new =
-    ((status ≡ wanted) × (asked' ≡ asked ++ answered (step Write (name ∷ [])) 0 ∷ []) × (new ≡ record old { written = old.written ++ (name, bytes) ∷ [] }))
-    ⊎ ((0 < status) × (asked' ≡ asked ++ answered (step Write (name ∷ [])) status ∷ []) × (new ≡ old))
+abbrev pub IsWrittenOr : (name bytes : List ℕ) → (wanted status : ℕ) → (old new : SystemLog) → Type 0
+IsWrittenOr name bytes wanted status old new =
+    ((status ≡ wanted) × (new.asked ≡ old.asked ++ answered (step Write (name ∷ [])) 0 ∷ [])
+    × (new.files ≡ record (old.files) { written = old.files.written ++ (name, bytes) ∷ [] }))
+    ⊎ ((0 < status) × (new.asked ≡ old.asked ++ answered (step Write (name ∷ [])) status ∷ []) × (new.files ≡ old.files))

@@ -1,5 +1,5 @@
 -- Blocks that are read before a load is tried on them.
-use Rattle.std.specs.Prelude.{◌≡◌, ℕ, List, ◌++◌, All}
+use Rattle.std.specs.Prelude.{◌≡◌, List, ◌++◌, All}
 use Rattle.block_buffers.specs.DeviceCalls.{DeviceCall, ReadFailed, WasRead, WasWritten, WriteFailed}
 
 abbrev pub IsRead : DeviceCall → Type 0

@@ -3,7 +3,7 @@
 ghost use Rattle.std.specs.Prelude.{◌≡◌, [], IfSome, IsNone};
 ghost use Rattle.named_files.specs.Asking as asking;
 ghost use Rattle.named_files.specs.FileBytes.{file_logs};
-ghost use Rattle.named_files.specs.Done.{IsWrittenOr};
+ghost use Rattle.named_files.specs.Done.{IsWrittenOr, system_log};
 
 use crate::file_log::{FileLog, NamedBytes};
 use crate::step_log::{Asked, Deed, StepLog};
@@ -19,9 +19,10 @@ use std::io::{BufReader, BufWriter, IsTerminal, Read, Stdin, Write};
 /// The files of the system, by the names that the command line has. Where one can't be used as it is named that is printed, and the
 /// program's status, which is not 0, is the error. Each thing that it is asked to do is noted with the answer.
 pub trait Files {
-    ghost use Rattle.std.specs.Prelude.{◌≡◌, ◌++◌, ◌∷◌, [], List, IfOk};
-    ghost use Rattle.named_files.specs.Asking.{Answered, Answers, AnswersAll, Refused, answered, given, opens, step};
-    ghost use Rattle.named_files.specs.FileBytes.{FileLogs, reading, reading_old, writing};
+    ghost use Rattle.std.specs.Prelude.{◌≡◌, ◌++◌, ◌∷◌, [], IfOk};
+    ghost use Rattle.named_files.specs.Asking.{Answers, AnswersAll, Refused, answered, given, opens, step};
+    ghost use Rattle.named_files.specs.Done.{SystemLog};
+    ghost use Rattle.named_files.specs.FileBytes.{reading, reading_old, writing};
     ghost use Rattle.named_files.specs.declared.step_log.Deed.TheVariants as deed;
 
     /// A file of blocks that is open.
@@ -33,109 +34,106 @@ pub trait Files {
     /// The file of a trace that is open.
     type Trace: Write + Drop;
 
-    /// What was asked so far, in order, with the answers.
-    ghost asked: { Self → List Answered };
-
-    /// The files that were read and written whole so far.
-    ghost files: { Self → FileLogs };
+    /// What was asked so far, in order, with the answers, and the files that were read and written whole.
+    ghost log: { Self → SystemLog };
 
     /// Where memory comes from.
     fn alloc(&self) -> Global;
 
     /// Prints that memory ran out, and answers the status.
     fn out_of_memory(&mut self) -> u8
-        ensures asked { Refused (step deed.Allocate []) result (asked self.old) (asked self.new) }
-        ensures files { files self.new ≡ files self.old };
+        ensures asked { Refused (step deed.Allocate []) result (log self.old).asked (log self.new).asked }
+        ensures files { (log self.new).files ≡ (log self.old).files };
 
     /// Prints why a file or an option can't be used as it is given, and answers the status.
     fn refuse_use(&mut self, name: &str, why: &str) -> u8
-        ensures asked { Refused (step deed.Take (name.now ∷ [])) result (asked self.old) (asked self.new) }
-        ensures files { files self.new ≡ files self.old };
+        ensures asked { Refused (step deed.Take (name.now ∷ [])) result (log self.old).asked (log self.new).asked }
+        ensures files { (log self.new).files ≡ (log self.old).files };
 
     /// Sees to it that a file isn't written over one that is read; `what` is what they are.
     fn keep_apart(&mut self, read: &str, written: &str, what: &str) -> Result<(), u8>
-        ensures asked { Answers (step deed.KeepApart (read.now ∷ written.now ∷ [])) result (asked self.old) (asked self.new) }
-        ensures files { files self.new ≡ files self.old };
+        ensures asked { Answers (step deed.KeepApart (read.now ∷ written.now ∷ [])) result (log self.old).asked (log self.new).asked }
+        ensures files { (log self.new).files ≡ (log self.old).files };
 
     /// Sees to it that a new file isn't written over one that exists.
     fn keep_absent(&mut self, name: &str) -> Result<(), u8>
-        ensures asked { Answers (step deed.KeepAbsent (name.now ∷ [])) result (asked self.old) (asked self.new) }
-        ensures files { files self.new ≡ files self.old };
+        ensures asked { Answers (step deed.KeepAbsent (name.now ∷ [])) result (log self.old).asked (log self.new).asked }
+        ensures files { (log self.new).files ≡ (log self.old).files };
 
     /// Sees to it that an image isn't taken for a file of blocks.
     fn keep_blocks(&mut self, blocks: &str) -> Result<(), u8>
-        ensures asked { Answers (step deed.KeepBlocks (blocks.now ∷ [])) result (asked self.old) (asked self.new) }
-        ensures files { files self.new ≡ files self.old };
+        ensures asked { Answers (step deed.KeepBlocks (blocks.now ∷ [])) result (log self.old).asked (log self.new).asked }
+        ensures files { (log self.new).files ≡ (log self.old).files };
 
     /// Sees to it that a trace isn't written over blocks or an image.
     fn keep_trace(&mut self, trace: &str) -> Result<(), u8>
-        ensures asked { Answers (step deed.KeepTrace (trace.now ∷ [])) result (asked self.old) (asked self.new) }
-        ensures files { files self.new ≡ files self.old };
+        ensures asked { Answers (step deed.KeepTrace (trace.now ∷ [])) result (log self.old).asked (log self.new).asked }
+        ensures files { (log self.new).files ≡ (log self.old).files };
 
     /// Sees to it that an image isn't written over blocks.
     fn keep_image(&mut self, image: &str) -> Result<(), u8>
-        ensures asked { Answers (step deed.KeepImage (image.now ∷ [])) result (asked self.old) (asked self.new) }
-        ensures files { files self.new ≡ files self.old };
+        ensures asked { Answers (step deed.KeepImage (image.now ∷ [])) result (log self.old).asked (log self.new).asked }
+        ensures files { (log self.new).files ≡ (log self.old).files };
 
     /// A file that is to be replaced, held against other runs for as long as it is open; none where it doesn't exist.
     fn held(&mut self, name: &str) -> Result<Option<File>, u8>
-        ensures asked { Answers (step deed.Hold (name.now ∷ [])) result (asked self.old) (asked self.new) }
-        ensures files { files self.new ≡ files self.old };
+        ensures asked { Answers (step deed.Hold (name.now ∷ [])) result (log self.old).asked (log self.new).asked }
+        ensures files { (log self.new).files ≡ (log self.old).files };
 
     /// The blocks of a file that is only read.
     fn read_alone(&mut self, blocks: &str) -> Result<Self::Blocks, u8>
-        ensures asked { Answers (step deed.Open (blocks.now ∷ [])) result (asked self.old) (asked self.new) }
-        ensures files { files self.new ≡ files self.old }
+        ensures asked { Answers (step deed.Open (blocks.now ∷ [])) result (log self.old).asked (log self.new).asked }
+        ensures files { (log self.new).files ≡ (log self.old).files }
         ensures fresh { IfOk result (λ device. Self.Blocks.calls device ≡ []) };
 
     /// The blocks of a run: those of the file, or none where it has no file.
     fn run_blocks(&mut self, blocks: Option<&str>) -> Result<Self::Blocks, u8>
-        ensures asked { AnswersAll (opens (given blocks.entry)) result (asked self.old) (asked self.new) }
-        ensures files { files self.new ≡ files self.old }
+        ensures asked { AnswersAll (opens (given blocks.entry)) result (log self.old).asked (log self.new).asked }
+        ensures files { (log self.new).files ≡ (log self.old).files }
         ensures fresh { IfOk result (λ device. Self.Blocks.calls device ≡ []) };
 
     /// Standard input.
     fn input(&mut self) -> Result<Self::Keys, u8>
-        ensures asked { Answers (step deed.Listen []) result (asked self.old) (asked self.new) }
-        ensures files { files self.new ≡ files self.old };
+        ensures asked { Answers (step deed.Listen []) result (log self.old).asked (log self.new).asked }
+        ensures files { (log self.new).files ≡ (log self.old).files };
 
     /// The file of a trace, which is emptied where the run begins.
     fn trace(&mut self, name: &str) -> Result<Self::Trace, u8>
-        ensures asked { Answers (step deed.Open (name.now ∷ [])) result (asked self.old) (asked self.new) }
-        ensures files { files self.new ≡ files self.old };
+        ensures asked { Answers (step deed.Open (name.now ∷ [])) result (log self.old).asked (log self.new).asked }
+        ensures files { (log self.new).files ≡ (log self.old).files };
 
     /// Removes the new file of a trace of which nothing came.
     fn remove_trace(&mut self, name: &str)
-        ensures asked { asked self.new ≡ asked self.old ++ answered (step deed.Remove (name.now ∷ [])) 0 ∷ [] }
-        ensures files { files self.new ≡ files self.old };
+        ensures asked { (log self.new).asked ≡ (log self.old).asked ++ answered (step deed.Remove (name.now ∷ [])) 0 ∷ [] }
+        ensures files { (log self.new).files ≡ (log self.old).files };
 
     /// The bytes of an image's file.
     fn image_bytes(&mut self, image: &str) -> Result<Vec<u8>, u8>
-        ensures asked { Answers (step deed.Read (image.now ∷ [])) result (asked self.old) (asked self.new) }
-        ensures read { files self.new ≡ reading image.now result (files self.old) };
+        ensures asked { Answers (step deed.Read (image.now ∷ [])) result (log self.old).asked (log self.new).asked }
+        ensures read { (log self.new).files ≡ reading image.now result (log self.old).files };
 
     /// The bytes of a file.
     fn file_bytes(&mut self, name: &str) -> Result<Vec<u8>, u8>
-        ensures asked { Answers (step deed.Read (name.now ∷ [])) result (asked self.old) (asked self.new) }
-        ensures read { files self.new ≡ reading name.now result (files self.old) };
+        ensures asked { Answers (step deed.Read (name.now ∷ [])) result (log self.old).asked (log self.new).asked }
+        ensures read { (log self.new).files ≡ reading name.now result (log self.old).files };
 
     /// The bytes of a file of blocks that is to be replaced; none where it doesn't exist.
     fn old_blocks(&mut self, blocks: &str) -> Result<Vec<u8>, u8>
-        ensures asked { Answers (step deed.Read (blocks.now ∷ [])) result (asked self.old) (asked self.new) }
-        ensures read { files self.new ≡ reading blocks.now result (files self.old) };
+        ensures asked { Answers (step deed.Read (blocks.now ∷ [])) result (log self.old).asked (log self.new).asked }
+        ensures read { (log self.new).files ≡ reading blocks.now result (log self.old).files };
 
     /// The bytes of a file that is to be replaced, where it exists.
     fn old_file(&mut self, name: &str) -> Result<Option<Vec<u8>>, u8>
-        ensures asked { Answers (step deed.Read (name.now ∷ [])) result (asked self.old) (asked self.new) }
-        ensures read { files self.new ≡ reading_old name.now result (files self.old) };
+        ensures asked { Answers (step deed.Read (name.now ∷ [])) result (log self.old).asked (log self.new).asked }
+        ensures read { (log self.new).files ≡ reading_old name.now result (log self.old).files };
 
     /// Whether it is known that no file of this name exists.
     fn is_absent(&self, name: &str) -> bool;
 
     /// Writes a file whole, or makes it; where that fails, it is as it was.
     fn write(&mut self, name: &str, bytes: &[u8]) -> Result<(), u8>
-        ensures asked { Answers (step deed.Write (name.now ∷ [])) result (asked self.old) (asked self.new) }
-        ensures written { files self.new ≡ writing name.now bytes.now result (files self.old) };
+        ensures asked { Answers (step deed.Write (name.now ∷ [])) result (log self.old).asked (log self.new).asked }
+        ensures written { (log self.new).files ≡ writing name.now bytes.now result (log self.old).files };
 
     /// Whether someone reads standard error at a terminal.
     fn is_watched(&self) -> bool;
@@ -183,8 +181,7 @@ impl<'a> SystemFiles<'a> {
 
     /// Nothing was asked yet.
     pub fn new(rt: &'a HostRuntime) -> SystemFiles<'a>
-        ensures asked { ⟦<SystemFiles<'a> as Files>⟧.asked result ≡ [] }
-        ensures files { ⟦<SystemFiles<'a> as Files>⟧.files result ≡ file_logs [] [] }
+        ensures { ⟦<SystemFiles<'a> as Files>⟧.log result ≡ system_log [] (file_logs [] []) }
     {
         SystemFiles {
             rt,
@@ -199,11 +196,16 @@ impl<'a> SystemFiles<'a> {
         ensures asked { self.new.asked.asked ≡ self.old.asked.asked ++ answered (step deed (map (λ name. name.now) names.now)) status ∷ [] }
         ensures rest { (self.new.read ≡ self.old.read) × (self.new.written ≡ self.old.written) × (self.new.rt ≡ self.old.rt) }
     {
-        self.asked = self.asked.then(&Asked { deed, names, status });
+        self.asked = self.asked.then(&Asked {
+            deed,
+            names,
+            status,
+        });
     }
 }
 
 impl<'a> Files for SystemFiles<'a> {
+    ghost use Rattle.named_files.specs.Done.{system_log};
     ghost use Rattle.named_files.specs.FileBytes.{file_logs};
 
     type Blocks = FileDevice;
@@ -212,9 +214,7 @@ impl<'a> Files for SystemFiles<'a> {
 
     type Trace = BufWriter<TraceFile>;
 
-    ghost asked = { λ s. s.asked.asked };
-
-    ghost files = { λ s. file_logs s.read.files s.written.files };
+    ghost log = { λ s. system_log s.asked.asked (file_logs s.read.files s.written.files) };
 
     fn alloc(&self) -> Global {
         self.rt.alloc()
@@ -381,9 +381,8 @@ impl<'a> Files for SystemFiles<'a> {
 
 /// Writes the file that a subcommand made, if it made one, and answers the status.
 pub fn write_made<F: Files>(files: &mut F, status: u8, file: Option<Vec<u8>>, name: &str) -> u8
-    ensures none { IsNone file → (result ≡ status) × (F.asked files.new ≡ F.asked files.old) × (F.files files.new ≡ F.files files.old) }
-    ensures made { IfSome file (λ made. IsWrittenOr name.now made.items status result
-        (F.asked files.old) (F.asked files.new) (F.files files.old) (F.files files.new)) }
+    ensures none { IsNone file → (result ≡ status) × (F.log files.new ≡ F.log files.old) }
+    ensures made { IfSome file (λ made. IsWrittenOr name.now made.items status result (F.log files.old) (F.log files.new)) }
 {
     let Some(file) = file else {
         return status;

@@ -3,17 +3,17 @@
 #![tactic(auto)]
 
 mod file_log;
-mod step_log;
 mod files;
 mod keeping;
 mod opening;
 mod places;
 mod refusals;
+mod step_log;
 mod streams;
 
 pub use file_log::{FileLog, NamedBytes};
-pub use step_log::Deed;
 pub use files::{Files, SystemFiles, write_made};
 pub use places::{blocks_of, read_screen, word_before, word_behind};
 pub use refusals::out_of_memory;
+pub use step_log::Deed;
 pub use streams::standard_output;

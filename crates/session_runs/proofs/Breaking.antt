@@ -1,5 +1,5 @@
 -- A run in slices and with breaks, by what its ends say.
-use Rattle.std.proofs.Common.{◌≡◌, ◌⊎◌, ℕ, ◌+◌, ◌-◌, ◌≤◌, List, [], ◌∷◌, Option, Some, None, Bool, true, false, inl, inr, refl, sym, ap, subst, ◌∙◌, arith}
+use Rattle.std.proofs.Common.{◌≡◌, ℕ, ◌+◌, ◌-◌, ◌≤◌, List, [], ◌∷◌, Option, Some, None, Bool, true, false, inl, inr, refl, sym, ap, subst, ◌∙◌, arith}
 use Rattle.block_buffers.specs.Disks.{Disk}
 use Rattle.machine.specs.State.{State}
 use Rattle.machine.specs.Tick.{Runs}
@@ -10,7 +10,7 @@ use Rattle.machine.specs.declared.act.Cause.{Cause}
 use Rattle.machine.specs.declared.act.Cause.TheVariants.{Bye, InputEnded, InputFault, Fault}
 use Rattle.inner_interpreter.specs.Runs.{World, rounds, stop_by, stops}
 use Rattle.inner_interpreter.specs.Slices.{with_left}
-use Rattle.session_runs.specs.Interrupted.{Interrupts, Break, broken, with_word, AreBroken, EndsBroken}
+use Rattle.session_runs.specs.Interrupted.{Interrupts, Break, broken, AreBroken, EndsBroken}
 use Rattle.inner_interpreter.specs.Worlds.{IsAt, Ends}
 use Rattle.inner_interpreter.proofs.Slicing.{more, slices_law, last_slice}
 use Rattle.inner_interpreter.proofs.Stretched.{rounds_add}

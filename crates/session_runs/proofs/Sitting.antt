@@ -1,14 +1,12 @@
 -- A session, by what its run and its end come to.
-use Rattle.std.proofs.Common.{◌≡◌, ◌⊎◌, ◌↔◌, ℕ, List, Option, Some, None, Bool, true, false, Result, Ok, Err, inl, inr, refl, sym, ap, subst, ◌∙◌}
+use Rattle.std.proofs.Common.{◌≡◌, ◌⊎◌, ◌↔◌, ℕ, List, Option, Some, None, Bool, true, false, Ok, inl, inr, refl, sym, ap, subst, ◌∙◌}
 use Rattle.std.specs.Prelude.{if◌then◌else◌}
 use Rattle.block_buffers.specs.DeviceCalls.{DeviceCall}
 use Rattle.image_loader.specs.Files.{Contents}
-use Rattle.inner_interpreter.specs.declared.stop.Stop.{Stop}
 use Rattle.inner_interpreter.specs.declared.stop.Stop.TheVariants.{InputFault, OutputFault}
 use Rattle.inner_interpreter.specs.Moves.{Logs, logs}
 use Rattle.inner_interpreter.specs.Runs.{stop_by}
 use Rattle.machine.specs.State.{State, start}
-use Rattle.memory.specs.declared.OutOfMemory.{OutOfMemory}
 use Rattle.session_runs.specs.declared.slices.Ending.{Ending}
 use Rattle.session_runs.specs.declared.slices.Ending.TheVariants as ending
 use Rattle.session_runs.specs.Interrupted.{HasWorked, IfStopped}

@@ -1,11 +1,11 @@
 -- Changed blocks, written one after another.
-use Rattle.std.proofs.Common.{◌≡◌, ℕ, List, [], ◌∷◌, ◌++◌, Option, Some, None, Bool, true, false, ◌&&◌, refl, sym, ap, subst, ◌∙◌, append-nil, append_assoc, take, length, ◌<◌, ◌≤◌, ◌+◌, slice_index_or, arith}
+use Rattle.std.proofs.Common.{◌≡◌, ℕ, List, [], ◌∷◌, ◌++◌, Bool, true, false, ◌&&◌, refl, sym, ap, subst, ◌∙◌, append-nil, append_assoc, take, length, ◌<◌, ◌≤◌, ◌+◌, slice_index_or}
 use Rattle.std.proofs.lemmas.List.{take_all, take_more}
 use Rattle.machine_parts.specs.Whole.{Whole}
 use Rattle.block_buffers.specs.Entries.{entry_at, unassigned_slot}
 use Rattle.block_buffers.specs.declared.entry.Entry.{Entry}
 use Rattle.block_buffers.specs.DeviceCalls.{DeviceCall}
-use Rattle.session_runs.specs.Saving.{Changed, changed, save_call, AreSaved, HasSavedOf, kept_blocks, kept_of, record_of}
+use Rattle.session_runs.specs.Saving.{Changed, changed, AreSaved, HasSavedOf, kept_blocks, kept_of, record_of}
 use Rattle.std.specs.Prelude.{codes, flat_map}
 
 and_assoc : (a b c : Bool) → (a && (b && c)) ≡ ((a && b) && c)

@@ -1,5 +1,5 @@
 -- Slices of a run, one after another.
-use Rattle.std.proofs.Common.{◌≡◌, ℕ, ◌+◌, ◌-◌, ◌≤◌, List, [], ◌∷◌, ◌++◌, length, Option, Some, Bool, true, inl, inr, refl, sym, subst, arith, append-nil, All}
+use Rattle.std.proofs.Common.{◌≡◌, ℕ, ◌+◌, ◌-◌, ◌≤◌, List, [], ◌∷◌, ◌++◌, Option, Some, Bool, true, inl, inr, refl, sym, subst, arith, append-nil}
 use Rattle.std.proofs.lemmas.List.{length-append}
 use Rattle.std.proofs.lemmas.List.Elements.{All-append, All-nil, All-cons}
 use Rattle.block_buffers.specs.DeviceCalls.{DeviceCall}
@@ -8,7 +8,6 @@ use Rattle.inner_interpreter.specs.declared.stop.Stop.TheVariants.{Limit}
 use Rattle.machine.specs.State.{State}
 use Rattle.inner_interpreter.specs.Moves.{Enter, Logs, logs, HasMoved, HasRun, is_sent}
 use Rattle.inner_interpreter.proofs.Moving.{appends_none, moved_none, moved_add, moved_one}
-use Rattle.session_runs.specs.declared.slices.Ending.{Ending}
 use Rattle.session_runs.specs.declared.slices.Ending.TheVariants as ending
 use Rattle.session_runs.specs.Interrupted.{Interrupts, HasWorkedOn, HasWorked}
 

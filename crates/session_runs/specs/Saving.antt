@@ -1,5 +1,5 @@
 -- The blocks that a session changed: written, or kept by its host.
-use Rattle.std.specs.Prelude.{◌≡◌, ℕ, List, [], ◌∷◌, ◌++◌, Option, Some, None, Bool, true, flat_map, codes, ◌&&◌, if◌then◌else◌}
+use Rattle.std.specs.Prelude.{◌≡◌, ℕ, List, [], ◌∷◌, ◌++◌, Some, None, Bool, true, flat_map, codes, ◌&&◌, if◌then◌else◌}
 use Rattle.memory.specs.Bytes.{cell_bytes, page}
 use Rattle.machine_parts.specs.Whole.{Whole}
 use Rattle.block_buffers.specs.declared.entry.Entry.{Entry}

@@ -1,9 +1,8 @@
 -- A session: an image that is run in slices, and what becomes of what it changed.
-use Rattle.std.specs.Prelude.{◌≡◌, ◌⊎◌, ℕ, List, [], ◌++◌, Option, Some, None, Bool, true, false, not, ◌&&◌, codes, if◌then◌else◌}
+use Rattle.std.specs.Prelude.{◌≡◌, ℕ, List, [], ◌++◌, Option, Some, None, Bool, true, false, not, ◌&&◌, codes, if◌then◌else◌}
 use Rattle.block_buffers.specs.DeviceCalls.{DeviceCall}
 use Rattle.dictionary.specs.Search.{Sought, Found, Nowhere, TooLong, by_address, sought}
 use Rattle.image_loader.specs.Files.{Contents}
-use Rattle.inner_interpreter.specs.declared.stop.Stop.{Stop}
 use Rattle.inner_interpreter.specs.declared.stop.Stop.TheVariants as stop
 use Rattle.inner_interpreter.specs.Moves.{Logs, logs}
 use Rattle.inner_interpreter.specs.Runs.{stop_by}

@@ -36,8 +36,8 @@ pub trait SessionFiles: Files {
     /// The host that looks for a file of this name, if there is one. If memory runs out, that is printed, and the status is the error.
     fn host(&mut self, break_file: Option<&str>) -> Result<Self::Host, u8>
         ensures same { OnOk result (self.new ≡ self.old) }
-        ensures files { Self.files self.new ≡ Self.files self.old }
-        ensures refused { IfErr result (λ status. Refused (step deed.Allocate []) status (Self.asked self.old) (Self.asked self.new)) }
+        ensures files { (Self.log self.new).files ≡ (Self.log self.old).files }
+        ensures refused { IfErr result (λ status. Refused (step deed.Allocate []) status (Self.log self.old).asked (Self.log self.new).asked) }
         ensures fresh { IfOk result (λ host. (Self.Host.interruptions host ≡ 0) × (Self.Host.ended host ≡ false) × (Self.Host.kept host ≡ [])) };
 }
 
@@ -66,11 +66,11 @@ pub fn run_image<F: SessionFiles, W: Output>(
     session: Session<'_>,
 ) -> Result<u8, u8>
     ensures ran { W.failed writer.old ≡ false → IfOk result (λ status. Runs image.now (given blocks.entry) (wanted_by limit session.entry) status (W.failed writer.new)
-        (done (F.asked files.old) (F.files files.old) (W.sent writer.old)) (done (F.asked files.new) (F.files files.new) (W.sent writer.new))) }
+        (done (F.log files.old) (W.sent writer.old)) (done (F.log files.new) (W.sent writer.new))) }
     ensures cut { W.failed writer.old ≡ false → W.failed writer.new ≡ true → (status_of result ≡ 5) ⊎ (status_of result ≡ 1) }
     ensures passed { IfOk result (λ _. W.failed writer.new ≡ false → W.passed writer.new ≡ true) }
     ensures refused { IfErr result (λ status. RefusesRun image.now (given blocks.entry) status
-        (done (F.asked files.old) (F.files files.old) (W.sent writer.old)) (done (F.asked files.new) (F.files files.new) (W.sent writer.new))) }
+        (done (F.log files.old) (W.sent writer.old)) (done (F.log files.new) (W.sent writer.new))) }
 {
     let bytes = files.image_bytes(image)?;
     let mut device = files.run_blocks(blocks)?;

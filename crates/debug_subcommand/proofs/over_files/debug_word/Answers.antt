@@ -1,4 +1,4 @@
-use Rattle.std.proofs.Common.{rules, ◌≡◌, ◌<◌, ◌++◌, ◌∷◌, [], Some}
+use Rattle.std.proofs.Common.{rules, Some}
 use Rattle.named_files.proofs.Making.{of_err, refused, refuses, stopped, taken, takes, then}
 use Rattle.debug_subcommand.proofs.Over.{over}
 use Rattle.debug_subcommand.proofs.over_files.debug_word.Goals as goal
@@ -7,43 +7,43 @@ pub returns-in_err-keep_apart-clause-refused : goal.returns-in_err-keep_apart-cl
 returns-in_err-keep_apart-clause-refused g c =
     let lt = c.in_err-keep_apart.ensures.asked.0 in
     of_err c.from_residual.result _ _ c.from_residual.ensures.1
-    (refuses _ _ _ _ _ _ _ lt (refused _ _ _ _ _ c.in_err-keep_apart.ensures.asked) (search rules))
+    (refuses _ _ _ _ _ lt (refused _ _ _ _ _ c.in_err-keep_apart.ensures.asked) (search rules))
 
 pub returns-in_err-keep_blocks_apart-clause-refused : goal.returns-in_err-keep_blocks_apart-clause-refused
 returns-in_err-keep_blocks_apart-clause-refused g c =
     let lt = c.in_err-keep_blocks_apart.ensures.asked.0 in
     of_err c.from_residual-in_err-keep_blocks_apart.result _ _ c.from_residual-in_err-keep_blocks_apart.ensures.1
-    (refuses _ _ _ _ _ _ _ lt (takes _ _ _ _ _ _ c.in_ok-keep_apart.ensures.asked (stopped _ _ _ _ _ lt c.in_err-keep_blocks_apart.ensures.asked.1)) (search rules))
+    (refuses _ _ _ _ _ lt (takes _ _ _ _ _ _ c.in_ok-keep_apart.ensures.asked (stopped _ _ _ _ _ lt c.in_err-keep_blocks_apart.ensures.asked.1)) (search rules))
 
 pub returns-in_err-keep_trace-clause-refused : goal.returns-in_err-keep_trace-clause-refused
 returns-in_err-keep_trace-clause-refused g c =
     let lt = c.in_err-keep_trace.ensures.asked.0 in
     of_err c.from_residual-in_err-keep_trace.result _ _ c.from_residual-in_err-keep_trace.ensures.1
-    (refuses _ _ _ _ _ _ _ lt (takes _ _ _ _ _ _ c.in_ok-keep_apart.ensures.asked (then _ _ _ _ _ _ c.in_ok-keep_blocks_apart.ensures.asked (refused _ _ _ _ _ c.in_err-keep_trace.ensures.asked))) (search rules))
+    (refuses _ _ _ _ _ lt (takes _ _ _ _ _ _ c.in_ok-keep_apart.ensures.asked (then _ _ _ _ _ _ c.in_ok-keep_blocks_apart.ensures.asked (refused _ _ _ _ _ c.in_err-keep_trace.ensures.asked))) (search rules))
 
 pub returns-in_err-bytes-clause-refused : goal.returns-in_err-bytes-clause-refused
 returns-in_err-bytes-clause-refused g c =
     let lt = c.in_err-bytes.ensures.asked.0 in
     of_err c.from_residual-in_err-bytes.result _ _ c.from_residual-in_err-bytes.ensures.1
-    (refuses _ _ _ _ _ _ _ lt (takes _ _ _ _ _ _ c.in_ok-keep_apart.ensures.asked (then _ _ _ _ _ _ c.in_ok-keep_blocks_apart.ensures.asked (takes _ _ _ _ _ _ c.in_ok-keep_trace.ensures.asked (refused _ _ _ _ _ c.in_err-bytes.ensures.asked)))) (search rules))
+    (refuses _ _ _ _ _ lt (takes _ _ _ _ _ _ c.in_ok-keep_apart.ensures.asked (then _ _ _ _ _ _ c.in_ok-keep_blocks_apart.ensures.asked (takes _ _ _ _ _ _ c.in_ok-keep_trace.ensures.asked (refused _ _ _ _ _ c.in_err-bytes.ensures.asked)))) (search rules))
 
 pub returns-in_err-device-clause-refused : goal.returns-in_err-device-clause-refused
 returns-in_err-device-clause-refused g c =
     let lt = c.in_err-device.ensures.asked.0 in
     of_err c.from_residual-in_err-device.result _ _ c.from_residual-in_err-device.ensures.1
-    (refuses _ _ _ _ _ _ _ lt (takes _ _ _ _ _ _ c.in_ok-keep_apart.ensures.asked (then _ _ _ _ _ _ c.in_ok-keep_blocks_apart.ensures.asked (takes _ _ _ _ _ _ c.in_ok-keep_trace.ensures.asked (takes _ _ _ _ _ _ c.in_ok-bytes.ensures.asked (stopped _ _ _ _ _ lt c.in_err-device.ensures.asked.1))))) (search rules))
+    (refuses _ _ _ _ _ lt (takes _ _ _ _ _ _ c.in_ok-keep_apart.ensures.asked (then _ _ _ _ _ _ c.in_ok-keep_blocks_apart.ensures.asked (takes _ _ _ _ _ _ c.in_ok-keep_trace.ensures.asked (takes _ _ _ _ _ _ c.in_ok-bytes.ensures.asked (stopped _ _ _ _ _ lt c.in_err-device.ensures.asked.1))))) (search rules))
 
 pub returns-in_err-trace-clause-refused : goal.returns-in_err-trace-clause-refused
 returns-in_err-trace-clause-refused g c =
     let lt = c.in_err-trace.ensures.asked.0 in
     of_err c.from_residual-in_err-trace.result _ _ c.from_residual-in_err-trace.ensures.1
-    (refuses _ _ _ _ _ _ _ lt (takes _ _ _ _ _ _ c.in_ok-keep_apart.ensures.asked (then _ _ _ _ _ _ c.in_ok-keep_blocks_apart.ensures.asked (takes _ _ _ _ _ _ c.in_ok-keep_trace.ensures.asked (takes _ _ _ _ _ _ c.in_ok-bytes.ensures.asked (then _ _ _ _ _ _ c.in_ok-device.ensures.asked (refused _ _ _ _ _ c.in_err-trace.ensures.asked)))))) (search rules))
+    (refuses _ _ _ _ _ lt (takes _ _ _ _ _ _ c.in_ok-keep_apart.ensures.asked (then _ _ _ _ _ _ c.in_ok-keep_blocks_apart.ensures.asked (takes _ _ _ _ _ _ c.in_ok-keep_trace.ensures.asked (takes _ _ _ _ _ _ c.in_ok-bytes.ensures.asked (then _ _ _ _ _ _ c.in_ok-device.ensures.asked (refused _ _ _ _ _ c.in_err-trace.ensures.asked)))))) (search rules))
 
 pub returns-in_err-input-clause-refused : goal.returns-in_err-input-clause-refused
 returns-in_err-input-clause-refused g c =
     let lt = c.in_err-input.ensures.asked.0 in
     of_err c.from_residual-in_err-input.result _ _ c.from_residual-in_err-input.ensures.1
-    (refuses _ _ _ _ _ _ _ lt (takes _ _ _ _ _ _ c.in_ok-keep_apart.ensures.asked (then _ _ _ _ _ _ c.in_ok-keep_blocks_apart.ensures.asked (takes _ _ _ _ _ _ c.in_ok-keep_trace.ensures.asked (takes _ _ _ _ _ _ c.in_ok-bytes.ensures.asked (then _ _ _ _ _ _ c.in_ok-device.ensures.asked (takes _ _ _ _ _ _ c.in_ok-trace.ensures.asked (refused _ _ _ _ _ c.in_err-input.ensures.asked))))))) (search rules))
+    (refuses _ _ _ _ _ lt (takes _ _ _ _ _ _ c.in_ok-keep_apart.ensures.asked (then _ _ _ _ _ _ c.in_ok-keep_blocks_apart.ensures.asked (takes _ _ _ _ _ _ c.in_ok-keep_trace.ensures.asked (takes _ _ _ _ _ _ c.in_ok-bytes.ensures.asked (then _ _ _ _ _ _ c.in_ok-device.ensures.asked (takes _ _ _ _ _ _ c.in_ok-trace.ensures.asked (refused _ _ _ _ _ c.in_err-input.ensures.asked))))))) (search rules))
 
 pub returns-clause-debugged : goal.returns-clause-debugged
 returns-clause-debugged g c = record {

@@ -1,4 +1,4 @@
-use Rattle.std.proofs.Common.{◌≡◌, ◌<◌, ◌++◌, ◌∷◌, ◌⊎◌, [], Some, map, ℕ, ◌+◌, ◌-◌, ◌*◌, ◌≤◌, length}
+use Rattle.std.proofs.Common.{◌≡◌, map}
 use Rattle.std.specs.Str.Parse.{digits_value, without_leading_plus}
 use Rattle.file_subcommands.proofs.disks.numbers_of.Given as goal
 

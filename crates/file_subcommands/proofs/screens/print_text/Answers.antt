@@ -1,16 +1,16 @@
-use Rattle.std.proofs.Common.{ap, rules, ◌≡◌, ◌<◌, ◌∙◌, [], ◌∷◌, inl, inr, subst}
-use Rattle.named_files.proofs.Making.{a_file, any, beside, both, made, no_file, of_err, read_so, refused, refuses, taken, takes}
+use Rattle.std.proofs.Common.{rules}
+use Rattle.named_files.proofs.Making.{of_err, refused, refuses, taken, takes}
 use Rattle.file_subcommands.proofs.screens.print_text.Goals as goal
 
 pub returns-in_err-keep_blocks-clause-refused : goal.returns-in_err-keep_blocks-clause-refused
 returns-in_err-keep_blocks-clause-refused g c =
     of_err c.from_residual.result _ _ c.from_residual.ensures.1
-    (refuses _ _ _ _ _ _ _ c.in_err-keep_blocks.ensures.asked.0 (refused _ _ _ _ _ c.in_err-keep_blocks.ensures.asked) (search rules))
+    (refuses _ _ _ _ _ c.in_err-keep_blocks.ensures.asked.0 (refused _ _ _ _ _ c.in_err-keep_blocks.ensures.asked) (search rules))
 
 pub returns-in_err-device-clause-refused : goal.returns-in_err-device-clause-refused
 returns-in_err-device-clause-refused g c =
     of_err c.from_residual-in_err-device.result _ _ c.from_residual-in_err-device.ensures.1
-    (refuses _ _ _ _ _ _ _ c.in_err-device.ensures.asked.0 (takes _ _ _ _ _ _ c.in_ok-keep_blocks.ensures.asked (refused _ _ _ _ _ c.in_err-device.ensures.asked)) (search rules))
+    (refuses _ _ _ _ _ c.in_err-device.ensures.asked.0 (takes _ _ _ _ _ _ c.in_ok-keep_blocks.ensures.asked (refused _ _ _ _ _ c.in_err-device.ensures.asked)) (search rules))
 
 pub returns-clause-printed : goal.returns-clause-printed
 returns-clause-printed g c = record {

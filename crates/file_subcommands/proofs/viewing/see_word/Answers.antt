@@ -1,11 +1,11 @@
-use Rattle.std.proofs.Common.{ap, rules, ◌≡◌, ◌<◌, ◌∙◌, [], ◌∷◌, inl, inr, subst}
-use Rattle.named_files.proofs.Making.{a_file, any, beside, both, made, no_file, of_err, read_so, refused, refuses, taken, takes}
+use Rattle.std.proofs.Common.{rules}
+use Rattle.named_files.proofs.Making.{of_err, refused, refuses, taken}
 use Rattle.file_subcommands.proofs.viewing.see_word.Goals as goal
 
 pub returns-in_err-bytes-clause-refused : goal.returns-in_err-bytes-clause-refused
 returns-in_err-bytes-clause-refused g c =
     of_err c.from_residual.result _ _ c.from_residual.ensures.1
-    (refuses _ _ _ _ _ _ _ c.in_err-bytes.ensures.asked.0 (refused _ _ _ _ _ c.in_err-bytes.ensures.asked) (search rules))
+    (refuses _ _ _ _ _ c.in_err-bytes.ensures.asked.0 (refused _ _ _ _ _ c.in_err-bytes.ensures.asked) (search rules))
 
 pub returns-clause-seen : goal.returns-clause-seen
 returns-clause-seen g c = record {

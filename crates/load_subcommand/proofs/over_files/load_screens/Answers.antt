@@ -1,32 +1,32 @@
-use Rattle.std.proofs.Common.{rules, ◌≡◌, ◌<◌, ◌∙◌, ◌∷◌, []}
+use Rattle.std.proofs.Common.{rules, ◌∙◌}
 use Rattle.named_files.proofs.Making.{both, is_itself, made, of_err, read_so, refused, refuses, takes}
 use Rattle.load_subcommand.proofs.over_files.load_screens.Goals as goal
 
 pub returns-in_err-keep_apart-clause-refused : goal.returns-in_err-keep_apart-clause-refused
 returns-in_err-keep_apart-clause-refused g c =
     of_err c.from_residual.result _ _ c.from_residual.ensures.1
-    (refuses _ _ _ _ _ _ _ c.in_err-keep_apart.ensures.asked.0 (refused _ _ _ _ _ c.in_err-keep_apart.ensures.asked) (search rules))
+    (refuses _ _ _ _ _ c.in_err-keep_apart.ensures.asked.0 (refused _ _ _ _ _ c.in_err-keep_apart.ensures.asked) (search rules))
 
 pub returns-in_err-keep_image-clause-refused : goal.returns-in_err-keep_image-clause-refused
 returns-in_err-keep_image-clause-refused g c =
     of_err c.from_residual-in_err-keep_image.result _ _ c.from_residual-in_err-keep_image.ensures.1
-    (refuses _ _ _ _ _ _ _ c.in_err-keep_image.ensures.asked.0 (takes _ _ _ _ _ _ c.in_ok-keep_apart.ensures.asked (refused _ _ _ _ _ c.in_err-keep_image.ensures.asked)) (search rules))
+    (refuses _ _ _ _ _ c.in_err-keep_image.ensures.asked.0 (takes _ _ _ _ _ _ c.in_ok-keep_apart.ensures.asked (refused _ _ _ _ _ c.in_err-keep_image.ensures.asked)) (search rules))
 
 pub returns-in_err-bytes-clause-refused : goal.returns-in_err-bytes-clause-refused
 returns-in_err-bytes-clause-refused g c =
     of_err c.from_residual-in_err-bytes.result _ _ c.from_residual-in_err-bytes.ensures.1
-    (refuses _ _ _ _ _ _ _ c.in_err-bytes.ensures.asked.0 (takes _ _ _ _ _ _ c.in_ok-keep_apart.ensures.asked (takes _ _ _ _ _ _ c.in_ok-keep_image.ensures.asked (refused _ _ _ _ _ c.in_err-bytes.ensures.asked))) (search rules))
+    (refuses _ _ _ _ _ c.in_err-bytes.ensures.asked.0 (takes _ _ _ _ _ _ c.in_ok-keep_apart.ensures.asked (takes _ _ _ _ _ _ c.in_ok-keep_image.ensures.asked (refused _ _ _ _ _ c.in_err-bytes.ensures.asked))) (search rules))
 
 pub returns-in_err-device-clause-refused : goal.returns-in_err-device-clause-refused
 returns-in_err-device-clause-refused g c =
     of_err c.from_residual-in_err-device.result _ _ c.from_residual-in_err-device.ensures.1
-    (refuses _ _ _ _ _ _ _ c.in_err-device.ensures.asked.0
+    (refuses _ _ _ _ _ c.in_err-device.ensures.asked.0
     (takes _ _ _ _ _ _ c.in_ok-keep_apart.ensures.asked (takes _ _ _ _ _ _ c.in_ok-keep_image.ensures.asked (takes _ _ _ _ _ _ c.in_ok-bytes.ensures.asked c.in_err-device.ensures.asked.1))) (search rules))
 
 pub returns-clause-loaded : goal.returns-clause-loaded
 returns-clause-loaded g c = record {
   bytes = c.as_slice-bytes.result.now;
-  reads = read_so _ _ _ _ _ _ _ _ c.write_made.ensures.none c.write_made.ensures.made ∙ search rules;
+  reads = read_so _ _ _ _ _ _ c.write_made.ensures.none c.write_made.ensures.made ∙ search rules;
   count = g.F.Blocks.Device.block_count c.if-is_watched.device;
   before = g.F.Blocks.Device.calls c.if-is_watched.device;
   tried = search rules;
@@ -34,7 +34,7 @@ returns-clause-loaded g c = record {
   ended = c.do_load-status.result;
   moved = c.do_load-status.ensures.moved;
   refused = c.do_load-status.ensures.refused;
-  makes = made _ _ c.do_load-status.result.file _ _ _ _ _ _ _ _ _ _ _
+  makes = made _ _ c.do_load-status.result.file _ _ _ _ _ _ _ _
       (takes _ _ _ _ _ _ c.in_ok-keep_apart.ensures.asked (takes _ _ _ _ _ _ c.in_ok-keep_image.ensures.asked (takes _ _ _ _ _ _ c.in_ok-bytes.ensures.asked c.in_ok-device.ensures.asked)))
       (search rules) (both _ _ _ c.do_load-status.ensures.status (is_itself c.do_load-status.result.file))
       c.write_made.ensures.none c.write_made.ensures.made;

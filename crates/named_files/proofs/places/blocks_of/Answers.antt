@@ -1,5 +1,5 @@
-use Rattle.std.proofs.Common.{◌∙◌, arith, refl}
-use Rattle.named_files.proofs.Copying.{all_blocks, keeps_all, keeps_more, no_block, no_reads, one_block, reads_more}
+use Rattle.std.proofs.Common.{◌∙◌, refl}
+use Rattle.named_files.proofs.Copying.{keeps_all, keeps_more, no_block, no_reads, one_block, reads_more}
 use Rattle.named_files.proofs.places.blocks_of.Goals as goal
 
 pub loop-number-init : goal.loop-number-init

@@ -1,4 +1,4 @@
-use Rattle.std.proofs.Common.{◌≡◌, ◌≤◌}
+use Rattle.std.proofs.Common.{◌≡◌}
 use Rattle.block_buffers.specs.Calls.{KeepsBlocks}
 use Rattle.block_buffers.specs.ReadPages.{AreReadFrom}
 use Rattle.named_files.specs.Trying.{OnlyReads}

@@ -1,34 +1,31 @@
-use Rattle.std.proofs.Common.{rules, ◌≡◌, ◌<◌, ◌++◌, ◌∷◌, []}
+use Rattle.std.proofs.Common.{rules}
 use Rattle.named_files.proofs.Making.{of_err, refused, refuses, stopped, taken, takes, then}
-use Rattle.inner_interpreter.specs.Moves.{logs}
-use Rattle.session_runs.specs.Files.{IsWanting, Runs}
-use Rattle.session_runs.specs.Sitting.{HasSession, host_log}
+use Rattle.session_runs.specs.Sitting.{host_log}
 use Rattle.session_runs.proofs.Over.{over}
-use Rattle.subcommands.specs.Lines.{OfImageFile}
 use Rattle.session_runs.proofs.runs.run_image.Goals as goal
 
 pub returns-in_err-bytes-clause-refused : goal.returns-in_err-bytes-clause-refused
 returns-in_err-bytes-clause-refused g c =
     of_err c.from_residual.result _ _ c.from_residual.ensures.1
-    (refuses _ _ _ _ _ _ _ c.in_err-bytes.ensures.asked.0 (refused _ _ _ _ _ c.in_err-bytes.ensures.asked) (search rules))
+    (refuses _ _ _ _ _ c.in_err-bytes.ensures.asked.0 (refused _ _ _ _ _ c.in_err-bytes.ensures.asked) (search rules))
 
 pub returns-in_err-device-clause-refused : goal.returns-in_err-device-clause-refused
 returns-in_err-device-clause-refused g c =
     of_err c.from_residual-in_err-device.result _ _ c.from_residual-in_err-device.ensures.1
-    (refuses _ _ _ _ _ _ _ c.in_err-device.ensures.asked.0
+    (refuses _ _ _ _ _ c.in_err-device.ensures.asked.0
     (takes _ _ _ _ _ _ c.in_ok-bytes.ensures.asked (stopped _ _ _ _ _ c.in_err-device.ensures.asked.0 (stopped _ _ _ _ _ c.in_err-device.ensures.asked.0 c.in_err-device.ensures.asked.1))) (search rules))
 
 pub returns-in_err-input-clause-refused : goal.returns-in_err-input-clause-refused
 returns-in_err-input-clause-refused g c =
     of_err c.from_residual-in_err-input.result _ _ c.from_residual-in_err-input.ensures.1
-    (refuses _ _ _ _ _ _ _ c.in_err-input.ensures.asked.0
+    (refuses _ _ _ _ _ c.in_err-input.ensures.asked.0
     (takes _ _ _ _ _ _ c.in_ok-bytes.ensures.asked (stopped _ _ _ _ _ c.in_err-input.ensures.asked.0
     (then _ _ _ _ _ _ c.in_ok-device.ensures.asked (refused _ _ _ _ _ c.in_err-input.ensures.asked)))) (search rules))
 
 pub returns-in_err-host-clause-refused : goal.returns-in_err-host-clause-refused
 returns-in_err-host-clause-refused g c =
     of_err c.from_residual-in_err-host.result _ _ c.from_residual-in_err-host.ensures.1
-    (refuses _ _ _ _ _ _ _ c.in_err-host.ensures.refused.0
+    (refuses _ _ _ _ _ c.in_err-host.ensures.refused.0
     (takes _ _ _ _ _ _ c.in_ok-bytes.ensures.asked (then _ _ _ _ _ _ (then _ _ _ _ _ _ c.in_ok-device.ensures.asked (taken _ _ _ c.in_ok-input.ensures.asked))
     (refused _ _ _ _ _ c.in_err-host.ensures.refused))) (search rules))
 

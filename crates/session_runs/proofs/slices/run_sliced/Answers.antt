@@ -1,4 +1,4 @@
-use Rattle.std.proofs.Common.{rules, arith, sym, ◌∙◌, ◌≡◌, ◌≤◌, ◌+◌, ◌-◌, false, refl, ap}
+use Rattle.std.proofs.Common.{rules, arith, ◌∙◌, ◌≡◌, ◌≤◌, ◌+◌, ◌-◌, refl}
 use Rattle.inner_interpreter.specs.declared.stop.Stop.TheVariants.{Limit, InputFault, OutputFault}
 use Rattle.session_runs.specs.Wishes.{count_of}
 use Rattle.session_runs.proofs.Breaking.{broken_none, broken_on, broken_last, broken_between, at_slice, goes_on, not_failed, still_due}
