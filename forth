@@ -1,11 +1,11 @@
 #!/usr/bin/env bash
-# The Forth over a file of blocks; `./forth --help` says how. It runs the Forth with the workbench's tools, at a terminal or in a pipe,
+# The Forth over a file of blocks; `./forth --help` says how. It runs the Forth with its tools, at a terminal or in a pipe,
 # and makes images of programs. If the program is not proved yet, it runs the same program without its proofs, and starts the proof in
 # the background.
 set -uo pipefail
 here=$(cd "$(dirname "$(readlink -f "${BASH_SOURCE[0]}")")" && pwd)
 forth83=$here/crates/forth83/out/forth83
-kept=$here/workbench/out
+kept=$here/build/out
 names=(plain tools piped quiet debug)
 building=
 feeder=
@@ -45,6 +45,8 @@ usage: ./forth [TEXT..] [BLOCKS]             loads each TEXT, a file of Forth su
        ./forth film NAME [LINE]              makes a page that shows each step of the word NAME; film --help says more
        ./forth map IMAGE [OTHER]             makes a map of an image's memory
        ./forth print [BLOCKS] [FROM TO]      makes pages of screens, to print them
+       ./forth blocks TEXT.. BLOCKS          makes the file BLOCKS of 64 screens, with those of the texts; blocks --help says more
+       ./forth capitals TEXT                 prints a text of screens with its words in capitals; capitals --help says more
        ./forth survey BLOCKS [FROM TO]       reports what old screens are, which dialect fits, and which words are unknown
        ./forth import CONTAINER BLOCKS [..]  makes a file of blocks from an old disk, file or text; import --help says more
        ./forth export BLOCKS CONTAINER [..]  writes the screens back into it
@@ -72,7 +74,7 @@ need_python() {
 
 # The version of the program that would run now; one that isn't made yet has that of its sources.
 show_version() {
-  if "$here/workbench/is-proved"; then
+  if "$here/build/is-proved"; then
     # A release without proofs, for trials, is installed as a proved one is, and its program says what it is.
     "$forth83" --version | sed '/unproved$/!s/$/, proved/'
   elif [ -x "$kept/unproved" ]; then
@@ -87,7 +89,7 @@ are_kept() {
   local name from
   for name in "${names[@]}"; do
     [ -f "$kept/$name.img" ] || return 1
-    for from in "$forth83" "$here"/workbench/{make,*.txt,overlays/*.txt} "$here"/dialects/{fig,f79,f83,poly}.txt; do
+    for from in "$forth83" "$here"/build/images "$here"/screens/{tools/*.txt,tools/overlays/*.txt,dialects/{fig,f79,f83,poly}.txt}; do
       if [ "$from" -nt "$kept/$name.img" ]; then
         return 1
       fi
@@ -121,8 +123,8 @@ make_images() {
     esac
     return 1
   }
-  said=$("$here/workbench/make" --doors "$forth83" "$1" "$2"/{tools,piped,quiet,debug}.new 9>&- 2>&1) || {
-    say "the workbench's tools cannot be built on the kernel in screens 1 to 20 of $1:"
+  said=$("$here/build/images" --doors "$forth83" "$1" "$2"/{tools,piped,quiet,debug}.new 9>&- 2>&1) || {
+    say "the tools cannot be built on the kernel in screens 1 to 20 of $1:"
     echo "$said" >&2
     return 1
   }
@@ -147,12 +149,12 @@ find_unproved() {
   unproved=1
   forth83=$kept/unproved
   if ! { mkdir -p "$kept" 2> /dev/null && [ -w "$kept" ]; } &&
-    [ "$(cat "$forth83.sum" 2> /dev/null)" != "$("$here/workbench/sources" sum)" ]; then
+    [ "$(cat "$forth83.sum" 2> /dev/null)" != "$("$here/build/sources" sum)" ]; then
     forth83=$room/unproved
   fi
   # In a process group of its own, which is ended whole where this start is.
   set -m
-  "$here/workbench/unproved" "$forth83" < /dev/null 2> "$room/said" &
+  "$here/build/unproved" "$forth83" < /dev/null 2> "$room/said" &
   building=$!
   set +m
   # It makes a folder, of which it keeps the name, when it begins to build. Before that it compares the sums of the sources, which takes
@@ -161,7 +163,7 @@ find_unproved() {
     sleep 0.1
   done
   if kill -0 "$building" 2> /dev/null; then
-    say "building the program without its proofs, which takes $(awk '$1 == "unproved" { printf("%d minute%s on %d processors", $3, ($3 > 1 ? "s" : ""), $2); exit }' "$here/workbench/times")"
+    say "building the program without its proofs, which takes $(awk '$1 == "unproved" { printf("%d minute%s on %d processors", $3, ($3 > 1 ? "s" : ""), $2); exit }' "$here/build/times")"
     show_seconds "$building"
   fi
   wait "$building" || { cat "$room/said" >&2; exit 1; }
@@ -173,7 +175,7 @@ find_unproved() {
 begin_proof() {
   if ! command -v python3 > /dev/null; then
     say "this program is not proved; its proof needs python3, which is not installed."
-  elif "$here/workbench/prove" --meanwhile < /dev/null > /dev/null 2> "$room/said"; then
+  elif "$here/build/prove" --meanwhile < /dev/null > /dev/null 2> "$room/said"; then
     : > "$kept/awaited"
     say "this program is not proved yet. Its proof runs in the background; ./forth --status shows how far it is."
   else
@@ -187,7 +189,7 @@ find_program() {
   if [ "$wanted" = unproved ]; then
     find_unproved
     say "UNPROVED: nothing is proved about this program; ./forth --proved proves and builds it first."
-  elif "$here/workbench/is-proved" || { [ "$wanted" = proved ] && "$here/workbench/prove" < /dev/null; }; then
+  elif "$here/build/is-proved" || { [ "$wanted" = proved ] && "$here/build/prove" < /dev/null; }; then
     if [ -e "$kept/awaited" ] && rm -f -- "$kept/awaited" 2> /dev/null; then
       say "this program is proved now; ./forth --status says more."
     fi
@@ -318,7 +320,7 @@ leave() {
   rm -rf "$room"
 }
 
-# hand_over: what workbench/session needs, each with a 0 byte after it; the room is the session's from here on.
+# hand_over: what commands/session needs, each with a 0 byte after it; the room is the session's from here on.
 hand_over() {
   trap '' HUP INT TERM
   printf '%s\0' "$forth83" "$images/tools.img" "$blocks" "$room" \
@@ -327,7 +329,7 @@ hand_over() {
     trap - EXIT
 }
 
-# Becomes the session at the terminal: workbench/session owns the terminal from here on. It starts while all is prepared.
+# Becomes the session at the terminal: commands/session owns the terminal from here on. It starts while all is prepared.
 # The system's own Python is taken first: what PATH has may be a script that looks for another one, which takes longer.
 run_at_terminal() {
   local python=/usr/bin/python3
@@ -335,7 +337,7 @@ run_at_terminal() {
   exec 8< <(prepare && hand_over)
   # From here on ^C ends what prepares the session, and the session with it; Python itself would show where it was interrupted.
   trap '' INT
-  exec "$python" -I -S -B "$here/workbench/session" 8 $!
+  exec "$python" -I -S -B "$here/commands/session" 8 $!
 }
 
 # Passes standard input on to descriptor 8, with a return after a last line that has none: lines of a pipe come by KEY.
@@ -453,7 +455,7 @@ make_course() {
   find_program
   local said
   said=$("$forth83" new "$room/course.blk" 64 2>&1) || refuse "cannot make $blocks: $said"
-  said=$("$forth83" screens "$here/teaching/course.txt" "$room/course.blk" 2>&1) || refuse "cannot make $blocks: $said"
+  said=$("$forth83" screens "$here/screens/course/course.txt" "$room/course.blk" 2>&1) || refuse "cannot make $blocks: $said"
   said=$(cp -- "$room/course.blk" "$blocks" 2>&1) || refuse "cannot make $blocks: $said"
   leave
   trap - EXIT
@@ -471,12 +473,13 @@ show_lesson() {
 
 sources=
 case ${1:-} in
-  --on) exec "$here/workbench/on" "${@:2}" ;;
-  film | map | print | class | survey | import | export)
+  --on) exec "$here/commands/on" "${@:2}" ;;
+  blocks) exec "$here/commands/blocks" "${@:2}" ;;
+  film | map | print | class | survey | capitals | import | export)
     need_python "$1"
     case $1 in
-      survey) exec python3 -B "$here/dialects/survey" "${@:2}" ;;
-      import | export) exec python3 -B "$here/dialects/bring" "$@" ;;
+      survey | capitals) exec python3 -B "$here/commands/$1" "${@:2}" ;;
+      import | export) exec python3 -B "$here/commands/bring" "$@" ;;
     esac
     exec python3 -B "$here/teaching/$1" "${@:2}"
     ;;
@@ -503,7 +506,7 @@ case ${1:-} in
         ;;
       --text)
         [ $# -eq 2 ] || misused 'course --text takes nothing more'
-        exec cat -- "$here/teaching/course.txt"
+        exec cat -- "$here/screens/course/course.txt"
         ;;
       --sheets)
         need_python 'course --sheets'
@@ -515,7 +518,7 @@ case ${1:-} in
     [ $# -le 2 ] || misused 'course takes no more than the name of its file of blocks'
     blocks=${2:-course.blk}
     [ -e "$blocks" ] || make_course
-    exec "$here/forth" "$here/teaching/course.fs" "$blocks"
+    exec "$here/forth" "$here/screens/course/course.fs" "$blocks"
     ;;
   where)
     case ${2:-} in
@@ -525,7 +528,7 @@ case ${1:-} in
     { [ $# -eq 2 ] || [ $# -eq 3 ]; } || misused 'where needs an IMAGE, and BLOCKS if the image uses a file of blocks'
     make_room
     find_program
-    "$here/workbench/where" "$forth83" "${@:2}"
+    "$here/commands/where" "$forth83" "${@:2}"
     exit
     ;;
 esac
@@ -537,7 +540,7 @@ while [ $# -gt 0 ]; do
     --status)
       [ $# -eq 1 ] || misused '--status takes no other option and no file'
       need_python --status
-      exec "$here/workbench/prove" --status
+      exec "$here/build/prove" --status
       ;;
     --proved | --unproved) wanted=${1#--}; shift ;;
     --quiet | --kernel)

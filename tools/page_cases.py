@@ -65,7 +65,7 @@ def check_contents(cases: Cases) -> None:
     block = "% AT".ljust(64) + " " * 64 + "B".ljust(896)
     cases.must(contents.disk_of_blocks((" " * 1024 + block).encode()) == {"count": 2, "text": "% screen 1\n%% AT\n\nB\n"}, "a disk of text")
     cases.must(contents.disk_of_blocks(bytes(1024)) == {"bytes": "A" * 1366 + "=="}, "a disk of zeros")
-    whole = contents.lessons(contents.text_of("docs/COURSE.md"), contents.hints(contents.text_of("teaching/hints.txt")))
+    whole = contents.lessons(contents.text_of("docs/COURSE.md"), contents.hints(contents.text_of("screens/course/hints.txt")))
     cases.must(sum("<summary>Hints" in lesson["html"] for lesson in whole) >= 14, "the course has fewer than fourteen lessons with hints")
 
 

@@ -454,7 +454,7 @@ def film(trial: Trial) -> None:
 def class_list(trial: Trial) -> None:
     """A class list: the course's solutions are right, and files with trouble are what they are."""
     root = pathlib.Path(__file__).resolve().parent.parent
-    solved = json.dumps((root / "teaching/solutions.txt").read_text(encoding="ascii"))
+    solved = json.dumps((root / "screens/course/solutions.txt").read_text(encoding="ascii"))
     course = "page.files.builtIn('course.blk')"
     trial.value(f"window.solved = {course}; for (const one of screensOf({solved}).screens) solved.put(one.block, one.page); "
                 f"window.looping = {course}; looping.put(21, pageOf([': L BEGIN AGAIN ; L']).page); looping.put(22, pageOf(['KEY']).page); "
