@@ -466,7 +466,7 @@ show_lesson() {
   local shown
   shown=$(awk -v heads="|% lesson $2|% screen $((20 + 10#0${2//[!0-9]/}))|" '
     /^% / { is_shown = index(heads, "|" $0 "|"); next }
-    is_shown' "$here/teaching/$1.txt")
+    is_shown' "$here/screens/course/$1.txt")
   [[ $2 =~ ^[0-9]+$ && -n $shown ]] || refuse "there are no $1 for lesson $2; lessons have numbers from 1 on"
   echo "$shown"
 }
