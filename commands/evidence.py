@@ -7,8 +7,9 @@ import pathlib
 import re
 from typing import Callable, Dict, FrozenSet, Iterable, List, NamedTuple, Optional, Set, Tuple
 
-FOLDER = pathlib.Path(__file__).resolve().parent
-SCREENS = FOLDER.parent / "screens"
+GLOSSARIES = pathlib.Path(__file__).resolve().parent / "glossaries"
+SCREENS = GLOSSARIES.parent.parent / "screens"
+DIALECTS = SCREENS / "dialects"
 NAMES = {"fig": "fig-FORTH", "f79": "Forth-79", "f83": "F83", "poly": "polyFORTH"}
 ALL = tuple(NAMES)
 LATER = ("f79", "f83", "poly")
@@ -124,14 +125,14 @@ DIGITS = r"-?[0-9A-F]*[0-9][0-9A-F]*"
 @functools.lru_cache(maxsize=None)
 def glossary(name: str) -> FrozenSet[str]:
     """The words of a published glossary, as a file of commands/glossaries lists them below the lines that name it."""
-    text = (FOLDER / "glossaries" / name).read_text(encoding="ascii")
+    text = (GLOSSARIES / name).read_text(encoding="ascii")
     return frozenset(re.sub(r"\A(# .*\n)+", "", text).split())
 
 
 @functools.lru_cache(maxsize=None)
 def left_out(name: str) -> Dict[str, str]:
     """The words that a text of screens/dialects leaves out, each with the reason that the Forth gives: lists after LEAVE-OUT, or words of NO."""
-    text = (SCREENS / f"dialects/{name}.txt").read_text(encoding="ascii")
+    text = (DIALECTS / f"{name}.txt").read_text(encoding="ascii")
     found = {}
     for reason, names in re.findall(r'^LEAVE-OUT ," (.*?)"\n,"  (.*?) "$', text, re.M | re.S):
         found.update(dict.fromkeys(names.split(), reason))
