@@ -10,7 +10,7 @@ import tty
 import xml.etree.ElementTree
 from typing import Any, Dict, List, Optional, Tuple, Union
 
-import teaching_cases
+from tally import Tally
 
 ROOT = pathlib.Path(__file__).resolve().parent.parent
 SVG = "{http://www.w3.org/2000/svg}"
@@ -54,7 +54,7 @@ VARIABLE BANK   CREATE ROW 6 ALLOT
 class Tree:
     """A tree with the built program, with a block file of words for films, and the images of the tools and of these words."""
 
-    def __init__(self, cases: teaching_cases.Cases, room: pathlib.Path, program: pathlib.Path) -> None:
+    def __init__(self, cases: Tally, room: pathlib.Path, program: pathlib.Path) -> None:
         self.cases, self.room, self.forth83 = cases, room, program
         subprocess.run([ROOT / "tools/lay-built", program, room], check=True)
         (room / "words.txt").write_text(WORDS, encoding="ascii")
