@@ -10,13 +10,17 @@ class Tally:
         self.check, self.most = check, most
         self.right = self.wrong = 0
 
+    def fail(self, what: str) -> None:
+        """Counts and reports something that is wrong."""
+        self.wrong += 1
+        print(f"{self.check}: {what}", file=sys.stderr, flush=True)
+
     def must(self, is_so: object, what: str) -> bool:
         """Counts it, and reports it if it is wrong."""
         if is_so:
             self.right += 1
         else:
-            self.wrong += 1
-            print(f"{self.check}: {what}", file=sys.stderr, flush=True)
+            self.fail(what)
         return bool(is_so)
 
     def same(self, what: str, wanted: object, got: object) -> bool:
