@@ -17,6 +17,7 @@ from unittest import mock
 import arithmetic_cases
 import command_lines
 import sessions
+import tally
 
 ROOT = pathlib.Path(__file__).resolve().parent.parent
 sys.path.append(str(ROOT / "commands"))
@@ -51,6 +52,21 @@ class QuietEnds(unittest.TestCase):
 
     def test_a_list_that_is_read_ends_with_the_status_of_the_command(self) -> None:
         self.assertEqual(7, quiet_end.status_of(lambda: 7))
+
+
+class Tallies(unittest.TestCase):
+    """What is wrong is counted and reported after the name of the check; what is right is only counted."""
+
+    def test_counts_and_reports(self) -> None:
+        tried = tally.Tally("check-x", most=4)
+        with contextlib.redirect_stderr(io.StringIO()) as said:
+            results = [tried.must(True, "one"), tried.same("two", 2, 2), tried.holds("three", "b", "abc"),
+                       tried.must(False, "four"), tried.same("five", "abcdef", 5), tried.holds("six", "x", "abc")]
+        self.assertEqual(([True] * 3 + [False] * 3, 3, 3, 1), (results, tried.right, tried.wrong, tried.status))
+        self.assertEqual("check-x: four\ncheck-x: five: wanted 'abc.., got 5\ncheck-x: six: wanted 'x' in 'abc..\n", said.getvalue())
+
+    def test_nothing_wrong(self) -> None:
+        self.assertEqual(0, tally.Tally("check-x").status)
 
 
 class Refusals(unittest.TestCase):
