@@ -7,7 +7,7 @@ import sys
 from typing import Dict, List, Optional
 
 ROOT = pathlib.Path(__file__).resolve().parent.parent
-sys.path[:0] = [str(ROOT / "teaching"), str(ROOT / "dialects")]
+sys.path[:0] = [str(ROOT / "teaching"), str(ROOT / "commands")]
 
 import calls  # noqa: E402
 import canvas  # noqa: E402
@@ -75,7 +75,7 @@ def disk_of_lesson(body: str) -> str:
 
 
 def hints(text: str) -> Dict[int, List[str]]:
-    """The hints of each lesson, as teaching/hints.txt has them."""
+    """The hints of each lesson, as screens/course/hints.txt has them."""
     parts = re.findall(r"^% lesson (\d+)\n((?:(?!% ).*\n)*)", text, re.M)
     return {int(number): body.splitlines() for number, body in parts}
 
@@ -160,10 +160,10 @@ def lines_of(block: str) -> str:
 
 def disks(kernel: str) -> Dict[str, Dict[str, object]]:
     """The disks of every page: the kernel's sources, the course, examples and dialects. KERNEL is the text of the kernel's screens."""
-    found = {"forth.blk": disk_of_text(kernel), COURSE: disk_of_text(text_of("teaching/course.txt"))}
+    found = {"forth.blk": disk_of_text(kernel), COURSE: disk_of_text(text_of("screens/course/course.txt"))}
     found.update({f"{name}.blk": disk_of_text(text_of(f"examples/{name}.txt")) for name in EXAMPLES})
     found["draw.blk"] = disk_of_text(text_of("examples/draw.txt"), canvas.FIRST + canvas.BLOCKS)
-    for file in sorted((ROOT / "dialects").glob("*.txt")):
+    for file in sorted((ROOT / "screens/dialects").glob("*.txt")):
         found[f"dialect {file.stem}.blk"] = disk_of_text(file.read_text(encoding="utf-8"))
     return found
 
@@ -173,7 +173,7 @@ FORMAT = re.compile(r"^\| (`[a-z0-9`, -]+`) \| ([^|]+) \| ([\d,]*) ?\| ([\d,]*) 
 
 def formats(page: str) -> List[Dict[str, object]]:
     """The formats of containers, as docs/OLD-SOURCES.md has them: name, what it is, bytes before it, a sector's bytes, their order. Those
-    that dialects/bring adds to the program's say so, and a disk whose sectors move has the numbers of dialects/wild.py."""
+    that commands/bring adds to the program's say so, and a disk whose sectors move has the numbers of commands/wild.py."""
     found: List[Dict[str, object]] = []
     for names, what, offset, sector, order in FORMAT.findall(page):
         numbers = [int(it) for it in re.findall(r"\d+", order)]
@@ -204,7 +204,7 @@ FORTH_CHAINS = range(42, 50, 2)
 def dialects() -> List[Dict[str, object]]:
     """The dialects of old sources: of each its key, name and first screen, the screen that is loaded before it, and the names it defines."""
     found: List[Dict[str, object]] = []
-    for file in sorted((ROOT / "dialects").glob("*.txt")):
+    for file in sorted((ROOT / "screens/dialects").glob("*.txt")):
         text = file.read_text(encoding="ascii")
         head = DIALECT.match(text)
         if head:

@@ -1,4 +1,4 @@
-"""Makes the machine's WebAssembly module, as ./build-library makes it for the target wasm32, and keeps it in workbench/out/page."""
+"""Makes the machine's WebAssembly module, as ./build-library makes it for the target wasm32, and keeps it in build/out/page."""
 import hashlib
 import json
 import os
@@ -16,7 +16,7 @@ import lowering  # noqa: E402
 import records  # noqa: E402
 from lowering import Refused  # noqa: E402
 
-KEPT = ROOT / "workbench/out/page"
+KEPT = ROOT / "build/out/page"
 MAKERS = [lowering.HERE / name for name in ("libraries.py", "retarget.py", "heap.c")]
 
 

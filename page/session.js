@@ -6,7 +6,7 @@ import { entryOf, imageOf } from "./image.js";
 import { ASKS, Machine, PAGE_SIZE, STOP, SYSTEM } from "./machine.js";
 
 const SLICE = 12, UNDOS = 100, LONG = 2000;
-// Places of the cells that page/paged.txt notes for the page, and the words of its image that the page uses.
+// Places of the cells that screens/page/paged.txt notes for the page, and the words of its image that the page uses.
 const NOTES = { faults: 0, block: 2, byte: 4, edits: 6 };
 const OWN = { BREAK: ["break", 0], NOTES: ["notes", 2], SHADOW: ["shadow", 2], "RETYPE#": ["retyped", 2], "'BOOT": ["boot", 2] };
 

@@ -1,4 +1,4 @@
-// Containers that `./forth83 import` reads in addition to the program's own formats, as dialects/bring and dialects/wild.py do.
+// Containers that `./forth83 import` reads in addition to the program's own formats, as commands/bring and commands/wild.py do.
 
 import { ENDINGS, MOST_BLOCKS, blocksOf, changed, cleaned } from "./containers.js";
 import { COLUMNS, LINES } from "./disk.js";

@@ -1,8 +1,8 @@
 """Makes the LLVM text of the machine's C library, which the libraries for other targets and the page's module are made from.
 
 The Rattle toolchain lowers the library to one LLVM module. With proofs `rt lib` does that; without them `rt try` does it, for a
-program that calls each function of the library once. Both times `rt` is one of links to the toolchain's (workbench/kit) whose clang
-keeps the module. The text is kept in workbench/out/targets with the sum of all that it was made of.
+program that calls each function of the library once. Both times `rt` is one of links to the toolchain's (build/kit) whose clang
+keeps the module. The text is kept in build/out/targets with the sum of all that it was made of.
 """
 import hashlib
 import os
@@ -18,7 +18,7 @@ import records
 
 ROOT = pathlib.Path(__file__).resolve().parent.parent
 HERE = ROOT / "targets"
-KEPT = ROOT / "workbench/out/targets"
+KEPT = ROOT / "build/out/targets"
 MAKERS = (HERE / "lowering.py", HERE / "records.py")
 # The prefix of the library's functions in the module of a program without proofs.
 PREFIX = "forth83_c::"
@@ -98,7 +98,7 @@ def toolchain() -> pathlib.Path:
 
 def linked_toolchain(room: pathlib.Path, then: str) -> None:
     """Makes links to the toolchain whose clang keeps the module as ROOM/module.bc."""
-    kit = pathlib.Path(called([str(ROOT / "workbench/kit"), str(room / "kit")]).strip())
+    kit = pathlib.Path(called([str(ROOT / "build/kit"), str(room / "kit")]).strip())
     (room / "kit/toolchain").unlink()
     called(["cp", "-rs", str(kit / "toolchain"), str(room / "kit/toolchain")])
     clang = room / "kit/toolchain/bin/clang"

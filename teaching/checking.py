@@ -45,7 +45,7 @@ def door_images(forth83: program.Program, room: pathlib.Path) -> Tuple[pathlib.P
         return kept
     forth83.text(["kernel", room / "kernel.blk"])
     made = [room / f"{name}.img" for name in ("tools", "piped", "quiet", "debug")]
-    done = subprocess.run([program.ROOT / "workbench/make", "--doors", forth83.path, room / "kernel.blk", *made],
+    done = subprocess.run([program.ROOT / "build/images", "--doors", forth83.path, room / "kernel.blk", *made],
                           stdout=subprocess.PIPE, stderr=subprocess.PIPE, check=False)
     if done.returncode:
         raise program.Refusal(f"the images of the tools cannot be made: {program.said_by(done)}")

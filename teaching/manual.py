@@ -1,4 +1,4 @@
-"""What docs/WORDS.md and workbench/INNER.md say of each word, its stack effect and a sentence, and what the Forth says of each fault."""
+"""What docs/WORDS.md and screens/tools/INNER.md say of each word, its stack effect and a sentence, and what the Forth says of each fault."""
 import re
 from typing import Dict, List, Tuple
 
@@ -13,7 +13,7 @@ def entries() -> Dict[bytes, List[Tuple[str, str]]]:
     """The rows of each name, in the order of the definitions: the kernel's, then the tools' inner words, then their other words."""
     kernel, _, tools = text_of("docs/WORDS.md").partition("\n## The tools\n")
     found = {}
-    for name, effect, says in ROW.findall(f"{kernel}\n{text_of('workbench/INNER.md')}\n{tools}"):
+    for name, effect, says in ROW.findall(f"{kernel}\n{text_of('screens/tools/INNER.md')}\n{tools}"):
         found.setdefault(name.encode(), []).append((effect, says.replace("`", "")))
     return found
 
@@ -26,7 +26,7 @@ def text_of(name: str) -> str:
 
 def fault(number: int) -> str:
     """What a fault is, as the tools print it at the terminal; an empty text if they have only its number."""
-    page = program.ROOT / "workbench/faults.txt"
+    page = program.ROOT / "screens/tools/faults.txt"
     found = FAULT.findall(page.read_text(encoding="ascii")) if page.is_file() else []
     return dict(found).get(str(number), "").strip(" ;")
 

@@ -6,8 +6,8 @@ import sys
 from typing import Any, Callable, List, Union
 
 ROOT = pathlib.Path(__file__).resolve().parent.parent
-KEPT = ROOT / "workbench/out"
-sys.path.append(str(ROOT / "workbench"))
+KEPT = ROOT / "build/out"
+sys.path.append(str(ROOT / "commands"))
 
 import quiet_end  # noqa: E402
 
@@ -59,7 +59,7 @@ class Program:
 
     def __init__(self) -> None:
         proved, unproved = ROOT / "crates/forth83/out/forth83", KEPT / "unproved"
-        self.is_proved = subprocess.run([ROOT / "workbench/is-proved"], check=False, stderr=subprocess.DEVNULL).returncode == 0
+        self.is_proved = subprocess.run([ROOT / "build/is-proved"], check=False, stderr=subprocess.DEVNULL).returncode == 0
         if not self.is_proved and not os.access(unproved, os.X_OK):
             raise Refusal("there is no program yet; run ./forth once, which builds one in about a minute")
         self.path = proved if self.is_proved else unproved
@@ -88,7 +88,7 @@ def said_by(done: "subprocess.CompletedProcess[bytes]") -> str:
 
 def is_made(image: pathlib.Path, program: Program) -> bool:
     """Whether an image of the tools exists, and nothing that it is made of is newer."""
-    sources = [program.path, ROOT / "workbench/make", *(ROOT / "workbench").glob("*.txt")]
+    sources = [program.path, ROOT / "build/images", *(ROOT / "screens/tools").glob("**/*.txt")]
     return image.is_file() and all(source.stat().st_mtime <= image.stat().st_mtime for source in sources)
 
 
@@ -98,7 +98,7 @@ def tools_image(program: Program, room: pathlib.Path) -> pathlib.Path:
     if program.is_proved and is_made(kept, program):
         return kept
     program.text(["kernel", blocks])
-    done = subprocess.run([ROOT / "workbench/make", program.path, blocks, made], stdout=subprocess.PIPE,
+    done = subprocess.run([ROOT / "build/images", program.path, blocks, made], stdout=subprocess.PIPE,
                           stderr=subprocess.PIPE, check=False)
     if done.returncode:
         raise Refusal(f"the image of the tools cannot be made: {said_by(done)}")

@@ -44,7 +44,7 @@ def with_screens(screens: Screens) -> Callable[[bytes], bytes]:
 
 def solved() -> Screens:
     """The screens of the solutions."""
-    pages = (ROOT / "teaching/solutions.txt").read_text(encoding="ascii").split("% screen ")[1:]
+    pages = (ROOT / "screens/course/solutions.txt").read_text(encoding="ascii").split("% screen ")[1:]
     return {int(one.split("\n", 1)[0]): one.splitlines()[1:] for one in pages}
 
 
@@ -140,7 +140,7 @@ def check_class(tree: teaching_runs.Tree) -> None:
     """All files give their row, in less than half a minute; the page and the text have the same."""
     room = tree.room / "class of files"
     room.mkdir()
-    tree.run(["workbench/blocks", "teaching/course.txt", str(room / "course.blk")])
+    tree.run(["./forth", "blocks", "screens/course/course.txt", str(room / "course.blk")])
     course = (room / "course.blk").read_bytes()
     (room / "course.blk").unlink()
     for pupil in PUPILS:
@@ -192,7 +192,7 @@ def check_course_options(tree: teaching_runs.Tree) -> None:
     tree.cases.same("the solutions of lesson 3", (0, solved()[23]), (status, said.splitlines()))
     status, said = tree.tool("course", "--hints", "7")
     tree.cases.same("the words of the hints of lesson 7", (0, ["DIGITS", "COUNTDOWN"]), (status, [line.split(":")[0] for line in said.splitlines()]))
-    tree.cases.same("the course's text", (0, (ROOT / "teaching/course.txt").read_text(encoding="ascii")), tree.tool("course", "--text"))
+    tree.cases.same("the course's text", (0, (ROOT / "screens/course/course.txt").read_text(encoding="ascii")), tree.tool("course", "--text"))
     for words, wanted in ((("--hints", "15"), 1), (("--hints", "x"), 1), (("--solutions",), 2), (("--hint", "3"), 2), (("--sheets", "15"), 1)):
         tree.cases.same(f"the status of course {' '.join(words)}", wanted, tree.tool("course", *words)[0])
     status, said = tree.tool("course", "--sheets", "-o", "all.html")
@@ -202,7 +202,7 @@ def check_course_options(tree: teaching_runs.Tree) -> None:
     tree.cases.holds("the text of a lesson", "<strong>Exercise</strong>, in screen 28: REVERSED", made)
     # 70 letters; 8 spaces for the tab and 60 letters; 64 bytes, of which 32 are written as ~C3; 70 letters
     (tree.room / "long.txt").write_text(f"% screen 25\n{'x' * 70}\n\t{'x' * 60}\n%~{'a~C3' * 32}\n{'x' * 70}\n", encoding="ascii")
-    status, said = tree.run(["workbench/blocks", "long.txt", "long.blk"])
+    status, said = tree.run(["./forth", "blocks", "long.txt", "long.blk"])
     tree.cases.same(f"all lines of a text that are too long: {said!r}", (1, True), (status, b"more than 64 bytes: lines 2, 3, 5\n" in said))
     (tree.room / "own.txt").write_text("% screen 25\n( Lesson 5: <own> )\n( write )\n% screen 45\nALL-RIGHT\n", encoding="ascii")
     status, said = tree.tool("course", "--sheets", "--course", "own.txt", "-o", "own.html")

@@ -29,7 +29,7 @@ def answers() -> Iterator[Answer]:
 
 def solutions() -> List[List[str]]:
     """The lines of each lesson's solution, without its title and the task."""
-    pages = (ROOT / "teaching/solutions.txt").read_text(encoding="ascii").split("% screen ")[1:]
+    pages = (ROOT / "screens/course/solutions.txt").read_text(encoding="ascii").split("% screen ")[1:]
     return [[line for line in page.splitlines()[2:] if not line.startswith("( line")] for page in pages]
 
 
@@ -42,8 +42,8 @@ def screen(answer: Answer, solved: List[List[str]]) -> str:
 def check(tree: teaching_runs.Tree) -> int:
     """Checks all answers by the tree's program, and answers how many there are."""
     solved, count = solutions(), 0
-    tree.run(["workbench/blocks", "teaching/course.txt", "course.blk"])
-    tree.forth("screens", "teaching/solutions.txt", "course.blk")
+    tree.run(["./forth", "blocks", "screens/course/course.txt", "course.blk"])
+    tree.forth("screens", "screens/course/solutions.txt", "course.blk")
     blank = (tree.room / "course.blk").read_bytes()
     for answer in answers():
         (tree.room / "answer.blk").write_bytes(blank)

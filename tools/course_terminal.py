@@ -3,7 +3,7 @@
 
     tools/course_terminal.py FORTH FORTH83 SHARE
 
-FORTH and FORTH83 are the launchers, of the tree or installed, and SHARE is the folder with workbench and teaching.
+FORTH and FORTH83 are the launchers, of the tree or installed, and SHARE is the folder with screens and examples.
 """
 import argparse
 import fcntl
@@ -109,8 +109,8 @@ class Replay:
 def check(forth: str, forth83: str, share: pathlib.Path, at_least: int = 100) -> int:
     """1 if the course shows something else at a terminal than its page says, or has fewer lines than that."""
     page = (sessions.ROOT / "docs/COURSE.md").read_text(encoding="utf-8")
-    commands = {"./forth83": forth83, "./forth": forth, "workbench/blocks": f"{share}/workbench/blocks",
-                "teaching/course.txt": f"{share}/teaching/course.txt", "examples/draw.txt": f"{share}/examples/draw.txt"}
+    commands = {"./forth83": forth83, "./forth": forth, "screens/course/course.txt": f"{share}/screens/course/course.txt",
+                "examples/draw.txt": f"{share}/examples/draw.txt"}
     with tempfile.TemporaryDirectory() as room:
         replay = Replay(pathlib.Path(room), commands)
         replay.run(sessions.steps_of(page))
@@ -124,7 +124,7 @@ def main() -> int:
     words = argparse.ArgumentParser(description="Replays docs/COURSE.md at a pseudo terminal, and reports what is shown differently.")
     words.add_argument("forth", metavar="FORTH", help="the launcher forth")
     words.add_argument("forth83", metavar="FORTH83", help="the launcher forth83")
-    words.add_argument("share", type=pathlib.Path, metavar="SHARE", help="the folder with workbench and teaching")
+    words.add_argument("share", type=pathlib.Path, metavar="SHARE", help="the folder with screens and examples")
     asked = words.parse_args()
     return check(asked.forth, asked.forth83, asked.share)
 

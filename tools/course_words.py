@@ -3,7 +3,7 @@ import pathlib
 import re
 from typing import Dict, List, Set, Tuple
 
-import teaching_cases
+from tally import Tally
 
 ROOT = pathlib.Path(__file__).resolve().parent.parent
 LAST = 14  # the lesson after which nothing is checked
@@ -53,11 +53,11 @@ def parts(text: str, heading: str) -> Dict[int, str]:
     return {int(number): body for number, body in re.findall(rf"^% {heading} (\d+)\n((?:(?!% ).*\n)*)", text, re.M)}
 
 
-def check_words(cases: teaching_cases.Cases) -> None:
+def check_words(cases: Tally) -> None:
     """Each word that a lesson needs is in its task, in the course's text, in a hint, and in the solutions."""
-    screens = parts((ROOT / "teaching/course.txt").read_text(encoding="ascii"), "screen")
-    hints = parts((ROOT / "teaching/hints.txt").read_text(encoding="ascii"), "lesson")
-    solved = parts((ROOT / "teaching/solutions.txt").read_text(encoding="ascii"), "screen")
+    screens = parts((ROOT / "screens/course/course.txt").read_text(encoding="ascii"), "screen")
+    hints = parts((ROOT / "screens/course/hints.txt").read_text(encoding="ascii"), "lesson")
+    solved = parts((ROOT / "screens/course/solutions.txt").read_text(encoding="ascii"), "screen")
     texts = dict(lessons((ROOT / "docs/COURSE.md").read_text(encoding="utf-8")))
     cases.same("the lessons that have hints, and solutions", [list(range(1, LAST + 1))] * 2, [list(hints), [number - 20 for number in solved]])
     for number in hints:
@@ -67,11 +67,11 @@ def check_words(cases: teaching_cases.Cases) -> None:
             cases.same(f"where {word} of lesson {number} is missing", [], without)
 
 
-def check(cases: teaching_cases.Cases) -> None:
+def check(cases: Tally) -> None:
     """Nothing is used before it is explained; and a word that is taken out of the text is found."""
     check_words(cases)
     course = (ROOT / "docs/COURSE.md").read_text(encoding="utf-8")
-    solutions = (ROOT / "teaching/solutions.txt").read_text(encoding="ascii")
+    solutions = (ROOT / "screens/course/solutions.txt").read_text(encoding="ascii")
     cases.same("words that the course uses before it explains them", [], unexplained(course, solutions))
     without = unexplained(course.replace("`UNTIL`", "UNTIL"), solutions)
     cases.same("a word that isn't explained", True, any(one.startswith("lesson 7: UNTIL") for one in without))

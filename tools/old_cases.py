@@ -122,7 +122,7 @@ class Runner:
             (self.room / "case.blk").unlink(missing_ok=True)
             said = self.folder.run([self.program, "new", "case.blk", "8"])
             for name in case.dialects():
-                said += self.folder.run([self.program, "screens", f"dialects/{name}.txt", "case.blk"])
+                said += self.folder.run([self.program, "screens", f"screens/dialects/{name}.txt", "case.blk"])
             if said:
                 raise ValueError(said)
             self.blocks[case.dialect] = (self.room / "case.blk").read_bytes()

@@ -11,7 +11,8 @@ import tempfile
 import zlib
 from typing import Callable
 
-from page_trials import Cases, Trial
+from page_trials import Trial
+from tally import Tally
 
 ROOT = pathlib.Path(__file__).resolve().parent.parent
 PAGE = ROOT / "page"
@@ -53,7 +54,7 @@ WORDS = """### 1. The data stack
 """
 
 
-def check_contents(cases: Cases) -> None:
+def check_contents(cases: Tally) -> None:
     """The lessons and the manual."""
     made = contents.lessons(LESSONS, {2: ["for another lesson"]})
     cases.must(made == [{"number": 1, "title": "1. First `lines`", "disk": "course.blk", "screen": 21, "html": FIRST}], f"a lesson: {made}")
@@ -65,11 +66,11 @@ def check_contents(cases: Cases) -> None:
     block = "% AT".ljust(64) + " " * 64 + "B".ljust(896)
     cases.must(contents.disk_of_blocks((" " * 1024 + block).encode()) == {"count": 2, "text": "% screen 1\n%% AT\n\nB\n"}, "a disk of text")
     cases.must(contents.disk_of_blocks(bytes(1024)) == {"bytes": "A" * 1366 + "=="}, "a disk of zeros")
-    whole = contents.lessons(contents.text_of("docs/COURSE.md"), contents.hints(contents.text_of("teaching/hints.txt")))
+    whole = contents.lessons(contents.text_of("docs/COURSE.md"), contents.hints(contents.text_of("screens/course/hints.txt")))
     cases.must(sum("<summary>Hints" in lesson["html"] for lesson in whole) >= 14, "the course has fewer than fourteen lessons with hints")
 
 
-def check_canvas(cases: Cases) -> None:
+def check_canvas(cases: Tally) -> None:
     """A picture file has the rows of the canvas, and the palette; a file without a whole canvas has none."""
     blocks = bytes(1024) + b"\xf4" + bytes(32 * 1024 - 1)
     content = contents.canvas.canvas_of(blocks, 1)
@@ -83,7 +84,7 @@ def check_canvas(cases: Cases) -> None:
     cases.must(contents.canvas.canvas_of(blocks, 2) == b"", "a canvas after the end of the file")
 
 
-def check_assembly(cases: Cases) -> None:
+def check_assembly(cases: Tally) -> None:
     """The modules in one script: each after those that it imports, with no name twice; data that can't end the script."""
     order = assembly.in_order("main.js", [])
     cases.must(set(order) == {file.name for file in PAGE.glob("*.js")} | SHARED, f"modules that main.js doesn't use: {order}")
@@ -159,7 +160,7 @@ def packed(content: bytes, level: int, strategy: int) -> bytes:
     return packing.compress(content) + packing.flush()
 
 
-def check_unpacking(cases: Cases) -> None:
+def check_unpacking(cases: Tally) -> None:
     """Bytes stored as they are, in the fixed codes and in codes of their own; and what is cut or damaged."""
     dice = random.Random(5)
     contents_ = [b"", b"a", b"abcabcabcabcabcabc", bytes(70000), dice.randbytes(70000), (PAGE / "page.js").read_bytes(),
@@ -180,7 +181,7 @@ def check_unpacking(cases: Cases) -> None:
         cases.must(not differ, f"unpacking differs in {differ}, {got if not isinstance(got, list) else got[-4:]}")
 
 
-def check_modules(cases: Cases) -> None:
+def check_modules(cases: Tally) -> None:
     """The modules of the page that need no browser, in node."""
     got = in_node(NODE)
     if got is None:
@@ -189,7 +190,7 @@ def check_modules(cases: Cases) -> None:
         cases.must(got == TOLD, f"the modules in node: {got}")
 
 
-def check(cases: Cases) -> None:
+def check(cases: Tally) -> None:
     """All that needs no program."""
     for part in (check_contents, check_canvas, check_assembly, check_unpacking, check_modules):
         part(cases)

@@ -135,7 +135,7 @@ def check_tools(trial: Trial, program: pathlib.Path, room: pathlib.Path) -> None
     (room / "own.txt").write_text("% screen 30\n: GREET ( -- ) .\" from an image \" KEY DROP KEY . ;\nBOOT GREET\n", encoding="ascii")
     images = [room / f"{door}.img" for door in ("terminal", "pipe", "quiet", "debug")]
     command(program, "kernel", room / "tools.blk")
-    command(ROOT / "workbench/make", "--doors", program, room / "tools.blk", *images)
+    command(ROOT / "build/images", "--doors", program, room / "tools.blk", *images)
     command(program, "new", room / "own.blk", 64)
     command(program, "screens", room / "own.txt", room / "own.blk")
     command(program, "load", images[1], room / "own.blk", 30, 30, room / "greet.img")

@@ -16,8 +16,8 @@ import libraries  # noqa: E402
 import records  # noqa: E402
 
 import browser as browsers  # noqa: E402
-import page_trials  # noqa: E402
 import random_scripts  # noqa: E402
+from tally import Tally  # noqa: E402
 
 BLOCKS, PAGE, ROOM, BATCH = 16, 1024, 131072, 25
 STOPS = {"halted": 0, "limit": 1, "room": 2, "typed": 3, "block": 4}
@@ -132,7 +132,7 @@ def plain_image(program: pathlib.Path, room: pathlib.Path) -> bytes:
     return (room / "plain.img").read_bytes()
 
 
-def compare(cases: page_trials.Cases, browser: browsers.Browser, program: pathlib.Path, is_proved: bool, count: int) -> None:
+def compare(cases: Tally, browser: browsers.Browser, program: pathlib.Path, is_proved: bool, count: int) -> None:
     """Runs the plans on both sides."""
     with tempfile.TemporaryDirectory() as name:
         room = pathlib.Path(name)

@@ -22,9 +22,9 @@ class Session:
 
     def shell(self, line: str) -> None:
         """What a line of the shell means for the page: a disk that is made, or a Forth that starts."""
-        made = re.fullmatch(r"(?:workbench/blocks|\./forth83 screens) ((?:examples|teaching)/\S+) (\S+)", line)
+        made = re.fullmatch(r"\./(?:forth blocks|forth83 screens) ((?:examples|screens)/\S+) (\S+)", line)
         if made:
-            text, count = (ROOT / made[1]).read_text(encoding="ascii"), 64 if line.startswith("workbench") else 128
+            text, count = (ROOT / made[1]).read_text(encoding="ascii"), 64 if line.startswith("./forth blocks") else 128
             disk = f"Disk.ofText({json.dumps(made[2])}, {count}, {json.dumps(text)})"
             self.trial.value(f"window.in = false; page.files.insert({disk}).then(() => (window.in = true)); 0")
             self.trial.wait("window.in")
@@ -75,7 +75,7 @@ def check(trial: Trial, only: Optional[str] = None) -> int:
             continue
         trial.open()
         session = Session(trial, name)
-        session.shell("workbench/blocks teaching/course.txt course.blk")
+        session.shell("./forth blocks screens/course/course.txt course.blk")
         session.run(sessions.steps_of((ROOT / name).read_text(encoding="utf-8")))
         count += session.count
     return count

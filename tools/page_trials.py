@@ -9,6 +9,7 @@ import time
 from typing import Any, List
 
 import browser as browsers
+from tally import Tally
 
 PASTE = ("{ const data = new DataTransfer(); data.setData('text', %s); document.getElementById('line').dispatchEvent("
          "new ClipboardEvent('paste', { clipboardData: data, bubbles: true, cancelable: true })) }")
@@ -17,24 +18,10 @@ TABS = ("screens", "disk", "course", "film", "map", "canvas", "words", "help")
 CONTROL = 2
 
 
-class Cases:
-    """Counts what is right, and reports what is wrong."""
-
-    def __init__(self) -> None:
-        self.right = self.wrong = 0
-
-    def must(self, is_so: object, what: str) -> None:
-        if is_so:
-            self.right += 1
-        else:
-            self.wrong += 1
-            print(f"check-page: {what}", file=sys.stderr, flush=True)
-
-
 class Trial:
     """A browser with the page."""
 
-    def __init__(self, browser: browsers.Browser, page: pathlib.Path, cases: Cases) -> None:
+    def __init__(self, browser: browsers.Browser, page: pathlib.Path, cases: Tally) -> None:
         self.browser, self.page, self.cases = browser, page, cases
         self.must = cases.must
 
@@ -454,7 +441,7 @@ def film(trial: Trial) -> None:
 def class_list(trial: Trial) -> None:
     """A class list: the course's solutions are right, and files with trouble are what they are."""
     root = pathlib.Path(__file__).resolve().parent.parent
-    solved = json.dumps((root / "teaching/solutions.txt").read_text(encoding="ascii"))
+    solved = json.dumps((root / "screens/course/solutions.txt").read_text(encoding="ascii"))
     course = "page.files.builtIn('course.blk')"
     trial.value(f"window.solved = {course}; for (const one of screensOf({solved}).screens) solved.put(one.block, one.page); "
                 f"window.looping = {course}; looping.put(21, pageOf([': L BEGIN AGAIN ; L']).page); looping.put(22, pageOf(['KEY']).page); "

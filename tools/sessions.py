@@ -3,7 +3,7 @@
 Sessions are between lines of three backquotes. They run one after another in a folder of their own, which `tools/lay-built`
 makes of the program.
 
-- A line after `$` is run by the shell. `$ ./forth [BLOCKS]` starts the Forth with the workbench's tools.
+- A line after `$` is run by the shell. `$ ./forth [BLOCKS]` starts the Forth with its tools.
 - A line after `>` is typed there. One after `>>` is typed, too, as the answer to a question; after `>>>` are keys
   without a return.
 - What is shown is below. If nothing is below a line after `>`, the Forth must answer ok, and nothing else; only BYE shows nothing.
@@ -70,7 +70,7 @@ class Folder:
         self.room = room
         subprocess.run([ROOT / "tools/lay-built", program, room], check=True)
         self.run(["./forth83", "kernel", "kernel"])
-        self.run(["workbench/make", "./forth83", "kernel", "tools"])
+        self.run(["build/images", "./forth83", "kernel", "tools"])
 
     def run(self, words: List[str], typed: str = "") -> str:
         ends = {"stdout": subprocess.PIPE, "stderr": subprocess.STDOUT}

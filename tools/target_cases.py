@@ -9,20 +9,7 @@ sys.path.insert(0, str(ROOT / "targets"))
 
 import records  # noqa: E402
 import retarget  # noqa: E402
-
-
-class Cases:
-    """How many cases are right, and wrong."""
-
-    def __init__(self) -> None:
-        self.right = self.wrong = 0
-
-    def must(self, is_so: bool, what: str) -> None:
-        """Counts a case, and prints it if it is wrong."""
-        self.right += is_so
-        self.wrong += not is_so
-        if not is_so:
-            print(f"check-targets: {what}", file=sys.stderr)
+from tally import Tally  # noqa: E402
 
 
 LAYOUT, WIDE = "e-m:e-p:32:32-i64:64", "e-m:e-i64:64-i128:128"
@@ -83,7 +70,7 @@ def refusal(line: str, layout: str) -> str:
         return f"refused: {error}"
 
 
-def check_retarget(cases: Cases) -> None:
+def check_retarget(cases: Tally) -> None:
     """The lines that are rewritten, kept and refused."""
     for line, wanted in NARROWED:
         cases.must(rewritten(line) == wanted, f"retarget: {line} became {rewritten(line)}")
@@ -122,7 +109,7 @@ pub struct Big {
 CALLS = 'pub extern "C" fn forth83_go(alloc: Global, big: &mut Big, text: &[u8], n: u16) -> u32\n'
 
 
-def check_records(cases: Cases) -> None:
+def check_records(cases: Tally) -> None:
     """Records by the rules of C, and what calls want."""
     with tempfile.TemporaryDirectory() as name:
         (pathlib.Path(name) / "src").mkdir()
@@ -136,9 +123,9 @@ def check_records(cases: Cases) -> None:
     cases.must(calls == [records.Call("forth83_go", ["Global", "&mut Big", "&[u8]", "u16"])], f"calls: {calls}")
 
 
-def check() -> Cases:
+def check() -> Tally:
     """All of them."""
-    cases = Cases()
+    cases = Tally("check-targets")
     check_retarget(cases)
     check_records(cases)
     return cases

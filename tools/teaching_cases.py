@@ -20,23 +20,7 @@ import shown  # noqa: E402
 import texts  # noqa: E402
 import threads  # noqa: E402
 import traces  # noqa: E402
-
-
-class Cases:
-    """Compares, and keeps what differs."""
-
-    def __init__(self) -> None:
-        self.wrong = 0
-
-    def same(self, what: str, wanted: object, got: object) -> None:
-        if wanted != got:
-            print(f"check-teaching: {what}: wanted {wanted!r}, got {got!r}", file=sys.stderr)
-            self.wrong += 1
-
-    def holds(self, what: str, part: str, whole: str) -> None:
-        if part not in whole:
-            print(f"check-teaching: {what}: wanted {part!r} in {whole[-2000:]!r}", file=sys.stderr)
-            self.wrong += 1
+from tally import Tally  # noqa: E402
 
 
 def cause(data: bytes) -> str:
@@ -54,7 +38,7 @@ def image_file(version: int, buffers: int, size: int, content: bytes) -> bytes:
     return b"FTH83IMG" + b"".join(fields) + content
 
 
-def check_images(cases: Cases) -> None:
+def check_images(cases: Tally) -> None:
     """Files of both versions, each beginning of them, and each field that fits none."""
     content = bytes(range(256)) + bytes(44)
     for version in (1, 2):
@@ -98,7 +82,7 @@ def hand_made() -> images.Memory:
     return memory
 
 
-def check_headers(cases: Cases) -> None:
+def check_headers(cases: Tally) -> None:
     """EXIT at 256 to 266, DUP to 276, TWICE to 292: each header is 5 bytes and its name, and then comes a code field of 2."""
     dictionary = images.Dictionary(hand_made())
     cases.same("headers", [(b"EXIT", 256, 265, 267), (b"DUP", 267, 275, 277), (b"TWICE", 277, 287, 293)],
@@ -120,7 +104,7 @@ def caught(act: Callable[[], object]) -> str:
     return ""
 
 
-def check_lines(cases: Cases) -> None:
+def check_lines(cases: Tally) -> None:
     """Lines of a trace, and those that are none."""
     lines = b"3068 DUP | 5 -1 | 2954 2768\n3070 A|B | | 1\n"
     cases.same("lines", [(3068, b"DUP", (5, -1), (2954, 2768)), (3070, b"A|B", (), (1,))], list(traces.parsed(lines)))
@@ -131,7 +115,7 @@ def check_lines(cases: Cases) -> None:
         cases.same(what, f"line {number} is not a complete line of a trace", caught(lambda bad=bad: list(traces.parsed(bad))))
 
 
-def check_calls(cases: Cases) -> None:
+def check_calls(cases: Tally) -> None:
     """A word at 1000 that calls one at 2000, which calls itself once; and a word that a fault stops."""
     taken, call, end, other = calls.Calls(1000, 1004, 99), (calls.CALL, 2000), (calls.END, None), (calls.OTHER, None)
     for address, effect, data, returns in (
@@ -153,7 +137,7 @@ def check_calls(cases: Cases) -> None:
     cases.same("a fault, and what is cut", ([(0, calls.FAULTED)], 1, 2), (taken.ends, len(taken.steps), taken.met))
 
 
-def check_made_words(cases: Cases) -> None:
+def check_made_words(cases: Tally) -> None:
     """Words of the run whose codes aren't known: one that goes on in the thread at 1002, and one that only pushes a number."""
     taken, maybe, other = calls.Calls(1000, 1006, 99), (calls.MAYBE, None), (calls.OTHER, None)
     for address, effect, data, returns in (
@@ -172,7 +156,7 @@ def data_word() -> images.Memory:
     return memory
 
 
-def check_cells(cases_of: Cases) -> None:
+def check_cells(cases_of: Tally) -> None:
     """Writes in their order; a read that finds something else; a move from bytes that aren't known."""
     memory = data_word()
     for what, lines, wanted in (
@@ -195,7 +179,7 @@ def check_cells(cases_of: Cases) -> None:
         cases_of.same(f"what is shown after {what}", wanted, [word.header.name.decode() for word in followed.shown()])
 
 
-def check_shown(cases: Cases) -> None:
+def check_shown(cases: Tally) -> None:
     """What rows show: a byte, so many of a text, a line with its blank; and bytes that the run didn't show."""
     memory = images.Memory(bytes(300))
     memory.bytes[282:285] = b"\2Hi"
@@ -215,7 +199,7 @@ def check_shown(cases: Cases) -> None:
     cases.same("where it ends", 15, counter.place(counter.mark()))
 
 
-def check_references(cases: Cases) -> None:
+def check_references(cases: Tally) -> None:
     """Two screens; words in comments and texts are not counted, and TABLE defines the word after it."""
     read = screens.Screens()
     read.lines[1] = ["( ROW isn't used here )", ": TABLE ( n -- ) CREATE ALLOT ;", "10 TABLE ROW", ': HI ." TABLE" ROW ;']
@@ -233,7 +217,7 @@ def check_references(cases: Cases) -> None:
     cases.same("where X is used", [(3, 1)], found.uses("X"))
 
 
-def check_texts(cases: Cases) -> None:
+def check_texts(cases: Tally) -> None:
     """Names and JSON: nothing in them ends an element, and control bytes are spelled out."""
     cases.same("names", ["A", "<b>&\"'", "\\x07\\x1b", "\\xff\u00e9"],
                [texts.shown(name) for name in (b"A", b"<b>&\"'", b"\x07\x1b", b"\xff\xc3\xa9")])
@@ -244,7 +228,7 @@ def check_texts(cases: Cases) -> None:
     cases.same("changes of a stack", [2, 7], page.changes((1, 2, 3), (1, 2, 7)))
 
 
-def check_language(cases: Cases) -> None:
+def check_language(cases: Tally) -> None:
     """The scripts are Python 3.8's."""
     for path in sorted(TEACHING.iterdir()):
         first = path.read_bytes()[:40] if path.is_file() else b""
@@ -255,7 +239,7 @@ def check_language(cases: Cases) -> None:
                 cases.same(str(path), "Python 3.8", str(error))
 
 
-def check(cases: Cases) -> None:
+def check(cases: Tally) -> None:
     for act in (check_images, check_headers, check_lines, check_calls, check_made_words, check_cells, check_shown, check_references,
                 check_texts, check_language):
         act(cases)

@@ -10,7 +10,7 @@ import tty
 import xml.etree.ElementTree
 from typing import Any, Dict, List, Optional, Tuple, Union
 
-import teaching_cases
+from tally import Tally
 
 ROOT = pathlib.Path(__file__).resolve().parent.parent
 SVG = "{http://www.w3.org/2000/svg}"
@@ -54,14 +54,14 @@ VARIABLE BANK   CREATE ROW 6 ALLOT
 class Tree:
     """A tree with the built program, with a block file of words for films, and the images of the tools and of these words."""
 
-    def __init__(self, cases: teaching_cases.Cases, room: pathlib.Path, program: pathlib.Path) -> None:
+    def __init__(self, cases: Tally, room: pathlib.Path, program: pathlib.Path) -> None:
         self.cases, self.room, self.forth83 = cases, room, program
         subprocess.run([ROOT / "tools/lay-built", program, room], check=True)
         (room / "words.txt").write_text(WORDS, encoding="ascii")
         for words in (["kernel", "kernel.blk"], ["build", "kernel.blk", "1", "20", "kernel.img"], ["kernel", "forth.blk"],
                       ["screens", "words.txt", "forth.blk"]):
             self.forth(*words)
-        self.run(["workbench/make", self.forth83, "kernel.blk", "tools.img"])
+        self.run(["build/images", self.forth83, "kernel.blk", "tools.img"])
         self.forth("load", "tools.img", "forth.blk", "21", "22", "own.img")
 
     def forth(self, *words: str) -> None:
@@ -341,7 +341,7 @@ REFUSALS = (
 
 
 def listing(folder: pathlib.Path) -> Dict[str, Tuple[int, int]]:
-    kept = [path for path in folder.iterdir() if path.name != "workbench"]
+    kept = [path for path in folder.iterdir() if path.name != "build"]
     return {path.name: (path.stat().st_size, path.stat().st_mtime_ns) for path in kept}
 
 
@@ -540,7 +540,7 @@ def answered(tree: Tree, number: int, *texts: str) -> str:
     """What CHECK says of a lesson, over the course's screens and those of these texts."""
     (tree.room / "c.blk").unlink(missing_ok=True)
     tree.forth("new", "c.blk", "64")
-    for text in (str(ROOT / "teaching/course.txt"), *texts):
+    for text in (str(ROOT / "screens/course/course.txt"), *texts):
         tree.forth("screens", text, "c.blk")
     said = checked(tree, "c.blk", number)
     tree.cases.holds(f"lesson {number}, what is shown after CHECK", "1 2 + . 3  ok", said)
@@ -550,7 +550,7 @@ def answered(tree: Tree, number: int, *texts: str) -> str:
 def check_chosen(tree: Tree) -> None:
     """Until a screen is chosen, PUT writes into a blank one and not into the checkers; after CHECK it writes into the lesson's screen."""
     (tree.room / "c.blk").unlink(missing_ok=True)
-    for words in (["new", "c.blk", "64"], ["screens", str(ROOT / "teaching/course.txt"), "c.blk"]):
+    for words in (["new", "c.blk", "64"], ["screens", str(ROOT / "screens/course/course.txt"), "c.blk"]):
         tree.forth(*words)
     tree.cases.same("screen 20", b" " * 1024, (tree.room / "c.blk").read_bytes()[20 * 1024:21 * 1024])
     _, said = tree.run([tree.forth83, "run", "tools.img", "c.blk"], b"1 LOAD\nSCR @ .\n3 CHECK\nSCR @ .\n1 LOAD\nSCR @ .\n")
@@ -563,7 +563,7 @@ def check_course(tree: Tree) -> None:
     for number in range(1, 15):
         blank = "leaves nothing" if number == 1 else "is not defined yet"
         tree.cases.holds(f"lesson {number}, blank", blank, answered(tree, number))
-        solved = answered(tree, number, str(ROOT / "teaching/solutions.txt"))
+        solved = answered(tree, number, str(ROOT / "screens/course/solutions.txt"))
         tree.cases.holds(f"lesson {number}, solved", f"Lesson {number} is right.", solved)
     for number, text, wanted in WRONG:
         (tree.room / "wrong.txt").write_text(text + "\n", encoding="ascii")

@@ -1,21 +1,22 @@
 """What a terminal shows of what it is sent, and what keys leave of a line that is typed."""
 import re
 import unicodedata
+from typing import List, Tuple
 
 
 class Glass:
     """What is seen on a terminal of some columns and 24 rows: the part of xterm that a line uses."""
 
-    def __init__(self, columns):
+    def __init__(self, columns: int) -> None:
         self.columns, self.rows, self.kept, self.full = columns, [[" "] * columns for _ in range(24)], (0, 0), False
         self.x = self.y = 0
 
-    def down(self):
+    def down(self) -> None:
         if self.y == 23:
             self.rows = self.rows[1:] + [[" "] * self.columns]
         self.y = min(self.y + 1, 23)
 
-    def put(self, character):
+    def put(self, character: str) -> None:
         if self.full:
             self.x, self.full = 0, False
             self.down()
@@ -24,13 +25,13 @@ class Glass:
         self.full = self.x + wide == self.columns - 1
         self.x = min(self.x + 1 + wide, self.columns - 1)
 
-    def clear(self):
+    def clear(self) -> None:
         """From the cursor to the end of the screen."""
         for x in range(self.x, self.columns):
             self.rows[self.y][x] = " "
         self.rows[self.y + 1 :] = [[" "] * self.columns for _ in self.rows[self.y + 1 :]]
 
-    def move(self, what):
+    def move(self, what: str) -> None:
         """A control byte or a sequence; what this terminal doesn't know is an error."""
         known = {
             "\r": lambda: setattr(self, "x", 0),
@@ -47,11 +48,11 @@ class Glass:
         known[what]()
         self.full = self.full and what == "\a"
 
-    def shows(self, sent):
+    def shows(self, sent: bytes) -> None:
         for move, character in re.findall(r"(\x1b\[.|\x1b.|[\x00-\x1f])|(.)", sent.decode(errors="replace"), re.S):
             self.put(character) if character else self.move(move)
 
-    def seen(self):
+    def seen(self) -> Tuple[List[str], Tuple[int, int]]:
         """The rows that aren't blank, and the cursor's column and row among them."""
         texts = ["".join(row).rstrip() for row in self.rows]
         return [text for text in texts if text], (self.x, len([text for text in texts[: self.y] if text]))
@@ -79,16 +80,16 @@ SENT = {
 class Line:
     """A line that is typed after those of the history: its text, and where the cursor is."""
 
-    def __init__(self, history):
+    def __init__(self, history: List[str]) -> None:
         self.history, self.at, self.draft, self.text, self.cursor = history, len(history), "", "", 0
 
-    def word_left(self):
+    def word_left(self) -> int:
         return re.search(r"([^ ]* *)$", self.text[: self.cursor]).start()
 
-    def cut(self, start, end):
+    def cut(self, start: int, end: int) -> None:
         self.text, self.cursor = self.text[:start] + self.text[end:], start
 
-    def recall(self, step):
+    def recall(self, step: int) -> None:
         if 0 <= self.at + step <= len(self.history):
             if self.at == len(self.history):
                 self.draft = self.text
@@ -96,7 +97,7 @@ class Line:
             self.text = (self.history + [self.draft])[self.at]
             self.cursor = len(self.text)
 
-    def press(self, key):
+    def press(self, key: str) -> None:
         """A key of SENT, or a character."""
         here, end = self.cursor, len(self.text)
         if key in ("left", "right", "home", "end", "word left", "word right"):

@@ -1,4 +1,4 @@
-"""Unit tests of the commands in tools/ and workbench/. The expected values are worked out by hand."""
+"""Unit tests of the commands in tools/, commands/ and build/. The expected values are worked out by hand."""
 import contextlib
 import importlib.machinery
 import importlib.util
@@ -17,9 +17,10 @@ from unittest import mock
 import arithmetic_cases
 import command_lines
 import sessions
+import tally
 
 ROOT = pathlib.Path(__file__).resolve().parent.parent
-sys.path.append(str(ROOT / "workbench"))
+sys.path.append(str(ROOT / "commands"))
 
 import quiet_end  # noqa: E402
 
@@ -37,8 +38,8 @@ def command(path: str) -> types.ModuleType:
 class QuietEnds(unittest.TestCase):
     """Commands that print a list, whose reader ends first: nothing is printed on standard error."""
 
-    COMMANDS = (["tools/check-english", "--words"], ["tools/bare-functions"], ["workbench/command-line", "--help"],
-                ["dialects/capitals", "dialects/f83.txt"], ["dialects/bring", "--help"])
+    COMMANDS = (["tools/check-english", "--words"], ["tools/bare-functions"], ["commands/command-line", "--help"],
+                ["commands/capitals", "screens/dialects/f83.txt"], ["commands/bring", "--help"])
 
     def test_a_reader_that_ends_first_costs_no_message(self) -> None:
         for words in self.COMMANDS:
@@ -51,6 +52,21 @@ class QuietEnds(unittest.TestCase):
 
     def test_a_list_that_is_read_ends_with_the_status_of_the_command(self) -> None:
         self.assertEqual(7, quiet_end.status_of(lambda: 7))
+
+
+class Tallies(unittest.TestCase):
+    """What is wrong is counted and reported after the name of the check; what is right is only counted."""
+
+    def test_counts_and_reports(self) -> None:
+        tried = tally.Tally("check-x", most=4)
+        with contextlib.redirect_stderr(io.StringIO()) as said:
+            results = [tried.must(True, "one"), tried.same("two", 2, 2), tried.holds("three", "b", "abc"),
+                       tried.must(False, "four"), tried.same("five", "abcdef", 5), tried.holds("six", "x", "abc")]
+        self.assertEqual(([True] * 3 + [False] * 3, 3, 3, 1), (results, tried.right, tried.wrong, tried.status))
+        self.assertEqual("check-x: four\ncheck-x: five: wanted 'abc.., got 5\ncheck-x: six: wanted 'x' in 'abc..\n", said.getvalue())
+
+    def test_nothing_wrong(self) -> None:
+        self.assertEqual(0, tally.Tally("check-x").status)
 
 
 class Refusals(unittest.TestCase):
@@ -215,7 +231,7 @@ class CommandLine(unittest.TestCase):
             "  <FROM>  The first, 1 to 9\n  [TO]    Where to\n\nOptions:\n      --most <N>  At most\n      --dry       No\n  -h, --help      Help\n")
 
     def answer(self, *words: str) -> object:
-        module = command("workbench/command-line")
+        module = command("commands/command-line")
         try:
             return module.answer(list(words), module.parts_of(self.HELP))[0]
         except module.Refusal as refusal:
@@ -252,14 +268,14 @@ class Arithmetic(unittest.TestCase):
 
 class Prove(unittest.TestCase):
     def test_a_line_of_rt_that_means_a_failure(self) -> None:
-        failure = command("workbench/prove").FAILURE
+        failure = command("build/prove").FAILURE
         for line in ("error: no such thing", "error[E1]: x", "fn a::b: not proved", "NOT PROVED"):
             self.assertTrue(failure.search(line), line)
         for line in ("statements cells: modules loaded=1 checked=0", "fn errors::b: proved"):
             self.assertFalse(failure.search(line), line)
 
     def test_options_that_exclude_each_other(self) -> None:
-        module = command("workbench/prove")
+        module = command("build/prove")
         self.assertTrue(module.arguments(["--status"]).status)
         with self.assertRaises(SystemExit), contextlib.redirect_stderr(io.StringIO()):
             module.arguments(["--status", "--meanwhile"])

@@ -127,7 +127,7 @@ def volumes(folder: Folder, expect: Expect) -> None:
     folder.run(["./forth83", "export", "wild.blk", "b.dsk", "--first", "2"])
     expect("the second one back", b, (room / "b.dsk").read_bytes())
     folder.run(["./forth83", "import", "a.dsk", "wild2.blk"])
-    folder.run(["./forth83", "screens", "dialects/fig.txt", "wild2.blk"])
+    folder.run(["./forth83", "screens", "screens/dialects/fig.txt", "wild2.blk"])
     folder.run(["./forth83", "export", "wild2.blk", "a.dsk"])
     expect("a file that a dialect made longer", a, (room / "a.dsk").read_bytes())
     with (room / "wild2.blk").open("ab") as file:
