@@ -1,8 +1,8 @@
 -- Arguments and subcommands that are added one after another.
-use Rattle.std.proofs.Common.{rules, ◌≡◌, ◌++◌, ◌∙◌, ◌||◌, ap, refl, IfOk, Result, Ok, Err, Option, Some, ℕ, Bool, true, false, List, [], ◌∷◌, Bor}
+use Rattle.std.proofs.Common.{rules, ◌≡◌, ◌∙◌, ◌||◌, ap, refl, IfOk, Result, Ok, Err, Option, Some, Bool, true, false, List, Bor}
 use Rattle.clap.specs.Built.{AddsArg, AddsSubcommand}
 use Rattle.clap.specs.Walk.{Rule, Text, rule_of}
-use Rattle.clap.specs.Simple.{App, Shape, app_of, app_of_fields, new_app, on_top, with_rule, with_subcommand}
+use Rattle.clap.specs.Simple.{App, Shape, app_of, app_of_fields, on_top, with_rule, with_subcommand}
 use Rattle.clap.specs.declared.builder.arg.Arg.{Arg}
 use Rattle.clap.specs.declared.builder.command.Command.{Command}
 use Rattle.clap.specs.declared.builder.command.Command.TheViews.{out-Command as fields_of}

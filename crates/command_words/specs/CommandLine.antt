@@ -1,5 +1,5 @@
 -- The command line: each subcommand with its arguments, in their order.
-use Rattle.std.specs.Prelude.{◌≡◌, ℕ, Bool, List, [], ◌∷◌, ◌++◌, Some, true, false, codes, pos}
+use Rattle.std.specs.Prelude.{◌≡◌, Bool, List, [], ◌∷◌, ◌++◌, Some, true, false, codes, pos}
 use Rattle.clap.specs.Walk.{Rule, Text}
 use Rattle.clap.specs.Simple.{App, Shape, app_of, new_shape, with_rule}
 pub use Rattle.clap.specs.Simple.{new_rule}

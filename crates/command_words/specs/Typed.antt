@@ -1,8 +1,8 @@
 -- What the words of a subcommand say, by the rows that clap finds for its arguments.
-use Rattle.std.specs.Prelude.{◌≡◌, ◌⊎◌, ℕ, Bool, true, false, List, map, Option, Some, None, option_map, codes, String}
+use Rattle.std.specs.Prelude.{◌≡◌, ◌≢◌, ◌⊎◌, ◌<◌, ◌^◌, ℕ, Bool, true, false, List, [], ◌∷◌, ◌++◌, Option, Some, None, option_map, codes, String}
 use Rattle.std.specs.declared.alloc.Global.{Global}
 use Rattle.std.specs.String.{string_bytes}
-use Rattle.std.specs.Str.Parse.{digits_value, without_leading_plus}
+use Rattle.std.specs.Str.Parse.{IsNumeral, digits_value, without_leading_plus}
 use Rattle.clap.specs.Walk.{Row, Text, first_of, one_of}
 use Rattle.clap.specs.Simple.{subcommand_of}
 use Rattle.command_words.specs.CommandLine.{forth83}
@@ -113,3 +113,66 @@ Means (Some (name, rows)) w = AreOf name rows w
 -- w is what was typed, of which the first word is the program's name
 abbrev pub IsTyped : (typed : List Text) → Words → Type 0
 IsTyped typed w = Means (subcommand_of forth83 typed) w
+
+-- an argument that the words of a subcommand are made of: a text, a number of so many bits, or such a number where one was typed
+pub data Part : Type 0 where
+  Word : Text → Part
+  Number : ℕ → Text → Part
+  NumberIfGiven : ℕ → Text → Part
+
+-- a text spells no number of so many bits
+abbrev pub IsNoNumber : ℕ → Text → Type 0
+IsNoNumber bits text = ¬ (IsNumeral 10 (without_leading_plus text) × (digits_value 10 (without_leading_plus text) < 2 ^ bits))
+
+abbrev pub Lacks : List Row → Part → Type 0
+Lacks rows (Word name) = first_of name rows ≡ None
+Lacks rows (Number bits name) = (one_of name rows ≡ None) ⊎ ((text : Text) × (one_of name rows ≡ Some text) × IsNoNumber bits text)
+Lacks rows (NumberIfGiven bits name) = (text : Text) × (one_of name rows ≡ Some text) × IsNoNumber bits text
+
+-- clap found no such value for one of these
+abbrev pub LacksOne : List Row → List Part → Type 0
+LacksOne rows [] = ⊥
+LacksOne rows (part ∷ parts) = Lacks rows part ⊎ LacksOne rows parts
+
+-- what the words of each subcommand are made of
+abbrev pub screens_parts : List Part
+screens_parts = Word (codes "BLOCKS") ∷ Number 16 (codes "FROM") ∷ Number 16 (codes "TO") ∷ []
+
+abbrev pub limit_part : Part
+limit_part = Number 64 (codes "limit")
+
+abbrev pub build_parts : List Part
+build_parts = screens_parts ++ Word (codes "IMAGE") ∷ Number 16 (codes "buffers") ∷ []
+
+abbrev pub load_parts : List Part
+load_parts = Word (codes "IMAGE") ∷ (screens_parts ++ Word (codes "OUT") ∷ limit_part ∷ [])
+
+abbrev pub upgrade_parts : List Part
+upgrade_parts = Word (codes "IMAGE") ∷ Word (codes "OUT") ∷ NumberIfGiven 16 (codes "buffers") ∷ []
+
+abbrev pub container_parts : List Part
+container_parts =
+    Word (codes "CONTAINER") ∷ Word (codes "BLOCKS") ∷ Word (codes "format") ∷ NumberIfGiven 32 (codes "offset") ∷ NumberIfGiven 16 (codes "sector") ∷ []
+
+abbrev pub debug_parts : List Part
+debug_parts = Word (codes "IMAGE") ∷ Word (codes "NAME") ∷ Word (codes "TRACE") ∷ limit_part ∷ []
+
+abbrev pub seen_parts : List Part
+seen_parts = Word (codes "IMAGE") ∷ Word (codes "NAME") ∷ []
+
+abbrev pub parts : List (Text × List Part)
+parts =
+    (codes "kernel", Word (codes "BLOCKS") ∷ []) ∷ (codes "build", build_parts) ∷ (codes "load", load_parts) ∷ (codes "upgrade", upgrade_parts)
+    ∷ (codes "text", screens_parts) ∷ (codes "screens", Word (codes "TEXT") ∷ Word (codes "BLOCKS") ∷ [])
+    ∷ (codes "new", Word (codes "BLOCKS") ∷ Number 32 (codes "N") ∷ []) ∷ (codes "import", container_parts) ∷ (codes "export", container_parts)
+    ∷ (codes "run", Word (codes "IMAGE") ∷ limit_part ∷ []) ∷ (codes "debug", debug_parts) ∷ (codes "see", seen_parts) ∷ (codes "view", seen_parts) ∷ []
+
+-- of the subcommand of this name one part is lacking, or none has this name
+abbrev pub LacksIn : List (Text × List Part) → (name : Text) → List Row → Type 0
+LacksIn [] name rows = Unit {0}
+LacksIn (known ∷ more) name rows = ((name ≡ known.0) × LacksOne rows known.1) ⊎ ((name ≢ known.0) × LacksIn more name rows)
+
+-- of what clap found for the subcommand that was entered, if one was, a part is lacking
+abbrev pub LacksWords : Option (Text × List Row) → Type 0
+LacksWords None = Unit {0}
+LacksWords (Some (name, rows)) = LacksIn parts name rows

@@ -8,10 +8,11 @@ mod subcommands;
 
 ghost use Rattle.std.specs.Prelude.{◌≡◌, ◌⊎◌, map, true, if◌then◌else◌, IfOk, IfErr};
 ghost use Rattle.std.specs.String.{string_bytes};
+ghost use Rattle.clap.specs.Simple.{subcommand_of};
 ghost use Rattle.clap.specs.Takes.{takes};
 ghost use Rattle.clap.specs.Values.{kind_of};
 ghost use Rattle.command_words.specs.CommandLine as line;
-ghost use Rattle.command_words.specs.Typed.{IsTyped};
+ghost use Rattle.command_words.specs.Typed.{IsTyped, LacksWords};
 ghost use Rattle.command_words.specs.Refused as refused;
 
 use clap::error::ErrorKind;
@@ -129,8 +130,10 @@ enum Refusal {
 /// Reads a command line, of which the first word is the program's name.
 fn read(alloc: Global, typed: &[String]) -> Result<Words, Refusal>
     ensures typed { IfOk result (IsTyped (map string_bytes typed.now)) }
-    // A command line that the program takes is no usage error.
+    // A command line that the program takes is no usage error. What clap lets through is read, unless clap found no value for a part
+    // that the words need, or memory runs out.
     ensures taken { IfErr result (λ why. takes line.forth83 (map string_bytes typed.now) ≡ true → refused.IsNoUsage why) }
+    ensures lacks { IfErr result (λ why. why ≡ Refusal.Unread Unread.Missing → LacksWords (subcommand_of line.forth83 (map string_bytes typed.now))) }
 {
     let Ok(command) = command(alloc) else {
         return Err(Refusal::Unread(Unread::OutOfMemory));

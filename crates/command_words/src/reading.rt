@@ -1,6 +1,7 @@
 //! What was typed, read from what `clap` found.
 
-ghost use Rattle.std.specs.Prelude.{◌≡◌, Some, None, IfOk, codes};
+ghost use Rattle.std.specs.Prelude.{◌≡◌, ◌∷◌, [], Some, None, IfErr, IfOk, codes};
+ghost use Rattle.std.specs.String.{string_bytes};
 ghost use Rattle.clap.specs.Walk.{rows_of};
 ghost use Rattle.clap.specs.Matches.{found_of};
 ghost use Rattle.clap.specs.Simple.{subcommand_rows_of};
@@ -8,7 +9,7 @@ ghost use Rattle.command_words.specs.Typed as typed;
 
 use crate::{BuildWords, ContainerWords, LoadWords, RunWords, ScreenRange, Words};
 use clap::ArgMatches;
-use std::alloc::{AllocError, Global};
+use std::alloc::Global;
 use thiserror::Error;
 
 /// Why no words can be made of what `clap` found.
@@ -22,19 +23,25 @@ pub enum Unread {
     Missing,
 }
 
-impl From<AllocError> for Unread {
-    fn from(_: AllocError) -> Unread {
-        Unread::OutOfMemory
+/// A text of one's own.
+fn owned(alloc: Global, text: &str) -> Result<String, Unread>
+    ensures text { IfOk result (λ owned. string_bytes owned ≡ text.now) }
+    ensures wanting { IfErr result (λ why. why ≡ Unread.OutOfMemory) }
+{
+    match String::from_str(alloc, text) {
+        Ok(owned) => Ok(owned),
+        Err(_) => Err(Unread::OutOfMemory),
     }
 }
 
 /// The text that was typed for an argument, or stands for one that was left out.
 fn text(alloc: Global, matches: &ArgMatches<'_>, name: &str) -> Result<String, Unread>
-    ensures { IfOk result (typed.IsText (rows_of (found_of matches.now)) name.now) }
+    ensures typed { IfOk result (typed.IsText (rows_of (found_of matches.now)) name.now) }
+    ensures lacks { IfErr result (λ why. why ≡ Unread.Missing → typed.Lacks (rows_of (found_of matches.now)) (typed.Word name.now)) }
 {
     match matches.get_str(name) {
         None => Err(Unread::Missing),
-        Some(text) => Ok(String::from_str(alloc, text)?),
+        Some(text) => owned(alloc, text),
     }
 }
 
@@ -44,17 +51,19 @@ fn text_if_given(
     matches: &ArgMatches<'_>,
     name: &str,
 ) -> Result<Option<String>, Unread>
-    ensures { IfOk result (typed.IsTextIfGiven (rows_of (found_of matches.now)) name.now) }
+    ensures typed { IfOk result (typed.IsTextIfGiven (rows_of (found_of matches.now)) name.now) }
+    ensures lacks { IfErr result (λ why. why ≡ Unread.Missing → ⊥) }
 {
     match matches.get_str(name) {
         None => Ok(None),
-        Some(text) => Ok(Some(String::from_str(alloc, text)?)),
+        Some(text) => Ok(Some(owned(alloc, text)?)),
     }
 }
 
 /// A number of 16 bits, if one was typed.
 fn number_if_given(matches: &ArgMatches<'_>, name: &str) -> Result<Option<u16>, Unread>
-    ensures { IfOk result (λ n. typed.number_in name.now (rows_of (found_of matches.now)) ≡ n) }
+    ensures typed { IfOk result (λ n. typed.number_in name.now (rows_of (found_of matches.now)) ≡ n) }
+    ensures lacks { IfErr result (λ why. why ≡ Unread.Missing → typed.Lacks (rows_of (found_of matches.now)) (typed.NumberIfGiven 16 name.now)) }
 {
     match matches.try_get_one::<u16>(name) {
         Ok(number) => Ok(number),
@@ -64,7 +73,8 @@ fn number_if_given(matches: &ArgMatches<'_>, name: &str) -> Result<Option<u16>, 
 
 /// A number of 16 bits.
 fn number(matches: &ArgMatches<'_>, name: &str) -> Result<u16, Unread>
-    ensures { IfOk result (λ n. typed.number_in name.now (rows_of (found_of matches.now)) ≡ Some n) }
+    ensures typed { IfOk result (λ n. typed.number_in name.now (rows_of (found_of matches.now)) ≡ Some n) }
+    ensures lacks { IfErr result (λ why. why ≡ Unread.Missing → typed.Lacks (rows_of (found_of matches.now)) (typed.Number 16 name.now)) }
 {
     match number_if_given(matches, name)? {
         Some(number) => Ok(number),
@@ -81,7 +91,8 @@ fn is_given(matches: &ArgMatches<'_>, name: &str) -> bool
 
 /// The screens that BLOCKS, FROM and TO name.
 fn screens(alloc: Global, matches: &ArgMatches<'_>) -> Result<ScreenRange, Unread>
-    ensures { IfOk result (typed.AreScreens (rows_of (found_of matches.now))) }
+    ensures typed { IfOk result (typed.AreScreens (rows_of (found_of matches.now))) }
+    ensures lacks { IfErr result (λ why. why ≡ Unread.Missing → typed.LacksOne (rows_of (found_of matches.now)) typed.screens_parts) }
 {
     Ok(ScreenRange {
         blocks: text(alloc, matches, "BLOCKS")?,
@@ -92,27 +103,32 @@ fn screens(alloc: Global, matches: &ArgMatches<'_>) -> Result<ScreenRange, Unrea
 
 /// A limit of ticks.
 fn limit(matches: &ArgMatches<'_>) -> Result<u64, Unread>
-    ensures { IfOk result (λ n. typed.number_in (codes "limit") (rows_of (found_of matches.now)) ≡ Some n) }
+    ensures typed { IfOk result (λ n. typed.number_in (codes "limit") (rows_of (found_of matches.now)) ≡ Some n) }
+    ensures lacks { IfErr result (λ why. why ≡ Unread.Missing → typed.Lacks (rows_of (found_of matches.now)) typed.limit_part) }
 {
     match matches.try_get_one::<u64>("limit") {
         Ok(Some(limit)) => Ok(limit),
-        _ => Err(Unread::Missing),
+        Ok(None) => Err(Unread::Missing),
+        Err(_) => Err(Unread::Missing),
     }
 }
 
 /// A number of blocks.
 fn count(matches: &ArgMatches<'_>) -> Result<u32, Unread>
-    ensures { IfOk result (λ n. typed.number_in (codes "N") (rows_of (found_of matches.now)) ≡ Some n) }
+    ensures typed { IfOk result (λ n. typed.number_in (codes "N") (rows_of (found_of matches.now)) ≡ Some n) }
+    ensures lacks { IfErr result (λ why. why ≡ Unread.Missing → typed.Lacks (rows_of (found_of matches.now)) (typed.Number 32 (codes "N"))) }
 {
     match matches.try_get_one::<u32>("N") {
         Ok(Some(count)) => Ok(count),
-        _ => Err(Unread::Missing),
+        Ok(None) => Err(Unread::Missing),
+        Err(_) => Err(Unread::Missing),
     }
 }
 
 /// The bytes before a container's first sector, if they were typed.
 fn offset(matches: &ArgMatches<'_>) -> Result<Option<u32>, Unread>
-    ensures { IfOk result (λ n. typed.number_in (codes "offset") (rows_of (found_of matches.now)) ≡ n) }
+    ensures typed { IfOk result (λ n. typed.number_in (codes "offset") (rows_of (found_of matches.now)) ≡ n) }
+    ensures lacks { IfErr result (λ why. why ≡ Unread.Missing → typed.Lacks (rows_of (found_of matches.now)) (typed.NumberIfGiven 32 (codes "offset"))) }
 {
     match matches.try_get_one::<u32>("offset") {
         Ok(offset) => Ok(offset),
@@ -121,7 +137,8 @@ fn offset(matches: &ArgMatches<'_>) -> Result<Option<u32>, Unread>
 }
 
 fn build_words(alloc: Global, matches: &ArgMatches<'_>) -> Result<BuildWords, Unread>
-    ensures { IfOk result (typed.IsBuild (rows_of (found_of matches.now))) }
+    ensures typed { IfOk result (typed.IsBuild (rows_of (found_of matches.now))) }
+    ensures lacks { IfErr result (λ why. why ≡ Unread.Missing → typed.LacksOne (rows_of (found_of matches.now)) typed.build_parts) }
 {
     Ok(BuildWords {
         screens: screens(alloc, matches)?,
@@ -132,7 +149,8 @@ fn build_words(alloc: Global, matches: &ArgMatches<'_>) -> Result<BuildWords, Un
 }
 
 fn load_words(alloc: Global, matches: &ArgMatches<'_>) -> Result<LoadWords, Unread>
-    ensures { IfOk result (typed.IsLoad (rows_of (found_of matches.now))) }
+    ensures typed { IfOk result (typed.IsLoad (rows_of (found_of matches.now))) }
+    ensures lacks { IfErr result (λ why. why ≡ Unread.Missing → typed.LacksOne (rows_of (found_of matches.now)) typed.load_parts) }
 {
     Ok(LoadWords {
         image: text(alloc, matches, "IMAGE")?,
@@ -144,7 +162,8 @@ fn load_words(alloc: Global, matches: &ArgMatches<'_>) -> Result<LoadWords, Unre
 }
 
 fn upgrade_words(alloc: Global, matches: &ArgMatches<'_>) -> Result<Words, Unread>
-    ensures { IfOk result (typed.AreOf (codes "upgrade") (rows_of (found_of matches.now))) }
+    ensures typed { IfOk result (typed.AreOf (codes "upgrade") (rows_of (found_of matches.now))) }
+    ensures lacks { IfErr result (λ why. why ≡ Unread.Missing → typed.LacksOne (rows_of (found_of matches.now)) typed.upgrade_parts) }
 {
     Ok(Words::Upgrade {
         image: text(alloc, matches, "IMAGE")?,
@@ -154,7 +173,8 @@ fn upgrade_words(alloc: Global, matches: &ArgMatches<'_>) -> Result<Words, Unrea
 }
 
 fn screens_words(alloc: Global, matches: &ArgMatches<'_>) -> Result<Words, Unread>
-    ensures { IfOk result (typed.AreOf (codes "screens") (rows_of (found_of matches.now))) }
+    ensures typed { IfOk result (typed.AreOf (codes "screens") (rows_of (found_of matches.now))) }
+    ensures lacks { IfErr result (λ why. why ≡ Unread.Missing → typed.LacksOne (rows_of (found_of matches.now)) (typed.Word (codes "TEXT") ∷ typed.Word (codes "BLOCKS") ∷ [])) }
 {
     Ok(Words::Screens {
         text: text(alloc, matches, "TEXT")?,
@@ -163,7 +183,8 @@ fn screens_words(alloc: Global, matches: &ArgMatches<'_>) -> Result<Words, Unrea
 }
 
 fn new_words(alloc: Global, matches: &ArgMatches<'_>) -> Result<Words, Unread>
-    ensures { IfOk result (typed.AreOf (codes "new") (rows_of (found_of matches.now))) }
+    ensures typed { IfOk result (typed.AreOf (codes "new") (rows_of (found_of matches.now))) }
+    ensures lacks { IfErr result (λ why. why ≡ Unread.Missing → typed.LacksOne (rows_of (found_of matches.now)) (typed.Word (codes "BLOCKS") ∷ typed.Number 32 (codes "N") ∷ [])) }
 {
     Ok(Words::New {
         blocks: text(alloc, matches, "BLOCKS")?,
@@ -179,6 +200,7 @@ fn container_words(
 ) -> Result<ContainerWords, Unread>
     ensures typed { IfOk result (typed.IsContainer (rows_of (found_of matches.now))) }
     ensures cleans { IfOk result (λ w. w.cleans ≡ cleans) }
+    ensures lacks { IfErr result (λ why. why ≡ Unread.Missing → typed.LacksOne (rows_of (found_of matches.now)) typed.container_parts) }
 {
     Ok(ContainerWords {
         container: text(alloc, matches, "CONTAINER")?,
@@ -192,7 +214,8 @@ fn container_words(
 }
 
 fn run_words(alloc: Global, matches: &ArgMatches<'_>) -> Result<RunWords, Unread>
-    ensures { IfOk result (typed.IsRun (rows_of (found_of matches.now))) }
+    ensures typed { IfOk result (typed.IsRun (rows_of (found_of matches.now))) }
+    ensures lacks { IfErr result (λ why. why ≡ Unread.Missing → typed.LacksOne (rows_of (found_of matches.now)) (typed.Word (codes "IMAGE") ∷ typed.limit_part ∷ [])) }
 {
     Ok(RunWords {
         image: text(alloc, matches, "IMAGE")?,
@@ -204,7 +227,8 @@ fn run_words(alloc: Global, matches: &ArgMatches<'_>) -> Result<RunWords, Unread
 }
 
 fn debug_words(alloc: Global, matches: &ArgMatches<'_>) -> Result<Words, Unread>
-    ensures { IfOk result (typed.AreOf (codes "debug") (rows_of (found_of matches.now))) }
+    ensures typed { IfOk result (typed.AreOf (codes "debug") (rows_of (found_of matches.now))) }
+    ensures lacks { IfErr result (λ why. why ≡ Unread.Missing → typed.LacksOne (rows_of (found_of matches.now)) typed.debug_parts) }
 {
     Ok(Words::Debug {
         image: text(alloc, matches, "IMAGE")?,
@@ -216,7 +240,8 @@ fn debug_words(alloc: Global, matches: &ArgMatches<'_>) -> Result<Words, Unread>
 }
 
 fn see_words(alloc: Global, matches: &ArgMatches<'_>) -> Result<Words, Unread>
-    ensures { IfOk result (typed.AreOf (codes "see") (rows_of (found_of matches.now))) }
+    ensures typed { IfOk result (typed.AreOf (codes "see") (rows_of (found_of matches.now))) }
+    ensures lacks { IfErr result (λ why. why ≡ Unread.Missing → typed.LacksOne (rows_of (found_of matches.now)) typed.seen_parts) }
 {
     Ok(Words::See {
         image: text(alloc, matches, "IMAGE")?,
@@ -225,7 +250,8 @@ fn see_words(alloc: Global, matches: &ArgMatches<'_>) -> Result<Words, Unread>
 }
 
 fn view_words(alloc: Global, matches: &ArgMatches<'_>) -> Result<Words, Unread>
-    ensures { IfOk result (typed.AreOf (codes "view") (rows_of (found_of matches.now))) }
+    ensures typed { IfOk result (typed.AreOf (codes "view") (rows_of (found_of matches.now))) }
+    ensures lacks { IfErr result (λ why. why ≡ Unread.Missing → typed.LacksOne (rows_of (found_of matches.now)) typed.seen_parts) }
 {
     Ok(Words::View {
         image: text(alloc, matches, "IMAGE")?,
@@ -234,7 +260,8 @@ fn view_words(alloc: Global, matches: &ArgMatches<'_>) -> Result<Words, Unread>
 }
 
 fn kernel_words(alloc: Global, matches: &ArgMatches<'_>) -> Result<Words, Unread>
-    ensures { IfOk result (typed.AreOf (codes "kernel") (rows_of (found_of matches.now))) }
+    ensures typed { IfOk result (typed.AreOf (codes "kernel") (rows_of (found_of matches.now))) }
+    ensures lacks { IfErr result (λ why. why ≡ Unread.Missing → typed.LacksOne (rows_of (found_of matches.now)) (typed.Word (codes "BLOCKS") ∷ [])) }
 {
     Ok(Words::Kernel {
         blocks: text(alloc, matches, "BLOCKS")?,
@@ -243,7 +270,8 @@ fn kernel_words(alloc: Global, matches: &ArgMatches<'_>) -> Result<Words, Unread
 
 /// The words of the subcommand of this name.
 fn words_of(alloc: Global, name: &str, matches: &ArgMatches<'_>) -> Result<Words, Unread>
-    ensures { IfOk result (typed.AreOf name.now (rows_of (found_of matches.now))) }
+    ensures typed { IfOk result (typed.AreOf name.now (rows_of (found_of matches.now))) }
+    ensures lacks { IfErr result (λ why. why ≡ Unread.Missing → typed.LacksIn typed.parts name.now (rows_of (found_of matches.now))) }
 {
     match name {
         "kernel" => kernel_words(alloc, matches),
@@ -268,7 +296,8 @@ fn words_of(alloc: Global, name: &str, matches: &ArgMatches<'_>) -> Result<Words
 
 /// The words of the subcommand that was typed.
 pub fn words_in(alloc: Global, matches: &ArgMatches<'_>) -> Result<Words, Unread>
-    ensures { IfOk result (typed.Means (subcommand_rows_of matches.now)) }
+    ensures typed { IfOk result (typed.Means (subcommand_rows_of matches.now)) }
+    ensures lacks { IfErr result (λ why. why ≡ Unread.Missing → typed.LacksWords (subcommand_rows_of matches.now)) }
 {
     match matches.subcommand() {
         Some((name, inner)) => words_of(alloc, name, inner),

@@ -1,7 +1,5 @@
-use Rattle.std.proofs.Common.{rules, ◌≡◌, ◌∙◌, sym, ap, Option, Some, None, option_map, Bor, ℕ, List}
 use Rattle.clap.specs.Matches.{found_of}
-use Rattle.clap.proofs.WalkLemmas.{first_value-rows}
-use Rattle.command_words.proofs.Rows.{flag_read, number_read}
+use Rattle.command_words.proofs.Rows.{flag_read}
 use Rattle.command_words.proofs.reading.is_given.Goals as goal
 
 pub returns : goal.returns

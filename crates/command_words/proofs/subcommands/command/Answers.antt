@@ -1,6 +1,3 @@
-use Rattle.std.proofs.Common.{rules, ◌≡◌, ◌++◌, ◌∙◌, ap, refl, IfOk, ℕ, Bool, true, false, List, [], ◌∷◌}
-use Rattle.clap.specs.Simple.{app_of, app_of_fields, on_top}
-use Rattle.clap.specs.declared.builder.command.Command.TheViews.{out-Command as fields_of}
 use Rattle.command_words.proofs.Adding.{about, helped, if_ok_then, joined, required, versioned}
 use Rattle.command_words.specs.CommandLine as line
 use Rattle.command_words.proofs.subcommands.command.Goals as goal

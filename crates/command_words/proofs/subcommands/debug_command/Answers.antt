@@ -1,8 +1,4 @@
-use Rattle.std.proofs.Common.{rules, ◌≡◌, ◌++◌, ◌∙◌, ap, refl, IfOk, ℕ, Bool, true, false, List, [], ◌∷◌}
-use Rattle.clap.specs.Simple.{app_of, app_of_fields, on_top}
-use Rattle.clap.specs.declared.builder.command.Command.TheViews.{out-Command as fields_of}
-use Rattle.command_words.proofs.Adding.{about, grown, if_ok_then, joined, passed}
-use Rattle.command_words.specs.CommandLine as line
+use Rattle.command_words.proofs.Adding.{about, grown, if_ok_then}
 use Rattle.command_words.proofs.subcommands.debug_command.Goals as goal
 
 pub returns : goal.returns
