@@ -4,12 +4,13 @@
 ghost use Rattle.std.specs.Prelude.{false, None};
 
 use crate::assertions::assert_equal;
+use crate::session_tests::run_alone;
 use block_buffers::{Device, DeviceFault, MemoryDevice};
 use inner_interpreter::ends::FailingWriter;
 use inner_interpreter::{Reading, Writing};
 use std::alloc::Global;
 use std::test::Fail;
-use subcommands::{Ended, do_build, do_kernel, do_run};
+use subcommands::{Ended, do_build, do_kernel};
 
 /// A device that keeps what is asked of it: a letter and the block's number as a digit.
 #[derive(Drop)]
@@ -203,7 +204,7 @@ fn typed_at_the_kernel(rt: HostRuntime) -> Result<(), Fail> {
         let mut reader = Reading::new(typed.as_bytes());
         let mut writer = Writing::new(Vec::new(alloc));
         let image = image.as_slice();
-        let Ended { status, .. } = do_run(
+        let Ended { status, .. } = run_alone(
             alloc,
             image,
             &mut watched,
@@ -236,7 +237,7 @@ fn a_line_is_put(rt: HostRuntime) -> Result<(), Fail> {
     let mut reader = Reading::new(b"3 SCR ! 0 PUT hi\nFLUSH\n".as_slice());
     let mut writer = Writing::new(Vec::new(alloc));
     let image = image.as_slice();
-    let ended = do_run(
+    let ended = run_alone(
         alloc,
         image,
         &mut blocks,
@@ -268,7 +269,7 @@ fn output_that_is_cut(rt: HostRuntime) -> Result<(), Fail> {
         let mut none = device(alloc, b"", &[])?;
         let mut reader = Reading::new(b"3 4 + .\n".as_slice());
         let image = image.as_slice();
-        let ended = do_run(alloc, image, &mut none, 1_000_000, &mut reader, &mut writer);
+        let ended = run_alone(alloc, image, &mut none, 1_000_000, &mut reader, &mut writer);
         assert_equal(&rt, (room, ended.status), (room, 5));
         let wanted = &b"3 4 + . 7  ok\n"[..room];
         assert_equal(&rt, (room, writer.written()), (room, wanted));

@@ -1,11 +1,12 @@
 //! The subcommands over bytes: what they print, and the status.
 
 use crate::assertions::assert_equal;
+use crate::session_tests::run_alone;
 use block_buffers::MemoryDevice;
 use inner_interpreter::ends::FailingReader;
-use inner_interpreter::{Reading, Writing};
+use inner_interpreter::{Machine, Reading, Stop, Writing, run};
 use std::alloc::Global;
-use subcommands::do_run;
+use std::test::Fail;
 
 /// The limit of a run where none is given.
 const DEFAULT_LIMIT: u64 = 1_000_000_000_000;
@@ -40,7 +41,7 @@ fn none(alloc: Global) -> MemoryDevice {
 fn ran(alloc: Global, file: &[u8], limit: u64) -> (u8, Vec<u8>) {
     let mut reader = Reading::new(b"".as_slice());
     let mut writer = Writing::new(Vec::new(alloc));
-    let ended = do_run(
+    let ended = run_alone(
         alloc,
         file,
         &mut none(alloc),
@@ -55,7 +56,7 @@ fn ran(alloc: Global, file: &[u8], limit: u64) -> (u8, Vec<u8>) {
 fn status_with_room(alloc: Global, file: &[u8], room: &mut [u8]) -> u8 {
     let mut reader = Reading::new(b"".as_slice());
     let mut writer = Writing::new(room);
-    do_run(
+    run_alone(
         alloc,
         file,
         &mut none(alloc),
@@ -74,6 +75,32 @@ fn an_image_runs_to_its_end(rt: HostRuntime) {
     let (status, printed) = ran(rt.alloc(), &hi(), 3);
     assert_equal(&rt, status, 4);
     assert_equal(&rt, printed.as_slice(), b"H".as_slice());
+}
+
+/// The same image, run by itself and not as a session.
+#[test]
+fn a_machine_runs_to_its_end(rt: HostRuntime) -> Result<(), Fail> {
+    let alloc = rt.alloc();
+    let Ok(image) = image_loader::read(alloc, &hi()) else {
+        return Err("no image".into());
+    };
+    let Ok(mut machine) = Machine::load(alloc, &image, 0) else {
+        return Err("no machine".into());
+    };
+    let mut reader = Reading::new(b"".as_slice());
+    let mut writer = Writing::new(Vec::new(alloc));
+    let mut blocks = none(alloc);
+    let stop = run(
+        alloc,
+        &mut machine,
+        &mut reader,
+        &mut writer,
+        &mut blocks,
+        DEFAULT_LIMIT,
+    );
+    assert!(rt; matches!(stop, Ok(Stop::Bye)));
+    assert_equal(&rt, writer.into_inner().as_slice(), b"Hi".as_slice());
+    Ok(())
 }
 
 /// Two bytes of the file are changed: the version 3, the size 61,441, and a magic that begins with `G`.
@@ -152,7 +179,7 @@ fn a_reader_that_fails(rt: HostRuntime) {
     let mut reader = FailingReader::new(b'a');
     let mut writer = Writing::new(Vec::new(rt.alloc()));
     let mut none = none(rt.alloc());
-    let ended = do_run(
+    let ended = run_alone(
         rt.alloc(),
         &file,
         &mut none,

@@ -2,11 +2,14 @@
 
 use crate::assertions::assert_equal;
 use crate::kernel_runs::{device, kernel_image};
-use block_buffers::MemoryDevice;
-use inner_interpreter::{Answer, ByteLog, Machine, Move, Reading, Writing, make_moves, make_ticks};
+use block_buffers::{Device, MemoryDevice};
+use inner_interpreter::{
+    Answer, ByteLog, Input, Machine, Move, Output, Reading, Writing, make_moves, make_ticks,
+};
 use session_runs::{SessionHost, Wanted, Wish, do_session};
 use std::alloc::Global;
 use std::test::Fail;
+use subcommands::Ended;
 
 /// A host that asks for the end of the run, if it is to, and has what it was given to keep.
 #[derive(Drop)]
@@ -57,6 +60,25 @@ impl SessionHost for Ender {
     fn say_unwritten(&mut self, block: u16) {
         self.unwritten = block;
     }
+}
+
+/// Runs an image as a session that nobody interrupts and that saves nothing.
+pub fn run_alone<R: Input, W: Output, D: Device>(
+    alloc: Global,
+    image: &[u8],
+    device: &mut D,
+    limit: u64,
+    reader: &mut R,
+    writer: &mut W,
+) -> Ended {
+    let wanted = Wanted {
+        limit,
+        slice: 1_000,
+        saves: false,
+        keeps: false,
+    };
+    let mut host = Ender::new(alloc, false);
+    do_session(alloc, image, device, wanted, reader, writer, &mut host)
 }
 
 /// Runs a session of the kernel by these typed bytes, and answers its status.

@@ -1,2 +1,2 @@
-pub mod Both
+mod Debugging
 mod Over

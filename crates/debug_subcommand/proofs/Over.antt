@@ -2,7 +2,7 @@
 use Rattle.std.proofs.Common.{◌≡◌, ◌⊎◌, ◌∙◌, inl, inr, ap, subst, ℕ, List, [], Option, Some, Bool, IsOk}
 use Rattle.block_buffers.specs.DeviceCalls.{DeviceCall}
 use Rattle.debug_subcommand.specs.Files.{IsWanting}
-use Rattle.debug_subcommand.specs.Traced.{HasTracedWith, IsUnmarked}
+use Rattle.debug_subcommand.specs.Traced.{AreKept, HasTracedWith, IsUnmarked}
 use Rattle.debug_tracer.specs.Debugged.{debugged}
 use Rattle.image_loader.specs.Files.{Contents}
 use Rattle.inner_interpreter.specs.Moves.{logs}
@@ -12,7 +12,7 @@ over_file : {R D T : Type 0} (reads : R → List (Option ℕ)) (calls : D → Li
     (name : List ℕ) (count limit : ℕ) (r r' : R) (d d' : D) (t t' : T) (unread failed untraced : Bool) (sent sent' : Option (List ℕ)) (status : ℕ)
     → reads r ≡ [] → calls d ≡ [] → lines t ≡ Some []
     → HasTracedWith status file name count (logs (calls d) sent (reads r)) (logs (calls d') sent' (reads r')) limit unread failed untraced (lines t) (lines t')
-    ⊎ IsUnmarked status failed r r' d d' t t'
+    ⊎ IsUnmarked (AreKept r r' d d' t t') status failed
     → HasTracedWith status file name count (logs [] sent []) (logs (calls d') sent' (reads r')) limit unread failed untraced (Some []) (lines t')
     ⊎ IsWanting status failed (reads r') (calls d') (lines t')
 over_file reads calls lines file name count limit r r' d d' t t' unread failed untraced sent sent' status hr hd ht (inl h) =
@@ -21,10 +21,10 @@ over_file reads calls lines file name count limit r r' d d' t t' unread failed u
     (subst (λ x. HasTracedWith status file name count (logs (calls d) sent x) (logs (calls d') sent' (reads r')) limit unread failed untraced (lines t) (lines t')) hr h)))
 over_file reads calls lines file name count limit r r' d d' t t' unread failed untraced sent sent' status hr hd ht (inr u) =
     inr (record {
-      untyped = ap reads u.unrun.reader_is ∙ hr;
-      uncalled = ap calls u.unrun.device_is ∙ hd;
-      untraced = ap lines u.trace_is ∙ ht;
-      status_is = u.unrun.status_is;
+      untyped = ap reads u.0.0 ∙ hr;
+      uncalled = ap calls u.0.1 ∙ hd;
+      untraced = ap lines u.0.2 ∙ ht;
+      status_is = u.1;
     })
 
 pub over : {R D T : Type 0} (reads : R → List (Option ℕ)) (calls : D → List DeviceCall) (lines : T → Option (List ℕ)) (bytes : List ℕ)
@@ -32,7 +32,7 @@ pub over : {R D T : Type 0} (reads : R → List (Option ℕ)) (calls : D → Lis
     → reads r ≡ [] → calls d ≡ [] → lines t ≡ Some []
     → OfImageFile bytes (λ file. IsOk (debugged (memory_of file) name) →
     HasTracedWith status file name count (logs (calls d) sent (reads r)) (logs (calls d') sent' (reads r')) limit unread failed untraced (lines t) (lines t')
-    ⊎ IsUnmarked status failed r r' d d' t t')
+    ⊎ IsUnmarked (AreKept r r' d d' t t') status failed)
     → OfImageFile bytes (λ file. IsOk (debugged (memory_of file) name) →
     HasTracedWith status file name count (logs [] sent []) (logs (calls d') sent' (reads r')) limit unread failed untraced (Some []) (lines t')
     ⊎ IsWanting status failed (reads r') (calls d') (lines t'))

@@ -5,7 +5,7 @@ use Rattle.debug_subcommand.specs.Traced.{HasTracedWith, OfTraced, OfUntraced, d
 use Rattle.debug_tracer.specs.Debugged.{debugged}
 use Rattle.inner_interpreter.specs.Moves.{logs}
 use Rattle.named_files.specs.Asking.{Asks, Step, opens, step}
-use Rattle.named_files.specs.Done.{Done, Reads}
+use Rattle.named_files.specs.Done.{Done, Reads, Refuses}
 use Rattle.named_files.specs.declared.step_log.Deed.TheVariants as deed
 use Rattle.subcommands.specs.Ends.{IsRefusal}
 use Rattle.subcommands.specs.Lines.{OfImageFile, PrintsNoImage, PrintsOutOfMemory, PrintsRefusal, memory_of}
@@ -25,6 +25,10 @@ abbrev pub debug_steps : (image trace : List ℕ) → (blocks : List (List ℕ))
 debug_steps image trace blocks =
     step deed.KeepApart (image ∷ trace ∷ []) ∷ (apart_from trace blocks
     ++ (step deed.KeepTrace (trace ∷ []) ∷ step deed.Read (image ∷ []) ∷ (opens blocks ++ (step deed.Open (trace ∷ []) ∷ step deed.Listen [] ∷ []))))
+
+-- `debug` could not begin: a step was refused
+abbrev pub RefusesDebug : (image trace : List ℕ) → (blocks : List (List ℕ)) → (status : ℕ) → (old new : Done) → Type 0
+RefusesDebug image trace blocks status old new = Refuses (debug_steps image trace blocks) status old new
 
 -- a new trace of which nothing came is removed
 abbrev pub removal : (trace : List ℕ) → (unused : Bool) → List Step

@@ -1,9 +1,9 @@
 //! `debug` over the files that the command line names.
 
 ghost use Rattle.std.specs.Prelude.{◌≡◌, false, true, IfErr, IfOk};
-ghost use Rattle.debug_subcommand.specs.Files.{Debugs, apart_from, debug_steps, removal};
+ghost use Rattle.debug_subcommand.specs.Files.{Debugs, RefusesDebug, apart_from, removal};
 ghost use Rattle.named_files.specs.Asking.{AnswersAll, Asks, given};
-ghost use Rattle.named_files.specs.Done.{Refuses, done, status_of};
+ghost use Rattle.named_files.specs.Done.{done, status_of};
 
 use crate::debug_command::do_debug;
 use inner_interpreter::{Output, Reading, Writing};
@@ -45,7 +45,7 @@ pub fn debug_word<F: Files, W: Output>(
 ) -> Result<u8, u8>
     ensures debugged { IfOk result (λ status. Debugs image.now name.now trace.now (given blocks.entry) limit status (W.failed writer.new)
         (done (F.log files.old) (W.sent writer.old)) (done (F.log files.new) (W.sent writer.new))) }
-    ensures refused { IfErr result (λ status. Refuses (debug_steps image.now trace.now (given blocks.entry)) status
+    ensures refused { IfErr result (λ status. RefusesDebug image.now trace.now (given blocks.entry) status
         (done (F.log files.old) (W.sent writer.old)) (done (F.log files.new) (W.sent writer.new))) }
     ensures cut { W.failed writer.old ≡ false → W.failed writer.new ≡ true → status_of result ≡ 5 }
 {

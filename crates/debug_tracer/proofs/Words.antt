@@ -1,27 +1,23 @@
 -- The word that is traced.
-use Rattle.std.proofs.Common.{◌≡◌, ℕ, List, ◌++◌, length, sym, ◌∙◌, ap, subst, append-nil}
-use Rattle.std.specs.Prelude.{drop, Result, Ok, Err}
+use Rattle.std.proofs.Common.{◌≡◌, ℕ, List, ◌++◌, length, ◌∙◌, ap, subst, append-nil}
+use Rattle.std.specs.Prelude.{drop}
 use Rattle.memory.specs.Bytes.{front_put, zeros}
 use Rattle.dictionary.specs.Order.{headers}
-use Rattle.machine_parts.specs.Whole.{Whole}
+use Rattle.inner_interpreter.specs.Reports.{RunEnds, WriterEnd}
+use Rattle.inner_interpreter.specs.RunsTo.{RunsTraced}
+use Rattle.inner_interpreter.specs.declared.stop.Stop.{Stop}
+use Rattle.machine.specs.State.{State}
 use Rattle.machine.specs.declared.extent.Extent.{Extent}
-use Rattle.debug_tracer.specs.declared.fault.DebugFault.{DebugFault}
 use Rattle.debug_tracer.specs.Lines.{line}
 
 pub front_all : (xs : List ℕ) → length xs ≡ 65536 → front_put xs zeros ≡ xs
 unfolding front_put zeros
 front_all xs h = ap (λ n. xs ++ drop n zeros) h ∙ append-nil xs
 
-abbrev thread_in : Result Extent DebugFault → Extent → Extent
-thread_in (Ok e) other = e
-thread_in (Err _) other = other
-
-same_thread : (r : Result Extent DebugFault) (e f : Extent) → r ≡ Ok e → r ≡ Ok f → e ≡ f
-same_thread r e f h k = ap (λ x. thread_in x e) (sym h ∙ k)
-
--- what holds of the word that was taken holds of the thread and the lines that are written
-pub of_word : (P : Extent → (Whole → List ℕ) → Type 0) (r : Result Extent DebugFault) (m copy listed : List ℕ) (e f : Extent)
-    → r ≡ Ok e → r ≡ Ok f → copy ≡ m → listed ≡ headers m → P e (line copy listed) → P f (line m (headers m))
-of_word P r m copy listed e f h k c l p =
-    subst (λ (x : Extent). P x (line m (headers m))) (same_thread r e f h k)
-    (subst (λ (x : List ℕ). P e (line m x)) l (subst (λ (x : List ℕ). P e (line x listed)) c p))
+-- a run with the lines of the copies that were taken has those of the memory and its headers
+pub of_lines : {e : Extent} {m copy listed : List ℕ} {old new : State} {ends ends' : RunEnds} {trace trace' : WriterEnd} {limit : ℕ} {why : Stop}
+    → copy ≡ m → listed ≡ headers m → RunsTraced e (line copy listed) old new ends ends' trace trace' limit why
+    → RunsTraced e (line m (headers m)) old new ends ends' trace trace' limit why
+of_lines {e} {m} {copy} {listed} {old} {new} {ends} {ends'} {trace} {trace'} {limit} {why} c l h =
+    subst (λ (x : List ℕ). RunsTraced e (line m x) old new ends ends' trace trace' limit why) l
+    (subst (λ (x : List ℕ). RunsTraced e (line x listed) old new ends ends' trace trace' limit why) c h)

@@ -10,7 +10,9 @@ use Rattle.block_buffers.specs.Disks.{Disk}
 use Rattle.machine_parts.specs.Whole.{Whole}
 use Rattle.inner_interpreter.specs.declared.stop.Stop.{Stop}
 use Rattle.machine.specs.State.{State}
+use Rattle.inner_interpreter.specs.Reports.{RunEnds, WriterEnd}
 use Rattle.inner_interpreter.specs.Runs.{World}
+use Rattle.inner_interpreter.specs.RunsTo.{RunsTraced}
 use Rattle.inner_interpreter.specs.Tracing.{EndsTraced, EndsCutTraced, EndsFaultedTraced, EndsUntraced}
 use Rattle.machine.specs.declared.extent.Extent.{Extent}
 use Rattle.debug_tracer.specs.declared.fault.DebugFault.{DebugFault}
@@ -40,6 +42,12 @@ IsFault found fault = (found ≡ Err fault) ⊎ ((fault ≡ f.OutOfMemory) × Is
 -- the lines of a machine whose memory was m at the start
 abbrev pub line_from : List ℕ → Whole → List ℕ
 line_from m = line m (headers m)
+
+-- the word of this name was traced in a run from this state
+pub record RunsDebugged (name : List ℕ) (old new : State) (ends ends' : RunEnds) (trace trace' : WriterEnd) (limit : ℕ) (why : Stop) : Type 0 where
+  pub thread : Extent
+  pub thread_is : debugged old.parts.memory name ≡ Ok thread
+  pub run : RunsTraced thread (line_from old.parts.memory) old new ends ends' trace trace' limit why
 
 -- the run from this world ends here with this stop, and the trace of the word of this name was sent
 abbrev pub EndsDebugged : World → List ℕ → Option (List ℕ) → Option Disk → Option (List ℕ) → Option (List ℕ) → Option (List ℕ) → Stop → Type 0

@@ -15,7 +15,7 @@ use Rattle.containers.specs.declared.cause.Cause.TheVariants.{TooLarge}
 use Rattle.containers.specs.declared.formats.Format.{Format}
 use Rattle.file_subcommands.specs.declared.disks.Disk.{Disk}
 use Rattle.memory.specs.Bytes.{IsCount}
-use Rattle.named_files.specs.Asking.{Asks, Step, opens, step}
+use Rattle.named_files.specs.Asking.{Answered, Asks, Refused, Step, opens, step}
 use Rattle.named_files.specs.Done.{Done, Makes, Reads, ReadsBoth, Refuses}
 use Rattle.named_files.specs.declared.step_log.Deed.TheVariants as deed
 use Rattle.image_builder.specs.Sources.{ForDisks, done_of}
@@ -191,6 +191,11 @@ pub record IsMisfit (w : Wanted) (status : ℕ) (failed : Bool) (old new : Done)
   pub unasked : new.asked ≡ old.asked
   pub unwritten : new.written ≡ old.written
 
+-- the numbers of a skew can't be had: they aren't numbers of 16 bits, or memory ran out
+abbrev pub RefusesSkew : (skew : Option (List ℕ)) → (status : ℕ) → (old new : List Answered) → Type 0
+RefusesSkew skew status old new =
+    (¬ AreNumbers skew × Refused (step deed.Take (codes "--skew" ∷ [])) status old new) ⊎ Refused (step deed.Allocate []) status old new
+
 -- it can't be known how screens lie in the container: no format has this name, the skew isn't numbers, memory ran out, or nothing lies so
 abbrev pub RefusesLayout : Wanted → (status : ℕ) → (failed : Bool) → (old new : Done) → Type 0
 RefusesLayout w status failed old new =
@@ -233,6 +238,14 @@ ReadsOld w screens None old new = Reads w.blocks screens old new
 abbrev pub container_for : Layout → (screens : List ℕ) → (before : Option (List ℕ)) → List ℕ
 container_for layout screens before = unwrap_or before (new_container layout (length screens))
 
+-- why there is no new container for so many bytes was printed: there are too many, or memory ran out
+abbrev pub PrintsNoContainer : (bytes : ℕ) → (status : ℕ) → (old new : Option (List ℕ)) → Type 0
+PrintsNoContainer bytes status old new = ((1024 * 65536 < bytes) × PrintsCause TooLarge status old new) ⊎ PrintsOutOfMemory status old new
+
+-- these bytes are those of the container, old or new, with the screens written into it
+abbrev pub IsExported : Layout → (screens : List ℕ) → (before : Option (List ℕ)) → (file : List ℕ) → Type 0
+IsExported layout screens before file = written.IsWritten layout screens (container_for layout screens before) file
+
 -- the bytes of a file that may not exist
 abbrev pub items_of : Option (Vec ℕ Global) → Option (List ℕ)
 items_of bytes = option_map (λ v. v.items) bytes
@@ -252,7 +265,7 @@ pub record Exports (w : Wanted) (status : ℕ) (failed : Bool) (old new : Done) 
   pub before : Option (List ℕ)
   pub reads : ReadsOld w screens before old new
   pub ended : ℕ
-  pub makes : Makes (export_steps w) w.container ended status old new (λ file. written.IsWritten layout screens (container_for layout screens before) file.items)
+  pub makes : Makes (export_steps w) w.container ended status old new (λ file. IsExported layout screens before file.items)
   pub silent : ended ≡ 0 → new.printed ≡ old.printed
   pub refused : failed ≡ false → 0 < ended → PrintsUnexported layout screens before ended old.printed new.printed
 

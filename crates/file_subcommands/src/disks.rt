@@ -1,17 +1,10 @@
 //! `import` and `export`.
 
-ghost use Rattle.std.specs.Prelude.{◌≡◌, ◌≢◌, ◌<◌, ◌*◌, ◌∷◌, ◌⊎◌, [], false, true, Some, None, Err, option_map, IfErr, IfOk, IfSome, IsNone, IsSome, OnOk, MatchOption, codes};
-ghost use Rattle.containers.specs.Containers as written;
+ghost use Rattle.std.specs.Prelude.{◌≡◌, ◌<◌, false, true, Some, None, Err, option_map, IfErr, IfOk, IfSome, IsNone, IsSome, OnOk, MatchOption};
 ghost use Rattle.containers.specs.Containers.{new_container};
-ghost use Rattle.containers.specs.declared.cause.Cause.TheVariants as cause;
-ghost use Rattle.file_subcommands.specs.Filed as filed;
-ghost use Rattle.file_subcommands.specs.Filed.{AreNumbers, Exports, Imports, IsWantedLayout, PrintsUnexported, RefusesExport, RefusesImport, RefusesLayout, items_of, numbers_in, wanted_of};
-ghost use Rattle.named_files.specs.Asking.{Refused, step};
+ghost use Rattle.file_subcommands.specs.Filed.{AreNumbers, Exports, Imports, IsExported, IsWantedLayout, PrintsNoContainer, PrintsUnexported, RefusesExport, RefusesImport, RefusesLayout, RefusesSkew, items_of, numbers_in, wanted_of};
 ghost use Rattle.named_files.specs.Done.{done, status_of};
-ghost use Rattle.named_files.specs.declared.step_log.Deed.TheVariants as deed;
-ghost use Rattle.subcommands.specs.Disks.{PrintsCause};
 ghost use Rattle.subcommands.specs.Ends.{IsRefusal};
-ghost use Rattle.subcommands.specs.Lines.{PrintsOutOfMemory};
 
 use crate::screens::MOST_BLOCKS;
 use containers::{Cause, Layout, named, new_container};
@@ -59,8 +52,7 @@ fn skew_of<F: Files>(files: &mut F, skew: Option<&str>) -> Result<Vec<usize>, u8
     ensures same { OnOk result (files.new ≡ files.old) }
     ensures files { (F.log files.new).files ≡ (F.log files.old).files }
     ensures refused { IfErr result (λ status.
-        (¬ AreNumbers (option_map (λ text. text.now) skew.entry) × Refused (step deed.Take (codes "--skew" ∷ [])) status (F.log files.old).asked (F.log files.new).asked)
-        ⊎ Refused (step deed.Allocate []) status (F.log files.old).asked (F.log files.new).asked) }
+        RefusesSkew (option_map (λ text. text.now) skew.entry) status (F.log files.old).asked (F.log files.new).asked) }
 {
     let Some(skew) = skew else {
         return Ok(Vec::new(files.alloc()));
@@ -147,8 +139,7 @@ fn container_for<W: Output>(
     ensures silent { OnOk result (writer.new ≡ writer.old) }
     ensures new { IfErr result (λ ended. (before ≡ None) × (ended.file ≡ None) × IsRefusal ended.status (W.failed writer.new)) }
     ensures refused { IfErr result (λ ended. W.failed writer.new ≡ false →
-        ((1024 * 65536 < bytes) × PrintsCause cause.TooLarge ended.status (W.sent writer.old) (W.sent writer.new))
-        ⊎ PrintsOutOfMemory ended.status (W.sent writer.old) (W.sent writer.new)) }
+        PrintsNoContainer bytes ended.status (W.sent writer.old) (W.sent writer.new)) }
     ensures cut { W.failed writer.old ≡ false → W.failed writer.new ≡ true → IfErr result (λ ended. ended.status ≡ 5) }
 {
     if let Some(before) = before {
@@ -172,7 +163,7 @@ fn exported<W: Output>(
     before: Option<Vec<u8>>,
 ) -> Ended
     ensures file { MatchOption result.file (0 < result.status)
-        (λ file. (result.status ≡ 0) × written.IsWritten layout.now screens.now (filed.container_for layout.now screens.now (items_of before)) file.items) }
+        (λ file. (result.status ≡ 0) × IsExported layout.now screens.now (items_of before) file.items) }
     ensures silent { IsSome result.file → writer.new ≡ writer.old }
     ensures refused { W.failed writer.new ≡ false → IsNone result.file →
         PrintsUnexported layout.now screens.now (items_of before) result.status (W.sent writer.old) (W.sent writer.new) }

@@ -5,7 +5,7 @@ use Rattle.std.specs.String.{string_bytes}
 use Rattle.command_words.specs.declared.Words.{Words}
 use Rattle.command_words.specs.declared.Words.TheVariants as words
 use Rattle.command_words.specs.declared.containers.ContainerWords.{ContainerWords}
-use Rattle.debug_subcommand.specs.Files.{Debugs, debug_steps}
+use Rattle.debug_subcommand.specs.Files.{Debugs, RefusesDebug}
 use Rattle.file_subcommands.specs.Filed.{Builds, Exports, Imports, MakesKernel, MakesNew, MakesScreens, Prints, RefusesBuild, RefusesExport, RefusesImport, RefusesNew, RefusesUpgrade, Sees, Upgrades, Views, Wanted, image_steps, kernel_steps, screens_steps, text_steps}
 use Rattle.load_subcommand.specs.Files.{Loads, load_steps}
 use Rattle.named_files.specs.Done.{Done, Refuses}
@@ -60,7 +60,7 @@ RefusesWords (words.Import w) status failed old new = RefusesImport (wanted w) s
 RefusesWords (words.Export w) status failed old new = RefusesExport (wanted w) status failed old new
 RefusesWords (words.Run w) status failed old new = RefusesRun (string_bytes w.image) (typed w.blocks) status old new
 RefusesWords (words.Debug image name trace blocks limit) status failed old new =
-    Refuses (debug_steps (string_bytes image) (string_bytes trace) (typed blocks)) status old new
+    RefusesDebug (string_bytes image) (string_bytes trace) (typed blocks) status old new
 RefusesWords (words.See image name) status failed old new = Refuses (image_steps (string_bytes image)) status old new
 RefusesWords (words.View image name) status failed old new = Refuses (image_steps (string_bytes image)) status old new
 

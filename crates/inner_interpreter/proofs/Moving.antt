@@ -5,12 +5,10 @@ use Rattle.machine_parts.specs.Whole.{Whole}
 use Rattle.machine_parts.specs.declared.parts.Request.{Request}
 use Rattle.machine_parts.specs.declared.parts.Request.TheVariants.{Key, Line, Read, Write}
 use Rattle.machine.specs.declared.act.Act.{Act}
-use Rattle.inner_interpreter.specs.declared.stop.Stop.{Stop}
-use Rattle.inner_interpreter.specs.declared.stop.Stop.TheVariants.{Limit}
 use Rattle.machine.specs.State.{State}
 use Rattle.machine.specs.Tick.{ran, ticked, is_quiet, quiet, running}
 use Rattle.machine.specs.Answer.{Reply, InputFault, is_answer, asked_by, answered, answer_of}
-use Rattle.inner_interpreter.specs.Moves.{Turn, Tick, Answer, Enter, after, turned, Accepts, AreAccepted, shown_bytes, call_by, device_call, device_calls, turn_bytes, shown_by, IsTurnGiven, AreGiven, Logs, logs, is_sent, is_tick, is_reply, words_in, ticks_in, answers_in, HasMoved, HasRun}
+use Rattle.inner_interpreter.specs.Moves.{Turn, Tick, Answer, Enter, after, turned, Accepts, AreAccepted, shown_bytes, call_by, device_call, device_calls, turn_bytes, shown_by, IsTurnGiven, AreGiven, Logs, logs, is_tick, is_reply, words_in, ticks_in, answers_in, HasMoved}
 use Rattle.inner_interpreter.specs.Served.{HasActed, HasFaulted}
 use Rattle.block_buffers.specs.DeviceCalls.{DeviceCall}
 use Rattle.inner_interpreter.specs.Sent.{AppendsPart}
@@ -269,12 +267,6 @@ few_answers (Enter word ∷ ts) s h =
 pub moved_still : (a b : State) (f g : Logs) (whole : Bool) (left : ℕ) → HasMoved a b f g whole [] 0 → HasMoved a b f g whole [] (left - left)
 moved_still a b f g whole left h = let none : left - left ≡ 0 = omega arith in rw none h
 
--- a run that goes on
-pub moved_on : (a b c : State) (f g h : Logs) (whole : Bool) (limit left left' : ℕ) → left ≤ limit → left' ≤ left → HasMoved a b f g true [] (limit - left) → HasMoved b c g h whole [] (left - left') → HasMoved a c f h whole [] (limit - left')
-moved_on a b c f g h whole limit left left' most fewer x y =
-    let sum : limit - left + (left - left') ≡ limit - left' = omega arith in
-    subst (λ n. HasMoved a c f h whole [] n) sum (moved_add a b c f g h whole [] [] (limit - left) (left - left') x y)
-
 -- a writer that was sent nothing more
 unfoldable pub moved_kept : (a b : State) (c d : List DeviceCall) (o o' o'' : Option (List ℕ)) (r r' : List (Option ℕ)) (words : List ℕ) (ticks : ℕ) → Keeps o' o'' → HasMoved a b (logs c o r) (logs d o' r') true words ticks → HasMoved a b (logs c o r) (logs d o'' r') true words ticks
 moved_kept a b c d o o' o'' r r' words ticks k h = record { turns = h.turns; accepted = h.accepted; state_is = h.state_is; calls_are = h.calls_are; front = h.front; back = h.back; shown_is = h.shown_is; sent_is = appends_kept o o' o'' h.front h.sent_is k; all_sent = h.all_sent; given = h.given; reads_are = h.reads_are; are_given = h.are_given; words_are = h.words_are; ticks_are = h.ticks_are } where
@@ -294,17 +286,3 @@ moved_so a b f g whole words ticks h = record { turns = h.turns; accepted = h.ac
 -- the same, of rounds whose result is known
 pub moved_as : {a b : State} {f g : Logs} {words : List ℕ} {ticks : ℕ} (whole whole' : Bool) → whole ≡ whole' → HasMoved a b f g whole words ticks → HasMoved a b f g whole' words ticks
 moved_as {a} {b} {f} {g} {words} {ticks} whole whole' e h = subst (λ w. HasMoved a b f g w words ticks) e h
-
--- a run that stopped
-pub has_run : (a b : State) (c d : Logs) (limit left : ℕ) (stop : Stop) → left ≤ limit → (stop ≡ Limit → left ≡ 0) → HasMoved a b c d (is_sent stop) [] (limit - left) → HasRun a b c d limit stop
-has_run a b c d limit left stop most none moved = record {
-  ticks = limit - left;
-  few = omega arith;
-  all = λ q. omega (arith, none q, most);
-  moved = moved;
-  few_answers = omega (arith, few_answers moved.turns a moved.accepted, moved.ticks_are, one_waits a.wait);
-}
-
--- a run that stopped, whose writer was flushed then
-pub has_run_kept : (a b : State) (c d : List DeviceCall) (o o' o'' : Option (List ℕ)) (r r' : List (Option ℕ)) (limit left : ℕ) (stop : Stop) → left ≤ limit → (stop ≡ Limit → left ≡ 0) → Keeps o' o'' → HasMoved a b (logs c o r) (logs d o' r') true [] (limit - left) → HasRun a b (logs c o r) (logs d o'' r') limit stop
-has_run_kept a b c d o o' o'' r r' limit left stop most none k moved = has_run a b (logs c o r) (logs d o'' r') limit left stop most none (moved_so a b (logs c o r) (logs d o'' r') (is_sent stop) [] (limit - left) (moved_kept a b c d o o' o'' r r' [] (limit - left) k moved))

@@ -2,7 +2,6 @@ pub mod Ends
 pub mod Given
 pub mod Reads
 pub mod Failing
-pub mod Files
 pub mod Moves
 pub mod Histories
 pub mod Hosts
@@ -14,3 +13,5 @@ pub mod Slices
 pub mod Served
 pub mod Worlds
 pub mod Tracing
+pub mod Reports
+pub mod RunsTo

@@ -53,10 +53,6 @@ pub record Ends (w : World) (state : State) (unread : Option (List ℕ)) (disk :
   pub at : IsAt (rounds count w) state unread disk sent (rounds count w).left
   pub stops_so : stops (rounds count w) ≡ Some stop
 
--- the same, whatever its state is then
-abbrev pub EndsFrom : World → Option (List ℕ) → Option Disk → Option (List ℕ) → Stop → Type 0
-EndsFrom w unread disk sent stop = (state : State) × Ends w state unread disk sent stop
-
 -- each world of an image that is loaded, whose ends report what they hold
 abbrev pub OfImage : Contents → Option (List ℕ) → Option Disk → Option (List ℕ) → ℕ → (World → Type 0) → Type 0
 OfImage image unread disk sent limit P =
@@ -100,10 +96,3 @@ pub record EndsCut (w : World) (state : State) (unread : Option (List ℕ)) (dis
 pub record EndsFaulted (w : World) (state : State) (unread : Option (List ℕ)) (disk : Option Disk) (sent : Option (List ℕ)) : Type 0 where
   pub count : ℕ
   pub faulted : IsFaulted (rounds count w) state unread disk sent
-
--- these, whatever the state is then
-abbrev pub EndsCutFrom : World → Option (List ℕ) → Option Disk → Option (List ℕ) → Type 0
-EndsCutFrom w unread disk sent = (state : State) × EndsCut w state unread disk sent
-
-abbrev pub EndsFaultedFrom : World → Option (List ℕ) → Option Disk → Option (List ℕ) → Type 0
-EndsFaultedFrom w unread disk sent = (state : State) × EndsFaulted w state unread disk sent

@@ -3,7 +3,6 @@
 
 mod byte_log;
 pub mod ends;
-mod files;
 mod hosts;
 pub mod laws;
 mod lines;
@@ -19,7 +18,6 @@ mod writing;
 
 pub use byte_log::ByteLog;
 pub use ends::{EndFault, Input, Output};
-pub use files::run_file;
 pub use hosts::{Move, make_moves, make_ticks};
 pub use machine::{Act, Answer, Cause, Event, Extent, Machine, Refused, SaveRefused, Shown};
 pub use read_log::{Given, ReadLog};

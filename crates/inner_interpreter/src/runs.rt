@@ -1,14 +1,13 @@
 //! The run of a machine over a reader, a writer and a device.
 
-ghost use Rattle.std.specs.Prelude.{◌≡◌, ◌≢◌, ◌↔◌, ◌≤◌, Some, false, true, vec_capacity, IfOk, OnOk, OnErr};
+ghost use Rattle.std.specs.Prelude.{◌≡◌, ◌≤◌, false, true, vec_capacity, IfOk, OnOk, OnErr};
 ghost use Rattle.std.specs.Io.KnownBytes.{Appends, Keeps};
 ghost use Rattle.inner_interpreter.specs.Ends.{Marks};
-ghost use Rattle.inner_interpreter.specs.Moves.{HasRun, logs};
-ghost use Rattle.inner_interpreter.specs.Runs.{World, stop_by, stop_of};
+ghost use Rattle.inner_interpreter.specs.Reports.{run_ends, writer_end};
+ghost use Rattle.inner_interpreter.specs.Runs.{stop_of};
+ghost use Rattle.inner_interpreter.specs.RunsTo.{RunsTo, RunsTraced};
 ghost use Rattle.inner_interpreter.specs.Sent.{AppendsPart};
-ghost use Rattle.inner_interpreter.specs.Served.{HasNotFailed};
-ghost use Rattle.inner_interpreter.specs.Tracing.{line_next, IsDue, Finishes, EndsTraced, EndsCutTraced, EndsFaultedTraced, EndsUntraced, HasRunTraced};
-ghost use Rattle.inner_interpreter.specs.Worlds.{IsAt, Ends, EndsCut, EndsFaulted};
+ghost use Rattle.inner_interpreter.specs.Tracing.{line_next, IsDue, Finishes};
 
 use crate::ends::{EndFault, Input, Output};
 use crate::rounds::{Failed, make_rounds};
@@ -90,38 +89,10 @@ pub fn run_with<R: Input, W: Output, D: Device, N: Tracer, T: Output>(
 ) -> Stop
     requires room { 65535 ≤ vec_capacity line.old }
     ensures room { 65535 ≤ vec_capacity line.new }
-    ensures whole { R.failed reader.new ≡ false → W.failed writer.new ≡ false → T.failed trace.new ≡ false →
-        (w : World) → IsAt w machine.old (R.unread reader.old) (D.disk device.old) (W.sent writer.old) limit →
-        EndsTraced (N.extent tracer.now) (N.line tracer.now) w machine.new (R.unread reader.new) (D.disk device.new)
-        (W.sent writer.new) (T.sent trace.old) (T.sent trace.new) result }
-    ensures ended { R.failed reader.new ≡ false → W.failed writer.new ≡ false → T.failed trace.new ≡ false →
-        stop_by machine.new.halt 0 ≡ Some result }
-    ensures output { W.failed writer.old ≡ false → (result ≡ Stop.OutputFault) ↔ (W.failed writer.new ≡ true) }
-    ensures cut { W.failed writer.old ≡ false → W.failed writer.new ≡ true → (w : World) →
-        IsAt w machine.old (R.unread reader.old) (D.disk device.old) (W.sent writer.old) limit →
-        EndsCutTraced (N.extent tracer.now) (N.line tracer.now) w machine.new (R.unread reader.new) (D.disk device.new)
-        (W.sent writer.new) (T.sent trace.old) (T.sent trace.new) }
-    ensures input { R.failed reader.old ≡ false → R.failed reader.new ≡ true → result ≡ Stop.InputFault }
-    ensures faulted { R.failed reader.old ≡ false → R.failed reader.new ≡ true → (w : World) →
-        IsAt w machine.old (R.unread reader.old) (D.disk device.old) (W.sent writer.old) limit →
-        EndsFaultedTraced (N.extent tracer.now) (N.line tracer.now) w machine.new (R.unread reader.new)
-        (D.disk device.new) (W.sent writer.new) (T.sent trace.old) (T.sent trace.new) }
-    ensures one { R.failed reader.old ≡ false → R.failed reader.new ≡ true →
-        W.failed writer.new ≡ W.failed writer.old }
-    ensures told { HasNotFailed machine.old → R.failed reader.new ≡ false → result ≢ Stop.InputFault }
-    ensures trace { T.failed trace.old ≡ false → (result ≡ Stop.TraceFault) ↔ (T.failed trace.new ≡ true) }
-    ensures passed { W.failed writer.new ≡ false → T.failed trace.new ≡ false →
-        (W.passed writer.new ≡ true) × (R.failed reader.new ≡ false → T.passed trace.new ≡ true) }
-    ensures untraced { T.failed trace.old ≡ false → T.failed trace.new ≡ true → (w : World) →
-        IsAt w machine.old (R.unread reader.old) (D.disk device.old) (W.sent writer.old) limit →
-        EndsUntraced (N.extent tracer.now) (N.line tracer.now) w machine.new (R.unread reader.new) (D.disk device.new)
-        (W.sent writer.new) (T.sent trace.old) (T.sent trace.new) }
-    ensures moved { HasRun machine.old machine.new (logs (D.calls device.old) (W.sent writer.old) (R.reads reader.old))
-        (logs (D.calls device.new) (W.sent writer.new) (R.reads reader.new)) limit result }
-    ensures lines { HasRunTraced (N.extent tracer.now) (N.line tracer.now) machine.old machine.new
-        (logs (D.calls device.old) (W.sent writer.old) (R.reads reader.old))
-        (logs (D.calls device.new) (W.sent writer.new) (R.reads reader.new)) limit result
-        (T.sent trace.old) (T.sent trace.new) }
+    ensures runs { RunsTraced (N.extent tracer.now) (N.line tracer.now) machine.old machine.new
+        (run_ends R.Input W.Output D.Device reader.old writer.old device.old)
+        (run_ends R.Input W.Output D.Device reader.new writer.new device.new)
+        (writer_end T.Output trace.old) (writer_end T.Output trace.new) limit result }
 {
     let mut left = limit;
     loop {
@@ -156,72 +127,18 @@ pub fn run_traced<R: Input, W: Output, D: Device, N: Tracer, T: Output>(
     trace: &mut T,
     limit: u64,
 ) -> Result<Stop, OutOfMemory>
-    // Where no end fails, and all but the trace report their bytes, the run ends as the written rounds do, and the trace is
-    // that of these rounds.
-    ensures whole { IfOk result (λ stop. R.failed reader.new ≡ false → W.failed writer.new ≡ false →
-        T.failed trace.new ≡ false → (w : World) →
-        IsAt w machine.old (R.unread reader.old) (D.disk device.old) (W.sent writer.old) limit →
-        EndsTraced (N.extent tracer.now) (N.line tracer.now) w machine.new (R.unread reader.new) (D.disk device.new)
-        (W.sent writer.new) (T.sent trace.old) (T.sent trace.new) stop) }
-
-    // Where no end fails, it stops for what the machine halted, and else for want of ticks.
-    ensures ended { IfOk result (λ stop. R.failed reader.new ≡ false → W.failed writer.new ≡ false →
-        T.failed trace.new ≡ false → stop_by machine.new.halt 0 ≡ Some stop) }
-
-    // It stops for the writer exactly where the writer fails, and then some first rounds were made and traced.
-    ensures output { IfOk result (λ stop. W.failed writer.old ≡ false →
-        (stop ≡ Stop.OutputFault) ↔ (W.failed writer.new ≡ true)) }
-    ensures cut { IfOk result (λ stop. W.failed writer.old ≡ false → W.failed writer.new ≡ true → (w : World) →
-        IsAt w machine.old (R.unread reader.old) (D.disk device.old) (W.sent writer.old) limit →
-        EndsCutTraced (N.extent tracer.now) (N.line tracer.now) w machine.new (R.unread reader.new) (D.disk device.new)
-        (W.sent writer.new) (T.sent trace.old) (T.sent trace.new)) }
-
-    // Where the reader fails, it stops for the reader: some first rounds were made and traced, and then the machine learned
-    // so. Of a machine that hadn't halted so before, it stops for the reader only there.
-    ensures input { IfOk result (λ stop. R.failed reader.old ≡ false → R.failed reader.new ≡ true →
-        stop ≡ Stop.InputFault) }
-    ensures faulted { IfOk result (λ stop. R.failed reader.old ≡ false → R.failed reader.new ≡ true → (w : World) →
-        IsAt w machine.old (R.unread reader.old) (D.disk device.old) (W.sent writer.old) limit →
-        EndsFaultedTraced (N.extent tracer.now) (N.line tracer.now) w machine.new (R.unread reader.new)
-        (D.disk device.new) (W.sent writer.new) (T.sent trace.old) (T.sent trace.new)) }
-    ensures one { IfOk result (λ stop. R.failed reader.old ≡ false → R.failed reader.new ≡ true →
-        W.failed writer.new ≡ W.failed writer.old) }
-    ensures told { IfOk result (λ stop. HasNotFailed machine.old → R.failed reader.new ≡ false →
-        stop ≢ Stop.InputFault) }
-
-    // It stops for the trace exactly where the trace's writer fails: some first rounds were made, and the line of the tick
-    // that comes next was cut.
-    ensures trace { IfOk result (λ stop. T.failed trace.old ≡ false →
-        (stop ≡ Stop.TraceFault) ↔ (T.failed trace.new ≡ true)) }
-    ensures untraced { IfOk result (λ stop. T.failed trace.old ≡ false → T.failed trace.new ≡ true → (w : World) →
-        IsAt w machine.old (R.unread reader.old) (D.disk device.old) (W.sent writer.old) limit →
-        EndsUntraced (N.extent tracer.now) (N.line tracer.now) w machine.new (R.unread reader.new) (D.disk device.new)
-        (W.sent writer.new) (T.sent trace.old) (T.sent trace.new)) }
-
-    // Where no writer fails, all that was sent was passed on.
-    ensures passed { IfOk result (λ stop. W.failed writer.new ≡ false → T.failed trace.new ≡ false →
-        (W.passed writer.new ≡ true) × (R.failed reader.new ≡ false → T.passed trace.new ≡ true)) }
-
-    // Whatever the ends are: the machine moved by ticks and answers alone, at most `limit` and one more; its reader gave just
-    // what it was answered with, its device was given just the calls that it asked for, with their pages, each of which failed
-    // exactly where the machine learned of it; and its writer was sent just what it showed.
-    ensures moved { IfOk result (λ stop.
-        HasRun machine.old machine.new (logs (D.calls device.old) (W.sent writer.old) (R.reads reader.old))
-        (logs (D.calls device.new) (W.sent writer.new) (R.reads reader.new)) limit stop) }
-
-    // And the trace got the lines of these moves.
-    ensures traced { IfOk result (λ stop.
-        HasRunTraced (N.extent tracer.now) (N.line tracer.now) machine.old machine.new
-        (logs (D.calls device.old) (W.sent writer.old) (R.reads reader.old))
-        (logs (D.calls device.new) (W.sent writer.new) (R.reads reader.new)) limit stop
-        (T.sent trace.old) (T.sent trace.new)) }
+    ensures runs { IfOk result (λ stop.
+        RunsTraced (N.extent tracer.now) (N.line tracer.now) machine.old machine.new
+        (run_ends R.Input W.Output D.Device reader.old writer.old device.old)
+        (run_ends R.Input W.Output D.Device reader.new writer.new device.new)
+        (writer_end T.Output trace.old) (writer_end T.Output trace.new) limit stop) }
 
     // On lack of memory nothing was done.
     ensures machine { OnErr result (machine.new ≡ machine.old) }
     ensures reader { OnErr result (reader.new ≡ reader.old) }
     ensures writer { OnErr result (writer.new ≡ writer.old) }
     ensures device { OnErr result (device.new ≡ device.old) }
-    ensures lines { OnErr result (trace.new ≡ trace.old) }
+    ensures trace { OnErr result (trace.new ≡ trace.old) }
 {
     let mut line = line_room(alloc)?;
     Ok(run_with(
@@ -241,46 +158,9 @@ pub fn run<R: Input, W: Output, D: Device>(
     device: &mut D,
     limit: u64,
 ) -> Result<Stop, OutOfMemory>
-    // Where no end fails, and all report their bytes, the run ends as the written rounds do.
-    ensures whole { IfOk result (λ stop. R.failed reader.new ≡ false → W.failed writer.new ≡ false → (w : World) →
-        IsAt w machine.old (R.unread reader.old) (D.disk device.old) (W.sent writer.old) limit →
-        Ends w machine.new (R.unread reader.new) (D.disk device.new) (W.sent writer.new) stop) }
-
-    // Where no end fails, it stops for what the machine halted, and else for want of ticks.
-    ensures ended { IfOk result (λ stop. R.failed reader.new ≡ false → W.failed writer.new ≡ false →
-        stop_by machine.new.halt 0 ≡ Some stop) }
-
-    // It stops for the writer exactly where the writer fails, and then some first rounds were made.
-    ensures output { IfOk result (λ stop. W.failed writer.old ≡ false →
-        (stop ≡ Stop.OutputFault) ↔ (W.failed writer.new ≡ true)) }
-    ensures cut { IfOk result (λ stop. W.failed writer.old ≡ false → W.failed writer.new ≡ true → (w : World) →
-        IsAt w machine.old (R.unread reader.old) (D.disk device.old) (W.sent writer.old) limit →
-        EndsCut w machine.new (R.unread reader.new) (D.disk device.new) (W.sent writer.new)) }
-
-    // Where the reader fails, it stops for the reader: some first rounds were made, and then the machine learned of it.
-    // Both can't fail in one run. Of a machine that hadn't halted so before, it stops for the reader only there.
-    ensures input { IfOk result (λ stop. R.failed reader.old ≡ false → R.failed reader.new ≡ true →
-        stop ≡ Stop.InputFault) }
-    ensures faulted { IfOk result (λ stop. R.failed reader.old ≡ false → R.failed reader.new ≡ true → (w : World) →
-        IsAt w machine.old (R.unread reader.old) (D.disk device.old) (W.sent writer.old) limit →
-        EndsFaulted w machine.new (R.unread reader.new) (D.disk device.new) (W.sent writer.new)) }
-    ensures one { IfOk result (λ stop. R.failed reader.old ≡ false → R.failed reader.new ≡ true →
-        W.failed writer.new ≡ W.failed writer.old) }
-    ensures told { IfOk result (λ stop. HasNotFailed machine.old → R.failed reader.new ≡ false →
-        stop ≢ Stop.InputFault) }
-
-    // Where the writer doesn't fail, all that was sent was passed on.
-    ensures passed { IfOk result (λ stop. W.failed writer.new ≡ false → W.passed writer.new ≡ true) }
-
-    // Whatever the ends are: the machine moved by ticks and answers alone, at most `limit` and one more; its reader gave just
-    // what it was answered with, its device was given just the calls that it asked for, with their pages, each of which failed
-    // exactly where the machine learned of it; and its writer was sent just what it showed.
-    ensures moved { IfOk result (λ stop.
-        HasRun machine.old machine.new (logs (D.calls device.old) (W.sent writer.old) (R.reads reader.old))
-        (logs (D.calls device.new) (W.sent writer.new) (R.reads reader.new)) limit stop) }
-
-    // It is no traced run.
-    ensures untraced { IfOk result (λ stop. stop ≢ Stop.TraceFault) }
+    ensures runs { IfOk result (λ stop. RunsTo machine.old machine.new
+        (run_ends R.Input W.Output D.Device reader.old writer.old device.old)
+        (run_ends R.Input W.Output D.Device reader.new writer.new device.new) limit stop) }
 
     // On lack of memory nothing was done.
     ensures machine { OnErr result (machine.new ≡ machine.old) }

@@ -1,5 +1,5 @@
 -- A session, by what its run and its end come to.
-use Rattle.std.proofs.Common.{◌≡◌, ◌⊎◌, ◌↔◌, ℕ, List, Option, Some, None, Bool, true, false, Ok, inl, inr, refl, sym, ap, subst, ◌∙◌}
+use Rattle.std.proofs.Common.{◌≡◌, ◌⊎◌, ◌↔◌, ℕ, List, Option, Some, None, Bool, true, false, inl, inr, refl, sym, ap, subst, ◌∙◌}
 use Rattle.std.specs.Prelude.{if◌then◌else◌}
 use Rattle.block_buffers.specs.DeviceCalls.{DeviceCall}
 use Rattle.image_loader.specs.Files.{Contents}
@@ -21,9 +21,9 @@ pub record HasEndedSo (state : State) (reader writer ended : Bool) (how : Ending
   pub asked : how ≡ ending.Asked → ended ≡ true
 
 pub ended_so : (state : State) (reader writer reader' writer' ended : Bool) (how : Ending) → reader ≡ false → writer ≡ false
-    → IfStopped (Ok how) (λ stop. reader' ≡ false → writer' ≡ false → stop_by state.halt 0 ≡ Some stop)
-    → IfStopped (Ok how) (λ stop. reader ≡ false → writer ≡ false → (stop ≡ OutputFault) ↔ (writer' ≡ true))
-    → IfStopped (Ok how) (λ stop. reader ≡ false → reader' ≡ true → stop ≡ InputFault)
+    → IfStopped how (λ stop. reader' ≡ false → writer' ≡ false → stop_by state.halt 0 ≡ Some stop)
+    → IfStopped how (λ stop. reader ≡ false → writer ≡ false → (stop ≡ OutputFault) ↔ (writer' ≡ true))
+    → IfStopped how (λ stop. reader ≡ false → reader' ≡ true → stop ≡ InputFault)
     → (how ≡ ending.Asked → ended ≡ true)
     → (how ≡ ending.Asked → reader ≡ false → writer ≡ false → (reader' ≡ false) × (writer' ≡ false) × (state.halt ≡ None))
     → HasEndedSo state reader' writer' ended how
@@ -71,3 +71,10 @@ by_all false how status is h = inr is
 pub cut_status : (s : Whole) (saves keeps : Bool) (how : Ending) (calls calls' : List DeviceCall) (kept kept' : List ℕ) (status : ℕ)
     → HasFinished s saves keeps how calls calls' kept kept' status → how ≡ ending.Stopped OutputFault → (status ≡ 5) ⊎ (status ≡ 1)
 cut_status s saves keeps how calls calls' kept kept' status h is = by_all h.all how status h.status_is is
+
+-- a session of the image of a file, with the status that is answered
+pub session_as : {image file : Contents} {count : ℕ} {wanted : Wanted} {log log' : Logs} {host host' : HostLog} {reader writer : Bool} {status ended : ℕ}
+    → image ≡ file → status ≡ ended → HasSession image count wanted log log' host host' reader writer status → HasSession file count wanted log log' host host' reader writer ended
+session_as {image} {file} {count} {wanted} {log} {log'} {host} {host'} {reader} {writer} {status} {ended} same is h =
+    subst (λ (i : Contents). HasSession i count wanted log log' host host' reader writer ended) same
+    (subst (λ (n : ℕ). HasSession image count wanted log log' host host' reader writer n) is h)

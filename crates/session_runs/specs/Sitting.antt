@@ -5,9 +5,11 @@ use Rattle.dictionary.specs.Search.{Sought, Found, Nowhere, TooLong, by_address,
 use Rattle.image_loader.specs.Files.{Contents}
 use Rattle.inner_interpreter.specs.declared.stop.Stop.TheVariants as stop
 use Rattle.inner_interpreter.specs.Moves.{Logs, logs}
+use Rattle.inner_interpreter.specs.Reports.{RunEnds, logs_of}
 use Rattle.inner_interpreter.specs.Runs.{stop_by}
 use Rattle.machine.specs.State.{State, start}
 use Rattle.machine_parts.specs.Whole.{Whole}
+use Rattle.session_runs.specs.declared.hosts.SessionHost as host
 use Rattle.session_runs.specs.declared.slices.Ending.{Ending}
 use Rattle.session_runs.specs.declared.slices.Ending.TheVariants as ending
 use Rattle.session_runs.specs.Interrupted.{HasWorked}
@@ -69,6 +71,9 @@ pub record HostLog : Type 0 where
   pub ended : Bool
   pub kept : List ℕ
 
+abbrev pub host_end : {H : Type 0} → host.Ghosts H → H → HostLog
+host_end g h = record { interruptions = g.interruptions h; ended = g.ended h; kept = g.kept h }
+
 abbrev pub host_log : ℕ → Bool → List ℕ → HostLog
 host_log interruptions ended kept = record { interruptions = interruptions; ended = ended; kept = kept }
 
@@ -84,6 +89,11 @@ pub record HasSession (image : Contents) (count : ℕ) (wanted : Wanted) (log lo
   pub input : reader ≡ true → how ≡ ending.Stopped stop.InputFault
   pub asked : how ≡ ending.Asked → host'.ended ≡ true
   pub finished : HasFinished state.parts wanted.saves wanted.keeps how calls log'.calls host.kept host'.kept status
+
+-- the same, by what the ends of the session report before and after it
+abbrev pub HasSessionOver : Contents → Wanted → RunEnds → RunEnds → HostLog → HostLog → (status : ℕ) → Type 0
+HasSessionOver image wanted ends ends' host host' status =
+    HasSession image ends.device.block_count wanted (logs_of ends) (logs_of ends') host host' ends'.reader.failed ends'.writer.failed status
 
 -- memory ran out before anything was run: reader and device are as they were, and that was printed
 pub record IsUnsat {R D : Type 0} (status : ℕ) (failed : Bool) (reader reader' : R) (device device' : D) (old new : Option (List ℕ)) : Type 0 where

@@ -3,8 +3,8 @@
 ghost use Rattle.std.specs.Prelude.{◌≡◌, ◌⊎◌, ◌<◌, ◌++◌, [], false, true, IsNone, IfOk, OnErr, if◌then◌else◌};
 ghost use Rattle.session_runs.specs.Saving.{kept_blocks};
 ghost use Rattle.image_loader.specs.declared.fault.ImageFault.{ImageFault};
-ghost use Rattle.inner_interpreter.specs.Moves.{logs};
-ghost use Rattle.session_runs.specs.Sitting.{HasFinished, HasSession, IsUnsat, Saves, break_word, ending_status, host_log, is_over};
+ghost use Rattle.inner_interpreter.specs.Reports.{run_ends};
+ghost use Rattle.session_runs.specs.Sitting.{HasFinished, HasSessionOver, IsUnsat, Saves, break_word, ending_status, host_end, is_over};
 ghost use Rattle.session_runs.specs.Wishes.{IsSame};
 ghost use Rattle.subcommands.specs.Causes.{IsNoFile};
 ghost use Rattle.subcommands.specs.Lines.{OfImageFile, PrintsNoImage};
@@ -138,13 +138,10 @@ fn sit<R: Input, W: Output, D: Device, H: SessionHost>(
 ) -> Result<u8, OutOfMemory>
     requires { 0 < wanted.slice }
     ensures moved { IfOk result (λ status. R.failed reader.old ≡ false → W.failed writer.old ≡ false →
-        HasSession image.now (D.block_count device.old)
-        (record { limit = wanted.limit; saves = wanted.saves; keeps = wanted.keeps })
-        (logs (D.calls device.old) (W.sent writer.old) (R.reads reader.old))
-        (logs (D.calls device.new) (W.sent writer.new) (R.reads reader.new))
-        (host_log (H.interruptions host.old) (H.ended host.old) (H.kept host.old))
-        (host_log (H.interruptions host.new) (H.ended host.new) (H.kept host.new))
-        (R.failed reader.new) (W.failed writer.new) status) }
+        HasSessionOver image.now (record { limit = wanted.limit; saves = wanted.saves; keeps = wanted.keeps })
+        (run_ends R.Input W.Output D.Device reader.old writer.old device.old)
+        (run_ends R.Input W.Output D.Device reader.new writer.new device.new)
+        (host_end H.SessionHost host.old) (host_end H.SessionHost host.new) status) }
     ensures cut { R.failed reader.old ≡ false → W.failed writer.old ≡ false → W.failed writer.new ≡ true → IfOk result (λ status. (status ≡ 5) ⊎ (status ≡ 1)) }
     ensures passed { IfOk result (λ _. W.failed writer.new ≡ false → W.passed writer.new ≡ true) }
     ensures reader { OnErr result (reader.new ≡ reader.old) }
@@ -188,13 +185,10 @@ pub fn do_session<R: Input, W: Output, D: Device, H: SessionHost>(
     // sent just what it showed, and its device was given just the calls that it asked for, with their pages, and after them those
     // that write the changed blocks, where the session is over; or memory ran out, and nothing was run.
     ensures moved { R.failed reader.old ≡ false → W.failed writer.old ≡ false → OfImageFile image.now
-        (λ file. HasSession file (D.block_count device.old)
-        (record { limit = wanted.limit; saves = wanted.saves; keeps = wanted.keeps })
-        (logs (D.calls device.old) (W.sent writer.old) (R.reads reader.old))
-        (logs (D.calls device.new) (W.sent writer.new) (R.reads reader.new))
-        (host_log (H.interruptions host.old) (H.ended host.old) (H.kept host.old))
-        (host_log (H.interruptions host.new) (H.ended host.new) (H.kept host.new))
-        (R.failed reader.new) (W.failed writer.new) result.status ⊎
+        (λ file. HasSessionOver file (record { limit = wanted.limit; saves = wanted.saves; keeps = wanted.keeps })
+        (run_ends R.Input W.Output D.Device reader.old writer.old device.old)
+        (run_ends R.Input W.Output D.Device reader.new writer.new device.new)
+        (host_end H.SessionHost host.old) (host_end H.SessionHost host.new) result.status ⊎
         IsUnsat result.status (W.failed writer.new) reader.old reader.new device.old device.new (W.sent writer.old)
         (W.sent writer.new)) }
     // Where they are none, that is printed, and no other end is touched.

@@ -1,10 +1,8 @@
 //! A run in slices, between which its host may interrupt or end it.
 
-ghost use Rattle.std.specs.Prelude.{◌≡◌, ◌↔◌, ◌≤◌, ◌<◌, ◌+◌, Some, None, Ok, true, false, vec_capacity, IfOk, OnErr, IsTrue, IsFalse};
-ghost use Rattle.inner_interpreter.specs.Moves.{logs};
-ghost use Rattle.inner_interpreter.specs.Runs.{World, stop_by};
-ghost use Rattle.inner_interpreter.specs.Worlds.{IsAt};
-ghost use Rattle.session_runs.specs.Interrupted.{EndsBroken, HasWorked, IfStopped, Interrupts};
+ghost use Rattle.std.specs.Prelude.{◌≡◌, ◌≤◌, ◌<◌, ◌+◌, Ok, true, vec_capacity, IfOk, OnErr, IsTrue, IsFalse};
+ghost use Rattle.inner_interpreter.specs.Reports.{run_ends};
+ghost use Rattle.session_runs.specs.Interrupted.{Interrupts, RunsSliced};
 ghost use Rattle.session_runs.specs.Wishes.{count_of};
 
 use crate::hosts::{SessionHost, Wish};
@@ -76,39 +74,13 @@ pub fn run_sliced<R: Input, W: Output, D: Device, H: SessionHost>(
     limit: u64,
 ) -> Result<Ending, OutOfMemory>
     requires { 0 < slice }
+    ensures sliced { IfOk result (λ how. RunsSliced word machine.old machine.new
+        (run_ends R.Input W.Output D.Device reader.old writer.old device.old)
+        (run_ends R.Input W.Output D.Device reader.new writer.new device.new) (H.interruptions host.old)
+        (H.interruptions host.new) limit how) }
 
-    // Where no end fails, and all report their bytes, the run stops as the written rounds do, with entries of the word among them.
-    ensures whole { IfStopped result (λ stop. R.failed reader.old ≡ false → W.failed writer.old ≡ false →
-        R.failed reader.new ≡ false → W.failed writer.new ≡ false → (w : World) →
-        IsAt w machine.old (R.unread reader.old) (D.disk device.old) (W.sent writer.old) limit →
-        EndsBroken word w machine.new (R.unread reader.new) (D.disk device.new) (W.sent writer.new) stop) }
-
-    // Where no end fails, it stops for what the machine halted, and else for want of ticks.
-    ensures ended { IfStopped result (λ stop. R.failed reader.new ≡ false → W.failed writer.new ≡ false →
-        stop_by machine.new.halt 0 ≡ Some stop) }
-
-    // Its end was asked for only where the host did so; then no end has failed, and the machine is not halted.
+    // It ends otherwise than runs stop only where its host asked for that, and the host keeps nothing new.
     ensures asked { result ≡ Ok Ending.Asked → H.ended host.new ≡ true }
-    ensures unfailed { result ≡ Ok Ending.Asked → R.failed reader.old ≡ false → W.failed writer.old ≡ false →
-        (R.failed reader.new ≡ false) × (W.failed writer.new ≡ false) × (machine.new.halt ≡ None) }
-
-    // It stops for the writer exactly where the writer fails, for the reader where the reader fails, and both can't fail.
-    ensures output { IfStopped result (λ stop. R.failed reader.old ≡ false → W.failed writer.old ≡ false →
-        (stop ≡ Stop.OutputFault) ↔ (W.failed writer.new ≡ true)) }
-    ensures input { IfStopped result (λ stop. R.failed reader.old ≡ false → R.failed reader.new ≡ true →
-        stop ≡ Stop.InputFault) }
-    ensures one { IfStopped result (λ stop. R.failed reader.old ≡ false → W.failed writer.old ≡ false →
-        R.failed reader.new ≡ true → W.failed writer.new ≡ false) }
-
-    // Where the writer doesn't fail, all that was sent was passed on.
-    ensures passed { IfOk result (λ _. W.failed writer.new ≡ false → W.passed writer.new ≡ true) }
-
-    // Whatever the ends are: the machine moved by ticks, answers and entries of the word alone, of which there are no more
-    // than the host asked for interruptions; and its ends gave and took just what these moves name.
-    ensures moved { IfOk result (λ ending. HasWorked word machine.old machine.new
-        (logs (D.calls device.old) (W.sent writer.old) (R.reads reader.old))
-        (logs (D.calls device.new) (W.sent writer.new) (R.reads reader.new)) (H.interruptions host.old)
-        (H.interruptions host.new) limit ending) }
     ensures kept { H.kept host.new ≡ H.kept host.old }
 
     // On lack of memory nothing was done.

@@ -1,5 +1,5 @@
 -- What `text` prints, by what it read.
-use Rattle.std.proofs.Common.{◌≡◌, ◌≢◌, ℕ, ◌⊎◌, List, Option, Result, Ok, Err, inl, inr, refl, sym, subst}
+use Rattle.std.proofs.Common.{◌≡◌, ◌≢◌, ℕ, ◌⊎◌, List, Option, Result, Ok, inl, inr, refl, sym, subst}
 use Rattle.device_text.specs.Pages.{IsWhy}
 use Rattle.device_text.specs.declared.pages.PageCause.{PageCause}
 use Rattle.device_text.specs.declared.pages.PageCause.TheVariants as page

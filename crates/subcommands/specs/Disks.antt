@@ -1,5 +1,5 @@
 -- Screens read of containers, and written into them.
-use Rattle.std.specs.Prelude.{◌≡◌, ℕ, List, ◌++◌, Bool, Option, None, Some, codes, decimal, if◌then◌else◌, unwrap_or}
+use Rattle.std.specs.Prelude.{◌≡◌, ℕ, List, ◌++◌, Bool, Option, codes, decimal, if◌then◌else◌, unwrap_or}
 use Rattle.containers.specs.Cleaning.{cleaned}
 use Rattle.containers.specs.Containers.{IsRead}
 use Rattle.containers.specs.Layouts.{Layout}

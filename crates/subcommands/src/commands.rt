@@ -7,15 +7,13 @@ ghost use Rattle.block_buffers.specs.Disks.{Disk};
 ghost use Rattle.block_buffers.specs.Likeness.{IsLike};
 ghost use Rattle.subcommands.specs.Kernel.{filled, blocks_of};
 ghost use Rattle.subcommands.specs.Images.{IsBuilding, IsBuiltFile, IsFileOfRead};
-ghost use Rattle.subcommands.specs.Causes.{IsNoFile, build_cause, image_cause};
-ghost use Rattle.subcommands.specs.Ends.{IsRefusal, IsUnrun};
+ghost use Rattle.subcommands.specs.Causes.{build_cause, image_cause};
+ghost use Rattle.subcommands.specs.Ends.{IsRefusal};
 ghost use Rattle.subcommands.specs.Lines.{EndsUnbuilt, EndsViewed, IsFileOf, IsTold, OfImageFile, Prints, PrintsNoImage, PrintsFault, PrintsOutOfMemory, PrintsRefusal, fault_line, image_line, line};
-ghost use Rattle.subcommands.specs.Statuses.{status_of, EndsWith, HasRunWith};
+ghost use Rattle.subcommands.specs.Statuses.{status_of};
 ghost use Rattle.image_loader.specs.Files.{IsWritten};
 ghost use Rattle.image_loader.specs.declared.fault.ImageFault.{ImageFault};
 ghost use Rattle.inner_interpreter.specs.Ends.{Marks};
-ghost use Rattle.inner_interpreter.specs.Moves.{logs};
-ghost use Rattle.inner_interpreter.specs.Worlds.{EndsCutFrom, EndsFaultedFrom, OfFile};
 ghost use Rattle.memory.specs.Bytes.{IsCount};
 
 use crate::causes::Reason;
@@ -25,7 +23,7 @@ use crate::sends::{end_line, ended, send_decimal, send_numbered, send_refusal};
 use block_buffers::Device;
 use image_builder::{BuildFault, Cause, build};
 use image_loader::{Image, ImageFault};
-use inner_interpreter::{EndFault, Input, Output, Stop, run_file, send_all};
+use inner_interpreter::{EndFault, Output, Stop, send_all};
 use memory::{Memory, OutOfMemory};
 use see::view;
 use std::alloc::Global;
@@ -296,66 +294,5 @@ pub fn do_view<W: Output>(alloc: Global, image: &[u8], name: &str, writer: &mut 
     match view(&memory, name.as_bytes()) {
         Ok(screen) => print_number(screen, writer),
         Err(why) => refuse(name, why, writer),
-    }
-}
-
-/// Loads an image and runs it for at most `limit` ticks. Status 0: BYE or the end of input; 1: the bytes are no
-/// image (`image: CAUSE` is printed) or memory ran out; 3: a fault; 4: the limit; 5: an end failed.
-pub fn do_run<R: Input, W: Output, D: Device>(
-    alloc: Global,
-    image: &[u8],
-    device: &mut D,
-    limit: u64,
-    reader: &mut R,
-    writer: &mut W,
-) -> Ended
-    // Where the bytes are an image's file, memory is found and no end fails, the status, the output, the unread bytes and
-    // the blocks are those of the written rounds.
-    ensures ran { result.status ≢ 1 → R.failed reader.new ≡ false → W.failed writer.new ≡ false →
-        OfFile image.now (R.unread reader.old) (D.disk device.old) (W.sent writer.old) limit
-        (λ w. EndsWith result.status w (R.unread reader.new) (D.disk device.new) (W.sent writer.new)) }
-    // Where they are none, that is printed, and no other end is touched.
-    ensures refused { W.failed writer.new ≡ false →
-        PrintsNoImage image.now result.status (W.sent writer.old) (W.sent writer.new) }
-    ensures unrun { (fault : ImageFault) → IsNoFile image.now fault →
-        (reader.new ≡ reader.old) × (device.new ≡ device.old) }
-    // Status 1 over an image's file is lack of memory, which is printed; with status 1 nothing was run.
-    ensures wanting { W.failed writer.new ≡ false →
-        OfImageFile image.now (λ _. result.status ≡ 1 →
-        PrintsOutOfMemory result.status (W.sent writer.old) (W.sent writer.new)) }
-    ensures untouched { result.status ≡ 1 → (reader.new ≡ reader.old) × (device.new ≡ device.old) }
-    // An end that fails gives status 5, and nothing else does; both can't fail in one run.
-    ensures output { W.failed writer.old ≡ false → W.failed writer.new ≡ true → result.status ≡ 5 }
-    ensures input { R.failed reader.old ≡ false → R.failed reader.new ≡ true → result.status ≡ 5 }
-    ensures told { W.failed writer.old ≡ false → W.failed writer.new ≡ false → R.failed reader.new ≡ false →
-        result.status ≢ 5 }
-    ensures one { R.failed reader.old ≡ false → R.failed reader.new ≡ true →
-        W.failed writer.new ≡ W.failed writer.old }
-    // Where the writer doesn't fail, all that was printed was passed on.
-    ensures passed { W.failed writer.new ≡ false → W.passed writer.new ≡ true }
-    // Where the writer fails, some first rounds were made, up to the first that shows more than was sent; or memory ran out,
-    // and nothing was run.
-    ensures cut { W.failed writer.old ≡ false → W.failed writer.new ≡ true →
-        OfFile image.now (R.unread reader.old) (D.disk device.old) (W.sent writer.old) limit
-        (λ w. EndsCutFrom w (R.unread reader.new) (D.disk device.new) (W.sent writer.new) ⊎
-        IsUnrun result.status true reader.old reader.new device.old device.new) }
-    // Where the reader fails, some first rounds were made, and then the machine learned of it.
-    ensures faulted { R.failed reader.old ≡ false → R.failed reader.new ≡ true →
-        OfFile image.now (R.unread reader.old) (D.disk device.old) (W.sent writer.old) limit
-        (λ w. EndsFaultedFrom w (R.unread reader.new) (D.disk device.new) (W.sent writer.new)) }
-    // Whatever the ends are, the machine that was loaded moved by ticks and answers alone: its reader gave just what it was
-    // answered with, its device was given just the calls that it asked for, with their pages, and its writer was sent just
-    // what it showed; or memory ran out.
-    ensures moved { OfImageFile image.now
-        (λ file. HasRunWith result.status file (D.block_count device.old)
-        (logs (D.calls device.old) (W.sent writer.old) (R.reads reader.old))
-        (logs (D.calls device.new) (W.sent writer.new) (R.reads reader.new))
-        limit (R.failed reader.new) (W.failed writer.new) ⊎
-        IsUnrun result.status (W.failed writer.new) reader.old reader.new device.old device.new) }
-    ensures file { IsNone result.file }
-{
-    match run_file(alloc, image, reader, writer, device, limit) {
-        Ok(stop) => end_with(status_of(stop)),
-        Err(fault) => refuse_image(fault, writer),
     }
 }

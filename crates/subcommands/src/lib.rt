@@ -1,4 +1,4 @@
-//! What each subcommand does, prints and ends with, except those that run with a trace or let an image compile.
+//! What each subcommand does, prints and ends with, except those that run an image or let it compile.
 #![tactic(auto)]
 
 mod causes;
@@ -14,8 +14,8 @@ mod upgrade_command;
 
 pub use causes::Reason;
 pub use commands::{
-    Ended, do_build, do_kernel, do_run, do_view, end_with, end_with_made, print_out_of_memory,
-    refuse, refuse_image, status_of,
+    Ended, do_build, do_kernel, do_view, end_with, end_with_made, print_out_of_memory, refuse,
+    refuse_image, status_of,
 };
 pub use container_command::{do_export, do_import, refuse_container};
 pub use kernel_text::TEXT;

@@ -1,44 +1,94 @@
-use Rattle.std.proofs.Common.{◌≡◌, inl, inr, subst, rules}
-use Rattle.debug_tracer.specs.Debugged.{EndsCutDebugged, EndsFaultedDebugged, EndsUntracedDebugged}
-use Rattle.debug_subcommand.specs.Traced.{EndsTracedWith, HasTracedWith}
-use Rattle.image_loader.specs.Files.{Contents}
-use Rattle.inner_interpreter.specs.Moves.{logs}
-use Rattle.inner_interpreter.specs.Worlds.{loaded}
+use Rattle.std.proofs.Common.{◌∙◌, inl, inr, rules, subst}
+use Rattle.debug_subcommand.proofs.Debugging.{cut_of, faulted_of, moved_of, of_file, ran_of, fault_of, printed_why, printed_want, told_of, unfinished_of}
+use Rattle.debug_subcommand.specs.Traced.{PrintsUntraced}
 use Rattle.debug_subcommand.proofs.debug_command.do_debug.Goals as goal
 
-pub returns-in-Ok-load_and_debug-clause-ran : goal.returns-in-Ok-load_and_debug-clause-ran
-returns-in-Ok-load_and_debug-clause-ran g c = λ other fine good kept file f typed u disk k sent s.
-    let same : c.in-Ok.image ≡ file = c.in-Ok.ensures.accepted file f in
-    subst (λ (i : Contents). EndsTracedWith c.end_with.result.status (loaded i typed disk sent c.args.limit) c.args.name.now (g.R.Input.unread c.load_and_debug.new.reader) (g.D.Device.disk c.load_and_debug.new.device) (g.W.Output.sent c.load_and_debug.new.writer) (g.T.Output.sent c.args.trace.now) (g.T.Output.sent c.load_and_debug.new.trace)) same
-    (record { stop = c.in-Ok-load_and_debug.stop; status_is = search rules; ends = c.in-Ok-load_and_debug.ensures.ran fine good kept typed u disk k sent s })
+pub returns-in-Err-clause-debugged : goal.returns-in-Err-clause-debugged
+returns-in-Err-clause-debugged g c = record {
+  ran = search rules;
+  untraced = λ fine file f why is. inr (c.refuse_image.ensures.out_of_memory fine (c.in-Err.ensures.accepted file f));
+  unmarked = search rules;
+  refused = search rules;
+  unrun = search rules;
+  wanting = λ fine file f traced one. c.refuse_image.ensures.out_of_memory fine (c.in-Err.ensures.accepted file f);
+  untouched = search rules;
+  output = search rules;
+  input = search rules;
+  lines = search rules;
+  told = search rules;
+  one = search rules;
+  passed = search rules;
+  cut = search rules;
+  faulted = search rules;
+  unfinished = search rules;
+  moved = search rules;
+}
 
-pub returns-in-Err-clause-untraced : goal.returns-in-Err-clause-untraced
-returns-in-Err-clause-untraced g c = λ fine file f why is.
-    inr (c.refuse_image.ensures.out_of_memory fine (c.in-Err.ensures.accepted file f))
+pub returns-in_default-clause-debugged : goal.returns-in_default-clause-debugged
+returns-in_default-clause-debugged g c = record {
+  ran = search rules;
+  untraced = search rules;
+  unmarked = search rules;
+  refused = search rules;
+  unrun = search rules;
+  wanting = search rules;
+  untouched = search rules;
+  output = search rules;
+  input = search rules;
+  lines = search rules;
+  told = search rules;
+  one = search rules;
+  passed = search rules;
+  cut = search rules;
+  faulted = search rules;
+  unfinished = search rules;
+  moved = search rules;
+}
 
-pub returns-in-Err-clause-wanting : goal.returns-in-Err-clause-wanting
-returns-in-Err-clause-wanting g c = λ fine file f traced one. c.refuse_image.ensures.out_of_memory fine (c.in-Err.ensures.accepted file f)
+pub returns-in-Ok-debug-clause-debugged : goal.returns-in-Ok-debug-clause-debugged
+returns-in-Ok-debug-clause-debugged g c =
+    let status = c.end_with.ensures.status ∙ c.status_of.ensures in
+    record {
+      ran = λ other fine good kept file f. ran_of file _ c.count.ensures.told status (of_file c.in-Ok-load.ensures (c.in-Ok.ensures.accepted file f) c.as_bytes-text.ensures.value c.in-Ok-debug.ensures.debugged) fine good kept;
+      untraced = search rules;
+      unmarked = search rules;
+      refused = search rules;
+      unrun = search rules;
+      wanting = search rules;
+      untouched = search rules;
+      output = search rules;
+      input = search rules;
+      lines = search rules;
+      told = told_of _ _ _ c.in-Ok-load.ensures status c.in-Ok-debug.ensures.debugged;
+      one = search rules;
+      passed = search rules;
+      cut = λ fine failed file f typed u disk k sent s. inl (cut_of file c.count.ensures.told (of_file c.in-Ok-load.ensures (c.in-Ok.ensures.accepted file f) c.as_bytes-text.ensures.value c.in-Ok-debug.ensures.debugged) fine failed typed u disk k sent s);
+      faulted = λ fine failed file f. faulted_of file c.count.ensures.told (of_file c.in-Ok-load.ensures (c.in-Ok.ensures.accepted file f) c.as_bytes-text.ensures.value c.in-Ok-debug.ensures.debugged) fine failed;
+      unfinished = λ fine failed file f. unfinished_of file c.count.ensures.told (of_file c.in-Ok-load.ensures (c.in-Ok.ensures.accepted file f) c.as_bytes-text.ensures.value c.in-Ok-debug.ensures.debugged) fine failed;
+      moved = λ file f traced. inl (moved_of _ c.count.ensures.value status (of_file c.in-Ok-load.ensures (c.in-Ok.ensures.accepted file f) c.as_bytes-text.ensures.value c.in-Ok-debug.ensures.debugged));
+    }
 
-pub returns-in-Ok-load_and_debug-clause-cut : goal.returns-in-Ok-load_and_debug-clause-cut
-returns-in-Ok-load_and_debug-clause-cut g c = λ fine failed file f typed u disk k sent s.
-    let same : c.in-Ok.image ≡ file = c.in-Ok.ensures.accepted file f in
-    inl (subst (λ (i : Contents). EndsCutDebugged (loaded i typed disk sent c.args.limit) c.args.name.now (g.R.Input.unread c.load_and_debug.new.reader) (g.D.Device.disk c.load_and_debug.new.device) (g.W.Output.sent c.load_and_debug.new.writer) (g.T.Output.sent c.args.trace.now) (g.T.Output.sent c.load_and_debug.new.trace)) same
-    (c.in-Ok-load_and_debug.ensures.cut fine failed typed u disk k sent s))
-
-pub returns-in-Ok-load_and_debug-clause-faulted : goal.returns-in-Ok-load_and_debug-clause-faulted
-returns-in-Ok-load_and_debug-clause-faulted g c = λ fine failed file f typed u disk k sent s.
-    let same : c.in-Ok.image ≡ file = c.in-Ok.ensures.accepted file f in
-    (subst (λ (i : Contents). EndsFaultedDebugged (loaded i typed disk sent c.args.limit) c.args.name.now (g.R.Input.unread c.load_and_debug.new.reader) (g.D.Device.disk c.load_and_debug.new.device) (g.W.Output.sent c.load_and_debug.new.writer) (g.T.Output.sent c.args.trace.now) (g.T.Output.sent c.load_and_debug.new.trace)) same
-    (c.in-Ok-load_and_debug.ensures.faulted fine failed typed u disk k sent s))
-
-pub returns-in-Ok-load_and_debug-clause-unfinished : goal.returns-in-Ok-load_and_debug-clause-unfinished
-returns-in-Ok-load_and_debug-clause-unfinished g c = λ fine failed file f typed u disk k sent s.
-    let same : c.in-Ok.image ≡ file = c.in-Ok.ensures.accepted file f in
-    (subst (λ (i : Contents). EndsUntracedDebugged (loaded i typed disk sent c.args.limit) c.args.name.now (g.R.Input.unread c.load_and_debug.new.reader) (g.D.Device.disk c.load_and_debug.new.device) (g.W.Output.sent c.load_and_debug.new.writer) (g.T.Output.sent c.args.trace.now) (g.T.Output.sent c.load_and_debug.new.trace)) same
-    (c.in-Ok-load_and_debug.ensures.unfinished fine failed typed u disk k sent s))
-
-pub returns-in-Ok-load_and_debug-clause-moved : goal.returns-in-Ok-load_and_debug-clause-moved
-returns-in-Ok-load_and_debug-clause-moved g c = λ file f traced.
-    let same : c.in-Ok.image ≡ file = c.in-Ok.ensures.accepted file f in
-    inl (subst (λ (i : Contents). HasTracedWith c.end_with.result.status i c.args.name.now (g.D.Device.block_count c.args.device.now) (logs (g.D.Device.calls c.args.device.now) (g.W.Output.sent c.args.writer.now) (g.R.Input.reads c.args.reader.now)) (logs (g.D.Device.calls c.load_and_debug.new.device) (g.W.Output.sent c.load_and_debug.new.writer) (g.R.Input.reads c.load_and_debug.new.reader)) c.args.limit (g.R.Input.failed c.load_and_debug.new.reader) (g.W.Output.failed c.load_and_debug.new.writer) (g.T.Output.failed c.load_and_debug.new.trace) (g.T.Output.sent c.args.trace.now) (g.T.Output.sent c.load_and_debug.new.trace)) same
-    (record { stop = c.in-Ok-load_and_debug.stop; status_is = search rules; run = c.in-Ok-load_and_debug.ensures.moved }))
+pub returns-clause-debugged : goal.returns-clause-debugged
+returns-clause-debugged g c = record {
+  ran = search rules;
+  untraced = λ fine file f why is. printed_why _ _ _ _ _ _ _ is
+      (fault_of c.in-Ok-load.ensures (c.in-Ok.ensures.accepted file f) c.as_bytes-text.ensures.value c.in-Err-debug.ensures.refused)
+      (subst (λ w. PrintsUntraced c.args.name.now c.in-Err-debug.fault c.refuse_debug.result.status (g.W.Output.sent w) (g.W.Output.sent c.refuse_debug.new.writer)) c.in-Err-debug.ensures.writer (c.refuse_debug.ensures.printed fine));
+  unmarked = search rules;
+  refused = search rules;
+  unrun = search rules;
+  wanting = λ fine file f ok one. printed_want _ _ _ _ _ _ ok
+      (fault_of c.in-Ok-load.ensures (c.in-Ok.ensures.accepted file f) c.as_bytes-text.ensures.value c.in-Err-debug.ensures.refused)
+      (subst (λ w. PrintsUntraced c.args.name.now c.in-Err-debug.fault c.refuse_debug.result.status (g.W.Output.sent w) (g.W.Output.sent c.refuse_debug.new.writer)) c.in-Err-debug.ensures.writer (c.refuse_debug.ensures.printed fine));
+  untouched = search rules;
+  output = search rules;
+  input = search rules;
+  lines = search rules;
+  told = search rules;
+  one = search rules;
+  passed = search rules;
+  cut = search rules;
+  faulted = search rules;
+  unfinished = search rules;
+  moved = search rules;
+}

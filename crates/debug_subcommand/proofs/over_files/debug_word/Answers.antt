@@ -61,8 +61,8 @@ returns-clause-debugged g c = record {
   untraced = c.do_debug-ended.new.trace.has_failed;
   moved = over (λ r. r.log.reads) g.F.Blocks.Device.calls (λ t. Some t.log.bytes) c.as_slice.result.now _ _ _ c.new-reader.result c.do_debug-ended.new.reader _ _
       c.new-lines.result c.do_debug-ended.new.trace _ _ _ _ _ _
-      c.new-reader.ensures.uncalled c.in_ok-device.ensures.fresh c.new-lines.ensures.bytes c.do_debug-ended.ensures.moved;
-  refused = c.do_debug-ended.ensures.refused;
-  untraceable = c.do_debug-ended.ensures.untraced;
-  wanting = c.do_debug-ended.ensures.wanting;
+      c.new-reader.ensures.uncalled c.in_ok-device.ensures.fresh c.new-lines.ensures.bytes c.do_debug-ended.ensures.debugged.moved;
+  refused = c.do_debug-ended.ensures.debugged.refused;
+  untraceable = c.do_debug-ended.ensures.debugged.untraced;
+  wanting = c.do_debug-ended.ensures.debugged.wanting;
 }

@@ -1,4 +1,4 @@
-use Rattle.std.proofs.Common.{rules, arith}
+use Rattle.std.proofs.Common.{arith}
 use Rattle.inner_interpreter.proofs.Making.{none_made, next_made, last_made}
 use Rattle.inner_interpreter.proofs.hosts.make_moves.Goals as goal
 

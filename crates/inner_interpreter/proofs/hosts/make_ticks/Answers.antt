@@ -1,4 +1,4 @@
-use Rattle.std.proofs.Common.{rules, arith}
+use Rattle.std.proofs.Common.{arith}
 use Rattle.inner_interpreter.proofs.Making.{none_made, many_made, ticks_refused, ticks_done}
 use Rattle.inner_interpreter.proofs.hosts.make_ticks.Goals as goal
 

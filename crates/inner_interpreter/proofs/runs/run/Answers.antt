@@ -1,14 +1,16 @@
-use Rattle.std.proofs.Common.{refl}
+use Rattle.std.proofs.Common.{refl, rules}
 use Rattle.inner_interpreter.proofs.runs.run.Goals as goal
 
-pub returns-clause-whole : goal.returns-clause-whole
-returns-clause-whole g c = λ fine good w at. (c.run_with.ensures.whole fine good refl w at).ends
-
-pub returns-clause-ended : goal.returns-clause-ended
-returns-clause-ended g c = λ fine good. c.run_with.ensures.ended fine good refl
-
-pub returns-clause-cut : goal.returns-clause-cut
-returns-clause-cut g c = λ fine failed w at. (c.run_with.ensures.cut fine failed w at).cut
-
-pub returns-clause-faulted : goal.returns-clause-faulted
-returns-clause-faulted g c = λ fine failed w at. (c.run_with.ensures.faulted fine failed w at).faulted
+pub returns-clause-runs : goal.returns-clause-runs
+returns-clause-runs g c =
+    let r = c.run_with.ensures.runs in
+    record {
+      whole = λ fine good w at. (r.whole fine good refl w at).ends;
+      ended = λ fine good. r.ended fine good refl;
+      ends_told = r.ends_told;
+      cut = λ fine failed w at. (r.cut fine failed w at).cut;
+      faulted = λ fine failed w at. (r.faulted fine failed w at).faulted;
+      passed = λ fine. (r.passed fine refl).0;
+      moved = r.moved.run;
+      untraced = search rules;
+    }

@@ -10,8 +10,8 @@ returns-clause-moved g c = λ fine good.
     session_of _ _ _ _ _ _ _ _ _ _ c.in-Ok.machine c.run_sliced.new.machine c.break_word-word.result c.in_ok-ending.ending (g.D.Device.calls c.run_sliced.new.device) _ _ (g.H.SessionHost.kept c.run_sliced.new.host)
     (c.in-Ok.ensures ∙ ap (start c.args.image.now) c.count.ensures.value)
     (c.break_word-word.ensures ∙ ap break_word c.memory.ensures)
-    e.moved
-    (ended_so _ _ _ _ _ _ _ fine good e.ended e.output e.input (λ q. e.asked (ap Ok q)) (λ q. e.unfailed (ap Ok q)))
+    e.sliced.moved
+    (ended_so _ _ _ _ _ _ _ fine good e.sliced.ended e.sliced.output e.sliced.input (λ q. e.asked (ap Ok q)) e.sliced.unfailed)
     e.kept c.finish.ensures.same.0 c.finish.ensures.same.1 c.finish.ensures.finished
 
 pub returns-clause-cut : goal.returns-clause-cut
