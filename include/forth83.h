@@ -3,6 +3,8 @@
  * The host owns all bytes. A machine is a record of the host's, of plain bytes: copy it to undo, or write it to a file to go on
  * another day. No call keeps a pointer, and nothing is global: calls on different records may come from different threads.
  *
+ * A call works in the record itself: no other thread may read or write it meanwhile. A call that is refused leaves every byte as it was.
+ *
  * Sizes have 64 bits on every target, also where size_t has 32. */
 #ifndef FORTH83_H
 #define FORTH83_H
@@ -17,7 +19,7 @@ extern "C" {
 #define FORTH83_VERSION "1.0.0"
 
 /* The layout of the records below; each record that was loaded has it as `abi`. */
-#define FORTH83_ABI 1
+#define FORTH83_ABI 2
 
 /* Room for anything that one act may show, in bytes. With less, the host shows long pieces from memory by itself. */
 #define FORTH83_ROOM 65536
@@ -29,7 +31,7 @@ extern "C" {
 enum forth83_status {
   FORTH83_DONE = 0,
   FORTH83_NO_MACHINE = 1,     /* the record keeps no machine */
-  FORTH83_OUT_OF_MEMORY = 2,  /* malloc gave no memory */
+  FORTH83_OUT_OF_MEMORY = 2,  /* malloc gave no memory: for an image, or for the table of names of a run or an answer */
   FORTH83_SHORT_ROOM = 3,     /* no room for what is shown, or too little for a file */
   FORTH83_TRUNCATED = 4,      /* an image's file that ends too soon */
   FORTH83_TRAILING_BYTES = 5, /* bytes after an image's file */
@@ -102,6 +104,7 @@ typedef struct forth83 {
   uint16_t values[257];
   uint16_t returns[257];
   uint8_t memory[65536];
+  uint8_t spare[16]; /* for the calls, which work in memory as it lies here; no part of the machine */
 } forth83;
 
 /* How a call of forth83_run ended. */

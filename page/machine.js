@@ -9,6 +9,16 @@ const ROOM = 131072, TYPED_ROOM = 4096;
 // Cells of the system in the machine's memory.
 export const SYSTEM = { state: 16, base: 18, toIn: 20, blk: 22, here: 28, last: 30, scr: 38, vocLink: 52, fence: 54 };
 
+// A record as the calls want it. Pages of version 1.0.0 kept records of layout 1, which had no bytes for the calls after memory.
+export function inLayout2(record, { size, abi, memory }) {
+  const end = memory + MEMORY, isOld = record.length === end + 2 && new DataView(record.buffer, record.byteOffset).getUint32(abi, true) === 1;
+  if (!isOld) return record;
+  const made = new Uint8Array(size);
+  made.set(record.subarray(0, end));
+  new DataView(made.buffer).setUint32(abi, 2, true);
+  return made;
+}
+
 export class Machine {
   // calls: what the module exports. layout: where the fields of its records are.
   constructor(calls, layout) {

@@ -3,7 +3,7 @@
 import { encode } from "./bytes.js";
 import { Disk } from "./disk.js";
 import { entryOf, imageOf } from "./image.js";
-import { ASKS, Machine, PAGE_SIZE, STOP, SYSTEM } from "./machine.js";
+import { ASKS, inLayout2, Machine, PAGE_SIZE, STOP, SYSTEM } from "./machine.js";
 
 const SLICE = 12, UNDOS = 100, LONG = 2000;
 // Places of the cells that screens/page/paged.txt notes for the page, and the words of its image that the page uses.
@@ -98,11 +98,11 @@ export class Session {
 
   // Restores what was kept; throws if the sizes differ.
   take({ name, disk, record, places, outer, program }) {
-    const { size } = this.layout;
-    if (record.length !== size || disk.length % PAGE_SIZE || (outer && outer.record.length !== size)) throw new Error("other sizes");
+    const { size } = this.layout, now = inLayout2(record, this.layout), before = outer ? inLayout2(outer.record, this.layout) : null;
+    if (now.length !== size || disk.length % PAGE_SIZE || (before && before.length !== size)) throw new Error("other sizes");
     Object.assign(this, { disk: new Disk(String(name), disk), places: numbers(places), program: String(program || ""),
-      outer: outer ? { record: outer.record, places: numbers(outer.places) } : null });
-    this.machine.restore(record);
+      outer: before ? { record: before, places: numbers(outer.places) } : null });
+    this.machine.restore(now);
   }
 
   kept() {

@@ -5,6 +5,7 @@ from typing import Dict, List, NamedTuple, Tuple
 
 ROOT = pathlib.Path(__file__).resolve().parent.parent
 LIBRARY = ROOT / "crates/forth83_c"
+MEMORY = "memory"
 SIZES = {"u8": 1, "u16": 2, "u32": 4, "u64": 8, "usize": 8}
 
 
@@ -32,8 +33,8 @@ class Call(NamedTuple):
 
 
 def records(library: pathlib.Path = LIBRARY) -> Dict[str, Record]:
-    """The records of record.rt by name, laid out as C does."""
-    text = (library / "src/record.rt").read_text(encoding="utf-8")
+    """The records of record.rt by name, laid out as C does, and that of memory, which is in the crate of this name."""
+    text = (library.parent / MEMORY / "src/lib.rt").read_text(encoding="utf-8") + (library / "src/record.rt").read_text(encoding="utf-8")
     sizes: Dict[str, Tuple[int, int]] = {name: (size, size) for name, size in SIZES.items()}
     found = {}
     for name, body in re.findall(r"pub struct (\w+) \{\n(.*?)\n\}", text, re.S):
@@ -76,7 +77,7 @@ def zero(element: str, known: Dict[str, Record]) -> str:
     if element not in known:
         return "0"
     fields = (f"{it.name}: {array_of(zero(it.element, known), it.count)}" for it in known[element].fields)
-    return f"record::{element} {{ {', '.join(fields)} }}"
+    return f"{MEMORY if element == 'Memory' else 'record'}::{element} {{ {', '.join(fields)} }}"
 
 
 def array_of(value: str, count: int) -> str:

@@ -18,10 +18,11 @@ ROOT = pathlib.Path(__file__).resolve().parent.parent
 PAGE = ROOT / "page"
 # A module in teaching/ that the page's own script uses, too.
 SHARED = {"source.js"}
-sys.path.insert(0, str(PAGE))
+sys.path[:0] = [str(PAGE), str(ROOT / "targets")]
 
 import assembly  # noqa: E402
 import contents  # noqa: E402
+import records  # noqa: E402
 
 LESSONS = """# A course
 
@@ -190,9 +191,48 @@ def check_modules(cases: Tally) -> None:
         cases.must(got == TOLD, f"the modules in node: {got}")
 
 
+# Node takes a session that a page of version 1.0.0 kept, by calls that do nothing: whether each record is the one that is wanted.
+KEPT = """
+import { readFileSync } from "node:fs";
+import { Session } from "./session.js";
+const layout = JSON.parse(readFileSync(0)), memory = new WebAssembly.Memory({ initial: 8 });
+let free = 1024;
+const done = () => 0, malloc = (size) => (free += size) - size;
+const session = new Session({ memory, malloc, free: done, forth83_load: done }, layout, new Uint8Array(16), {});
+const record = (size, abi) => {
+  const made = Uint8Array.from({ length: size }, (_, at) => (7 * at + 3) % 251);
+  new DataView(made.buffer).setUint32(0, abi, true);
+  return made;
+};
+const take = (now, before) => {
+  try {
+    session.take({ name: "d", disk: new Uint8Array(1024), record: now, places: {}, outer: before && { record: before, places: {} } });
+    return [session.machine.copy(), session.outer && session.outer.record];
+  } catch (error) {
+    return error.message;
+  }
+};
+const old = record(66724, 1), wanted = new Uint8Array(66740);
+wanted.set(old.subarray(0, 66722));
+wanted[0] = 2;
+const isSame = (one, other) => Buffer.compare(one, other) === 0;
+const found = take(old, old).map((one) => isSame(one, wanted));
+const mine = record(66740, 2), kept = take(mine, null);
+found.push(isSame(kept[0], mine), kept[1], isSame(take(mine, old)[1], wanted), isSame(old, record(66724, 1)));
+found.push(take(record(66724, 3), null), take(record(66723, 1), null), take(record(66722, 1), null), take(mine, record(66724, 2)));
+console.log(JSON.stringify(found));
+"""
+
+
+def check_kept(cases: Tally) -> None:
+    """A session that a page of version 1.0.0 kept has records of layout 1, which become those of layout 2; other sizes are refused."""
+    got = in_node(KEPT, json.dumps(records.layout()))
+    cases.must(got in (None, [True, True, True, None, True, True, *["other sizes"] * 4]), f"a session of version 1.0.0 in node: {got}")
+
+
 def check(cases: Tally) -> None:
     """All that needs no program."""
-    for part in (check_contents, check_canvas, check_assembly, check_unpacking, check_modules):
+    for part in (check_contents, check_canvas, check_assembly, check_unpacking, check_modules, check_kept):
         part(cases)
 
 

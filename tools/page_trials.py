@@ -13,6 +13,9 @@ from tally import Tally
 
 PASTE = ("{ const data = new DataTransfer(); data.setData('text', %s); document.getElementById('line').dispatchEvent("
          "new ClipboardEvent('paste', { clipboardData: data, bubbles: true, cancelable: true })) }")
+# The session window.whole as version 1.0.0 saved it: its record ends two bytes after memory, and says layout 1.
+OF_LAYOUT_1 = ("{ const kept = JSON.parse(window.whole), record = fromBase64(kept.record).slice(0, DATA.layout.memory + 65536 + 2); "
+               "record[0] = 1; window.ofLayout1 = JSON.stringify({ ...kept, record: toBase64(record) }) } 0")
 NAMED = ("button", "textbox", "combobox", "listbox", "slider", "spinbutton", "tab", "tabpanel", "log", "checkbox", "searchbox")
 TABS = ("screens", "disk", "course", "film", "map", "canvas", "words", "help")
 CONTROL = 2
@@ -256,6 +259,10 @@ def files(trial: Trial, program: pathlib.Path, room: pathlib.Path) -> None:
     trial.file("home.forth", "window.whole")
     trial.must(trial.value("page.session.machine.values.join()") == "1,2,3", "a whole session has another stack")
     trial.must("77  ok" in trial.type("SCLEAR MINE ."), "a whole session has lost its words")
+    trial.value(OF_LAYOUT_1)
+    trial.type("FORGET MINE")
+    trial.file("of-1.0.0.forth", "window.ofLayout1")
+    trial.must("77  ok" in trial.type("SCLEAR MINE ."), "a whole session of version 1.0.0 isn't continued")
     spoilt = "JSON.stringify({ ...JSON.parse(window.whole), record: btoa('x'.repeat(DATA.layout.size)) })"
     for what, content in {"cut.forth": "window.whole.slice(0, 5000)", "spoilt.forth": spoilt, "odd.blk": "new Uint8Array(1000)", "empty": "''",
                           "late.txt": "'% screen 1\\n% x\\n'", "long.txt": "'% screen 1\\n' + 'x'.repeat(65)"}.items():

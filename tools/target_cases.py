@@ -103,7 +103,12 @@ RECORDS = """pub struct Small {
 pub struct Big {
     pub count: u32,
     pub smalls: [Small; 3],
+    pub memory: Memory,
     pub end: usize,
+}
+"""
+BYTES = """pub struct Memory {
+    pub bytes: [u8; 3],
 }
 """
 CALLS = 'pub extern "C" fn forth83_go(alloc: Global, big: &mut Big, text: &[u8], n: u16) -> u32\n'
@@ -112,13 +117,14 @@ CALLS = 'pub extern "C" fn forth83_go(alloc: Global, big: &mut Big, text: &[u8],
 def check_records(cases: Tally) -> None:
     """Records by the rules of C, and what calls want."""
     with tempfile.TemporaryDirectory() as name:
-        (pathlib.Path(name) / "src").mkdir()
-        (pathlib.Path(name) / "src/record.rt").write_text(RECORDS, encoding="utf-8")
-        (pathlib.Path(name) / "src/lib.rt").write_text(CALLS, encoding="utf-8")
-        found, calls = records.records(pathlib.Path(name)), records.calls(pathlib.Path(name))
+        library, memory = pathlib.Path(name) / "library", pathlib.Path(name) / "memory"
+        for file, text in ((library / "src/record.rt", RECORDS), (library / "src/lib.rt", CALLS), (memory / "src/lib.rt", BYTES)):
+            file.parent.mkdir(parents=True, exist_ok=True)
+            file.write_text(text, encoding="utf-8")
+        found, calls = records.records(library), records.calls(library)
     cases.must(found["Small"].size == 4 and [it.place for it in found["Small"].fields] == [0, 2], f"Small: {found['Small']}")
-    cases.must(found["Big"].size == 24 and [it.place for it in found["Big"].fields] == [0, 4, 16], f"Big: {found['Big']}")
-    wanted = "record::Big { count: 0, smalls: [record::Small { one: 0, two: 0 }; 3], end: 0 }"
+    cases.must(found["Big"].size == 32 and [it.place for it in found["Big"].fields] == [0, 4, 16, 24], f"Big: {found['Big']}")
+    wanted = "record::Big { count: 0, smalls: [record::Small { one: 0, two: 0 }; 3], memory: memory::Memory { bytes: [0; 3] }, end: 0 }"
     cases.must(records.zero("Big", found) == wanted, f"zeros: {records.zero('Big', found)}")
     cases.must(calls == [records.Call("forth83_go", ["Global", "&mut Big", "&[u8]", "u16"])], f"calls: {calls}")
 

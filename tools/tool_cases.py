@@ -1,4 +1,4 @@
-"""Unit tests of the commands in tools/, commands/ and build/. The expected values are worked out by hand."""
+"""Unit tests of the commands in tools/, commands/, build/ and bench/. The expected values are worked out by hand."""
 import contextlib
 import importlib.machinery
 import importlib.util
@@ -287,3 +287,21 @@ class Editors(unittest.TestCase):
         self.assertTrue(re.search(pattern, "1 2dup ."))
         self.assertFalse(re.search(pattern, "1 2DUPX ."))
         self.assertFalse(re.search(pattern, "x2DUP"))
+
+
+class Calls(unittest.TestCase):
+    """bench/call, with what callgrind prints."""
+
+    SAID = "==7== Events    : Ir\n==7== Collected : 78153663\n==7==\n==7== I   refs:      78,153,663\n"
+
+    def test_how_many_instructions_callgrind_counted(self) -> None:
+        module = command("bench/call")
+        self.assertEqual(78153663, module.collected(self.SAID))
+        with self.assertRaises(SystemExit):
+            module.collected("valgrind: no such program")
+
+    def test_a_line_is_what_twice_as_many_take_more(self) -> None:
+        module = command("bench/call")
+        with mock.patch.object(module, "instructions", side_effect=lambda words: 5000 + 40 * int(words[3])) as asked:
+            self.assertEqual(40, module.each("program", "image", "lines", 1000))
+        self.assertEqual([["program", "image", "lines", "2000"], ["program", "image", "lines", "1000"]], [it.args[0] for it in asked.call_args_list])

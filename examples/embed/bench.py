@@ -28,7 +28,7 @@ class Machine(ctypes.Structure):
         + [(name, ctypes.c_uint16) for name in ("ip", "has_pending", "pending", "asks", "asked", "token", "halts", "fault")]
         + [(name, ctypes.c_uint16) for name in ("values_top", "returns_top", "buffer_count")]
         + [("buffers", Buffer * 16), ("values", ctypes.c_uint16 * 257), ("returns", ctypes.c_uint16 * 257)]
-        + [("memory", ctypes.c_uint8 * 65536)]
+        + [("memory", ctypes.c_uint8 * 65536), ("spare", ctypes.c_uint8 * 16)]
     )
 
 

@@ -1,7 +1,7 @@
 /* Types scripts at machines of the library, in pieces, and prints a digest of all that each call leaves:
  *
  *   trial IMAGE SCRIPTS RECORDS        a line for each script: its digest; the last record of each goes to the file RECORDS
- *   trial IMAGE --record RECORD TEXT   continues the record of a file with the lines of TEXT, and shows what it shows
+ *   trial IMAGE --record RECORD TEXT   continues the record of a file with the lines of TEXT until it halts, and shows what it shows
  *   trial IMAGE --measure TICKS        how deep the stack gets, and how many ticks a second an endless loop makes
  *
  * SCRIPTS has scripts, each with a byte 0 after it. All choices are made by a generator of its own, so that two builds make the same.
@@ -109,6 +109,15 @@ static void start(uint32_t at)
     dice = at;
 }
 
+/* Continues the machine's record with these bytes, after which it must be halted: how many bytes it shows. */
+static uint32_t continued(const uint8_t *text, size_t size)
+{
+    forth83_end end;
+    must(forth83_run(&machine, text, size, shown, sizeof shown, 1000000, &end), "run");
+    must(end.stop == FORTH83_STOP_HALTED ? FORTH83_DONE : FORTH83_WAITING, "halt");
+    return (uint32_t)end.shown;
+}
+
 #ifdef BARE
 /* The digest of one script, and where its last record is. */
 uint64_t trial_digest(const uint8_t *image, uint32_t image_size, const uint8_t *text, uint32_t size, uint32_t at)
@@ -120,13 +129,8 @@ uint64_t trial_digest(const uint8_t *image, uint32_t image_size, const uint8_t *
 
 forth83 *trial_record(void) { return &machine; }
 
-/* Continues the machine's record, which the host has put there: how many bytes it shows. */
-uint32_t trial_continue(const uint8_t *text, uint32_t size)
-{
-    forth83_end end;
-    must(forth83_run(&machine, text, size, shown, sizeof shown, 1000000, &end), "run");
-    return (uint32_t)end.shown;
-}
+/* The host has put the record there. */
+uint32_t trial_continue(const uint8_t *text, uint32_t size) { return continued(text, size); }
 
 uint8_t *trial_shown(void) { return shown; }
 #else
@@ -210,7 +214,6 @@ static void run_all(const uint8_t *image, size_t image_size, const uint8_t *text
 int main(int count, char **arguments)
 {
     static uint8_t image[70000], texts[1 << 20];
-    forth83_end end;
     if (count < 4)
         return 2;
     size_t image_size = contents(arguments[1], image, sizeof image);
@@ -219,8 +222,7 @@ int main(int count, char **arguments)
     } else if (strcmp(arguments[2], "--record") == 0 && count == 5) {
         contents(arguments[3], (uint8_t *)&machine, sizeof machine);
         size_t size = contents(arguments[4], texts, sizeof texts);
-        must(forth83_run(&machine, texts, size, shown, sizeof shown, 1000000, &end), "run");
-        fwrite(shown, 1, (size_t)end.shown, stdout);
+        fwrite(shown, 1, continued(texts, size), stdout);
     } else {
         run_all(image, image_size, texts, contents(arguments[2], texts, sizeof texts), arguments[3]);
     }

@@ -8,6 +8,7 @@ use debug_tracer::debug;
 use image_loader::read;
 use inner_interpreter::ends::FailingWriter;
 use inner_interpreter::{Machine, Reading, Stop, Writing};
+use memory::Memory;
 use std::alloc::Global;
 use std::io;
 use std::io::{ErrorKind, Write};
@@ -194,18 +195,32 @@ const CHOICE_STATES: [(u16, usize, [Option<u16>; 2]); 4] = [
     (352, 2, [Some(65535), Some(0)]),
 ];
 
-/// The machine of the image of CHOICE, traced over a writer that takes so many bytes: why it stopped, and the machine then.
-fn cut_behind(alloc: Global, trace: &mut FailingWriter) -> Result<(Stop, Machine), Fail> {
+/// Where a machine was when its trace was cut: the place in the thread, how many cells are on the data stack, its two top cells, the
+/// token that comes next in place of that at the place, and how many cells are on the return stack.
+#[derive(Drop)]
+struct Cut {
+    stop: Stop,
+    state: (u16, usize, [Option<u16>; 2]),
+    pending: Option<u16>,
+    returns: usize,
+}
+
+/// The machine of the image of CHOICE, traced over a writer that takes so many bytes: why it stopped, and where it was then.
+fn cut_behind(alloc: Global, trace: &mut FailingWriter) -> Result<Cut, Fail> {
     let Ok(image) = read(alloc, built(alloc, CHOICE)?.as_slice()) else {
         return Err("no image".into());
     };
-    let Ok(mut machine) = Machine::load(alloc, &image, 0) else {
+    let Ok(mut memory) = Memory::with_front(alloc, image.bytes()) else {
+        return Err("no memory".into());
+    };
+    let memory: &mut Memory = &mut memory;
+    let Ok(mut machine) = Machine::load(alloc, memory, &image, 0) else {
         return Err("no machine".into());
     };
     let mut device = MemoryDevice::new(Vec::new(alloc), Vec::new(alloc));
     let mut writer = Writing::new(Vec::new(alloc));
     let mut reader = Reading::new(b"".as_slice());
-    match debug(
+    let stopped = debug(
         alloc,
         &mut machine,
         b"Z",
@@ -214,10 +229,21 @@ fn cut_behind(alloc: Global, trace: &mut FailingWriter) -> Result<(Stop, Machine
         &mut device,
         trace,
         1000,
-    ) {
-        Ok(stop) => Ok((stop, machine)),
-        Err(_) => Err("not traced".into()),
-    }
+    );
+    let Ok(stop) = stopped else {
+        return Err("not traced".into());
+    };
+    let values = machine.values();
+    Ok(Cut {
+        stop,
+        state: (
+            machine.ip(),
+            values.depth(),
+            [values.pick(0), values.pick(1)],
+        ),
+        pending: machine.pending(),
+        returns: machine.returns().depth(),
+    })
 }
 
 /// The trace is cut after each number of bytes below its length. The machine is then before the tick of the line that is
@@ -228,22 +254,16 @@ fn a_trace_cut_behind_each_byte(rt: HostRuntime) -> Result<(), Fail> {
     let whole = CHOICE_TRACE.as_bytes();
     for room in 0..whole.len() {
         let mut trace = FailingWriter::new(room.min(256));
-        let (stop, machine) = cut_behind(alloc, &mut trace)?;
-        assert_equal(&rt, (room, stop), (room, Stop::TraceFault));
+        let cut = cut_behind(alloc, &mut trace)?;
+        assert_equal(&rt, (room, cut.stop), (room, Stop::TraceFault));
         assert_equal(&rt, trace.written(), &whole[..room]);
         let line = whole[..room].iter().filter(|byte| **byte == b'\n').count();
-        let values = machine.values();
-        let state = (
-            machine.ip(),
-            values.depth(),
-            [values.pick(0), values.pick(1)],
-        );
-        assert_equal(&rt, (room, Some(&state)), (room, CHOICE_STATES.get(line)));
         assert_equal(
             &rt,
-            (machine.pending(), machine.returns().depth()),
-            (None, 2),
+            (room, Some(&cut.state)),
+            (room, CHOICE_STATES.get(line)),
         );
+        assert_equal(&rt, (cut.pending, cut.returns), (None, 2));
     }
     Ok(())
 }
@@ -252,8 +272,8 @@ fn a_trace_cut_behind_each_byte(rt: HostRuntime) -> Result<(), Fail> {
 #[test]
 fn a_trace_that_fits(rt: HostRuntime) -> Result<(), Fail> {
     let mut trace = FailingWriter::new(93);
-    let (stop, _machine) = cut_behind(rt.alloc(), &mut trace)?;
-    assert_equal(&rt, stop, Stop::Bye);
+    let cut = cut_behind(rt.alloc(), &mut trace)?;
+    assert_equal(&rt, cut.stop, Stop::Bye);
     assert_equal(&rt, trace.written(), CHOICE_TRACE.as_bytes());
     Ok(())
 }

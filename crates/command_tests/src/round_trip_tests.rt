@@ -30,7 +30,7 @@ fn built(alloc: Global, blocks: Vec<[u8; 1024]>, last: u16) -> Result<Image, Fai
 }
 
 /// The memory of an image.
-fn memory_of(alloc: Global, image: &Image) -> Result<Memory, Fail> {
+fn memory_of(alloc: Global, image: &Image) -> Result<Box<Memory>, Fail> {
     match Memory::with_front(alloc, image.bytes()) {
         Ok(memory) => Ok(memory),
         Err(_) => Err("no memory".into()),
@@ -38,7 +38,7 @@ fn memory_of(alloc: Global, image: &Image) -> Result<Memory, Fail> {
 }
 
 /// The same memory where no header says in which screen it was made.
-fn without_screens(alloc: Global, image: &Image) -> Result<Memory, Fail> {
+fn without_screens(alloc: Global, image: &Image) -> Result<Box<Memory>, Fail> {
     let mut memory = memory_of(alloc, image)?;
     let Ok(headers) = headers_in_order(alloc, &memory) else {
         return Err("no headers".into());
@@ -119,7 +119,8 @@ fn the_kernel_from_its_definitions(rt: HostRuntime) -> Result<(), Fail> {
         blocks.push(block)?;
     }
     let kernel = built(alloc, blocks, 20)?;
-    let shown = rewritten(alloc, sources.as_slice(), &memory_of(alloc, &kernel)?)?;
+    let memory = memory_of(alloc, &kernel)?;
+    let shown = rewritten(alloc, sources.as_slice(), &memory)?;
     let last = shown.len().saturating_sub(1).min(63) as u16;
     let again = built(alloc, shown, last)?;
     assert_equal(&rt, again.entry(), kernel.entry());

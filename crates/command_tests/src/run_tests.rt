@@ -5,6 +5,7 @@ use crate::session_tests::run_alone;
 use block_buffers::MemoryDevice;
 use inner_interpreter::ends::FailingReader;
 use inner_interpreter::{Machine, Reading, Stop, Writing, run};
+use memory::Memory;
 use std::alloc::Global;
 use std::test::Fail;
 
@@ -84,7 +85,11 @@ fn a_machine_runs_to_its_end(rt: HostRuntime) -> Result<(), Fail> {
     let Ok(image) = image_loader::read(alloc, &hi()) else {
         return Err("no image".into());
     };
-    let Ok(mut machine) = Machine::load(alloc, &image, 0) else {
+    let Ok(mut memory) = Memory::with_front(alloc, image.bytes()) else {
+        return Err("no memory".into());
+    };
+    let memory: &mut Memory = &mut memory;
+    let Ok(mut machine) = Machine::load(alloc, memory, &image, 0) else {
         return Err("no machine".into());
     };
     let mut reader = Reading::new(b"".as_slice());

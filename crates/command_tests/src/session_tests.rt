@@ -6,6 +6,7 @@ use block_buffers::{Device, MemoryDevice};
 use inner_interpreter::{
     Answer, ByteLog, Input, Machine, Move, Output, Reading, Writing, make_moves, make_ticks,
 };
+use memory::Memory;
 use session_runs::{SessionHost, Wanted, Wish, do_session};
 use std::alloc::Global;
 use std::test::Fail;
@@ -169,7 +170,11 @@ fn moves_of_a_host(rt: HostRuntime) -> Result<(), Fail> {
     let Ok(image) = image_loader::read(alloc, file.as_slice()) else {
         return Err("no image".into());
     };
-    let Ok(mut machine) = Machine::load(alloc, &image, 0) else {
+    let Ok(mut memory) = Memory::with_front(alloc, image.bytes()) else {
+        return Err("no memory".into());
+    };
+    let memory: &mut Memory = &mut memory;
+    let Ok(mut machine) = Machine::load(alloc, memory, &image, 0) else {
         return Err("no machine".into());
     };
     let mut events = Vec::new(alloc);

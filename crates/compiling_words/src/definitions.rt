@@ -1,6 +1,7 @@
 //! How a colon definition begins and ends.
 
 ghost use Rattle.compiling_words.specs.Definitions.{IsBegun, IsEnded};
+ghost use Rattle.memory.specs.Mirrored.{stored};
 
 use crate::control::runtime;
 use crate::laying::{Full, lay};
@@ -16,7 +17,7 @@ use memory::{Memory, cell_bytes};
 /// written.
 #[tactic(auto, unfolding(crate::specs::Definitions::begun, dictionary::specs::Adding::with_header, dictionary::specs::Adding::with_header_at, memory::specs::Bytes::written))]
 pub fn begin_definition(memory: &mut Memory, name: &[u8], limit: u16) -> Result<(), AddFault>
-    ensures { IsBegun limit memory.old memory.new name.now result }
+    ensures { IsBegun limit (stored memory.old) (stored memory.new) name.now result }
 {
     let current = memory.cell(CURRENT);
     add_header(memory, name, COLON, &[], true, limit)?;
@@ -29,7 +30,7 @@ pub fn begin_definition(memory: &mut Memory, name: &[u8], limit: u16) -> Result<
 ///
 /// LAST and the header's count byte are read before anything is written.
 pub fn end_definition(memory: &mut Memory, limit: u16) -> Result<(), Full>
-    ensures { IsEnded limit memory.old memory.new result }
+    ensures { IsEnded limit (stored memory.old) (stored memory.new) result }
 {
     let at = newest_count(memory);
     let count = memory.byte(at);

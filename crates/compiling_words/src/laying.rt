@@ -2,6 +2,7 @@
 
 ghost use Rattle.std.specs.Prelude.{◌≡◌, [], ◌∷◌, IfOk};
 ghost use Rattle.memory.specs.Bytes.{cell, cell_bytes};
+ghost use Rattle.memory.specs.Mirrored.{stored};
 ghost use Rattle.compiling_words.specs.Code.{literal_code};
 ghost use Rattle.compiling_words.specs.Laying.{IsLaid, IsAllotted, can_allot};
 
@@ -18,8 +19,8 @@ pub struct Full;
 
 /// Writes bytes, and answers where they begin: HERE as it was.
 pub fn lay(memory: &mut Memory, bytes: &[u8], limit: u16) -> Result<u16, Full>
-    ensures laid { IsLaid limit memory.old memory.new bytes.now result }
-    ensures place { IfOk result (λ a. a ≡ cell memory.old DP) }
+    ensures laid { IsLaid limit (stored memory.old) (stored memory.new) bytes.now result }
+    ensures place { IfOk result (λ a. a ≡ cell (stored memory.old) DP) }
 {
     if !fits(memory, bytes.len(), limit) {
         return Err(Full);
@@ -31,7 +32,7 @@ pub fn lay(memory: &mut Memory, bytes: &[u8], limit: u16) -> Result<u16, Full>
 
 /// Writes a cell (Forth-83 `,`).
 pub fn comma(memory: &mut Memory, x: u16, limit: u16) -> Result<(), Full>
-    ensures { IsLaid limit memory.old memory.new (cell_bytes x) result }
+    ensures { IsLaid limit (stored memory.old) (stored memory.new) (cell_bytes x) result }
 {
     lay(memory, &cell_bytes(x), limit)?;
     Ok(())
@@ -39,7 +40,7 @@ pub fn comma(memory: &mut Memory, x: u16, limit: u16) -> Result<(), Full>
 
 /// Writes a byte (Forth-83 `C,`).
 pub fn comma_byte(memory: &mut Memory, byte: u8, limit: u16) -> Result<(), Full>
-    ensures { IsLaid limit memory.old memory.new (byte ∷ []) result }
+    ensures { IsLaid limit (stored memory.old) (stored memory.new) (byte ∷ []) result }
 {
     lay(memory, &[byte], limit)?;
     Ok(())
@@ -47,7 +48,7 @@ pub fn comma_byte(memory: &mut Memory, byte: u8, limit: u16) -> Result<(), Full>
 
 /// Writes a literal (Forth-83 LITERAL): `(LIT)` and the cell.
 pub fn literal(memory: &mut Memory, x: u16, limit: u16) -> Result<(), Full>
-    ensures { IsLaid limit memory.old memory.new (literal_code memory.old x) result }
+    ensures { IsLaid limit (stored memory.old) (stored memory.new) (literal_code (stored memory.old) x) result }
 {
     let code = literal_code(memory, x);
     lay(memory, &code, limit)?;
@@ -57,7 +58,7 @@ pub fn literal(memory: &mut Memory, x: u16, limit: u16) -> Result<(), Full>
 /// Whether HERE moved by `n`, a signed cell, is from 0 to the limit.
 #[tactic(auto, unfolding(crate::specs::Laying::can_allot))]
 pub fn can_allot(memory: &Memory, n: u16, limit: u16) -> bool
-    ensures { result ≡ can_allot limit memory.now n }
+    ensures { result ≡ can_allot limit (stored memory.now) n }
 {
     let end = i32::from(memory.cell(DP)) + i32::from(n.cast_signed());
     if end < 0 {
@@ -68,7 +69,7 @@ pub fn can_allot(memory: &Memory, n: u16, limit: u16) -> bool
 
 /// Moves HERE by `n`, a signed cell (Forth-83 ALLOT). `Full` where it would be below 0 or above the limit.
 pub fn allot(memory: &mut Memory, n: u16, limit: u16) -> Result<(), Full>
-    ensures { IsAllotted limit memory.old memory.new n result }
+    ensures { IsAllotted limit (stored memory.old) (stored memory.new) n result }
 {
     if !can_allot(memory, n, limit) {
         return Err(Full);

@@ -1,6 +1,7 @@
 //! Texts in the thread.
 
 ghost use Rattle.std.specs.Prelude.{◌≡◌, ◌<◌, ◌≤◌, length, true};
+ghost use Rattle.memory.specs.Mirrored.{stored};
 ghost use Rattle.std.specs.Result.{is_err};
 ghost use Rattle.compiling_words.specs.Code.{runtime, text_number, text_code};
 ghost use Rattle.compiling_words.specs.Laying.{IsLaid};
@@ -24,7 +25,7 @@ pub enum TextWord {
 
 /// The control primitive that a word writes before its text.
 pub fn runtime_of(memory: &Memory, word: TextWord) -> u16
-    ensures { result ≡ runtime memory.now (text_number word) }
+    ensures { result ≡ runtime (stored memory.now) (text_number word) }
 {
     match word {
         TextWord::Show => runtime(memory, Control::ShowText),
@@ -36,7 +37,7 @@ pub fn runtime_of(memory: &Memory, word: TextWord) -> u16
 #[tactic(auto, using(crate::proofs::Texts::texts), unfolding(dictionary::specs::Laying::laid_at))]
 pub fn lay_text(memory: &mut Memory, here: u16, token: u16, text: &[u8])
     requires { length text.now ≤ 255 }
-    ensures { memory.new ≡ laid_at here memory.old (text_code token text.now) }
+    ensures { stored memory.new ≡ laid_at here (stored memory.old) (text_code token text.now) }
 {
     memory.set_cell(here, token);
     memory.set_byte(here.wrapping_add(2), text.len() as u8);
@@ -49,8 +50,8 @@ pub fn lay_text(memory: &mut Memory, here: u16, token: u16, text: &[u8])
 #[tactic(auto, using(crate::proofs::Texts::texts))]
 pub fn inline_text(memory: &mut Memory, word: TextWord, text: &[u8], limit: u16) -> Result<(), Full>
     ensures counted { length text.now ≤ 255 →
-        IsLaid limit memory.old memory.new (text_code (runtime memory.old (text_number word)) text.now) result }
-    ensures long { 255 < length text.now → (is_err result ≡ true) × (memory.new ≡ memory.old) }
+        IsLaid limit (stored memory.old) (stored memory.new) (text_code (runtime (stored memory.old) (text_number word)) text.now) result }
+    ensures long { 255 < length text.now → (is_err result ≡ true) × ((stored memory.new) ≡ (stored memory.old)) }
 {
     if text.len() > 255 {
         return Err(Full);

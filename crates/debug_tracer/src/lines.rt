@@ -1,6 +1,7 @@
 //! Sending the lines of a trace.
 
 ghost use Rattle.std.specs.Prelude.{◌++◌, OnOk, OnErr};
+ghost use Rattle.memory.specs.Mirrored.{stored};
 ghost use Rattle.std.specs.Io.KnownBytes.{Appends};
 ghost use Rattle.dictionary.specs.Header.{name_of};
 ghost use Rattle.inner_interpreter.specs.Ends.{Marks};
@@ -106,8 +107,8 @@ fn send_name_if<T: Output>(
     link_field: Option<u16>,
     trace: &mut T,
 ) -> Result<(), EndFault>
-    ensures ok { OnOk result (Appends (T.sent trace.old) (T.sent trace.new) (name_if memory.now link_field)) }
-    ensures err { OnErr result (AppendsPart (T.sent trace.old) (T.sent trace.new) (name_if memory.now link_field)) }
+    ensures ok { OnOk result (Appends (T.sent trace.old) (T.sent trace.new) (name_if (stored memory.now) link_field)) }
+    ensures err { OnErr result (AppendsPart (T.sent trace.old) (T.sent trace.new) (name_if (stored memory.now) link_field)) }
     ensures mark { Marks (T.failed trace.old) (T.failed trace.new) result }
 {
     let Some(l) = link_field else {
@@ -128,8 +129,8 @@ fn send_name<T: Output>(
     address: u16,
     trace: &mut T,
 ) -> Result<(), EndFault>
-    ensures ok { OnOk result (Appends (T.sent trace.old) (T.sent trace.new) (name_at memory.now headers.now address)) }
-    ensures err { OnErr result (AppendsPart (T.sent trace.old) (T.sent trace.new) (name_at memory.now headers.now address)) }
+    ensures ok { OnOk result (Appends (T.sent trace.old) (T.sent trace.new) (name_at (stored memory.now) headers.now address)) }
+    ensures err { OnErr result (AppendsPart (T.sent trace.old) (T.sent trace.new) (name_at (stored memory.now) headers.now address)) }
     ensures mark { Marks (T.failed trace.old) (T.failed trace.new) result }
 {
     send_name_if(memory, header_at(memory, headers, address), trace)
@@ -144,9 +145,9 @@ fn send_place<T: Output>(
     trace: &mut T,
 ) -> Result<(), EndFault>
     ensures ok { OnOk result (Appends (T.sent trace.old) (T.sent trace.new)
-        (place_text memory.now headers.now machine.now.parts)) }
+        (place_text (stored memory.now) headers.now machine.now.parts)) }
     ensures err { OnErr result (AppendsPart (T.sent trace.old) (T.sent trace.new)
-        (place_text memory.now headers.now machine.now.parts)) }
+        (place_text (stored memory.now) headers.now machine.now.parts)) }
     ensures mark { Marks (T.failed trace.old) (T.failed trace.new) result }
 {
     let ip = machine.ip();
@@ -169,9 +170,9 @@ pub fn send_line<T: Output>(
     machine: &Machine,
     trace: &mut T,
 ) -> Result<(), EndFault>
-    ensures ok { OnOk result (Appends (T.sent trace.old) (T.sent trace.new) (line memory.now headers.now machine.now.parts)) }
+    ensures ok { OnOk result (Appends (T.sent trace.old) (T.sent trace.new) (line (stored memory.now) headers.now machine.now.parts)) }
     ensures err { OnErr result (AppendsPart (T.sent trace.old) (T.sent trace.new)
-        (line memory.now headers.now machine.now.parts)) }
+        (line (stored memory.now) headers.now machine.now.parts)) }
     ensures mark { Marks (T.failed trace.old) (T.failed trace.new) result }
 {
     match send_place(memory, headers, machine, trace) {

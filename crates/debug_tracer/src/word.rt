@@ -1,6 +1,7 @@
 //! The word that is traced, and the names of its tokens.
 
 ghost use Rattle.std.specs.Prelude.{◌≡◌, Ok, IfOk, IfErr};
+ghost use Rattle.memory.specs.Mirrored.{stored};
 ghost use Rattle.dictionary.specs.Order.{headers};
 ghost use Rattle.dictionary.specs.Search.{Found};
 ghost use Rattle.debug_tracer.specs.Debugged.{debugged, thread_of, thread_or_fault, IsFault};
@@ -19,16 +20,17 @@ use std::alloc::Global;
 #[derive(Drop)]
 pub struct Word {
     pub thread: Extent,
-    pub memory: Memory,
+    pub memory: Box<Memory>,
     pub headers: Vec<u16>,
 }
 
 impl Tracer for Word {
     ghost use Rattle.debug_tracer.specs.Lines.{line};
+    ghost use Rattle.memory.specs.Mirrored.{stored};
 
     ghost extent = { λ w. w.thread };
 
-    ghost line = { λ w s. line w.memory w.headers.items s };
+    ghost line = { λ w s. line (stored w.memory.value) w.headers.items s };
 
     fn extent(&self) -> Extent {
         self.thread
@@ -41,8 +43,8 @@ impl Tracer for Word {
 
 /// A copy of memory.
 #[tactic(auto, using(crate::proofs::Words::front_all))]
-fn copied(alloc: Global, memory: &Memory) -> Result<Memory, OutOfMemory>
-    ensures { IfOk result (λ copy. copy ≡ memory.now) }
+fn copied(alloc: Global, memory: &Memory) -> Result<Box<Memory>, OutOfMemory>
+    ensures { IfOk result (λ copy. stored copy.value ≡ stored memory.now) }
 {
     Memory::with_front(alloc, memory.as_slice())
 }
@@ -50,8 +52,8 @@ fn copied(alloc: Global, memory: &Memory) -> Result<Memory, OutOfMemory>
 /// Where the thread is of the word whose header is at `l`.
 #[tactic(auto, unfolding(crate::specs::Debugged::thread_of))]
 fn thread_of(memory: &Memory, listed: &[u16], l: u16) -> Extent
-    requires { listed.now ≡ headers memory.now }
-    ensures { result ≡ thread_of memory.now l }
+    requires { listed.now ≡ headers (stored memory.now) }
+    ensures { result ≡ thread_of (stored memory.now) l }
 {
     let from = compilation_address(memory, l).wrapping_add(2);
     Extent {
@@ -62,10 +64,10 @@ fn thread_of(memory: &Memory, listed: &[u16], l: u16) -> Extent
 
 /// The word whose header is at `l`, and what its trace needs.
 fn taken(alloc: Global, memory: &Memory, listed: Vec<u16>, l: u16) -> Result<Word, OutOfMemory>
-    requires { listed.items ≡ headers memory.now }
-    ensures thread { IfOk result (λ word. word.thread ≡ thread_of memory.now l) }
-    ensures memory { IfOk result (λ word. word.memory ≡ memory.now) }
-    ensures headers { IfOk result (λ word. word.headers.items ≡ headers memory.now) }
+    requires { listed.items ≡ headers (stored memory.now) }
+    ensures thread { IfOk result (λ word. word.thread ≡ thread_of (stored memory.now) l) }
+    ensures memory { IfOk result (λ word. stored word.memory.value ≡ stored memory.now) }
+    ensures headers { IfOk result (λ word. word.headers.items ≡ headers (stored memory.now)) }
 {
     let copy = copied(alloc, memory)?;
     Ok(Word {
@@ -77,10 +79,10 @@ fn taken(alloc: Global, memory: &Memory, listed: Vec<u16>, l: u16) -> Result<Wor
 
 /// The word whose header is at `l`, where it can be traced.
 fn colon_word(alloc: Global, memory: &Memory, l: u16) -> Result<Word, DebugFault>
-    ensures thread { IfOk result (λ word. thread_or_fault memory.now (Found l) ≡ Ok word.thread) }
-    ensures memory { IfOk result (λ word. word.memory ≡ memory.now) }
-    ensures headers { IfOk result (λ word. word.headers.items ≡ headers memory.now) }
-    ensures refused { IfErr result (λ fault. IsFault (thread_or_fault memory.now (Found l)) fault) }
+    ensures thread { IfOk result (λ word. thread_or_fault (stored memory.now) (Found l) ≡ Ok word.thread) }
+    ensures memory { IfOk result (λ word. stored word.memory.value ≡ stored memory.now) }
+    ensures headers { IfOk result (λ word. word.headers.items ≡ headers (stored memory.now)) }
+    ensures refused { IfErr result (λ fault. IsFault (thread_or_fault (stored memory.now) (Found l)) fault) }
 {
     let listed = headers_in_order(alloc, memory);
     if let Err(HeadersFault::ChainTooLong) = listed {
@@ -101,10 +103,10 @@ fn colon_word(alloc: Global, memory: &Memory, l: u16) -> Result<Word, DebugFault
 /// The word that a name means, where it can be traced.
 #[tactic(auto, unfolding(crate::specs::Debugged::debugged))]
 pub fn word_of(alloc: Global, memory: &Memory, name: &[u8]) -> Result<Word, DebugFault>
-    ensures thread { IfOk result (λ word. debugged memory.now name.now ≡ Ok word.thread) }
-    ensures memory { IfOk result (λ word. word.memory ≡ memory.now) }
-    ensures headers { IfOk result (λ word. word.headers.items ≡ headers memory.now) }
-    ensures refused { IfErr result (λ fault. IsFault (debugged memory.now name.now) fault) }
+    ensures thread { IfOk result (λ word. debugged (stored memory.now) name.now ≡ Ok word.thread) }
+    ensures memory { IfOk result (λ word. stored word.memory.value ≡ stored memory.now) }
+    ensures headers { IfOk result (λ word. word.headers.items ≡ headers (stored memory.now)) }
+    ensures refused { IfErr result (λ fault. IsFault (debugged (stored memory.now) name.now) fault) }
 {
     match search(memory, name) {
         Ok(Some(l)) => colon_word(alloc, memory, l),

@@ -2,6 +2,7 @@
 
 ghost use Rattle.std.specs.Prelude.{◌≡◌, ◌+◌, ◌<◌, ◌≤◌, length, OnOk};
 ghost use Rattle.memory.specs.Bytes.{cell, put_bytes};
+ghost use Rattle.memory.specs.Mirrored.{stored};
 ghost use Rattle.dictionary.specs.Laying.{fits};
 ghost use Rattle.dictionary.specs.Adding.{is_name, new_count, header_bytes, site_of, with_header_at, with_header, header_size, IsAddable, IsAdded, record_bytes, with_vocabulary_at, with_vocabulary, IsVocabularyAdded};
 
@@ -35,7 +36,7 @@ fn new_count(hidden: bool, name: &[u8]) -> u8
 #[tactic(auto, using(crate::proofs::Pieces::put_header))]
 fn put_header(memory: &mut Memory, site: Site, name: &[u8], code: u16, extra: &[u8], hidden: bool)
     requires { length name.now ≤ 31 }
-    ensures { memory.new ≡ put_bytes memory.old site.here
+    ensures { stored memory.new ≡ put_bytes (stored memory.old) site.here
         (header_bytes site.view site.link (new_count hidden name.now) name.now code extra.now) }
 {
     let here = site.here;
@@ -53,7 +54,7 @@ impl Site {
     #[tactic(auto, unfolding(crate::specs::Adding::site_of))]
     pub fn of(memory: &Memory, name: &[u8]) -> Site
         requires { 0 < length name.now }
-        ensures { result ≡ site_of memory.now name.now }
+        ensures { result ≡ site_of (stored memory.now) name.now }
     {
         let head = head_of(memory.cell(CURRENT), name);
         Site {
@@ -70,7 +71,7 @@ impl Site {
     pub fn write(self, memory: &mut Memory, name: &[u8], code: u16, extra: &[u8], hidden: bool)
         requires name { length name.now ≤ 31 }
         requires size { header_size name.now extra.now ≤ 65535 }
-        ensures { memory.new ≡ with_header_at self memory.old name.now code extra.now hidden }
+        ensures { stored memory.new ≡ with_header_at self (stored memory.old) name.now code extra.now hidden }
     {
         put_header(memory, self, name, code, extra, hidden);
         let size = FIXED_SIZE + name.len() as u16 + extra.len() as u16;
@@ -85,7 +86,7 @@ impl Site {
     #[tactic(auto, unfolding(crate::specs::Adding::with_vocabulary_at, crate::specs::Adding::with_header_at, memory::specs::Bytes::written))]
     pub fn write_vocabulary(self, memory: &mut Memory, name: &[u8], newest: u16)
         requires { length name.now ≤ 31 }
-        ensures { memory.new ≡ with_vocabulary_at self newest memory.old name.now }
+        ensures { stored memory.new ≡ with_vocabulary_at self newest (stored memory.old) name.now }
     {
         let record = self.here.wrapping_add(FIXED_SIZE + name.len() as u16);
         self.write(memory, name, VOCABULARY, &record_bytes(newest), false);
@@ -117,7 +118,7 @@ pub fn record_bytes(newest: u16) -> [u8; 10]
 /// bytes, then `Full` where the bytes would end after `limit`.
 #[tactic(auto, unfolding(crate::specs::Adding::is_name))]
 pub fn can_add(memory: &Memory, name: &[u8], extra: &[u8], limit: u16) -> Result<(), AddFault>
-    ensures cases { IsAddable limit memory.now name.now extra.now result }
+    ensures cases { IsAddable limit (stored memory.now) name.now extra.now result }
     ensures bound { OnOk result (header_size name.now extra.now ≤ limit) }
 {
     if name.is_empty() {
@@ -146,7 +147,7 @@ pub fn add_header(
     hidden: bool,
     limit: u16,
 ) -> Result<(), AddFault>
-    ensures { IsAdded limit memory.old memory.new name.now code extra.now hidden result }
+    ensures { IsAdded limit (stored memory.old) (stored memory.new) name.now code extra.now hidden result }
 {
     can_add(memory, name, extra, limit)?;
     let site = Site::of(memory, name);
@@ -160,7 +161,7 @@ pub fn add_header(
 /// Refused as `can_add` says: then nothing is written.
 #[tactic(auto, unfolding(crate::specs::Adding::is_name, crate::specs::Adding::with_vocabulary))]
 pub fn add_vocabulary(memory: &mut Memory, name: &[u8], limit: u16) -> Result<(), AddFault>
-    ensures { IsVocabularyAdded limit memory.old memory.new name.now result }
+    ensures { IsVocabularyAdded limit (stored memory.old) (stored memory.new) name.now result }
 {
     let newest = memory.cell(VOC_LINK);
     can_add(memory, name, &record_bytes(newest), limit)?;

@@ -1,6 +1,7 @@
 //! The bits of a header's count byte.
 
 ghost use Rattle.std.specs.Prelude.{⊤, ◌≡◌, ◌+◌, ◌<◌, [], ◌∷◌, codes};
+ghost use Rattle.memory.specs.Mirrored.{stored};
 ghost use Rattle.std.specs.Int.RustNames.{bit_and};
 ghost use Rattle.dictionary.specs.Header.{count_byte};
 
@@ -88,7 +89,7 @@ impl CountByte {
 /// The count byte of the header at `link_field`.
 #[tactic(auto, unfolding(crate::specs::Header::count_byte))]
 pub fn count_byte(memory: &Memory, link_field: u16) -> CountByte
-    ensures { result.0 ≡ count_byte memory.now link_field }
+    ensures { result.0 ≡ count_byte (stored memory.now) link_field }
 {
     CountByte(memory.byte(link_field.wrapping_add(2)))
 }

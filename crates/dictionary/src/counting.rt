@@ -1,6 +1,7 @@
 //! How many headers and records there are.
 
 ghost use Rattle.std.specs.Prelude.{◌≡◌, ◌≤◌, length};
+ghost use Rattle.memory.specs.Mirrored.{stored};
 ghost use Rattle.dictionary.specs.Chain.{chain};
 ghost use Rattle.dictionary.specs.Order.{is_beyond_limit, members_of};
 
@@ -16,7 +17,7 @@ pub const CUT: u32 = 32769;
 /// How many members a chain has, cut after 32,769.
 #[tactic(auto, using(crate::proofs::Counts::lengths))]
 fn chain_length(memory: &Memory, start: u16) -> u32
-    ensures value { result ≡ length (chain memory.now 32769 start) }
+    ensures value { result ≡ length (chain (stored memory.now) 32769 start) }
     ensures small { result ≤ 32769 }
 {
     let mut l = start;
@@ -31,7 +32,7 @@ fn chain_length(memory: &Memory, start: u16) -> u32
 /// How many members the four chains of a record have.
 #[tactic(auto, using(crate::proofs::Counts::length_of), unfolding(crate::specs::Order::members))]
 fn count_of(memory: &Memory, r: u16) -> u32
-    ensures value { result ≡ length (members_of memory.now r) }
+    ensures value { result ≡ length (members_of (stored memory.now) r) }
     ensures small { result ≤ 200000 }
 {
     let first = chain_length(memory, memory.cell(r));
@@ -44,7 +45,7 @@ fn count_of(memory: &Memory, r: u16) -> u32
 /// Whether more than 32,768 headers and records are reached, each counted as often as it is reached.
 #[tactic(auto, using(crate::proofs::Counts::counts), unfolding(crate::specs::Order::is_beyond_limit))]
 pub fn is_beyond_limit(memory: &Memory) -> bool
-    ensures { result ≡ is_beyond_limit memory.now }
+    ensures { result ≡ is_beyond_limit (stored memory.now) }
 {
     let mut r = memory.cell(VOC_LINK);
     let mut left = CUT;

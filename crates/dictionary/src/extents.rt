@@ -1,6 +1,7 @@
 //! Where a word's thread ends, and what an address is called.
 
 ghost use Rattle.std.specs.Prelude.{◌≡◌, ◌==◌, map};
+ghost use Rattle.memory.specs.Mirrored.{stored};
 ghost use Rattle.dictionary.specs.Extents.{beginning, least_from, extent_end, header_at};
 
 use crate::reading::compilation_address;
@@ -22,7 +23,7 @@ fn least_from(headers: &[u16], from: u16) -> Option<u16>
 /// header (its view cell) that isn't below `from`, or at DP where there is none. This may lie below `from`.
 #[tactic(auto, unfolding(crate::specs::Extents::extent_end))]
 pub fn extent_end(memory: &Memory, headers: &[u16], from: u16) -> u16
-    ensures { result ≡ extent_end memory.now headers.now from }
+    ensures { result ≡ extent_end (stored memory.now) headers.now from }
 {
     match least_from(headers, from) {
         Some(beginning) => beginning,
@@ -33,7 +34,7 @@ pub fn extent_end(memory: &Memory, headers: &[u16], from: u16) -> u16
 /// The lowest of the headers, by its link field, that has this compilation address.
 #[tactic(auto, unfolding(crate::specs::Extents::header_at))]
 pub fn header_at(memory: &Memory, headers: &[u16], address: u16) -> Option<u16>
-    ensures { result ≡ header_at memory.now headers.now address }
+    ensures { result ≡ header_at (stored memory.now) headers.now address }
 {
     headers
         .iter()

@@ -2,6 +2,7 @@
 
 ghost use Rattle.std.specs.Prelude.{◌≡◌};
 ghost use Rattle.memory.specs.Bytes.{put_cell, written};
+ghost use Rattle.memory.specs.Mirrored.{stored};
 ghost use Rattle.dictionary.specs.Order.{members};
 ghost use Rattle.dictionary.specs.Forgetting.{target, first_below, kept_record, cut_vocabulary, cuts, forgotten, IsForgotten, cut_all};
 
@@ -18,7 +19,7 @@ use memory::{Memory, Snapshot};
 /// reached in all vocabularies.
 #[tactic(auto, unfolding(crate::specs::Forgetting::target))]
 pub fn forget_target(memory: &Memory, name: &[u8]) -> Result<u16, ForgetFault>
-    ensures { result ≡ target memory.now name.now }
+    ensures { result ≡ target (stored memory.now) name.now }
 {
     if name.is_empty() {
         return Err(ForgetFault::NameLength);
@@ -75,7 +76,7 @@ fn kept_record(before: &Snapshot, t: u16) -> u16
 
 /// A head goes to the first link field of its chain below `t`.
 fn cut_head(memory: &mut Memory, before: &Snapshot, t: u16, head: u16)
-    ensures { memory.new ≡ put_cell memory.old head (first_below t (members before.now head)) }
+    ensures { stored memory.new ≡ put_cell (stored memory.old) head (first_below t (members before.now head)) }
 {
     memory.set_cell(head, member_below(before, t, head));
 }
@@ -83,7 +84,7 @@ fn cut_head(memory: &mut Memory, before: &Snapshot, t: u16, head: u16)
 /// So does each head of the records from `start` on.
 #[tactic(auto, using(crate::proofs::Cuts::cutting))]
 fn cut_all(memory: &mut Memory, before: &Snapshot, t: u16, start: u16)
-    ensures { memory.new ≡ cut_all before.now t 32769 start memory.old }
+    ensures { stored memory.new ≡ cut_all before.now t 32769 start (stored memory.old) }
 {
     let mut r = start;
     let mut left = CUT;
@@ -100,7 +101,7 @@ fn cut_all(memory: &mut Memory, before: &Snapshot, t: u16, start: u16)
 /// A cell that names a vocabulary at `t` or above goes to FORTH's. Any other isn't written.
 #[tactic(auto, unfolding(crate::specs::Forgetting::cut_vocabulary, memory::specs::Bytes::written))]
 fn cut_vocabulary(memory: &mut Memory, before: &Snapshot, t: u16, place: u16)
-    ensures { memory.new ≡ written memory.old (cut_vocabulary before.now t place) }
+    ensures { stored memory.new ≡ written (stored memory.old) (cut_vocabulary before.now t place) }
 {
     if t <= before.cell(place) {
         memory.set_cell(place, FORTH_VOC);
@@ -112,7 +113,7 @@ fn cut_vocabulary(memory: &mut Memory, before: &Snapshot, t: u16, place: u16)
 /// become FORTH where they are `t` or above; LAST becomes 0. They are written in this order.
 #[tactic(auto, using(crate::proofs::Cuts::written_cuts))]
 pub fn cut_by(memory: &mut Memory, before: &Snapshot, t: u16)
-    ensures { memory.new ≡ written memory.old (cuts before.now t) }
+    ensures { stored memory.new ≡ written (stored memory.old) (cuts before.now t) }
 {
     let kept = kept_record(before, t);
     memory.set_cell(VOC_LINK, kept);
@@ -126,7 +127,7 @@ pub fn cut_by(memory: &mut Memory, before: &Snapshot, t: u16)
 /// Forgets what is at `t` and above.
 #[tactic(auto, unfolding(crate::specs::Forgetting::forgotten))]
 fn cut_from(memory: &mut Memory, t: u16)
-    ensures { memory.new ≡ forgotten memory.old t }
+    ensures { stored memory.new ≡ forgotten (stored memory.old) t }
 {
     let before = memory.snapshot();
     cut_by(memory, &before, t);
@@ -136,7 +137,7 @@ fn cut_from(memory: &mut Memory, t: u16)
 ///
 /// `NameLength`, `NotFound` and `ChainTooLong` as of `forget_target`: nothing is written.
 pub fn forget(memory: &mut Memory, name: &[u8]) -> Result<(), ForgetFault>
-    ensures { IsForgotten (target memory.old name.now) memory.old memory.new result }
+    ensures { IsForgotten (target (stored memory.old) name.now) (stored memory.old) (stored memory.new) result }
 {
     let t = forget_target(memory, name)?;
     cut_from(memory, t);

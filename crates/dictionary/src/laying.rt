@@ -1,6 +1,7 @@
 //! Bytes written at HERE.
 
 ghost use Rattle.std.specs.Prelude.{◌≡◌, ◌≤◌, length, IsTrue};
+ghost use Rattle.memory.specs.Mirrored.{stored};
 ghost use Rattle.dictionary.specs.Laying.{fits, laid_at};
 
 use memory::Memory;
@@ -9,7 +10,7 @@ use memory::system::DP;
 /// Whether `n` bytes fit at HERE: they end at `limit` at the latest, where the block buffers begin.
 #[tactic(auto, unfolding(crate::specs::Laying::fits))]
 pub fn fits(memory: &Memory, n: usize, limit: u16) -> bool
-    ensures value { result ≡ fits limit memory.now n }
+    ensures value { result ≡ fits limit (stored memory.now) n }
     ensures bound { IsTrue result → n ≤ limit }
 {
     let here = memory.cell(DP);
@@ -23,7 +24,7 @@ pub fn fits(memory: &Memory, n: usize, limit: u16) -> bool
 #[tactic(auto, unfolding(crate::specs::Laying::laid_at))]
 pub fn lay_at(memory: &mut Memory, here: u16, bytes: &[u8])
     requires { length bytes.now ≤ 65535 }
-    ensures { memory.new ≡ laid_at here memory.old bytes.now }
+    ensures { stored memory.new ≡ laid_at here (stored memory.old) bytes.now }
 {
     memory.set_bytes(here, bytes);
     memory.set_cell(DP, here.wrapping_add(bytes.len() as u16));

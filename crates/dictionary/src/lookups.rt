@@ -1,6 +1,7 @@
 //! The search of a name.
 
 ghost use Rattle.std.specs.Prelude.{◌≡◌, ◌<◌, length};
+ghost use Rattle.memory.specs.Mirrored.{stored};
 ghost use Rattle.dictionary.specs.Header.{is_named, is_named_but};
 ghost use Rattle.dictionary.specs.Search.{head_of, walked, first_in, first_from, sought_in, sought_from, sought, sought_hiding, by_address, IsSought};
 
@@ -27,7 +28,7 @@ pub fn head_of(voc: u16, name: &[u8]) -> u16
 /// The first unhidden header of that name in the chain from `start` on, where the one at `hidden` counts as hidden.
 #[tactic(auto, using(crate::proofs::Chains::walking))]
 fn walk(memory: &Memory, start: u16, name: &[u8], hidden: u16) -> Result<Option<u16>, ChainTooLong>
-    ensures { IsSought (walked (is_named_but memory.now name.now hidden) memory.now 32768 start) result }
+    ensures { IsSought (walked (is_named_but (stored memory.now) name.now hidden) (stored memory.now) 32768 start) result }
 {
     let mut l = start;
     let mut left = LIMIT;
@@ -53,7 +54,7 @@ fn first_in(
     hidden: u16,
 ) -> Result<Option<u16>, ChainTooLong>
     requires { 0 < length name.now }
-    ensures { IsSought (first_in (is_named_but memory.now name.now hidden) memory.now voc name.now) result }
+    ensures { IsSought (first_in (is_named_but (stored memory.now) name.now hidden) (stored memory.now) voc name.now) result }
 {
     walk(memory, memory.cell(head_of(voc, name)), name, hidden)
 }
@@ -66,7 +67,7 @@ fn first_from(
     name: &[u8],
     hidden: u16,
 ) -> Result<Option<u16>, ChainTooLong>
-    ensures { IsSought (first_from (is_named_but memory.now name.now hidden) memory.now voc name.now) result }
+    ensures { IsSought (first_from (is_named_but (stored memory.now) name.now hidden) (stored memory.now) voc name.now) result }
 {
     if name.is_empty() {
         return Ok(None);
@@ -81,7 +82,7 @@ fn first_from(
 /// A longer chain than 32,768 headers without a find is `ChainTooLong`.
 #[tactic(auto, using(crate::proofs::Hiding::hiding_none))]
 pub fn search_chain(memory: &Memory, start: u16, name: &[u8]) -> Result<Option<u16>, ChainTooLong>
-    ensures { IsSought (walked (is_named memory.now name.now) memory.now 32768 start) result }
+    ensures { IsSought (walked (is_named (stored memory.now) name.now) (stored memory.now) 32768 start) result }
 {
     walk(memory, start, name, NONE)
 }
@@ -91,7 +92,7 @@ pub fn search_chain(memory: &Memory, start: u16, name: &[u8]) -> Result<Option<u
 #[tactic(auto, using(crate::proofs::Hiding::hiding_none))]
 pub fn search_in(memory: &Memory, voc: u16, name: &[u8]) -> Result<Option<u16>, ChainTooLong>
     requires { 0 < length name.now }
-    ensures { IsSought (sought_in memory.now voc name.now) result }
+    ensures { IsSought (sought_in (stored memory.now) voc name.now) result }
 {
     first_in(memory, voc, name, NONE)
 }
@@ -100,7 +101,7 @@ pub fn search_in(memory: &Memory, voc: u16, name: &[u8]) -> Result<Option<u16>, 
 /// chain than 32,768 headers without a find is `ChainTooLong`, in `voc` also where FORTH has the name.
 #[tactic(auto, using(crate::proofs::Hiding::hiding_none))]
 pub fn search_from(memory: &Memory, voc: u16, name: &[u8]) -> Result<Option<u16>, ChainTooLong>
-    ensures { IsSought (sought_from memory.now voc name.now) result }
+    ensures { IsSought (sought_from (stored memory.now) voc name.now) result }
 {
     first_from(memory, voc, name, NONE)
 }
@@ -108,7 +109,7 @@ pub fn search_from(memory: &Memory, voc: u16, name: &[u8]) -> Result<Option<u16>
 /// The link field of the header that a name means: the vocabulary in CONTEXT is searched, and then FORTH.
 #[tactic(auto, unfolding(crate::specs::Search::sought))]
 pub fn search(memory: &Memory, name: &[u8]) -> Result<Option<u16>, ChainTooLong>
-    ensures { IsSought (sought memory.now name.now) result }
+    ensures { IsSought (sought (stored memory.now) name.now) result }
 {
     search_from(memory, memory.cell(CONTEXT), name)
 }
@@ -116,14 +117,14 @@ pub fn search(memory: &Memory, name: &[u8]) -> Result<Option<u16>, ChainTooLong>
 /// The same, where the header at `hidden` counts as hidden.
 #[tactic(auto, unfolding(crate::specs::Search::sought_hiding))]
 pub fn search_hiding(memory: &Memory, name: &[u8], hidden: u16) -> Result<Option<u16>, ChainTooLong>
-    ensures { IsSought (sought_hiding memory.now name.now hidden) result }
+    ensures { IsSought (sought_hiding (stored memory.now) name.now hidden) result }
 {
     first_from(memory, memory.cell(CONTEXT), name, hidden)
 }
 
 /// The compilation address that a name means (Forth-83 FIND).
 pub fn find(memory: &Memory, name: &[u8]) -> Result<Option<u16>, ChainTooLong>
-    ensures { IsSought (by_address memory.now (sought memory.now name.now)) result }
+    ensures { IsSought (by_address (stored memory.now) (sought (stored memory.now) name.now)) result }
 {
     match search(memory, name)? {
         Some(l) => Ok(Some(compilation_address(memory, l))),

@@ -3,3 +3,4 @@ pub mod Codes
 pub mod Same
 pub mod Taking
 pub mod Turning
+pub mod Lending

@@ -2,6 +2,7 @@
 use Rattle.std.proofs.Common.{◌≡◌, ℕ, ◌≤◌, List, [], ◌∷◌, Bool, true, false, None, length, arith, ap, sym, refl, ◌∙◌}
 use Rattle.std.specs.Prelude.{IsTrue, slice_range}
 use Rattle.memory.specs.Bytes.{cell}
+use Rattle.memory.specs.Mirrored.{stored}
 use Rattle.memory.specs.declared.system.TheConstants.{CONTEXT}
 use Rattle.dictionary.specs.Adding.{is_name}
 use Rattle.dictionary.specs.Header.{compilation_address}
@@ -14,8 +15,8 @@ use Rattle.forth83_c.specs.declared.record.Forth83.{Forth83}
 use Rattle.forth83_c.specs.Called.{HasFound}
 use Rattle.forth83_c.specs.Kept.{marked, wait_of, halt_of, entries_of, IsRecord, IsKept}
 
-same_parts : (s t : Whole) → s.memory ≡ t.memory → s.values ≡ t.values → s.returns ≡ t.returns → s.ip ≡ t.ip → s.pending ≡ t.pending → s.buffers ≡ t.buffers → s.block_count ≡ t.block_count → s ≡ t
-same_parts s t a b c d e f g = rw (a, b, c, d, e, f, g) refl
+same_parts : (s t : Whole) → s.memory ≡ t.memory → s.values ≡ t.values → s.returns ≡ t.returns → s.ip ≡ t.ip → s.pending ≡ t.pending → s.buffers ≡ t.buffers → s.block_count ≡ t.block_count → s.place ≡ t.place → s ≡ t
+same_parts s t a b c d e f g h = rw (a, b, c, d, e, f, g, h) refl
 
 same_whole : (s t : State) → s.parts ≡ t.parts → s.wait ≡ t.wait → s.halt ≡ t.halt → s ≡ t
 same_whole s t a b c = rw (a, b, c) refl
@@ -24,7 +25,7 @@ pub same_state : (k : Forth83) (s t : State) → IsKept k s → IsKept k t → s
 same_state k s t h g =
     same_whole s t
     (same_parts s.parts t.parts (h.memory ∙ sym g.memory) (h.values ∙ sym g.values) (h.returns ∙ sym g.returns) (h.ip ∙ sym g.ip) (h.pending ∙ sym g.pending)
-    (h.buffers ∙ sym g.buffers) (h.block_count ∙ sym g.block_count))
+    (h.buffers ∙ sym g.buffers) (h.block_count ∙ sym g.block_count) (h.place ∙ sym g.place))
     (h.wait ∙ sym g.wait) (h.halt ∙ sym g.halt)
 
 none_first : (xs : List ℕ) → first_of xs ≡ None → xs ≡ []
@@ -35,13 +36,14 @@ none_first (x ∷ xs) e = cc
 kept_state : Forth83 → State
 kept_state k = record {
   parts = record {
-    memory = k.memory;
+    memory = stored k.memory;
     values = slice_range k.values k.values_top 256;
     returns = slice_range k.returns k.returns_top 256;
     ip = k.ip;
     pending = marked k.has_pending k.pending;
     buffers = entries_of k.buffers k.buffer_count;
     block_count = k.block_count;
+    place = None;
   };
   wait = wait_of k.asks k.asked k.token;
   halt = halt_of k.halts k.fault;
@@ -58,6 +60,7 @@ kept_kept k h = record {
   pending = refl;
   buffers = refl;
   block_count = refl;
+  place = refl;
   wait = refl;
   halt = refl;
 }
@@ -77,12 +80,12 @@ unfolding kept_state
 empty_stack k xs h e l = (kept_state k, kept_kept k h, sym e ∙ none_first xs l)
 
 -- what a search comes to in its memory
-pub sought_there : (k : Forth83) (m name : List ℕ) (r : Sought) → IsRecord k → m ≡ k.memory → sought m name ≡ r
+pub sought_there : (k : Forth83) (m name : List ℕ) (r : Sought) → IsRecord k → m ≡ stored k.memory → sought m name ≡ r
     → (s : State) × IsKept k s × (sought s.parts.memory name ≡ r)
 unfolding kept_state
 sought_there k m name r h e f = (kept_state k, kept_kept k h, ap (λ n. sought n name) (sym e) ∙ f)
 
-pub found_there : (k : Forth83) (m name : List ℕ) (l : ℕ) → IsRecord k → m ≡ k.memory → sought m name ≡ Found l
+pub found_there : (k : Forth83) (m name : List ℕ) (l : ℕ) → IsRecord k → m ≡ stored k.memory → sought m name ≡ Found l
     → HasFound k name (compilation_address m l)
 unfolding kept_state
 found_there k m name l h e f = record {

@@ -3,13 +3,13 @@ use Rattle.std.specs.Prelude.{◌≡◌, ℕ, ◌≤◌, ◌==◌, nat_le, List,
 use Rattle.std.specs.List.{list_all}
 use Rattle.block_buffers.specs.declared.entry.Entry.{Entry}
 use Rattle.block_buffers.specs.Entries.{AreBuffers}
+use Rattle.memory.specs.Mirrored.{stored}
 use Rattle.machine_parts.specs.declared.parts.Request.{Request}
 use Rattle.machine_parts.specs.declared.parts.Request.TheVariants.{Key, Line, Read, Write}
 use Rattle.machine.specs.declared.act.Cause.{Cause}
 use Rattle.machine.specs.declared.act.Cause.TheVariants.{Bye, InputEnded, InputFault, Fault}
 use Rattle.machine.specs.State.{State}
-use Rattle.forth83_c.specs.declared.kept.NotResumed.{NotResumed}
-use Rattle.forth83_c.specs.declared.kept.NotResumed.TheVariants.{NoMachine, OutOfMemory}
+use Rattle.forth83_c.specs.declared.kept.Rest.{Rest}
 use Rattle.forth83_c.specs.declared.record.Forth83.{Forth83}
 use Rattle.forth83_c.specs.declared.record.Forth83Buffer.{Forth83Buffer}
 
@@ -49,7 +49,7 @@ has_marks b = nat_le b.has_block 1 && nat_le b.updated 1
 
 -- the layout is this one, and each number is such as a machine's is
 pub record HasNumbers (k : Forth83) : Type 0 where
-  pub abi : k.abi ≡ 1
+  pub abi : k.abi ≡ 2
   pub values : k.values_top ≤ 256
   pub returns : k.returns_top ≤ 256
   pub pending : k.has_pending ≤ 1
@@ -66,17 +66,30 @@ pub record IsRecord (k : Forth83) : Type 0 where
 -- the record is a machine's, and keeps just this state
 pub record IsKept (k : Forth83) (s : State) : Type 0 where
   pub machine : IsRecord k
-  pub memory : s.parts.memory ≡ k.memory
+  pub memory : s.parts.memory ≡ stored k.memory
   pub values : s.parts.values ≡ slice_range k.values k.values_top 256
   pub returns : s.parts.returns ≡ slice_range k.returns k.returns_top 256
   pub ip : s.parts.ip ≡ k.ip
   pub pending : s.parts.pending ≡ marked k.has_pending k.pending
   pub buffers : s.parts.buffers ≡ entries_of k.buffers k.buffer_count
   pub block_count : s.parts.block_count ≡ k.block_count
+  pub place : s.parts.place ≡ None
   pub wait : s.wait ≡ wait_of k.asks k.asked k.token
   pub halt : s.halt ≡ halt_of k.halts k.fault
 
--- why no machine is resumed: the record is none; or memory was refused, and it is one
-abbrev pub IsRefused : Forth83 → NotResumed → Type 0
-IsRefused k NoMachine = ¬ IsRecord k
-IsRefused k OutOfMemory = IsRecord k
+-- the state of these bytes of memory and all else of a machine
+abbrev pub state_of : List ℕ → Rest → State
+state_of bytes r = record {
+  parts = record {
+    memory = bytes;
+    values = r.values;
+    returns = r.returns;
+    ip = r.ip;
+    pending = r.pending;
+    buffers = r.buffers;
+    block_count = r.block_count;
+    place = None;
+  };
+  wait = r.wait;
+  halt = r.halt;
+}

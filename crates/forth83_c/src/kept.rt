@@ -1,33 +1,50 @@
-//! A machine out of its record, and back.
+//! All of a machine but its memory out of its record, and back.
 
-ghost use Rattle.std.specs.Prelude.{◌≡◌, ◌≤◌, ◌↔◌, length, map, take, true, IfOk, IfErr, MatchOption, IsTrue, slice_range};
+ghost use Rattle.std.specs.Prelude.{◌≡◌, [], ◌≤◌, ◌↔◌, length, map, take, true, MatchOption, IsTrue, slice_range};
 ghost use Rattle.std.specs.List.{list_all};
 ghost use Rattle.block_buffers.specs.Entries.{AreBuffers};
-ghost use Rattle.forth83_c.specs.Kept.{marked, wait_of, halt_of, entry_of, entries_of, has_marks, HasNumbers, IsRecord, IsKept, IsRefused};
+ghost use Rattle.memory.specs.Mirrored.{stored};
+ghost use Rattle.forth83_c.specs.Kept.{marked, wait_of, halt_of, entry_of, entries_of, has_marks, HasNumbers, IsRecord, IsKept, state_of};
 
 use crate::record::{Forth83, Forth83Buffer};
 use arrayvec::ArrayVec;
 use block_buffers::{Buffers, Entry};
-use inner_interpreter::{Cause, Machine};
-use machine_parts::parts::{Parts, Request};
-use memory::{Memory, OutOfMemory};
-use name_index::NameIndex;
+use inner_interpreter::Cause;
+use machine_parts::parts::Request;
 use stacks::Stack;
-use std::alloc::Global;
-use thiserror::Error;
 
 /// The layout of records.
-pub const ABI: u32 = 1;
+pub const ABI: u32 = 2;
 
-/// Why no machine can be resumed.
-#[derive(Clone, Copy, Debug, PartialEq, Eq, Error)]
-pub enum NotResumed {
-    /// The record keeps no machine.
-    #[error("the record keeps no machine")]
-    NoMachine,
-    /// There is no memory left.
-    #[error("out of memory")]
-    OutOfMemory,
+/// All of a machine but its memory, and but the table of names that its searches fill.
+#[derive(Drop)]
+pub struct Rest {
+    pub values: Stack,
+    pub returns: Stack,
+    pub ip: u16,
+    pub pending: Option<u16>,
+    pub buffers: Buffers,
+    pub block_count: u32,
+    pub wait: Option<(Request, u16)>,
+    pub halt: Option<Cause>,
+}
+
+impl Rest {
+    /// A rest with empty stacks, to leave in the place of one that is moved.
+    pub fn blank() -> Rest
+        ensures { (result.values ≡ []) × (result.returns ≡ []) }
+    {
+        Rest {
+            values: Stack::new(),
+            returns: Stack::new(),
+            ip: 0,
+            pending: None,
+            buffers: Buffers::new(2),
+            block_count: 0,
+            wait: None,
+            halt: None,
+        }
+    }
 }
 
 fn marked(has: u16, x: u16) -> Option<u16>
@@ -162,43 +179,21 @@ fn keep_buffers(buffers: &Buffers, kept: &mut [Forth83Buffer; 16])
     }
 }
 
-/// Memory of these bytes.
-#[tactic(auto, using(crate::proofs::Bytes::all_of_memory))]
-pub fn memory_of(alloc: Global, bytes: &[u8; 65536]) -> Result<Memory, OutOfMemory>
-    ensures { IfOk result (λ m. m ≡ bytes.now) }
+/// What a record keeps beside memory; `None` exactly where it keeps no machine.
+pub fn rest_of(kept: &Forth83) -> Option<Rest>
+    ensures { MatchOption result (¬ IsRecord kept.now) (λ r. IsKept kept.now (state_of (stored kept.now.memory) r)) }
 {
-    Memory::with_front(alloc, bytes)
-}
-
-/// The machine that a record keeps; `NoMachine` exactly where the record is none.
-pub fn resume(alloc: Global, kept: &Forth83) -> Result<Machine, NotResumed>
-    ensures machine { IfOk result (λ m. IsKept kept.now m) }
-    ensures refused { IfErr result (IsRefused kept.now) }
-{
-    let Some(buffers) = buffers_of(kept) else {
-        return Err(NotResumed::NoMachine);
-    };
-    let limit = buffers.limit();
-    let Ok(memory) = memory_of(alloc, &kept.memory) else {
-        return Err(NotResumed::OutOfMemory);
-    };
-    let Ok(index) = NameIndex::new(alloc) else {
-        return Err(NotResumed::OutOfMemory);
-    };
-    let parts = Parts {
-        memory,
+    let buffers = buffers_of(kept)?;
+    Some(Rest {
         values: stack_of(&kept.values, kept.values_top),
         returns: stack_of(&kept.returns, kept.returns_top),
         ip: kept.ip,
         pending: marked(kept.has_pending, kept.pending),
         buffers,
         block_count: kept.block_count,
-        limit,
-        index,
-    };
-    let wait = wait_of(kept.asks, kept.asked, kept.token);
-    let halt = halt_of(kept.halts, kept.fault);
-    Ok(Machine::resume(parts, wait, halt))
+        wait: wait_of(kept.asks, kept.asked, kept.token),
+        halt: halt_of(kept.halts, kept.fault),
+    })
 }
 
 fn wait_told(wait: Option<(Request, u16)>) -> (u16, u16, u16)
@@ -247,30 +242,21 @@ pub fn keep_stack(stack: Stack, cells: &mut [u16; 257]) -> u16
     top as u16
 }
 
-/// Keeps memory.
-fn keep_memory(memory: &Memory, bytes: &mut [u8; 65536])
-    ensures { bytes.new ≡ memory.now }
+/// Keeps all of a machine but its memory, which is left as it is.
+pub fn keep(rest: Rest, kept: &mut Forth83)
+    ensures kept { IsKept kept.new (state_of (stored kept.old.memory) rest) }
+    ensures memory { kept.new.memory ≡ kept.old.memory }
 {
-    bytes.copy_from_slice(memory.as_slice());
-}
-
-/// Keeps a machine in a record.
-pub fn keep(machine: Machine, kept: &mut Forth83)
-    ensures { IsKept kept.new machine }
-{
-    let (parts, wait, halt) = machine.into_parts();
-    let Parts {
-        memory,
+    let Rest {
         values,
         returns,
         ip,
         pending,
         buffers,
         block_count,
-        limit: _,
-        index: _,
-    } = parts;
-    keep_memory(&memory, &mut kept.memory);
+        wait,
+        halt,
+    } = rest;
     keep_buffers(&buffers, &mut kept.buffers);
     let values_top = keep_stack(values, &mut kept.values);
     let returns_top = keep_stack(returns, &mut kept.returns);

@@ -5,6 +5,7 @@ mod driving;
 mod finding;
 mod kept;
 pub mod laws;
+mod lent;
 mod lines;
 pub mod record;
 mod running;
@@ -145,33 +146,35 @@ pub extern "C" fn forth83_failed(alloc: Global, machine: &mut Forth83) -> u32
 /// Puts the bytes of the block that is asked to be kept into `page`, which has 1,024.
 #[unsafe(no_mangle)]
 #[tactic(auto, using(crate::proofs::Codes::code_zero))]
-pub extern "C" fn forth83_page(alloc: Global, machine: &Forth83, page: &mut [u8]) -> u32
+pub extern "C" fn forth83_page(machine: &Forth83, page: &mut [u8]) -> u32
     ensures asks { result ≡ 0 → AsksPage machine.now page.new }
     ensures size { length page.old ≢ 1024 → result ≡ 13 }
     ensures no_machine { length page.old ≡ 1024 → TellsMachine machine.now result }
     ensures why { length page.old ≡ 1024 → TellsByCode WhyNoPage machine.now result }
     ensures stays { result ≢ 0 → page.new ≡ page.old }
+    ensures known { result ≢ 2 }
 {
-    running::asked_page(alloc, machine, page).code()
+    running::asked_page(machine, page).code()
 }
 
 /// Enters the word at a compilation address: the return stack is emptied, and the word comes next.
 #[unsafe(no_mangle)]
 #[tactic(auto, using(crate::proofs::Codes::code_zero))]
-pub extern "C" fn forth83_enter(alloc: Global, machine: &mut Forth83, word: u16) -> u32
+pub extern "C" fn forth83_enter(machine: &mut Forth83, word: u16) -> u32
     ensures entered { result ≡ 0 → HasEntered machine.old machine.new word }
     ensures no_machine { TellsMachine machine.old result }
     ensures why { TellsByCode WhyNotEntered machine.old result }
     ensures stays { result ≢ 0 → machine.new ≡ machine.old }
+    ensures known { result ≢ 2 }
 {
-    running::enter(alloc, machine, word).code()
+    running::enter(machine, word).code()
 }
 
 /// Puts the compilation address of the word that a name means into `word`, as FIND finds it: in CONTEXT's vocabulary, and then
 /// in FORTH.
 #[unsafe(no_mangle)]
 #[tactic(auto, using(crate::proofs::Codes::code_zero))]
-pub extern "C" fn forth83_find(alloc: Global, machine: &Forth83, name: &[u8], word: &mut u16) -> u32
+pub extern "C" fn forth83_find(machine: &Forth83, name: &[u8], word: &mut u16) -> u32
     ensures found { result ≡ 0 → HasFound machine.now name.now word.new }
 
     // What is found has a name of 1 to 31 bytes.
@@ -181,8 +184,9 @@ pub extern "C" fn forth83_find(alloc: Global, machine: &Forth83, name: &[u8], wo
     ensures no_machine { TellsMachine machine.now result }
     ensures why { TellsByCode (WhyNotFound name.now) machine.now result }
     ensures untold { result ≢ 0 → word.new ≡ word.old }
+    ensures known { result ≢ 2 }
 {
-    finding::find(alloc, machine, name, word).code()
+    finding::find(machine, name, word).code()
 }
 
 /// Pushes a number on the data stack. `Waiting` while a request waits, since what it needs is on top.

@@ -1,4 +1,7 @@
-//! The record that a machine is kept in between two calls. It is plain bytes of the host's, and may be copied.
+//! The record that a machine is kept in between two calls. It is plain bytes of the host's, and may be copied. Calls work in its memory
+//! as it lies there.
+
+use memory::Memory;
 
 /// A block buffer.
 #[repr(C)]
@@ -18,7 +21,7 @@ pub struct Forth83Buffer {
 #[repr(C)]
 #[derive(Drop)]
 pub struct Forth83 {
-    /// Which layout this is: 1.
+    /// Which layout this is: 2.
     pub abi: u32,
     /// How many blocks its device has.
     pub block_count: u32,
@@ -50,8 +53,8 @@ pub struct Forth83 {
     pub values: [u16; 257],
     /// The cells of the return stack.
     pub returns: [u16; 257],
-    /// Memory.
-    pub memory: [u8; 65536],
+    /// Memory, with sixteen bytes after it that calls use for themselves.
+    pub memory: Memory,
 }
 
 /// How a call of `forth83_run` ended.

@@ -6,16 +6,67 @@ ghost use Rattle.machine.specs.State.{start};
 ghost use Rattle.forth83_c.specs.declared.status.Status.TheVariants as status;
 ghost use Rattle.machine.specs.Answer.{seen};
 ghost use Rattle.forth83_c.specs.Called.{AsksPage, HasAnswered, HasEntered, HasPopped, HasPushed, HasRun, HasSaved, Tells, TellsMachine, WhyNotAnswered, WhyNotEntered, WhyNoPage, WhyNotPushed, WhyNotPopped, WhyNotSaved, code_of};
-ghost use Rattle.forth83_c.specs.Kept.{IsKept};
+ghost use Rattle.forth83_c.specs.Kept.{IsKept, state_of};
+ghost use Rattle.memory.specs.Bytes.{front_put, zeros};
+ghost use Rattle.memory.specs.Mirrored.{stored};
 
-use crate::driving::drive;
-use crate::kept::{NotResumed, is_record, keep, keep_stack, resume, stack_of};
+use crate::kept::{Rest, is_record, keep, keep_stack, rest_of, stack_of};
+use crate::lent::{answer_lent, drive_lent};
 use crate::record::{Forth83, Forth83End};
 use crate::showing::put;
 use crate::status::Status;
-use image_loader::ImageFault;
-use inner_interpreter::{Answer, Machine, Refused, SaveRefused};
+use block_buffers::Buffers;
+use image_loader::{Image, ImageFault};
+use inner_interpreter::{Answer, SaveRefused};
+use machine::save_memory;
+use machine_parts::parts::Request;
+use memory::Memory;
+use name_index::NameIndex;
+use stacks::Stack;
 use std::alloc::Global;
+
+/// Makes memory zero.
+#[tactic(auto, using(memory::proofs::Behind::zeros_are))]
+fn clear(memory: &mut Memory)
+    ensures { stored memory.new ≡ zeros }
+{
+    memory.bytes = [0; 65552];
+}
+
+/// Puts these bytes into memory, from address 0 on.
+#[tactic(auto, using(memory::proofs::Behind::front_begun))]
+fn put_front(memory: &mut Memory, bytes: &[u8])
+    requires { length bytes.now ≤ 65536 }
+    ensures { stored memory.new ≡ front_put bytes.now (stored memory.old) }
+{
+    let end = bytes.len();
+    memory.bytes[0..end].copy_from_slice(bytes);
+}
+
+/// Puts these bytes into memory, and zeros after them.
+fn hold(memory: &mut Memory, bytes: &[u8])
+    requires { length bytes.now ≤ 65536 }
+    ensures { stored memory.new ≡ front_put bytes.now zeros }
+{
+    clear(memory);
+    put_front(memory, bytes);
+}
+
+/// All but memory of the machine that an image starts with.
+fn rest_at_start(image: &Image, block_count: u32) -> Rest
+    ensures { state_of (front_put image.now.bytes zeros) result ≡ start image.now block_count }
+{
+    Rest {
+        values: Stack::new(),
+        returns: Stack::new(),
+        ip: 0,
+        pending: Some(image.entry()),
+        buffers: Buffers::new(image.buffers()),
+        block_count,
+        wait: None,
+        halt: None,
+    }
+}
 
 /// Loads an image into a record.
 pub fn load(alloc: Global, image: &[u8], block_count: u32, kept: &mut Forth83) -> Status
@@ -33,13 +84,11 @@ pub fn load(alloc: Global, image: &[u8], block_count: u32, kept: &mut Forth83) -
     ensures stays { result ≢ status.Done → kept.new ≡ kept.old }
 {
     match image_loader::read(alloc, image) {
-        Ok(image) => match Machine::load(alloc, &image, block_count) {
-            Ok(machine) => {
-                keep(machine, kept);
-                Status::Done
-            }
-            Err(_) => Status::OutOfMemory,
-        },
+        Ok(image) => {
+            hold(&mut kept.memory, image.bytes());
+            keep(rest_at_start(&image, block_count), kept);
+            Status::Done
+        }
         Err(ImageFault::Truncated) => Status::Truncated,
         Err(ImageFault::TrailingBytes) => Status::TrailingBytes,
         Err(ImageFault::BadMagic) => Status::BadMagic,
@@ -73,25 +122,26 @@ pub fn run(
     if shown.is_empty() {
         return Status::ShortRoom;
     }
-    match resume(alloc, kept) {
-        Ok(machine) => {
-            let mut machine = machine;
-            let (course, stop) = drive(&mut machine, typed, shown, limit);
-            keep(machine, kept);
-            let span = stop.span();
-            *end = Forth83End {
-                read: course.read,
-                shown: course.shown,
-                left: course.left,
-                stop: stop.code(),
-                at: span.at,
-                len: span.len,
-            };
-            Status::Done
-        }
-        Err(NotResumed::NoMachine) => Status::NoMachine,
-        Err(NotResumed::OutOfMemory) => Status::OutOfMemory,
-    }
+    let Some(mut rest) = rest_of(kept) else {
+        return Status::NoMachine;
+    };
+    let Ok(index) = NameIndex::new(alloc) else {
+        return Status::OutOfMemory;
+    };
+    let driven = drive_lent(&mut kept.memory, &mut rest, index, typed, shown, limit);
+    let course = driven.course;
+    let stop = driven.stop;
+    keep(rest, kept);
+    let span = stop.span();
+    *end = Forth83End {
+        read: course.read,
+        shown: course.shown,
+        left: course.left,
+        stop: stop.code(),
+        at: span.at,
+        len: span.len,
+    };
+    Status::Done
 }
 
 /// Answers what the machine of a record asks.
@@ -101,76 +151,70 @@ pub fn answer(alloc: Global, kept: &mut Forth83, answer: Answer<'_>) -> Status
     ensures why { Tells (WhyNotAnswered (seen answer.entry)) kept.old result }
     ensures stays { result ≢ status.Done → kept.new ≡ kept.old }
 {
-    match resume(alloc, kept) {
-        Ok(machine) => {
-            let mut machine = machine;
-            if machine.halted().is_some() {
-                return Status::Halted;
-            }
-            match machine.answer(answer) {
-                Ok(_) => {
-                    keep(machine, kept);
-                    Status::Done
-                }
-                Err(_) => Status::NotAsked,
-            }
-        }
-        Err(NotResumed::NoMachine) => Status::NoMachine,
-        Err(NotResumed::OutOfMemory) => Status::OutOfMemory,
+    let Some(mut rest) = rest_of(kept) else {
+        return Status::NoMachine;
+    };
+    if rest.halt.is_some() {
+        return Status::Halted;
     }
+    if !answer.fits(rest.wait) {
+        return Status::NotAsked;
+    }
+    let Ok(index) = NameIndex::new(alloc) else {
+        return Status::OutOfMemory;
+    };
+    let _returned = answer_lent(&mut kept.memory, &mut rest, index, answer);
+    keep(rest, kept);
+    Status::Done
 }
 
 /// Enters a word.
-pub fn enter(alloc: Global, kept: &mut Forth83, word: u16) -> Status
+pub fn enter(kept: &mut Forth83, word: u16) -> Status
     ensures entered { result ≡ status.Done → HasEntered kept.old kept.new word }
     ensures no_machine { TellsMachine kept.old (code_of result) }
     ensures why { Tells WhyNotEntered kept.old result }
+    ensures known { result ≢ status.OutOfMemory }
     ensures stays { result ≢ status.Done → kept.new ≡ kept.old }
 {
-    match resume(alloc, kept) {
-        Ok(machine) => {
-            let mut machine = machine;
-            if machine.halted().is_some() {
-                return Status::Halted;
-            }
-            if machine.asked().is_some() {
-                return Status::Waiting;
-            }
-            match machine.enter(word) {
-                Ok(()) => {
-                    keep(machine, kept);
-                    Status::Done
-                }
-                Err(Refused::Waiting) => Status::Waiting,
-                Err(_) => Status::Halted,
-            }
-        }
-        Err(NotResumed::NoMachine) => Status::NoMachine,
-        Err(NotResumed::OutOfMemory) => Status::OutOfMemory,
+    let Some(mut rest) = rest_of(kept) else {
+        return Status::NoMachine;
+    };
+    if rest.halt.is_some() {
+        return Status::Halted;
     }
+    if rest.wait.is_some() {
+        return Status::Waiting;
+    }
+    rest.returns.clear();
+    rest.ip = 0;
+    rest.pending = Some(word);
+    keep(rest, kept);
+    Status::Done
 }
 
 /// Puts the bytes that the machine of a record asks to be kept into `page`.
-pub fn asked_page(alloc: Global, kept: &Forth83, page: &mut [u8]) -> Status
+pub fn asked_page(kept: &Forth83, page: &mut [u8]) -> Status
     ensures asks { result ≡ status.Done → AsksPage kept.now page.new }
     ensures size { length page.old ≢ 1024 → result ≡ status.BadPage }
     ensures no_machine { length page.old ≡ 1024 → TellsMachine kept.now (code_of result) }
     ensures why { length page.old ≡ 1024 → Tells WhyNoPage kept.now result }
+    ensures known { result ≢ status.OutOfMemory }
     ensures stays { result ≢ status.Done → page.new ≡ page.old }
 {
     if page.len() != 1024 {
         return Status::BadPage;
     }
-    match resume(alloc, kept) {
-        Ok(machine) => match machine.asked_page() {
-            Some(bytes) => {
-                page.copy_from_slice(bytes);
-                Status::Done
-            }
-            None => Status::NotAsked,
-        },
-        Err(NotResumed::NoMachine) => Status::NoMachine,
-        Err(NotResumed::OutOfMemory) => Status::OutOfMemory,
+    let Some(rest) = rest_of(kept) else {
+        return Status::NoMachine;
+    };
+    match rest.wait {
+        Some((Request::Write { block }, _)) => {
+            let slot = rest.buffers.slot_of(block);
+            let at = rest.buffers.address_of(slot);
+            page.copy_from_slice(kept.memory.page(at));
+            Status::Done
+        }
+        _ => Status::NotAsked,
     }
 }
 
@@ -238,12 +282,10 @@ pub fn save(alloc: Global, kept: &Forth83, entry: u16, file: &mut [u8], size: &m
     ensures stays { result ≢ status.Done → file.new ≡ file.old }
     ensures untold { result ≢ status.Done → size.new ≡ size.old }
 {
-    let machine = match resume(alloc, kept) {
-        Ok(machine) => machine,
-        Err(NotResumed::NoMachine) => return Status::NoMachine,
-        Err(NotResumed::OutOfMemory) => return Status::OutOfMemory,
+    let Some(rest) = rest_of(kept) else {
+        return Status::NoMachine;
     };
-    let image = match machine.save(alloc, entry) {
+    let image = match save_memory(alloc, &kept.memory, &rest.buffers, entry) {
         Ok(image) => image,
         Err(SaveRefused::BadSize) => return Status::BadSize,
         Err(SaveRefused::OutOfMemory) => return Status::OutOfMemory,

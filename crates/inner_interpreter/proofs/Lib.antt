@@ -21,3 +21,4 @@ pub mod Slicing
 mod Making
 mod Givens
 mod Tying
+pub mod Places

@@ -2,6 +2,7 @@
 
 ghost use Rattle.std.specs.Prelude.{◌≡◌, ◌≤◌, length, take};
 ghost use Rattle.memory.specs.Bytes.{bytes, put_bytes};
+ghost use Rattle.memory.specs.Mirrored.{stored};
 ghost use Rattle.input_source.specs.Placing.{counted, IsPlaced};
 ghost use Rattle.input_source.specs.Words.{bytes_in};
 
@@ -19,8 +20,8 @@ pub struct TooLong;
 #[tactic(auto, using(crate::proofs::Copies::copied_all, memory::proofs::Ranges::ranges))]
 fn copied(memory: &Memory, at: u16, n: u16) -> [u8; 256]
     requires { n ≤ 255 }
-    ensures bytes { take n result ≡ bytes memory.now at n }
-    ensures len { length (bytes memory.now at n) ≡ n }
+    ensures bytes { take n result ≡ bytes (stored memory.now) at n }
+    ensures len { length (bytes (stored memory.now) at n) ≡ n }
 {
     let mut copy = [0; 256];
     for i in 0..n {
@@ -34,8 +35,8 @@ fn copied(memory: &Memory, at: u16, n: u16) -> [u8; 256]
 #[tactic(auto, unfolding(crate::specs::Words::bytes_in))]
 pub fn word_bytes(memory: &Memory, stream: Stream, word: Word) -> [u8; 256]
     requires { word.len ≤ 255 }
-    ensures bytes { take word.len result ≡ bytes_in memory.now stream word }
-    ensures len { length (bytes_in memory.now stream word) ≡ word.len }
+    ensures bytes { take word.len result ≡ bytes_in (stored memory.now) stream word }
+    ensures len { length (bytes_in (stored memory.now) stream word) ≡ word.len }
 {
     copied(memory, stream.at.wrapping_add(word.at), word.len)
 }
@@ -44,7 +45,7 @@ pub fn word_bytes(memory: &Memory, stream: Stream, word: Word) -> [u8; 256]
 #[tactic(auto, using(crate::proofs::Placings::counted_pieces))]
 fn place_counted(memory: &mut Memory, here: u16, bytes: &[u8])
     requires { length bytes.now ≤ 255 }
-    ensures { memory.new ≡ put_bytes memory.old here (counted bytes.now) }
+    ensures { stored memory.new ≡ put_bytes (stored memory.old) here (counted bytes.now) }
 {
     let first = here.wrapping_add(1);
     memory.set_byte(here, bytes.len() as u8);
@@ -58,7 +59,7 @@ fn place_counted(memory: &mut Memory, here: u16, bytes: &[u8])
 /// `TooLong`, with memory as it was, where the word has more than 255 bytes. This is what WORD of the Standard writes.
 #[tactic(auto, unfolding(crate::specs::Placing::with_word))]
 pub fn place_word(memory: &mut Memory, stream: Stream, word: Word) -> Result<u16, TooLong>
-    ensures { IsPlaced memory.old memory.new stream word result }
+    ensures { IsPlaced (stored memory.old) (stored memory.new) stream word result }
 {
     if word.len > 255 {
         return Err(TooLong);

@@ -1,6 +1,7 @@
 //! Where the stream is.
 
 ghost use Rattle.std.specs.Prelude.{◌≤◌, IfOk};
+ghost use Rattle.memory.specs.Mirrored.{stored};
 ghost use Rattle.input_source.specs.Streams.{IsStream};
 
 use crate::words::Stream;
@@ -19,7 +20,7 @@ pub struct NeedsBlock;
 /// Its place is >IN, which past the size counts as the size. `NeedsBlock` where BLK isn't 0 and no buffer has that block.
 #[tactic(auto, unfolding(crate::specs::Streams::needs_block, crate::specs::Streams::stream_at, crate::specs::Streams::stream_size))]
 pub fn stream(memory: &Memory, buffers: &Buffers) -> Result<Stream, NeedsBlock>
-    ensures value { IsStream memory.now buffers.now result }
+    ensures value { IsStream (stored memory.now) buffers.now result }
     ensures within { IfOk result (λ s. s.place ≤ s.size) }
 {
     let place = memory.cell(TO_IN);

@@ -2,6 +2,7 @@
 
 ghost use Rattle.std.specs.Prelude.{◌≡◌, ◌+◌, ◌<◌, ◌≤◌, ℕ, List, length};
 ghost use Rattle.memory.specs.Bytes.{bytes};
+ghost use Rattle.memory.specs.Mirrored.{stored};
 ghost use Rattle.input_source.specs.Words.{word_start, next_delimiter, parsed, word_at, text, word_in, parsed_in, bytes_in, bytes_of, IsTaken, IsNextWord};
 
 use memory::Memory;
@@ -34,8 +35,8 @@ pub struct Word {
 #[tactic(auto, using(crate::proofs::Scans::starts, memory::proofs::Ranges::ranges))]
 fn word_start(memory: &Memory, at: u16, size: u16, from: u16, delimiter: u8) -> u16
     requires { from ≤ size }
-    ensures value { result ≡ word_start (bytes memory.now at size) from delimiter }
-    ensures len { length (bytes memory.now at size) ≡ size }
+    ensures value { result ≡ word_start (bytes (stored memory.now) at size) from delimiter }
+    ensures len { length (bytes (stored memory.now) at size) ≡ size }
     ensures within { result ≤ size }
 {
     let _ = memory.len();
@@ -50,8 +51,8 @@ fn word_start(memory: &Memory, at: u16, size: u16, from: u16, delimiter: u8) -> 
 #[tactic(auto, using(crate::proofs::Scans::ends, memory::proofs::Ranges::ranges))]
 fn next_delimiter(memory: &Memory, at: u16, size: u16, from: u16, delimiter: u8) -> u16
     requires { from ≤ size }
-    ensures value { result ≡ next_delimiter (bytes memory.now at size) from delimiter }
-    ensures len { length (bytes memory.now at size) ≡ size }
+    ensures value { result ≡ next_delimiter (bytes (stored memory.now) at size) from delimiter }
+    ensures len { length (bytes (stored memory.now) at size) ≡ size }
     ensures within { (from ≤ result) × (result ≤ size) }
 {
     let _ = memory.len();
@@ -65,7 +66,7 @@ fn next_delimiter(memory: &Memory, at: u16, size: u16, from: u16, delimiter: u8)
 /// What is from a place to the first delimiter.
 fn parse_from(memory: &Memory, stream: Stream, place: u16, delimiter: u8) -> Word
     requires { place ≤ stream.size }
-    ensures value { result ≡ parsed (text memory.now stream) place delimiter }
+    ensures value { result ≡ parsed (text (stored memory.now) stream) place delimiter }
     ensures within { (result.at + result.len ≤ stream.size) × (result.next ≤ stream.size) }
 {
     let end = next_delimiter(memory, stream.at, stream.size, place, delimiter);
@@ -85,7 +86,7 @@ fn parse_from(memory: &Memory, stream: Stream, place: u16, delimiter: u8) -> Wor
 /// that was found, else the size.
 #[tactic(auto, unfolding(crate::specs::Words::parsed_in))]
 pub fn parse_to(memory: &Memory, stream: Stream, delimiter: u8) -> Word
-    ensures value { result ≡ parsed_in memory.now stream delimiter }
+    ensures value { result ≡ parsed_in (stored memory.now) stream delimiter }
     ensures within { (result.at + result.len ≤ stream.size) × (result.next ≤ stream.size) }
 {
     parse_from(memory, stream, stream.place.min(stream.size), delimiter)
@@ -95,7 +96,7 @@ pub fn parse_to(memory: &Memory, stream: Stream, delimiter: u8) -> Word
 /// bytes where none but delimiters are left. The place after is past a delimiter that was found, else the size.
 #[tactic(auto, unfolding(crate::specs::Words::word_in))]
 pub fn next_word(memory: &Memory, stream: Stream, delimiter: u8) -> Word
-    ensures value { result ≡ word_in memory.now stream delimiter }
+    ensures value { result ≡ word_in (stored memory.now) stream delimiter }
     ensures within { (result.at + result.len ≤ stream.size) × (result.next ≤ stream.size) }
 {
     let place = stream.place.min(stream.size);

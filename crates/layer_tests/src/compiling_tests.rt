@@ -14,7 +14,7 @@ use std::process::Abort;
 const LIMIT: u16 = 61440;
 
 /// Memory of zeros with HERE at `here`, and in each runtime cell k the address 1,000 + k.
-fn memory_at(alloc: Global, rt: &impl Abort, here: u16) -> Memory {
+fn memory_at(alloc: Global, rt: &impl Abort, here: u16) -> Box<Memory> {
     let mut memory = Memory::new(alloc).expect(rt, "memory");
     for k in 1..32u16 {
         memory.set_cell(64 + 2 * k, 1000 + k);

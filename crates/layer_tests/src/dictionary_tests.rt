@@ -23,7 +23,7 @@ fn set_cells(memory: &mut Memory, cells: &[(u16, u16)]) {
 
 /// The image of the screen `5 PRIM EXIT 23 PRIM BYE : GO BYE ; BOOT GO`, written by hand: the headers begin at 256, 267
 /// and 277, and their link fields are at 258, 269 and 279.
-fn three_words(alloc: Global) -> Result<Memory, OutOfMemory> {
+fn three_words(alloc: Global) -> Result<Box<Memory>, OutOfMemory> {
     let mut memory = Memory::new(alloc)?;
     set_cells(
         &mut memory,
@@ -54,7 +54,7 @@ fn three_words(alloc: Global) -> Result<Memory, OutOfMemory> {
 }
 
 /// Memory with nothing in it but an empty FORTH, headers to begin at 256, in block 1.
-fn no_words(alloc: Global) -> Result<Memory, OutOfMemory> {
+fn no_words(alloc: Global) -> Result<Box<Memory>, OutOfMemory> {
     let mut memory = Memory::new(alloc)?;
     set_cells(
         &mut memory,

@@ -100,7 +100,7 @@ fn bases_have_their_digits(rt: HostRuntime) {
 }
 
 /// Memory of zeros with a BASE and, at 300, a text.
-fn memory_with(alloc: Global, rt: &impl Abort, base: u16, text: &[u8]) -> Memory {
+fn memory_with(alloc: Global, rt: &impl Abort, base: u16, text: &[u8]) -> Box<Memory> {
     let mut memory = Memory::new(alloc).expect(rt, "memory");
     memory.set_cell(18, base);
     memory.set_bytes(300, text);

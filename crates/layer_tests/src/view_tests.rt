@@ -7,7 +7,7 @@ use std::test::Fail;
 
 /// The words EXIT and Z of screens 1 and 2, and a hidden word GO: the chains of `E`, `Z` and `G` (classes 1, 2 and 3) begin
 /// in 44, 46 and 48, and the link fields are at 258, 269 and 277.
-fn three_words(alloc: Global) -> Result<Memory, OutOfMemory> {
+fn three_words(alloc: Global) -> Result<Box<Memory>, OutOfMemory> {
     let mut memory = Memory::new(alloc)?;
     for (at, cell) in [(CONTEXT, 42), (DP, 284), (44, 258), (46, 269), (48, 277)] {
         memory.set_cell(at, cell);

@@ -8,6 +8,7 @@ use crate::load_command::do_load;
 use block_buffers::{BLOCK_SIZE, Device, MemoryDevice};
 use inner_interpreter::{Machine, Output};
 use machine_parts::faults::{BAD_LENGTH, NOT_FOUND};
+use memory::Memory;
 use memory::system::{BLK, TO_IN};
 use metacompiler::{LoadFault, load_on};
 use named_files::{Files, blocks_of, read_screen, word_before, word_behind, write_made};
@@ -36,7 +37,11 @@ fn show_stop<F: Files>(
     let Ok(image) = image_loader::read(alloc, image) else {
         return;
     };
-    let Ok(mut machine) = Machine::load(alloc, &image, blocks.count()) else {
+    let Ok(mut memory) = Memory::with_front(alloc, image.bytes()) else {
+        return;
+    };
+    let memory: &mut Memory = &mut memory;
+    let Ok(mut machine) = Machine::load(alloc, memory, &image, blocks.count()) else {
         return;
     };
     if let Err(cause) = load_on(&mut machine, alloc, blocks, image.entry(), from, to, limit) {

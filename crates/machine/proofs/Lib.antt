@@ -2,3 +2,4 @@ pub mod Ran
 pub mod Passing
 pub mod Kept
 pub mod Stepped
+pub mod Places

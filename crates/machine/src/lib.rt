@@ -11,4 +11,4 @@ mod stretches;
 
 pub use act::{Act, Answer, Cause, Event, Refused, Shown};
 pub use extent::Extent;
-pub use machine::{Machine, SaveRefused};
+pub use machine::{Machine, SaveRefused, save_memory};

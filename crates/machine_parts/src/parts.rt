@@ -52,10 +52,12 @@ pub enum Outcome {
 /// What the rows read and write: memory, the data stack and the return stack, the place in the thread (`ip`),
 /// the token that comes next in its place (`pending`), the block buffers, how many blocks the device has, where the
 /// buffers begin in memory, as they give it, and what searches of this memory found, in `index`. Whoever writes memory
-/// notes it there.
+/// notes it there. Memory belongs to whoever made the parts. Where a host lent it and wants to know what it contains after its
+/// machine is taken apart, `is_lent` is set, and clauses say that the parts still have the same memory.
 #[derive(Drop)]
-pub struct Parts {
-    pub memory: Memory,
+pub struct Parts<'m> {
+    pub memory: &'m mut Memory,
+    pub is_lent: bool,
     pub values: Stack,
     pub returns: Stack,
     pub ip: u16,
@@ -66,25 +68,26 @@ pub struct Parts {
     pub index: NameIndex,
 }
 
-impl Model for Parts {
+impl<'m> Model for Parts<'m> {
     ghost use Rattle.std.specs.Prelude.{◌≡◌};
     ghost use Rattle.block_buffers.specs.Entries.{limit as limit_by};
     ghost use Rattle.name_index.specs.Index.{Holds};
-    ghost use Rattle.machine_parts.specs.Whole.{Whole};
+    ghost use Rattle.memory.specs.Mirrored.{stored};
+    ghost use Rattle.machine_parts.specs.Whole.{Whole, place_of};
 
     ghost Value = { Whole };
 
-    ghost view = { λ p. record { memory = p.memory; values = p.values; returns = p.returns; ip = p.ip; pending = p.pending; buffers = p.buffers; block_count = p.block_count } };
+    ghost view = { λ p. record { memory = stored p.memory.now; values = p.values; returns = p.returns; ip = p.ip; pending = p.pending; buffers = p.buffers; block_count = p.block_count; place = place_of p.is_lent p.memory.ghost_name } };
 
-    ghost invariant = { λ p. (p.limit ≡ limit_by p.buffers) × Holds p.limit p.index p.memory };
+    ghost invariant = { λ p. (p.limit ≡ limit_by p.buffers) × Holds p.limit p.index (stored p.memory.now) };
 }
 
-impl Parts {
+impl<'m> Parts<'m> {
     /// Whether `n` bytes fit at HERE: the dictionary ends where the block buffers begin.
     pub fn has_room(&self, n: usize) -> bool
         ensures value { result ≡ has_room self.now n }
         ensures bound { IsTrue result → n ≤ 65535 }
     {
-        fits(&self.memory, n, self.limit)
+        fits(self.memory, n, self.limit)
     }
 }

@@ -10,7 +10,7 @@ ghost use Rattle.dictionary.specs.Laying.{laid_at};
 use crate::parts::Parts;
 use dictionary::lay_at;
 
-impl Parts {
+impl<'m> Parts<'m> {
     /// Writes the byte at `at`.
     pub fn set_byte(&mut self, at: u16, value: u8)
         ensures { self.new ≡ (record self.old { memory = put_byte self.old.memory at value }) }
@@ -77,7 +77,7 @@ impl Parts {
         requires { length bytes.now ≤ 65535 }
         ensures { self.new ≡ (record self.old { memory = laid_at here self.old.memory bytes.now }) }
     {
-        lay_at(&mut self.memory, here, bytes);
+        lay_at(self.memory, here, bytes);
         self.index.note(here, bytes.len() as u16);
     }
 }

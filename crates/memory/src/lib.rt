@@ -9,14 +9,14 @@ pub mod mirrored;
 mod snapshot;
 pub mod system;
 
-ghost use Rattle.std.specs.Prelude.{◌≡◌, ℕ, ◌+◌, ◌*◌, ◌<◌, ◌≤◌, ◌++◌, List, length, take, drop, slice_index, IfOk};
+ghost use Rattle.std.specs.Prelude.{◌≡◌, ◌+◌, ◌*◌, ◌<◌, ◌≤◌, ◌++◌, length, take, drop, slice_index, IfOk};
 ghost use Rattle.memory.specs.Bytes.{byte, cell, put_byte, put_cell, bytes, zeros, front_put, page, with_page, filled, moved_up, moved_down, put_bytes};
+ghost use Rattle.memory.specs.Mirrored.{stored};
 
 pub use access::{byte_at, cell_at, cell_bytes, set_byte_at, set_cell_at};
 pub use limit::{GREATEST_LIMIT, limit_of};
 pub use snapshot::Snapshot;
 use std::alloc::Global;
-use std::marker::Model;
 use thiserror::Error;
 
 /// How many bytes memory has.
@@ -28,19 +28,11 @@ pub const SIZE: usize = 65536;
 pub struct OutOfMemory;
 
 /// 65,536 bytes. A cell is two of them, the low byte at the lower address. The sixteen bytes after them are no part of memory:
-/// a loop may keep the first ones there (`mirrored`).
+/// a loop may keep the first ones there (`mirrored`). It has a fixed layout, so that a host can keep memory in a record of its own.
+#[repr(C)]
 #[derive(Drop)]
 pub struct Memory {
-    pub bytes: Box<[u8; 65552]>,
-}
-
-impl Model for Memory {
-    ghost use Rattle.std.specs.Prelude.{List, ℕ};
-    ghost use Rattle.memory.specs.Mirrored.{front};
-
-    ghost Value = { List ℕ };
-
-    ghost view = { λ m. front m.bytes.value };
+    pub bytes: [u8; 65552],
 }
 
 /// Writes `part` from the place `start` on.
@@ -54,19 +46,19 @@ fn put_part(bytes: &mut [u8], start: usize, part: &[u8])
 impl Memory {
     /// Memory of zeros.
     #[tactic(auto, using(crate::proofs::Behind::zeros_are))]
-    pub fn new(alloc: Global) -> Result<Memory, OutOfMemory>
-        ensures { IfOk result (λ m. m ≡ zeros) }
+    pub fn new(alloc: Global) -> Result<Box<Memory>, OutOfMemory>
+        ensures { IfOk result (λ m. stored m.value ≡ zeros) }
     {
-        match Box::new(alloc, [0; 65552]) {
-            Ok(bytes) => Ok(Memory { bytes }),
+        match Box::new(alloc, Memory { bytes: [0; 65552] }) {
+            Ok(memory) => Ok(memory),
             Err(_) => Err(OutOfMemory),
         }
     }
 
     /// Memory that begins with these bytes, and is zero after them.
-    pub fn with_front(alloc: Global, bytes: &[u8]) -> Result<Memory, OutOfMemory>
+    pub fn with_front(alloc: Global, bytes: &[u8]) -> Result<Box<Memory>, OutOfMemory>
         requires { length bytes.now ≤ 65536 }
-        ensures { IfOk result (λ m. m ≡ front_put bytes.now zeros) }
+        ensures { IfOk result (λ m. stored m.value ≡ front_put bytes.now zeros) }
     {
         let mut memory = Memory::new(alloc)?;
         memory.put_front(bytes);
@@ -77,7 +69,7 @@ impl Memory {
     #[tactic(auto, using(crate::proofs::Behind::front_begun))]
     fn put_front(&mut self, bytes: &[u8])
         requires { length bytes.now ≤ 65536 }
-        ensures { self.new ≡ front_put bytes.now self.old }
+        ensures { stored self.new ≡ front_put bytes.now (stored self.old) }
     {
         let end = bytes.len();
         self.bytes[0..end].copy_from_slice(bytes);
@@ -86,8 +78,8 @@ impl Memory {
     /// All bytes.
     #[tactic(auto, using(crate::proofs::Behind::front_is, crate::proofs::Behind::length_front))]
     pub fn as_slice(&self) -> &[u8]
-        ensures bytes { result.now ≡ self.now }
-        ensures len { length self.now ≡ 65536 }
+        ensures bytes { result.now ≡ stored self.now }
+        ensures len { length (stored self.now) ≡ 65536 }
     {
         &self.bytes[..SIZE]
     }
@@ -95,35 +87,35 @@ impl Memory {
     /// How many bytes there are, which every range and every cell rests on.
     pub fn len(&self) -> usize
         ensures value { result ≡ 65536 }
-        ensures bytes { length self.now ≡ 65536 }
+        ensures bytes { length (stored self.now) ≡ 65536 }
     {
         self.as_slice().len()
     }
 
     /// The byte at `at`.
     pub fn byte(&self, at: u16) -> u8
-        ensures { result ≡ byte self.now at }
+        ensures { result ≡ byte (stored self.now) at }
     {
         byte_at(&self.bytes, at)
     }
 
     /// The cell at `at`, whose high byte is at the next address.
     pub fn cell(&self, at: u16) -> u16
-        ensures { result ≡ cell self.now at }
+        ensures { result ≡ cell (stored self.now) at }
     {
         cell_at(&self.bytes, at)
     }
 
     /// Writes the byte at `at`.
     pub fn set_byte(&mut self, at: u16, value: u8)
-        ensures { self.new ≡ put_byte self.old at value }
+        ensures { stored self.new ≡ put_byte (stored self.old) at value }
     {
         set_byte_at(&mut self.bytes, at, value);
     }
 
     /// Writes the cell at `at`.
     pub fn set_cell(&mut self, at: u16, value: u16)
-        ensures { self.new ≡ put_cell self.old at value }
+        ensures { stored self.new ≡ put_cell (stored self.old) at value }
     {
         set_cell_at(&mut self.bytes, at, value);
     }
@@ -131,7 +123,7 @@ impl Memory {
     /// Writes `value` to each of the `n` addresses from `at` on.
     #[tactic(auto, using(crate::proofs::Steps::filled_none, crate::proofs::Steps::filled_more))]
     pub fn fill(&mut self, at: u16, n: u16, value: u8)
-        ensures { self.new ≡ filled self.old at n value }
+        ensures { stored self.new ≡ filled (stored self.old) at n value }
     {
         for i in 0..n {
             self.set_byte(at.wrapping_add(i), value);
@@ -141,7 +133,7 @@ impl Memory {
     /// Moves `n` bytes one by one, the first one first (CMOVE).
     #[tactic(auto, using(crate::proofs::Steps::moved_up_none, crate::proofs::Steps::moved_up_more))]
     pub fn move_up(&mut self, from: u16, to: u16, n: u16)
-        ensures { self.new ≡ moved_up self.old from to n }
+        ensures { stored self.new ≡ moved_up (stored self.old) from to n }
     {
         for i in 0..n {
             self.set_byte(to.wrapping_add(i), self.byte(from.wrapping_add(i)));
@@ -151,7 +143,7 @@ impl Memory {
     /// Moves `n` bytes one by one, the last one first (CMOVE>).
     #[tactic(auto, using(crate::proofs::Steps::moved_down_none, crate::proofs::Steps::moved_down_more))]
     pub fn move_down(&mut self, from: u16, to: u16, n: u16)
-        ensures { self.new ≡ moved_down self.old from to n }
+        ensures { stored self.new ≡ moved_down (stored self.old) from to n }
     {
         for i in (0..n).rev() {
             self.set_byte(to.wrapping_add(i), self.byte(from.wrapping_add(i)));
@@ -161,7 +153,7 @@ impl Memory {
     /// Writes `bytes` from `at` on.
     #[tactic(auto, using(crate::proofs::Puts::puts))]
     pub fn set_bytes(&mut self, at: u16, bytes: &[u8])
-        ensures { self.new ≡ put_bytes self.old at bytes.now }
+        ensures { stored self.new ≡ put_bytes (stored self.old) at bytes.now }
     {
         let mut place = at;
         for byte in bytes {
@@ -173,7 +165,7 @@ impl Memory {
     /// The `n` bytes from `at` on, in two pieces: the second is empty but where the first ends at memory's end.
     #[tactic(auto, unfolding(crate::specs::Bytes::bytes))]
     pub fn span(&self, at: u16, n: u16) -> (&[u8], &[u8])
-        ensures bytes { result.0.now ++ result.1.now ≡ bytes self.now at n }
+        ensures bytes { result.0.now ++ result.1.now ≡ bytes (stored self.now) at n }
         ensures len { length result.0.now + length result.1.now ≡ n }
     {
         let memory = self.as_slice();
@@ -190,8 +182,8 @@ impl Memory {
     #[tactic(auto, using(crate::proofs::Ranges::ranges), unfolding(crate::specs::Bytes::byte))]
     pub fn byte_in(&self, at: u16, n: u16, i: u16) -> u8
         requires { i < n }
-        ensures value { result ≡ slice_index (bytes self.now at n) i }
-        ensures len { length (bytes self.now at n) ≡ n }
+        ensures value { result ≡ slice_index (bytes (stored self.now) at n) i }
+        ensures len { length (bytes (stored self.now) at n) ≡ n }
     {
         self.as_slice()[at.wrapping_add(i) as usize]
     }
@@ -200,7 +192,7 @@ impl Memory {
     #[tactic(auto, unfolding(crate::specs::Bytes::page))]
     pub fn page(&self, at: u16) -> &[u8; 1024]
         requires { at ≤ 64512 }
-        ensures { result.now ≡ page self.now at }
+        ensures { result.now ≡ page (stored self.now) at }
     {
         let start = usize::from(at);
         let Some((page, _)) = self.as_slice()[start..].split_first_chunk::<1024>() else {
@@ -213,7 +205,7 @@ impl Memory {
     #[tactic(auto, using(crate::proofs::Behind::front_page))]
     pub fn set_page(&mut self, at: u16, page: &[u8; 1024])
         requires { at ≤ 64512 }
-        ensures { self.new ≡ with_page self.old at page.now }
+        ensures { stored self.new ≡ with_page (stored self.old) at page.now }
     {
         let start = usize::from(at);
         put_part(&mut self.bytes[..], start, page);
@@ -221,7 +213,7 @@ impl Memory {
 
     /// A copy of all bytes, which takes no memory.
     pub fn snapshot(&self) -> Snapshot
-        ensures { result ≡ self.now }
+        ensures { result ≡ stored self.now }
     {
         Snapshot::of(&self.bytes)
     }

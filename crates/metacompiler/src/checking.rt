@@ -1,6 +1,7 @@
 //! Whether a memory is resident.
 
 ghost use Rattle.std.specs.Prelude.{◌≡◌, ◌≤◌, ◌&&◌, IsTrue, IfOk};
+ghost use Rattle.memory.specs.Mirrored.{stored};
 ghost use Rattle.std.specs.List.{list_all};
 ghost use Rattle.metacompiler.specs.Resident.{end_of_header};
 ghost use Rattle.metacompiler.specs.Residency.{has_keyword, has_colon, has_compile, has_naming, has_choosing, has_repeating, has_counting, has_saying, has_keys, has_jumps, has_primitives, has_thread, words_at, are_apart, is_apart_from, is_within, is_beside, has_header, Joined, JoinedAll, HasChains, has_words, is_idle, is_record, are_records_apart, is_thread_beside, are_placed, passes, IsResident};
@@ -18,7 +19,7 @@ const MOST: u16 = 32768;
 /// Whether a name is found, immediate, with this primitive.
 #[tactic(auto, unfolding(crate::specs::Residency::has_keyword))]
 fn has_keyword(memory: &Memory, voc: u16, name: &[u8], number: u16) -> bool
-    ensures { result ≡ has_keyword memory.now voc name.now number }
+    ensures { result ≡ has_keyword (stored memory.now) voc name.now number }
 {
     match search_from(memory, voc, name) {
         Ok(Some(l)) => {
@@ -32,7 +33,7 @@ fn has_keyword(memory: &Memory, voc: u16, name: &[u8], number: u16) -> bool
 /// Whether `:` is found, not immediate, with its primitive.
 #[tactic(auto, unfolding(crate::specs::Residency::has_colon))]
 fn has_colon(memory: &Memory, voc: u16) -> bool
-    ensures { result ≡ has_colon memory.now voc }
+    ensures { result ≡ has_colon (stored memory.now) voc }
 {
     match search_from(memory, voc, b":") {
         Ok(Some(l)) => !is_immediate(memory, l)
@@ -45,7 +46,7 @@ fn has_colon(memory: &Memory, voc: u16) -> bool
 /// Whether COMPILE is found, not immediate, as the word of its runtime cell.
 #[tactic(auto, unfolding(crate::specs::Residency::has_compile))]
 fn has_compile(memory: &Memory, voc: u16) -> bool
-    ensures { result ≡ has_compile memory.now voc }
+    ensures { result ≡ has_compile (stored memory.now) voc }
 {
     match search_from(memory, voc, b"COMPILE") {
         Ok(Some(l)) => {
@@ -58,7 +59,7 @@ fn has_compile(memory: &Memory, voc: u16) -> bool
 }
 
 fn has_naming(memory: &Memory, voc: u16) -> bool
-    ensures { result ≡ has_naming memory.now voc }
+    ensures { result ≡ has_naming (stored memory.now) voc }
 {
     has_keyword(memory, voc, b"[']", rows::BRACKET_TICK)
         && (has_keyword(memory, voc, b"[COMPILE]", rows::BRACKET_COMPILE)
@@ -66,7 +67,7 @@ fn has_naming(memory: &Memory, voc: u16) -> bool
 }
 
 fn has_choosing(memory: &Memory, voc: u16) -> bool
-    ensures { result ≡ has_choosing memory.now voc }
+    ensures { result ≡ has_choosing (stored memory.now) voc }
 {
     has_keyword(memory, voc, b"IF", rows::IF)
         && (has_keyword(memory, voc, b"ELSE", rows::ELSE)
@@ -74,7 +75,7 @@ fn has_choosing(memory: &Memory, voc: u16) -> bool
 }
 
 fn has_repeating(memory: &Memory, voc: u16) -> bool
-    ensures { result ≡ has_repeating memory.now voc }
+    ensures { result ≡ has_repeating (stored memory.now) voc }
 {
     has_keyword(memory, voc, b"BEGIN", rows::BEGIN)
         && (has_keyword(memory, voc, b"UNTIL", rows::UNTIL)
@@ -84,7 +85,7 @@ fn has_repeating(memory: &Memory, voc: u16) -> bool
 }
 
 fn has_counting(memory: &Memory, voc: u16) -> bool
-    ensures { result ≡ has_counting memory.now voc }
+    ensures { result ≡ has_counting (stored memory.now) voc }
 {
     has_keyword(memory, voc, b"DO", rows::DO)
         && (has_keyword(memory, voc, b"LOOP", rows::LOOP)
@@ -92,7 +93,7 @@ fn has_counting(memory: &Memory, voc: u16) -> bool
 }
 
 fn has_saying(memory: &Memory, voc: u16) -> bool
-    ensures { result ≡ has_saying memory.now voc }
+    ensures { result ≡ has_saying (stored memory.now) voc }
 {
     has_keyword(memory, voc, b".\"", rows::DOT_QUOTE)
         && (has_keyword(memory, voc, b"ABORT\"", rows::ABORT_QUOTE)
@@ -103,7 +104,7 @@ fn has_saying(memory: &Memory, voc: u16) -> bool
 /// Whether a vocabulary, and then FORTH, has all words of the resident compiler.
 #[tactic(auto, unfolding(crate::specs::Residency::has_keys))]
 fn has_keys(memory: &Memory, voc: u16) -> bool
-    ensures { result ≡ has_keys memory.now voc }
+    ensures { result ≡ has_keys (stored memory.now) voc }
 {
     has_colon(memory, voc)
         && (has_keyword(memory, voc, b"(", rows::PAREN)
@@ -115,7 +116,7 @@ fn has_keys(memory: &Memory, voc: u16) -> bool
 
 fn has_jumps(memory: &Memory, word: u16) -> bool
     requires { word ≤ 65511 }
-    ensures { result ≡ has_jumps memory.now word }
+    ensures { result ≡ has_jumps (stored memory.now) word }
 {
     memory.cell(word + 8) == word + 22
         && (memory.cell(word + 12) == memory.cell(word + 6)
@@ -124,7 +125,7 @@ fn has_jumps(memory: &Memory, word: u16) -> bool
 
 fn has_primitives(memory: &Memory, word: u16) -> bool
     requires { word ≤ 65511 }
-    ensures { result ≡ has_primitives memory.now (words_at memory.now word) }
+    ensures { result ≡ has_primitives (stored memory.now) (words_at (stored memory.now) word) }
 {
     memory.cell(memory.cell(word + 2)) == rows::INTERPRET
         && (memory.cell(memory.cell(word + 4)) == rows::QUESTION_DUP
@@ -138,7 +139,7 @@ fn has_primitives(memory: &Memory, word: u16) -> bool
 /// Whether INTERPRET's thread comes after this code field.
 #[tactic(auto, unfolding(crate::specs::Residency::has_thread))]
 fn has_thread(memory: &Memory, word: u16) -> bool
-    ensures value { result ≡ has_thread memory.now word }
+    ensures value { result ≡ has_thread (stored memory.now) word }
     ensures near { IsTrue result → word ≤ 65511 }
 {
     word <= 65511
@@ -148,7 +149,7 @@ fn has_thread(memory: &Memory, word: u16) -> bool
 
 /// Where a header ends, after its code field.
 fn end_of_header(memory: &Memory, l: u16) -> u32
-    ensures value { result ≡ end_of_header memory.now l }
+    ensures value { result ≡ end_of_header (stored memory.now) l }
     ensures most { result ≤ 65795 }
 {
     u32::from(l) + (5 + u32::from(header(memory, l).length))
@@ -157,7 +158,7 @@ fn end_of_header(memory: &Memory, l: u16) -> u32
 /// Whether two headers don't overlap.
 #[tactic(auto, unfolding(crate::specs::Residency::are_apart))]
 fn are_apart(memory: &Memory, l: u16, k: u16) -> bool
-    ensures { result ≡ are_apart memory.now l k }
+    ensures { result ≡ are_apart (stored memory.now) l k }
 {
     let behind = end_of_header(memory, l) + 2 <= u32::from(k);
     let before = end_of_header(memory, k) + 2 <= u32::from(l);
@@ -166,13 +167,13 @@ fn are_apart(memory: &Memory, l: u16, k: u16) -> bool
 
 #[tactic(auto, unfolding(crate::specs::Residency::is_apart_from))]
 fn is_apart_from(memory: &Memory, headers: &[u16], l: u16) -> bool
-    ensures { result ≡ is_apart_from memory.now headers.now l }
+    ensures { result ≡ is_apart_from (stored memory.now) headers.now l }
 {
     headers.iter().all(|k| are_apart(memory, l, *k))
 }
 
 fn are_all_apart(memory: &Memory, headers: &[u16]) -> bool
-    ensures { result ≡ list_all (is_apart_from memory.now headers.now) headers.now }
+    ensures { result ≡ list_all (is_apart_from (stored memory.now) headers.now) headers.now }
 {
     headers.iter().all(|l| is_apart_from(memory, headers, *l))
 }
@@ -180,13 +181,13 @@ fn are_all_apart(memory: &Memory, headers: &[u16]) -> bool
 /// Whether a header is from 258 to HERE.
 #[tactic(auto, unfolding(crate::specs::Residency::is_within))]
 fn is_within(memory: &Memory, l: u16) -> bool
-    ensures { result ≡ is_within memory.now l }
+    ensures { result ≡ is_within (stored memory.now) l }
 {
     258 <= l && end_of_header(memory, l) <= u32::from(memory.cell(DP))
 }
 
 fn are_within(memory: &Memory, headers: &[u16]) -> bool
-    ensures { result ≡ list_all (is_within memory.now) headers.now }
+    ensures { result ≡ list_all (is_within (stored memory.now)) headers.now }
 {
     headers.iter().all(|l| is_within(memory, *l))
 }
@@ -194,7 +195,7 @@ fn are_within(memory: &Memory, headers: &[u16]) -> bool
 /// Whether a header is beside a record.
 #[tactic(auto, unfolding(crate::specs::Residency::is_beside))]
 fn is_beside(memory: &Memory, voc: u16, l: u16) -> bool
-    ensures { result ≡ is_beside memory.now voc l }
+    ensures { result ≡ is_beside (stored memory.now) voc l }
 {
     let behind = u32::from(voc) + 12 <= u32::from(l);
     let before = end_of_header(memory, l) <= u32::from(voc);
@@ -202,7 +203,7 @@ fn is_beside(memory: &Memory, voc: u16, l: u16) -> bool
 }
 
 fn are_beside(memory: &Memory, voc: u16, headers: &[u16]) -> bool
-    ensures { result ≡ list_all (is_beside memory.now voc) headers.now }
+    ensures { result ≡ list_all (is_beside (stored memory.now) voc) headers.now }
 {
     headers.iter().all(|l| is_beside(memory, voc, *l))
 }
@@ -210,7 +211,7 @@ fn are_beside(memory: &Memory, voc: u16, headers: &[u16]) -> bool
 /// Whether a header of the list has this code field.
 #[tactic(auto, unfolding(crate::specs::Residency::has_header))]
 fn has_header(memory: &Memory, headers: &[u16], word: u16) -> bool
-    ensures { result ≡ has_header memory.now headers.now word }
+    ensures { result ≡ has_header (stored memory.now) headers.now word }
 {
     headers
         .iter()
@@ -219,7 +220,7 @@ fn has_header(memory: &Memory, headers: &[u16], word: u16) -> bool
 
 /// Adds the headers of a chain to a list; whether it has at most 32,768.
 fn push_chain(memory: &Memory, head: u16, headers: &mut Vec<u16>) -> Result<bool, AllocError>
-    ensures { IfOk result (λ whole. IsTrue whole → Joined memory.now head headers.old.items headers.new.items) }
+    ensures { IfOk result (λ whole. IsTrue whole → Joined (stored memory.now) head headers.old.items headers.new.items) }
 {
     let mut l = memory.cell(head);
     let mut left = MOST;
@@ -236,7 +237,7 @@ fn push_chain(memory: &Memory, head: u16, headers: &mut Vec<u16>) -> Result<bool
 
 /// Adds the headers of a vocabulary's four chains to a list; whether each has at most 32,768.
 fn push_vocabulary(memory: &Memory, voc: u16, headers: &mut Vec<u16>) -> Result<bool, AllocError>
-    ensures { IfOk result (λ whole. IsTrue whole → JoinedAll memory.now voc headers.old.items headers.new.items) }
+    ensures { IfOk result (λ whole. IsTrue whole → JoinedAll (stored memory.now) voc headers.old.items headers.new.items) }
 {
     if !push_chain(memory, voc, headers)? {
         return Ok(false);
@@ -252,7 +253,7 @@ fn push_vocabulary(memory: &Memory, voc: u16, headers: &mut Vec<u16>) -> Result<
 
 /// Adds the headers of the three vocabularies that are searched.
 fn push_all(memory: &Memory, headers: &mut Vec<u16>) -> Result<bool, AllocError>
-    ensures { IfOk result (λ whole. IsTrue whole → HasChains memory.now headers.new.items) }
+    ensures { IfOk result (λ whole. IsTrue whole → HasChains (stored memory.now) headers.new.items) }
 {
     let current = memory.cell(CURRENT);
     let context = memory.cell(CONTEXT);
@@ -267,7 +268,7 @@ fn push_all(memory: &Memory, headers: &mut Vec<u16>) -> Result<bool, AllocError>
 
 fn has_words(memory: &Memory, headers: &[u16], word: u16) -> bool
     requires { word ≤ 65511 }
-    ensures { result ≡ has_words memory.now headers.now (words_at memory.now word) }
+    ensures { result ≡ has_words (stored memory.now) headers.now (words_at (stored memory.now) word) }
 {
     has_header(memory, headers, word)
         && (has_header(memory, headers, memory.cell(word + 2))
@@ -281,14 +282,14 @@ fn has_words(memory: &Memory, headers: &[u16], word: u16) -> bool
 
 #[tactic(auto, unfolding(crate::specs::Residency::is_idle))]
 fn is_idle(memory: &Memory, limit: u16) -> bool
-    ensures { result ≡ is_idle memory.now limit }
+    ensures { result ≡ is_idle (stored memory.now) limit }
 {
     memory.cell(STATE) == 0
         && (memory.cell(BASE) == 10 && (memory.cell(DP) <= limit && 256 <= memory.cell(DP)))
 }
 
 fn is_record(memory: &Memory, voc: u16) -> bool
-    ensures { result ≡ is_record memory.now voc }
+    ensures { result ≡ is_record (stored memory.now) voc }
 {
     voc == FORTH_VOC || (256 <= voc && u32::from(voc) + 10 <= u32::from(memory.cell(DP)))
 }
@@ -309,7 +310,7 @@ fn is_thread_beside(voc: u16, word: u16) -> bool
 /// Whether records and the thread are below HERE, beside one another.
 #[tactic(auto, unfolding(crate::specs::Residency::are_placed))]
 fn are_placed(memory: &Memory, current: u16, context: u16, word: u16) -> bool
-    ensures { result ≡ are_placed memory.now current context word }
+    ensures { result ≡ are_placed (stored memory.now) current context word }
 {
     is_record(memory, current)
         && (is_record(memory, context)
@@ -321,7 +322,7 @@ fn are_placed(memory: &Memory, current: u16, context: u16, word: u16) -> bool
 
 /// All tests but those of chains.
 fn passes(memory: &Memory, limit: u16, word: u16, headers: &[u16]) -> bool
-    ensures { result ≡ passes memory.now limit word headers.now }
+    ensures { result ≡ passes (stored memory.now) limit word headers.now }
 {
     let current = memory.cell(CURRENT);
     let context = memory.cell(CONTEXT);
@@ -339,7 +340,7 @@ fn passes(memory: &Memory, limit: u16, word: u16, headers: &[u16]) -> bool
 
 /// Whether a memory has the resident compiler, where the block buffers begin at the limit.
 pub fn is_resident(alloc: Global, memory: &Memory, limit: u16) -> Result<bool, AllocError>
-    ensures { IfOk result (λ resident. IsTrue resident → IsResident limit memory.now) }
+    ensures { IfOk result (λ resident. IsTrue resident → IsResident limit (stored memory.now)) }
 {
     let word = match find(memory, b"INTERPRET") {
         Ok(Some(word)) => word,

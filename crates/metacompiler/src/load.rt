@@ -16,6 +16,7 @@ use dictionary::find;
 use image_loader::Image;
 use inner_interpreter::{Machine, SaveRefused};
 use machine_parts::faults::BLOCK_ZERO;
+use memory::Memory;
 use memory::system::{BLK, STATE, TO_IN};
 use std::alloc::Global;
 use thiserror::Error;
@@ -212,8 +213,12 @@ pub fn load_by_machine<D: Device>(
         (λ word. HasLoaded word image.now (D.block_count device.old) from to limit (D.calls device.old)
         (D.calls device.new) result) }
 {
+    let Ok(mut memory) = Memory::with_front(alloc, image.bytes()) else {
+        return Err(LoadFault::OutOfMemory);
+    };
+    let memory: &mut Memory = &mut memory;
     let count = device.count();
-    match Machine::load(alloc, image, count) {
+    match Machine::load(alloc, memory, image, count) {
         Ok(mut machine) => load_on(&mut machine, alloc, device, image.entry(), from, to, limit),
         Err(_) => Err(LoadFault::OutOfMemory),
     }

@@ -1,6 +1,7 @@
 //! The members of a chain that enter the table.
 
 ghost use Rattle.std.specs.Prelude.{◌≡◌, ◌<◌, ◌≤◌, ◌+◌, slice_index, IfSome, IsTrue};
+ghost use Rattle.memory.specs.Mirrored.{stored};
 ghost use Rattle.dictionary.specs.Header.{name_length};
 ghost use Rattle.name_index.specs.Index.{Holds, IsAdmitted, top_of};
 
@@ -12,7 +13,7 @@ use memory::Memory;
 
 /// The end of the header at `link_field`, its code field included, which may be past memory's end.
 fn end_of(memory: &Memory, link_field: u16) -> u32
-    ensures { result ≡ link_field + (5 + name_length memory.now link_field) }
+    ensures { result ≡ link_field + (5 + name_length (stored memory.now) link_field) }
 {
     u32::from(link_field) + (5 + u32::from(name_length(memory, link_field)))
 }
@@ -36,12 +37,12 @@ fn admit_members(
     limit: u16,
 ) -> Option<u16>
     requires class { class < 4 }
-    requires holds { Holds limit index.old memory.now }
+    requires holds { Holds limit index.old (stored memory.now) }
     ensures heads { index.new.heads ≡ index.old.heads }
     ensures top { top_of index.new ≡ top_of index.old }
     ensures more { IfSome result (λ top. top_of index.old ≤ top) }
     ensures bound { IfSome result (λ top. 256 < top → top ≤ limit) }
-    ensures admitted { IfSome result (λ top. IsAdmitted top memory.now class first index.old.table.value index.new.table.value) }
+    ensures admitted { IfSome result (λ top. IsAdmitted top (stored memory.now) class first index.old.table.value index.new.table.value) }
 {
     let _ = memory.len();
     let known = index.head(class);
@@ -65,9 +66,9 @@ fn admit_members(
 #[tactic(auto, using(crate::proofs::Raised::holds_raised))]
 pub fn bring_up(memory: &Memory, index: &mut NameIndex, class: u8, first: u16, limit: u16) -> bool
     requires class { class < 4 }
-    requires holds { Holds limit index.old memory.now }
+    requires holds { Holds limit index.old (stored memory.now) }
     ensures head { IsTrue result → slice_index index.new.heads class ≡ first }
-    ensures holds { Holds limit index.new memory.now }
+    ensures holds { Holds limit index.new (stored memory.now) }
 {
     match admit_members(memory, index, class, first, limit) {
         Some(top) => {

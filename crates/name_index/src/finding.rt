@@ -1,6 +1,7 @@
 //! The search by the index.
 
 ghost use Rattle.std.specs.Prelude.{◌≡◌, ◌<◌, ℕ, List, length, slice_index, IsTrue};
+ghost use Rattle.memory.specs.Mirrored.{stored};
 ghost use Rattle.dictionary.specs.Search.{sought, sought_in, IsSought};
 ghost use Rattle.name_index.specs.Index.{Holds};
 ghost use Rattle.name_index.specs.Passing.{PassesTo};
@@ -15,7 +16,7 @@ use memory::system::{CONTEXT, FORTH_VOC};
 /// The first member of a chain from `start` on, or the second where the first is hidden, as one is that is being defined.
 #[tactic(auto, using(crate::proofs::Passed::passes_hidden, crate::proofs::Passed::passes_none))]
 fn first_unhidden(memory: &Memory, start: u16) -> u16
-    ensures { (name : List ℕ) → PassesTo memory.now name start result }
+    ensures { (name : List ℕ) → PassesTo (stored memory.now) name start result }
 {
     let next = memory.cell(start);
     if next < start && is_hidden(memory, start) {
@@ -28,9 +29,9 @@ fn first_unhidden(memory: &Memory, start: u16) -> u16
 /// Whether the slots of a class are known from the member `first` of its chain on, which is seen to where it may be.
 fn is_known(memory: &Memory, index: &mut NameIndex, class: u8, first: u16, limit: u16) -> bool
     requires class { class < 4 }
-    requires holds { Holds limit index.old memory.now }
+    requires holds { Holds limit index.old (stored memory.now) }
     ensures head { IsTrue result → slice_index index.new.heads class ≡ first }
-    ensures holds { Holds limit index.new memory.now }
+    ensures holds { Holds limit index.new (stored memory.now) }
 {
     let known = index.head(class);
     if first == known {
@@ -51,9 +52,9 @@ fn search_forth(
     limit: u16,
 ) -> Result<Option<u16>, ChainTooLong>
     requires name { 0 < length name.now }
-    requires holds { Holds limit index.old memory.now }
-    ensures found { IsSought (sought_in memory.now 42 name.now) result }
-    ensures holds { Holds limit index.new memory.now }
+    requires holds { Holds limit index.old (stored memory.now) }
+    ensures found { IsSought (sought_in (stored memory.now) 42 name.now) result }
+    ensures holds { Holds limit index.new (stored memory.now) }
 {
     let _ = memory.len();
     let start = memory.cell(head_of(FORTH_VOC, name));
@@ -75,9 +76,9 @@ pub fn find_indexed(
     name: &[u8],
     limit: u16,
 ) -> Result<Option<u16>, ChainTooLong>
-    requires { Holds limit index.old memory.now }
-    ensures found { IsSought (sought memory.now name.now) result }
-    ensures holds { Holds limit index.new memory.now }
+    requires { Holds limit index.old (stored memory.now) }
+    ensures found { IsSought (sought (stored memory.now) name.now) result }
+    ensures holds { Holds limit index.new (stored memory.now) }
 {
     if name.is_empty() {
         return Ok(None);

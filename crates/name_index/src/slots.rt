@@ -1,6 +1,7 @@
 //! The table's slots: which one a name has.
 
 ghost use Rattle.std.specs.Prelude.{◌≡◌, ◌<◌, ◌+◌, ◌*◌, ◌%◌};
+ghost use Rattle.memory.specs.Mirrored.{stored};
 ghost use Rattle.dictionary.specs.Header.{name_of, name_length};
 ghost use Rattle.name_index.specs.Slots.{number_of, class_of, slot_in, slot_of};
 
@@ -58,7 +59,7 @@ pub fn slot_of(name: &[u8]) -> u16
 #[tactic(auto, using(crate::proofs::Numbers::number_pieces), unfolding(crate::specs::Slots::slot_in, dictionary::specs::Header::name_of))]
 pub fn slot_at(memory: &Memory, link_field: u16, class: u8) -> u16
     requires { class < 4 }
-    ensures value { result ≡ slot_in class (name_of memory.now link_field) }
+    ensures value { result ≡ slot_in class (name_of (stored memory.now) link_field) }
     ensures small { result < 8192 }
     ensures class { result % 4 ≡ class }
 {

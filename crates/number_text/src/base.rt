@@ -1,6 +1,7 @@
 //! The base that numbers are read and written in.
 
 ghost use Rattle.number_text.specs.Base.{IsBaseOf};
+ghost use Rattle.memory.specs.Mirrored.{stored};
 
 use memory::Memory;
 use memory::system::BASE;
@@ -14,7 +15,7 @@ pub struct BadBase;
 /// BASE, where it is a base.
 #[tactic(auto, unfolding(crate::specs::Base::has_base))]
 pub(crate) fn base_of(memory: &Memory) -> Result<u16, BadBase>
-    ensures { IsBaseOf memory.now result }
+    ensures { IsBaseOf (stored memory.now) result }
 {
     let base = memory.cell(BASE);
     if base < 2 {

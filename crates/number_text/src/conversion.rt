@@ -3,6 +3,7 @@
 ghost use Rattle.std.specs.Prelude.{◌≡◌, ◌+◌, length};
 ghost use Rattle.cells.specs.Cell.{wrap};
 ghost use Rattle.memory.specs.Bytes.{bytes};
+ghost use Rattle.memory.specs.Mirrored.{stored};
 ghost use Rattle.number_text.specs.Digits.{leading_digits, continued};
 ghost use Rattle.number_text.specs.Conversion.{IsConverted};
 
@@ -13,8 +14,8 @@ use memory::Memory;
 /// The number with the digits from `at` on after its own, and the place of the first byte that is none.
 #[tactic(auto, using(crate::proofs::Conversions::runs, memory::proofs::Ranges::ranges))]
 fn converted(memory: &Memory, number: u32, at: u16, base: u16) -> (u32, u16)
-    ensures number { result.0 ≡ continued base number (leading_digits base (bytes memory.now at 65535)) }
-    ensures place { result.1 ≡ wrap (at + length (leading_digits base (bytes memory.now at 65535))) }
+    ensures number { result.0 ≡ continued base number (leading_digits base (bytes (stored memory.now) at 65535)) }
+    ensures place { result.1 ≡ wrap (at + length (leading_digits base (bytes (stored memory.now) at 65535))) }
 {
     let _ = memory.len();
     let mut value = number;
@@ -37,7 +38,7 @@ fn converted(memory: &Memory, number: u32, at: u16, base: u16) -> (u32, u16)
 /// `BadBase` where BASE is outside 2 to 72. This is CONVERT of the Standard.
 #[tactic(auto, unfolding(crate::specs::Conversion::digits_behind, crate::specs::Conversion::address_behind))]
 pub fn convert(memory: &Memory, number: u32, at: u16) -> Result<(u32, u16), BadBase>
-    ensures { IsConverted memory.now number at result }
+    ensures { IsConverted (stored memory.now) number at result }
 {
     let base = base_of(memory)?;
     Ok(converted(memory, number, at.wrapping_add(1), base))

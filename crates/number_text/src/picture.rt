@@ -4,6 +4,7 @@
 ghost use Rattle.std.specs.Prelude.{◌≡◌, ◌<◌, ◌%◌, ℕ, All, IsTrue, OnOk, [], ◌∷◌, true, length, map, reverse, slice_index};
 ghost use Rattle.cells.specs.Cell.{difference};
 ghost use Rattle.memory.specs.Bytes.{cell};
+ghost use Rattle.memory.specs.Mirrored.{stored};
 ghost use Rattle.number_text.specs.Digits.{is_base, byte_of, are_digits, expansion, value, text_value};
 ghost use Rattle.number_text.specs.Picture.{pad, opened, held, signed_picture, put_down, IsDigitPictured, AreDigitsPictured, Shows};
 
@@ -18,7 +19,7 @@ const PAD_OFFSET: u16 = 340;
 /// PAD, where pictures end.
 #[tactic(auto, unfolding(crate::specs::Picture::pad))]
 pub fn pad(memory: &Memory) -> u16
-    ensures { result ≡ pad memory.now }
+    ensures { result ≡ pad (stored memory.now) }
 {
     memory.cell(DP).wrapping_add(PAD_OFFSET)
 }
@@ -26,7 +27,7 @@ pub fn pad(memory: &Memory) -> u16
 /// Begins a picture: HLD is PAD. This is `<#` of the Standard.
 #[tactic(auto, unfolding(crate::specs::Picture::opened))]
 pub fn open_picture(memory: &mut Memory)
-    ensures { memory.new ≡ opened memory.old }
+    ensures { stored memory.new ≡ opened (stored memory.old) }
 {
     let pad = pad(memory);
     memory.set_cell(HLD, pad);
@@ -35,7 +36,7 @@ pub fn open_picture(memory: &mut Memory)
 /// Puts a byte before the picture: HLD is lowered by one, and the byte goes there. This is HOLD of the Standard.
 #[tactic(auto, unfolding(crate::specs::Picture::held))]
 pub fn hold(memory: &mut Memory, byte: u8)
-    ensures { memory.new ≡ held memory.old byte }
+    ensures { stored memory.new ≡ held (stored memory.old) byte }
 {
     let place = memory.cell(HLD).wrapping_sub(1);
     memory.set_cell(HLD, place);
@@ -45,7 +46,7 @@ pub fn hold(memory: &mut Memory, byte: u8)
 /// Puts `-` before the picture where `n` is negative as a signed cell. This is SIGN of the Standard.
 #[tactic(auto, unfolding(crate::specs::Picture::signed_picture))]
 pub fn sign(memory: &mut Memory, n: u16)
-    ensures { memory.new ≡ signed_picture memory.old n }
+    ensures { stored memory.new ≡ signed_picture (stored memory.old) n }
 {
     if n >= 32768 {
         hold(memory, b'-');
@@ -65,7 +66,7 @@ fn lowest(number: u32, base: u32) -> u8
 /// `BadBase`, with memory as it was, where BASE is outside 2 to 72. This is `#` of the Standard.
 #[tactic(auto, unfolding(crate::specs::Picture::with_digit))]
 pub fn picture_digit(memory: &mut Memory, number: u32) -> Result<u32, BadBase>
-    ensures { IsDigitPictured memory.old memory.new number result }
+    ensures { IsDigitPictured (stored memory.old) (stored memory.new) number result }
 {
     let base = u32::from(base_of(memory)?);
     hold(memory, lowest(number, base));
@@ -91,7 +92,7 @@ fn digit_count(number: u32, base: u32) -> u16
 #[tactic(auto, using(crate::proofs::Expansions::puts))]
 fn put_digits(memory: &mut Memory, end: u16, number: u32, base: u32)
     requires { IsTrue (is_base base) }
-    ensures { memory.new ≡ put_down memory.old end (reverse (expansion base number)) }
+    ensures { stored memory.new ≡ put_down (stored memory.old) end (reverse (expansion base number)) }
 {
     let mut place = end;
     let mut rest = number;
@@ -109,8 +110,8 @@ fn put_digits(memory: &mut Memory, end: u16, number: u32, base: u32)
 /// `BadBase`, with memory as it was, where BASE is outside 2 to 72. This is `#S` of the Standard.
 #[tactic(auto, using(crate::proofs::Pictures::pictures), unfolding(crate::specs::Picture::with_digits))]
 pub fn picture_digits(memory: &mut Memory, number: u32) -> Result<(), BadBase>
-    ensures written { AreDigitsPictured memory.old memory.new number result }
-    ensures shown { OnOk result (Shows memory.old memory.new number) }
+    ensures written { AreDigitsPictured (stored memory.old) (stored memory.new) number result }
+    ensures shown { OnOk result (Shows (stored memory.old) (stored memory.new) number) }
 {
     let base = u32::from(base_of(memory)?);
     let end = memory.cell(HLD);
@@ -124,8 +125,8 @@ pub fn picture_digits(memory: &mut Memory, number: u32) -> Result<(), BadBase>
 /// The address and the length of the picture: HLD, and how far PAD is after it. This is `#>` of the Standard.
 #[tactic(auto, unfolding(crate::specs::Picture::pad))]
 pub fn close_picture(memory: &Memory) -> (u16, u16)
-    ensures address { result.0 ≡ cell memory.now 36 }
-    ensures len { result.1 ≡ difference (pad memory.now) (cell memory.now 36) }
+    ensures address { result.0 ≡ cell (stored memory.now) 36 }
+    ensures len { result.1 ≡ difference (pad (stored memory.now)) (cell (stored memory.now) 36) }
 {
     let start = memory.cell(HLD);
     (start, pad(memory).wrapping_sub(start))

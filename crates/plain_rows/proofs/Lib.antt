@@ -1,3 +1,4 @@
 pub mod Trimmed
 pub mod Tables
 pub mod Plain
+pub mod Moving

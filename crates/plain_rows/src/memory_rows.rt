@@ -3,6 +3,7 @@
 #![tactic(auto, using(machine_parts::proofs::Takes::takes))]
 
 ghost use Rattle.std.specs.Prelude.{◌≡◌};
+ghost use Rattle.memory.specs.Mirrored.{stored};
 ghost use Rattle.plain_rows.specs.MemoryRows.{fetch, store, plus_store, two_store, cmove, dash_trailing, trimmed, c_fetch, c_store, two_fetch, cmove_down, fill, count};
 
 use machine_parts::faults::DATA_UNDERFLOW;
@@ -12,7 +13,7 @@ use memory::Memory;
 
 #[tactic(auto, using(crate::proofs::Trimmed::trimmed_none, crate::proofs::Trimmed::trimmed_more))]
 fn trim(memory: &Memory, a: u16, u: u16) -> u16
-    ensures { result ≡ trimmed memory.now a u }
+    ensures { result ≡ trimmed (stored memory.now) a u }
 {
     let mut n = u;
     while n > 0 && memory.byte(a.wrapping_add(n - 1)) == b' ' {
@@ -159,6 +160,6 @@ pub fn dash_trailing(parts: &mut Parts) -> Outcome
     let Some((a, u)) = parts.values.top2() else {
         return Outcome::Fault(DATA_UNDERFLOW);
     };
-    let u2 = trim(&parts.memory, a, u);
+    let u2 = trim(parts.memory, a, u);
     leaves!(parts, 2, [a, u2])
 }

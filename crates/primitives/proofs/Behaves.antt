@@ -70,7 +70,7 @@ orderly_unassigned b h = record { buffers = are_unassigned b h.buffers; once = b
 
 keeps_all : (s : Whole) → Keeps s s
 unfolding after_references
-keeps_all s = record { memory = refl; values = refl; returns = refl; ip = refl; pending = refl; buffers = ([], refl); block_count = refl }
+keeps_all s = record { memory = refl; values = refl; returns = refl; ip = refl; pending = refl; buffers = ([], refl); block_count = refl; place = refl }
 
 stops_same : (s : Whole) (o : Outcome) → StopsKeeping s (s, o)
 stops_same s outcome.Done = tt
@@ -141,6 +141,7 @@ keeps_behind s t slot h = record {
   pending = h.pending;
   buffers = (slot ∷ h.buffers.0, h.buffers.1);
   block_count = h.block_count;
+  place = h.place;
 }
 
 stops_behind : (s : Whole) (slot : ℕ) (x : After) → StopsKeeping (record s { buffers = moved_front slot s.buffers }) x → StopsKeeping s x

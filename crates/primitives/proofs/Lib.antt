@@ -5,3 +5,4 @@ pub mod Behaves
 pub mod Rows
 pub mod Requests
 pub mod Short
+pub mod Moved

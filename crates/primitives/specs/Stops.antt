@@ -14,6 +14,7 @@ pub record Keeps (old new : Whole) : Type 0 where
   pub pending : new.pending ≡ old.pending
   pub buffers : IsReordered old.buffers new.buffers
   pub block_count : new.block_count ≡ old.block_count
+  pub place : new.place ≡ old.place
 
 -- a row that ends with a fault, with an abort or with a request writes nothing and takes nothing
 abbrev pub StopsKeeping : Whole → After → Type 0

@@ -108,7 +108,7 @@ pub fn allot(parts: &mut Parts) -> Outcome
     let Some(n) = parts.values.pick(0) else {
         return Outcome::Fault(DATA_UNDERFLOW);
     };
-    if compiling_words::allot(&mut parts.memory, n, parts.limit).is_err() {
+    if compiling_words::allot(parts.memory, n, parts.limit).is_err() {
         return Outcome::Fault(DICTIONARY_FULL);
     }
     parts.values.lower(1);
@@ -122,7 +122,7 @@ pub fn literal(parts: &mut Parts) -> Outcome
     let Some(x) = parts.values.pick(0) else {
         return Outcome::Fault(DATA_UNDERFLOW);
     };
-    let code = literal_code(&parts.memory, x);
+    let code = literal_code(parts.memory, x);
     compile(parts, &code, 1, &[])
 }
 
@@ -130,7 +130,7 @@ pub fn literal(parts: &mut Parts) -> Outcome
 pub fn compile_does(parts: &mut Parts) -> Outcome
     ensures { (parts.new, result) ≡ compile_does parts.old }
 {
-    let code = cell_bytes(runtime(&parts.memory, Control::Does));
+    let code = cell_bytes(runtime(parts.memory, Control::Does));
     compile(parts, &code, 0, &[])
 }
 
@@ -138,7 +138,7 @@ pub fn compile_does(parts: &mut Parts) -> Outcome
 pub fn if_row(parts: &mut Parts) -> Outcome
     ensures { (parts.new, result) ≡ if_row parts.old }
 {
-    let code = control_code(&parts.memory, Control::ZeroBranch, 0);
+    let code = control_code(parts.memory, Control::ZeroBranch, 0);
     let a = ahead(parts, 2);
     compile(parts, &code, 0, &[a])
 }
@@ -150,7 +150,7 @@ pub fn else_row(parts: &mut Parts) -> Outcome
     let Some(a) = parts.values.pick(0) else {
         return Outcome::Fault(DATA_UNDERFLOW);
     };
-    let code = control_code(&parts.memory, Control::Branch, 0);
+    let code = control_code(parts.memory, Control::Branch, 0);
     let a2 = ahead(parts, 2);
     resolve(parts, &code, a, 1, &[a2])
 }
@@ -176,7 +176,7 @@ pub fn until(parts: &mut Parts) -> Outcome
     let Some(a) = parts.values.pick(0) else {
         return Outcome::Fault(DATA_UNDERFLOW);
     };
-    let code = control_code(&parts.memory, Control::ZeroBranch, a);
+    let code = control_code(parts.memory, Control::ZeroBranch, a);
     compile(parts, &code, 1, &[])
 }
 
@@ -194,7 +194,7 @@ pub fn repeat(parts: &mut Parts) -> Outcome
     let Some((a, b)) = parts.values.top2() else {
         return Outcome::Fault(DATA_UNDERFLOW);
     };
-    let code = control_code(&parts.memory, Control::Branch, a);
+    let code = control_code(parts.memory, Control::Branch, a);
     resolve(parts, &code, b, 2, &[])
 }
 
@@ -205,7 +205,7 @@ pub fn again(parts: &mut Parts) -> Outcome
     let Some(a) = parts.values.pick(0) else {
         return Outcome::Fault(DATA_UNDERFLOW);
     };
-    let code = control_code(&parts.memory, Control::Branch, a);
+    let code = control_code(parts.memory, Control::Branch, a);
     compile(parts, &code, 1, &[])
 }
 
@@ -213,7 +213,7 @@ pub fn again(parts: &mut Parts) -> Outcome
 pub fn do_row(parts: &mut Parts) -> Outcome
     ensures { (parts.new, result) ≡ do_row parts.old }
 {
-    let code = control_code(&parts.memory, Control::Do, 0);
+    let code = control_code(parts.memory, Control::Do, 0);
     let a = ahead(parts, 2);
     let b = ahead(parts, 4);
     compile(parts, &code, 0, &top_first!([] a, b))
@@ -226,7 +226,7 @@ pub fn loop_row(parts: &mut Parts) -> Outcome
     let Some((a, b)) = parts.values.top2() else {
         return Outcome::Fault(DATA_UNDERFLOW);
     };
-    let code = control_code(&parts.memory, Control::Loop, b);
+    let code = control_code(parts.memory, Control::Loop, b);
     resolve(parts, &code, a, 2, &[])
 }
 
@@ -237,7 +237,7 @@ pub fn plus_loop(parts: &mut Parts) -> Outcome
     let Some((a, b)) = parts.values.top2() else {
         return Outcome::Fault(DATA_UNDERFLOW);
     };
-    let code = control_code(&parts.memory, Control::PlusLoop, b);
+    let code = control_code(parts.memory, Control::PlusLoop, b);
     resolve(parts, &code, a, 2, &[])
 }
 
@@ -245,7 +245,7 @@ pub fn plus_loop(parts: &mut Parts) -> Outcome
 pub fn mark_back(parts: &mut Parts) -> Outcome
     ensures { (parts.new, result) ≡ mark_back parts.old }
 {
-    let a = compiling_words::mark_back(&parts.memory);
+    let a = compiling_words::mark_back(parts.memory);
     leaves!(parts, 0, [a])
 }
 
@@ -274,7 +274,7 @@ pub fn resolve_forward(parts: &mut Parts) -> Outcome
     let Some(a) = parts.values.pick(0) else {
         return Outcome::Fault(DATA_UNDERFLOW);
     };
-    compiling_words::resolve_forward(&mut parts.memory, a);
+    compiling_words::resolve_forward(parts.memory, a);
     parts.index.note(a, 2);
     parts.values.lower(1);
     Outcome::Done

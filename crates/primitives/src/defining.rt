@@ -57,7 +57,7 @@ pub fn bracket_tick(parts: &mut Parts) -> Outcome
 {
     match read_word(parts) {
         Ok((word, w)) => {
-            let code = literal_code(&parts.memory, w);
+            let code = literal_code(parts.memory, w);
             lay_past(parts, word, &code)
         }
         Err(outcome) => outcome,
@@ -82,15 +82,15 @@ fn quote(parts: &mut Parts, shows: TextWord) -> Outcome
         Ok(stream) => stream,
         Err(outcome) => return outcome,
     };
-    let word = parse_to(&parts.memory, stream, b'"');
+    let word = parse_to(parts.memory, stream, b'"');
     if word.len > 255 {
         return Outcome::Fault(BAD_LENGTH);
     }
     if !parts.has_room(3 + word.len as usize) {
         return Outcome::Fault(DICTIONARY_FULL);
     }
-    let bytes = word_bytes(&parts.memory, stream, word);
-    let token = runtime_of(&parts.memory, shows);
+    let bytes = word_bytes(parts.memory, stream, word);
+    let token = runtime_of(parts.memory, shows);
     let here = parts.memory.cell(DP);
     pass(parts, word);
     lay_text(parts, here, token, &bytes[..word.len as usize]);

@@ -31,8 +31,8 @@ pub fn find(parts: &mut Parts) -> Outcome
     };
     match sought_at(parts, a) {
         Ok(Some(link_field)) => {
-            let w = compilation_address(&parts.memory, link_field);
-            let flag = if is_immediate(&parts.memory, link_field) {
+            let w = compilation_address(parts.memory, link_field);
+            let flag = if is_immediate(parts.memory, link_field) {
                 1
             } else {
                 65535
@@ -78,16 +78,16 @@ pub fn make_header(
     requires { length extra.now ≤ 10 }
     ensures { IsHeaderMade parts.old parts.new stream hidden code extra.now result }
 {
-    let word = next_word(&parts.memory, stream, b' ');
+    let word = next_word(parts.memory, stream, b' ');
     if word.len == 0 || word.len > 31 {
         return Err(Outcome::Fault(BAD_LENGTH));
     }
     if !parts.has_room(7 + word.len as usize + extra.len()) {
         return Err(Outcome::Fault(DICTIONARY_FULL));
     }
-    let bytes = word_bytes(&parts.memory, stream, word);
+    let bytes = word_bytes(parts.memory, stream, word);
     let name = &bytes[..word.len as usize];
-    let site = Site::of(&parts.memory, name);
+    let site = Site::of(parts.memory, name);
     pass(parts, word);
     write_header(parts, site, name, code, extra, hidden);
     Ok(site.here.wrapping_add(7 + word.len))
@@ -131,8 +131,8 @@ pub fn create(parts: &mut Parts) -> Outcome
 pub fn immediate(parts: &mut Parts) -> Outcome
     ensures { (parts.new, result) ≡ immediate parts.old }
 {
-    let at = newest_count(&parts.memory);
-    set_immediate(&mut parts.memory);
+    let at = newest_count(parts.memory);
+    set_immediate(parts.memory);
     parts.index.note(at, 1);
     Outcome::Done
 }
@@ -147,12 +147,12 @@ pub fn forget(parts: &mut Parts) -> Outcome
         Ok(stream) => stream,
         Err(outcome) => return outcome,
     };
-    let word = next_word(&parts.memory, stream, b' ');
-    match target_in(&parts.memory, stream, word) {
+    let word = next_word(parts.memory, stream, b' ');
+    match target_in(parts.memory, stream, word) {
         Ok(target) => {
             let before = parts.memory.snapshot();
             pass(parts, word);
-            cut_by(&mut parts.memory, &before, target);
+            cut_by(parts.memory, &before, target);
             parts.index.clear();
             Outcome::Done
         }
@@ -184,7 +184,7 @@ pub fn here(parts: &mut Parts) -> Outcome
 pub fn pad_row(parts: &mut Parts) -> Outcome
     ensures { (parts.new, result) ≡ pad_row parts.old }
 {
-    let pad = number_text::pad(&parts.memory);
+    let pad = number_text::pad(parts.memory);
     leaves!(parts, 0, [pad])
 }
 

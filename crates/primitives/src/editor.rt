@@ -6,6 +6,7 @@ ghost use Rattle.std.specs.Prelude.{◌≡◌, ◌<◌, ◌≤◌, ◌+◌, leng
 ghost use Rattle.block_buffers.specs.Entries.{address_of};
 ghost use Rattle.block_buffers.specs.Screens.{blank_screen, line_start, line_deleted};
 ghost use Rattle.memory.specs.Bytes.{cell, front_put, page, put_cell, with_page};
+ghost use Rattle.memory.specs.Mirrored.{stored};
 ghost use Rattle.primitives.specs.Blocks.{IsFetched};
 ghost use Rattle.primitives.specs.Editor.{line_text, line, edited, edits, put, insert, delete, wipe};
 
@@ -49,7 +50,7 @@ fn put_front(line: &mut [u8], bytes: &[u8])
 #[tactic(auto, unfolding(crate::specs::Editor::line_text, block_buffers::specs::Screens::blank_line, input_source::specs::Words::bytes_in))]
 fn line_text(memory: &Memory, stream: Stream) -> [u8; 64]
     requires { stream.place ≤ stream.size }
-    ensures { result ≡ line_text memory.now stream }
+    ensures { result ≡ line_text (stored memory.now) stream }
 {
     let word = Word {
         at: stream.place,
@@ -109,7 +110,7 @@ fn edit_in(parts: &mut Parts, slot: usize, edit: Edit, n: u16, stream: Stream)
     }) }
 {
     let at = parts.buffers.address_of(slot);
-    let text = line_text(&parts.memory, stream);
+    let text = line_text(parts.memory, stream);
     let mut screen = *parts.memory.page(at);
     edit_screen(&mut screen, edit, n, &text);
     parts.set_cell(TO_IN, stream.size);

@@ -3,6 +3,7 @@
 #![tactic(auto, using(crate::proofs::Searching::searching))]
 
 ghost use Rattle.std.specs.Prelude.{◌≡◌, ◌++◌, length};
+ghost use Rattle.memory.specs.Mirrored.{stored};
 ghost use Rattle.input_source.specs.Words.{bytes_in};
 ghost use Rattle.compiling_words.specs.Code.{literal_code};
 ghost use Rattle.primitives.specs.Interpret.{compiles_past, found_word, single_word, double_word, number_word, interpret};
@@ -41,8 +42,8 @@ fn compile_past(parts: &mut Parts, word: Word, bytes: &[u8]) -> Outcome
 fn take_word(parts: &mut Parts, word: Word, link_field: u16) -> Outcome
     ensures { (parts.new, result) ≡ found_word parts.old word link_field }
 {
-    let w = compilation_address(&parts.memory, link_field);
-    if is_immediate(&parts.memory, link_field) {
+    let w = compilation_address(parts.memory, link_field);
+    if is_immediate(parts.memory, link_field) {
         return leave_past(parts, word, &top_first!([] w, 1));
     }
     if parts.memory.cell(STATE) == 0 {
@@ -53,8 +54,8 @@ fn take_word(parts: &mut Parts, word: Word, link_field: u16) -> Outcome
 
 /// The code of a double: the literals of its low and its high cell.
 fn literals_code(memory: &Memory, low: u16, high: u16) -> [u8; 8]
-    ensures value { result ≡ literal_code memory.now low ++ literal_code memory.now high }
-    ensures len { length (literal_code memory.now low ++ literal_code memory.now high) ≡ 8 }
+    ensures value { result ≡ literal_code (stored memory.now) low ++ literal_code (stored memory.now) high }
+    ensures len { length (literal_code (stored memory.now) low ++ literal_code (stored memory.now) high) ≡ 8 }
 {
     let [a, b, c, d] = literal_code(memory, low);
     let [e, f, g, h] = literal_code(memory, high);
@@ -68,7 +69,7 @@ fn take_single(parts: &mut Parts, word: Word, x: u16) -> Outcome
     if parts.memory.cell(STATE) == 0 {
         return leave_past(parts, word, &top_first!([] x, 65535));
     }
-    let code = literal_code(&parts.memory, x);
+    let code = literal_code(parts.memory, x);
     compile_past(parts, word, &code)
 }
 
@@ -81,7 +82,7 @@ fn take_double(parts: &mut Parts, word: Word, n: u32) -> Outcome
     if parts.memory.cell(STATE) == 0 {
         return leave_past(parts, word, &top_first!([] low, high, 65535));
     }
-    let code = literals_code(&parts.memory, low, high);
+    let code = literals_code(parts.memory, low, high);
     compile_past(parts, word, &code)
 }
 
@@ -94,7 +95,7 @@ fn take_number(parts: &mut Parts, stream: Stream, word: Word) -> Outcome
     if base < 2 || base > 72 {
         return Outcome::Fault(BAD_BASE);
     }
-    match number_in(&parts.memory, stream, word, base) {
+    match number_in(parts.memory, stream, word, base) {
         Some(Number::Single(x)) => take_single(parts, word, x),
         Some(Number::Double(n)) => take_double(parts, word, n),
         None => Outcome::Fault(NOT_FOUND),
@@ -109,7 +110,7 @@ pub fn interpret(parts: &mut Parts) -> Outcome
         Ok(stream) => stream,
         Err(outcome) => return outcome,
     };
-    let word = next_word(&parts.memory, stream, b' ');
+    let word = next_word(parts.memory, stream, b' ');
     if word.len == 0 {
         return leave_past(parts, word, &[0]);
     }

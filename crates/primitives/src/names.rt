@@ -5,6 +5,7 @@ ghost use Rattle.std.specs.Prelude.{◌≡◌, ◌<◌, ◌≤◌, ◌+◌, ◌+
 ghost use Rattle.dictionary.specs.Forgetting.{target};
 ghost use Rattle.input_source.specs.Words.{bytes_in};
 ghost use Rattle.memory.specs.Bytes.{bytes};
+ghost use Rattle.memory.specs.Mirrored.{stored};
 ghost use Rattle.number_text.specs.Numbers.{IsNumber, IsNoNumber};
 ghost use Rattle.dictionary.specs.Search.{sought, IsSought};
 ghost use Rattle.primitives.specs.Names.{counted_string, IsWordRead};
@@ -28,12 +29,7 @@ fn sought_in_pieces(parts: &mut Parts, from: u16, n: u16) -> Result<Option<u16>,
     let _ = parts.memory.len();
     let (head, tail) = parts.memory.span(from, n);
     let name = Text::joined(head, tail);
-    find_indexed(
-        &parts.memory,
-        &mut parts.index,
-        name.as_slice(),
-        parts.limit,
-    )
+    find_indexed(parts.memory, &mut parts.index, name.as_slice(), parts.limit)
 }
 
 /// The link field of the header that the `n` bytes from `from` on mean.
@@ -44,7 +40,7 @@ fn sought_bytes(parts: &mut Parts, from: u16, n: u16) -> Result<Option<u16>, Cha
 {
     let (head, tail) = parts.memory.span(from, n);
     if tail.is_empty() {
-        return find_indexed(&parts.memory, &mut parts.index, head, parts.limit);
+        return find_indexed(parts.memory, &mut parts.index, head, parts.limit);
     }
     sought_in_pieces(parts, from, n)
 }
@@ -64,12 +60,12 @@ pub fn read_word(parts: &mut Parts) -> Result<(Word, u16), Outcome>
     ensures { IsWordRead parts.old parts.new result }
 {
     let stream = open(parts)?;
-    let word = next_word(&parts.memory, stream, b' ');
+    let word = next_word(parts.memory, stream, b' ');
     if word.len == 0 {
         return Err(Outcome::Fault(BAD_LENGTH));
     }
     match sought(parts, stream, word) {
-        Ok(Some(link_field)) => Ok((word, compilation_address(&parts.memory, link_field))),
+        Ok(Some(link_field)) => Ok((word, compilation_address(parts.memory, link_field))),
         Ok(None) => Err(Outcome::Fault(NOT_FOUND)),
         Err(_) => Err(Outcome::Fault(CHAIN_TOO_LONG)),
     }
@@ -88,8 +84,8 @@ pub fn sought_at(parts: &mut Parts, a: u16) -> Result<Option<u16>, ChainTooLong>
 /// The number that a word of the stream spells.
 #[tactic(auto, using(crate::proofs::Pieces::all_in_front), unfolding(input_source::specs::Words::bytes_in))]
 pub fn number_in(memory: &Memory, stream: Stream, word: Word, base: u16) -> Option<Number>
-    ensures { MatchOption result (IsNoNumber base (bytes_in memory.now stream word))
-        (IsNumber base (bytes_in memory.now stream word)) }
+    ensures { MatchOption result (IsNoNumber base (bytes_in (stored memory.now) stream word))
+        (IsNumber base (bytes_in (stored memory.now) stream word)) }
 {
     let (head, tail) = memory.span(stream.at.wrapping_add(word.at), word.len);
     if tail.is_empty() {
@@ -104,7 +100,7 @@ pub fn number_in(memory: &Memory, stream: Stream, word: Word, base: u16) -> Opti
 /// Where the header begins that a word of the stream means for FORGET.
 #[tactic(auto, using(crate::proofs::Pieces::all_in_front), unfolding(input_source::specs::Words::bytes_in))]
 pub fn target_in(memory: &Memory, stream: Stream, word: Word) -> Result<u16, ForgetFault>
-    ensures { result ≡ target memory.now (bytes_in memory.now stream word) }
+    ensures { result ≡ target (stored memory.now) (bytes_in (stored memory.now) stream word) }
 {
     let (head, tail) = memory.span(stream.at.wrapping_add(word.at), word.len);
     if tail.is_empty() {
@@ -115,7 +111,7 @@ pub fn target_in(memory: &Memory, stream: Stream, word: Word) -> Result<u16, For
 
 #[tactic(auto, using(crate::proofs::Short::target_short))]
 fn target_in_pieces(memory: &Memory, head: &[u8], tail: &[u8]) -> Result<u16, ForgetFault>
-    ensures { result ≡ target memory.now (head.now ++ tail.now) }
+    ensures { result ≡ target (stored memory.now) (head.now ++ tail.now) }
 {
     let _ = memory.len();
     let name = Text::joined(head, tail);

@@ -5,6 +5,7 @@
 ghost use Rattle.std.specs.Prelude.{◌≡◌};
 ghost use Rattle.cells.specs.Cell.{difference};
 ghost use Rattle.memory.specs.Bytes.{cell};
+ghost use Rattle.memory.specs.Mirrored.{stored};
 ghost use Rattle.memory.specs.declared.system.TheConstants.{HLD};
 ghost use Rattle.primitives.specs.Numbers.{open_picture, picture_digit, picture_digits, close_picture, hold, sign, convert};
 
@@ -20,7 +21,7 @@ const MOST_DIGITS: u16 = 32;
 
 /// Where the next byte of the picture goes.
 fn next_place(memory: &Memory) -> u16
-    ensures { result ≡ difference (cell memory.now HLD) 1 }
+    ensures { result ≡ difference (cell (stored memory.now) HLD) 1 }
 {
     memory.cell(HLD).wrapping_sub(1)
 }
@@ -30,7 +31,7 @@ fn next_place(memory: &Memory) -> u16
 pub fn open_picture(parts: &mut Parts) -> Outcome
     ensures { (parts.new, result) ≡ open_picture parts.old }
 {
-    number_text::open_picture(&mut parts.memory);
+    number_text::open_picture(parts.memory);
     Outcome::Done
 }
 
@@ -41,8 +42,8 @@ pub fn picture_digit(parts: &mut Parts) -> Outcome
     let Some((low, high)) = parts.values.top2() else {
         return Outcome::Fault(DATA_UNDERFLOW);
     };
-    let place = next_place(&parts.memory);
-    let Ok(rest) = number_text::picture_digit(&mut parts.memory, double_of(low, high)) else {
+    let place = next_place(parts.memory);
+    let Ok(rest) = number_text::picture_digit(parts.memory, double_of(low, high)) else {
         return Outcome::Fault(BAD_BASE);
     };
     parts.index.note(place, 1);
@@ -60,7 +61,7 @@ pub fn picture_digits(parts: &mut Parts) -> Outcome
         return Outcome::Fault(DATA_UNDERFLOW);
     };
     let end = parts.memory.cell(HLD);
-    let Ok(()) = number_text::picture_digits(&mut parts.memory, double_of(low, high)) else {
+    let Ok(()) = number_text::picture_digits(parts.memory, double_of(low, high)) else {
         return Outcome::Fault(BAD_BASE);
     };
     parts.index.note(end.wrapping_sub(MOST_DIGITS), MOST_DIGITS);
@@ -77,7 +78,7 @@ pub fn close_picture(parts: &mut Parts) -> Outcome
     if parts.values.depth() < 2 {
         return Outcome::Fault(DATA_UNDERFLOW);
     }
-    let (address, length) = number_text::close_picture(&parts.memory);
+    let (address, length) = number_text::close_picture(parts.memory);
     leaves!(parts, 2, [address, length])
 }
 
@@ -89,8 +90,8 @@ pub fn hold(parts: &mut Parts) -> Outcome
         return Outcome::Fault(DATA_UNDERFLOW);
     };
     parts.values.lower(1);
-    let place = next_place(&parts.memory);
-    number_text::hold(&mut parts.memory, (c % 256) as u8);
+    let place = next_place(parts.memory);
+    number_text::hold(parts.memory, (c % 256) as u8);
     parts.index.note(place, 1);
     Outcome::Done
 }
@@ -103,8 +104,8 @@ pub fn sign(parts: &mut Parts) -> Outcome
         return Outcome::Fault(DATA_UNDERFLOW);
     };
     parts.values.lower(1);
-    let place = next_place(&parts.memory);
-    number_text::sign(&mut parts.memory, n);
+    let place = next_place(parts.memory);
+    number_text::sign(parts.memory, n);
     if n >= 32768 {
         parts.index.note(place, 1);
     }
@@ -118,7 +119,7 @@ pub fn convert(parts: &mut Parts) -> Outcome
     let Some((low, high, at)) = parts.values.top3() else {
         return Outcome::Fault(DATA_UNDERFLOW);
     };
-    let Ok((number, behind)) = number_text::convert(&parts.memory, double_of(low, high), at) else {
+    let Ok((number, behind)) = number_text::convert(parts.memory, double_of(low, high), at) else {
         return Outcome::Fault(BAD_BASE);
     };
     let (high, low) = ((number / 65536) as u16, (number % 65536) as u16);

@@ -18,7 +18,7 @@ pub fn open(parts: &mut Parts) -> Result<Stream, Outcome>
     ensures { IsOpened parts.old parts.new result }
 {
     let block = parts.memory.cell(BLK);
-    let Ok(stream) = stream(&parts.memory, &parts.buffers) else {
+    let Ok(stream) = stream(parts.memory, &parts.buffers) else {
         return Err(without_block(parts, block));
     };
     if block == 0 {
@@ -49,7 +49,7 @@ pub fn word(parts: &mut Parts) -> Outcome
         Ok(stream) => stream,
         Err(outcome) => return outcome,
     };
-    let word = next_word(&parts.memory, stream, (c % 256) as u8);
+    let word = next_word(parts.memory, stream, (c % 256) as u8);
     let Ok(here) = place_word(parts, stream, word) else {
         return Outcome::Fault(BAD_LENGTH);
     };
@@ -66,7 +66,7 @@ pub fn paren(parts: &mut Parts) -> Outcome
         Ok(stream) => stream,
         Err(outcome) => return outcome,
     };
-    let word = parse_to(&parts.memory, stream, b')');
+    let word = parse_to(parts.memory, stream, b')');
     pass(parts, word);
     Outcome::Done
 }
@@ -79,7 +79,7 @@ pub fn dot_paren(parts: &mut Parts) -> Outcome
         Ok(stream) => stream,
         Err(outcome) => return outcome,
     };
-    let word = parse_to(&parts.memory, stream, b')');
+    let word = parse_to(parts.memory, stream, b')');
     pass(parts, word);
     Outcome::Show(Span {
         at: stream.at.wrapping_add(word.at),

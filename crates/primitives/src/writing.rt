@@ -48,7 +48,7 @@ pub fn write_header(
     ensures { parts.new ≡ (record parts.old
         { memory = with_header_at site parts.old.memory name.now code extra.now hidden }) }
 {
-    site.write(&mut parts.memory, name, code, extra, hidden);
+    site.write(parts.memory, name, code, extra, hidden);
     let size = FIXED_SIZE + name.len() as u16 + extra.len() as u16;
     note_header(&mut parts.index, site.here, size, site.head);
 }
@@ -59,7 +59,7 @@ pub fn lay_text(parts: &mut Parts, here: u16, token: u16, text: &[u8])
     requires { length text.now ≤ 255 }
     ensures { parts.new ≡ (record parts.old { memory = laid_at here parts.old.memory (text_code token text.now) }) }
 {
-    compiling_words::lay_text(&mut parts.memory, here, token, text);
+    compiling_words::lay_text(parts.memory, here, token, text);
     parts.index.note(here, 3 + text.len() as u16);
 }
 
@@ -70,7 +70,7 @@ pub fn place_word(parts: &mut Parts, stream: Stream, word: Word) -> Result<u16, 
     ensures same { parts.new ≡ (record parts.old { memory = parts.new.memory }) }
 {
     let _ = parts.memory.len();
-    match input_source::place_word(&mut parts.memory, stream, word) {
+    match input_source::place_word(parts.memory, stream, word) {
         Ok(here) => {
             parts.index.note(here, word.len + 2);
             Ok(here)
@@ -86,8 +86,8 @@ pub fn end_definition(parts: &mut Parts) -> Result<(), Full>
     ensures same { parts.new ≡ (record parts.old { memory = parts.new.memory }) }
 {
     let here = parts.memory.cell(DP);
-    let count = newest_count(&parts.memory);
-    match compiling_words::end_definition(&mut parts.memory, parts.limit) {
+    let count = newest_count(parts.memory);
+    match compiling_words::end_definition(parts.memory, parts.limit) {
         Ok(()) => {
             parts.index.note(here, 2);
             parts.index.note(count, 1);

@@ -1,6 +1,7 @@
 //! What the cells of a thread are called, and what can't be printed.
 
 ghost use Rattle.std.specs.Prelude.{◌≡◌, ◌==◌, true, false, not, IfOk, MatchOption};
+ghost use Rattle.memory.specs.Mirrored.{stored};
 ghost use Rattle.std.specs.List.{list_all};
 ghost use Rattle.dictionary.specs.Header.{name_of};
 ghost use Rattle.dictionary.specs.Search.{Found, sought_hiding};
@@ -14,7 +15,7 @@ use std::alloc::{AllocError, Global};
 /// The name of a header.
 #[tactic(auto, unfolding(dictionary::specs::Header::name_of))]
 fn name_of(alloc: Global, memory: &Memory, l: u16) -> Result<Vec<u8>, AllocError>
-    ensures { IfOk result (λ v. v.items ≡ name_of memory.now l) }
+    ensures { IfOk result (λ v. v.items ≡ name_of (stored memory.now) l) }
 {
     copied(
         alloc,
@@ -26,7 +27,7 @@ fn name_of(alloc: Global, memory: &Memory, l: u16) -> Result<Vec<u8>, AllocError
 
 /// The name of an address, by its header; the empty one where it has none.
 pub fn name_if(alloc: Global, memory: &Memory, header: Option<u16>) -> Result<Vec<u8>, AllocError>
-    ensures { IfOk result (λ v. v.items ≡ name_if memory.now header) }
+    ensures { IfOk result (λ v. v.items ≡ name_if (stored memory.now) header) }
 {
     match header {
         Some(l) => name_of(alloc, memory, l),
@@ -64,8 +65,8 @@ pub fn is_quotable(text: &[u8]) -> bool
 /// address.
 #[tactic(auto, unfolding(crate::specs::Naming::is_meant))]
 pub fn meant(memory: &Memory, hidden: u16, name: &[u8], w: u16) -> Option<u16>
-    ensures { MatchOption result (is_meant memory.now hidden name.now w ≡ false)
-        (λ k. (is_meant memory.now hidden name.now w ≡ true) × (sought_hiding memory.now name.now hidden ≡ Found k)) }
+    ensures { MatchOption result (is_meant (stored memory.now) hidden name.now w ≡ false)
+        (λ k. (is_meant (stored memory.now) hidden name.now w ≡ true) × (sought_hiding (stored memory.now) name.now hidden ≡ Found k)) }
 {
     match search_hiding(memory, name, hidden) {
         Ok(Some(k)) => {
@@ -81,7 +82,7 @@ pub fn meant(memory: &Memory, hidden: u16, name: &[u8], w: u16) -> Option<u16>
 /// Whether the search of a name ends with none.
 #[tactic(auto, unfolding(crate::specs::Naming::is_free))]
 pub fn is_free(memory: &Memory, hidden: u16, name: &[u8]) -> bool
-    ensures { result ≡ is_free memory.now hidden name.now }
+    ensures { result ≡ is_free (stored memory.now) hidden name.now }
 {
     matches!(search_hiding(memory, name, hidden), Ok(None))
 }

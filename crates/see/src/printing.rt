@@ -1,6 +1,7 @@
 //! A definition as text.
 
 ghost use Rattle.std.specs.Prelude.{◌≡◌, ◌||◌, ◌++◌, true, [], ◌∷◌, map, codes, Some, IfOk};
+ghost use Rattle.memory.specs.Mirrored.{stored};
 ghost use Rattle.dictionary.specs.Header.{is_immediate};
 ghost use Rattle.dictionary.specs.Order.{headers};
 ghost use Rattle.source_words.specs.Spaced.{bare, spaced, spaced_behind, quoted};
@@ -99,7 +100,7 @@ fn write_called(out: &mut Vec<u8>, forced: bool, name: &[u8]) -> Result<(), Allo
 fn write_meant(out: &mut Vec<u8>, memory: &Memory, k: u16, name: &[u8]) -> Result<(), AllocError>
     ensures { IfOk result
         (λ _. out.new.items ≡ out.old.items ++ spaced_behind
-        (called (is_immediate memory.now k || is_keyword name.now) name.now)) }
+        (called (is_immediate (stored memory.now) k || is_keyword name.now) name.now)) }
 {
     let forced = is_immediate(memory, k) || is_keyword(name);
     write_called(out, forced, name)
@@ -115,8 +116,8 @@ fn show_name(
     hidden: u16,
     w: u16,
 ) -> Result<(), SeeRefused>
-    requires { listed.now ≡ headers memory.now }
-    ensures { IsWritten memory.now hidden (NAME w ∷ []) out.old.items out.new.items result }
+    requires { listed.now ≡ headers (stored memory.now) }
+    ensures { IsWritten (stored memory.now) hidden (NAME w ∷ []) out.old.items out.new.items result }
 {
     let name = name_if(alloc, memory, header_at(memory, listed, w))?;
     if !is_word(&name) {
@@ -139,7 +140,7 @@ fn show_number(
     hidden: u16,
     n: u16,
 ) -> Result<(), SeeRefused>
-    ensures { IsWritten memory.now hidden (NUMBER n ∷ []) out.old.items out.new.items result }
+    ensures { IsWritten (stored memory.now) hidden (NUMBER n ∷ []) out.old.items out.new.items result }
 {
     let text = number_text(alloc, n)?;
     let text = text.as_str().as_bytes();
@@ -158,7 +159,7 @@ fn show_text(
     aborts: bool,
     text: &[u8],
 ) -> Result<(), SeeRefused>
-    ensures { IsWritten memory.now hidden (TEXT aborts text.now ∷ []) out.old.items out.new.items result }
+    ensures { IsWritten (stored memory.now) hidden (TEXT aborts text.now ∷ []) out.old.items out.new.items result }
 {
     if !is_quotable(text) {
         return Err(SeeRefused::BadText);
@@ -176,8 +177,8 @@ fn show_word(
     hidden: u16,
     word: BodyWord,
 ) -> Result<(), SeeRefused>
-    requires { listed.now ≡ headers memory.now }
-    ensures { IsWritten memory.now hidden (token word.entry ∷ []) out.old.items out.new.items result }
+    requires { listed.now ≡ headers (stored memory.now) }
+    ensures { IsWritten (stored memory.now) hidden (token word.entry ∷ []) out.old.items out.new.items result }
 {
     match word {
         BodyWord::Name(w) => show_name(alloc, out, memory, listed, hidden, w),
@@ -199,8 +200,8 @@ pub fn show_words(
     hidden: u16,
     words: &[BodyWord],
 ) -> Result<(), SeeRefused>
-    requires { listed.now ≡ headers memory.now }
-    ensures { IsWritten memory.now hidden (map token words.now) out.old.items out.new.items result }
+    requires { listed.now ≡ headers (stored memory.now) }
+    ensures { IsWritten (stored memory.now) hidden (map token words.now) out.old.items out.new.items result }
 {
     for word in words.iter() {
         show_word(alloc, out, memory, listed, hidden, *word)?;

@@ -1,6 +1,7 @@
 //! A colon word as the text of its definition.
 
 ghost use Rattle.std.specs.Prelude.{◌≡◌, ℕ, IfErr, IfOk, map};
+ghost use Rattle.memory.specs.Mirrored.{stored};
 ghost use Rattle.dictionary.specs.Order.{headers};
 ghost use Rattle.dictionary.specs.Search.{Found, sought};
 ghost use Rattle.colon_bodies.specs.Draft.{token};
@@ -30,8 +31,8 @@ fn show(
     name: &[u8],
     words: &[BodyWord],
 ) -> Result<Vec<u8>, SeeRefused>
-    requires { listed.now ≡ headers memory.now }
-    ensures { IsPrinted memory.now l name.now (map token words.now) result }
+    requires { listed.now ≡ headers (stored memory.now) }
+    ensures { IsPrinted (stored memory.now) l name.now (map token words.now) result }
 {
     if !is_word(name) {
         return Err(SeeRefused::Nameless(compilation_address(memory, l)));
@@ -50,8 +51,8 @@ fn see_colon(
     l: u16,
     name: &[u8],
 ) -> Result<Vec<u8>, SeeRefused>
-    requires { listed.now ≡ headers memory.now }
-    ensures { IsColon memory.now name.now l → IsSeen memory.now name.now result }
+    requires { listed.now ≡ headers (stored memory.now) }
+    ensures { IsColon (stored memory.now) name.now l → IsSeen (stored memory.now) name.now result }
 {
     let at = parameter_field(memory, l);
     let controls = controls_of(alloc, memory)?;
@@ -64,7 +65,7 @@ fn see_colon(
 
 /// The word whose header is at `l`, as text.
 fn see_header(alloc: Global, memory: &Memory, l: u16, name: &[u8]) -> Result<Vec<u8>, SeeRefused>
-    ensures { sought memory.now name.now ≡ Found l → IsSeen memory.now name.now result }
+    ensures { sought (stored memory.now) name.now ≡ Found l → IsSeen (stored memory.now) name.now result }
 {
     let listed = match headers_in_order(alloc, memory) {
         Ok(listed) => listed,
@@ -79,7 +80,7 @@ fn see_header(alloc: Global, memory: &Memory, l: u16, name: &[u8]) -> Result<Vec
 
 /// The word that a name means, as text.
 fn see_named(alloc: Global, memory: &Memory, name: &[u8]) -> Result<Vec<u8>, SeeRefused>
-    ensures { IsSeen memory.now name.now result }
+    ensures { IsSeen (stored memory.now) name.now result }
 {
     match search(memory, name) {
         Ok(Some(l)) => see_header(alloc, memory, l, name),
@@ -93,10 +94,10 @@ fn see_named(alloc: Global, memory: &Memory, name: &[u8]) -> Result<Vec<u8>, See
 /// the word's thread again. The refusals are those of `SeeRefused`.
 #[tactic(auto, using(crate::proofs::Answered::none_refused, crate::proofs::Whole::seen_read))]
 pub fn see(alloc: Global, memory: &Memory, name: &[u8]) -> Result<Vec<u8>, SeeRefused>
-    ensures seen { IsSeen memory.now name.now result }
-    ensures read { IfOk result (λ v. IsReadBack memory.now name.now v.items) }
-    ensures complete { (l : ℕ) (d : Definition) → IsDefined memory.now name.now l d →
-        IsReadable memory.now l name.now (its_words d) → IfErr result (λ e. e ≡ OutOfMemory) }
+    ensures seen { IsSeen (stored memory.now) name.now result }
+    ensures read { IfOk result (λ v. IsReadBack (stored memory.now) name.now v.items) }
+    ensures complete { (l : ℕ) (d : Definition) → IsDefined (stored memory.now) name.now l d →
+        IsReadable (stored memory.now) l name.now (its_words d) → IfErr result (λ e. e ≡ OutOfMemory) }
 {
     see_named(alloc, memory, name)
 }

@@ -1,6 +1,7 @@
 //! A session, over values: an image that is run for someone at a terminal, or for a script.
 
 ghost use Rattle.std.specs.Prelude.{◌≡◌, ◌⊎◌, ◌<◌, ◌++◌, [], false, true, IsNone, IfOk, OnErr, if◌then◌else◌};
+ghost use Rattle.memory.specs.Mirrored.{stored};
 ghost use Rattle.session_runs.specs.Saving.{kept_blocks};
 ghost use Rattle.image_loader.specs.declared.fault.ImageFault.{ImageFault};
 ghost use Rattle.inner_interpreter.specs.Reports.{run_ends};
@@ -39,7 +40,7 @@ pub struct Wanted {
 
 /// The word that an interrupted session goes on with, where the image has it.
 fn break_word(memory: &Memory) -> Option<u16>
-    ensures { result ≡ break_word memory.now }
+    ensures { result ≡ break_word (stored memory.now) }
 {
     match find(memory, b"BREAK") {
         Ok(Some(word)) => Some(word),
@@ -148,9 +149,9 @@ fn sit<R: Input, W: Output, D: Device, H: SessionHost>(
     ensures writer { OnErr result (writer.new ≡ writer.old) }
     ensures device { OnErr result (device.new ≡ device.old) }
 {
-    let Ok(mut machine) = Machine::load(alloc, image, device.count()) else {
-        return Err(OutOfMemory);
-    };
+    let mut memory = Memory::with_front(alloc, image.bytes())?;
+    let memory: &mut Memory = &mut memory;
+    let mut machine = Machine::load(alloc, memory, image, device.count())?;
     let word = break_word(machine.memory());
     let ending = run_sliced(
         alloc,

@@ -2,7 +2,7 @@
 
 ghost use Rattle.std.specs.Prelude.{◌≡◌, None, Some, true, false, IsTrue, IsOkAnd, IsErrOf, OnOk, OnErr, ◌≤◌, ◌<◌, All, length};
 ghost use Rattle.std.specs.List.{list_all};
-ghost use Rattle.machine.specs.Answer.{fits_request, seen, IsSpelled, answered, is_line, TakesFit, RefusesHalted, RefusesUnfit, line_shown, key_answered, line_answered, read_answered, write_answered, input_stopped, is_typed};
+ghost use Rattle.machine.specs.Answer.{asked_by, fits_request, is_answer, seen, IsSpelled, answered, is_line, TakesFit, RefusesHalted, RefusesUnfit, line_shown, key_answered, line_answered, read_answered, write_answered, input_stopped, is_typed};
 
 use super::{Machine, quiet};
 use crate::act::{Act, Answer, Cause, Event, Refused, Shown};
@@ -43,7 +43,35 @@ fn line_shown(at: u16, len: u16, returned: bool) -> Shown
     }
 }
 
-impl Machine {
+impl<'a> Answer<'a> {
+    /// Whether a machine that waits so takes this answer, unless it is halted.
+    pub fn fits(&self, wait: Option<(Request, u16)>) -> bool
+        ensures { result ≡ is_answer (asked_by wait) (seen self.now) }
+    {
+        let Some((request, _)) = wait else {
+            return false;
+        };
+        match request {
+            Request::Key => matches!(self, Answer::Key(_) | Answer::InputEnd | Answer::InputFault),
+            Request::Line { n } => self.fits_line(n),
+            Request::Read { block: _ } => matches!(self, Answer::ReadOk(_) | Answer::ReadFault),
+            Request::Write { block: _ } => matches!(self, Answer::WriteOk | Answer::WriteFault),
+        }
+    }
+
+    /// Whether it answers a request for a line of at most `n` bytes.
+    fn fits_line(&self, n: u16) -> bool
+        ensures { result ≡ fits_request (Request.Line n) (seen self.now) }
+    {
+        match self {
+            Answer::Line { bytes, returned } => is_line(n, bytes, *returned),
+            Answer::InputEnd | Answer::InputFault => true,
+            _ => false,
+        }
+    }
+}
+
+impl<'m> Machine<'m> {
     /// The answer to the request that waits. `Halted` where the machine is; else `NotAsked` where no request
     /// is, or the answer doesn't fit it. The machine is then unchanged.
     #[tactic(auto, unfolding(crate::specs::Answer::answer_of))]

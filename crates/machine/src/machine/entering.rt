@@ -1,12 +1,16 @@
 //! What a host does with a machine beside its moves: a word is entered, a cell is written, memory is saved as an image.
 
 ghost use Rattle.std.specs.Prelude.{◌≡◌, None, IsSome, IsTrue, IsFalse, IfOk, IfErr, OnErr, IsErrOf};
+ghost use Rattle.memory.specs.Mirrored.{stored};
+ghost use Rattle.machine_parts.specs.Whole.{Whole};
 ghost use Rattle.machine.specs.Tick.{Runs, is_running};
 ghost use Rattle.machine.specs.Entering.{entered, with_parts, with_cell, can_save, saved};
 
 use super::Machine;
 use crate::act::Refused;
+use block_buffers::buffers::Buffers;
 use image_loader::Image;
+use memory::Memory;
 use memory::system::DP;
 use std::alloc::Global;
 use thiserror::Error;
@@ -22,7 +26,7 @@ pub enum SaveRefused {
     OutOfMemory,
 }
 
-impl Machine {
+impl<'m> Machine<'m> {
     /// Enters a word: the return stack is emptied, `ip` is 0, and the word comes next. `Halted` where the machine is, else
     /// `Waiting` while a request waits; it is then unchanged.
     pub fn enter(&mut self, word: u16) -> Result<(), Refused>
@@ -53,22 +57,40 @@ impl Machine {
 
     /// Memory up to HERE as an image with as many block buffers, which starts with the word at `entry`. `BadSize` where
     /// HERE is no size of such an image.
-    #[tactic(auto, unfolding(crate::specs::Entering::can_save))]
     pub fn save(&self, alloc: Global, entry: u16) -> Result<Image, SaveRefused>
         ensures saved { IfOk result (λ image. image ≡ saved self.now.parts entry) }
         ensures fits { IfOk result (λ _. IsTrue (can_save self.now.parts)) }
         ensures size { IsFalse (can_save self.now.parts) → IsErrOf result SaveRefused.BadSize }
         ensures room { IfErr result (λ e. e ≡ SaveRefused.BadSize → IsFalse (can_save self.now.parts)) }
     {
-        let here = self.parts.memory.cell(DP);
-        let limit = self.parts.buffers.limit();
-        if here < 256 || here > limit {
-            return Err(SaveRefused::BadSize);
-        }
-        let memory = self.parts.memory.as_slice();
-        match memory[..here as usize].to_vec(alloc) {
-            Ok(bytes) => Ok(Image::new(self.parts.buffers.count(), entry, bytes)),
-            Err(_) => Err(SaveRefused::OutOfMemory),
-        }
+        save_memory(alloc, self.parts.memory, &self.parts.buffers, entry)
+    }
+}
+
+/// The same of memory and buffers that no machine has now.
+#[tactic(auto, unfolding(crate::specs::Entering::can_save))]
+pub fn save_memory(
+    alloc: Global,
+    memory: &Memory,
+    buffers: &Buffers,
+    entry: u16,
+) -> Result<Image, SaveRefused>
+    ensures saved { (s : Whole) → s.memory ≡ stored memory.now → s.buffers ≡ buffers.now →
+        IfOk result (λ image. image ≡ saved s entry) }
+    ensures fits { (s : Whole) → s.memory ≡ stored memory.now → s.buffers ≡ buffers.now →
+        IfOk result (λ _. IsTrue (can_save s)) }
+    ensures size { (s : Whole) → s.memory ≡ stored memory.now → s.buffers ≡ buffers.now →
+        IsFalse (can_save s) → IsErrOf result SaveRefused.BadSize }
+    ensures room { (s : Whole) → s.memory ≡ stored memory.now → s.buffers ≡ buffers.now →
+        IfErr result (λ e. e ≡ SaveRefused.BadSize → IsFalse (can_save s)) }
+{
+    let here = memory.cell(DP);
+    let limit = buffers.limit();
+    if here < 256 || here > limit {
+        return Err(SaveRefused::BadSize);
+    }
+    match memory.as_slice()[..here as usize].to_vec(alloc) {
+        Ok(bytes) => Ok(Image::new(buffers.count(), entry, bytes)),
+        Err(_) => Err(SaveRefused::OutOfMemory),
     }
 }

@@ -1,3 +1,4 @@
+use Rattle.memory.specs.Mirrored.{stored}
 use Rattle.std.proofs.Common.{◌≡◌, ◌+◌, ◌≤◌}
 use Rattle.memory.specs.Bytes.{cell}
 use Rattle.dictionary.specs.Order.{reached}
@@ -6,7 +7,7 @@ use Rattle.dictionary.proofs.counting.is_beyond_limit.Given as goal
 abbrev pub invariant-loop-left : goal.invariant-loop-left
 invariant-loop-left l = record {
   most : l.count ≤ 32768;
-  count : l.count + reached l.memory l.left l.r ≡ reached l.memory 32769 (cell l.memory 52);
+  count : l.count + reached (stored l.memory) l.left l.r ≡ reached (stored l.memory) 32769 (cell (stored l.memory) 52);
 }
 
 abbrev pub decreases-loop-left : goal.decreases-loop-left

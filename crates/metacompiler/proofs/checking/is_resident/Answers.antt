@@ -1,3 +1,4 @@
+use Rattle.memory.specs.Mirrored.{stored}
 use Rattle.std.proofs.Common.{rules, ◌≡◌, ◌∙◌, ap, sym, true, List, ℕ}
 use Rattle.std.specs.Prelude.{codes}
 use Rattle.dictionary.specs.Search.{Found, sought, by_address}
@@ -7,7 +8,7 @@ use Rattle.metacompiler.proofs.checking.is_resident.Goals as goal
 
 pub returns : goal.returns
 returns c = λ t.
-    let m = c.args.memory.now in
+    let m = (stored c.args.memory.now) in
     let word = c.in-Ok-Some.word in
     let hs = c.push_all.new.headers.items in
     let found : by_address m (sought m (codes "INTERPRET")) ≡ Found word = search rules in

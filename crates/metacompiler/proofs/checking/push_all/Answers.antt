@@ -1,3 +1,4 @@
+use Rattle.memory.specs.Mirrored.{stored}
 use Rattle.std.proofs.Common.{rules}
 use Rattle.memory.specs.Bytes.{cell}
 use Rattle.memory.specs.declared.system.TheConstants.{CURRENT, CONTEXT}
@@ -7,7 +8,7 @@ use Rattle.metacompiler.proofs.checking.push_all.Goals as goal
 
 pub returns : goal.returns
 returns c =
-    let m = c.args.memory.now in
+    let m = (stored c.args.memory.now) in
     let p : JoinedAll m (cell m CURRENT) c.args.headers.now.items c.push_vocabulary.new.headers.items = search rules in
     let q : JoinedAll m (cell m CONTEXT) c.push_vocabulary.new.headers.items c.push_vocabulary-2.new.headers.items = search rules in
     where_true c.push_vocabulary-3.result (JoinedAll m 42 c.push_vocabulary-2.new.headers.items c.push_vocabulary-3.new.headers.items) (HasChains m c.push_vocabulary-3.new.headers.items) c.push_vocabulary-3.ensures

@@ -1,3 +1,4 @@
+use Rattle.memory.specs.Mirrored.{stored}
 use Rattle.std.proofs.Common.{rules, ◌+◌}
 use Rattle.cells.specs.Cell.{wrap}
 use Rattle.metacompiler.specs.Residency.{Joined, JoinedAll}
@@ -6,7 +7,7 @@ use Rattle.metacompiler.proofs.checking.push_vocabulary.Goals as goal
 
 pub returns : goal.returns
 returns c =
-    let m = c.args.memory.now in
+    let m = (stored c.args.memory.now) in
     let voc = c.args.voc in
     let p : Joined m voc c.args.headers.now.items c.push_chain.new.headers.items = search rules in
     let q : Joined m (wrap (voc + 2)) c.push_chain.new.headers.items c.push_chain-2.new.headers.items = search rules in

@@ -1,4 +1,7 @@
-use Rattle.std.proofs.Common.{Ok, Err, refl}
+use Rattle.std.proofs.Common.{Ok, Err, refl, subst}
+use Rattle.memory.specs.declared.Memory.{Memory}
+use Rattle.memory.specs.Mirrored.{stored}
+use Rattle.see.specs.Seeing.{IsSeen}
 use Rattle.subcommands.proofs.Told.{answered, in_memory, not_read, refused_so, said, seen, seen_none}
 use Rattle.subcommands.proofs.see_command.do_see.Goals as goal
 
@@ -10,8 +13,9 @@ returns-in_default-clause-seen g c = λ fine file is. seen_none _ _ _ _ _ (c.pri
 
 pub returns-in-Ok-see-clause-seen : goal.returns-in-Ok-see-clause-seen
 returns-in-Ok-see-clause-seen g c = λ fine file is.
-    let m = in_memory c.in-Ok.image file c.in-Ok-with_front.memory c.bytes.result.now (c.in-Ok.ensures.accepted file is) c.bytes.ensures.bytes c.in-Ok-with_front.ensures in
-    seen _ _ _ _ (Ok c.in-Ok-see.text) _ _ _ m c.as_bytes.ensures.value c.in-Ok-see.ensures.seen
+    let m = in_memory c.in-Ok.image file (stored c.in-Ok-with_front.memory.value) c.bytes.result.now (c.in-Ok.ensures.accepted file is) c.bytes.ensures.bytes c.in-Ok-with_front.ensures in
+    let is_seen = subst (λ (b : Memory). IsSeen (stored b) c.as_bytes.result.now (Ok c.in-Ok-see.text)) c.deref.ensures c.in-Ok-see.ensures.seen in
+    seen _ _ _ _ (Ok c.in-Ok-see.text) _ _ _ m c.as_bytes.ensures.value is_seen
     (said c.in-Ok-see.text _ c.args.name.now _ _ _ c.as_slice.ensures.value (c.print_definition.ensures.printed fine))
 
 pub returns-in-Err-clause-refused : goal.returns-in-Err-clause-refused
