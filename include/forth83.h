@@ -16,7 +16,7 @@ extern "C" {
 #endif
 
 /* The version of the library, as the file VERSION has it. */
-#define FORTH83_VERSION "1.0.0"
+#define FORTH83_VERSION "2.0.0"
 
 /* The layout of the records below; each record that was loaded has it as `abi`. */
 #define FORTH83_ABI 2
@@ -31,7 +31,7 @@ extern "C" {
 enum forth83_status {
   FORTH83_DONE = 0,
   FORTH83_NO_MACHINE = 1,     /* the record keeps no machine */
-  FORTH83_OUT_OF_MEMORY = 2,  /* malloc gave no memory: for an image, or for the table of names of a run or an answer */
+  FORTH83_OUT_OF_MEMORY = 2,  /* no call answers it any more; the number is kept */
   FORTH83_SHORT_ROOM = 3,     /* no room for what is shown, or too little for a file */
   FORTH83_TRUNCATED = 4,      /* an image's file that ends too soon */
   FORTH83_TRAILING_BYTES = 5, /* bytes after an image's file */
@@ -117,7 +117,8 @@ typedef struct forth83_end {
   uint16_t len;   /* how many they are; 0 after any other stop */
 } forth83_end;
 
-/* Loads an image, of which these are the bytes of the file, for a device of block_count blocks. */
+/* Loads an image, of which these are the bytes of the file, for a device of block_count blocks. They are copied into the record, so
+ * they may lie in flash, and need not be kept. */
 uint32_t forth83_load(const uint8_t *image, uint64_t image_size, uint32_t block_count, forth83 *machine);
 
 /* Goes on with the machine: by the typed bytes, for at most limit ticks, up to where the host is needed. With room for FORTH83_ROOM
@@ -147,7 +148,8 @@ uint32_t forth83_enter(forth83 *machine, uint16_t word);
 uint32_t forth83_push(forth83 *machine, uint16_t x);
 uint32_t forth83_pop(forth83 *machine, uint16_t *x);
 
-/* Saves memory up to HERE as an image that starts with the word at entry: puts its file into file, and its size into size. */
+/* Saves memory up to HERE as an image that starts with the word at entry: puts its file into file, and its size into size. With 63,504
+ * bytes of room each file fits. Bytes after the file stay as they were. */
 uint32_t forth83_save(const forth83 *machine, uint16_t entry, uint8_t *file, uint64_t file_size, uint64_t *size);
 
 /* A cell of memory is two bytes, the low one first, and memory goes on at address 0 after its end. These are the header's own

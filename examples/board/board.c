@@ -160,6 +160,6 @@ int main(void)
     while (status == FORTH83_DONE && stop != FORTH83_STOP_HALTED)
         status = step(&stop);
     if (status != FORTH83_DONE)
-        put_text(status == FORTH83_OUT_OF_MEMORY ? "out of memory\r\n" : "no machine\r\n");
+        put_text("no machine\r\n");
     return status != FORTH83_DONE;
 }

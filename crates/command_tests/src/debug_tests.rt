@@ -214,9 +214,7 @@ fn cut_behind(alloc: Global, trace: &mut FailingWriter) -> Result<Cut, Fail> {
         return Err("no memory".into());
     };
     let memory: &mut Memory = &mut memory;
-    let Ok(mut machine) = Machine::load(alloc, memory, &image, 0) else {
-        return Err("no machine".into());
-    };
+    let mut machine = Machine::load(alloc, memory, &image, 0);
     let mut device = MemoryDevice::new(Vec::new(alloc), Vec::new(alloc));
     let mut writer = Writing::new(Vec::new(alloc));
     let mut reader = Reading::new(b"".as_slice());

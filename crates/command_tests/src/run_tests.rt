@@ -89,9 +89,7 @@ fn a_machine_runs_to_its_end(rt: HostRuntime) -> Result<(), Fail> {
         return Err("no memory".into());
     };
     let memory: &mut Memory = &mut memory;
-    let Ok(mut machine) = Machine::load(alloc, memory, &image, 0) else {
-        return Err("no machine".into());
-    };
+    let mut machine = Machine::load(alloc, memory, &image, 0);
     let mut reader = Reading::new(b"".as_slice());
     let mut writer = Writing::new(Vec::new(alloc));
     let mut blocks = none(alloc);

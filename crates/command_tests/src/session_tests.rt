@@ -174,9 +174,7 @@ fn moves_of_a_host(rt: HostRuntime) -> Result<(), Fail> {
         return Err("no memory".into());
     };
     let memory: &mut Memory = &mut memory;
-    let Ok(mut machine) = Machine::load(alloc, memory, &image, 0) else {
-        return Err("no machine".into());
-    };
+    let mut machine = Machine::load(alloc, memory, &image, 0);
     let mut events = Vec::new(alloc);
     let mut writer = Writing::telling(Vec::new(alloc));
     let line = Answer::Line {

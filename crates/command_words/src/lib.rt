@@ -23,7 +23,7 @@ use std::{env, io};
 use subcommands::command;
 
 /// The program's version, which `--version` shows.
-const VERSION: &str = "1.0.0";
+const VERSION: &str = "2.0.0";
 
 /// A subcommand with its words.
 #[derive(Drop)]

@@ -150,11 +150,8 @@ impl Format {
         skew: &[usize],
     ) -> Result<Layout, Cause>
         ensures layout { IfOk result (λ l. l ≡ changed (layout_of self) offset sector skew.now) }
-        ensures cause { MatchResult result
-            (λ _. misfit (changed (layout_of self) offset sector skew.now).sector
-            (changed (layout_of self) offset sector skew.now).order ≡ None)
-            (IsWhy (misfit (changed (layout_of self) offset sector skew.now).sector
-            (changed (layout_of self) offset sector skew.now).order)) }
+        ensures cause { let l = changed (layout_of self) offset sector skew.now in
+            MatchResult result (λ _. misfit l.sector l.order ≡ None) (IsWhy (misfit l.sector l.order)) }
     {
         let offset = offset.unwrap_or(self.offset());
         let sector = sector.unwrap_or(self.sector());

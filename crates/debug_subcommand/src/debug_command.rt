@@ -57,9 +57,7 @@ pub fn do_debug<R: Input, W: Output, D: Device, T: Output>(
         return print_out_of_memory(writer);
     };
     let memory: &mut Memory = &mut memory;
-    let Ok(mut machine) = Machine::load(alloc, memory, &image, device.count()) else {
-        return print_out_of_memory(writer);
-    };
+    let mut machine = Machine::load(alloc, memory, &image, device.count());
     let text = name.as_bytes();
     match debug(
         alloc,

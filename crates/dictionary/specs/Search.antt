@@ -1,4 +1,4 @@
-use Rattle.std.specs.Prelude.{ℕ, ◌+◌, ◌*◌, ◌%◌, List, ◌==◌, ◌≡◌, if◌then◌else◌, Bool, length, slice_index, find, Option, Some, None, Result, Ok, Err}
+use Rattle.std.specs.Prelude.{ℕ, ◌+◌, ◌*◌, ◌%◌, ◌<◌, ◌≤◌, List, ◌==◌, ◌≡◌, if◌then◌else◌, Bool, All, length, slice_index, find, Option, Some, None, Result, Ok, Err}
 use Rattle.cells.specs.Cell.{wrap}
 use Rattle.memory.specs.Bytes.{cell}
 use Rattle.memory.specs.declared.system.TheConstants.{CONTEXT, FORTH_VOC}
@@ -75,6 +75,15 @@ searched_in m voc name = chain m 32768 (cell m (head_of voc name))
 
 unfoldable pub goes_on_in : List ℕ → ℕ → List ℕ → Bool
 goes_on_in m voc name = is_longer m 32768 (cell m (head_of voc name))
+
+-- said of the members of a name's chain in a vocabulary: the name is not empty, and a search looks at all of them
+abbrev pub OfWholeChain : List ℕ → ℕ → List ℕ → (List ℕ → Type 0) → Type 0
+OfWholeChain m voc name P = 0 < length name → length (chain_in m voc name) ≤ 32768 → P (chain_in m voc name)
+
+-- said of two memories in which a search for a name looks at the same members, and the same of them have that name
+abbrev pub OfChainsAlike : (m n : List ℕ) → ℕ → List ℕ → Type 0 → Type 0
+OfChainsAlike m n voc name P =
+    searched_in m voc name ≡ searched_in n voc name → All (λ k. is_named m name k ≡ is_named n name k) (searched_in m voc name) → P
 
 -- what is answered of a search: the header's link field, none, or that a chain is too long
 abbrev pub IsSought : Sought → Result (Option ℕ) ChainTooLong → Type 0

@@ -6,7 +6,7 @@ ghost use Rattle.memory.specs.Bytes.{cell};
 ghost use Rattle.memory.specs.declared.system.TheConstants.{FORTH_VOC, VOC_LINK};
 ghost use Rattle.dictionary.specs.Header.{count_byte, name_length, is_hidden, is_immediate, is_named};
 ghost use Rattle.dictionary.specs.Chain.{IsNewest};
-ghost use Rattle.dictionary.specs.Search.{Found, Nowhere, chain_in, searched_in, goes_on_in, sought_in, sought_from};
+ghost use Rattle.dictionary.specs.Search.{Found, Nowhere, OfWholeChain, OfChainsAlike, goes_on_in, sought_in, sought_from};
 ghost use Rattle.dictionary.specs.Adding.{is_name, new_count};
 ghost use Rattle.dictionary.specs.Newest.{revealed};
 ghost use Rattle.dictionary.specs.Order.{members, all_members, headers};
@@ -15,24 +15,21 @@ ghost use Rattle.dictionary.specs.Forgetting.{first_below};
 /// Where a name is unhidden in its chain, and the chain has no more than 32,768 members, a search gives the newest
 /// header of that name. Where it isn't one, the search in FORTH decides.
 pub fn search_law()
-    ensures newest { (m name : List ℕ) (voc l : ℕ) → 0 < length name → length (chain_in m voc name) ≤ 32768
-        → Contains (chain_in m voc name) l → IsTrue (is_named m name l)
-        → (k : ℕ) × (sought_from m voc name ≡ Found k) × IsNewest (is_named m name) (chain_in m voc name) k }
-    ensures forth { (m name : List ℕ) (voc : ℕ) → 0 < length name → length (chain_in m voc name) ≤ 32768
-        → All (λ l. IsFalse (is_named m name l)) (chain_in m voc name)
-        → sought_from m voc name ≡ sought_in m FORTH_VOC name }
+    ensures newest { (m name : List ℕ) (voc l : ℕ) → OfWholeChain m voc name (λ members.
+        Contains members l → IsTrue (is_named m name l) →
+        (k : ℕ) × (sought_from m voc name ≡ Found k) × IsNewest (is_named m name) members k) }
+    ensures forth { (m name : List ℕ) (voc : ℕ) → OfWholeChain m voc name (λ members.
+        All (λ l. IsFalse (is_named m name l)) members → sought_from m voc name ≡ sought_in m FORTH_VOC name) }
 {}
 
 /// A search looks at 32,768 members of a chain: where these are the same in two memories and have the same names, it
 /// finds the same, and where both chains end there or both go on, it comes to the same. What comes after them doesn't
 /// matter.
 pub fn walk_law()
-    ensures found { (m n name : List ℕ) (voc l : ℕ) → searched_in m voc name ≡ searched_in n voc name
-        → All (λ k. is_named m name k ≡ is_named n name k) (searched_in m voc name)
-        → sought_in m voc name ≡ Found l → sought_in n voc name ≡ Found l }
-    ensures same { (m n name : List ℕ) (voc : ℕ) → searched_in m voc name ≡ searched_in n voc name
-        → All (λ k. is_named m name k ≡ is_named n name k) (searched_in m voc name)
-        → goes_on_in m voc name ≡ goes_on_in n voc name → sought_in m voc name ≡ sought_in n voc name }
+    ensures found { (m n name : List ℕ) (voc l : ℕ) → OfChainsAlike m n voc name
+        (sought_in m voc name ≡ Found l → sought_in n voc name ≡ Found l) }
+    ensures same { (m n name : List ℕ) (voc : ℕ) → OfChainsAlike m n voc name
+        (goes_on_in m voc name ≡ goes_on_in n voc name → sought_in m voc name ≡ sought_in n voc name) }
 {}
 
 /// A name of no or of more than 31 bytes is never found, and for the empty name no chain is walked.

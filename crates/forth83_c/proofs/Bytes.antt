@@ -1,15 +1,7 @@
 -- Bytes of memory, and bytes that are put one after the other.
-use Rattle.std.proofs.Common.{◌≡◌, sym, subst, ℕ, ◌+◌, ◌-◌, ◌≤◌, List, length, arith, take, drop, replicate, [], ◌++◌, ap, ◌∙◌, append-nil, append_assoc}
-use Rattle.std.proofs.lemmas.List.{drop-replicate, drop-drop}
+use Rattle.std.proofs.Common.{◌≡◌, sym, subst, ℕ, ◌+◌, ◌-◌, ◌≤◌, List, length, arith, take, drop, ◌++◌, ap, ◌∙◌, append_assoc}
+use Rattle.std.proofs.lemmas.List.{drop-drop}
 use Rattle.std.proofs.lemmas.Grind.{common_steps}
-use Rattle.memory.specs.Bytes.{front_put, zeros}
-
-pub all_of_memory : (bs : List ℕ) → length bs ≡ 65536 → front_put bs zeros ≡ bs
-unfolding front_put zeros
-all_of_memory bs e =
-    let less : 65536 - length bs ≡ 0 = omega (arith, e) in
-    let none : drop (length bs) (replicate 65536 0) ≡ [] = drop-replicate (length bs) 65536 0 ∙ ap (λ k. replicate k 0) less in
-    ap (λ r. bs ++ r) none ∙ append-nil bs
 
 -- bytes that were put after the first ones
 pub put_behind : (xs bs : List ℕ) (at end : ℕ) → end ≡ at + length bs → at + length bs ≤ length xs

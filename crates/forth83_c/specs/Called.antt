@@ -95,11 +95,10 @@ WhyNotFound name s status.NotFound = sought s.parts.memory name ≡ Nowhere
 WhyNotFound name s status.ChainTooLong = sought s.parts.memory name ≡ TooLong
 WhyNotFound name s _ = ⊥
 
--- what a status says of the record that a call was lent: it is no machine's; or it is one, and the call was done or memory
--- was refused; or it keeps a state to which the call does nothing
+-- what a status says of the record that a call was lent: it is no machine's; or it is one, and the call was done; or it keeps a state
+-- to which the call does nothing
 abbrev pub Tells : (State → Status → Type 0) → Forth83 → Status → Type 0
 Tells Why k status.NoMachine = ¬ IsRecord k
-Tells Why k status.OutOfMemory = IsRecord k
 Tells Why k status.Done = IsRecord k
 Tells Why k other = (s : State) × IsKept k s × Why s other
 

@@ -1,5 +1,5 @@
 -- How far a call drives a machine: rounds of a run, up to where its host is needed.
-use Rattle.std.specs.Prelude.{◌≡◌, ℕ, ◌+◌, ◌<◌, ◌≤◌, nat_le, true, List, [], ◌∷◌, ◌++◌, length, Option, None, Some, IsSome, if◌then◌else◌}
+use Rattle.std.specs.Prelude.{◌≡◌, ℕ, ◌+◌, ◌<◌, ◌≤◌, nat_le, true, List, [], ◌∷◌, ◌++◌, length, take, drop, Option, None, Some, IsSome, if◌then◌else◌}
 use Rattle.std.specs.List.{list_all}
 use Rattle.block_buffers.specs.Disks.{Disk}
 use Rattle.memory.specs.Bytes.{bytes}
@@ -9,6 +9,7 @@ use Rattle.machine.specs.Answer.{asked_by, is_typed}
 use Rattle.inner_interpreter.specs.Requests.{asks_device}
 use Rattle.inner_interpreter.specs.Runs.{World, rounds}
 use Rattle.machine.specs.State.{State}
+use Rattle.forth83_c.specs.declared.driving.Course.{Course}
 use Rattle.forth83_c.specs.declared.stop.Stop.{Stop}
 use Rattle.forth83_c.specs.declared.stop.Stop.TheVariants.{Halted, Limit, Room, Typed, Block, Span, Line as LineLeft}
 
@@ -60,3 +61,9 @@ told _ memory put = put
 abbrev pub told_by : Option Stop → (memory put : List ℕ) → List ℕ
 told_by None memory put = put
 told_by (Some stop) memory put = told stop memory put
+
+-- a step of a call drives on: the call has read so many of the typed bytes and shown so many bytes of its room before it, and after it
+abbrev pub StepsOn : (typed : List ℕ) → State → Course → (room : List ℕ) → State → Course → (room' : List ℕ) → Option Stop → Type 0
+StepsOn typed s course room s' course' room' stop =
+    DrivesOn s (drop course.read typed) (take course.shown room) course.left
+    s' (drop course'.read typed) (told_by stop s'.parts.memory (take course'.shown room')) course'.left

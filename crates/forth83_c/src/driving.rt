@@ -7,7 +7,7 @@ ghost use Rattle.machine.specs.Answer.{answer_of, asked_by, is_typed};
 ghost use Rattle.inner_interpreter.specs.Lines.{line_reply};
 ghost use Rattle.machine.specs.Tick.{Runs};
 ghost use Rattle.inner_interpreter.specs.Worlds.{rounds_left};
-ghost use Rattle.forth83_c.specs.Driven.{IsDriven, DrivesOn, HasStopped, least_room, told, told_by};
+ghost use Rattle.forth83_c.specs.Driven.{IsDriven, DrivesOn, StepsOn, HasStopped, least_room, told, told_by};
 
 use crate::lines::whole_line;
 use crate::showing::{least_room, show};
@@ -68,9 +68,7 @@ fn answer_key(
     requires read { course.old.read ≤ length typed.now }
     requires inside { course.old.shown ≤ length out.old }
     requires room { least_room (length out.old) ≤ length out.old - course.old.shown }
-    ensures on { DrivesOn machine.old (drop course.old.read typed.now) (take course.old.shown out.old) course.old.left
-        machine.new (drop course.new.read typed.now) (told_by result machine.new.parts.memory (take course.new.shown out.new))
-        course.new.left }
+    ensures on { StepsOn typed.now machine.old course.old out.old machine.new course.new out.new result }
     ensures stopped { IfSome result (λ stop. HasStopped stop machine.new (drop course.new.read typed.now) course.new.left
         (length out.new) (length out.new - course.new.shown)) }
     ensures settled { IsNone result → machine.new.wait ≡ None }
@@ -133,9 +131,7 @@ fn answer_line(
     requires read { course.old.read ≤ length typed.now }
     requires inside { course.old.shown ≤ length out.old }
     requires room { least_room (length out.old) ≤ length out.old - course.old.shown }
-    ensures on { DrivesOn machine.old (drop course.old.read typed.now) (take course.old.shown out.old) course.old.left
-        machine.new (drop course.new.read typed.now) (told_by result machine.new.parts.memory (take course.new.shown out.new))
-        course.new.left }
+    ensures on { StepsOn typed.now machine.old course.old out.old machine.new course.new out.new result }
     ensures stopped { IfSome result (λ stop. HasStopped stop machine.new (drop course.new.read typed.now) course.new.left
         (length out.new) (length out.new - course.new.shown)) }
     ensures settled { IsNone result → machine.new.wait ≡ None }
@@ -163,9 +159,7 @@ fn answer_line(
 fn step(machine: &mut Machine, typed: &[u8], out: &mut [u8], course: &mut Course) -> Option<Stop>
     requires read { course.old.read ≤ length typed.now }
     requires shown { course.old.shown ≤ length out.old }
-    ensures on { DrivesOn machine.old (drop course.old.read typed.now) (take course.old.shown out.old) course.old.left
-        machine.new (drop course.new.read typed.now) (told_by result machine.new.parts.memory (take course.new.shown out.new))
-        course.new.left }
+    ensures on { StepsOn typed.now machine.old course.old out.old machine.new course.new out.new result }
     ensures stopped { IfSome result (λ stop. HasStopped stop machine.new (drop course.new.read typed.now) course.new.left
         (length out.new) (length out.new - course.new.shown)) }
     ensures fewer { IsNone result →

@@ -28,19 +28,15 @@ use std::alloc::Global;
 
 /// Loads an image, of which `image` are the bytes of the file, for a device of `block_count` blocks.
 #[unsafe(no_mangle)]
-pub extern "C" fn forth83_load(
-    alloc: Global,
-    image: &[u8],
-    block_count: u32,
-    machine: &mut Forth83,
-) -> u32
+pub extern "C" fn forth83_load(image: &[u8], block_count: u32, machine: &mut Forth83) -> u32
     // What is kept then is the machine that the file's image starts with.
     ensures loaded { (contents : Contents) → IsFile image.now contents → result ≡ 0 →
         IsKept machine.new (start contents block_count) }
     ensures found { result ≡ 0 → (contents : Contents) × IsFile image.now contents }
 
-    // Each file is loaded, unless memory runs out.
-    ensures accepted { (contents : Contents) → IsFile image.now contents → (result ≡ 0) ⊎ (result ≡ 2) }
+    // Each file is loaded: no memory is asked for.
+    ensures accepted { (contents : Contents) → IsFile image.now contents → result ≡ 0 }
+    ensures known { result ≢ 2 }
 
     // Other bytes are refused by the first field that fits no file.
     ensures truncated { IsCutShort image.now → result ≡ 4 }
@@ -53,7 +49,7 @@ pub extern "C" fn forth83_load(
     // Where it is refused the record is as it was.
     ensures stays { result ≢ 0 → machine.new ≡ machine.old }
 {
-    running::load(alloc, image, block_count, machine).code()
+    running::load(image, block_count, machine).code()
 }
 
 /// Goes on with the machine: by the typed bytes, for at most `limit` ticks, up to where the host is needed. What it shows is
@@ -71,9 +67,8 @@ pub extern "C" fn forth83_run(
     ensures ran { result ≡ 0 → HasRun machine.old machine.new typed.now shown.new limit end.new }
     ensures beyond { result ≡ 0 → drop end.new.shown shown.new ≡ drop end.new.shown shown.old }
 
-    // It is refused where there is no room, where the record keeps no machine, or where memory runs out; all is then
-    // as it was.
-    ensures refused { (result ≡ 0) ⊎ ((result ≡ 1) ⊎ ((result ≡ 2) ⊎ (result ≡ 3))) }
+    // It is refused where there is no room, or where the record keeps no machine; all is then as it was.
+    ensures refused { (result ≡ 0) ⊎ ((result ≡ 1) ⊎ (result ≡ 3)) }
     ensures room { length shown.old ≡ 0 → result ≡ 3 }
     ensures roomy { result ≡ 3 → length shown.old ≡ 0 }
     ensures no_machine { 0 < length shown.old → TellsMachine machine.old result }
@@ -92,6 +87,7 @@ pub extern "C" fn forth83_read(alloc: Global, machine: &mut Forth83, page: &[u8]
     ensures size { length page.now ≢ 1024 → result ≡ 13 }
     ensures no_machine { length page.now ≡ 1024 → TellsMachine machine.old result }
     ensures why { length page.now ≡ 1024 → TellsByCode (WhyNotAnswered (ReadOk page.now)) machine.old result }
+    ensures known { result ≢ 2 }
     ensures stays { result ≢ 0 → machine.new ≡ machine.old }
 {
     if page.len() != 1024 {
@@ -109,6 +105,7 @@ pub extern "C" fn forth83_written(alloc: Global, machine: &mut Forth83) -> u32
     ensures answered { result ≡ 0 → HasAnswered machine.old machine.new WriteOk }
     ensures no_machine { TellsMachine machine.old result }
     ensures why { TellsByCode (WhyNotAnswered WriteOk) machine.old result }
+    ensures known { result ≢ 2 }
     ensures stays { result ≢ 0 → machine.new ≡ machine.old }
 {
     running::answer(alloc, machine, Answer::WriteOk).code()
@@ -121,6 +118,7 @@ pub extern "C" fn forth83_ended(alloc: Global, machine: &mut Forth83) -> u32
     ensures answered { result ≡ 0 → HasAnswered machine.old machine.new InputEnd }
     ensures no_machine { TellsMachine machine.old result }
     ensures why { TellsByCode (WhyNotAnswered InputEnd) machine.old result }
+    ensures known { result ≢ 2 }
     ensures stays { result ≢ 0 → machine.new ≡ machine.old }
 {
     running::answer(alloc, machine, Answer::InputEnd).code()
@@ -135,6 +133,7 @@ pub extern "C" fn forth83_failed(alloc: Global, machine: &mut Forth83) -> u32
     ensures no_machine { TellsMachine machine.old result }
     ensures why_read { machine.old.asks ≢ 4 → TellsByCode (WhyNotAnswered ReadFault) machine.old result }
     ensures why_write { machine.old.asks ≡ 4 → TellsByCode (WhyNotAnswered WriteFault) machine.old result }
+    ensures known { result ≢ 2 }
     ensures stays { result ≢ 0 → machine.new ≡ machine.old }
 {
     if machine.asks == 4 {
@@ -223,7 +222,6 @@ pub extern "C" fn forth83_pop(machine: &mut Forth83, x: &mut u16) -> u32
 #[unsafe(no_mangle)]
 #[tactic(auto, using(crate::proofs::Codes::code_zero))]
 pub extern "C" fn forth83_save(
-    alloc: Global,
     machine: &Forth83,
     entry: u16,
     file: &mut [u8],
@@ -234,8 +232,9 @@ pub extern "C" fn forth83_save(
     ensures beyond { result ≡ 0 → drop size.new file.new ≡ drop size.new file.old }
     ensures no_machine { TellsMachine machine.now result }
     ensures why { TellsByCode (WhyNotSaved entry (length file.old)) machine.now result }
+    ensures known { result ≢ 2 }
     ensures stays { result ≢ 0 → file.new ≡ file.old }
     ensures untold { result ≢ 0 → size.new ≡ size.old }
 {
-    running::save(alloc, machine, entry, file, size).code()
+    running::save(machine, entry, file, size).code()
 }

@@ -13,12 +13,11 @@ ghost use Rattle.memory.specs.Mirrored.{stored};
 use crate::kept::{Rest, is_record, keep, keep_stack, rest_of, stack_of};
 use crate::lent::{answer_lent, drive_lent};
 use crate::record::{Forth83, Forth83End};
-use crate::showing::put;
 use crate::status::Status;
 use block_buffers::Buffers;
-use image_loader::{Image, ImageFault};
-use inner_interpreter::{Answer, SaveRefused};
-use machine::save_memory;
+use image_loader::{BorrowedImage, ImageFault, write_into};
+use inner_interpreter::Answer;
+use machine::saved_in_place;
 use machine_parts::parts::Request;
 use memory::Memory;
 use name_index::NameIndex;
@@ -53,7 +52,7 @@ fn hold(memory: &mut Memory, bytes: &[u8])
 }
 
 /// All but memory of the machine that an image starts with.
-fn rest_at_start(image: &Image, block_count: u32) -> Rest
+fn rest_at_start(image: &BorrowedImage<'_>, block_count: u32) -> Rest
     ensures { state_of (front_put image.now.bytes zeros) result ≡ start image.now block_count }
 {
     Rest {
@@ -69,21 +68,21 @@ fn rest_at_start(image: &Image, block_count: u32) -> Rest
 }
 
 /// Loads an image into a record.
-pub fn load(alloc: Global, image: &[u8], block_count: u32, kept: &mut Forth83) -> Status
+pub fn load(image: &[u8], block_count: u32, kept: &mut Forth83) -> Status
     ensures loaded { (contents : Contents) → IsFile image.now contents → result ≡ status.Done →
         IsKept kept.new (start contents block_count) }
     ensures found { result ≡ status.Done → (contents : Contents) × IsFile image.now contents }
-    ensures accepted { (contents : Contents) → IsFile image.now contents →
-        (result ≡ status.Done) ⊎ (result ≡ status.OutOfMemory) }
+    ensures accepted { (contents : Contents) → IsFile image.now contents → result ≡ status.Done }
     ensures truncated { IsCutShort image.now → result ≡ status.Truncated }
     ensures trailing { IsFollowed image.now → result ≡ status.TrailingBytes }
     ensures bad_magic { HasBadMagic image.now → result ≡ status.BadMagic }
     ensures bad_version { HasBadVersion image.now → result ≡ status.BadVersion }
     ensures bad_buffers { HasBadBuffers image.now → result ≡ status.BadBuffers }
     ensures bad_size { HasBadSize image.now → result ≡ status.BadSize }
+    ensures known { result ≢ status.OutOfMemory }
     ensures stays { result ≢ status.Done → kept.new ≡ kept.old }
 {
-    match image_loader::read(alloc, image) {
+    match image_loader::read_in_place(image) {
         Ok(image) => {
             hold(&mut kept.memory, image.bytes());
             keep(rest_at_start(&image, block_count), kept);
@@ -95,7 +94,7 @@ pub fn load(alloc: Global, image: &[u8], block_count: u32, kept: &mut Forth83) -
         Err(ImageFault::BadVersion) => Status::BadVersion,
         Err(ImageFault::BadBuffers) => Status::BadBuffers,
         Err(ImageFault::BadSize) => Status::BadSize,
-        Err(ImageFault::OutOfMemory) => Status::OutOfMemory,
+        Err(ImageFault::OutOfMemory) => unreachable!(),
     }
 }
 
@@ -110,8 +109,7 @@ pub fn run(
 ) -> Status
     ensures ran { result ≡ status.Done → HasRun kept.old kept.new typed.now shown.new limit end.new }
     ensures beyond { result ≡ status.Done → drop end.new.shown shown.new ≡ drop end.new.shown shown.old }
-    ensures refused { (result ≡ status.Done) ⊎ ((result ≡ status.NoMachine) ⊎
-        ((result ≡ status.OutOfMemory) ⊎ (result ≡ status.ShortRoom))) }
+    ensures refused { (result ≡ status.Done) ⊎ ((result ≡ status.NoMachine) ⊎ (result ≡ status.ShortRoom)) }
     ensures room { length shown.old ≡ 0 → result ≡ status.ShortRoom }
     ensures roomy { result ≡ status.ShortRoom → length shown.old ≡ 0 }
     ensures no_machine { 0 < length shown.old → TellsMachine kept.old (code_of result) }
@@ -125,9 +123,7 @@ pub fn run(
     let Some(mut rest) = rest_of(kept) else {
         return Status::NoMachine;
     };
-    let Ok(index) = NameIndex::new(alloc) else {
-        return Status::OutOfMemory;
-    };
+    let index = NameIndex::new(alloc);
     let driven = drive_lent(&mut kept.memory, &mut rest, index, typed, shown, limit);
     let course = driven.course;
     let stop = driven.stop;
@@ -149,6 +145,7 @@ pub fn answer(alloc: Global, kept: &mut Forth83, answer: Answer<'_>) -> Status
     ensures answered { result ≡ status.Done → HasAnswered kept.old kept.new (seen answer.entry) }
     ensures no_machine { TellsMachine kept.old (code_of result) }
     ensures why { Tells (WhyNotAnswered (seen answer.entry)) kept.old result }
+    ensures known { result ≢ status.OutOfMemory }
     ensures stays { result ≢ status.Done → kept.new ≡ kept.old }
 {
     let Some(mut rest) = rest_of(kept) else {
@@ -160,9 +157,7 @@ pub fn answer(alloc: Global, kept: &mut Forth83, answer: Answer<'_>) -> Status
     if !answer.fits(rest.wait) {
         return Status::NotAsked;
     }
-    let Ok(index) = NameIndex::new(alloc) else {
-        return Status::OutOfMemory;
-    };
+    let index = NameIndex::new(alloc);
     let _returned = answer_lent(&mut kept.memory, &mut rest, index, answer);
     keep(rest, kept);
     Status::Done
@@ -273,31 +268,27 @@ pub fn pop(kept: &mut Forth83, x: &mut u16) -> Status
 }
 
 /// Puts the file of the image that the machine of a record is saved as into `file`, and how many bytes it has into `size`.
-pub fn save(alloc: Global, kept: &Forth83, entry: u16, file: &mut [u8], size: &mut usize) -> Status
+pub fn save(kept: &Forth83, entry: u16, file: &mut [u8], size: &mut usize) -> Status
     ensures saved { result ≡ status.Done → HasSaved kept.now entry (take size.new file.new) }
     ensures fits { result ≡ status.Done → size.new ≤ length file.new }
     ensures beyond { result ≡ status.Done → drop size.new file.new ≡ drop size.new file.old }
     ensures no_machine { TellsMachine kept.now (code_of result) }
     ensures why { Tells (WhyNotSaved entry (length file.old)) kept.now result }
+    ensures known { result ≢ status.OutOfMemory }
     ensures stays { result ≢ status.Done → file.new ≡ file.old }
     ensures untold { result ≢ status.Done → size.new ≡ size.old }
 {
     let Some(rest) = rest_of(kept) else {
         return Status::NoMachine;
     };
-    let image = match save_memory(alloc, &kept.memory, &rest.buffers, entry) {
-        Ok(image) => image,
-        Err(SaveRefused::BadSize) => return Status::BadSize,
-        Err(SaveRefused::OutOfMemory) => return Status::OutOfMemory,
+    let Ok(image) = saved_in_place(&kept.memory, &rest.buffers, entry) else {
+        return Status::BadSize;
     };
-    match image_loader::write(alloc, &image) {
-        Ok(bytes) => {
-            if bytes.len() > file.len() {
-                return Status::ShortRoom;
-            }
-            *size = put(file, 0, bytes.as_slice());
+    match write_into(&image, file) {
+        Ok(count) => {
+            *size = count;
             Status::Done
         }
-        Err(_) => Status::OutOfMemory,
+        Err(_) => Status::ShortRoom,
     }
 }

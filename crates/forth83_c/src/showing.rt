@@ -23,7 +23,7 @@ pub fn least_room(size: usize) -> usize
 
 /// Puts bytes from a place on, and answers the place after them.
 #[tactic(auto, using(crate::proofs::Bytes::put_behind))]
-pub fn put(out: &mut [u8], at: usize, bytes: &[u8]) -> usize
+fn put(out: &mut [u8], at: usize, bytes: &[u8]) -> usize
     requires { at + length bytes.now ≤ length out.old }
     ensures front { take result out.new ≡ take at out.old ++ bytes.now }
     ensures beyond { drop result out.new ≡ drop result out.old }

@@ -1,9 +1,9 @@
 -- What reading gives of each sort of bytes, and of which sort bytes are where reading gives something.
-use Rattle.std.proofs.Common.{◌≡◌, ℕ, List, Result, Ok, Err, IfOk, MatchResult, IsOk, refl, sym, ◌∙◌, subst}
+use Rattle.std.proofs.Common.{◌≡◌, ℕ, List, Result, Ok, Err, IfOk, IsOk, refl, sym, ◌∙◌, subst}
 use Rattle.image_loader.specs.declared.fault.ImageFault.{ImageFault}
 use Rattle.image_loader.specs.declared.fault.ImageFault.TheVariants as fault
 use Rattle.image_loader.specs.Files.{Contents, IsFile, IsCutShort, IsFollowed, HasBadMagic, HasBadVersion, HasBadBuffers, HasBadSize}
-use Rattle.image_loader.specs.Reading.{read_of, Gives, Fails}
+use Rattle.image_loader.specs.Reading.{read_of}
 use Rattle.image_loader.proofs.Tails.{AreBytes}
 use Rattle.image_loader.proofs.Sorts.{Kind, kind_of, is_file, is_cut_short, is_followed, has_bad_magic, has_bad_version, has_bad_buffers, has_bad_size, file_reads, cut_short_reads, followed_reads, bad_magic_reads, bad_version_reads, bad_buffers_reads, bad_size_reads}
 
@@ -89,66 +89,51 @@ file_given (has_bad_version bad) e = absurd (cc)
 file_given (has_bad_buffers bad) e = absurd (cc)
 file_given (has_bad_size bad) e = absurd (cc)
 
--- a fault of reading is the fault of a function that gives what reading gives
-told : (r read : Result Contents ImageFault) (e : ImageFault) → Gives r read → read ≡ Err e → r ≡ Err e
-told (Ok x) read e h k = absurd (cc)
-told (Err fault.OutOfMemory) (Ok y) e h k = absurd (cc)
-told (Err fault.OutOfMemory) (Err f) e h k = absurd (cc)
-told (Err fault.Truncated) read e h k = cc
-told (Err fault.BadMagic) read e h k = cc
-told (Err fault.BadVersion) read e h k = cc
-told (Err fault.BadBuffers) read e h k = cc
-told (Err fault.BadSize) read e h k = cc
-told (Err fault.TrailingBytes) read e h k = cc
+known_given : {bytes : List ℕ} (k : Kind bytes) → ¬ (given k ≡ Err fault.OutOfMemory)
+known_given (is_file image f) e = absurd (cc)
+known_given (is_cut_short f) e = absurd (cc)
+known_given (is_followed f) e = absurd (cc)
+known_given (has_bad_magic bad) e = absurd (cc)
+known_given (has_bad_version bad) e = absurd (cc)
+known_given (has_bad_buffers bad) e = absurd (cc)
+known_given (has_bad_size bad) e = absurd (cc)
 
--- and what the function says is what reading gives
-fails : (r read : Result Contents ImageFault) (e : ImageFault) → Gives r read → r ≡ Err e → Fails e read
-fails r read e h k = let P : Result Contents ImageFault → Type 0 = λ x. Gives x read in subst P k h
+-- what is given for the sort of these bytes is what a function that reads them gives
+sorted : (bytes : List ℕ) (r : Result Contents ImageFault) (fit : AreBytes bytes) → r ≡ read_of bytes → given (kind_of bytes fit) ≡ r
+sorted bytes r fit h = sym (reads bytes (kind_of bytes fit)) ∙ sym h
 
-pub truncated : (bytes : List ℕ) (r : Result Contents ImageFault) → AreBytes bytes → Gives r (read_of bytes) → (r ≡ Err fault.Truncated → IsCutShort bytes) × (IsCutShort bytes → r ≡ Err fault.Truncated)
-truncated bytes r fit h = (λ e. cut_short_given (kind_of bytes fit) (sym (reads bytes (kind_of bytes fit)) ∙ fails r (read_of bytes) fault.Truncated h e), λ f. told r (read_of bytes) fault.Truncated h (cut_short_reads bytes f))
+pub truncated : (bytes : List ℕ) (r : Result Contents ImageFault) → AreBytes bytes → r ≡ read_of bytes → (r ≡ Err fault.Truncated → IsCutShort bytes) × (IsCutShort bytes → r ≡ Err fault.Truncated)
+truncated bytes r fit h = (λ e. cut_short_given (kind_of bytes fit) (sorted bytes r fit h ∙ e), λ f. h ∙ cut_short_reads bytes f)
 
-pub trailing : (bytes : List ℕ) (r : Result Contents ImageFault) → AreBytes bytes → Gives r (read_of bytes) → (r ≡ Err fault.TrailingBytes → IsFollowed bytes) × (IsFollowed bytes → r ≡ Err fault.TrailingBytes)
-trailing bytes r fit h = (λ e. followed_given (kind_of bytes fit) (sym (reads bytes (kind_of bytes fit)) ∙ fails r (read_of bytes) fault.TrailingBytes h e), λ f. told r (read_of bytes) fault.TrailingBytes h (followed_reads bytes f))
+pub trailing : (bytes : List ℕ) (r : Result Contents ImageFault) → AreBytes bytes → r ≡ read_of bytes → (r ≡ Err fault.TrailingBytes → IsFollowed bytes) × (IsFollowed bytes → r ≡ Err fault.TrailingBytes)
+trailing bytes r fit h = (λ e. followed_given (kind_of bytes fit) (sorted bytes r fit h ∙ e), λ f. h ∙ followed_reads bytes f)
 
-pub bad_magic : (bytes : List ℕ) (r : Result Contents ImageFault) → AreBytes bytes → Gives r (read_of bytes) → (r ≡ Err fault.BadMagic → HasBadMagic bytes) × (HasBadMagic bytes → r ≡ Err fault.BadMagic)
-bad_magic bytes r fit h = (λ e. bad_magic_given (kind_of bytes fit) (sym (reads bytes (kind_of bytes fit)) ∙ fails r (read_of bytes) fault.BadMagic h e), λ bad. told r (read_of bytes) fault.BadMagic h (bad_magic_reads bytes bad))
+pub bad_magic : (bytes : List ℕ) (r : Result Contents ImageFault) → AreBytes bytes → r ≡ read_of bytes → (r ≡ Err fault.BadMagic → HasBadMagic bytes) × (HasBadMagic bytes → r ≡ Err fault.BadMagic)
+bad_magic bytes r fit h = (λ e. bad_magic_given (kind_of bytes fit) (sorted bytes r fit h ∙ e), λ f. h ∙ bad_magic_reads bytes f)
 
-pub bad_version : (bytes : List ℕ) (r : Result Contents ImageFault) → AreBytes bytes → Gives r (read_of bytes) → (r ≡ Err fault.BadVersion → HasBadVersion bytes) × (HasBadVersion bytes → r ≡ Err fault.BadVersion)
-bad_version bytes r fit h = (λ e. bad_version_given (kind_of bytes fit) (sym (reads bytes (kind_of bytes fit)) ∙ fails r (read_of bytes) fault.BadVersion h e), λ bad. told r (read_of bytes) fault.BadVersion h (bad_version_reads bytes bad))
+pub bad_version : (bytes : List ℕ) (r : Result Contents ImageFault) → AreBytes bytes → r ≡ read_of bytes → (r ≡ Err fault.BadVersion → HasBadVersion bytes) × (HasBadVersion bytes → r ≡ Err fault.BadVersion)
+bad_version bytes r fit h = (λ e. bad_version_given (kind_of bytes fit) (sorted bytes r fit h ∙ e), λ f. h ∙ bad_version_reads bytes f)
 
-pub bad_buffers : (bytes : List ℕ) (r : Result Contents ImageFault) → AreBytes bytes → Gives r (read_of bytes) → (r ≡ Err fault.BadBuffers → HasBadBuffers bytes) × (HasBadBuffers bytes → r ≡ Err fault.BadBuffers)
-bad_buffers bytes r fit h = (λ e. bad_buffers_given (kind_of bytes fit) (sym (reads bytes (kind_of bytes fit)) ∙ fails r (read_of bytes) fault.BadBuffers h e), λ bad. told r (read_of bytes) fault.BadBuffers h (bad_buffers_reads bytes bad))
+pub bad_buffers : (bytes : List ℕ) (r : Result Contents ImageFault) → AreBytes bytes → r ≡ read_of bytes → (r ≡ Err fault.BadBuffers → HasBadBuffers bytes) × (HasBadBuffers bytes → r ≡ Err fault.BadBuffers)
+bad_buffers bytes r fit h = (λ e. bad_buffers_given (kind_of bytes fit) (sorted bytes r fit h ∙ e), λ f. h ∙ bad_buffers_reads bytes f)
 
-pub bad_size : (bytes : List ℕ) (r : Result Contents ImageFault) → AreBytes bytes → Gives r (read_of bytes) → (r ≡ Err fault.BadSize → HasBadSize bytes) × (HasBadSize bytes → r ≡ Err fault.BadSize)
-bad_size bytes r fit h = (λ e. bad_size_given (kind_of bytes fit) (sym (reads bytes (kind_of bytes fit)) ∙ fails r (read_of bytes) fault.BadSize h e), λ bad. told r (read_of bytes) fault.BadSize h (bad_size_reads bytes bad))
+pub bad_size : (bytes : List ℕ) (r : Result Contents ImageFault) → AreBytes bytes → r ≡ read_of bytes → (r ≡ Err fault.BadSize → HasBadSize bytes) × (HasBadSize bytes → r ≡ Err fault.BadSize)
+bad_size bytes r fit h = (λ e. bad_size_given (kind_of bytes fit) (sorted bytes r fit h ∙ e), λ f. h ∙ bad_size_reads bytes f)
 
-pub out_of_memory : (bytes : List ℕ) (r : Result Contents ImageFault) → AreBytes bytes → Gives r (read_of bytes) → r ≡ Err fault.OutOfMemory → (image : Contents) × IsFile bytes image
-out_of_memory bytes r fit h e =
-    let ok : IsOk (given (kind_of bytes fit)) = (let P : Result Contents ImageFault → Type 0 = λ x. IsOk x in subst P (reads bytes (kind_of bytes fit)) (fails r (read_of bytes) fault.OutOfMemory h e)) in
-    let found = file_given (kind_of bytes fit) ok in (found.0, found.1.0)
+pub known : (bytes : List ℕ) (r : Result Contents ImageFault) → AreBytes bytes → r ≡ read_of bytes → ¬ (r ≡ Err fault.OutOfMemory)
+known bytes r fit h e = known_given (kind_of bytes fit) (sorted bytes r fit h ∙ e)
 
 same_image : (r : Result Contents ImageFault) (first second : Contents) → r ≡ Ok first → r ≡ Ok second → first ≡ second
 same_image r first second e f = cc
 
-pub found : (bytes : List ℕ) (r : Result Contents ImageFault) → AreBytes bytes → Gives r (read_of bytes) → IfOk r (λ image. IsFile bytes image)
+pub found : (bytes : List ℕ) (r : Result Contents ImageFault) → AreBytes bytes → r ≡ read_of bytes → IfOk r (λ image. IsFile bytes image)
 found bytes (Err e) fit h = tt
 found bytes (Ok image) fit h =
-    let e : given (kind_of bytes fit) ≡ Ok image = sym (reads bytes (kind_of bytes fit)) ∙ h in
+    let e : given (kind_of bytes fit) ≡ Ok image = sorted bytes (Ok image) fit h in
     let ok : IsOk (given (kind_of bytes fit)) = (let P : Result Contents ImageFault → Type 0 = λ x. IsOk x in subst P (sym e) refl) in
     let file = file_given (kind_of bytes fit) ok in
     let P : Contents → Type 0 = λ x. IsFile bytes x in
     subst P (same_image (given (kind_of bytes fit)) file.0 image file.1.1 e) file.1.0
 
-by_reading : (r read : Result Contents ImageFault) (image : Contents) → Gives r read → read ≡ Ok image → MatchResult r (λ x. x ≡ image) (λ e. e ≡ fault.OutOfMemory)
-by_reading (Ok x) read image h k = same_image read x image h k
-by_reading (Err fault.OutOfMemory) read image h k = refl
-by_reading (Err fault.Truncated) read image h k = absurd (cc)
-by_reading (Err fault.BadMagic) read image h k = absurd (cc)
-by_reading (Err fault.BadVersion) read image h k = absurd (cc)
-by_reading (Err fault.BadBuffers) read image h k = absurd (cc)
-by_reading (Err fault.BadSize) read image h k = absurd (cc)
-by_reading (Err fault.TrailingBytes) read image h k = absurd (cc)
-
-pub accepted : (bytes : List ℕ) (r : Result Contents ImageFault) (image : Contents) → Gives r (read_of bytes) → IsFile bytes image → MatchResult r (λ x. x ≡ image) (λ e. e ≡ fault.OutOfMemory)
-accepted bytes r image h f = by_reading r (read_of bytes) image h (file_reads bytes image f)
+pub accepted : (bytes : List ℕ) (r : Result Contents ImageFault) (image : Contents) → r ≡ read_of bytes → IsFile bytes image → r ≡ Ok image
+accepted bytes r image h f = h ∙ file_reads bytes image f

@@ -1,5 +1,5 @@
 -- How the reader's private functions go, check by check. No public clause speaks of it.
-use Rattle.std.specs.Prelude.{◌≡◌, ℕ, Bool, not, List, length, take, drop, Result, Ok, Err, IsOk, nat_lt, ◌||◌, if◌then◌else◌}
+use Rattle.std.specs.Prelude.{◌≡◌, ℕ, Bool, not, List, length, take, drop, Result, Ok, Err, nat_lt, ◌⊎◌, ◌||◌, if◌then◌else◌}
 use Rattle.std.specs.Str.{bytes_eq}
 use Rattle.memory.specs.Bytes.{limit_of}
 use Rattle.image_loader.specs.Files.{Contents, magic, version, field_at}
@@ -54,12 +54,7 @@ and_then (Err e) f = Err e
 abbrev pub read_of : List ℕ → Result Contents ImageFault
 read_of bytes = and_then (opening_of bytes) (λ found. tail_of found.0 (drop found.1 bytes))
 
--- a function fails so where reading does; memory is asked for only where reading succeeds
-abbrev pub Fails : ImageFault → Result Contents ImageFault → Type 0
-Fails fault.OutOfMemory r = IsOk r
-Fails e r = r ≡ Err e
-
--- a function gives what reading gives, unless memory runs out
-abbrev pub Gives : Result Contents ImageFault → Result Contents ImageFault → Type 0
-Gives (Ok image) r = r ≡ Ok image
-Gives (Err e) r = Fails e r
+-- an image that was found is copied, unless memory runs out; a fault stays
+abbrev pub IsCopied : (found copy : Result Contents ImageFault) → Type 0
+IsCopied (Ok image) copy = (copy ≡ Ok image) ⊎ (copy ≡ Err fault.OutOfMemory)
+IsCopied (Err e) copy = copy ≡ Err e

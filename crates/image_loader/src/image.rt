@@ -5,6 +5,7 @@ ghost use Rattle.memory.specs.Bytes.{IsCount, limit_of};
 ghost use Rattle.memory.specs.declared.limit.TheConstants.{GREATEST_LIMIT};
 ghost use Rattle.image_loader.specs.Files.{IsImage};
 
+use crate::borrowed::BorrowedImage;
 use std::marker::Model;
 
 /// How many block buffers the machine has, 2 to 16; the bytes of memory from address 0 on, at least 256 and at most up to
@@ -66,5 +67,12 @@ impl Image {
         ensures most { length result.now ≤ GREATEST_LIMIT }
     {
         self.bytes.as_slice()
+    }
+
+    /// The same image, with the bytes that this one has.
+    pub fn borrowed(&self) -> BorrowedImage<'_>
+        ensures { result ≡ self.now }
+    {
+        BorrowedImage::new(self.buffers, self.entry, self.bytes.as_slice())
     }
 }

@@ -1,7 +1,6 @@
 -- What a reader gave.
-use Rattle.std.proofs.Common.{◌≡◌, ℕ, List, [], ◌∷◌, ◌++◌, Bool, true, false, Option, Some, None, length, inl, inr, refl, sym, ap, ◌∙◌, arith, append_assoc, ◌+◌}
+use Rattle.std.proofs.Common.{◌≡◌, ℕ, List, [], ◌∷◌, ◌++◌, Bool, Option, Some, length, refl, sym, ap, ◌∙◌, arith, append_assoc, ◌+◌}
 use Rattle.std.proofs.lemmas.List.{length-append}
-use Rattle.machine.specs.Answer.{is_return}
 use Rattle.inner_interpreter.specs.Reads.{IsLineGiven, as_given}
 
 as_given-append : (xs ys : List ℕ) → as_given (xs ++ ys) ≡ as_given xs ++ as_given ys
@@ -16,17 +15,6 @@ given_more old mid new line line' c o e l x y =
 -- a line whose bytes and what ended it were given
 abbrev pub HasGiven : ℕ → List ℕ → Bool → List (Option ℕ) → List (Option ℕ) → Type 0
 HasGiven n bytes returned old new = (given : List (Option ℕ)) × (new ≡ old ++ given) × IsLineGiven n bytes returned given
-
-pub given_return : (n : ℕ) (old mid new : List (Option ℕ)) (line : List ℕ) (c : ℕ) (o : Option ℕ) → o ≡ Some c → is_return c ≡ true → mid ≡ old ++ as_given line → new ≡ mid ++ o ∷ [] → HasGiven n line true old new
-given_return n old mid new line c o e r x y =
-    (as_given line ++ Some c ∷ [], y ∙ ap (λ v. mid ++ v ∷ []) e ∙ ap (λ v. v ++ Some c ∷ []) x ∙ append_assoc old (as_given line) (Some c ∷ []), (c, r, refl))
-
-pub given_end : (n : ℕ) (old mid new : List (Option ℕ)) (line : List ℕ) (o : Option ℕ) → o ≡ None → mid ≡ old ++ as_given line → new ≡ mid ++ o ∷ [] → HasGiven n line false old new
-given_end n old mid new line o e x y =
-    (as_given line ++ None ∷ [], y ∙ ap (λ v. mid ++ v ∷ []) e ∙ ap (λ v. v ++ None ∷ []) x ∙ append_assoc old (as_given line) (None ∷ []), inr refl)
-
-pub given_full : (n : ℕ) (old new : List (Option ℕ)) (line : List ℕ) → length line ≡ n → new ≡ old ++ as_given line → HasGiven n line false old new
-given_full n old new line e x = (as_given line, x, inl (e, refl))
 
 pub longer : (xs ys : List ℕ) (c n : ℕ) → ys ≡ xs ++ c ∷ [] → length xs ≡ n → length ys ≡ n + 1
 longer xs ys c n e h = ap length e ∙ length-append xs (c ∷ []) ∙ omega (arith, h)

@@ -1,5 +1,7 @@
 use crate::assertions::assert_equal;
-use image_loader::{ImageFault, UpgradeFault, read, upgrade, write};
+use image_loader::{
+    ImageFault, ShortRoom, UpgradeFault, read, read_in_place, upgrade, write, write_into,
+};
 use std::test::Fail;
 
 /// Magic, version 1, entry 262 (1 * 256 + 6), size 278 (1 * 256 + 22).
@@ -56,6 +58,66 @@ fn writes_version_2(rt: HostRuntime) -> Result<(), Fail> {
             Err(_) => assert!(rt; false, "out of memory"),
         }
     }
+    Ok(())
+}
+
+/// Version 2, 2 buffers, entry 4,660 (18 * 256 + 52) and size 256 (1 * 256).
+const LEAST_HEADER: [u8; 16] = *b"FTH83IMG\x02\x00\x02\x00\x34\x12\x00\x01";
+
+/// A file of 256 zeros.
+fn least_file() -> [u8; 272] {
+    let mut bytes = [0; 272];
+    bytes[..16].copy_from_slice(&LEAST_HEADER);
+    bytes
+}
+
+/// The first bytes, as many as there are.
+fn front(bytes: &[u8], count: usize) -> &[u8] {
+    &bytes[..count.min(bytes.len())]
+}
+
+/// The bytes after the first ones.
+fn after(bytes: &[u8], count: usize) -> &[u8] {
+    &bytes[count.min(bytes.len())..]
+}
+
+#[test]
+fn reads_in_place_as_it_reads(rt: HostRuntime) -> Result<(), Fail> {
+    let files: [&[u8]; 2] = [&first_file(), &file()];
+    for bytes in files {
+        let image = read_in_place(bytes)?;
+        assert_equal(&rt, (image.buffers(), image.entry()), (4, 262));
+        assert_equal(&rt, image.bytes(), memory().as_slice());
+        let copy = image.to_image(rt.alloc())?;
+        assert_equal(&rt, (copy.buffers(), copy.entry()), (4, 262));
+        assert_equal(&rt, copy.bytes(), memory().as_slice());
+    }
+    let fault = read_in_place(front(&file(), 293)).err();
+    assert_equal(&rt, fault, Some(ImageFault::Truncated));
+    Ok(())
+}
+
+#[test]
+fn writes_into_a_room(rt: HostRuntime) -> Result<(), Fail> {
+    let image = read(rt.alloc(), &file())?;
+    let mut room = [0xAA; 296];
+    assert_equal(&rt, write_into(&image.borrowed(), &mut room), Ok(294));
+    assert_equal(&rt, front(&room, 294), file().as_slice());
+    assert_equal(&rt, after(&room, 294), [0xAA, 0xAA].as_slice());
+    Ok(())
+}
+
+/// 272 bytes are just enough for a header and 256 bytes of memory.
+#[test]
+fn writes_nothing_into_a_room_that_is_a_byte_too_small(rt: HostRuntime) -> Result<(), Fail> {
+    let file = least_file();
+    let image = read_in_place(&file)?;
+    let mut small = [0xAA; 271];
+    assert_equal(&rt, write_into(&image, &mut small), Err(ShortRoom));
+    assert_equal(&rt, small, [0xAA; 271]);
+    let mut room = [0xAA; 272];
+    assert_equal(&rt, write_into(&image, &mut room), Ok(272));
+    assert_equal(&rt, room, least_file());
     Ok(())
 }
 

@@ -41,9 +41,7 @@ fn show_stop<F: Files>(
         return;
     };
     let memory: &mut Memory = &mut memory;
-    let Ok(mut machine) = Machine::load(alloc, memory, &image, blocks.count()) else {
-        return;
-    };
+    let mut machine = Machine::load(alloc, memory, &image, blocks.count());
     if let Err(cause) = load_on(&mut machine, alloc, blocks, image.entry(), from, to, limit) {
         let number = machine.memory().cell(BLK);
         if number == 0 {

@@ -11,4 +11,4 @@ mod stretches;
 
 pub use act::{Act, Answer, Cause, Event, Refused, Shown};
 pub use extent::Extent;
-pub use machine::{Machine, SaveRefused, save_memory};
+pub use machine::{BadSize, Machine, SaveRefused, saved_in_place};

@@ -218,8 +218,6 @@ pub fn load_by_machine<D: Device>(
     };
     let memory: &mut Memory = &mut memory;
     let count = device.count();
-    match Machine::load(alloc, memory, image, count) {
-        Ok(mut machine) => load_on(&mut machine, alloc, device, image.entry(), from, to, limit),
-        Err(_) => Err(LoadFault::OutOfMemory),
-    }
+    let mut machine = Machine::load(alloc, memory, image, count);
+    load_on(&mut machine, alloc, device, image.entry(), from, to, limit)
 }

@@ -1,5 +1,5 @@
 -- An index that holds for one memory, and for another.
-use Rattle.std.proofs.Common.{◌≡◌, ℕ, ◌+◌, ◌-◌, ◌%◌, ◌<◌, ◌≤◌, List, true, false, arith, ◌∙◌, slice_index, replicate, inl, inr, subst, sym}
+use Rattle.std.proofs.Common.{◌≡◌, ℕ, ◌+◌, ◌-◌, ◌%◌, ◌<◌, ◌≤◌, List, true, false, arith, ◌∙◌, slice_index, replicate, inl, inr, subst, sym, None}
 use Rattle.std.proofs.lemmas.List.{get_or-replicate}
 use Rattle.std.proofs.lemmas.Bool.{cases_lt}
 use Rattle.std.proofs.lemmas.Grind.{common_steps}
@@ -7,7 +7,8 @@ use Rattle.cells.specs.Cell.{wrap}
 use Rattle.name_index.specs.declared.index.NameIndex.{NameIndex}
 use Rattle.name_index.specs.Ranges.{is_met}
 use Rattle.name_index.specs.Watch.{is_watched, Agree, AgreeBelow, AgreeBeside, IsBeside, IsUnwatched}
-use Rattle.name_index.specs.Index.{Serves, Holds}
+use Rattle.name_index.specs.Index.{Serves, Holds, slots_of}
+use Rattle.name_index.proofs.Tabled.{slots_none}
 use Rattle.name_index.proofs.Walks.{same_none, same_by}
 
 watched_none : (top a : ℕ) → top ≤ 256 → is_watched top a ≡ true → ⊥
@@ -21,15 +22,15 @@ none_case m k b =
     let h : slice_index (replicate 4 0) (k % 4) ≡ 0 = get_or-replicate 4 (k % 4) 0 0 (omega arith) in
     rw (s, h) (record { older = omega arith; same = same_none 256 k m })
 
-pub holds_none : (index : NameIndex) (limit : ℕ) (m : List ℕ) → index.table.value ≡ replicate 8192 0 → index.heads ≡ replicate 4 0 → index.top ≡ 256 → Holds limit index m
+pub holds_none : (index : NameIndex) (limit : ℕ) (m : List ℕ) → index.table ≡ None → index.heads ≡ replicate 4 0 → index.top ≡ 256 → Holds limit index m
 unfolding Holds
 holds_none index limit m table heads top = record {
   bound = λ h. absurd (omega (arith, h, top));
-  slots = λ k b. rw (table, heads, top) (none_case m k b);
+  slots = λ k b. rw (slots_none index.table table, heads, top) (none_case m k b);
 }
 
 -- an index holds as another does with the same table, heads and top
-pub holds_same : (limit : ℕ) (index other : NameIndex) (m : List ℕ) → other.table.value ≡ index.table.value → other.heads ≡ index.heads → other.top ≡ index.top
+pub holds_same : (limit : ℕ) (index other : NameIndex) (m : List ℕ) → slots_of other.table ≡ slots_of index.table → other.heads ≡ index.heads → other.top ≡ index.top
     → Holds limit index m → Holds limit other m
 unfolding Holds
 holds_same limit index other m table heads top holds = record {
@@ -49,7 +50,7 @@ unfolding Holds
 holds_by limit index m other s holds = record {
   bound = holds.bound;
   slots = λ k b.
-      serves_by index.top k (slice_index index.heads (k % 4)) (slice_index index.table.value k) m other
+      serves_by index.top k (slice_index index.heads (k % 4)) (slice_index (slots_of index.table) k) m other
       (elim (cases_lt 256 index.top) [ inl h ↦ s h (holds.bound h) | inr h ↦ λ a w. absurd (watched_none index.top a h w) ])
       (holds.slots k b);
 }

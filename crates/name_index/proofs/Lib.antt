@@ -8,3 +8,4 @@ pub mod Raised
 pub mod Holding
 pub mod Orders
 pub mod Writes
+pub mod Tabled

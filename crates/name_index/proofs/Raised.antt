@@ -3,7 +3,7 @@ use Rattle.std.proofs.Common.{◌≡◌, ℕ, ◌%◌, ◌<◌, ◌≤◌, ◌==
 use Rattle.std.proofs.lemmas.Grind.{get_or-set_at}
 use Rattle.std.proofs.lemmas.List.{get_or-set_other}
 use Rattle.name_index.specs.declared.index.NameIndex.{NameIndex}
-use Rattle.name_index.specs.Index.{Serves, IsAdmitted, Holds}
+use Rattle.name_index.specs.Index.{Serves, IsAdmitted, Holds, slots_of}
 use Rattle.name_index.proofs.Walks.{same_more}
 use Rattle.name_index.proofs.Rounds.{same_number, other_number}
 
@@ -23,10 +23,10 @@ raised_slot old top class first k m heads before table false e len le b is was =
     rw (v, is.others k b (other_number (k % 4) class e)) (serves_more old top k (slice_index heads (k % 4)) (slice_index before k) m le was)
 
 pub holds_raised : (limit class first top : ℕ) (old new : NameIndex) (m table : List ℕ) → class < length old.heads → old.top ≤ top → (256 < top → top ≤ limit)
-    → IsAdmitted top m class first old.table.value table → new.table.value ≡ table → new.heads ≡ slice_set old.heads class first → new.top ≡ top
+    → IsAdmitted top m class first (slots_of old.table) table → slots_of new.table ≡ table → new.heads ≡ slice_set old.heads class first → new.top ≡ top
     → Holds limit old m → Holds limit new m
 unfolding Holds
 holds_raised limit class first top old new m table len le bound is tables heads tops holds = record {
   bound = rw tops bound;
-  slots = λ k b. rw (tables, heads, tops) (raised_slot old.top top class first k m old.heads old.table.value table (k % 4 == class) refl len le b is (holds.slots k b));
+  slots = λ k b. rw (tables, heads, tops) (raised_slot old.top top class first k m old.heads (slots_of old.table) table (k % 4 == class) refl len le b is (holds.slots k b));
 }

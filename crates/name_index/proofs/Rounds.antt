@@ -6,7 +6,7 @@ use Rattle.std.proofs.lemmas.List.{get_or-set_other}
 use Rattle.dictionary.specs.Header.{name_of}
 use Rattle.name_index.specs.Slots.{slot_in}
 use Rattle.name_index.specs.declared.index.NameIndex.{NameIndex}
-use Rattle.name_index.specs.Index.{Same, Serves, IsAdmitted, Holds}
+use Rattle.name_index.specs.Index.{Same, Serves, Holds, slots_of}
 use Rattle.name_index.proofs.Alike.{Member}
 use Rattle.name_index.proofs.Walks.{same_sym, same_trans, same_more, same_up, same_past}
 
@@ -93,9 +93,9 @@ first_rounds top class known f m heads before e serves = record {
 
 -- an index that holds
 pub begin_rounds : (limit class f : ℕ) (index : NameIndex) (m : List ℕ) → Holds limit index m
-    → Rounds index.top m class (slice_index index.heads class) f f index.table.value index.table.value
+    → Rounds index.top m class (slice_index index.heads class) f f (slots_of index.table) (slots_of index.table)
 unfolding Holds
-begin_rounds limit class f index m holds = first_rounds index.top class (slice_index index.heads class) f m index.heads index.table.value refl holds.slots
+begin_rounds limit class f index m holds = first_rounds index.top class (slice_index index.heads class) f m index.heads (slots_of index.table) refl holds.slots
 
 pub begin_bound : (limit : ℕ) (index : NameIndex) (m : List ℕ) → Holds limit index m → 256 < index.top → index.top ≤ limit
 unfolding Holds

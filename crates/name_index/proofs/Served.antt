@@ -5,7 +5,7 @@ use Rattle.dictionary.specs.Header.{is_named}
 use Rattle.dictionary.specs.Search.{walked, head_of, first_in, sought_in}
 use Rattle.name_index.specs.declared.index.NameIndex.{NameIndex}
 use Rattle.name_index.specs.Slots.{slot_of, class_of}
-use Rattle.name_index.specs.Index.{Serves, Holds}
+use Rattle.name_index.specs.Index.{Serves, Holds, slots_of}
 use Rattle.name_index.specs.Passing.{PassesTo}
 
 by_slot : (top k first entry : ℕ) (m name : List ℕ) (start : ℕ) → length m ≡ 65536 → slot_of name ≡ k → entry < 65536 → Serves top m k first entry
@@ -15,12 +15,12 @@ by_slot top k first entry m name start size s small is passes =
 
 pub found_by : (limit k class start first entry : ℕ) (index : NameIndex) (m name : List ℕ) → Holds limit index m → length m ≡ 65536
     → k ≡ slot_of name → k < 8192 → k % 4 ≡ class_of name → class ≡ class_of name → slice_index index.heads class ≡ first
-    → entry ≡ slice_index index.table.value k → entry < 65536 → start ≡ cell m (head_of 42 name) → PassesTo m name start first
+    → entry ≡ slice_index (slots_of index.table) k → entry < 65536 → start ≡ cell m (head_of 42 name) → PassesTo m name start first
     → sought_in m 42 name ≡ walked (is_named m name) m 32768 entry
 unfolding Holds sought_in first_in
 found_by limit k class start first entry index m name holds size s b c d known e small begin passes =
-    let is : Serves index.top m k (slice_index index.heads (k % 4)) (slice_index index.table.value k) = holds.slots k b in
+    let is : Serves index.top m k (slice_index index.heads (k % 4)) (slice_index (slots_of index.table) k) = holds.slots k b in
     let head : slice_index index.heads (k % 4) ≡ first = subst (λ (i : ℕ). slice_index index.heads i ≡ first) (d ∙ sym c) known in
     let serves : Serves index.top m k first entry =
-    subst (λ (x : ℕ). Serves index.top m k first x) (sym e) (subst (λ (h : ℕ). Serves index.top m k h (slice_index index.table.value k)) head is) in
+    subst (λ (x : ℕ). Serves index.top m k first x) (sym e) (subst (λ (h : ℕ). Serves index.top m k h (slice_index (slots_of index.table) k)) head is) in
     rw (sym begin) (by_slot index.top k first entry m name start size (sym s) small serves passes)

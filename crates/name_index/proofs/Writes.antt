@@ -2,11 +2,9 @@
 use Rattle.std.proofs.Common.{◌≡◌, ◌≢◌, ℕ, zero, suc, ◌+◌, ◌-◌, ◌<◌, ◌≤◌, ◌%◌, ◌/◌, List, [], ◌∷◌, length, true, false, refl, arith, sym, ◌∙◌}
 use Rattle.std.proofs.lemmas.Grind.{common_steps}
 use Rattle.cells.specs.Cell.{wrap}
-use Rattle.memory.specs.Bytes.{byte, put_byte, put_cell, put_bytes, filled, moved_up, moved_down, with_page, Write, PutCell, PutBytes, with_write, written}
+use Rattle.memory.specs.Bytes.{byte, put_byte, put_cell, put_bytes, filled, moved_up, moved_down, with_page, Write, PutCell, PutBytes}
 use Rattle.memory.proofs.Kept.{byte_set}
 use Rattle.memory.proofs.Pages.{byte_below}
-use Rattle.std.specs.Prelude.{All}
-use Rattle.std.proofs.lemmas.List.Elements.{All-head, All-tail}
 use Rattle.name_index.specs.declared.index.NameIndex.{NameIndex}
 use Rattle.name_index.specs.Ranges.{is_met}
 use Rattle.name_index.specs.Watch.{is_watched, AgreeBeside, IsBeside}

@@ -1,4 +1,5 @@
-use Rattle.std.specs.Prelude.{ℕ, ◌*◌, ◌%◌, ◌<◌, ◌≤◌, ◌≡◌, ◌≢◌, List, length, slice_index, replicate, nat_lt, if◌then◌else◌}
+use Rattle.std.specs.Prelude.{ℕ, ◌*◌, ◌%◌, ◌<◌, ◌≤◌, ◌≡◌, ◌≢◌, List, length, slice_index, replicate, nat_lt, if◌then◌else◌, Option, Some, None, Box}
+use Rattle.std.specs.declared.alloc.Global.{Global}
 use Rattle.dictionary.specs.Header.{is_named}
 use Rattle.dictionary.specs.Search.{walked}
 use Rattle.name_index.specs.declared.index.NameIndex.{NameIndex}
@@ -19,13 +20,18 @@ pub record Serves (top : ℕ) (m : List ℕ) (k known e : ℕ) : Type 0 where
   pub older : e ≤ known
   pub same : Same top m k known e
 
+-- what the slots of a table hold: 0 each if there is no table
+unfoldable pub slots_of : Option (Box (List ℕ) Global) → List ℕ
+slots_of None = replicate 8192 0
+slots_of (Some table) = table.value
+
 -- the end of what is watched of the dictionary
 abbrev pub top_of : NameIndex → ℕ
 top_of index = index.top
 
--- an index that keeps nothing
+-- an index that keeps nothing, and has no table
 pub record IsEmpty (index : NameIndex) : Type 0 where
-  pub table : index.table.value ≡ replicate 8192 0
+  pub table : index.table ≡ None
   pub heads : index.heads ≡ replicate 4 0
   pub top : index.top ≡ 256
 
@@ -36,7 +42,7 @@ floor_of index = if nat_lt 256 index.top then index.top else 16
 -- each slot serves the member that is known of its class, and what is watched ends at the limit at the latest
 pub record IsRight (limit : ℕ) (index : NameIndex) (m : List ℕ) : Type 0 where
   pub bound : 256 < index.top → index.top ≤ limit
-  pub slots : (k : ℕ) → k < 8192 → Serves index.top m k (slice_index index.heads (k % 4)) (slice_index index.table.value k)
+  pub slots : (k : ℕ) → k < 8192 → Serves index.top m k (slice_index index.heads (k % 4)) (slice_index (slots_of index.table) k)
 
 unfoldable pub Holds : ℕ → NameIndex → List ℕ → Type 0
 Holds limit index m = IsRight limit index m

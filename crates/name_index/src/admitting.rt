@@ -3,7 +3,7 @@
 ghost use Rattle.std.specs.Prelude.{◌≡◌, ◌<◌, ◌≤◌, ◌+◌, slice_index, IfSome, IsTrue};
 ghost use Rattle.memory.specs.Mirrored.{stored};
 ghost use Rattle.dictionary.specs.Header.{name_length};
-ghost use Rattle.name_index.specs.Index.{Holds, IsAdmitted, top_of};
+ghost use Rattle.name_index.specs.Index.{Holds, IsAdmitted, slots_of, top_of};
 
 use crate::index::NameIndex;
 use crate::slots::slot_at;
@@ -42,7 +42,7 @@ fn admit_members(
     ensures top { top_of index.new ≡ top_of index.old }
     ensures more { IfSome result (λ top. top_of index.old ≤ top) }
     ensures bound { IfSome result (λ top. 256 < top → top ≤ limit) }
-    ensures admitted { IfSome result (λ top. IsAdmitted top (stored memory.now) class first index.old.table.value index.new.table.value) }
+    ensures admitted { IfSome result (λ top. IsAdmitted top (stored memory.now) class first (slots_of index.old.table) (slots_of index.new.table)) }
 {
     let _ = memory.len();
     let known = index.head(class);
@@ -54,7 +54,10 @@ fn admit_members(
         if !is_admissible(l, link, end, limit) {
             return None;
         }
-        index.admit(slot_at(memory, l, class), l, known);
+        let slot = slot_at(memory, l, class);
+        if !index.admit(slot, l, known) {
+            return None;
+        }
         top = top.max(end as u16);
         l = link;
     }

@@ -1,7 +1,9 @@
 //! The table, and when it is emptied.
 
+ghost use Rattle.std.specs.Prelude.{◌≡◌, ◌<◌, ◌≤◌, length, replicate, slice_index, slice_set};
+ghost use Rattle.name_index.specs.Index.{slots_of};
+
 use crate::watch::{DICTIONARY, is_touched};
-use memory::OutOfMemory;
 use std::alloc::Global;
 
 /// How many bytes of memory's beginning a loop may keep after its end too: below them a store is never in place.
@@ -15,46 +17,69 @@ const LONGEST_WAIT: u16 = 512;
 
 /// For each slot a member of FORTH's chain of a class, 0 for none: the newest whose name has that slot, of those from the
 /// class's head in `heads` on. It rests on what is in the dictionary below `top`. The table is in a box, so that a machine can be
-/// moved at little cost.
+/// moved at little cost. There is none before the first member enters it: each slot then holds none.
 #[derive(Drop)]
 pub struct NameIndex {
-    table: Box<[u16; 8192]>,
+    alloc: Global,
+    table: Option<Box<[u16; 8192]>>,
     heads: [u16; 4],
     top: u16,
     wait: u16,
     next_wait: u16,
 }
 
+/// A table that keeps nothing, if there is memory for it.
+#[inline(never)]
+fn empty_table(alloc: Global) -> Option<Box<[u16; 8192]>>
+    ensures { slots_of result ≡ replicate 8192 0 }
+{
+    match Box::new(alloc, [0; 8192]) {
+        Ok(table) => Some(table),
+        Err(_) => None,
+    }
+}
+
+/// Puts a member in a slot of a table that holds none which is newer than the member `known`.
+fn put_newest(table: &mut [u16; 8192], slot: u16, member: u16, known: u16)
+    requires { slot < 8192 }
+    ensures newer { known < slice_index table.old slot → table.new ≡ table.old }
+    ensures set { slice_index table.old slot ≤ known → table.new ≡ slice_set table.old slot member }
+    ensures size { length table.old ≡ 8192 }
+{
+    let place = usize::from(slot);
+    if table[place] <= known {
+        table[place] = member;
+    }
+}
+
 impl NameIndex {
-    ghost use Rattle.std.specs.Prelude.{ℕ, ◌≡◌, ◌<◌, ◌≤◌, ◌+◌, List, length, true, slice_index, slice_set, IfOk};
+    ghost use Rattle.std.specs.Prelude.{ℕ, ◌≡◌, ◌<◌, ◌≤◌, ◌+◌, List, length, true, slice_index, slice_set, IsTrue};
     ghost use Rattle.name_index.specs.Watch.{is_watched, IsUnwatched, AgreeBelow, AgreeBeside};
     ghost use Rattle.name_index.specs.Index.{Holds, IsEmpty, top_of, floor_of};
     ghost use Rattle.cells.specs.Cell.{wrap};
 
-    /// An index that keeps nothing. It fails only where there is no memory for its table.
-    pub fn new(alloc: Global) -> Result<NameIndex, OutOfMemory>
-        ensures nothing { IfOk result IsEmpty }
-        ensures holds { IfOk result (λ index. (limit : ℕ) (m : List ℕ) → Holds limit index m) }
+    /// An index that keeps nothing. It takes no memory before a search first puts a header in its table.
+    pub fn new(alloc: Global) -> NameIndex
+        ensures nothing { IsEmpty result }
+        ensures holds { (limit : ℕ) (m : List ℕ) → Holds limit result m }
     {
-        match Box::new(alloc, [0; 8192]) {
-            Ok(table) => Ok(NameIndex {
-                table,
-                heads: [0; 4],
-                top: DICTIONARY,
-                wait: FIRST_WAIT,
-                next_wait: FIRST_WAIT,
-            }),
-            Err(_) => Err(OutOfMemory),
+        NameIndex {
+            alloc,
+            table: None,
+            heads: [0; 4],
+            top: DICTIONARY,
+            wait: FIRST_WAIT,
+            next_wait: FIRST_WAIT,
         }
     }
 
-    /// Keeps nothing any more.
+    /// Keeps nothing any more, and gives the table's memory back.
     #[inline(never)]
     pub fn clear(&mut self)
         ensures nothing { IsEmpty self.new }
         ensures holds { (limit : ℕ) (m : List ℕ) → Holds limit self.new m }
     {
-        *self.table = [0; 8192];
+        self.table = None;
         self.heads = [0; 4];
         self.top = DICTIONARY;
         self.next_wait = self.next_wait.saturating_mul(2).min(LONGEST_WAIT);
@@ -101,9 +126,12 @@ impl NameIndex {
     /// What a slot holds, 0 for none.
     pub(crate) fn entry(&self, slot: u16) -> u16
         requires { slot < 8192 }
-        ensures { result ≡ slice_index self.now.table.value slot }
+        ensures { result ≡ slice_index (slots_of self.now.table) slot }
     {
-        self.table[usize::from(slot)]
+        match &self.table {
+            Some(table) => table[usize::from(slot)],
+            None => 0,
+        }
     }
 
     /// How far the dictionary is watched.
@@ -125,18 +153,36 @@ impl NameIndex {
         true
     }
 
-    /// Puts a member in a slot that holds none which is newer than the member `known`.
-    pub(crate) fn admit(&mut self, slot: u16, member: u16, known: u16)
-        requires { slot < 8192 }
-        ensures newer { known < slice_index self.old.table.value slot → self.new.table.value ≡ self.old.table.value }
-        ensures set { slice_index self.old.table.value slot ≤ known → self.new.table.value ≡ slice_set self.old.table.value slot member }
+    /// Makes the table if there is none yet, and if there is memory for it.
+    fn ensure_table(&mut self)
+        ensures slots { slots_of self.new.table ≡ slots_of self.old.table }
         ensures heads { self.new.heads ≡ self.old.heads }
         ensures top { top_of self.new ≡ top_of self.old }
-        ensures size { length self.old.table.value ≡ 8192 }
     {
-        let place = usize::from(slot);
-        if self.table[place] <= known {
-            self.table[place] = member;
+        if self.table.is_none() {
+            self.table = empty_table(self.alloc);
+        }
+    }
+
+    /// Puts a member in a slot that holds none which is newer than the member `known`. The answer is false if there is no
+    /// memory for a table.
+    pub(crate) fn admit(&mut self, slot: u16, member: u16, known: u16) -> bool
+        requires { slot < 8192 }
+        ensures newer { IsTrue result → known < slice_index (slots_of self.old.table) slot →
+            slots_of self.new.table ≡ slots_of self.old.table }
+        ensures set { IsTrue result → slice_index (slots_of self.old.table) slot ≤ known →
+            slots_of self.new.table ≡ slice_set (slots_of self.old.table) slot member }
+        ensures size { IsTrue result → length (slots_of self.old.table) ≡ 8192 }
+        ensures heads { self.new.heads ≡ self.old.heads }
+        ensures top { top_of self.new ≡ top_of self.old }
+    {
+        self.ensure_table();
+        match &mut self.table {
+            Some(table) => {
+                put_newest(table, slot, member, known);
+                true
+            }
+            None => false,
         }
     }
 
@@ -144,7 +190,7 @@ impl NameIndex {
     pub(crate) fn raise(&mut self, class: u8, first: u16, top: u16)
         requires { class < 4 }
         ensures heads { self.new.heads ≡ slice_set self.old.heads class first }
-        ensures table { self.new.table.value ≡ self.old.table.value }
+        ensures slots { slots_of self.new.table ≡ slots_of self.old.table }
         ensures top { top_of self.new ≡ top }
         ensures size { length self.old.heads ≡ 4 }
     {

@@ -27,9 +27,6 @@ one_block n count count' page a b c q h e l =
     let more : n + 1 - 0 ≡ n + 1 = omega arith in
     as_many 0 (n + 1 - 0) (n + 1) count a c more (one_read 0 n count count' a b c (omega arith) q (as_many 0 n (n - 0) count a b less h) (page, e, l))
 
-pub all_blocks : (n count : ℕ) (a b : List DeviceCall) → n ≡ count → AreReadFrom 0 n count a b → AreReadFrom 0 count count a b
-all_blocks n count a b e h = as_many 0 n count count a b e h
-
 pub no_reads : (calls : List DeviceCall) → OnlyReads calls calls
 no_reads calls = record { reads = []; all = All-nil IsRead; appended = sym (append-nil calls) }
 

@@ -9,11 +9,6 @@ use Rattle.named_files.specs.declared.step_log.Deed.TheVariants.{Write}
 no_less : {B : Type 0} (n : ℕ) → n ≡ 0 → 0 < n → B
 no_less n e lt = absurd (omega arith)
 
--- no step
-pub none_asked : (old new : List Answered) → new ≡ old → Asks [] 0 old new
-unfolding Asks
-none_asked old new h = (refl, h)
-
 -- a step that was taken, and those after it
 pub takes : (s : Step) (more : List Step) (status : ℕ) (old middle new : List Answered)
     → middle ≡ old ++ answered s 0 ∷ [] → Asks more status middle new → Asks (s ∷ more) status old new

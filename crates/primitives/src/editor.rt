@@ -66,10 +66,8 @@ fn line_text(memory: &Memory, stream: Stream) -> [u8; 64]
 /// Deletes a line of the screen in a slot.
 fn delete_in(parts: &mut Parts, slot: usize, n: u16)
     requires { slot < length parts.old.buffers }
-    ensures { parts.new ≡ (record parts.old {
-      memory = with_page parts.old.memory (address_of parts.old.buffers slot)
-          (line_deleted (page parts.old.memory (address_of parts.old.buffers slot)) n);
-    }) }
+    ensures { let m = parts.old.memory in let at = address_of parts.old.buffers slot in
+        parts.new ≡ (record parts.old { memory = with_page m at (line_deleted (page m at) n) }) }
 {
     let at = parts.buffers.address_of(slot);
     let mut screen = *parts.memory.page(at);
@@ -103,11 +101,9 @@ fn edit_screen(screen: &mut [u8; BLOCK_SIZE], edit: Edit, n: u16, text: &[u8; 64
 fn edit_in(parts: &mut Parts, slot: usize, edit: Edit, n: u16, stream: Stream)
     requires slot { slot < length parts.old.buffers }
     requires place { stream.place ≤ stream.size }
-    ensures { parts.new ≡ (record parts.old {
-      memory = with_page (put_cell parts.old.memory TO_IN stream.size)
-          (address_of parts.old.buffers slot)
-          (edited edit (page parts.old.memory (address_of parts.old.buffers slot)) n (line_text parts.old.memory stream));
-    }) }
+    ensures { let m = parts.old.memory in let at = address_of parts.old.buffers slot in
+        let screen = edited edit (page m at) n (line_text m stream) in
+        parts.new ≡ (record parts.old { memory = with_page (put_cell m TO_IN stream.size) at screen }) }
 {
     let at = parts.buffers.address_of(slot);
     let text = line_text(parts.memory, stream);

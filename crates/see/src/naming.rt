@@ -65,8 +65,8 @@ pub fn is_quotable(text: &[u8]) -> bool
 /// address.
 #[tactic(auto, unfolding(crate::specs::Naming::is_meant))]
 pub fn meant(memory: &Memory, hidden: u16, name: &[u8], w: u16) -> Option<u16>
-    ensures { MatchOption result (is_meant (stored memory.now) hidden name.now w ≡ false)
-        (λ k. (is_meant (stored memory.now) hidden name.now w ≡ true) × (sought_hiding (stored memory.now) name.now hidden ≡ Found k)) }
+    ensures { let m = stored memory.now in MatchOption result (is_meant m hidden name.now w ≡ false)
+        (λ k. (is_meant m hidden name.now w ≡ true) × (sought_hiding m name.now hidden ≡ Found k)) }
 {
     match search_hiding(memory, name, hidden) {
         Ok(Some(k)) => {

@@ -151,7 +151,7 @@ fn sit<R: Input, W: Output, D: Device, H: SessionHost>(
 {
     let mut memory = Memory::with_front(alloc, image.bytes())?;
     let memory: &mut Memory = &mut memory;
-    let mut machine = Machine::load(alloc, memory, image, device.count())?;
+    let mut machine = Machine::load(alloc, memory, image, device.count());
     let word = break_word(machine.memory());
     let ending = run_sliced(
         alloc,

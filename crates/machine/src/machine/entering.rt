@@ -9,7 +9,7 @@ ghost use Rattle.machine.specs.Entering.{entered, with_parts, with_cell, can_sav
 use super::Machine;
 use crate::act::Refused;
 use block_buffers::buffers::Buffers;
-use image_loader::Image;
+use image_loader::{BorrowedImage, Image};
 use memory::Memory;
 use memory::system::DP;
 use std::alloc::Global;
@@ -25,6 +25,11 @@ pub enum SaveRefused {
     #[error("out of memory")]
     OutOfMemory,
 }
+
+/// HERE is below 256, or above where the block buffers begin.
+#[derive(Clone, Copy, Debug, PartialEq, Eq, Error)]
+#[error("HERE is below 256, or above where the block buffers begin")]
+pub struct BadSize;
 
 impl<'m> Machine<'m> {
     /// Enters a word: the return stack is emptied, `ip` is 0, and the word comes next. `Halted` where the machine is, else
@@ -63,34 +68,35 @@ impl<'m> Machine<'m> {
         ensures size { IsFalse (can_save self.now.parts) → IsErrOf result SaveRefused.BadSize }
         ensures room { IfErr result (λ e. e ≡ SaveRefused.BadSize → IsFalse (can_save self.now.parts)) }
     {
-        save_memory(alloc, self.parts.memory, &self.parts.buffers, entry)
+        let Ok(image) = saved_in_place(self.parts.memory, &self.parts.buffers, entry) else {
+            return Err(SaveRefused::BadSize);
+        };
+        match image.to_image(alloc) {
+            Ok(image) => Ok(image),
+            Err(_) => Err(SaveRefused::OutOfMemory),
+        }
     }
 }
 
-/// The same of memory and buffers that no machine has now.
+/// The same image of memory and buffers that no machine has now, with the bytes as they lie in memory.
 #[tactic(auto, unfolding(crate::specs::Entering::can_save))]
-pub fn save_memory(
-    alloc: Global,
-    memory: &Memory,
+pub fn saved_in_place<'m>(
+    memory: &'m Memory,
     buffers: &Buffers,
     entry: u16,
-) -> Result<Image, SaveRefused>
+) -> Result<BorrowedImage<'m>, BadSize>
     ensures saved { (s : Whole) → s.memory ≡ stored memory.now → s.buffers ≡ buffers.now →
         IfOk result (λ image. image ≡ saved s entry) }
     ensures fits { (s : Whole) → s.memory ≡ stored memory.now → s.buffers ≡ buffers.now →
         IfOk result (λ _. IsTrue (can_save s)) }
     ensures size { (s : Whole) → s.memory ≡ stored memory.now → s.buffers ≡ buffers.now →
-        IsFalse (can_save s) → IsErrOf result SaveRefused.BadSize }
-    ensures room { (s : Whole) → s.memory ≡ stored memory.now → s.buffers ≡ buffers.now →
-        IfErr result (λ e. e ≡ SaveRefused.BadSize → IsFalse (can_save s)) }
+        IfErr result (λ _. IsFalse (can_save s)) }
 {
     let here = memory.cell(DP);
     let limit = buffers.limit();
     if here < 256 || here > limit {
-        return Err(SaveRefused::BadSize);
+        return Err(BadSize);
     }
-    match memory.as_slice()[..here as usize].to_vec(alloc) {
-        Ok(bytes) => Ok(Image::new(buffers.count(), entry, bytes)),
-        Err(_) => Err(SaveRefused::OutOfMemory),
-    }
+    let bytes = &memory.as_slice()[..here as usize];
+    Ok(BorrowedImage::new(buffers.count(), entry, bytes))
 }

@@ -10,27 +10,27 @@ use Rattle.metacompiler.proofs.Agreeing.{compiles_by}
 use Rattle.metacompiler.proofs.Moving.{refused_saved, unloaded, not_read}
 use Rattle.metacompiler.proofs.load.load_by_machine.Goals as goal
 
-pub returns-in-Ok-load : goal.returns-in-Ok-load
-returns-in-Ok-load g c = record {
+pub returns : goal.returns
+returns g c = record {
   told = told;
   compiled = λ d q. compiles_by c.args.image.now d c.args.from c.args.to c.args.limit c.load_on.result (g.D.Device.disk c.load_on.new.device) (told d q);
   refused = refused_saved _ c.load_on.result (c.load_on.new.device ≡ c.args.device.now) (subst (λ (s : State). IfErr (word_for c.args.from c.args.to (interpret_in s.parts.memory)) (λ e. (c.load_on.result ≡ Err e) × (c.load_on.new.device ≡ c.args.device.now))) started c.load_on.ensures.refused);
   moved = IfOk-weaker _ _ _ (λ word h. inl h)
       (subst (λ (s : State). IfOk (word_for c.args.from c.args.to (interpret_in s.parts.memory)) (λ word. HasRead word c.args.image.now.entry c.args.from c.args.to (stage s (g.D.Device.calls c.args.device.now) c.args.limit) (g.D.Device.calls c.load_on.new.device) c.load_on.result)) started
-      (subst (λ e. IfOk (word_for c.args.from c.args.to (interpret_in c.in-Ok-load.machine.parts.memory)) (λ word. HasRead word e c.args.from c.args.to (stage c.in-Ok-load.machine (g.D.Device.calls c.args.device.now) c.args.limit) (g.D.Device.calls c.load_on.new.device) c.load_on.result)) c.entry.ensures
+      (subst (λ e. IfOk (word_for c.args.from c.args.to (interpret_in c.load-machine.result.parts.memory)) (λ word. HasRead word e c.args.from c.args.to (stage c.load-machine.result (g.D.Device.calls c.args.device.now) c.args.limit) (g.D.Device.calls c.load_on.new.device) c.load_on.result)) c.entry.ensures
       (c.load_on.ensures.moved (rw started (refl, refl)))));
 }
   where
-    started : c.in-Ok-load.machine ≡ start c.args.image.now (g.D.Device.block_count c.args.device.now)
-    started = c.in-Ok-load.ensures ∙ ap (λ n. start c.args.image.now n) c.count-count.ensures.value
+    started : c.load-machine.result ≡ start c.args.image.now (g.D.Device.block_count c.args.device.now)
+    started = c.load-machine.ensures ∙ ap (λ n. start c.args.image.now n) c.count-count.ensures.value
 
     told : (d : Disk) → g.D.Device.disk c.args.device.now ≡ Some d → IsLoaded d (loaded_by_machine c.args.image.now d c.args.from c.args.to c.args.limit) c.load_on.result (g.D.Device.disk c.load_on.new.device)
     told d q =
         let count : c.count-count.result ≡ length d.blocks = rw q at c.count-count.ensures.told in
-        let m : c.in-Ok-load.machine ≡ start c.args.image.now (length d.blocks) = c.in-Ok-load.ensures ∙ ap (λ n. start c.args.image.now n) count in
-        let runs : Runs c.in-Ok-load.machine = rw m (refl, refl) in
+        let m : c.load-machine.result ≡ start c.args.image.now (length d.blocks) = c.load-machine.ensures ∙ ap (λ n. start c.args.image.now n) count in
+        let runs : Runs c.load-machine.result = rw m (refl, refl) in
         subst (λ (s : State). IsLoaded d (by_interpret c.args.image.now.entry s.parts d c.args.from c.args.to c.args.limit (interpret_in s.parts.memory)) c.load_on.result (g.D.Device.disk c.load_on.new.device)) m
-        (subst (λ e. IsLoaded d (by_interpret e c.in-Ok-load.machine.parts d c.args.from c.args.to c.args.limit (interpret_in c.in-Ok-load.machine.parts.memory)) c.load_on.result (g.D.Device.disk c.load_on.new.device)) c.entry.ensures
+        (subst (λ e. IsLoaded d (by_interpret e c.load-machine.result.parts d c.args.from c.args.to c.args.limit (interpret_in c.load-machine.result.parts.memory)) c.load_on.result (g.D.Device.disk c.load_on.new.device)) c.entry.ensures
         (c.load_on.ensures.told d q runs))
 
 pub returns-in_default-clause-refused : goal.returns-in_default-clause-refused
@@ -38,9 +38,3 @@ returns-in_default-clause-refused g c = unloaded _ _ refl
 
 pub returns-in_default-clause-moved : goal.returns-in_default-clause-moved
 returns-in_default-clause-moved g c = not_read _ _ _ _ _ _ _
-
-pub returns-clause-refused : goal.returns-clause-refused
-returns-clause-refused g c = unloaded _ _ refl
-
-pub returns-clause-moved : goal.returns-clause-moved
-returns-clause-moved g c = not_read _ _ _ _ _ _ _

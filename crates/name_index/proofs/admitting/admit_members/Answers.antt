@@ -1,5 +1,6 @@
 use Rattle.memory.specs.Mirrored.{stored}
-use Rattle.std.proofs.Common.{rules, ◌≤◌, ◌+◌}
+use Rattle.std.proofs.Common.{rules, ◌≤◌, ◌+◌, IsTrue}
+use Rattle.name_index.specs.Index.{slots_of}
 use Rattle.name_index.proofs.Alike.{Member}
 use Rattle.name_index.proofs.Rounds.{begin_rounds, begin_bound, next_rounds}
 use Rattle.name_index.proofs.admitting.admit_members.Goals as goal
@@ -25,10 +26,11 @@ loop-l-preserved c =
       link = search rules;
       falls = may.2;
     } in
+    let put : IsTrue c.admit.result = search rules in
     record {
-      rounds = next_rounds c.loop-l.top c.max-top.result c.args.class c.head-known.result c.args.first c.loop-l.l c.cell-link.result c.slot_at.result
-          (stored c.args.memory.now) c.args.index.now.table.value c.loop-l.index.table.value c.admit.new.self.table.value (search rules) (search rules) (search (rules, c.admit.ensures.size))
-          c.admit.ensures.newer c.admit.ensures.set (search rules) (search rules) (search (rules, may)) here c.loop-l.invariant.rounds;
+      rounds = next_rounds c.loop-l.top c.max-top.result c.args.class c.head-known.result c.args.first c.loop-l.l c.cell-link.result c.slot_at-slot.result
+          (stored c.args.memory.now) (slots_of c.args.index.now.table) (slots_of c.loop-l.index.table) (slots_of c.admit.new.self.table) (search rules) (search rules) (search (rules, c.admit.ensures.size put))
+          (c.admit.ensures.newer put) (c.admit.ensures.set put) (search rules) (search rules) (search (rules, may)) here c.loop-l.invariant.rounds;
       heads = search rules;
       top = search rules;
       more = search (rules, may);
