@@ -1,22 +1,21 @@
 -- What a written block, and a buffer that is given to a block, change for the references that follow.
-use Rattle.std.proofs.Common.{◌≡◌, ◌≢◌, ℕ, zero, suc, ◌+◌, ◌-◌, ◌<◌, ◌≤◌, ◌==◌, List, [], ◌∷◌, length, get_or, take, map, Option, Some, None, unwrap_or, refl, arith, ap, ◌∙◌, sym, subst, true, false, Bool, if◌then◌else◌}
+use Rattle.std.proofs.Common.{◌≡◌, ℕ, zero, suc, ◌+◌, ◌-◌, ◌<◌, ◌≤◌, List, [], ◌∷◌, length, get_or, Option, Some, unwrap_or, refl, arith, ap, ◌∙◌, sym, subst, true, false, Bool, if◌then◌else◌}
 use Rattle.std.specs.Prelude.{Contains, IsSome, count_by}
-use Rattle.std.specs.List.{list_any, position_or_len}
-use Rattle.std.proofs.lemmas.List.{get_or-map, get_or_default, length-map}
+use Rattle.std.proofs.lemmas.List.{get_or-map, length-map}
 use Rattle.std.proofs.lemmas.List.Sorted.{list_any-IsPermutation}
 use Rattle.std.proofs.lemmas.List.Sums.{sum_by-cons}
 use Rattle.block_buffers.specs.declared.entry.Entry.{Entry}
-use Rattle.block_buffers.specs.Entries.{unassigned_slot, is_of, is_updated, holds, slot_of, moved_front, assigned, unmarked_entry, unmarked, victim, entry_at, has_updated, first_updated, AreBuffers, HasNoBlockTwice, IsLowestUpdated}
-use Rattle.block_buffers.proofs.Blocks.{unmark_block, moved_permutes, of_from_block, block_of}
+use Rattle.block_buffers.specs.Entries.{unassigned_slot, is_of, is_updated, holds, slot_of, moved_front, assigned, unmarked_entry, unmarked, victim, entry_at, has_updated, first_updated, AreBuffers, IsLowestUpdated}
+use Rattle.block_buffers.proofs.Blocks.{unmark_block, moved_permutes, block_of}
 use Rattle.block_buffers.proofs.Fronts.{moved_at}
 use Rattle.block_buffers.proofs.Kept.{last_place}
 use Rattle.block_buffers.proofs.Places.{position_here, slot_here}
 use Rattle.block_buffers.proofs.Updated.{first_is_lowest}
+use Rattle.std.proofs.lemmas.Grind.{common_steps}
 
 -- an entry that is no longer marked is of the same block
 unmark_of : (v u : ℕ) (e : Entry) → is_of u (unmarked_entry v e) ≡ is_of u e
-unmark_of v u e =
-    ap (λ (o : Option ℕ). elim o [ Some w ↦ w == u | None ↦ false ]) (unmark_block v e (is_of v e) refl)
+unmark_of v u e = grind arith
 
 pub holds_unmarked : (v u : ℕ) (b : List Entry) → holds (unmarked v b) u ≡ holds b u
 unfolding holds unmarked
@@ -31,26 +30,16 @@ unmark_here : (u : ℕ) (e : Entry) → is_of u e ≡ true → (unmarked_entry u
 unmark_here u e h = rw h refl
 
 some_block : (o : Option ℕ) → IsSome o → o ≡ Some (unwrap_or o 0)
-some_block (Some v) h = refl
-some_block None h = cc
+some_block o h = grind arith
 
 -- an updated entry of the list has a block
 pub of_updated : (b : List Entry) (k : ℕ) (d : Entry) → AreBuffers b → k < length b → (get_or b k d).updated ≡ true → is_of (unwrap_or (get_or b k d).block 0) (get_or b k d) ≡ true
-of_updated b k d h l marked =
-    let e : Entry = get_or b k d
-    in block_of (unwrap_or e.block 0) e (some_block e.block (h.updated_have k d l marked))
+of_updated b k d h l marked = grind arith
 
 -- the victim's buffer is clean once its block is written
 pub victim_saved : (b : List Entry) → AreBuffers b → (victim b).updated ≡ true → (victim (unmarked (unwrap_or (victim b).block 0) b)).updated ≡ false
 unfolding unmarked entry_at
-victim_saved b h q =
-    let d : Entry = unassigned_slot 0
-    in let k : ℕ = length b - 1
-    in let l : k < length b = last_place b h
-    in let u : ℕ = unwrap_or (get_or b k d).block 0
-    in ap (λ (n : ℕ). (get_or (map (unmarked_entry u) b) (n - 1) d).updated) (length-map b (unmarked_entry u))
-    ∙ ap (λ (e : Entry). e.updated) (get_or-map (unmarked_entry u) b k d d l)
-    ∙ unmark_here u (get_or b k d) (of_updated b k d h l q)
+victim_saved b h q = grind (arith, last_place, length-map, get_or-map, unmark_here, of_updated)
 
 -- 1 for an entry that is marked
 abbrev mark : Entry → ℕ
@@ -60,56 +49,35 @@ count_more : (e : Entry) (es : List Entry) → count_by is_updated (e ∷ es) �
 count_more e es = sum_by-cons (λ x. if is_updated x then 1 else 0) e es
 
 mark_unmarked : (u : ℕ) (e : Entry) (m : Bool) → is_of u e ≡ m → mark (unmarked_entry u e) ≤ mark e
-mark_unmarked u e true q = rw q (omega arith)
-mark_unmarked u e false q = rw q (omega arith)
+mark_unmarked u e m q = grind arith
 
 -- never are more entries marked
 no_more_updated : (u : ℕ) (b : List Entry) → count_by is_updated (unmarked u b) ≤ count_by is_updated b
 unfolding unmarked
 no_more_updated u [] = omega arith
-no_more_updated u (e ∷ es) =
-    rw (count_more e es, count_more (unmarked_entry u e) (map (unmarked_entry u) es))
-    (omega (arith, mark_unmarked u e (is_of u e) refl, no_more_updated u es))
+no_more_updated u (e ∷ es) = grind (arith, count_more, mark_unmarked, no_more_updated u es)
 
 -- one fewer is marked where a marked entry's block is written
 fewer_updated : (u : ℕ) (b : List Entry) (k : ℕ) (d : Entry) → k < length b → (get_or b k d).updated ≡ true → is_of u (get_or b k d) ≡ true → count_by is_updated (unmarked u b) < count_by is_updated b
 unfolding unmarked
 fewer_updated u [] k d l h has = absurd (omega arith)
-fewer_updated u (e ∷ es) zero d l h has =
-    let one : mark e ≡ 1 = rw h refl
-    in let none : mark (unmarked_entry u e) ≡ 0 = rw (unmark_here u e has) refl
-    in rw (count_more e es, count_more (unmarked_entry u e) (map (unmarked_entry u) es))
-    (omega (arith, one, none, no_more_updated u es))
-fewer_updated u (e ∷ es) (suc k) d l h has =
-    rw (count_more e es, count_more (unmarked_entry u e) (map (unmarked_entry u) es))
-    (omega (arith, mark_unmarked u e (is_of u e) refl, fewer_updated u es k d (omega arith) h has))
+fewer_updated u (e ∷ es) zero d l h has = grind (arith, unmark_here, count_more, no_more_updated)
+fewer_updated u (e ∷ es) (suc k) d l h has = grind (arith, count_more, mark_unmarked, fewer_updated u es k d (omega arith) h has)
 
 -- a reference to the block in front changes nothing
 pub front_stays : (b : List Entry) (u : ℕ) → AreBuffers b → (entry_at b 0).block ≡ Some u → moved_front (slot_of b u) b ≡ b
 unfolding entry_at
-front_stays [] u h q = absurd (omega (arith, h.count.0))
-front_stays (e ∷ es) u h q =
-    let yes : is_of u e ≡ true = block_of u e q
-    in let place : position_or_len (is_of u) (e ∷ es) ≡ 0 = position_here (is_of u) 0 (e ∷ es) e yes (omega arith) (λ k f l. absurd (omega arith))
-    in let slot : slot_of (e ∷ es) u ≡ e.slot = slot_here u (e ∷ es) (rw place (omega arith)) ∙ ap (λ (i : ℕ). (get_or (e ∷ es) i (unassigned_slot 0)).slot) place
-    in ap (λ (n : ℕ). moved_front n (e ∷ es)) slot ∙ moved_at 0 (e ∷ es) e (omega arith) h.once
+front_stays b u h q = grind (arith, block_of, position_here, slot_here, moved_at)
 
 -- the block in front is still there once a buffer is given to another
 pub front_held : (b : List Entry) (u v : ℕ) → AreBuffers b → (entry_at b 0).block ≡ Some u → holds (assigned v b) u ≡ true
 unfolding holds assigned entry_at
-front_held [] u v h q = absurd (omega (arith, h.count.0))
-front_held (e ∷ []) u v h q = absurd (omega (arith, h.count.0))
-front_held (e ∷ f ∷ es) u v h q = let n : suc (suc (length es)) - 1 ≡ suc (length es) = omega arith in rw n (by_test (v == u) refl (block_of u e q)) where
-  by_test : (m : Bool) → (v == u) ≡ m → is_of u e ≡ true
-      → list_any (is_of u) (record { slot = (victim (e ∷ f ∷ es)).slot; block = Some v; updated = false } ∷ e ∷ take (length es) (f ∷ es)) ≡ true
-  by_test true r has = rw r refl
-  by_test false r has = rw (r, has) refl
+front_held b u v h q = grind arith
 
 -- the block in front is the same once a block is written
 pub front_unmarked : (b : List Entry) (u : ℕ) → AreBuffers b → (entry_at (unmarked u b) 0).block ≡ (entry_at b 0).block
 unfolding unmarked entry_at
-front_unmarked [] u h = absurd (omega (arith, h.count.0))
-front_unmarked (e ∷ es) u h = unmark_block u e (is_of u e) refl
+front_unmarked b u h = grind (arith, common_steps, unmark_block)
 
 -- the updated entry that is saved first is no longer marked
 pub fewer_saved : (b : List Entry) → AreBuffers b → has_updated b ≡ true → count_by is_updated (unmarked (unwrap_or (first_updated b).block 0) b) < count_by is_updated b
@@ -124,12 +92,7 @@ fewer_saved b h q =
 
 held_at : (u : ℕ) (b : List Entry) (k : ℕ) (d : Entry) → k < length b → is_of u (get_or b k d) ≡ true → holds b u ≡ true
 unfolding holds
-held_at u [] k d l h = absurd (omega arith)
-held_at u (e ∷ es) zero d l h = rw h refl
-held_at u (e ∷ es) (suc k) d l h = by_test (is_of u e) refl (held_at u es k d (omega arith) h) where
-  by_test : (m : Bool) → is_of u e ≡ m → holds es u ≡ true → list_any (is_of u) (e ∷ es) ≡ true
-  by_test true q rest = rw q refl
-  by_test false q rest = rw q rest
+held_at u b k d l h = grind (arith, common_steps)
 
 -- the block of an updated victim is in a buffer
 pub victim_held : (b : List Entry) → AreBuffers b → (victim b).updated ≡ true → holds b (unwrap_or (victim b).block 0) ≡ true

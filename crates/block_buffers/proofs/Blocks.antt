@@ -1,10 +1,9 @@
 -- No block is in two buffers, and where a block's entry is.
-use Rattle.std.proofs.Common.{◌≡◌, ◌≢◌, ℕ, zero, suc, ◌-◌, ◌<◌, ◌==◌, List, [], ◌∷◌, length, get_or, take, map, Option, Some, None, refl, arith, ap, ◌∙◌, sym, subst, true, false, Bool, is_some}
-use Rattle.std.specs.Prelude.{All, remove}
-use Rattle.std.specs.List.{position_or_len}
+use Rattle.std.proofs.Common.{◌≡◌, ◌≢◌, ℕ, zero, suc, ◌-◌, ◌==◌, List, [], ◌∷◌, length, take, map, Option, Some, None, refl, arith, ◌∙◌, sym, subst, true, false, Bool, is_some}
+use Rattle.std.specs.Prelude.{All}
 use Rattle.std.specs.List.Sorted.{IsPermutation}
-use Rattle.std.proofs.lemmas.Bool.{eq-eqb, eqb-true}
-use Rattle.std.proofs.lemmas.List.Elements.{All-cons, All-take}
+use Rattle.std.proofs.lemmas.Bool.{eq-eqb}
+use Rattle.std.proofs.lemmas.List.Elements.{All-take}
 use Rattle.std.proofs.lemmas.List.Kept.{AllPairs-cons}
 use Rattle.std.proofs.lemmas.List.Sorted.{IsPermutation-refl, IsPermutation-trans, IsPermutation-filter_both}
 use Rattle.std.proofs.lemmas.List.Sums.{passes_at_first}
@@ -14,21 +13,17 @@ use Rattle.block_buffers.proofs.Fronts.{moved_at, front_some, front_none}
 use Rattle.block_buffers.proofs.Kept.{length-moved_front, BlocksDiffer}
 use Rattle.block_buffers.proofs.Pairs.{pairs_head, pairs_tail, pairs_map}
 use Rattle.block_buffers.proofs.Places.{place_held, slot_here}
+use Rattle.std.proofs.lemmas.Grind.{common_steps}
 
 pub of_from_block : (u : ℕ) (o : Option ℕ) → (elim o [ Some v ↦ v == u | None ↦ false ]) ≡ true → o ≡ Some u
-of_from_block u (Some v) h = ap (λ (n : ℕ). Some n) (eqb-true v u h)
-of_from_block u None h = cc
+of_from_block u o h = grind arith
 
 pub block_of : (u : ℕ) (e : Entry) → e.block ≡ Some u → is_of u e ≡ true
 block_of u e h = rw h (eq-eqb u u refl)
 
 lacks_block : (u : ℕ) (b : List Entry) → holds b u ≡ false → All (λ e. e.block ≢ Some u) b
 unfolding holds
-lacks_block u [] h = λ k d l. absurd (omega arith)
-lacks_block u (e ∷ es) h = by_test (is_of u e) refl (lacks_block u es) where
-  by_test : (m : Bool) → is_of u e ≡ m → (holds es u ≡ false → All (λ f. f.block ≢ Some u) es) → All (λ f. f.block ≢ Some u) (e ∷ es)
-  by_test true q rest = let no : true ≡ false = rw q at h in cc
-  by_test false q rest = All-cons (λ f. f.block ≢ Some u) e es (λ r. let yes : is_of u e ≡ true = block_of u e r in cc) (rest (rw q at h))
+lacks_block u b h = grind (arith, common_steps, block_of)
 
 no_blocks : (b : List Entry) → HasNoBlockTwice (map unassigned_entry b)
 no_blocks [] = λ i j d l m. absurd (omega arith)
@@ -61,8 +56,7 @@ blocks_marked [] h = h
 blocks_marked (e ∷ es) h = marked_with e es (is_some e.block) refl h
 
 pub clean_block : (slot : ℕ) (e : Entry) (m : Bool) → is_in slot e ≡ m → (cleaned_entry slot e).block ≡ e.block
-clean_block slot e true q = rw q refl
-clean_block slot e false q = rw q refl
+clean_block slot e m q = grind arith
 
 pub blocks_cleaned : (slot : ℕ) (b : List Entry) → HasNoBlockTwice b → HasNoBlockTwice (cleaned slot b)
 unfolding cleaned
@@ -71,8 +65,7 @@ blocks_cleaned slot b h =
     (λ d e r u q k. r u (sym (clean_block slot d (is_in slot d) refl) ∙ q) (sym (clean_block slot e (is_in slot e) refl) ∙ k)) b h
 
 pub unmark_block : (u : ℕ) (e : Entry) (m : Bool) → is_of u e ≡ m → (unmarked_entry u e).block ≡ e.block
-unmark_block u e true q = rw q refl
-unmark_block u e false q = rw q refl
+unmark_block u e m q = grind arith
 
 pub blocks_unmarked : (u : ℕ) (b : List Entry) → HasNoBlockTwice b → HasNoBlockTwice (unmarked u b)
 unfolding unmarked
@@ -95,13 +88,7 @@ blocks_assigned u b none h =
 -- the entry of a block that a buffer has comes to the front
 pub touched_block : (u : ℕ) (b : List Entry) → AreBuffers b → holds b u ≡ true → (entry_at (moved_front (slot_of b u) b) 0).block ≡ Some u
 unfolding entry_at
-touched_block u b h k =
-    let place : ℕ = position_or_len (is_of u) b
-    in let d : Entry = unassigned_slot 0
-    in let l : place < length b = place_held u b k
-    in let P : List Entry → Type 0 = λ es. (get_or es 0 d).block ≡ Some u
-    in let at_slot : moved_front (slot_of b u) b ≡ get_or b place d ∷ remove b place = ap (λ (slot : ℕ). moved_front slot b) (slot_here u b l) ∙ moved_at place b d l h.once
-    in subst P (sym at_slot) (of_from_block u (get_or b place d).block (passes_at_first (is_of u) b d l))
+touched_block u b h k = grind (arith, place_held, slot_here, moved_at, of_from_block, passes_at_first)
 
 pub holds_assigned : (u : ℕ) (b : List Entry) → holds (assigned u b) u ≡ true
 unfolding holds assigned

@@ -1,5 +1,5 @@
 -- How many calls of a device failed.
-use Rattle.std.proofs.Common.{◌≡◌, ◌+◌, Bool, true, false, List, [], ◌∷◌, ◌++◌, refl, ap, ◌∙◌, arith, if◌then◌else◌}
+use Rattle.std.proofs.Common.{◌≡◌, ◌+◌, Bool, true, false, List, [], ◌∷◌, ◌++◌, ap, ◌∙◌, arith, if◌then◌else◌}
 use Rattle.std.proofs.lemmas.List.Sums.{sum_by-append}
 use Rattle.block_buffers.specs.DeviceCalls.{DeviceCall}
 use Rattle.block_buffers.specs.Calls.{has_failed, failures}
@@ -10,10 +10,7 @@ failures-append xs ys = sum_by-append (λ c. if has_failed c then 1 else 0) xs y
 
 failures_one : (c : DeviceCall) (b : Bool) → has_failed c ≡ b → failures (c ∷ []) ≡ (if b then 1 else 0)
 unfolding failures
-failures_one c b q = rw q (by_test b) where
-  by_test : (b : Bool) → 0 + (if b then 1 else 0) ≡ (if b then 1 else 0)
-  by_test true = refl
-  by_test false = refl
+failures_one c b q = grind arith
 
 -- of a call that succeeds, none more; of one that fails, one
 pub succeeded : (old new : List DeviceCall) (c : DeviceCall) → new ≡ old ++ c ∷ [] → has_failed c ≡ false → failures new ≡ failures old

@@ -1,7 +1,7 @@
 -- The buffer of a block, found without putting the slots in order.
-use Rattle.std.proofs.Common.{◌≡◌, ℕ, suc, ◌-◌, ◌<◌, ◌≤◌, List, [], ◌∷◌, length, get_or, drop, drop_of_length-le, nat_lt, Bool, true, false, Option, Some, None, unwrap_or, is_some, refl, arith, sym, subst, ◌∙◌, ap, map, if◌then◌else◌}
+use Rattle.std.proofs.Common.{◌≡◌, ℕ, suc, ◌-◌, ◌<◌, ◌≤◌, List, [], ◌∷◌, length, get_or, drop, drop_of_length-le, nat_lt, Bool, true, false, Some, None, is_some, refl, arith, sym, subst, ◌∙◌, ap, map, if◌then◌else◌}
 use Rattle.std.specs.Prelude.{find}
-use Rattle.std.specs.List.{list_any, position_or_len}
+use Rattle.std.specs.List.{list_any}
 use Rattle.std.specs.Option.{option_map}
 use Rattle.std.proofs.Math.Seq.{drop-cons}
 use Rattle.std.proofs.lemmas.Grind.{common_steps}
@@ -84,19 +84,14 @@ holds_latest u xs s h = holds_find u (recent xs) ∙ rw (find_recent u xs, h) re
 
 pub slot_latest : (u : ℕ) (xs : List Slot) (s : Slot) → latest u xs ≡ Some s → slot_of (recent xs) u ≡ s.entry.slot
 unfolding slot_of
-slot_latest u xs s h =
-    ap (λ (o : Option Entry). (unwrap_or o (victim (recent xs))).slot) (find_recent u xs ∙ ap (option_map entry_of) h)
+slot_latest u xs s h = grind (arith, find_recent)
 
 pub none_latest : (u : ℕ) (xs : List Slot) → latest u xs ≡ None → holds (recent xs) u ≡ false
 none_latest u xs h = holds_find u (recent xs) ∙ rw (find_recent u xs, h) refl
 
 pub not_held : (u : ℕ) (es : List Entry) → holds es u ≡ false → slot_of es u ≡ (victim es).slot
 unfolding slot_of
-not_held u es h = by (find (is_of u) es) refl
-  where
-    by : (o : Option Entry) → find (is_of u) es ≡ o → (unwrap_or (find (is_of u) es) (victim es)).slot ≡ (victim es).slot
-    by None e = rw e refl
-    by (Some x) e = let no : true ≡ false = sym (ap is_some e) ∙ sym (holds_find u es) ∙ h in cc
+not_held u es h = grind (arith, holds_find)
 
 pub ruleset finds = (holds_latest, slot_latest, none_latest, not_held)
 
@@ -130,16 +125,10 @@ unfolding entry_at
 victim_small b h = h.slots (length b - 1) (unassigned_slot 0) (last_place b h)
 
 pub held_small : (u : ℕ) (b : List Entry) → AreBuffers b → holds b u ≡ true → slot_of b u < length b
-held_small u b h k =
-    let l : position_or_len (is_of u) b < length b = place_held u b k in
-    rw (slot_here u b l) (h.slots (position_or_len (is_of u) b) (unassigned_slot 0) l)
+held_small u b h k = grind (arith, place_held, slot_here)
 
 pub slot_small : (u : ℕ) (b : List Entry) → AreBuffers b → slot_of b u < length b
-slot_small u b h = by (holds b u) refl
-  where
-    by : (m : Bool) → holds b u ≡ m → slot_of b u < length b
-    by true k = held_small u b h k
-    by false k = rw (not_held u b k) (victim_small b h)
+slot_small u b h = grind (arith, held_small, not_held, victim_small)
 
 -- so it is below the number of slots, of which there are 2 to 16
 pub some_slots : (xs : List Slot) → AreBuffers (recent xs) → 0 < length xs
@@ -150,9 +139,7 @@ few_slots xs h = omega (arith, h.count.1, length-recent xs)
 
 pub last_recent : (xs : List Slot) (d : Entry) → AreBuffers (recent xs) → get_or (recent xs) (length xs - 1) d ≡ victim (recent xs)
 unfolding entry_at
-last_recent xs d h =
-    get_or_default (recent xs) (length xs - 1) d (unassigned_slot 0) (omega (arith, h.count.0, length-recent xs))
-    ∙ ap (λ n. get_or (recent xs) (n - 1) (unassigned_slot 0)) (sym (length-recent xs))
+last_recent xs d h = grind (arith, get_or_default, length-recent)
 
 pub victim_among : (xs : List Slot) → AreBuffers (recent xs) → (victim (recent xs)).slot < length xs
 victim_among xs h = omega (arith, victim_small (recent xs) h, length-recent xs)

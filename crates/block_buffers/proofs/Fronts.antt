@@ -4,7 +4,8 @@ use Rattle.std.specs.Prelude.{remove, filter, AllPairs}
 use Rattle.std.proofs.lemmas.Bool.{eq-eqb, ne_eqb}
 use Rattle.std.proofs.lemmas.List.{get_or_default}
 use Rattle.block_buffers.specs.declared.entry.Entry.{Entry}
-use Rattle.block_buffers.specs.Entries.{unassigned_slot, is_in, is_elsewhere, moved_front, assigned, front_marked, entry_at}
+use Rattle.block_buffers.specs.Entries.{is_in, is_elsewhere, moved_front, assigned, front_marked, entry_at}
+use Rattle.std.proofs.lemmas.Grind.{common_steps}
 
 -- no two entries have the same slot
 abbrev pub SlotsDiffer : List Entry → Type 0
@@ -52,27 +53,19 @@ unfolding moved_front
 moved_at i es d l h = rw (one_in i es d l h, others_elsewhere i es d l h) refl
 
 pub last_removed : (i : ℕ) (es : List Entry) → suc i ≡ length es → remove es i ≡ take i es
-last_removed i [] h = absurd (omega arith)
-last_removed zero (e ∷ []) h = refl
-last_removed zero (e ∷ f ∷ es) h = absurd (omega arith)
-last_removed (suc i) (e ∷ es) h = ap (λ (xs : List Entry). e ∷ xs) (last_removed i es (omega arith))
+last_removed i es h = grind (arith, common_steps)
 
 pub assigned_at : (u : ℕ) (es : List Entry) (d : Entry) → length es - 1 < length es
     → assigned u es ≡ record { slot = (get_or es (length es - 1) d).slot; block = Some u; updated = false } ∷ remove es (length es - 1)
 unfolding assigned entry_at
-assigned_at u es d h =
-    let same : get_or es (length es - 1) (unassigned_slot 0) ≡ get_or es (length es - 1) d = get_or_default es (length es - 1) (unassigned_slot 0) d h
-    in let last : remove es (length es - 1) ≡ take (length es - 1) es = last_removed (length es - 1) es (omega arith)
-    in rw (same, last) refl
+assigned_at u es d h = grind (arith, get_or_default, last_removed)
 
 pub front_some : (es : List Entry) (d : Entry) → 0 < length es → is_some (get_or es 0 d).block ≡ true → front_marked es ≡ set es 0 (record (get_or es 0 d) { updated = true })
 unfolding front_marked
-front_some [] d h q = absurd (omega arith)
-front_some (e ∷ es) d h q = rw q refl
+front_some es d h q = grind arith
 
 pub front_none : (es : List Entry) (d : Entry) → 0 < length es → is_some (get_or es 0 d).block ≡ false → front_marked es ≡ es
 unfolding front_marked
-front_none [] d h q = absurd (omega arith)
-front_none (e ∷ es) d h q = rw q refl
+front_none es d h q = grind arith
 
 pub ruleset fronts = (front_some, front_none)

@@ -1,5 +1,5 @@
 -- What every list of buffers keeps.
-use Rattle.std.proofs.Common.{◌≡◌, ◌≢◌, ℕ, zero, suc, ◌-◌, ◌<◌, ◌≤◌, List, [], ◌∷◌, length, length-append, get_or, map, Option, Some, None, refl, arith, ◌∙◌, sym, ap, subst, true, false, Bool, is_some}
+use Rattle.std.proofs.Common.{◌≡◌, ◌≢◌, ℕ, zero, suc, ◌-◌, ◌<◌, ◌≤◌, List, ◌∷◌, length, length-append, get_or, map, Option, Some, None, refl, arith, ◌∙◌, sym, ap, subst, true, false, Bool, is_some}
 use Rattle.std.proofs.lemmas.List.{length-map}
 use Rattle.std.specs.Prelude.{remove, filter, All, AllPairs, IsSome}
 use Rattle.std.proofs.lemmas.List.Elements.{All-nil, All-cons, All-head, All-tail, All-append, All-map, All-filter, All-weaker}
@@ -31,8 +31,7 @@ all_parted P slot b h =
 
 pub length-moved_front : (slot : ℕ) (b : List Entry) → length (moved_front slot b) ≡ length b
 unfolding moved_front
-length-moved_front slot b =
-    length-append (filter (is_in slot) b) (filter (is_elsewhere slot) b) ∙ length-filter_both (is_in slot) (is_elsewhere slot) (λ e. refl) b
+length-moved_front slot b = grind (arith, length-append, length-filter_both)
 
 slots_parted : (slot : ℕ) (b : List Entry) → AllPairs SlotsDiffer b → AllPairs SlotsDiffer (moved_front slot b)
 unfolding moved_front
@@ -83,14 +82,11 @@ marked_with e es (Some u) q h =
     let some : is_some e.block ≡ true = rw q refl
     in let P : List Entry → Type 0 = λ b. AreBuffers b
     in subst P (sym (front_some (e ∷ es) e (omega arith) some)) (are_replaced e (record e { updated = true }) es refl (λ _. some) h)
-marked_with e es None q h =
-    let none : is_some e.block ≡ false = rw q refl
-    in let P : List Entry → Type 0 = λ b. AreBuffers b in subst P (sym (front_none (e ∷ es) e (omega arith) none)) h
+marked_with e es None q h = grind (arith, front_none)
 
 pub are_marked : (b : List Entry) → AreBuffers b → AreBuffers (front_marked b)
 unfolding front_marked
-are_marked [] h = h
-are_marked (e ∷ es) h = marked_with e es e.block refl h
+are_marked b h = grind (arith, marked_with)
 
 -- a change of each entry that leaves its slot
 are_mapped : (f : Entry → Entry) → ((e : Entry) → (f e).slot ≡ e.slot) → ((e : Entry) → HasWhereUpdated e → HasWhereUpdated (f e)) → (b : List Entry) → AreBuffers b → AreBuffers (map f b)
@@ -103,24 +99,20 @@ are_mapped f same up b h = let n = length-map b f in record {
 }
 
 clean_slot : (slot : ℕ) (e : Entry) (b : Bool) → is_in slot e ≡ b → (cleaned_entry slot e).slot ≡ e.slot
-clean_slot slot e true q = rw q refl
-clean_slot slot e false q = rw q refl
+clean_slot slot e b q = grind arith
 
 clean_up : (slot : ℕ) (e : Entry) (b : Bool) → is_in slot e ≡ b → HasWhereUpdated e → HasWhereUpdated (cleaned_entry slot e)
-clean_up slot e true q h = rw q (λ r. cc)
-clean_up slot e false q h = rw q h
+clean_up slot e b q h = grind arith
 
 pub are_cleaned : (slot : ℕ) (b : List Entry) → AreBuffers b → AreBuffers (cleaned slot b)
 unfolding cleaned
 are_cleaned slot b h = are_mapped (cleaned_entry slot) (λ e. clean_slot slot e (is_in slot e) refl) (λ e. clean_up slot e (is_in slot e) refl) b h
 
 unmarked_slot : (u : ℕ) (e : Entry) (b : Bool) → is_of u e ≡ b → (unmarked_entry u e).slot ≡ e.slot
-unmarked_slot u e true q = rw q refl
-unmarked_slot u e false q = rw q refl
+unmarked_slot u e b q = grind arith
 
 unmarked_up : (u : ℕ) (e : Entry) (b : Bool) → is_of u e ≡ b → HasWhereUpdated e → HasWhereUpdated (unmarked_entry u e)
-unmarked_up u e true q h = rw q (λ r. cc)
-unmarked_up u e false q h = rw q h
+unmarked_up u e b q h = grind arith
 
 pub are_unmarked : (u : ℕ) (b : List Entry) → AreBuffers b → AreBuffers (unmarked u b)
 unfolding unmarked
@@ -139,9 +131,7 @@ start_below (suc n) m h = All-cons (λ e. e.slot < m) (unassigned_slot n) (start
 start_differ : (n : ℕ) → AllPairs SlotsDiffer (start n)
 unfolding start
 start_differ zero = λ i j d l m. absurd (omega arith)
-start_differ (suc n) =
-    AllPairs-cons SlotsDiffer (unassigned_slot n) (start n)
-    (All-weaker (λ e. e.slot < n) (SlotsDiffer (unassigned_slot n)) (λ e l q. absurd (omega arith)) (start n) (start_below n n (omega arith))) (start_differ n)
+start_differ (suc n) = grind (arith, start_below, start_differ n)
 
 start_unmarked : (n : ℕ) → All HasWhereUpdated (start n)
 unfolding start
@@ -154,12 +144,7 @@ length-start zero = refl
 length-start (suc n) = ap suc (length-start n)
 
 pub are_started : (n : ℕ) → IsCount n → AreBuffers (start n)
-are_started n h = let e = length-start n in record {
-  count = subst (λ k. IsCount k) (sym e) h;
-  slots = subst (λ k. All (SmallSlot k) (start n)) (sym e) (start_below n n (omega arith));
-  once = start_differ n;
-  updated_have = start_unmarked n;
-}
+are_started n h = grind (arith, length-start, start_below, start_differ, start_unmarked)
 
 -- no move changes how many there are
 pub length-assigned : (u : ℕ) (b : List Entry) → AreBuffers b → length (assigned u b) ≡ length b

@@ -16,6 +16,6 @@ pub mod Fresh
 pub mod Found
 pub mod Trying
 pub mod Taking
-mod Walks
+pub mod Walks
 pub mod Likeness
 pub mod ReadPages

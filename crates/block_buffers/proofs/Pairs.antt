@@ -1,8 +1,9 @@
 -- A relation between each element of a list and each later one.
 use Rattle.std.proofs.Common.{◌≡◌, suc, List, [], ◌∷◌, ◌++◌, map, arith, true, false, Bool, not, refl, get_or}
 use Rattle.std.specs.Prelude.{filter, All, AllPairs}
-use Rattle.std.proofs.lemmas.List.Elements.{All-nil, All-cons, All-head, All-tail, All-append, All-map, All-filter, All-weaker}
+use Rattle.std.proofs.lemmas.List.Elements.{All-nil, All-cons, All-map, All-filter, All-weaker}
 use Rattle.std.proofs.lemmas.List.Kept.{AllPairs-cons, AllPairs-filter}
+use Rattle.std.proofs.lemmas.Grind.{common_steps}
 
 pub pairs_head : {X : Type 0} (R : X → X → Type 0) (x : X) (xs : List X) → AllPairs R (x ∷ xs) → All (R x) xs
 pairs_head R x xs h = λ k d l. h 0 (suc k) d (omega arith) (omega arith)
@@ -18,11 +19,7 @@ pairs_map R f keeps (x ∷ xs) h =
     (pairs_map R f keeps xs (pairs_tail R x xs h))
 
 pub pairs_append : {X : Type 0} (R : X → X → Type 0) (xs ys : List X) → AllPairs R xs → AllPairs R ys → All (λ x. All (R x) ys) xs → AllPairs R (xs ++ ys)
-pairs_append R [] ys h k across = k
-pairs_append R (x ∷ xs) ys h k across =
-    AllPairs-cons R x (xs ++ ys)
-    (All-append (R x) xs ys (pairs_head R x xs h) (All-head (λ z. All (R z) ys) x xs across))
-    (pairs_append R xs ys (pairs_tail R x xs h) k (All-tail (λ z. All (R z) ys) x xs across))
+pairs_append R xs ys h k across = grind (arith, common_steps, across, pairs_head, pairs_tail)
 
 -- those elements that pass a test against those that don't, with one element more
 across_more : {X : Type 0} (R : X → X → Type 0) → ((x y : X) → R x y → R y x) → (p : X → Bool) (x : X) (xs : List X) → All (R x) xs → All (λ z. All (R z) (filter (λ y. not (p y)) xs)) (filter p xs) → (b : Bool) → p x ≡ b → All (λ z. All (R z) (filter (λ y. not (p y)) (x ∷ xs))) (filter p (x ∷ xs))

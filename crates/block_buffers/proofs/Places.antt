@@ -1,9 +1,8 @@
 -- Where the buffer of a block is in the list.
-use Rattle.std.proofs.Common.{◌≡◌, ℕ, ◌<◌, ◌≤◌, List, length, get_or, arith, true, false, Bool, ap, ◌∙◌, Option, unwrap_or, inl, inr}
+use Rattle.std.proofs.Common.{◌≡◌, ℕ, ◌<◌, ◌≤◌, List, length, get_or, arith, true, false, Bool}
 use Rattle.std.specs.List.{position_or_len}
 use Rattle.std.proofs.lemmas.Bool.{cases_lt}
 use Rattle.std.proofs.lemmas.List.{get_or_default, get_or_past}
-use Rattle.std.proofs.lemmas.List.Elements.{All-from_get_or}
 use Rattle.std.proofs.lemmas.List.Folds.{list_any_at, list_any_none, find_at}
 use Rattle.std.proofs.lemmas.List.Sums.{position_or_len_is, passes_at_first, fails_before_first}
 use Rattle.std.proofs.lemmas.Option.{unwrap_or-slice_get}
@@ -35,26 +34,19 @@ holds_here u es h = list_any_at (is_of u) es (position_or_len (is_of u) es) (una
 
 pub holds_end : (u : ℕ) (es : List Entry) → length es ≤ position_or_len (is_of u) es → holds es u ≡ false
 unfolding holds
-holds_end u es h =
-    list_any_none (is_of u) es (All-from_get_or (λ e. is_of u e ≡ false) es (unassigned_slot 0) (λ k l. fails_before_first (is_of u) es k (unassigned_slot 0) (omega arith)))
+holds_end u es h = grind (arith, list_any_none, fails_before_first)
 
 pub place_held : (u : ℕ) (es : List Entry) → holds es u ≡ true → position_or_len (is_of u) es < length es
-place_held u es h = elim (cases_lt (position_or_len (is_of u) es) (length es)) [
-  | inl l ↦ l
-  | inr g ↦ let no : holds es u ≡ false = holds_end u es g in cc
-]
+place_held u es h = grind (arith, cases_lt, holds_end)
 
 found : (u : ℕ) (es : List Entry) → slot_of es u ≡ (get_or es (position_or_len (is_of u) es) (victim es)).slot
 unfolding slot_of
-found u es =
-    ap (λ (e : Entry). e.slot) (ap (λ (o : Option Entry). unwrap_or o (victim es)) (find_at (is_of u) es) ∙ unwrap_or-slice_get es (position_or_len (is_of u) es) (victim es))
+found u es = grind (arith, find_at, unwrap_or-slice_get)
 
 pub slot_here : (u : ℕ) (es : List Entry) → position_or_len (is_of u) es < length es → slot_of es u ≡ (get_or es (position_or_len (is_of u) es) (unassigned_slot 0)).slot
-slot_here u es h =
-    found u es ∙ ap (λ (e : Entry). e.slot) (get_or_default es (position_or_len (is_of u) es) (victim es) (unassigned_slot 0) h)
+slot_here u es h = grind (arith, found, get_or_default)
 
 pub slot_end : (u : ℕ) (es : List Entry) → length es ≤ position_or_len (is_of u) es → slot_of es u ≡ (victim es).slot
-slot_end u es h =
-    found u es ∙ ap (λ (e : Entry). e.slot) (get_or_past es (position_or_len (is_of u) es) (victim es) h)
+slot_end u es h = grind (arith, found, get_or_past)
 
 pub ruleset places = (holds_here, holds_end, place_held, slot_here, slot_end)

@@ -1,19 +1,18 @@
 -- Blocks that were read one after another, and a disk of their pages: a device that was asked for nothing else did as that disk.
-use Rattle.std.proofs.Common.{◌≡◌, ℕ, suc, ◌+◌, ◌-◌, ◌<◌, ◌≤◌, ◌∙◌, ◌&&◌, List, [], ◌∷◌, ◌++◌, true, length, take, drop, replicate, slice_index_or, nat_lt, arith, refl, sym, ap, subst, append-nil, append_assoc}
+use Rattle.std.proofs.Common.{◌≡◌, ℕ, suc, ◌+◌, ◌-◌, ◌<◌, ◌≤◌, ◌∙◌, List, [], ◌∷◌, ◌++◌, length, take, drop, replicate, arith, refl, sym, ap, subst, append-nil, append_assoc}
 use Rattle.std.proofs.Math.Seq.{drop-append_seam, take-append_seam}
 use Rattle.std.proofs.lemmas.Bool.{lt-ltb}
 use Rattle.std.proofs.lemmas.List.{drop-drop, get_or-drop, length-append, length-drop, length-replicate}
 use Rattle.block_buffers.specs.DeviceCalls.{DeviceCall, WasRead}
-use Rattle.block_buffers.specs.Disks.{Disk, block_at, succeeds}
+use Rattle.block_buffers.specs.Disks.{Disk, block_at}
 use Rattle.block_buffers.specs.Likeness.{AllCameTo, DidAs}
 use Rattle.block_buffers.specs.ReadPages.{AreReadFrom, reads_of}
+use Rattle.std.proofs.lemmas.Grind.{common_steps}
 
 pub reads_snoc : (from : ℕ) (pages : List (List ℕ)) (page : List ℕ) → reads_of from (pages ++ page ∷ []) ≡ reads_of from pages ++ WasRead (from + length pages) page ∷ []
 unfolding reads_of
 reads_snoc from [] page = let e : from ≡ from + 0 = omega arith in ap (λ n. WasRead n page ∷ []) e
-reads_snoc from (p ∷ pages) page =
-    let e : from + 1 + length pages ≡ from + length (p ∷ pages) = omega arith in
-    ap (λ cs. WasRead from p ∷ cs) (reads_snoc (from + 1) pages page ∙ ap (λ n. reads_of (from + 1) pages ++ WasRead n page ∷ []) e)
+reads_snoc from (p ∷ pages) page = grind (arith, reads_snoc (from + 1) pages page)
 
 pub none_read : (from count : ℕ) (calls : List DeviceCall) → AreReadFrom from (from - from) count calls calls
 unfolding reads_of
@@ -41,9 +40,7 @@ there : (blocks : List (List ℕ)) (from : ℕ) (page : List ℕ) (rest : List (
 there blocks from page rest e = let size : length (drop from blocks) ≡ suc (length rest) = ap length e in omega (arith, size, length-drop from blocks)
 
 found : (blocks : List (List ℕ)) (from : ℕ) (page : List ℕ) (rest : List (List ℕ)) → drop from blocks ≡ page ∷ rest → page ≡ block_at blocks from
-found blocks from page rest e =
-    let at : from + 0 ≡ from = omega arith in
-    sym (ap (λ v. slice_index_or v 0 []) e) ∙ get_or-drop from blocks 0 [] ∙ ap (λ n. slice_index_or blocks n []) at
+found blocks from page rest e = grind (arith, common_steps, get_or-drop)
 
 next : (blocks : List (List ℕ)) (from : ℕ) (page : List ℕ) (rest : List (List ℕ)) → drop from blocks ≡ page ∷ rest → drop (from + 1) blocks ≡ rest
 next blocks from page rest e = sym (drop-drop 1 from blocks) ∙ ap (drop 1) e
@@ -53,9 +50,7 @@ all_came : (blocks : List (List ℕ)) (pages rest : List (List ℕ)) (from : ℕ
 unfolding AllCameTo reads_of
 all_came blocks [] rest from e = refl
 all_came blocks (page ∷ pages) rest from e =
-    let below : nat_lt from (length blocks) ≡ true = lt-ltb from (length blocks) (there blocks from page (pages ++ rest) e) in
-    let fine : succeeds (sound blocks) from ≡ true = ap (λ b. b && true) below in
-    (sound blocks, (fine, found blocks from page (pages ++ rest) e, refl), all_came blocks pages rest (from + 1) (next blocks from page (pages ++ rest) e))
+    grind (arith, lt-ltb, there, found, next, all_came blocks pages rest (from + 1) (next blocks from page (pages ++ rest) e))
 
 -- a disk of so many blocks with these pages from a number on
 pub blocks_with : (count from : ℕ) → (pages : List (List ℕ)) → List (List ℕ)
@@ -63,8 +58,7 @@ blocks_with count from [] = replicate count []
 blocks_with count from (page ∷ pages) = replicate from [] ++ ((page ∷ pages) ++ replicate (count - (from + length (page ∷ pages))) [])
 
 pages_at : (from : ℕ) (pages rest : List (List ℕ)) → drop from (replicate from [] ++ (pages ++ rest)) ≡ pages ++ rest
-pages_at from pages rest =
-    subst (λ n. drop n (replicate from [] ++ (pages ++ rest)) ≡ pages ++ rest) (length-replicate from []) (drop-append_seam (replicate from []) (pages ++ rest))
+pages_at from pages rest = grind (arith, common_steps, length-replicate, drop-append_seam)
 
 pub did_as : (count from n : ℕ) (pages : List (List ℕ)) (calls calls' : List DeviceCall) → length pages ≡ n → (0 < n → from + n ≤ count) → calls' ≡ calls ++ reads_of from pages
     → DidAs (sound (blocks_with count from pages)) (sound (blocks_with count from pages)) count calls calls'
@@ -74,15 +68,10 @@ did_as count from n (page ∷ pages) calls calls' all fits read =
     let all_pages = page ∷ pages in
     let rest = replicate (count - (from + length all_pages)) [] in
     let none : List ℕ = [] in
-    let most : from + n ≤ count = fits (omega (arith, all)) in
     let size : length (replicate from [] ++ (all_pages ++ rest)) ≡ count =
     length-append (replicate from []) (all_pages ++ rest) ∙ omega (arith, length-replicate from none, length-append all_pages rest, length-replicate (count - (from + length all_pages)) none, all) in
     record { count_is = sym size; made = reads_of from all_pages; calls_are = read; came = all_came (replicate from [] ++ (all_pages ++ rest)) all_pages rest from (pages_at from all_pages rest) }
 
 pub same_pages : (count from : ℕ) (pages : List (List ℕ)) → take (length pages) (drop from (blocks_with count from pages)) ≡ pages
 unfolding blocks_with
-same_pages count from [] = refl
-same_pages count from (page ∷ pages) =
-    let all_pages = page ∷ pages in
-    let rest = replicate (count - (from + length all_pages)) [] in
-    ap (take (length all_pages)) (pages_at from all_pages rest) ∙ take-append_seam all_pages rest
+same_pages count from pages = grind (arith, common_steps, pages_at, take-append_seam)

@@ -21,23 +21,18 @@ part_before p x a b w h l =
 
 -- w bytes from a on, at or after the b bytes in front
 part_behind : (f x : List ℕ) (a b w : ℕ) → length f ≡ b → b ≤ a → take w (drop a (f ++ x)) ≡ take w (drop (a - b) x)
-part_behind f x a b w h l =
-    ap (λ (n : ℕ). take w (drop n (f ++ x))) (omega arith) ∙ ap (take w) (drop-append-add f x (a - b))
+part_behind f x a b w h l = grind (arith, drop-append-add)
 
 -- the text is at b
 part_text : (p text x : List ℕ) (b w : ℕ) → length text ≡ w → b ≤ length p → take w (drop b (take b p ++ (text ++ x))) ≡ text
-part_text p text x b w h l =
-    let none : b - b ≡ 0 = omega arith
-    in part_behind (take b p) (text ++ x) b b w (length-take-le b p l) (omega arith) ∙ ap (λ (n : ℕ). take w (drop n (text ++ x))) none ∙ take_at text x w h
+part_text p text x b w h l = grind (arith, part_behind, length-take-le, take_at)
 
 -- after the text
 part_after : (p text x : List ℕ) (a b w : ℕ) → length text ≡ w → b ≤ length p → b + w ≤ a → take w (drop a (take b p ++ (text ++ x))) ≡ take w (drop (a - b - w) x)
-part_after p text x a b w h l k =
-    part_behind (take b p) (text ++ x) a b w (length-take-le b p l) (omega arith) ∙ part_behind text x (a - b) w w h (omega arith)
+part_after p text x a b w h l k = grind (arith, part_behind, length-take-le)
 
 put_after : (p text : List ℕ) (a b w : ℕ) → length text ≡ w → b ≤ length p → b + w ≤ a → take w (drop a (take b p ++ (text ++ drop (b + w) p))) ≡ take w (drop a p)
-put_after p text a b w h l k =
-    part_after p text (drop (b + w) p) a b w h l k ∙ ap (take w) (drop-drop (a - b - w) (b + w) p ∙ ap (λ (n : ℕ). drop n p) (omega arith))
+put_after p text a b w h l k = grind (arith, part_after, drop-drop)
 
 -- the part that was w bytes before a
 inserted_after : (p text : List ℕ) (a b w : ℕ) → length text ≡ w → b + w ≤ a → a + w ≤ length p → take w (drop a (take b p ++ (text ++ take (length p - b - w) (drop b p)))) ≡ take w (drop (a - w) p)
@@ -59,11 +54,7 @@ deleted_after p x a b w k l =
 
 -- the blanks at the end
 deleted_last : (p x : List ℕ) (a b w : ℕ) → b ≤ a → a + w ≡ length p → length x ≡ w → take w (drop a (take b p ++ (drop (b + w) p ++ x))) ≡ x
-deleted_last p x a b w k l h =
-    let none : a - b - (a - b) ≡ 0 = omega arith
-    in part_behind (take b p) (drop (b + w) p ++ x) a b w (length-take-le b p (omega arith)) k
-    ∙ part_behind (drop (b + w) p) x (a - b) (a - b) w (length-drop (b + w) p ∙ omega arith) (omega arith)
-    ∙ ap (λ (n : ℕ). take w (drop n x)) none ∙ take_all w x (omega arith)
+deleted_last p x a b w k l h = grind (arith, part_behind, length-take-le, length-drop, take_all)
 
 pub put_line : (p text : List ℕ) (n : ℕ) → IsScreen p → IsLine text → line_at (with_line p n text) n ≡ text
 unfolding line_at with_line
@@ -118,22 +109,15 @@ wiped_line n =
 
 pub size_put : (p text : List ℕ) (n : ℕ) → IsScreen p → IsLine text → IsScreen (with_line p n text)
 unfolding with_line
-size_put p text n h k =
-    length-append (take (line_start n) p) (text ++ drop (line_start n + 64) p)
-    ∙ omega (arith, length-take-le (line_start n) p (omega arith), length-append text (drop (line_start n + 64) p), length-drop (line_start n + 64) p)
+size_put p text n h k = grind (arith, length-append, length-take-le, length-drop)
 
 pub size_inserted : (p text : List ℕ) (n : ℕ) → IsScreen p → IsLine text → IsScreen (line_inserted p n text)
 unfolding line_inserted
-size_inserted p text n h k =
-    let rest : length (take (length p - line_start n - 64) (drop (line_start n) p)) ≡ length p - line_start n - 64 = length-take-le (length p - line_start n - 64) (drop (line_start n) p) (omega (arith, length-drop (line_start n) p))
-    in length-append (take (line_start n) p) (text ++ take (length p - line_start n - 64) (drop (line_start n) p))
-    ∙ omega (arith, length-take-le (line_start n) p (omega arith), length-append text (take (length p - line_start n - 64) (drop (line_start n) p)))
+size_inserted p text n h k = grind (arith, length-take-le, length-drop, length-append)
 
 pub size_deleted : (p : List ℕ) (n : ℕ) → IsScreen p → IsScreen (line_deleted p n)
 unfolding line_deleted
-size_deleted p n h =
-    length-append (take (line_start n) p) (drop (line_start n + 64) p ++ blank_line)
-    ∙ omega (arith, length-take-le (line_start n) p (omega arith), length-append (drop (line_start n + 64) p) blank_line, length-drop (line_start n + 64) p, size_blank)
+size_deleted p n h = grind (arith, length-append, length-take-le, length-drop, size_blank)
 
 on_past : (n : ℕ) → line_start (n + 16) ≡ line_start n
 on_past n = omega arith
@@ -161,6 +145,4 @@ byte_in_line p k h =
 
 -- a screen is its lines
 pub same_lines : (p q : List ℕ) → IsScreen p → IsScreen q → ((n : ℕ) → n < 16 → line_at p n ≡ line_at q n) → p ≡ q
-same_lines p q h k same =
-    same_number_lists p q (omega arith)
-    (λ i l. byte_in_line p i (omega arith) ∙ ap (λ (bs : List ℕ). get_or bs (i % 64) 0) (same (i / 64) (omega arith)) ∙ sym (byte_in_line q i (omega arith)))
+same_lines p q h k same = grind (arith, same_number_lists, byte_in_line)

@@ -43,8 +43,7 @@ distinct (e ∷ es) h = (none_same e.slot es (pairs_head SlotsDiffer e es h), di
 
 below_step : (n : ℕ) (e : Entry) (es : List Entry) (q : ℕ) (m : Bool) → eqb q e.slot ≡ m → e.slot < n → (list_any (eqb q) (slots_of es) ≡ true → q < n)
     → list_any (eqb q) (slots_of (e ∷ es)) ≡ true → q < n
-below_step n e es q true s l f h = rw (eqb-true q e.slot s) l
-below_step n e es q false s l f h = f (rw s at h)
+below_step n e es q m s l f h = grind arith
 
 below : (n : ℕ) (es : List Entry) (q : ℕ) → All (λ e. e.slot < n) es → list_any (eqb q) (slots_of es) ≡ true → q < n
 below n [] q h g = cc
@@ -53,8 +52,7 @@ below n (e ∷ es) q h g = below_step n e es q (eqb q e.slot) refl (h 0 e (omega
 -- a slot that no entry has would be one number too many
 lacks_step : (slot n : ℕ) (ns : List ℕ) (m : Bool) → eqb slot n ≡ m → (list_any (eqb slot) ns ≡ false → AllByRecursion (λ k. eqb slot k ≡ false) ns)
     → list_any (eqb slot) (n ∷ ns) ≡ false → AllByRecursion (λ k. eqb slot k ≡ false) (n ∷ ns)
-lacks_step slot n ns true q f h = let no : true ≡ false = rw q at h in cc
-lacks_step slot n ns false q f h = (q, f (rw q at h))
+lacks_step slot n ns m q f h = grind arith
 
 lacks : (slot : ℕ) (es : List ℕ) → list_any (eqb slot) es ≡ false → AllByRecursion (λ n. eqb slot n ≡ false) es
 lacks slot [] h = tt
@@ -62,8 +60,7 @@ lacks slot (n ∷ ns) h = lacks_step slot n ns (eqb slot n) refl (lacks slot ns)
 
 below_more : (slot n : ℕ) (ns : List ℕ) (q : ℕ) (m : Bool) → eqb q slot ≡ m → slot < n → (list_any (eqb q) ns ≡ true → q < n)
     → list_any (eqb q) (slot ∷ ns) ≡ true → q < n
-below_more slot n ns q true s l f h = rw (eqb-true q slot s) l
-below_more slot n ns q false s l f h = f (rw s at h)
+below_more slot n ns q m s l f h = grind arith
 
 one_more : (slot : ℕ) (ns : List ℕ) → AllByRecursion (λ n. eqb slot n ≡ false) ns → IsDistinct eqb ns → IsDistinct eqb (slot ∷ ns)
 unfolding IsDistinct

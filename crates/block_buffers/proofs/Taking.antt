@@ -1,5 +1,5 @@
 -- Slots that get entries, one after the other.
-use Rattle.std.proofs.Common.{◌≡◌, ℕ, ◌+◌, ◌-◌, ◌<◌, ◌≤◌, List, [], ◌∷◌, ◌++◌, length, length-append, get_or, drop, map, Bool, true, false, refl, arith, sym, subst, ◌∙◌, ap, append-nil}
+use Rattle.std.proofs.Common.{rules, ◌≡◌, ℕ, ◌+◌, ◌-◌, ◌<◌, ◌≤◌, List, [], ◌∷◌, ◌++◌, length, length-append, get_or, drop, map, Bool, true, false, refl, arith, sym, subst, ◌∙◌, ap, append-nil}
 use Rattle.std.specs.Prelude.{filter, All, AllPairs}
 use Rattle.std.specs.List.{refill}
 use Rattle.std.proofs.lemmas.List.{at_drop_more, at_drop_all, nil_from_length}
@@ -14,6 +14,7 @@ use Rattle.block_buffers.proofs.Kept.{SlotsDiffer}
 use Rattle.block_buffers.proofs.Pairs.{pairs_head, pairs_tail}
 use Rattle.block_buffers.proofs.Stamps.{is_here, one_of_slot, recent_changed, stamped_put, length-recent}
 use Rattle.block_buffers.proofs.Written.{written_slots, written_entries}
+use Rattle.std.proofs.lemmas.Grind.{common_steps}
 
 -- the entry of a slot is in front, and becomes another one
 elsewhere_stay : (e : Entry) (b : List Entry) → map (put_entry e.slot e) (filter (is_elsewhere e.slot) b) ≡ filter (is_elsewhere e.slot) b
@@ -47,8 +48,7 @@ taken_none es b i h = sym (at_drop_all (λ fs. all_fronted fs b) es i h)
 
 pub taken_more : (es b c d : List Entry) (i k : ℕ) (e : Entry) → c ≡ all_fronted (drop k es) b → d ≡ fronted (get_or es i e) c → k ≡ i + 1 → i < length es → d ≡ all_fronted (drop i es) b
 unfolding all_fronted
-taken_more es b c d i k e q p s l =
-    p ∙ ap (λ fs. fronted (get_or es i e) fs) (q ∙ ap (λ j. all_fronted (drop j es) b) s) ∙ sym (at_drop_more (λ fs. all_fronted fs b) es i e l)
+taken_more es b c d i k e q p s l = grind (arith, common_steps, at_drop_more)
 
 -- entries of different slots are as they were, before the others
 others : List Entry → List Entry → List Entry
@@ -57,9 +57,7 @@ others (e ∷ es) b = filter (is_elsewhere e.slot) (others es b)
 
 fronted_append : (e : Entry) (es b : List Entry) → All (SlotsDiffer e) es → fronted e (es ++ b) ≡ e ∷ (es ++ filter (is_elsewhere e.slot) b)
 unfolding fronted
-fronted_append e es b h =
-    ap (λ (fs : List Entry). e ∷ fs)
-    (filter-append (is_elsewhere e.slot) es b ∙ ap (λ (fs : List Entry). fs ++ filter (is_elsewhere e.slot) b) (all_elsewhere e.slot es h))
+fronted_append e es b h = search (rules, filter-append, all_elsewhere)
 
 all_in_front : (es b : List Entry) → AllPairs SlotsDiffer es → all_fronted es b ≡ es ++ others es b
 unfolding all_fronted others
@@ -68,18 +66,13 @@ all_in_front (e ∷ es) b h =
     ap (λ fs. fronted e fs) (all_in_front es b (pairs_tail SlotsDiffer e es h)) ∙ fronted_append e es (others es b) (pairs_head SlotsDiffer e es h)
 
 no_others : (es fs c : List Entry) → c ≡ es ++ fs → length c ≡ length es → c ≡ es
-no_others es fs c q l =
-    let none : fs ≡ [] = nil_from_length fs (omega (arith, l, ap (λ gs. length gs) q, length-append es fs)) in
-    q ∙ ap (λ gs. es ++ gs) none ∙ append-nil es
+no_others es fs c q l = grind (arith, nil_from_length, length-append, append-nil)
 
 made_entries : (es b : List Entry) (ys : List Slot) → AreBuffers es → length ys ≡ length es → recent ys ≡ all_fronted es b → recent ys ≡ es
 made_entries es b ys h l q = no_others es (others es b) (recent ys) (q ∙ all_in_front es b h.once) (length-recent ys ∙ l)
 
 made_slots : (es b : List Entry) (ys : List Slot) (n : ℕ) → AreBuffers es → length ys ≡ length es → AreStamped ys n → recent ys ≡ all_fronted es b → AreSlots ys n
-made_slots es b ys n h l s q = record {
-  stamped = s;
-  buffers = subst (λ fs. AreBuffers fs) (sym (made_entries es b ys h l q)) h;
-}
+made_slots es b ys n h l s q = grind (arith, made_entries)
 
 -- over slots without blocks, as many as the entries
 
@@ -96,10 +89,8 @@ started_stamped es xs ys h p q = (are_fresh ys (length es) (length es) (q ∙ p)
 
 pub taken_slots : (es : List Entry) (xs ys zs : List Slot) (n : ℕ) → AreBuffers es → xs ≡ fresh_slots (length es - length es) (length es) → ys ≡ xs
     → length zs ≡ length ys → AreStamped zs n → recent zs ≡ all_fronted es (recent ys) → AreSlots (refill (length xs) xs zs) n
-taken_slots es xs ys zs n h p q l s r =
-    written_slots xs zs n (l ∙ ap (λ ws. length ws) q) (made_slots es (recent ys) zs n h (l ∙ length-started es xs ys p q) s r)
+taken_slots es xs ys zs n h p q l s r = grind (arith, common_steps, written_slots, made_slots, length-started)
 
 pub taken_entries : (es : List Entry) (xs ys zs : List Slot) → AreBuffers es → xs ≡ fresh_slots (length es - length es) (length es) → ys ≡ xs
     → length zs ≡ length ys → recent zs ≡ all_fronted es (recent ys) → recent (refill (length xs) xs zs) ≡ es
-taken_entries es xs ys zs h p q l r =
-    written_entries xs zs es (l ∙ ap (λ ws. length ws) q) (made_entries es (recent ys) zs h (l ∙ length-started es xs ys p q) r)
+taken_entries es xs ys zs h p q l r = grind (arith, written_entries, made_entries, length-started)

@@ -1,10 +1,10 @@
 -- The test whether entries are such as buffers are.
-use Rattle.std.proofs.Common.{◌≡◌, ℕ, ◌+◌, ◌<◌, ◌≤◌, List, [], ◌∷◌, length, get_or, drop, Bool, true, false, not, ◌||◌, nat_lt, is_some, refl, arith, sym, ◌∙◌}
+use Rattle.std.proofs.Common.{◌≡◌, ℕ, ◌+◌, ◌<◌, ◌≤◌, List, [], ◌∷◌, length, get_or, drop, Bool, true, false, not, ◌||◌, is_some, refl, arith, sym, ◌∙◌}
 use Rattle.std.specs.Prelude.{All, AllPairs}
 use Rattle.std.specs.List.{list_all, list_any}
 use Rattle.std.proofs.lemmas.Bool.{and_parts, or_parts, not-true, eq-eqb, ne_eqb}
 use Rattle.std.proofs.lemmas.List.{at_drop_more, at_drop_all}
-use Rattle.std.proofs.lemmas.List.Elements.{All-nil, All-cons, All-head, All-tail, All-weaker}
+use Rattle.std.proofs.lemmas.List.Elements.{All-head, All-tail}
 use Rattle.std.proofs.lemmas.List.Folds.{list_any_none}
 use Rattle.std.proofs.lemmas.List.Kept.{AllPairs-cons}
 use Rattle.block_buffers.specs.declared.entry.Entry.{Entry}
@@ -12,37 +12,28 @@ use Rattle.block_buffers.specs.Entries.{is_in, AreBuffers}
 use Rattle.block_buffers.specs.Tests.{can_stand, slots_differ}
 use Rattle.block_buffers.proofs.Kept.{SmallSlot, HasWhereUpdated, SlotsDiffer}
 use Rattle.block_buffers.proofs.Pairs.{pairs_head, pairs_tail}
-use Rattle.block_buffers.proofs.Stamps.{lt_true, lt_below}
+use Rattle.block_buffers.proofs.Stamps.{lt_true}
+use Rattle.std.proofs.lemmas.Grind.{common_steps}
 
 -- updated only with a block
 with_block : (u s : Bool) → (not u || s) ≡ true → u ≡ true → s ≡ true
-with_block true s h q = h
-with_block false s h q = cc
+with_block u s h q = grind (arith)
 
 has_block : (u s : Bool) → (u ≡ true → s ≡ true) → (not u || s) ≡ true
-has_block true s f = f refl
-has_block false s f = refl
+has_block u s f = grind (arith)
 
 -- each entry
 stands : (n : ℕ) (e : Entry) → can_stand n e ≡ true → (e.slot < n) × (e.updated ≡ true → is_some e.block ≡ true)
-stands n e h =
-    let t = and_parts (nat_lt e.slot n) (not e.updated || is_some e.block) h in
-    (lt_below e.slot n t.0, with_block e.updated (is_some e.block) t.1)
+stands n e h = grind arith
 
 can : (n : ℕ) (e : Entry) → e.slot < n → (e.updated ≡ true → is_some e.block ≡ true) → can_stand n e ≡ true
 can n e l u = rw (lt_true e.slot n l) (has_block e.updated (is_some e.block) u)
 
 slots_small : (n : ℕ) (es : List Entry) → list_all (can_stand n) es ≡ true → All (SmallSlot n) es
-slots_small n [] h = All-nil (SmallSlot n)
-slots_small n (e ∷ es) h =
-    let t = and_parts (can_stand n e) (list_all (can_stand n) es) h in
-    All-cons (SmallSlot n) e es (stands n e t.0).0 (slots_small n es t.1)
+slots_small n es h = grind (arith, common_steps, and_parts, stands)
 
 updated_have : (n : ℕ) (es : List Entry) → list_all (can_stand n) es ≡ true → All HasWhereUpdated es
-updated_have n [] h = All-nil HasWhereUpdated
-updated_have n (e ∷ es) h =
-    let t = and_parts (can_stand n e) (list_all (can_stand n) es) h in
-    All-cons HasWhereUpdated e es (stands n e t.0).1 (updated_have n es t.1)
+updated_have n es h = grind (arith, common_steps, and_parts, stands)
 
 all_can : (n : ℕ) (es : List Entry) → All (SmallSlot n) es → All HasWhereUpdated es → list_all (can_stand n) es ≡ true
 all_can n [] s u = refl
@@ -55,14 +46,10 @@ is_other : (e d : Entry) → is_in e.slot d ≡ false → SlotsDiffer e d
 is_other e d h q = let yes : is_in e.slot d ≡ true = eq-eqb d.slot e.slot (sym q) in cc
 
 all_others : (e : Entry) (es : List Entry) → list_any (is_in e.slot) es ≡ false → All (SlotsDiffer e) es
-all_others e [] h = All-nil (SlotsDiffer e)
-all_others e (d ∷ ds) h =
-    let t = or_parts (is_in e.slot d) (list_any (is_in e.slot) ds) h in
-    All-cons (SlotsDiffer e) d ds (is_other e d t.0) (all_others e ds t.1)
+all_others e es h = grind (arith, common_steps, or_parts, is_other)
 
 none_behind : (e : Entry) (es : List Entry) → All (SlotsDiffer e) es → list_any (is_in e.slot) es ≡ false
-none_behind e es h =
-    list_any_none (is_in e.slot) es (All-weaker (SlotsDiffer e) (λ d. is_in e.slot d ≡ false) (λ d r. ne_eqb d.slot e.slot (λ q. r (sym q))) es h)
+none_behind e es h = grind (arith, list_any_none, ne_eqb)
 
 pairs_differ : (es : List Entry) → slots_differ es ≡ true → AllPairs SlotsDiffer es
 unfolding slots_differ
@@ -77,12 +64,7 @@ differ [] h = refl
 differ (e ∷ es) h = rw (none_behind e es (pairs_head SlotsDiffer e es h)) (differ es (pairs_tail SlotsDiffer e es h))
 
 pub are_such : (es : List Entry) → 2 ≤ length es → length es ≤ 16 → list_all (can_stand (length es)) es ≡ true → slots_differ es ≡ true → AreBuffers es
-are_such es l m h d = record {
-  count = (l, m);
-  slots = slots_small (length es) es h;
-  once = pairs_differ es d;
-  updated_have = updated_have (length es) es h;
-}
+are_such es l m h d = grind (arith, slots_small, pairs_differ, updated_have)
 
 pub such_stand : (es : List Entry) → AreBuffers es → list_all (can_stand (length es)) es ≡ true
 such_stand es h = all_can (length es) es h.slots h.updated_have

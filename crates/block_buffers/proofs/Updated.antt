@@ -2,7 +2,7 @@
 use Rattle.std.proofs.Common.{◌≡◌, ℕ, zero, suc, ◌<◌, ◌≤◌, List, [], ◌∷◌, true, false, Bool, arith, refl, length, ap, sym, subst, cond, nat_lt}
 use Rattle.std.specs.Prelude.{fold, filter, All, IsSome, Contains}
 use Rattle.std.specs.List.{list_any}
-use Rattle.std.proofs.lemmas.List.Elements.{All-head, All-tail, All-nil, All-cons, All-filter, All-contains, All-weaker, All-contains_itself, filter_passes, Contains-append_right}
+use Rattle.std.proofs.lemmas.List.Elements.{All-head, All-tail, All-nil, All-cons, All-filter, All-contains, All-weaker, All-contains_itself, filter_passes}
 use Rattle.block_buffers.specs.declared.entry.Entry.{Entry}
 use Rattle.block_buffers.specs.Entries.{unassigned_slot, is_updated, lower_of, has_updated, first_updated, AreBuffers, IsLowestUpdated}
 
@@ -19,8 +19,7 @@ lower_no : (d e : Entry) → nat_lt e.slot d.slot ≡ false → lower_of d e ≡
 lower_no d e q = rw q refl
 
 lower_marked : (d e : Entry) (b : Bool) → nat_lt e.slot d.slot ≡ b → IsMarked d → IsMarked e → IsMarked (lower_of d e)
-lower_marked d e true q h k = rw (lower_yes d e q) k
-lower_marked d e false q h k = rw (lower_no d e q) h
+lower_marked d e b q h k = grind arith
 
 -- the lowest of a marked entry and more of them
 fold_marked : (d : Entry) (es : List Entry) → IsMarked d → All IsMarked es → IsMarked (fold lower_of d es)
@@ -68,15 +67,13 @@ unfolding has_updated first_updated
 none_updated b q = ap (fold lower_of (unassigned_slot 16)) (kept_none b q)
 
 updated_when : (b : List Entry) (m : Bool) → has_updated b ≡ m → (first_updated b).updated ≡ true → has_updated b ≡ true
-updated_when b true q h = q
-updated_when b false q h = let no : (first_updated b).updated ≡ false = ap (λ (e : Entry). e.updated) (none_updated b q) in cc
+updated_when b m q h = grind (arith, none_updated)
 
 pub updated_first : (b : List Entry) → (first_updated b).updated ≡ true → has_updated b ≡ true
 updated_first b h = updated_when b (has_updated b) refl h
 
 clean_when : (b : List Entry) (m : Bool) → has_updated b ≡ m → AreBuffers b → (first_updated b).updated ≡ false → has_updated b ≡ false
-clean_when b false q h k = q
-clean_when b true q h k = let no : (first_updated b).updated ≡ true = (first_marked b h q).marked in cc
+clean_when b m q h k = grind (arith, first_marked)
 
 pub clean_first : (b : List Entry) → AreBuffers b → (first_updated b).updated ≡ false → has_updated b ≡ false
 clean_first b h k = clean_when b (has_updated b) refl h k
@@ -85,15 +82,11 @@ pub first_block : (b : List Entry) → AreBuffers b → has_updated b ≡ true �
 first_block b h q = (first_marked b h q).assigned
 
 lower_below : (d e : Entry) (m : Bool) → nat_lt e.slot d.slot ≡ m → ((lower_of d e).slot ≤ d.slot) × ((lower_of d e).slot ≤ e.slot)
-lower_below d e true q = let below : e.slot < d.slot = grind (arith, q) in rw (lower_yes d e q) (omega arith, omega arith)
-lower_below d e false q = let above : d.slot ≤ e.slot = grind (arith, q) in rw (lower_no d e q) (omega arith, omega arith)
+lower_below d e m q = grind arith
 
 fold_lowest : (d : Entry) (es : List Entry) → ((fold lower_of d es).slot ≤ d.slot) × All (λ e. (fold lower_of d es).slot ≤ e.slot) es
 fold_lowest d [] = (omega arith, All-nil (λ e. d.slot ≤ e.slot))
-fold_lowest d (e ∷ es) =
-    let more : ((fold lower_of (lower_of d e) es).slot ≤ (lower_of d e).slot) × All (λ f. (fold lower_of (lower_of d e) es).slot ≤ f.slot) es = fold_lowest (lower_of d e) es
-    in let below : ((lower_of d e).slot ≤ d.slot) × ((lower_of d e).slot ≤ e.slot) = lower_below d e (nat_lt e.slot d.slot) refl
-    in (omega (arith, more.0, below.0), All-cons (λ f. (fold lower_of (lower_of d e) es).slot ≤ f.slot) e es (omega (arith, more.0, below.1)) more.1)
+fold_lowest d (e ∷ es) = grind (arith, lower_below, fold_lowest (lower_of d e) es)
 
 -- one element is in front of the list, or before its tail
 skipped : (d e : Entry) (es : List Entry) (x : Entry) → Contains (d ∷ es) x → Contains (d ∷ e ∷ es) x
@@ -101,9 +94,7 @@ skipped d e es x (zero, l, q) = (0, omega arith, q)
 skipped d e es x (suc k, l, q) = (suc (suc k), omega arith, q)
 
 lower_one_of : (d e : Entry) (es : List Entry) (x : Entry) (m : Bool) → nat_lt e.slot d.slot ≡ m → Contains (lower_of d e ∷ es) x → Contains (d ∷ e ∷ es) x
-lower_one_of d e es x true q h =
-    let P : Entry → Type 0 = λ y. Contains (y ∷ es) x in Contains-append_right (d ∷ []) (e ∷ es) x (subst P (lower_yes d e q) h)
-lower_one_of d e es x false q h = let P : Entry → Type 0 = λ y. Contains (y ∷ es) x in skipped d e es x (subst P (lower_no d e q) h)
+lower_one_of d e es x m q h = grind (arith, lower_yes, skipped, lower_no)
 
 -- the fold gives the first entry or one of the others
 fold_one_of : (d : Entry) (es : List Entry) → Contains (d ∷ es) (fold lower_of d es)

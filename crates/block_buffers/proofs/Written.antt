@@ -1,19 +1,18 @@
 -- What a write of the slots leaves, by what was written.
-use Rattle.std.proofs.Common.{◌≡◌, ℕ, List, ◌++◌, length, take, drop_of_length-le, take_all, append-nil, map, get_or, Some, is_some, true, false, arith, sym, subst, ◌∙◌, ap}
+use Rattle.std.proofs.Common.{rules, ◌≡◌, ℕ, List, length, take, drop_of_length-le, take_all, append-nil, map, get_or, Some, is_some, true, false, arith, sym, subst, ◌∙◌, ap}
 use Rattle.std.specs.List.{refill}
 use Rattle.std.proofs.lemmas.List.{length-map, get_or_default}
 use Rattle.block_buffers.specs.declared.entry.Entry.{Entry}
 use Rattle.block_buffers.specs.declared.stamped.Slot.{Slot}
-use Rattle.block_buffers.specs.Entries.{unassigned_slot, entry_at, victim, moved_front, front_marked, cleaned_entry, cleaned, unmarked_entry, unmarked, unassigned_entry, unassigned, AreBuffers}
+use Rattle.block_buffers.specs.Entries.{unassigned_slot, entry_at, victim, moved_front, front_marked, cleaned_entry, cleaned, unmarked_entry, unmarked, unassigned_entry, unassigned}
 use Rattle.block_buffers.specs.Stamps.{recent, AreStamped, AreSlots, changed, put_entry}
 use Rattle.block_buffers.proofs.Kept.{are_moved, are_cleaned, are_unmarked, are_unassigned}
 use Rattle.block_buffers.proofs.Stamps.{length-recent, stamped_cleaned, stamped_unmarked, stamped_unassigned, recent_cleaned, recent_unmarked, recent_unassigned, slots_marked, recent_unmarkable, slots_assigned}
+use Rattle.std.proofs.lemmas.Grind.{common_steps}
 
 -- all places are written
 refilled : (xs ys : List Slot) → length ys ≡ length xs → refill (length xs) xs ys ≡ ys
-refilled xs ys h =
-    ap (λ zs. take (length xs) (ys ++ zs)) (drop_of_length-le xs (omega arith))
-    ∙ ap (take (length xs)) (append-nil ys) ∙ take_all (length xs) ys (omega arith)
+refilled xs ys h = grind (arith, take, length, drop_of_length-le, append-nil, take_all)
 
 pub written_slots : (xs ys : List Slot) (n : ℕ) → length ys ≡ length xs → AreSlots ys n → AreSlots (refill (length xs) xs ys) n
 written_slots xs ys n h s = subst (λ zs. AreSlots zs n) (sym (refilled xs ys h)) s
@@ -40,10 +39,7 @@ changed_count : (f : Slot → Slot) (xs ys : List Slot) → ys ≡ map f xs → 
 changed_count f xs ys e = written_count xs ys (same_length f xs ys e)
 
 pub cleaned_slots : (xs ys : List Slot) (slot n : ℕ) → ys ≡ map (changed (cleaned_entry slot)) xs → AreSlots xs n → AreSlots (refill (length xs) xs ys) n
-cleaned_slots xs ys slot n e s = changed_slots (changed (cleaned_entry slot)) xs ys n e (record {
-  stamped = stamped_cleaned slot xs n s.stamped;
-  buffers = subst (λ es. AreBuffers es) (sym (recent_cleaned slot xs)) (are_cleaned slot (recent xs) s.buffers);
-})
+cleaned_slots xs ys slot n e s = search (rules, changed_slots, stamped_cleaned, recent_cleaned, are_cleaned)
 
 pub cleaned_entries : (xs ys : List Slot) (slot : ℕ) → ys ≡ map (changed (cleaned_entry slot)) xs → recent (refill (length xs) xs ys) ≡ cleaned slot (recent xs)
 cleaned_entries xs ys slot e = changed_entries (changed (cleaned_entry slot)) xs ys (cleaned slot (recent xs)) e (recent_cleaned slot xs)
@@ -54,10 +50,7 @@ cleaned_count xs ys slot e = changed_count (changed (cleaned_entry slot)) xs ys 
 pub ruleset cleans = (cleaned_slots, cleaned_entries, cleaned_count)
 
 pub unmarked_slots : (xs ys : List Slot) (u n : ℕ) → ys ≡ map (changed (unmarked_entry u)) xs → AreSlots xs n → AreSlots (refill (length xs) xs ys) n
-unmarked_slots xs ys u n e s = changed_slots (changed (unmarked_entry u)) xs ys n e (record {
-  stamped = stamped_unmarked u xs n s.stamped;
-  buffers = subst (λ es. AreBuffers es) (sym (recent_unmarked u xs)) (are_unmarked u (recent xs) s.buffers);
-})
+unmarked_slots xs ys u n e s = search (rules, changed_slots, stamped_unmarked, recent_unmarked, are_unmarked)
 
 pub unmarked_entries : (xs ys : List Slot) (u : ℕ) → ys ≡ map (changed (unmarked_entry u)) xs → recent (refill (length xs) xs ys) ≡ unmarked u (recent xs)
 unmarked_entries xs ys u e = changed_entries (changed (unmarked_entry u)) xs ys (unmarked u (recent xs)) e (recent_unmarked u xs)
@@ -68,10 +61,7 @@ unmarked_count xs ys u e = changed_count (changed (unmarked_entry u)) xs ys e
 pub ruleset unmarks = (unmarked_slots, unmarked_entries, unmarked_count)
 
 pub unassigned_slots : (xs ys : List Slot) (n : ℕ) → ys ≡ map (changed unassigned_entry) xs → AreSlots xs n → AreSlots (refill (length xs) xs ys) n
-unassigned_slots xs ys n e s = changed_slots (changed unassigned_entry) xs ys n e (record {
-  stamped = stamped_unassigned xs n s.stamped;
-  buffers = subst (λ es. AreBuffers es) (sym (recent_unassigned xs)) (are_unassigned (recent xs) s.buffers);
-})
+unassigned_slots xs ys n e s = grind (arith, common_steps, changed_slots, stamped_unassigned, recent_unassigned, are_unassigned)
 
 pub unassigned_entries : (xs ys : List Slot) → ys ≡ map (changed unassigned_entry) xs → recent (refill (length xs) xs ys) ≡ unassigned (recent xs)
 unassigned_entries xs ys e = changed_entries (changed unassigned_entry) xs ys (unassigned (recent xs)) e (recent_unassigned xs)
@@ -87,10 +77,7 @@ front_is xs es d n h q = ap (λ fs. get_or fs 0 d) q ∙ get_or_default (recent 
 
 -- a reference
 pub touched_slots : (xs ys : List Slot) (slot n k : ℕ) → AreSlots xs n → AreStamped ys k → recent ys ≡ moved_front slot (recent xs) → AreSlots ys k
-touched_slots xs ys slot n k h s e = record {
-  stamped = s;
-  buffers = subst (λ es. AreBuffers es) (sym e) (are_moved slot (recent xs) h.buffers);
-}
+touched_slots xs ys slot n k h s e = grind (arith, are_moved)
 
 pub assigned_slots : (xs ys zs : List Slot) (n k u : ℕ) (v : Entry) → AreSlots xs n → v ≡ victim (recent xs) → AreStamped ys k
     → recent ys ≡ moved_front v.slot (recent xs)

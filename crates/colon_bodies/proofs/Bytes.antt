@@ -3,8 +3,8 @@ use Rattle.std.proofs.Common.{◌≡◌, ◌≢◌, ℕ, ◌+◌, ◌*◌, ◌/�
 use Rattle.std.proofs.Math.Dec.{eqb}
 use Rattle.std.proofs.lemmas.Bool.{eqb-true, eq-eqb}
 use Rattle.std.proofs.lemmas.List.{append_cancel_right}
-use Rattle.colon_bodies.specs.Tree.{Body, Empty, Call, Tick, Pair, Literal, Double, Text, IfThen, IfElse, Until, Again, While, Loop, Definition, Simple, Doing}
-use Rattle.colon_bodies.specs.Code.{size, code, all_code, thread}
+use Rattle.colon_bodies.specs.Tree.{Body, Empty, Definition}
+use Rattle.colon_bodies.specs.Code.{code, all_code, thread}
 use Rattle.memory.specs.Bytes.{cell_bytes}
 use Rattle.colon_bodies.specs.Tokens.{text_control, loop_control}
 use Rattle.colon_bodies.specs.Plain.{AreApart, IsPlainCell, IsPlainBody, IsPlainDefinition}
@@ -12,6 +12,7 @@ use Rattle.colon_bodies.specs.Instructions.{Instr, ICall, INum, ICompile, IText,
 use Rattle.colon_bodies.specs.Found.{Off, First, Peel, peel, with_cell, is_cell, pick, controls, of_control, chosen, off, first, with_first, and_more, instrs, before_exit, before_last, built_of, found}
 use Rattle.colon_bodies.proofs.Cells.{length-cell}
 use Rattle.colon_bodies.proofs.Flat.{run_all, one_tree}
+use Rattle.colon_bodies.proofs.Parts.{by_parts}
 
 abbrev pub bytes : (ℕ → ℕ) → Instr → List ℕ
 bytes rt (ICall w) = cell_bytes w
@@ -33,23 +34,10 @@ all-append rt [] js = refl
 all-append rt (i ∷ is) js = ap (λ l. bytes rt i ++ l) (all-append rt is js) ∙ sym (append_assoc (bytes rt i) (all_bytes rt is) (all_bytes rt js))
 
 pub code_is : (rt : ℕ → ℕ) (t : Body) (at : ℕ) → all_bytes rt (flat t at) ≡ code rt t at
-code_is rt Empty at = refl
-code_is rt (Call t f w) at = simp (all-append, code_is rt t at, append-nil)
-code_is rt (Tick t w) at = simp (all-append, code_is rt t at, append-nil)
-code_is rt (Pair t f w) at = simp (all-append, code_is rt t at, append-nil)
-code_is rt (Literal t w) at = simp (all-append, code_is rt t at, append-nil)
-code_is rt (Double t w) at = simp (all-append, code_is rt t at, append-nil, append_assoc)
-code_is rt (Text t k bs) at = simp (all-append, code_is rt t at, append-nil)
-code_is rt (IfThen t a) at = let p = at + size t in simp (all-append, code_is rt t at, code_is rt a (p + 4), append-nil, append_assoc)
-code_is rt (IfElse t a b) at = let p = at + size t in simp (all-append, code_is rt t at, code_is rt a (p + 4), code_is rt b (p + (8 + size a)), append-nil, append_assoc)
-code_is rt (Until t a) at = let p = at + size t in simp (all-append, code_is rt t at, code_is rt a p, append-nil, append_assoc)
-code_is rt (Again t a) at = let p = at + size t in simp (all-append, code_is rt t at, code_is rt a p, append-nil, append_assoc)
-code_is rt (While t a b) at = let p = at + size t in simp (all-append, code_is rt t at, code_is rt a p, code_is rt b (p + (size a + 4)), append-nil, append_assoc)
-code_is rt (Loop t a k) at = let p = at + size t in simp (all-append, code_is rt t at, code_is rt a (p + 4), append-nil, append_assoc)
+code_is rt = by_parts (λ t. (at : ℕ) → all_bytes rt (flat t at) ≡ code rt t at) (elim [ Empty ↦ λ ih at. refl | t ↦ λ ih at. grind (arith, all-append, append-nil, append_assoc, ih) ])
 
 pub all_code_is : (rt : ℕ → ℕ) (d : Definition) (at : ℕ) → all_bytes rt (flat_all d at) ≡ all_code rt d at
-all_code_is rt (Simple t) at = code_is rt t at
-all_code_is rt (Doing t a) at = simp (all-append, code_is)
+all_code_is rt d at = grind (arith, code_is, all-append)
 
 -- instructions whose control has a cell, and whose call is no control's
 abbrev pub IsPlainInstr : (ℕ → ℕ) → Instr → Type 0
@@ -72,39 +60,17 @@ plain-append rt [] js a b = b
 plain-append rt (i ∷ is) js a b = (a.0, plain-append rt is js a.1 b)
 
 pub plain_flat : (rt : ℕ → ℕ) (t : Body) (at : ℕ) → IsPlainBody rt t → ArePlain rt (flat t at)
-plain_flat rt Empty at h = tt
-plain_flat rt (Call t f w) at h = plain-append rt (flat t at) _ (plain_flat rt t at h.0) (h.2, tt)
-plain_flat rt (Tick t w) at h = absurd h
-plain_flat rt (Pair t f w) at h = plain-append rt (flat t at) _ (plain_flat rt t at h.0) (h.2, tt)
-plain_flat rt (Literal t w) at h = plain-append rt (flat t at) _ (plain_flat rt t at h.0) (h.1, tt)
-plain_flat rt (Double t w) at h = absurd h
-plain_flat rt (Text t k bs) at h = plain-append rt (flat t at) _ (plain_flat rt t at h.0) (h.1, tt)
-plain_flat rt (IfThen t a) at h =
-    let p = at + size t in plain-append rt (flat t at) _ (plain_flat rt t at h.0) (h.1, plain_flat rt a (p + 4) h.2)
-plain_flat rt (IfElse t a b) at h =
-    let p = at + size t in
-    plain-append rt (flat t at) _ (plain_flat rt t at h.0) (h.1, plain-append rt (flat a (p + 4)) _ (plain_flat rt a (p + 4) h.2) (h.3, plain_flat rt b (p + (8 + size a)) h.4))
-plain_flat rt (Until t a) at h =
-    let p = at + size t in plain-append rt (flat t at) _ (plain_flat rt t at h.0) (plain-append rt (flat a p) _ (plain_flat rt a p h.1) (h.2, tt))
-plain_flat rt (Again t a) at h =
-    let p = at + size t in plain-append rt (flat t at) _ (plain_flat rt t at h.0) (plain-append rt (flat a p) _ (plain_flat rt a p h.1) (h.2, tt))
-plain_flat rt (While t a b) at h =
-    let p = at + size t in
-    plain-append rt (flat t at) _ (plain_flat rt t at h.0) (plain-append rt (flat a p) _ (plain_flat rt a p h.1) (h.2, plain-append rt (flat b (p + (size a + 4))) _ (plain_flat rt b (p + (size a + 4)) h.3) (h.4, tt)))
-plain_flat rt (Loop t a k) at h =
-    let p = at + size t in plain-append rt (flat t at) _ (plain_flat rt t at h.0) (h.1, plain-append rt (flat a (p + 4)) _ (plain_flat rt a (p + 4) h.2) (h.3, tt))
+plain_flat rt = by_parts (λ t. (at : ℕ) → IsPlainBody rt t → ArePlain rt (flat t at)) (elim [ Empty ↦ λ ih at h. tt | t ↦ λ ih at h. grind (arith, plain-append, ih) ])
 
 pub plain_all : (rt : ℕ → ℕ) (d : Definition) (at : ℕ) → IsPlainDefinition rt d → ArePlain rt (flat_all d at)
-plain_all rt (Simple t) at h = plain_flat rt t at h
-plain_all rt (Doing t a) at h = plain-append rt (flat t at) _ (plain_flat rt t at h.0) (h.1, plain_flat rt a (at + (size t + 2)) h.2)
+plain_all rt d at h = grind (arith, plain_flat, plain-append)
 
 pub peel_cell : (x : ℕ) (rest : List ℕ) → peel (cell_bytes x ++ rest) ≡ Peel x rest
 unfolding cell_bytes
 peel_cell x rest = let e : x % 256 + 256 * (x / 256) ≡ x = omega arith in ap (λ v. Peel v rest) e
 
 false_if : (b : Bool) → (b ≡ true → ⊥) → b ≡ false
-false_if true h = absurd (h refl)
-false_if false h = refl
+false_if b h = grind arith
 
 unlike : (a b : ℕ) → a ≢ b → eqb a b ≡ false
 unlike a b h = false_if (eqb a b) (λ e. h (eqb-true a b e))
@@ -127,44 +93,13 @@ Within [] = Unit {0}
 Within (j ∷ js) = (6 ≤ j) × (j < 20) × ((j < 12) ⊎ (16 ≤ j)) × Within js
 
 pub all_within : Within controls
-all_within = (
-  omega arith,
-  omega arith,
-  inl (omega arith),
-  (
-    omega arith,
-    omega arith,
-    inr (omega arith),
-    (
-      omega arith,
-      omega arith,
-      inr (omega arith),
-      (
-        omega arith,
-        omega arith,
-        inl (omega arith),
-        (
-          omega arith,
-          omega arith,
-          inl (omega arith),
-          (omega arith, omega arith, inl (omega arith), (omega arith, omega arith, inl (omega arith), (omega arith, omega arith, inl (omega arith), (omega arith, omega arith, inr (omega arith), (omega arith, omega arith, inr (omega arith), tt))))),
-        ),
-      ),
-    ),
-  ),
-)
+all_within = grind arith
 
 pub is_true : (rt : ℕ → ℕ) (k : ℕ) → rt k ≢ 0 → is_cell rt k (rt k) ≡ true
 is_true rt k n = ap (λ b. cond b false (eqb (rt k) (rt k))) (unlike (rt k) 0 n) ∙ eq-eqb (rt k) (rt k) refl
 
 is_false : (rt : ℕ → ℕ) (k c : ℕ) → (rt k ≢ 0 → c ≢ rt k) → is_cell rt k c ≡ false
-is_false rt k c h = by (eqb c 0) refl
-  where
-    by : (b : Bool) → eqb c 0 ≡ b → cond b false (eqb c (rt k)) ≡ false
-    by true e = refl
-    by false e = false_if (eqb c (rt k)) (λ q.
-        let z = eqb-true c (rt k) q in
-        h (λ x. let y : eqb c 0 ≡ true = eq-eqb c 0 (z ∙ x) in cc) z)
+is_false rt k c h = grind (arith, false_if, eqb-true, eq-eqb)
 
 pub not_picked : (rt : ℕ → ℕ) (w : ℕ) (ks : List ℕ) → IsPlainCell rt w → Within ks → pick rt w ks ≡ None
 not_picked rt w [] h r = refl

@@ -19,5 +19,4 @@ two_writes front back a b c d p e =
 
 pub patched : (image front back : List ℕ) (x y p : ℕ) → image ≡ front ++ (cell_bytes y ++ back) → length front ≡ p → slice_set (slice_set image p (x % 256)) (p + 1) (x / 256) ≡ front ++ (cell_bytes x ++ back)
 unfolding cell_bytes
-patched image front back x y p e n =
-    ap (λ l. slice_set (slice_set l p (x % 256)) (p + 1) (x / 256)) e ∙ two_writes front back (y % 256) (y / 256) (x % 256) (x / 256) p n
+patched image front back x y p e n = grind (arith, two_writes)

@@ -4,8 +4,8 @@ use Rattle.colon_bodies.specs.declared.words.Half.{Half}
 use Rattle.colon_bodies.specs.declared.words.Half.TheVariants.{Free}
 use Rattle.colon_bodies.specs.declared.fault.BodyCause.{BodyCause}
 use Rattle.colon_bodies.specs.declared.fault.BodyCause.TheVariants as r
-use Rattle.colon_bodies.specs.Tokens.{Token, DOES, SEMI, laid, IsShort, AreShort}
-use Rattle.colon_bodies.specs.Tree.{Body, Empty, Definition, Simple, Doing, words, all_words}
+use Rattle.colon_bodies.specs.Tokens.{Token, DOES, SEMI, IsShort, AreShort}
+use Rattle.colon_bodies.specs.Tree.{Body, Empty, Definition, all_words}
 use Rattle.colon_bodies.specs.Rules.{IsKnown, AreKnown, half_after, half_of, suits, has_does}
 use Rattle.colon_bodies.specs.Faults.{BeginsShallow, IsFront, Applies, IsFault, IsGood}
 use Rattle.colon_bodies.specs.Open.{Outer, Top, Past, State, At, open_words, read, past, past_after, whole}
@@ -14,8 +14,6 @@ use Rattle.colon_bodies.proofs.Taking.{laid-append, short-append, read_half, rea
 
 -- two ways to cut one list
 pub two_cuts : {X : Type 0} (xs ys us vs : List X) → xs ++ ys ≡ us ++ vs → ((z : List X) × (us ≡ xs ++ z) × (ys ≡ z ++ vs)) ⊎ ((z : List X) × (xs ≡ us ++ z) × (vs ≡ z ++ ys))
-two_cuts [] ys us vs e = inl (us, refl, e)
-two_cuts (x ∷ xs) ys [] vs e = inr (x ∷ xs, refl, sym e)
 two_cuts (x ∷ xs) ys (u ∷ us) vs e =
     let h : x ≡ u = cc in
     let t : xs ++ ys ≡ us ++ vs = cc in
@@ -23,14 +21,14 @@ two_cuts (x ∷ xs) ys (u ∷ us) vs e =
       | inl z ↦ inl (z.0, ap (λ l. u ∷ l) z.1 ∙ ap (λ a. a ∷ (xs ++ z.0)) (sym h), z.2)
       | inr z ↦ inr (z.0, ap (λ l. x ∷ l) z.1 ∙ ap (λ a. a ∷ (us ++ z.0)) h, z.2)
     ]
+two_cuts xs ys us vs e = grind arith
 
 nil_front : {X : Type 0} (xs ys : List X) → xs ++ ys ≡ [] → xs ≡ []
 nil_front [] ys e = refl
 nil_front (x ∷ xs) ys e = cc
 
 pub finish_end : (o : Outer) (t : Body) (h : Half) (u : Definition) (w : Token) (ws : List Token) → finish o t h w ws ≡ Some u → ws ≡ []
-finish_end o t h u SEMI [] e = refl
-finish_end _ _ _ u _ _ e = cc
+finish_end o t h u w ws e = grind arith
 
 -- what accept gives has these words
 pub accept_is : (ws : List Token) (o : Outer) (t : Body) (h : Half) (u : Definition) → accept o t h ws ≡ Some u → open_words o t h ++ ws ≡ all_words u ++ SEMI ∷ []
@@ -46,10 +44,7 @@ accept_is (w ∷ ws) o t h u e = by (read o t h w) refl (λ p q g f. accept_is w
 
 -- a definition and its ; are accepted up to their end alone
 pub ends_alone : (d u : Definition) (ws : List Token) → accept Top Empty Free (all_words d ++ (SEMI ∷ ws)) ≡ Some u → ws ≡ []
-ends_alone (Simple t) u ws e = finish_end Top t Free u SEMI ws (sym (accept_words t Top (SEMI ∷ ws)) ∙ e)
-ends_alone (Doing t a) u ws e =
-    finish_end (Past t) a Free u SEMI ws
-    (sym (ap (accept Top Empty Free) (append_assoc (words t) (DOES ∷ words a) (SEMI ∷ ws)) ∙ accept_words t Top (DOES ∷ (words a ++ (SEMI ∷ ws))) ∙ accept_words a (Past t) (SEMI ∷ ws)) ∙ e)
+ends_alone d u ws e = grind (arith, finish_end, accept_words, accept, append_assoc)
 
 -- nothing comes after a whole definition
 not_past : (body b : Definition) (before z rest : List Token) → before ≡ (all_words body ++ SEMI ∷ []) ++ z → all_words b ++ SEMI ∷ [] ≡ before ++ rest → all_words body ++ SEMI ∷ [] ≡ before
@@ -117,9 +112,7 @@ accept_suits (x ∷ before) o t h w rest u e = by (read o t h x) refl (λ p q g 
         (ap (λ y. suits (half_of y before) w) (read_half o t h x p q g f) ∙ i.0, λ d. ap (λ b. past_of b before) (sym (read_past o t h x p q g f)) ∙ i.1 d)
 
 pub well_placed : (rt : ℕ → ℕ) (at limit : ℕ) (before : List Token) (w : Token) → (suits (half_of Free before) w ≡ true) × (w ≡ DOES → past_of false before ≡ false) → BeginsShallow (before ++ w ∷ []) → Applies rt at limit r.Misplaced before w → ⊥
-well_placed rt at limit before w s g (inl x) = let y = s.0 in cc
-well_placed rt at limit before w s g (inr (inl x)) = let y : has_does before ≡ false = sym (past_is before) ∙ s.1 x.0 in let z = x.1 in cc
-well_placed rt at limit before w s g (inr (inr x)) = x.1 g
+well_placed rt at limit before w s g x7 = grind (arith, past_is)
 
 -- a word within a good source has no cause
 pub clean : (rt : ℕ → ℕ) (at limit : ℕ) (source : List Token) (body : Definition) (used : ℕ) (before rest : List Token) (w : Token) (cause : BodyCause) → (g : IsGood rt at limit source body used) → all_words body ++ SEMI ∷ [] ≡ (before ++ w ∷ []) ++ rest → Applies rt at limit cause before w → cause ≡ r.Memory
@@ -130,13 +123,8 @@ clean rt at limit source body used before rest w r.Unbalanced g e a =
     absurd (a (record { body = body; more = rest; is = e }))
 clean rt at limit source body used before rest w r.Unknown g e a =
     absurd (a (known_last rt before w (known_front rt (before ++ w ∷ []) rest (subst (λ l. AreKnown rt l) e g.known))))
-clean rt at limit source body used before rest w r.BadName g e a =
-    let s : AreShort (all_words body ++ SEMI ∷ []) = short-append (all_words body) (SEMI ∷ []) g.short (tt, tt) in
-    absurd (a (short_last before w (short_front (before ++ w ∷ []) rest (subst (λ l. AreShort l) e s))))
-clean rt at limit source body used before rest w r.Full g e a =
-    let l = ap laid e ∙ laid-append (before ++ w ∷ []) rest in
-    let room' = g.room in
-    absurd (omega arith)
+clean rt at limit source body used before rest w r.BadName g e a = grind (arith, short-append, short_last, short_front)
+clean rt at limit source body used before rest w r.Full g e a = grind (arith, laid-append)
 clean rt at limit source body used before rest w r.EndsInside g e a = absurd a
 
 within : (rt : ℕ → ℕ) (at limit : ℕ) (source : List Token) (body : Definition) (used : ℕ) (before after : List Token) (w : Token) (cause : BodyCause) → IsGood rt at limit source body used → source ≡ before ++ w ∷ after → IsFront rt at limit before → Applies rt at limit cause before w → cause ≡ r.Memory

@@ -1,4 +1,5 @@
 pub mod Cells
+pub mod Parts
 pub mod Reading
 pub mod Laying
 pub mod Taking

@@ -1,9 +1,9 @@
 -- A source has one first fault.
-use Rattle.std.proofs.Common.{◌≡◌, ℕ, ◌<◌, ◌⊎◌, inl, inr, List, [], ◌∷◌, ◌++◌, length, zero, suc, refl, sym, ap, ◌∙◌, subst, arith, append_assoc, append-nil}
+use Rattle.std.proofs.Common.{◌≡◌, ℕ, ◌<◌, ◌⊎◌, inl, inr, List, [], ◌∷◌, ◌++◌, length, suc, refl, sym, ap, ◌∙◌, subst, arith, append_assoc, append-nil}
 use Rattle.colon_bodies.specs.declared.words.Half.TheVariants.{Free}
 use Rattle.colon_bodies.specs.declared.fault.BodyCause.{BodyCause}
 use Rattle.colon_bodies.specs.declared.fault.BodyCause.TheVariants as r
-use Rattle.colon_bodies.specs.Tokens.{Token, laid, AreShort}
+use Rattle.colon_bodies.specs.Tokens.{Token, AreShort}
 use Rattle.colon_bodies.specs.Tree.{Empty}
 use Rattle.colon_bodies.specs.Rules.{AreKnown}
 use Rattle.colon_bodies.specs.Faults.{IsFront, Applies, rank, FirstCause, IsFault, IsSameFault}
@@ -28,10 +28,7 @@ front_clean rt at limit before rest w r.Unknown f a =
     absurd (a (known_last rt before w (known_front rt (before ++ w ∷ []) rest (subst (λ l. AreKnown rt l) (sym (append_assoc before (w ∷ []) rest)) f.known))))
 front_clean rt at limit before rest w r.BadName f a =
     absurd (a (short_last before w (short_front (before ++ w ∷ []) rest (subst (λ l. AreShort l) (sym (append_assoc before (w ∷ []) rest)) f.short))))
-front_clean rt at limit before rest w r.Full f a =
-    let l = ap laid (sym (append_assoc before (w ∷ []) rest)) ∙ laid-append (before ++ w ∷ []) rest in
-    let room' = f.room in
-    absurd (omega (arith, l, room', a))
+front_clean rt at limit before rest w r.Full f a = grind (arith, append_assoc, laid-append)
 front_clean rt at limit before rest w r.EndsInside f a = absurd a
 
 -- a fault at a word
@@ -48,50 +45,23 @@ abbrev View : (ℕ → ℕ) → ℕ → ℕ → List Token → ℕ → BodyCause
 View rt at limit source place cause = (cause ≡ r.Memory) ⊎ ((cause ≡ r.EndsInside) × (place ≡ length source) × IsFront rt at limit source) ⊎ AtWord rt at limit source place cause
 
 view : (rt : ℕ → ℕ) (at limit : ℕ) (source : List Token) (place : ℕ) (cause : BodyCause) → IsFault rt at limit source place cause → View rt at limit source place cause
-view rt at limit source place r.Memory f = inl refl
-view rt at limit source place r.EndsInside f = inr (inl (refl, f.0, f.1))
-view rt at limit source place c f = inr (inr (record { before = f.0; word = f.1; after = f.2; is = f.3; place_is = f.4; front = f.5; first = f.6 }))
+view rt at limit source place cause f = grind arith
 
 rank_same : (c d : BodyCause) → rank c ≡ rank d → c ≡ d
-rank_same r.Memory r.Memory e = refl
-rank_same r.Misplaced r.Misplaced e = refl
-rank_same r.Unbalanced r.Unbalanced e = refl
-rank_same r.Unknown r.Unknown e = refl
-rank_same r.BadName r.BadName e = refl
-rank_same r.Full r.Full e = refl
-rank_same r.EndsInside r.EndsInside e = refl
-rank_same _ _ e = absurd (omega (arith, e))
+rank_same c d e = grind arith
 
 ranked : (c : BodyCause) → (c ≡ r.Memory) ⊎ (0 < rank c)
-ranked r.Memory = inl refl
-ranked _ = inr (omega arith)
+ranked c = grind arith
 
 order : (m n : ℕ) → (m < n) ⊎ (n < m) ⊎ (m ≡ n)
-order zero zero = inr (inr refl)
-order zero (suc n) = inl (omega arith)
-order (suc m) zero = inr (inl (omega arith))
 order (suc m) (suc n) = elim (order m n) [ inl a ↦ inl (omega arith) | inr (inl a) ↦ inr (inl (omega arith)) | inr (inr a) ↦ inr (inr (ap suc a)) ]
+order m n = grind arith
 
 same_cause : (rt : ℕ → ℕ) (at limit : ℕ) (before : List Token) (w : Token) (c d : BodyCause) → FirstCause rt at limit c before w → FirstCause rt at limit d before w → 0 < rank c → 0 < rank d → c ≡ d
-same_cause rt at limit before w c d f g a b =
-    elim (order (rank c) (rank d)) [
-      | inl x ↦ absurd (g.first c a x f.applies)
-      | inr (inl x) ↦ absurd (f.first d b x g.applies)
-      | inr (inr x) ↦ rank_same c d x
-    ]
+same_cause rt at limit before w c d f g a b = grind (arith, order, rank_same)
 
 at_one_word : (rt : ℕ → ℕ) (at limit : ℕ) (source : List Token) (p q : ℕ) (c d : BodyCause) (f : AtWord rt at limit source p c) (g : AtWord rt at limit source q d) → g.before ≡ f.before → f.word ≡ g.word → IsSameFault p c q d
-at_one_word rt at limit source p q c d f g e h =
-    elim (ranked c) [
-      | inl x ↦ inl x
-      | inr x ↦ elim (ranked d) [
-        | inl y ↦ inr (inl y)
-        | inr y ↦ inr (inr (
-          f.place_is ∙ ap length (sym e) ∙ sym g.place_is,
-          same_cause rt at limit f.before f.word c d f.first (subst (λ l. FirstCause rt at limit d l f.word) e (subst (λ x. FirstCause rt at limit d g.before x) (sym h) g.first)) x y,
-        ))
-      ]
-    ]
+at_one_word rt at limit source p q c d f g e h = grind (arith, ranked, same_cause)
 
 words_differ : (rt : ℕ → ℕ) (at limit : ℕ) (source : List Token) (p q : ℕ) (c d : BodyCause) (f : AtWord rt at limit source p c) (g : AtWord rt at limit source q d) (z : List Token) → g.before ≡ f.before ++ z → f.word ∷ f.after ≡ z ++ g.word ∷ g.after → IsSameFault p c q d
 words_differ rt at limit source p q c d f g [] e h = let x : f.word ≡ g.word = cc in at_one_word rt at limit source p q c d f g (e ∙ append-nil f.before) x
@@ -100,9 +70,7 @@ words_differ rt at limit source p q c d f g (v ∷ z) e h =
     inl (front_clean rt at limit f.before z f.word c (subst (λ l. IsFront rt at limit l) (e ∙ ap (λ u. f.before ++ u ∷ z) (sym x)) g.front) f.first.applies)
 
 turned : (p q : ℕ) (c d : BodyCause) → IsSameFault q d p c → IsSameFault p c q d
-turned p q c d (inl x) = inr (inl x)
-turned p q c d (inr (inl x)) = inl x
-turned p q c d (inr (inr x)) = inr (inr (sym x.0, sym x.1))
+turned p q c d x4 = grind arith
 
 by_view : (rt : ℕ → ℕ) (at limit : ℕ) (source : List Token) (p q : ℕ) (c d : BodyCause) → View rt at limit source p c → View rt at limit source q d → IsSameFault p c q d
 by_view rt at limit source p q c d (inl x) g = inl x

@@ -1,5 +1,5 @@
 -- The loop over the words.
-use Rattle.std.proofs.Common.{◌≡◌, false, ℕ, ◌+◌, ◌<◌, ◌≤◌, ◌⊎◌, inl, inr, List, [], ◌∷◌, ◌++◌, length, map, take, drop, get_or, zero, suc, Some, refl, sym, ap, ◌∙◌, subst, arith, append_assoc, append-nil, length-append}
+use Rattle.std.proofs.Common.{◌≡◌, false, ℕ, ◌+◌, ◌<◌, ◌≤◌, ◌⊎◌, List, [], ◌∷◌, ◌++◌, length, map, take, drop, get_or, zero, suc, Some, refl, sym, ap, ◌∙◌, subst, arith, append_assoc, append-nil, length-append}
 use Rattle.colon_bodies.specs.declared.words.Half.TheVariants.{Free}
 use Rattle.colon_bodies.specs.declared.draft.Draft.{Draft}
 use Rattle.colon_bodies.specs.declared.fault.BodyCause.{BodyCause}
@@ -19,19 +19,16 @@ use Rattle.colon_bodies.proofs.Taking.{laid-open, laid-append, laid-all, short-a
 
 -- a list at a place
 pub cut : {X : Type 0} (f : X → Token) (ws : List X) (i : ℕ) (d : X) → i < length ws → map f ws ≡ map f (take i ws) ++ (f (get_or ws i d) ∷ map f (drop (suc i) ws))
-cut f [] i d h = absurd (omega arith)
-cut f (x ∷ ws) zero d h = refl
 cut f (x ∷ ws) (suc i) d h = ap (λ l. f x ∷ l) (cut f ws i d (omega arith))
+cut f ws i d h = grind arith
 
 pub more : {X : Type 0} (f : X → Token) (ws : List X) (i : ℕ) (d : X) → i < length ws → map f (take (suc i) ws) ≡ map f (take i ws) ++ f (get_or ws i d) ∷ []
-more f [] i d h = absurd (omega arith)
-more f (x ∷ ws) zero d h = refl
 more f (x ∷ ws) (suc i) d h = ap (λ l. f x ∷ l) (more f ws i d (omega arith))
+more f ws i d h = grind arith
 
 pub done_length : {X : Type 0} (f : X → Token) (ws : List X) (i : ℕ) → i ≤ length ws → length (map f (take i ws)) ≡ i
-done_length f ws zero h = refl
-done_length f [] (suc i) h = absurd (omega arith)
 done_length f (x ∷ ws) (suc i) h = ap suc (done_length f ws i (omega arith))
+done_length f ws i h = grind arith
 
 pub all_done : {X : Type 0} (f : X → Token) (ws : List X) (i : ℕ) → length ws ≤ i → map f (take i ws) ≡ map f ws
 all_done f [] zero h = refl
@@ -50,18 +47,7 @@ starts rt at limit d h e k f p =
     record { outer = Top; body = Empty; half = Free; front = refl; is = record { is = record { bytes = e; marked = k }; half_is = f; past_is = p }; shallow = omega arith; known = tt; short = tt; room = omega (arith, n) }
 
 pub goes_on : (rt : ℕ → ℕ) (at limit : ℕ) (done : List Token) (w : Token) (d new : Draft) (p : Progress rt at limit done d) → Goes rt at limit p.outer p.body p.half w new → Progress rt at limit (done ++ w ∷ []) new
-goes_on rt at limit done w d new p g =
-    record {
-      outer = g.outer;
-      body = g.body;
-      half = g.half;
-      front = ap (λ l. l ++ w ∷ []) p.front ∙ sym (read_words p.outer p.body p.half w g.outer g.body g.half g.reads);
-      is = g.is;
-      shallow = g.shallow;
-      known = known-append rt done (w ∷ []) p.known (g.known, tt);
-      short = short-append done (w ∷ []) p.short (g.short, tt);
-      room = g.room;
-    }
+goes_on rt at limit done w d new p g = grind (arith, read_words, known-append, short-append)
 
 pub runs_out : (rt : ℕ → ℕ) (at limit : ℕ) (done : List Token) (d : Draft) → Progress rt at limit done d → (t : Definition) → all_words t ++ SEMI ∷ [] ≡ done → ⊥
 runs_out rt at limit done d p t e =
@@ -83,11 +69,7 @@ fronts rt at limit done d p =
     }
 
 pub faults : (rt : ℕ → ℕ) (at limit : ℕ) (source before after : List Token) (w : Token) (place : ℕ) (e : BodyCause) → source ≡ before ++ w ∷ after → place ≡ length before → IsFront rt at limit before → (e ≡ r.Memory) ⊎ FirstCause rt at limit e before w → IsFault rt at limit source place e
-faults rt at limit source before after w place r.Memory s n f c = tt
-faults rt at limit source before after w place r.EndsInside s n f (inl m) = cc
-faults rt at limit source before after w place r.EndsInside s n f (inr c) = absurd c.applies
-faults rt at limit source before after w place _ s n f (inl m) = cc
-faults rt at limit source before after w place _ s n f (inr c) = (before, w, after, s, n, f, c)
+faults rt at limit source before after w place e s n f x12 = grind arith
 
 pub word_faults : (rt : ℕ → ℕ) (at limit : ℕ) (source done after : List Token) (w : Token) (place : ℕ) (e : BodyCause) (d : Draft) (p : Progress rt at limit done d) → source ≡ done ++ w ∷ after → place ≡ length done → (e ≡ r.Memory) ⊎ FirstCause rt at limit e (open_words p.outer p.body p.half) w → IsFault rt at limit source place e
 word_faults rt at limit source done after w place e d p s n c =

@@ -1,4 +1,4 @@
-use Rattle.std.proofs.Common.{◌≡◌, ◌≢◌, ◌∙◌, ℕ, zero, suc, ◌+◌, ◌*◌, ◌/◌, ◌%◌, ◌<◌, ◌≤◌, ◌==◌, List, [], ◌∷◌, length, get_or, drop, Bool, true, false, not, ◌&&◌, ◌||◌, nat_lt, nat_le, arith, refl, ap, sym}
+use Rattle.std.proofs.Common.{◌≡◌, ◌≢◌, ◌∙◌, ℕ, zero, suc, ◌+◌, ◌*◌, ◌/◌, ◌%◌, ◌<◌, ◌≤◌, ◌==◌, List, [], ◌∷◌, length, get_or, drop, Bool, true, false, not, ◌||◌, nat_lt, arith, refl, ap, sym}
 use Rattle.std.specs.List.{list_all, list_any}
 use Rattle.std.proofs.lemmas.Bool.{and_parts, ltb-true, leb-true, eqb-false}
 use Rattle.std.proofs.lemmas.Nat.{mul-add-lt, same_from_place, div_below, mod_below, div-add-mod'}
@@ -14,12 +14,7 @@ pub record Tests (order : List ℕ) : Type 0 where
 
 pub tests_of : (order : List ℕ) → is_order order ≡ true → Tests order
 unfolding is_order
-tests_of order e =
-    let n = length order in
-    let outer = and_parts (nat_lt 0 n && nat_le n 1024) (list_all (λ place. nat_lt place n) order && distinct order) e in
-    let front = and_parts (nat_lt 0 n) (nat_le n 1024) outer.0 in
-    let back = and_parts (list_all (λ place. nat_lt place n) order) (distinct order) outer.1 in
-    record { some = ltb-true 0 n front.0; few = leb-true n 1024 front.1; below = back.0; once = back.1 }
+tests_of order e = grind (arith, and_parts, ltb-true, leb-true)
 
 pub order_some : (order : List ℕ) → is_order order ≡ true → (0 < length order) × (length order ≤ 1024)
 order_some order e = let t = tests_of order e in (t.some, t.few)
@@ -34,31 +29,21 @@ pub order_below : (order : List ℕ) (k : ℕ) → is_order order ≡ true → k
 order_below order k e h = all_at (length order) k order (tests_of order e).below h
 
 or-none : (x y : Bool) → (x || y) ≡ false → (x ≡ false) × (y ≡ false)
-or-none true y e = absurd (cc)
-or-none false y e = (refl, e)
+or-none x y e = grind arith
 
 not-there : (x : ℕ) (xs : List ℕ) (k : ℕ) → list_any (λ y. y == x) xs ≡ false → k < length xs → get_or xs k 0 ≢ x
-not-there x [] k e h = absurd (omega arith)
-not-there x (y ∷ xs) zero e h = eqb-false y x (or-none (y == x) (list_any (λ z. z == x) xs) e).0
 not-there x (y ∷ xs) (suc k) e h = not-there x xs k (or-none (y == x) (list_any (λ z. z == x) xs) e).1 (omega arith)
+not-there x xs k e h = grind (arith, eqb-false, or-none)
 
 not-true-of : (b : Bool) → not b ≡ true → b ≡ false
-not-true-of true e = absurd (cc)
-not-true-of false e = refl
+not-true-of b e = grind arith
 
 distinct-at : (xs : List ℕ) (i j : ℕ) → distinct xs ≡ true → i < length xs → j < length xs → get_or xs i 0 ≡ get_or xs j 0 → i ≡ j
 unfolding distinct
-distinct-at [] i j e h k same = absurd (omega arith)
-distinct-at (x ∷ xs) zero zero e h k same = refl
-distinct-at (x ∷ xs) zero (suc j) e h k same =
-    let t = and_parts (not (list_any (λ y. y == x) xs)) (distinct xs) e in
-    absurd (not-there x xs j (not-true-of (list_any (λ y. y == x) xs) t.0) (omega arith) (sym same))
-distinct-at (x ∷ xs) (suc i) zero e h k same =
-    let t = and_parts (not (list_any (λ y. y == x) xs)) (distinct xs) e in
-    absurd (not-there x xs i (not-true-of (list_any (λ y. y == x) xs) t.0) (omega arith) same)
 distinct-at (x ∷ xs) (suc i) (suc j) e h k same =
     let t = and_parts (not (list_any (λ y. y == x) xs)) (distinct xs) e in
     ap suc (distinct-at xs i j t.1 (omega arith) (omega arith) same)
+distinct-at xs i j e h k same = grind (arith, and_parts, not-there, not-true-of)
 
 -- and no two are the same
 pub order_one : (order : List ℕ) (i j : ℕ) → is_order order ≡ true → i < length order → j < length order → get_or order i 0 ≡ get_or order j 0 → i ≡ j
@@ -67,9 +52,7 @@ order_one order i j e h k same = distinct-at order i j (tests_of order e).once h
 -- a sector of so many tracks is within them
 pub physical_below : (order : List ℕ) (s t : ℕ) → is_order order ≡ true → s < t * length order → physical order s < length order * t
 unfolding physical
-physical_below order s t e h =
-    let some : 0 < length order = (tests_of order e).some in
-    mul-add-lt (s / length order) (length order) (get_or order (s % length order) 0) t (div_below s (length order) t some h) (order_below order (s % length order) e (mod_below s (length order) some))
+physical_below order s t e h = grind (arith, tests_of, mul-add-lt, div_below, order_below, mod_below)
 
 -- two sectors don't lie at one place
 pub physical_one : (order : List ℕ) (s u : ℕ) → is_order order ≡ true → physical order s ≡ physical order u → s ≡ u
@@ -85,11 +68,7 @@ physical_one order s u e same =
 
 pub physical_small : (order : List ℕ) (s : ℕ) → is_order order ≡ true → physical order s < s + 1024
 unfolding physical
-physical_small order s e =
-    let some : 0 < length order = (tests_of order e).some in
-    let few : length order ≤ 1024 = (tests_of order e).few in
-    let b : get_or order (s % length order) 0 < length order = order_below order (s % length order) e (mod_below s (length order) some) in
-    omega (arith, div-add-mod' s (length order))
+physical_small order s e = grind (arith, tests_of, order_below, mod_below, div-add-mod')
 
 -- `is_distinct`, a number on and at the end
 pub distinct_more : (xs : List ℕ) (i : ℕ) → i < length xs → list_any (λ y. y == get_or xs i 0) (drop (i + 1) xs) ≡ false → distinct (drop i xs) ≡ distinct (drop (i + 1) xs)

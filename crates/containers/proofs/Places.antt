@@ -1,24 +1,19 @@
-use Rattle.std.proofs.Common.{◌≡◌, ◌∙◌, ℕ, zero, suc, ◌+◌, ◌-◌, ◌*◌, ◌/◌, ◌%◌, ◌<◌, ◌≤◌, ◌==◌, List, length, Bool, true, false, not, ◌&&◌, nat_lt, nat_le, Option, None, Some, if◌then◌else◌, arith, refl, ap, sym}
+use Rattle.std.proofs.Common.{◌≡◌, ◌∙◌, ℕ, ◌+◌, ◌-◌, ◌*◌, ◌/◌, ◌%◌, ◌<◌, ◌≤◌, List, length, Bool, true, false, not, nat_lt, Option, None, Some, if◌then◌else◌, arith, refl, ap, sym}
 use Rattle.std.proofs.lemmas.Bool.{and_parts, ltb-true, ltb-false, leb-true, eqb-true}
 use Rattle.std.proofs.lemmas.Nat.{mul-add-lt, mul-le, same_from_place, div_below, mod_below, div-add-mod', row_fits}
 use Rattle.std.proofs.Math.Nat.{mul_assoc, mul_comm}
 use Rattle.containers.specs.declared.cause.Cause.TheVariants.{CutShort, TooLarge}
 use Rattle.containers.specs.Layouts.{IsLayout, Layout, divides_screen, physical, pitch, place, track}
 use Rattle.containers.specs.Containers.{capacity, first_open, is_ended, is_whole, open_cause, screens, sectors, unread}
-use Rattle.containers.proofs.Orders.{Tests, tests_of, physical_below, physical_one, physical_small}
+use Rattle.containers.proofs.Orders.{tests_of, physical_below, physical_one, physical_small}
 
 at-most : (n q : ℕ) → 0 < n → q * n ≡ 1024 → n ≤ 1024
-at-most n zero some e = absurd (omega arith)
-at-most n (suc q) some e = omega (arith, mul-le 1 n (suc q) n (omega arith) (omega arith))
+at-most n q some e = grind (arith, mul-le)
 
 -- a sector has some bytes, and no more than a screen
 pub sector_bound : (n : ℕ) → divides_screen n ≡ true → (0 < n) × (n ≤ 1024)
 unfolding divides_screen
-sector_bound n e =
-    let t = and_parts (nat_lt 0 n) (1024 % n == 0) e in
-    let some : 0 < n = ltb-true 0 n t.0 in
-    let none : 1024 % n ≡ 0 = eqb-true (1024 % n) 0 t.1 in
-    (some, at-most n (1024 / n) some (omega (arith, div-add-mod' 1024 n)))
+sector_bound n e = grind (arith, and_parts, ltb-true, eqb-true, at-most, div-add-mod')
 
 -- the numbers of a layout
 pub record Sizes (l : Layout) : Type 0 where
@@ -34,22 +29,7 @@ pub record Sizes (l : Layout) : Type 0 where
 
 pub sizes_of : (l : Layout) → IsLayout l → Sizes l
 unfolding pitch track
-sizes_of l h =
-    let s = sector_bound l.sector h.sector in
-    let t : Tests l.order = tests_of l.order h.order in
-    let p : 0 < l.sector + length l.ending = omega (arith, s.0) in
-    let e : length l.ending ≤ 2 = h.ending in
-    record {
-      sector = s.0;
-      small_sector = s.1;
-      count = t.some;
-      small_count = t.few;
-      pitch_is = refl;
-      some_pitch = p;
-      small_pitch = omega (arith, s.1);
-      track_is = refl;
-      some_track = (let k : 0 < length l.order = t.some in omega (arith, mul-le 1 1 (l.sector + length l.ending) (length l.order) (omega arith) (omega arith)));
-    }
+sizes_of l h = grind (arith, sector_bound, tests_of, mul-le)
 
 -- what whole tracks take up
 span : (x p n : ℕ) → x / (p * n) * n * p ≡ x / (p * n) * (p * n)
@@ -57,9 +37,7 @@ span x p n = mul_assoc (x / (p * n)) n p ∙ ap (λ k. x / (p * n) * k) (mul_com
 
 pub sectors_span : (l : Layout) (c : List ℕ) → IsLayout l → sectors l c * pitch l ≤ length c - l.offset
 unfolding sectors track
-sectors_span l c h =
-    let x = length c - l.offset in
-    omega (arith, span x (pitch l) (length l.order), div-add-mod' x (pitch l * length l.order))
+sectors_span l c h = grind (arith, span, div-add-mod')
 
 pub sectors_small : (l : Layout) (c : List ℕ) → IsLayout l → sectors l c ≤ length c
 sectors_small l c h =
@@ -86,19 +64,11 @@ pub record Whole (l : Layout) (c : List ℕ) : Type 0 where
 
 pub whole_of : (l : Layout) (c : List ℕ) → is_whole l c ≡ true → Whole l c
 unfolding is_whole
-whole_of l c e =
-    let t = and_parts (nat_le l.offset (length c) && ((length c - l.offset) % track l == 0)) (nat_lt 0 (screens l c) && (screens l c % l.parts == 0)) e in
-    let f = and_parts (nat_le l.offset (length c)) ((length c - l.offset) % track l == 0) t.0 in
-    let b = and_parts (nat_lt 0 (screens l c)) (screens l c % l.parts == 0) t.1 in
-    record { offset = leb-true l.offset (length c) f.0; rest = eqb-true ((length c - l.offset) % track l) 0 f.1; some = ltb-true 0 (screens l c) b.0; even = eqb-true (screens l c % l.parts) 0 b.1 }
+whole_of l c e = grind (arith, and_parts, leb-true, eqb-true, ltb-true)
 
 pub whole_span : (l : Layout) (c : List ℕ) → Whole l c → l.offset + sectors l c * pitch l ≡ length c
 unfolding sectors track
-whole_span l c w =
-    let x = length c - l.offset in
-    let r : x % (pitch l * length l.order) ≡ 0 = (let u = w.rest in u) in
-    let o : l.offset ≤ length c = w.offset in
-    omega (arith, span x (pitch l) (length l.order), div-add-mod' x (pitch l * length l.order))
+whole_span l c w = grind (arith, span, div-add-mod')
 
 -- a sector of a whole container is in it
 pub sector_inside : (l : Layout) (c : List ℕ) (at : ℕ) → IsLayout l → is_whole l c ≡ true → at < sectors l c → l.offset + (at * pitch l + pitch l) ≤ length c
@@ -111,8 +81,7 @@ capacity_fits l c = omega (arith, div-add-mod' (sectors l c * l.sector) 1024)
 
 physical_inside : (l : Layout) (c : List ℕ) (s : ℕ) → IsLayout l → s < sectors l c → physical l.order s < sectors l c
 unfolding sectors
-physical_inside l c s h below =
-    omega (arith, physical_below l.order s ((length c - l.offset) / track l) h.order below, mul_comm (length l.order) ((length c - l.offset) / track l))
+physical_inside l c s h below = grind (arith, physical_below, mul_comm)
 
 -- each byte of the screens is in it
 pub place_below : (l : Layout) (c : List ℕ) (byte : ℕ) → IsLayout l → is_whole l c ≡ true → byte < capacity l c → place l byte < length c
@@ -179,14 +148,11 @@ pub record Readable (l : Layout) (c : List ℕ) : Type 0 where
   pub ended : first_open l c 0 (sectors l c) ≡ None
 
 readable-ended : (o : Option ℕ) → open_cause o ≡ None → o ≡ None
-readable-ended None e = refl
-readable-ended (Some at) e = absurd (cc)
+readable-ended o e = grind arith
 
 readable-by : (l : Layout) (c : List ℕ) (w t : Bool) → is_whole l c ≡ w → nat_lt 65536 (screens l c) ≡ t →
     (if not w then Some CutShort else if t then Some TooLarge else open_cause (first_open l c 0 (sectors l c))) ≡ None → Readable l c
-readable-by l c false t a b e = absurd (cc)
-readable-by l c true true a b e = absurd (cc)
-readable-by l c true false a b e = record { whole = a; small = ltb-false 65536 (screens l c) b; ended = readable-ended (first_open l c 0 (sectors l c)) e }
+readable-by l c w t a b e = grind (arith, ltb-false, readable-ended)
 
 pub readable : (l : Layout) (c : List ℕ) → unread l c ≡ None → Readable l c
 unfolding unread
@@ -202,15 +168,11 @@ byte_inside l c byte place_at h e below is = let r : Readable l c = readable l c
 -- the first sector that isn't ended, sought one by one
 pub open_more : (l : Layout) (c : List ℕ) (at n : ℕ) → at < n → is_ended l c at ≡ true → first_open l c at (n - at) ≡ first_open l c (at + 1) (n - (at + 1))
 unfolding first_open
-open_more l c at n below e =
-    let more : n - at ≡ suc (n - (at + 1)) = omega arith in
-    ap (first_open l c at) more ∙ rw e refl
+open_more l c at n below e = grind arith
 
 pub open_here : (l : Layout) (c : List ℕ) (at n : ℕ) → at < n → is_ended l c at ≡ false → first_open l c at (n - at) ≡ Some at
 unfolding first_open
-open_here l c at n below e =
-    let more : n - at ≡ suc (n - (at + 1)) = omega arith in
-    ap (first_open l c at) more ∙ rw e refl
+open_here l c at n below e = grind arith
 
 pub open_none : (l : Layout) (c : List ℕ) (at n : ℕ) → n ≤ at → first_open l c at (n - at) ≡ None
 unfolding first_open

@@ -1,4 +1,4 @@
-use Rattle.std.proofs.Common.{◌≡◌, ◌≢◌, ◌∙◌, ◌⊎◌, inl, inr, ℕ, zero, suc, ◌+◌, ◌-◌, ◌<◌, ◌≤◌, ◌==◌, ◌%◌, Bool, true, false, not, nat_lt, Option, None, Some, if◌then◌else◌, List, ◌++◌, length, get_or, set, drop, arith, refl, ap, sym, length-append, length-drop, length-set, append_assoc, append-nil, replicate}
+use Rattle.std.proofs.Common.{◌≡◌, ◌≢◌, ◌∙◌, ◌⊎◌, inl, inr, ℕ, zero, suc, ◌+◌, ◌-◌, ◌<◌, ◌≤◌, Bool, not, nat_lt, Option, None, Some, if◌then◌else◌, List, ◌++◌, length, get_or, set, drop, arith, refl, ap, sym, length-append, length-drop, length-set, append_assoc, append-nil, replicate}
 use Rattle.std.proofs.lemmas.List.{ext_get_or, get_or_append_left, get_or-append_right, get_or-drop, get_or-set_same, get_or-set_other}
 use Rattle.std.proofs.lemmas.Bool.{cases_eq, cases_lt}
 use Rattle.containers.specs.Layouts.{IsLayout, Layout, place}
@@ -14,8 +14,7 @@ data Lies (l : Layout) (n at : ℕ) : Type 0 where
   beside : IsBeside l n at → Lies l n at
 
 beside-more : (l : Layout) (n at i : ℕ) → IsBeside l n at → (place l n ≡ at → ⊥) → i < suc n → (i ≡ n) ⊎ (i ≡ n → ⊥) → place l i ≢ at
-beside-more l n at i h e below (inl same) = λ p. e (ap (place l) (sym same) ∙ p)
-beside-more l n at i h e below (inr other) = h i (omega arith)
+beside-more l n at i h e below x7 = grind arith
 
 lies-more : (l : Layout) (n at : ℕ) → Lies l n at → (place l n ≡ at) ⊎ (place l n ≡ at → ⊥) → Lies l (suc n) at
 lies-more l n at (lies i below e) q = lies i (omega arith) e
@@ -28,10 +27,7 @@ either l (suc n) at = lies-more l n at (either l n at) (cases_eq (place l n) at)
 
 same-at : (l : Layout) (container other screens written : List ℕ) (at : ℕ) → IsRead l container screens → IsWritten l screens other written →
     ((k : ℕ) → IsBeside l (length screens) k → get_or other k 0 ≡ get_or container k 0) → Lies l (length screens) at → get_or written at 0 ≡ get_or container at 0
-same-at l container other screens written at r w same (lies i below e) =
-    let size : length screens ≡ capacity l container = r.size in
-    ap (λ k. get_or written k 0) (sym e) ∙ w.bytes i below ∙ r.bytes i (omega arith) ∙ ap (λ k. get_or container k 0) e
-same-at l container other screens written at r w same (beside h) = w.kept at h ∙ same at h
+same-at l container other screens written at r w same x9 = grind arith
 
 pub returned : (l : Layout) (container other screens written : List ℕ) → IsRead l container screens → IsWritten l screens other written → length other ≡ length container →
     ((at : ℕ) → IsBeside l (length screens) at → get_or other at 0 ≡ get_or container at 0) → written ≡ container
@@ -40,17 +36,7 @@ returned l container other screens written r w size same =
 
 again-at : (l : Layout) (container old screens written again : List ℕ) (i : ℕ) → IsLayout l → IsRead l container old → length screens ≤ length old → IsWritten l screens container written → IsRead l written again →
     i < length again → (i < length screens) ⊎ (length screens ≤ i) → get_or again i 0 ≡ get_or (screens ++ drop (length screens) old) i 0
-again-at l container old screens written again i h r fits w a below (inl front) =
-    let size : length again ≡ capacity l written = a.size in
-    a.bytes i (omega arith) ∙ w.bytes i front ∙ sym (get_or_append_left screens (drop (length screens) old) 0 i front)
-again-at l container old screens written again i h r fits w a below (inr back) =
-    let size : length again ≡ capacity l written = a.size in
-    let same : capacity l written ≡ capacity l container = capacity_same l written container w.size in
-    let far : length screens + (i - length screens) ≡ i = omega arith in
-    let apart : IsBeside l (length screens) (place l i) = λ j front e. (let one : j ≡ i = place_one l j i h e in omega arith) in
-    a.bytes i (omega arith) ∙ w.kept (place l i) apart ∙ sym (r.bytes i (omega arith))
-    ∙ ap (λ k. get_or old k 0) (sym far) ∙ sym (get_or-drop (length screens) old (i - length screens) 0)
-    ∙ sym (get_or-append_right screens (drop (length screens) old) (length screens) i 0 refl back)
+again-at l container old screens written again i h r fits w a below x13 = grind (arith, get_or_append_left, capacity_same, place_one, get_or-drop, get_or-append_right)
 
 pub read_again : (l : Layout) (container old screens written again : List ℕ) → IsLayout l → IsRead l container old → length screens ≤ length old → IsWritten l screens container written → IsRead l written again →
     again ≡ screens ++ drop (length screens) old
@@ -67,19 +53,10 @@ pub record HasFirst (l : Layout) (n : ℕ) (screens old new : List ℕ) : Type 0
 
 put-at : (l : Layout) (n i : ℕ) (screens old new : List ℕ) → IsLayout l → HasFirst l n screens old new → place l n < length new → i < n + 1 → (i ≡ n) ⊎ (i ≡ n → ⊥) →
     get_or (set new (place l n) (get_or screens n 0)) (place l i) 0 ≡ get_or screens i 0
-put-at l n i screens old new h f fits below (inl same) =
-    ap (λ k. get_or (set new (place l n) (get_or screens n 0)) (place l k) 0) same ∙ get_or-set_same new (place l n) (get_or screens n 0) 0 fits ∙ ap (λ k. get_or screens k 0) (sym same)
-put-at l n i screens old new h f fits below (inr other) =
-    let apart : place l i ≢ place l n = λ e. other (place_one l i n h e) in
-    get_or-set_other new (place l n) (place l i) (get_or screens n 0) 0 apart ∙ f.bytes i (omega arith)
+put-at l n i screens old new h f fits below x10 = grind (arith, get_or-set_same, place_one, get_or-set_other)
 
 pub one_more : (l : Layout) (n : ℕ) (screens old new : List ℕ) → IsLayout l → HasFirst l n screens old new → place l n < length new → HasFirst l (n + 1) screens old (set new (place l n) (get_or screens n 0))
-one_more l n screens old new h f fits =
-    record {
-      size = length-set new (place l n) (get_or screens n 0) ∙ f.size;
-      bytes = λ i below. put-at l n i screens old new h f fits below (cases_eq i n);
-      kept = λ at free. get_or-set_other new (place l n) at (get_or screens n 0) 0 (λ e. free n (omega arith) (sym e)) ∙ f.kept at (λ i below. free i (omega arith));
-    }
+one_more l n screens old new h f fits = grind (arith, length-set, put-at, cases_eq, get_or-set_other)
 
 -- screens that are written into a container
 pub record Writable (l : Layout) (screens c : List ℕ) : Type 0 where
@@ -88,13 +65,10 @@ pub record Writable (l : Layout) (screens c : List ℕ) : Type 0 where
 
 writable-fits : (l : Layout) (screens c : List ℕ) (w t : Bool) → nat_lt (capacity l c) (length screens) ≡ t →
     (if not w then Some CutBlock else if t then Some NoRoom else None) ≡ None → length screens ≤ capacity l c
-writable-fits l screens c false t a e = absurd (cc)
-writable-fits l screens c true true a e = absurd (cc)
-writable-fits l screens c true false a e = ltb-false (capacity l c) (length screens) a
+writable-fits l screens c w t a e = grind (arith, ltb-false)
 
 writable-by : (l : Layout) (screens c : List ℕ) (o : Option Cause) → unread l c ≡ o → unwritten_by o l screens c ≡ None → Writable l screens c
-writable-by l screens c None a e = record { read = a; fits = writable-fits l screens c (length screens % 1024 == 0) (nat_lt (capacity l c) (length screens)) refl e }
-writable-by l screens c (Some cause) a e = absurd (cc)
+writable-by l screens c o a e = grind (arith, writable-fits)
 
 pub writable : (l : Layout) (screens c : List ℕ) → unwritten l screens c ≡ None → Writable l screens c
 unfolding unwritten
@@ -110,6 +84,4 @@ blanks_more l front part all at n below e is =
 
 pub blanks_end : (l : Layout) (front all : List ℕ) (at n : ℕ) → n ≤ at → front ++ blank_sectors l (n - at) ≡ all → front ≡ all
 unfolding blank_sectors
-blanks_end l front all at n end e =
-    let none : n - at ≡ 0 = omega arith in
-    sym (append-nil front) ∙ sym (ap (λ k. front ++ blank_sectors l k) none) ∙ e
+blanks_end l front all at n end e = grind (arith, append-nil)

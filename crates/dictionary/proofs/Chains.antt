@@ -13,18 +13,15 @@ nonzero l h = grind arith
 
 longer_at_end : (m : List ℕ) (n : ℕ) → is_longer m n 0 ≡ false
 unfolding is_longer chain
-longer_at_end m zero = refl
-longer_at_end m (suc n) = grind arith
+longer_at_end m n = grind arith
 
 pub walked_at_end : (p : ℕ → Bool) (m : List ℕ) (n l : ℕ) → l ≡ 0 → walked p m n l ≡ Nowhere
 unfolding walked chain
-walked_at_end p m zero l h = rw (h, longer_at_end m 0) refl
-walked_at_end p m (suc n) l h = rw (h, longer_at_end m (suc n)) refl
+walked_at_end p m n l h = grind (arith, longer_at_end)
 
 pub walked_here : (p : ℕ → Bool) (m : List ℕ) (n l : ℕ) → 0 < n → l ≢ 0 → p l ≡ true → walked p m n l ≡ Found l
 unfolding walked chain
-walked_here p m zero l h k q = absurd (omega arith)
-walked_here p m (suc n) l h k q = rw (nonzero l k, q) refl
+walked_here p m n l h k q = grind (arith, nonzero)
 
 walked_past : (p : ℕ → Bool) (m : List ℕ) (n l : ℕ) → l ≢ 0 → p l ≡ false → walked p m (suc n) l ≡ walked p m n (cell m l)
 unfolding walked chain
@@ -36,7 +33,6 @@ walked_later p m (suc n) l h k q = let e : suc n - 1 ≡ n = omega arith in rw e
 
 pub walked_cut : (p : ℕ → Bool) (m : List ℕ) (n l : ℕ) → n ≤ 0 → l ≢ 0 → walked p m n l ≡ TooLong
 unfolding walked is_longer chain
-walked_cut p m zero l h k = rw (nonzero l k) refl
-walked_cut p m (suc n) l h k = absurd (omega arith)
+walked_cut p m n l h k = grind (arith, nonzero)
 
 pub ruleset walking = (walked_at_end, walked_here, walked_later, walked_cut)

@@ -1,4 +1,4 @@
-use Rattle.std.proofs.Common.{◌≡◌, ◌≢◌, ℕ, zero, suc, ◌+◌, ◌-◌, ◌<◌, ◌≤◌, List, length, length-append, refl, arith}
+use Rattle.std.proofs.Common.{◌≡◌, ◌≢◌, ℕ, ◌+◌, ◌-◌, ◌<◌, ◌≤◌, List, length, length-append, arith}
 use Rattle.cells.specs.Cell.{wrap}
 use Rattle.memory.specs.Bytes.{cell}
 use Rattle.dictionary.specs.Chain.{chain}
@@ -6,18 +6,15 @@ use Rattle.dictionary.specs.Order.{records, members, members_of, all_members, re
 
 pub length_at_end : (m : List ℕ) (n l : ℕ) → l ≡ 0 → length (chain m n l) ≡ 0
 unfolding chain
-length_at_end m zero l h = refl
-length_at_end m (suc n) l h = rw h refl
+length_at_end m n l h = grind arith
 
 pub length_none : (m : List ℕ) (n l : ℕ) → n ≤ 0 → length (chain m n l) ≡ 0
 unfolding chain
-length_none m zero l h = refl
-length_none m (suc n) l h = absurd (omega arith)
+length_none m n l h = grind arith
 
 pub length_more : (m : List ℕ) (n l : ℕ) → 0 < n → l ≢ 0 → length (chain m n l) ≡ 1 + length (chain m (n - 1) (cell m l))
 unfolding chain
-length_more m zero l h k = absurd (omega arith)
-length_more m (suc n) l h k = let e : suc n - 1 ≡ n = omega arith in rw e (grind arith)
+length_more m n l h k = grind arith
 
 pub ruleset lengths = (length_at_end, length_none, length_more)
 
@@ -27,17 +24,14 @@ length_of m r = grind (arith, length-append {A = ℕ})
 
 pub reached_at_end : (m : List ℕ) (n r : ℕ) → r ≡ 0 → reached m n r ≡ 0
 unfolding reached all_members records
-reached_at_end m zero r h = refl
-reached_at_end m (suc n) r h = rw h refl
+reached_at_end m n r h = grind arith
 
 pub reached_none : (m : List ℕ) (n r : ℕ) → n ≤ 0 → reached m n r ≡ 0
 unfolding reached all_members records
-reached_none m zero r h = refl
-reached_none m (suc n) r h = absurd (omega arith)
+reached_none m n r h = grind arith
 
 pub reached_more : (m : List ℕ) (n r : ℕ) → 0 < n → r ≢ 0 → reached m n r ≡ 1 + length (members_of m r) + reached m (n - 1) (cell m (wrap (r + 8)))
 unfolding reached all_members records
-reached_more m zero r h k = absurd (omega arith)
-reached_more m (suc n) r h k = let e : suc n - 1 ≡ n = omega arith in rw e (grind (arith, length-append {A = ℕ}))
+reached_more m n r h k = grind (arith, length-append)
 
 pub ruleset counts = (reached_at_end, reached_none, reached_more)

@@ -1,4 +1,4 @@
-use Rattle.std.proofs.Common.{◌≡◌, ℕ, zero, suc, ◌<◌, ◌≤◌, List, [], ◌∷◌, length, Bool, true, false, refl, arith, sym, ◌∙◌, ap, ◌==◌, if◌then◌else◌, Option, Some, None}
+use Rattle.std.proofs.Common.{◌≡◌, ℕ, zero, suc, ◌<◌, ◌≤◌, List, [], ◌∷◌, length, Bool, true, false, refl, arith, sym, ◌∙◌, ap, ◌==◌, if◌then◌else◌, Option, Some}
 use Rattle.std.specs.Prelude.{All, Contains, find, IsTrue, IsFalse}
 use Rattle.std.proofs.lemmas.List.Elements.{All-nil, All-cons, All-head, All-tail}
 use Rattle.memory.specs.Bytes.{cell}
@@ -19,8 +19,7 @@ newest_later p x l xs h w = record {
 }
 
 Contains-later : (p : ℕ → Bool) (x k : ℕ) (xs : List ℕ) → p x ≡ false → p k ≡ true → Contains (x ∷ xs) k → Contains xs k
-Contains-later p x k xs h q (zero, lt, at) = cc
-Contains-later p x k xs h q (suc j, lt, at) = (j, omega arith, at)
+Contains-later p x k xs h q x6 = grind arith
 
 -- the first of a list that passes is the newest, where one passes at all
 abbrev pub HasNewest : (ℕ → Bool) → List ℕ → Type 0
@@ -49,12 +48,10 @@ same_first p q (x ∷ xs) h =
 -- a chain of at most n members isn't cut after them
 cut_step : (n l : ℕ) (xs ys : List ℕ) (b : Bool) → (length xs ≤ n → xs ≡ ys) → length (if b then [] else l ∷ xs) ≤ suc n
     → (if b then [] else l ∷ xs) ≡ (if b then [] else l ∷ ys)
-cut_step n l xs ys true r h = refl
-cut_step n l xs ys false r h = ap (λ (zs : List ℕ). l ∷ zs) (r (omega arith))
+cut_step n l xs ys b r h = grind arith
 
 one_step : (l : ℕ) (b : Bool) → length (if b then [] else l ∷ []) ≤ 0 → (if b then [] else l ∷ []) ≡ []
-one_step l true h = refl
-one_step l false h = absurd (omega arith)
+one_step l b h = grind arith
 
 pub chain_cut : (m : List ℕ) (n l : ℕ) → length (chain m (suc n) l) ≤ n → chain m (suc n) l ≡ chain m n l
 unfolding chain
@@ -92,8 +89,7 @@ search_newest m name voc l h n c q =
 
 pub search_forth : (m name : List ℕ) (voc : ℕ) → 0 < length name → length (chain_in m voc name) ≤ 32768
     → All (λ l. IsFalse (is_named m name l)) (chain_in m voc name) → sought_from m voc name ≡ sought_in m 42 name
-search_forth m name voc h n none =
-    from_in m name voc h ∙ rw (sought_whole m name voc None n (none_first (is_named m name) (chain_in m voc name) none)) refl
+search_forth m name voc h n none = grind (arith, from_in, sought_whole, none_first)
 
 -- two memories
 found_same : (m n name : List ℕ) (voc : ℕ) → searched_in m voc name ≡ searched_in n voc name
@@ -106,15 +102,11 @@ unfolding sought_in first_in walked searched_in goes_on_in
 sought_is m name voc = refl
 
 found_is : (o : Option ℕ) (longer : Bool) (l : ℕ) → comes_to o longer ≡ Found l → o ≡ Some l
-found_is (Some k) longer l h = let e : k ≡ l = cc in ap Some e
-found_is None true l h = cc
-found_is None false l h = cc
+found_is o longer l h = grind arith
 
 pub walk_found : (m n name : List ℕ) (voc l : ℕ) → searched_in m voc name ≡ searched_in n voc name
     → All (λ k. is_named m name k ≡ is_named n name k) (searched_in m voc name) → sought_in m voc name ≡ Found l → sought_in n voc name ≡ Found l
-walk_found m n name voc l e h q =
-    let o = found_is (find (is_named m name) (searched_in m voc name)) (goes_on_in m voc name) l (sym (sought_is m name voc) ∙ q) in
-    sought_is n name voc ∙ rw (sym (found_same m n name voc e h) ∙ o) refl
+walk_found m n name voc l e h q = grind (arith, found_is, sought_is, found_same)
 
 pub walk_same : (m n name : List ℕ) (voc : ℕ) → searched_in m voc name ≡ searched_in n voc name
     → All (λ k. is_named m name k ≡ is_named n name k) (searched_in m voc name) → goes_on_in m voc name ≡ goes_on_in n voc name

@@ -38,33 +38,18 @@ pub record Fronted (m n : List ℕ) (here head new : ℕ) : Type 0 where
   pub all_new : length n ≡ 65536
 
 pub header_same : (m n : List ℕ) (here head new l : ℕ) → Fronted m n here head new → HeaderApart here head m l → HeaderSame m n l
-header_same m n here head new l f g = let g0 = g.0 in let g1 = g.1 in let hi = f.high in record {
-  ends = omega arith;
-  same = λ i x y. sym (f.same i (omega arith) (omega arith) (other i g.2 x y) (other_next i g.2 x y));
-}
-  where
-    other : (i : ℕ) → (head + 1 < l) ⊎ (l + (5 + name_length m l) ≤ head) → l ≤ i → i < l + (5 + name_length m l) → i ≢ head
-    other i (inl b) x y = omega arith
-    other i (inr b) x y = omega arith
-
-    other_next : (i : ℕ) → (head + 1 < l) ⊎ (l + (5 + name_length m l) ≤ head) → l ≤ i → i < l + (5 + name_length m l) → i ≢ head + 1
-    other_next i (inl b) x y = omega arith
-    other_next i (inr b) x y = omega arith
+header_same m n here head new l f g = grind arith
 
 pub headers_same : (m n : List ℕ) (here head new : ℕ) (ls : List ℕ) → Fronted m n here head new → HeadersApart here head m ls → AreSame m n ls
 headers_same m n here head new [] f g = refl
 headers_same m n here head new (l ∷ ls) f g = (header_same m n here head new l f g.0, headers_same m n here head new ls f g.1)
 
 pub head_same : (m n : List ℕ) (here head new h : ℕ) → Fronted m n here head new → 34 ≤ h → h + 1 < here → (head + 1 < h) ⊎ (h + 1 < head) → cell n h ≡ cell m h
-head_same m n here head new h f l g (inl b) = let hi = f.high in cell_by n m h (omega arith) (f.same h l (omega arith) (omega arith) (omega arith)) (f.same (h + 1) (omega arith) g (omega arith) (omega arith))
-head_same m n here head new h f l g (inr b) = let hi = f.high in cell_by n m h (omega arith) (f.same h l (omega arith) (omega arith) (omega arith)) (f.same (h + 1) (omega arith) g (omega arith) (omega arith))
+head_same m n here head new h f l g x9 = grind (arith, cell_by)
 
 -- the longest chain, and those cut earlier, are one where it has fewer than 32,768 members
 pub cuts : (m : List ℕ) (l : ℕ) → length (chain m 32769 l) ≤ 32767 → (chain m 32769 l ≡ chain m 32768 l) × (chain m 32768 l ≡ chain m 32767 l)
-cuts m l h =
-    let one : chain m 32769 l ≡ chain m 32768 l = chain_cut m 32768 l (omega arith) in
-    let n : length (chain m 32768 l) ≤ 32767 = subst (λ (xs : List ℕ). length xs ≤ 32767) one h in
-    (one, chain_cut m 32767 l n)
+cuts m l h = grind (arith, chain_cut)
 
 pub chain_more : (m : List ℕ) (k l : ℕ) → (l == 0) ≡ false → chain m (suc k) l ≡ l ∷ chain m k (cell m l)
 unfolding chain
@@ -81,18 +66,12 @@ front_found p m new link z e q h = let c = cuts m link h in rw (chain_more m 327
 
 front_length : (m : List ℕ) (new link : ℕ) → (new == 0) ≡ false → cell m new ≡ link → length (chain m 32769 link) ≤ 32767
     → length (chain m 32769 new) ≤ 32768
-front_length m new link z e h =
-    let c = cuts m link h in
-    let n : length (chain m 32768 link) ≤ 32767 = subst (λ (xs : List ℕ). length xs ≤ 32767) c.0 h in
-    rw (chain_more m 32768 new z, e) (omega arith)
+front_length m new link z e h = grind (arith, cuts, chain_more)
 
 front_walked : (p : ℕ → Bool) (m : List ℕ) (new link : ℕ) → (new == 0) ≡ false → cell m new ≡ link → p new ≡ false
     → length (chain m 32769 link) ≤ 32767 → walked p m 32768 new ≡ walked p m 32768 link
 unfolding walked
-front_walked p m new link z e q h =
-    let a : is_longer m 32768 new ≡ false = longer_not m 32768 new (front_length m new link z e h) in
-    let b : is_longer m 32768 link ≡ false = longer_not m 32768 link (omega arith) in
-    rw (front_found p m new link z e q h, a, b) refl
+front_walked p m new link z e q h = grind (arith, longer_not, front_length, front_found)
 
 -- one chain
 chain_fronted : (m n : List ℕ) (here head new h : ℕ) (x : List ℕ) → Fronted m n here head new → is_named n x new ≡ false

@@ -1,5 +1,5 @@
 -- No member of a chain is at 0, so nothing is hidden there.
-use Rattle.std.proofs.Common.{◌≡◌, ℕ, zero, suc, List, [], ◌∷◌, Bool, true, false, ◌==◌, if◌then◌else◌, refl, arith, sym}
+use Rattle.std.proofs.Common.{◌≡◌, ℕ, zero, suc, List, [], ◌∷◌, Bool, false, ◌==◌, if◌then◌else◌, refl, arith, sym}
 use Rattle.std.specs.Prelude.{find}
 use Rattle.memory.specs.Bytes.{cell}
 use Rattle.dictionary.specs.Header.{is_named, is_named_but}
@@ -12,8 +12,7 @@ but_none m name l h = grind (arith, h)
 
 find_step : (m name : List ℕ) (l : ℕ) (xs : List ℕ) (b : Bool) → (l == 0) ≡ b → find (is_named_but m name 0) xs ≡ find (is_named m name) xs
     → find (is_named_but m name 0) (if b then [] else l ∷ xs) ≡ find (is_named m name) (if b then [] else l ∷ xs)
-find_step m name l xs true e r = refl
-find_step m name l xs false e r = rw (but_none m name l e, r) refl
+find_step m name l xs b e r = grind (arith, but_none)
 
 find_but_none : (m name : List ℕ) (n l : ℕ) → find (is_named_but m name 0) (chain m n l) ≡ find (is_named m name) (chain m n l)
 unfolding chain

@@ -1,6 +1,5 @@
-use Rattle.std.proofs.Common.{◌≡◌, ℕ, ◌<◌, ◌≤◌, List, refl, arith, nat_lt}
-use Rattle.std.specs.Prelude.{All, Contains, IsFalse}
-use Rattle.std.proofs.lemmas.List.Elements.{All-weaker}
+use Rattle.std.proofs.Common.{◌≡◌, ℕ, ◌<◌, ◌≤◌, List, arith, nat_lt}
+use Rattle.std.specs.Prelude.{All, Contains}
 use Rattle.dictionary.specs.Chain.{IsNewest}
 use Rattle.dictionary.specs.Order.{members}
 use Rattle.dictionary.specs.Forgetting.{first_below}
@@ -13,5 +12,4 @@ newest_below m t head l c h = let w = newest_first (λ (k : ℕ). nat_lt k t) (m
 
 pub none_below : (m : List ℕ) (t head : ℕ) → All (λ k. t ≤ k) (members m head) → first_below t (members m head) ≡ 0
 unfolding first_below
-none_below m t head h =
-    rw (none_first (λ (k : ℕ). nat_lt k t) (members m head) (All-weaker (λ (k : ℕ). t ≤ k) (λ (k : ℕ). IsFalse (nat_lt k t)) (λ k q. grind arith) (members m head) h)) refl
+none_below m t head h = grind (arith, none_first)

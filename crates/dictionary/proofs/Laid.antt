@@ -1,8 +1,7 @@
 -- What writing bytes leaves as it was.
-use Rattle.std.proofs.Common.{◌≡◌, ◌≢◌, ℕ, ◌+◌, ◌<◌, ◌≤◌, ◌++◌, List, length, refl, arith, ◌∙◌}
+use Rattle.std.proofs.Common.{◌≡◌, ℕ, ◌+◌, ◌<◌, ◌≤◌, ◌++◌, List, length, arith}
 use Rattle.cells.specs.Cell.{wrap}
-use Rattle.memory.specs.Bytes.{byte, cell, put_bytes}
-use Rattle.memory.proofs.Kept.{wrap_small, byte_cell, byte_below, byte_above, length_cell, length_bytes, cell_here}
+use Rattle.memory.specs.Bytes.{put_bytes}
 use Rattle.memory.proofs.Same.{Stands}
 use Rattle.memory.proofs.Stands.{lay, cell_below}
 use Rattle.dictionary.specs.Laying.{laid_at}

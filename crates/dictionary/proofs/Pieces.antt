@@ -10,8 +10,7 @@ length-cell_bytes x = refl
 
 pub length_header : (v k c x : ℕ) (name extra : List ℕ) → length (header_bytes v k c name x extra) ≡ 7 + length name + length extra
 unfolding header_bytes
-length_header v k c x name extra =
-    omega (arith, length-append {A = ℕ}, length-cell_bytes v, length-cell_bytes k, length-cell_bytes x)
+length_header v k c x name extra = grind (arith, length-append, length-cell_bytes)
 
 -- one more piece after what was put
 then_put : (m : List ℕ) (a n : ℕ) (bs cs : List ℕ) (before : List ℕ) → before ≡ put_bytes m a bs → a < 65536 → n ≡ wrap (a + length bs)

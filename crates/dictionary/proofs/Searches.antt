@@ -1,9 +1,9 @@
 -- Searches in two memories whose headers are the same.
-use Rattle.std.proofs.Common.{◌≡◌, ℕ, zero, suc, ◌+◌, ◌<◌, ◌≤◌, ◌∷◌, List, [], length, refl, arith, Bool, true, false, sym, ap, subst}
+use Rattle.std.proofs.Common.{◌≡◌, ℕ, zero, suc, ◌+◌, ◌<◌, ◌≤◌, ◌∷◌, List, [], length, refl, arith, Bool, sym}
 use Rattle.std.specs.Prelude.{◌==◌, if◌then◌else◌, find}
 use Rattle.memory.specs.Bytes.{byte, cell}
 use Rattle.memory.proofs.Kept.{wrap_small}
-use Rattle.memory.proofs.Same.{Same, cell_by, bytes_by, cell_same}
+use Rattle.memory.proofs.Same.{cell_by, bytes_by}
 use Rattle.dictionary.specs.Header.{is_named, is_hidden, count_byte, name_length, name_of, is_immediate, compilation_address}
 use Rattle.dictionary.specs.Chain.{chain, is_longer}
 use Rattle.dictionary.specs.Search.{head_of, walked, first_in, first_from, sought_from}
@@ -49,9 +49,7 @@ address_by m n l h = rw (length_by m n l h) refl
 
 name_by : (m n : List ℕ) (l : ℕ) → length m ≡ 65536 → length n ≡ 65536 → HeaderSame m n l → name_of m l ≡ name_of n l
 unfolding name_of
-name_by m n l lm ln h =
-    let e = h.ends in
-    rw (wrap_small (l + 3) (omega arith), sym (length_by m n l h)) (bytes_by m n (l + 3) (name_length m l) lm ln (omega arith) (omega arith) (λ i x y. h.same i (omega arith) (omega arith)))
+name_by m n l lm ln h = grind (arith, wrap_small, length_by, bytes_by)
 
 hidden_by : (m n : List ℕ) (l : ℕ) → HeaderSame m n l → is_hidden m l ≡ is_hidden n l
 unfolding is_hidden
@@ -66,8 +64,7 @@ link_by m n l h = let e = h.ends in cell_by m n l (omega arith) (h.same l (omega
 
 -- chains
 chain_step : (m n : List ℕ) (k l : ℕ) (b : Bool) → (l == 0) ≡ b → ((x : ℕ) → AreSame m n (chain m k x) → chain m k x ≡ chain n k x) → AreSame m n (if b then [] else l ∷ chain m k (cell m l)) → (if b then [] else l ∷ chain m k (cell m l)) ≡ (if b then [] else l ∷ chain n k (cell n l))
-chain_step m n k l true e f h = refl
-chain_step m n k l false e f h = rw (sym (link_by m n l h.0)) (ap (λ (xs : List ℕ). l ∷ xs) (f (cell m l) h.1))
+chain_step m n k l b e f h = grind (arith, link_by)
 
 pub chain_by : (m n : List ℕ) (k l : ℕ) → AreSame m n (chain m k l) → chain m k l ≡ chain n k l
 unfolding chain
@@ -76,8 +73,7 @@ chain_by m n (suc k) l h = chain_step m n k l (l == 0) refl (λ (x : ℕ) (g : A
 
 -- what is the same in a chain is the same in what it begins with
 less_step : (m n : List ℕ) (k l : ℕ) (b : Bool) → ((x : ℕ) → AreSame m n (chain m (suc k) x) → AreSame m n (chain m k x)) → AreSame m n (if b then [] else l ∷ chain m (suc k) (cell m l)) → AreSame m n (if b then [] else l ∷ chain m k (cell m l))
-less_step m n k l true f h = h
-less_step m n k l false f h = (h.0, f (cell m l) h.1)
+less_step m n k l b f h = grind arith
 
 pub less_same : (m n : List ℕ) (k l : ℕ) → AreSame m n (chain m (suc k) l) → AreSame m n (chain m k l)
 unfolding chain
@@ -98,10 +94,4 @@ walked_by m n nm k l lm ln h =
 -- a search
 pub sought_by : (m n nm : List ℕ) (voc : ℕ) → length m ≡ 65536 → length n ≡ 65536 → ChainsSame m n voc nm → sought_from m voc nm ≡ sought_from n voc nm
 unfolding sought_from first_from first_in
-sought_by m n nm voc lm ln h =
-    rw (
-      sym h.head,
-      sym h.forth_head,
-      walked_by m n nm 32768 (cell m (head_of voc nm)) lm ln h.members,
-      walked_by m n nm 32768 (cell m (head_of 42 nm)) lm ln h.forth_members,
-    ) refl
+sought_by m n nm voc lm ln h = grind (arith, walked_by)

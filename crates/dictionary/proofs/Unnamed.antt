@@ -1,11 +1,11 @@
-use Rattle.std.proofs.Common.{◌≡◌, ◌≢◌, ℕ, zero, suc, ◌<◌, ◌≤◌, ◌⊎◌, inl, inr, List, length, Bool, true, false, ◌&&◌, nat_le, None, refl, arith, ap, sym, ◌∙◌, slice_index}
+use Rattle.std.proofs.Common.{◌≡◌, ◌≢◌, ℕ, ◌<◌, ◌≤◌, ◌⊎◌, List, length, Bool, false, None, refl, arith, sym, ◌∙◌, slice_index}
 use Rattle.std.specs.Prelude.{IsFalse, find}
 use Rattle.std.proofs.lemmas.Nat.{and_le_r}
 use Rattle.std.proofs.lemmas.Grind.{common_steps}
 use Rattle.memory.specs.Bytes.{cell, bytes}
 use Rattle.dictionary.specs.Header.{count_byte, name_length, name_of, is_named}
 use Rattle.dictionary.specs.Chain.{chain, is_longer}
-use Rattle.dictionary.specs.Search.{Sought, Found, Nowhere, TooLong, comes_to, head_of, walked, first_in, or_else, first_from, sought_in, sought_from}
+use Rattle.dictionary.specs.Search.{Sought, Found, Nowhere, comes_to, head_of, walked, first_in, or_else, first_from, sought_in, sought_from}
 use Rattle.dictionary.specs.Adding.{is_name}
 use Rattle.dictionary.proofs.Firsts.{none_first, from_in}
 use Rattle.dictionary.proofs.Names.{other_length}
@@ -34,30 +34,21 @@ unfolding sought_in first_in
 in_long m name voc h = walked_long m name 32768 (cell m (head_of voc name)) h
 
 not_found : (b : Bool) (l : ℕ) → comes_to None b ≢ Found l
-not_found true l e = cc
-not_found false l e = cc
+not_found b l e = grind arith
 
 pub long_never : (m name : List ℕ) (voc l : ℕ) → 31 < length name → sought_in m voc name ≢ Found l
 long_never m name voc l h e = not_found _ l (sym (in_long m name voc h) ∙ e)
 
 pub long_alone : (m name other : List ℕ) (voc : ℕ) → 31 < length name → 31 < length other → slice_index name 0 ≡ slice_index other 0
     → sought_in m voc name ≡ sought_in m voc other
-long_alone m name other voc h k e =
-    in_long m name voc h
-    ∙ ap (λ (a : ℕ). comes_to None (is_longer m 32768 (cell m a))) (same_head voc name other e)
-    ∙ sym (in_long m other voc k)
+long_alone m name other voc h k e = grind (arith, in_long, same_head)
 
 pub long_from : (m name other : List ℕ) (voc : ℕ) → 31 < length name → 31 < length other → slice_index name 0 ≡ slice_index other 0
     → sought_from m voc name ≡ sought_from m voc other
-long_from m name other voc h k e =
-    from_in m name voc (omega arith)
-    ∙ rw (long_alone m name other voc h k e, long_alone m name other 42 h k e) refl
-    ∙ sym (from_in m other voc (omega arith))
+long_from m name other voc h k e = grind (arith, from_in, long_alone)
 
 neither : (a b : Sought) (l : ℕ) → a ≢ Found l → b ≢ Found l → or_else a b ≢ Found l
-neither Nowhere b l h k e = k e
-neither (Found i) b l h k e = h e
-neither TooLong b l h k e = h e
+neither a b l h k e = grind arith
 
 pub empty_never : (m name : List ℕ) (voc : ℕ) → length name ≡ 0 → sought_from m voc name ≡ Nowhere
 unfolding sought_from first_from
@@ -67,19 +58,11 @@ nowhere_found : (l : ℕ) → Nowhere ≢ Found l
 nowhere_found l e = cc
 
 by_length : (m name : List ℕ) (voc l n : ℕ) → length name ≡ n → (n ≡ 0) ⊎ (31 < n) → sought_from m voc name ≢ Found l
-by_length m name voc l n e (inl z) q = nowhere_found l (sym (empty_never m name voc (e ∙ z)) ∙ q)
-by_length m name voc l n e (inr k) q =
-    let long : 31 < length name = omega arith in
-    neither (sought_in m voc name) (sought_in m 42 name) l (long_never m name voc l long) (long_never m name 42 l long)
-    (sym (from_in m name voc (omega arith)) ∙ q)
+by_length m name voc l n e x6 q = grind (arith, nowhere_found, empty_never, neither, long_never, from_in)
 
 no_name : (name : List ℕ) → IsFalse (is_name name) → (length name ≡ 0) ⊎ (31 < length name)
 unfolding is_name
-no_name name h = by (length name) h
-  where
-    by : (n : ℕ) → IsFalse (nat_le 1 n && nat_le n 31) → (n ≡ 0) ⊎ (31 < n)
-    by zero g = inl refl
-    by (suc n) g = inr (grind arith)
+no_name name h = grind arith
 
 pub name_never : (m name : List ℕ) (voc l : ℕ) → IsFalse (is_name name) → sought_from m voc name ≢ Found l
 name_never m name voc l h = by_length m name voc l (length name) refl (no_name name h)

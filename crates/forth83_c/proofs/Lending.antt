@@ -1,6 +1,6 @@
 -- A machine over lent memory is the same that a record keeps, and its memory comes back.
-use Rattle.std.proofs.Common.{◌≡◌, ℕ, List, [], Bool, true, false, Option, Some, None, sym, ap, ◌∙◌, subst}
-use Rattle.std.specs.Prelude.{IsOkAnd, Result, Ok, Err}
+use Rattle.std.proofs.Common.{rules, ◌≡◌, ℕ, List, [], Bool, Option, Some, None, sym, ap, ◌∙◌, subst}
+use Rattle.std.specs.Prelude.{IsOkAnd, Result}
 use Rattle.block_buffers.specs.Disks.{Disk}
 use Rattle.machine_parts.specs.Whole.{place_of}
 use Rattle.machine.specs.declared.act.Act.{Act}
@@ -15,8 +15,7 @@ use Rattle.forth83_c.specs.Driven.{begun, IsDriven}
 -- whose memory a place is
 pub named : (is_lent : Bool) (n m : ℕ) → place_of is_lent n ≡ Some m → n ≡ m
 unfolding place_of
-named true n m e = cc
-named false n m e = cc
+named is_lent n m e = search rules
 
 no_disk : Disk
 no_disk = record { blocks = []; coming = [] }
@@ -51,5 +50,4 @@ lent_stays name m m' s from stays = stays ∙ ap (λ (t : State). t.parts.place)
 
 -- the state after an answer that is taken
 pub taken_is : (r : Result Act Refused) (s : State) (x : State × Act) → IsOkAnd r (λ act. (s, act) ≡ x) → s ≡ x.0
-taken_is (Ok act) s x e = ap (λ (y : State × Act). y.0) e
-taken_is (Err f) s x e = absurd e
+taken_is r s x e = search rules

@@ -1,9 +1,7 @@
 -- A record keeps one state.
-use Rattle.std.proofs.Common.{◌≡◌, ℕ, ◌≤◌, List, [], ◌∷◌, Bool, true, false, None, length, arith, ap, sym, refl, ◌∙◌}
+use Rattle.std.proofs.Common.{rules, ◌≡◌, ℕ, ◌≤◌, List, [], Bool, None, length, arith, ap, sym, refl, ◌∙◌}
 use Rattle.std.specs.Prelude.{IsTrue, slice_range}
-use Rattle.memory.specs.Bytes.{cell}
 use Rattle.memory.specs.Mirrored.{stored}
-use Rattle.memory.specs.declared.system.TheConstants.{CONTEXT}
 use Rattle.dictionary.specs.Adding.{is_name}
 use Rattle.dictionary.specs.Header.{compilation_address}
 use Rattle.dictionary.specs.Search.{Sought, Found, sought}
@@ -22,15 +20,10 @@ same_whole : (s t : State) → s.parts ≡ t.parts → s.wait ≡ t.wait → s.h
 same_whole s t a b c = rw (a, b, c) refl
 
 pub same_state : (k : Forth83) (s t : State) → IsKept k s → IsKept k t → s ≡ t
-same_state k s t h g =
-    same_whole s t
-    (same_parts s.parts t.parts (h.memory ∙ sym g.memory) (h.values ∙ sym g.values) (h.returns ∙ sym g.returns) (h.ip ∙ sym g.ip) (h.pending ∙ sym g.pending)
-    (h.buffers ∙ sym g.buffers) (h.block_count ∙ sym g.block_count) (h.place ∙ sym g.place))
-    (h.wait ∙ sym g.wait) (h.halt ∙ sym g.halt)
+same_state k s t h g = grind arith
 
 none_first : (xs : List ℕ) → first_of xs ≡ None → xs ≡ []
-none_first [] e = refl
-none_first (x ∷ xs) e = cc
+none_first xs e = search rules
 
 -- the state that a record says
 kept_state : Forth83 → State
@@ -51,19 +44,7 @@ kept_state k = record {
 
 kept_kept : (k : Forth83) → IsRecord k → IsKept k (kept_state k)
 unfolding kept_state
-kept_kept k h = record {
-  machine = h;
-  memory = refl;
-  values = refl;
-  returns = refl;
-  ip = refl;
-  pending = refl;
-  buffers = refl;
-  block_count = refl;
-  place = refl;
-  wait = refl;
-  halt = refl;
-}
+kept_kept k h = search rules
 
 pub some_state : (k : Forth83) → IsRecord k → (s : State) × IsKept k s
 some_state k h = (kept_state k, kept_kept k h)
@@ -88,19 +69,12 @@ sought_there k m name r h e f = (kept_state k, kept_kept k h, ap (λ n. sought n
 pub found_there : (k : Forth83) (m name : List ℕ) (l : ℕ) → IsRecord k → m ≡ stored k.memory → sought m name ≡ Found l
     → HasFound k name (compilation_address m l)
 unfolding kept_state
-found_there k m name l h e f = record {
-  state = kept_state k;
-  is_kept = kept_kept k h;
-  header = l;
-  found = ap (λ n. sought n name) (sym e) ∙ f;
-  is = ap (λ n. compilation_address n l) e;
-}
+found_there k m name l h e f = search (rules, kept_state, kept_kept)
 
 -- what is found has a name
 by_test : (m name : List ℕ) (l : ℕ) (b : Bool) → is_name name ≡ b → sought m name ≡ Found l → IsTrue b
 unfolding sought
-by_test m name l true e f = refl
-by_test m name l false e f = absurd (name_never m name (cell m CONTEXT) l e f)
+by_test m name l b e f = search (rules, name_never)
 
 pub is_named_found : (m name : List ℕ) (l : ℕ) → sought m name ≡ Found l → IsTrue (is_name name)
 is_named_found m name l f = by_test m name l (is_name name) refl f

@@ -6,14 +6,13 @@ use Rattle.std.proofs.lemmas.List.Sums.{sum_by-cons}
 use Rattle.std.proofs.lemmas.Bool.{eqb-true}
 use Rattle.cells.specs.Cell.{wrap, difference}
 use Rattle.colon_bodies.proofs.Cells.{length-cell}
-use Rattle.colon_bodies.specs.Code.{thread}
 use Rattle.memory.specs.Bytes.{byte, bytes, cell, cell_bytes, front_put}
 use Rattle.memory.specs.Bytes as memory
 use Rattle.memory.proofs.Same.{Stands}
 use Rattle.dictionary.specs.Header.{view_of, count_byte, name_length, is_hidden, name_of, compilation_address}
 use Rattle.dictionary.proofs.CountBits.{all_below, and_left, and_right, below}
 use Rattle.image_builder.specs.Places.{Place}
-use Rattle.image_builder.specs.Items.{Item, Header, Colon, Cell, Byte, Allot, Immediate, Definitions, Boot, Items, Nothing, Then, item_size, end_of, controls, code_of, head, head_size, count_byte as new_count, field, zeros, link_of, own, passes, bytes as item_bytes, heads_of, system, low, image}
+use Rattle.image_builder.specs.Items.{Item, Items, Nothing, Then, item_size, end_of, controls, head, head_size, count_byte as new_count, zeros, link_of, own, passes, bytes as item_bytes, heads_of, system, low, image}
 use Rattle.image_builder.specs.Headers.{Says, memory_of, sizes, title, IsTitled}
 use Rattle.image_builder.proofs.Imaging.{length-bytes, length-zeros}
 use Rattle.image_builder.proofs.Looping.{length-low}
@@ -38,34 +37,12 @@ pub record HasHeader (bs : List ℕ) (t : Items) (p : Place) : Type 0 where
   pub place : length before + 256 ≡ end_of t
 
 own_header : (h : ℕ → ℕ → ℕ) (t : Items) (i : Item) (imm : Bool) (p : Place) → title i ≡ Some p → HasHeader (item_bytes h t (passes i imm) ++ own h t i imm) t p
-own_header h t (Header q k) imm p e =
-    let f : q ≡ p = cc in
-    subst (λ x. HasHeader (item_bytes h t false ++ own h t (Header q k) imm) t x) f
-    (record { before = item_bytes h t false; after = field h t (end_of t + head_size q) k; immediate = imm; code = code_of k; is = refl; place = length-bytes h t false })
-own_header h t (Colon q b) imm p e =
-    let f : q ≡ p = cc in
-    subst (λ x. HasHeader (item_bytes h t false ++ own h t (Colon q b) imm) t x) f
-    (record { before = item_bytes h t false; after = thread (controls t) b (end_of t + head_size q); immediate = imm; code = 1; is = refl; place = length-bytes h t false })
-own_header h t (Cell n) imm p e = cc
-own_header h t (Byte n) imm p e = cc
-own_header h t (Allot n) imm p e = cc
-own_header h t Immediate imm p e = cc
-own_header h t (Definitions n) imm p e = cc
-own_header h t (Boot n) imm p e = cc
+own_header h t i imm p e = grind (arith, length-bytes)
 
 pub has_header : (h : ℕ → ℕ → ℕ) (t u : Items) (imm : Bool) (p : Place) → IsTitled t u p → HasHeader (item_bytes h t imm) u p
 has_header h Nothing u imm p e = absurd e
 has_header h (Then t ws i) u imm p (inl e) = subst (λ x. HasHeader (item_bytes h (Then t ws i) imm) x p) (sym e.0) (own_header h t i imm p e.1)
-has_header h (Then t ws i) u imm p (inr e) =
-    let g = has_header h t u (passes i imm) p e in
-    record {
-      before = g.before;
-      after = g.after ++ own h t i imm;
-      immediate = g.immediate;
-      code = g.code;
-      is = ap (λ l. l ++ own h t i imm) g.is ∙ simp append_assoc;
-      place = g.place;
-    }
+has_header h (Then t ws i) u imm p (inr e) = grind (arith, append_assoc, has_header h t u (passes i imm) p e)
 
 in_memory : (a b z f bs g r : List ℕ) → (a ++ (b ++ (z ++ (f ++ (bs ++ g))))) ++ r ≡ (a ++ (b ++ (z ++ f))) ++ (bs ++ (g ++ r))
 in_memory a b z f bs g r = simp append_assoc
@@ -155,8 +132,7 @@ count_says imm n h = below (says (cond imm 192 128) imm) 32 n (all_say imm) h
 
 -- what the header of an item says
 not_true : (b : Bool) → not b ≡ true → b ≡ false
-not_true true e = cc
-not_true false e = refl
+not_true b e = grind arith
 
 pub header_says : (m : List ℕ) (at link code : ℕ) (p : Place) (imm : Bool) → length m ≡ 65536 → at + head_size p < 65536 → length p.name < 32 → Stands m at (head link p imm code) → Says m (at + 2) p.screen link p.name
 unfolding view_of name_length is_hidden name_of count_byte compilation_address
@@ -170,7 +146,6 @@ header_says m at link code p imm lm h short st =
     let name : Stands m (at + 5) p.name = stands_before m p.name (cell_bytes code) (at + 5) s5 in
     let d : difference (at + 2) 2 ≡ at = omega arith in
     let w2 : wrap (at + 2 + 2) ≡ at + 4 = omega arith in
-    let w3 : wrap (at + 2 + 3) ≡ at + 5 = omega arith in
     let b : byte m (at + 4) ≡ c = stands_byte m (at + 4) c tail s4 in
     let y = count_says imm n short in
     let bits : bit_and (byte m (wrap (at + 2 + 2))) 31 ≡ n = ap (λ a. bit_and (byte m a) 31) w2 ∙ ap (λ x. bit_and x 31) b ∙ eqb-true (bit_and c 31) n (and_left _ _ y) in
@@ -178,6 +153,6 @@ header_says m at link code p imm lm h short st =
       view = ap (cell m) d ∙ stands_cell m at p.screen (cell_bytes link ++ (c ∷ tail)) (omega arith) st;
       links = stands_cell m (at + 2) link (c ∷ tail) (omega arith) s2;
       shown = ap (λ a. bit_and (byte m a) 32 == 32) w2 ∙ ap (λ x. bit_and x 32 == 32) b ∙ not_true (bit_and c 32 == 32) (and_left _ _ (and_right _ _ y));
-      named = ap (λ a. bytes m a (bit_and (byte m (wrap (at + 2 + 2))) 31)) w3 ∙ ap (λ k. bytes m (at + 5) k) bits ∙ stands_bytes m (at + 5) p.name name;
+      named = grind (arith, stands_bytes);
       code_field = ap (λ k. wrap (at + 2 + (3 + k))) bits ∙ omega arith;
     }

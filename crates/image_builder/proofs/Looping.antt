@@ -1,29 +1,24 @@
 -- The whole image, and the loop over a source's words.
 use Rattle.std.proofs.Common.{length-append, ◌≡◌, ℕ, ◌+◌, ◌*◌, ◌/◌, ◌<◌, ◌≤◌, ◌⊎◌, inl, inr, List, [], ◌∷◌, ◌++◌, length, take, get_or, zero, suc, refl, sym, ap, ◌∙◌, subst, arith, append_assoc, append-nil}
-use Rattle.std.specs.Prelude.{false, Option, Some, None, Result, Ok, Err, slice_index, Bool, true, cond}
-use Rattle.colon_bodies.specs.Tokens.{Token, NAME}
+use Rattle.std.specs.Prelude.{false, Option, None, Result, Ok, Err, slice_index}
+use Rattle.colon_bodies.specs.Tokens.{Token}
 use Rattle.memory.specs.Bytes.{cell_bytes}
 use Rattle.colon_bodies.specs.declared.words.Half.{Half}
 use Rattle.image_builder.specs.declared.state.Build.{Build}
 use Rattle.image_builder.specs.declared.cause.Cause.{Cause}
 use Rattle.image_builder.specs.declared.cause.Cause.TheVariants as c
 use Rattle.image_builder.specs.declared.spot.Sort.{Sort}
-use Rattle.image_builder.specs.declared.spot.Sort.TheVariants as s
 use Rattle.image_builder.specs.declared.cause.BuildFault.{BuildFault}
 use Rattle.image_builder.specs.declared.entry.Lead.{Lead}
-use Rattle.image_builder.specs.declared.entry.Lead.TheVariants.{Makes, Defines, Starts}
 use Rattle.image_builder.specs.declared.state.Begun.{Begun}
-use Rattle.image_builder.specs.declared.state.Begun.TheVariants as g
-use Rattle.colon_bodies.specs.Rules as rules
-use Rattle.colon_bodies.specs.declared.words.Half.TheVariants.{Free, Compiling}
 use Rattle.image_builder.specs.Built.{Built}
-use Rattle.colon_bodies.specs.Meaning.{Sense, Plain, Keyword, Figure, Wide, Remark}
+use Rattle.colon_bodies.specs.Meaning.{Sense}
 use Rattle.image_builder.specs.Places.{Place}
 use Rattle.image_builder.specs.Items.{Items, Nothing, item_words, controls, low, zeros, bytes, heads_of, image, system, end_of, last_link, names, current, newest_record}
-use Rattle.image_builder.specs.Names.{Name, address, newest_first, newest_link}
-use Rattle.image_builder.specs.Meanings.{look, unnamed, name_first, sense_of, is_barred, meaning}
-use Rattle.image_builder.specs.Stages.{body_at, Stage, Whole, Counted, Due, Chosen, Inside, IsFront}
-use Rattle.image_builder.specs.Faults.{AtItem, AtNumber, AtName, AtVocabulary, InBody, FirstCause, Applies, IsFault}
+use Rattle.image_builder.specs.Names.{Name, newest_link}
+use Rattle.image_builder.specs.Meanings.{name_first, sense_of}
+use Rattle.image_builder.specs.Stages.{Stage, Whole, IsFront}
+use Rattle.image_builder.specs.Faults.{AtNumber, AtName, AtVocabulary, InBody, FirstCause, Applies, IsFault}
 use Rattle.image_builder.specs.Grammar.{AreSound, IsLimit}
 use Rattle.colon_bodies.proofs.Cells.{length-cell}
 use Rattle.image_builder.proofs.Sound.{sound_end, end_above}
@@ -31,27 +26,24 @@ use Rattle.image_builder.proofs.Imaging.{length-bytes}
 use Rattle.image_builder.specs.State.{IsRead, Goes, TakenAt, all_cells}
 
 pub cells_more : (xs : List ℕ) (i d : ℕ) → i < length xs → all_cells (take (suc i) xs) ≡ all_cells (take i xs) ++ cell_bytes (get_or xs i d)
-cells_more [] i d h = absurd (omega arith)
-cells_more (x ∷ xs) zero d h = append-nil (cell_bytes x)
 cells_more (x ∷ xs) (suc i) d h = ap (λ l. cell_bytes x ++ l) (cells_more xs i d (omega arith)) ∙ sym (append_assoc (cell_bytes x) (all_cells (take i xs)) (cell_bytes (get_or xs i d)))
+cells_more xs i d h = grind (arith, append-nil, append_assoc)
 
 -- the runtime cells
 pub cells_low : (n k : ℕ) (xs : List ℕ) (f : ℕ → ℕ) → n ≤ length xs → ((i : ℕ) → slice_index xs i ≡ f (k + i)) → all_cells (take n xs) ≡ low (λ a. f (a / 2)) (2 * k) n
-cells_low zero k xs f h e = refl
-cells_low (suc n) k [] f h e = absurd (omega arith)
 cells_low (suc n) k (x ∷ xs) f h e =
     let a : x ≡ f (2 * k / 2) = e 0 ∙ ap f (omega arith) in
     let m : 2 * (k + 1) ≡ 2 * k + 2 = omega arith in
     ap (λ v. cell_bytes v ++ all_cells (take n xs)) a
     ∙ ap (λ l. cell_bytes (f (2 * k / 2)) ++ l) (cells_low n (k + 1) xs f (omega arith) (λ i. e (suc i) ∙ ap f (omega arith)) ∙ ap (λ p. low (λ a. f (a / 2)) p n) m)
+cells_low n k xs f h e = grind arith
 
 -- the system's cells
 pub system_cells : (t : Items) (end last voc record_at head0 head1 head2 head3 : ℕ) → end ≡ end_of t → last ≡ last_link (names t) → voc ≡ current t → record_at ≡ newest_record t → head0 ≡ newest_link (names t) 42 0 → head1 ≡ newest_link (names t) 42 1 → head2 ≡ newest_link (names t) 42 2 → head3 ≡ newest_link (names t) 42 3 → all_cells (0 ∷ 0 ∷ 0 ∷ 0 ∷ 0 ∷ 0 ∷ 0 ∷ 0 ∷ 0 ∷ 10 ∷ 0 ∷ 0 ∷ 0 ∷ 0 ∷ end ∷ last ∷ voc ∷ voc ∷ 0 ∷ 0 ∷ 0 ∷ head0 ∷ head1 ∷ head2 ∷ head3 ∷ 0 ∷ record_at ∷ end ∷ 0 ∷ 0 ∷ 0 ∷ 0 ∷ []) ≡ low (system t) 0 32
 system_cells t end last voc record_at head0 head1 head2 head3 a b d e f g h i = rw (a, b, d, e, f, g, h, i) refl
 
 in_a_row : (p q z b n0 n1 n2 n3 n4 : List ℕ) → n0 ≡ [] → n1 ≡ n0 ++ p → n2 ≡ n1 ++ q → n3 ≡ n2 ++ z → n4 ≡ n3 ++ b → n4 ≡ p ++ (q ++ (z ++ b))
-in_a_row p q z b n0 n1 n2 n3 n4 e0 e1 e2 e3 e4 =
-    e4 ∙ ap (λ l. l ++ b) (e3 ∙ ap (λ l. l ++ z) (e2 ∙ ap (λ l. l ++ q) (e1 ∙ ap (λ l. l ++ p) e0))) ∙ simp append_assoc
+in_a_row p q z b n0 n1 n2 n3 n4 e0 e1 e2 e3 e4 = grind (arith, append_assoc)
 
 pub image_laid : (t : Items) (n0 n1 n2 n3 n4 more : List ℕ) → n0 ≡ [] → n1 ≡ n0 ++ low (system t) 0 32 → n2 ≡ n1 ++ low (λ a. controls t (a / 2)) 0 32 → n3 ≡ n2 ++ zeros 128 → n4 ≡ n3 ++ more → more ≡ bytes (heads_of t) t false → n4 ≡ image t
 image_laid t n0 n1 n2 n3 n4 more e0 e1 e2 e3 e4 m =
@@ -59,9 +51,8 @@ image_laid t n0 n1 n2 n3 n4 more e0 e1 e2 e3 e4 m =
 
 -- nothing is built yet
 zero_at : (n i : ℕ) → slice_index (zeros n) i ≡ 0
-zero_at zero i = refl
-zero_at (suc n) zero = refl
 zero_at (suc n) (suc i) = zero_at n i
+zero_at n i = grind arith
 
 pub no_runtime : (xs : List ℕ) → xs ≡ zeros 256 → slice_index xs ≡ controls Nothing
 no_runtime xs e = ap slice_index e ∙ (λ i k. zero_at 256 k i)
@@ -71,84 +62,43 @@ length-zeros zero = refl
 length-zeros (suc n) = ap suc (length-zeros n)
 
 pub nothing_built : {limit : ℕ} (b : Build) → b.image.items ≡ [] → b.names.items ≡ [] → b.runtime.items ≡ zeros 256 → b.current ≡ 42 → b.newest_record ≡ 42 → b.boot ≡ None → b.limit ≡ limit → IsLimit limit → Built limit b Nothing
-nothing_built b i n r v w o l few =
-    record { limit_is = l; limited = few; laid = i; named = ap newest_first n; runtime = no_runtime b.runtime.items r; all = ap length r ∙ length-zeros 256; current_is = v; record_is = w; boot_is = o }
+nothing_built b i n r v w o l few = grind (arith, no_runtime, length-zeros)
 
 pub read_on : {limit : ℕ} (b new : Build) (x y : Begun) (done : List Place) (w : Place) (r : IsRead limit b x done) → Goes limit new y r.items r.words w → IsRead limit new y (done ++ w ∷ [])
-read_on b new x y done w r o =
-    record {
-      items = o.items;
-      words = o.words;
-      stage = o.stage;
-      shows = o.shows;
-      is = o.is;
-      front = ap (λ l. l ++ w ∷ []) r.front ∙ append_assoc (item_words r.items) r.words (w ∷ []) ∙ sym o.front;
-    }
+read_on b new x y done w r o = grind (arith, append_assoc)
 
 pub is_front : {limit : ℕ} (b : Build) (x : Begun) (done : List Place) (r : IsRead limit b x done) → IsFront limit done r.items r.words r.stage
 is_front b x done r = let i = r.is in record { is = r.front; sound = i.sound; begun = i.begun }
 
 -- no word has a cause of a source's end
-item_never : (t : Items) (w : Place) (after : List Place) (sort : Sort) → (AtItem t w after sort c.EndsInside → ⊥) × (AtItem t w after sort c.NoBoot → ⊥)
-item_never t w after s.Double = (λ h. h, λ h. h)
-item_never t w after (s.Number n) = (λ h. h, λ h. h)
-item_never t w after _ = (λ h. h, λ h. h)
-
 number_never : (limit : ℕ) (t : Items) (n : ℕ) (sort : Sort) → (AtNumber limit t n sort c.EndsInside → ⊥) × (AtNumber limit t n sort c.NoBoot → ⊥)
-number_never limit t n s.Double = (λ h. h, λ h. h)
-number_never limit t n _ = (λ h. h, λ h. h)
+number_never limit t n sort = grind arith
 
 name_never : (limit : ℕ) (t : Items) (w : Place) (l : Lead) → (AtName limit t w l c.EndsInside → ⊥) × (AtName limit t w l c.NoBoot → ⊥)
-name_never limit t w (Makes k) = (λ h. h, λ h. h)
-name_never limit t w Defines = (λ h. h, λ h. h)
-name_never limit t w Starts = (λ h. h, λ h. h)
+name_never limit t w l = grind arith
 
 vocabulary_never : (sort : Sort) → (AtVocabulary sort c.EndsInside → ⊥) × (AtVocabulary sort c.NoBoot → ⊥)
-vocabulary_never s.Double = (λ h. h, λ h. h)
-vocabulary_never _ = (λ h. h, λ h. h)
+vocabulary_never sort = grind arith
 
 abbrev pub IsOfWord : Result Token Cause → Type 0
 IsOfWord (Ok w) = Unit {0}
 IsOfWord (Err e) = (e ≡ c.Misplaced) ⊎ (e ≡ c.Unknown)
 
-unnamed_cause : (x : Sense) → IsOfWord (unnamed x)
-unnamed_cause (Keyword w) = tt
-unnamed_cause (Figure n) = tt
-unnamed_cause (Wide n) = tt
-unnamed_cause Remark = inl refl
-unnamed_cause Plain = inr refl
-
 first_cause : (h : Half) (o : Option Name) (x : Sense) → IsOfWord (name_first h o x)
-first_cause h None x = unnamed_cause x
-first_cause h (Some n) x = by (is_barred h n)
-  where
-    by : (b : Bool) → IsOfWord (cond b (Err c.Misplaced) (Ok (NAME (address n))))
-    by true = inl refl
-    by false = tt
+first_cause h o x = grind arith
 
 pub sense_cause : (h : Half) (o : Option Name) (x : Sense) → IsOfWord (sense_of h o x)
-sense_cause Free o (Keyword w) = tt
-sense_cause Compiling o (Keyword w) = tt
-sense_cause h o x = first_cause h o x
+sense_cause h o x = grind (arith, first_cause)
 
 body_never : (limit : ℕ) (rt : ℕ → ℕ) (at : ℕ) (before : List Token) (m : Result Token Cause) → IsOfWord m → (InBody rt at limit before m c.EndsInside → ⊥) × (InBody rt at limit before m c.NoBoot → ⊥)
-body_never limit rt at before (Ok w) h = (λ x. x, λ x. x)
-body_never limit rt at before (Err e) (inl q) = (λ x. let z : c.Misplaced ≡ c.EndsInside = sym q ∙ x in cc, λ x. let z : c.Misplaced ≡ c.NoBoot = sym q ∙ x in cc)
-body_never limit rt at before (Err e) (inr q) = (λ x. let z : c.Unknown ≡ c.EndsInside = sym q ∙ x in cc, λ x. let z : c.Unknown ≡ c.NoBoot = sym q ∙ x in cc)
+body_never limit rt at before m x5 = grind arith
 
 never : (limit : ℕ) (t : Items) (stage : Stage) (w : Place) (after : List Place) → (Applies limit t stage w after c.EndsInside → ⊥) × (Applies limit t stage w after c.NoBoot → ⊥)
-never limit t Whole w after = item_never t w after w.sort
-never limit t (Counted n) w after = number_never limit t n w.sort
-never limit t (Due l) w after = name_never limit t w l
-never limit t (Chosen v) w after = vocabulary_never w.sort
-never limit t (Inside p before) w after = body_never limit (controls t) (body_at t p) before (meaning (rules.half_of Free before) t w) (sense_cause (rules.half_of Free before) (look t w) w.inner)
+never limit t stage w after = grind (arith, number_never, name_never, vocabulary_never, body_never, sense_cause)
 
 -- the fault of a source
 fault_is : (limit : ℕ) (source before after : List Place) (w : Place) (t : Items) (ws : List Place) (stage : Stage) (last screen offset : ℕ) (e : Cause) → source ≡ before ++ w ∷ after → screen ≡ w.screen → offset ≡ w.offset → IsFront limit before t ws stage → FirstCause limit t stage w after e → IsFault limit source last screen offset e
-fault_is limit source before after w t ws stage last screen offset c.OutOfMemory q a b f x = tt
-fault_is limit source before after w t ws stage last screen offset c.EndsInside q a b f x = absurd ((never limit t stage w after).0 x.applies)
-fault_is limit source before after w t ws stage last screen offset c.NoBoot q a b f x = absurd ((never limit t stage w after).1 x.applies)
-fault_is limit source before after w t ws stage last screen offset _ q a b f x = (before, w, after, t, ws, stage, q, a, b, f, x)
+fault_is limit source before after w t ws stage last screen offset e q a b f x = grind (arith, never)
 
 memory_fault : (limit : ℕ) (source : List Place) (last screen offset : ℕ) (e : Cause) → e ≡ c.OutOfMemory → IsFault limit source last screen offset e
 memory_fault limit source last screen offset e q = subst (λ x. IsFault limit source last screen offset x) (sym q) tt

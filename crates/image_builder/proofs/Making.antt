@@ -35,17 +35,10 @@ pub building_end : (b : Build) → Building b → length b.image.items + 256 ≤
 building_end b h = let e = built_end b h.items h.is in let s = sound_below b.limit h.is.limited h.items h.sound in omega arith
 
 pub within_image : (b : Build) → Building b → (b.current ≡ 42) ⊎ ((256 ≤ b.current) × (b.current + 10 ≤ length b.image.items + 256))
-within_image b h =
-    let e = built_end b h.items h.is in
-    let c = h.is.current_is in
-    elim ((sound_names b.limit h.items h.sound).0) [
-      | inl x ↦ inl (c ∙ x)
-      | inr r ↦ let z = record_below h.items (current h.items) r in inr (omega arith, omega arith)
-    ]
+within_image b h = grind (arith, built_end, sound_names, record_below)
 
 pub class_small : (bs : List ℕ) → class_of bs < 4
-class_small [] = omega arith
-class_small (b ∷ bs) = omega arith
+class_small bs = grind arith
 
 -- the bytes once the head of the chain is the new link field
 pub headed_bytes : (limit : ℕ) (t : Items) (p : Place) (sign : Sign) (old mid : List ℕ) (at : ℕ) → AreSound limit t → old ≡ bytes (heads_of t) t false → at ≡ current t → (at ≡ 42 → mid ≡ old) → (at ≢ 42 → Patches old mid (at + 2 * class_of p.name - 256) (end_of t + 2)) → mid ≡ bytes (newest_link (new_name t p sign ∷ names t)) t false
@@ -74,24 +67,15 @@ headed_laid {limit} b t p sign code link older class es mid new h s l q r o f g 
     n ∙ ap (λ x. mid ++ head x p false code) k ∙ ap (λ x. x ++ head (link_of t p) p false code) (headed_bytes limit t p sign b.image.items mid b.current s h.laid h.current_is f g')
 
 pub headed_named : {limit : ℕ} (b : Build) (t : Items) (p : Place) (sign : Sign) (link : ℕ) (es : List Named) (e : Named) → Built limit b t → link ≡ length b.image.items + 256 → es ≡ b.names.items ++ e ∷ [] → stored e ≡ record { name = p.name; vocabulary = b.current; link = link + 2; immediate = false; sign = sign } → newest_first es ≡ new_name t p sign ∷ names t
-headed_named b t p sign link es e h l i j =
-    let at : link ≡ end_of t = l ∙ built_end b t h in
-    let N : ℕ → ℕ → Name = λ v a. record { name = p.name; vocabulary = v; link = a + 2; immediate = false; sign = sign } in
-    named_more b.names.items es e (new_name t p sign) (names t) h.named i (j ∙ ap (λ v. N v link) h.current_is ∙ ap (λ a. N (current t) a) at)
+headed_named b t p sign link es e h l i j = grind (arith, built_end, named_more)
 
 -- an item of which the state but the image is as before
 pub laid_more : (t : Items) (ws : List Place) (i : Item) (old new more : List ℕ) → old ≡ bytes (heads_of t) t false → passes i false ≡ false → heads_of (Then t ws i) ≡ heads_of t → new ≡ old ++ more → more ≡ own (heads_of t) t i false → new ≡ bytes (heads_of (Then t ws i)) (Then t ws i) false
-laid_more t ws i old new more o p h n m =
-    n ∙ ap (λ l. l ++ more) o ∙ ap (λ l. bytes (heads_of t) t false ++ l) m
-    ∙ ap (λ b. bytes (heads_of t) t b ++ own (heads_of t) t i false) (sym p)
-    ∙ ap (λ g. bytes g (Then t ws i) false) (sym h)
+laid_more t ws i old new more o p h n m = grind arith
 
 -- a header's item, from the state after its code field
 pub field_laid : {limit : ℕ} (b : Build) (t : Items) (ws : List Place) (p : Place) (k : Kind) (new more : List ℕ) → Headed limit b t p (sign_of k) (code_of k) → new ≡ b.image.items ++ more → more ≡ field (heads_of (Then t ws (Header p k))) t (end_of t + head_size p) k → new ≡ bytes (heads_of (Then t ws (Header p k))) (Then t ws (Header p k)) false
-field_laid b t ws p k new more h n m =
-    let g = heads_of (Then t ws (Header p k)) in
-    n ∙ ap (λ l. l ++ more) h.laid ∙ append_assoc (bytes g t false) (head (link_of t p) p false (code_of k)) more
-    ∙ ap (λ l. bytes g t false ++ (head (link_of t p) p false (code_of k) ++ l)) m
+field_laid b t ws p k new more h n m = grind (arith, append_assoc)
 
 pub zeros_more : (n : ℕ) → zeros n ++ 0 ∷ [] ≡ zeros (suc n)
 zeros_more zero = refl
@@ -109,13 +93,7 @@ new_record limit t ws p e s =
     let n = length-bytes (heads_of t) t false in
     let c : current t ≢ v = λ q. elim ((sound_names limit t s).0) [ inl x ↦ absurd (omega arith) | inr r ↦ let z = record_below t (current t) r in absurd (omega arith) ] in
     let h : (d : ℕ) → newest_link ns v d ≡ 0 = λ d. no_head ns v d (c, none_above limit t v s (omega arith) (omega arith)) in
-    let z = zero_cell in
-    let o = cell_bytes (newest_record t) in
-    sym (ap (λ x. cell_bytes x ++ (cell_bytes (newest_link ns v 1) ++ (cell_bytes (newest_link ns v 2) ++ (cell_bytes (newest_link ns v 3) ++ o)))) (h 0)
-    ∙ ap (λ x. cell_bytes 0 ++ (cell_bytes x ++ (cell_bytes (newest_link ns v 2) ++ (cell_bytes (newest_link ns v 3) ++ o)))) (h 1)
-    ∙ ap (λ x. cell_bytes 0 ++ (cell_bytes 0 ++ (cell_bytes x ++ (cell_bytes (newest_link ns v 3) ++ o)))) (h 2)
-    ∙ ap (λ x. cell_bytes 0 ++ (cell_bytes 0 ++ (cell_bytes 0 ++ (cell_bytes x ++ o)))) (h 3)
-    ∙ ap (λ l. l ++ (l ++ (l ++ (l ++ o)))) z)
+    grind (arith, zero_cell)
 
 ext : (f g : ℕ → ℕ) → ((k : ℕ) → f k ≡ g k) → f ≡ g
 ext f g h = λ i k. h k i
@@ -140,33 +118,18 @@ last_of es i d e =
 pub marked_names : (es : List Named) (i : ℕ) (y : Named) → i + 1 ≡ length es → y ≡ get_or es i y → newest_first (set es i (record y { immediate = true })) ≡ mark (newest_first es)
 marked_names es i y l h =
     let front = take i es in
-    let e : Named = record y { immediate = true } in
     let s : es ≡ front ++ y ∷ [] = last_of es i y l ∙ ap (λ x. front ++ x ∷ []) (sym h) in
-    let m : length front ≡ i = length-take-le i es (omega arith) in
-    let t : set es i e ≡ front ++ e ∷ [] = ap (λ k. set es k e) (sym m) ∙ ap (λ l. set l (length front) e) s ∙ set-append_seam front y [] e in
-    ap newest_first t ∙ reverse_more stored front e
-    ∙ sym (ap mark (ap newest_first s ∙ reverse_more stored front y))
+    grind (arith, set-append_seam, reverse_more, length-take-le i es (omega arith))
 
 pub colon_laid : {limit : ℕ} (b : Build) (t : Items) (ws : List Place) (p : Place) (body : Definition) (new more : List ℕ) → Headed limit b t p s.Plain 1 → new ≡ b.image.items ++ more → more ≡ thread (controls t) body (end_of t + head_size p) → new ≡ bytes (heads_of (Then t ws (Colon p body))) (Then t ws (Colon p body)) false
-colon_laid b t ws p body new more h n m =
-    let g = heads_of (Then t ws (Colon p body)) in
-    n ∙ ap (λ l. l ++ more) h.laid ∙ append_assoc (bytes g t false) (head (link_of t p) p false 1) more
-    ∙ ap (λ l. bytes g t false ++ (head (link_of t p) p false 1 ++ l)) m
+colon_laid b t ws p body new more h n m = grind (arith, append_assoc)
 
 -- IMMEDIATE's byte
 pub immediate_laid : {limit : ℕ} (b : Build) (t : Items) (ws : List Place) (n : Name) (ns : List Name) (place : ℕ) → Built limit b t → names t ≡ n ∷ ns → place + 254 ≡ n.link → set b.image.items place (192 + length n.name) ≡ bytes (heads_of (Then t ws Immediate)) (Then t ws Immediate) false
-immediate_laid b t ws n ns place h e q =
-    let m = bytes_marked (heads_of t) t n ns e place q in
-    let x = 192 + length n.name in
-    ap (λ l. set l place x) (h.laid ∙ m.old_is) ∙ ap (λ k. set (m.front ++ (m.was ∷ m.back)) k x) (sym m.length_is) ∙ set-append_seam m.front m.was m.back x ∙ sym m.new_is
-    ∙ bytes_same (heads_of t) (heads_of (Then t ws Immediate)) t true (λ v r c. sym (heads_marked (names t) v c))
-    ∙ sym (append-nil (bytes (heads_of (Then t ws Immediate)) t true))
+immediate_laid b t ws n ns place h e q = grind (arith, set-append_seam, bytes_same, heads_marked, append-nil, bytes_marked (heads_of t) t n ns e place q)
 
 pub immediate_within : {limit : ℕ} (b : Build) (t : Items) (n : Name) (ns : List Name) (place : ℕ) → Built limit b t → names t ≡ n ∷ ns → place + 254 ≡ n.link → place < length b.image.items
-immediate_within b t n ns place h e q =
-    let m = bytes_marked (heads_of t) t n ns e place q in
-    let l = m.length_is in
-    omega (arith, ap length (h.laid ∙ m.old_is), length-append m.front (m.was ∷ m.back), l)
+immediate_within b t n ns place h e q = grind (arith, length-append, bytes_marked (heads_of t) t n ns e place q)
 
 -- the newest name is short, and its byte is in the image
 pub newest_name : (b : Build) (h : Building b) (xs : List Named) (x : Entry) (ns : List Name) → xs ≡ b.names.items → newest_first xs ≡ entry x ∷ ns → names h.items ≡ entry x ∷ ns
@@ -175,20 +138,11 @@ newest_name b h xs x ns q e = let i = h.is in sym i.named ∙ ap newest_first (s
 pub newest_facts : (b : Build) (h : Building b) (x : Name) (ns : List Name) → names h.items ≡ x ∷ ns → (length x.name < 32) × (258 ≤ x.link) × (x.link - 254 < length b.image.items)
 newest_facts b h x ns e =
     let g = (subst (λ l. Every (IsName h.items) l) e (sound_names b.limit h.items h.sound).1).0 in
-    let a = g.above in
     (g.short, g.above, immediate_within b h.items x ns (x.link - 254) h.is e (omega arith))
 
 -- a name that was found is below the end
 pub found_fits : (b : Build) (h : Building b) (xs : List Named) (bs : List ℕ) (n : Name) → xs ≡ b.names.items → Some n ≡ found b.current bs (newest_first xs) → (length n.name < 32) × (n.link + 3 + length n.name + 2 ≤ GREATEST_LIMIT)
-found_fits b h xs bs n q e =
-    let i = h.is in
-    let f : found (current h.items) bs (names h.items) ≡ Some n =
-    sym (e ∙ ap (λ l. found b.current bs (newest_first l)) q ∙ ap (λ l. found b.current bs l) i.named ∙ ap (λ v. found v bs (names h.items)) i.current_is) in
-    let g = every_found (IsName h.items) (current h.items) bs (names h.items) n (sound_names b.limit h.items h.sound).1 f in
-    let a = g.below in
-    let z = sound_below b.limit h.is.limited h.items h.sound in
-    (g.short, omega arith)
+found_fits b h xs bs n q e = grind (arith, every_found, sound_names, sound_below)
 
 pub found_look : {limit : ℕ} (b : Build) (t : Items) (p : Place) (xs : List Named) (n : Name) → Built limit b t → xs ≡ b.names.items → Some n ≡ found b.current p.name (newest_first xs) → Some n ≡ look t p
-found_look b t p xs n i q e =
-    e ∙ ap (λ l. found b.current p.name (newest_first l)) q ∙ ap (λ l. found b.current p.name l) i.named ∙ ap (λ v. found v p.name (names t)) i.current_is
+found_look b t p xs n i q e = grind arith

@@ -1,5 +1,5 @@
 -- A source has one first fault.
-use Rattle.std.proofs.Common.{◌≡◌, ◌≢◌, ℕ, ◌<◌, ◌≤◌, ◌⊎◌, inl, inr, List, [], ◌∷◌, ◌++◌, length, zero, suc, refl, sym, ap, ◌∙◌, subst, arith, append_assoc, append-nil}
+use Rattle.std.proofs.Common.{◌≡◌, ◌≢◌, ℕ, ◌<◌, ◌≤◌, ◌⊎◌, inl, inr, List, [], ◌∷◌, ◌++◌, length, suc, refl, sym, ap, ◌∙◌, subst, arith, append_assoc, append-nil}
 use Rattle.std.specs.Prelude.{Bool, true, false, cond, Option, Some, None, Result, Ok, Err}
 use Rattle.colon_bodies.specs.Tokens.{Token, SEMI}
 use Rattle.colon_bodies.specs.Tree.{Empty, Definition, all_words}
@@ -20,7 +20,7 @@ use Rattle.image_builder.specs.declared.entry.Lead.{Lead}
 use Rattle.image_builder.specs.declared.entry.Lead.TheVariants.{Makes, Defines, Starts}
 use Rattle.image_builder.specs.Places.{Place}
 use Rattle.image_builder.specs.Names.{Name, address}
-use Rattle.image_builder.specs.Items.{Header, Colon, Cell, Byte, Allot, Immediate, Boot, Items, Nothing, Then, controls, item_words, boot, image}
+use Rattle.image_builder.specs.Items.{Header, Colon, Cell, Byte, Allot, Immediate, Boot, Items, Nothing, Then, controls, item_words, image}
 use Rattle.image_builder.specs.Meanings.{look, meaning}
 use Rattle.image_builder.specs.Grammar.{AreSound, IsSound}
 use Rattle.image_builder.specs.Stages.{Stage, Whole, Counted, Due, Chosen, Inside, body_at, Begun, IsFront}
@@ -30,8 +30,7 @@ use Rattle.image_loader.specs.Files.{Contents}
 use Rattle.memory.specs.Bytes.{limit_of}
 use Rattle.image_builder.specs.Spelled.{all_placed}
 use Rattle.image_builder.specs.Sources.{Done, IsBuiltOf, source_of}
-use Rattle.image_builder.proofs.Running.{St, At, chosen, at_item, at_number, started, at_name, at_vocabulary, is_semi, closed, in_body, step, then, run, front_run}
-use Rattle.image_builder.proofs.Exact.{items_in, keeps, semi_is, no_refusal}
+use Rattle.image_builder.proofs.Running.{St, At, chosen, at_item, at_number, started, at_name, at_vocabulary, is_semi, closed, in_body, step, then, run, front_run, items_in, keeps, semi_is, no_refusal}
 
 -- where words lead
 abbrev keep : St → Option St
@@ -64,24 +63,13 @@ sort_walk t y n ws b rest sort e h = ap (λ x. then (at_number t ws n b x) (W re
 
 -- the word after a number
 prim_none : (limit : ℕ) (t : Items) (n : ℕ) (d : Cause) → AtNumber limit t n s.Prim d → ⊥
-prim_none limit t n c.Full h = h
-prim_none limit t n _ h = h
-
-allot_none : (limit : ℕ) (t : Items) (n : ℕ) (d : Cause) → 32768 ≤ n → AtNumber limit t n s.Allot d → ⊥
-allot_none limit t n c.Full a h = let b = h.0 in omega (arith, a, b)
-allot_none limit t n _ a h = h
+prim_none limit t n d h = grind arith
 
 tail_prim : (limit : ℕ) (t : Items) (n : ℕ) (ws tail : List Place) → Tail limit (At t ws (Counted n)) tail → Next tail s.Prim → ⊥
-tail_prim limit t n ws tail (inl e) h = subst (λ l. Next l s.Prim) e h
-tail_prim limit t n ws tail (inr z) h =
-    let q : z.0.sort ≡ s.Prim = subst (λ l. Next l s.Prim) z.3 h in
-    prim_none limit t n z.2 (subst (λ x. AtNumber limit t n x z.2) q z.4)
+tail_prim limit t n ws tail x5 h = grind (arith, prim_none)
 
 tail_allot : (limit : ℕ) (t : Items) (n : ℕ) (ws tail : List Place) → 32768 ≤ n → Tail limit (At t ws (Counted n)) tail → Next tail s.Allot → ⊥
-tail_allot limit t n ws tail a (inl e) h = subst (λ l. Next l s.Allot) e h
-tail_allot limit t n ws tail a (inr z) h =
-    let q : z.0.sort ≡ s.Allot = subst (λ l. Next l s.Allot) z.3 h in
-    allot_none limit t n z.2 a (subst (λ x. AtNumber limit t n x z.2) q z.4)
+tail_allot limit t n ws tail a x6 h = grind arith
 
 -- no word on the way has a cause
 item_clean : (limit : ℕ) (t : Items) (y : St) (w : Place) (rest tail : List Place) (sort : Sort) (cause : Cause) → AtItem t w (rest ++ tail) sort cause → Good limit y → Tail limit y tail → then (at_item t w sort) (W rest) ≡ Some y → ⊥
@@ -156,8 +144,7 @@ abbrev Outcome : ℕ → Items → Place → List Token → Type 0
 Outcome limit t p front = Became limit t p front ⊎ Inner limit t p front
 
 shorter : (limit : ℕ) (t : Items) (p : Place) (before : List Token) (x : Token) → Outcome limit t p (before ++ x ∷ []) → Outcome limit t p before
-shorter limit t p before x (inl z) = inl (record { body_is = z.body_is; more = x ∷ z.more; all = z.all; is = z.is ∙ append_assoc before (x ∷ []) z.more; sound = z.sound })
-shorter limit t p before x (inr z) = inr (record { more = x ∷ z.more; fits = subst (λ l. body.IsFront (controls t) (body_at t p) limit l) (append_assoc before (x ∷ []) z.more) z.fits; short = z.short })
+shorter limit t p before x x5 = grind (arith, append_assoc)
 
 outcome : (limit : ℕ) (t : Items) (ws : List Place) (p : Place) (before : List Token) (w : Place) (x : Token) (rest : List Place) (y : St) (b : Bool) (o : Option Definition) → Good limit y → is_semi x ≡ b → accept Top Empty Free (before ++ SEMI ∷ []) ≡ o → (W rest (At t (ws ++ w ∷ []) (Inside p (before ++ x ∷ []))) ≡ Some y → Outcome limit t p (before ++ x ∷ [])) → then (cond b (closed t ws p w o) (Some (At t (ws ++ w ∷ []) (Inside p (before ++ x ∷ []))))) (W rest) ≡ Some y → Outcome limit t p (before ++ x ∷ [])
 outcome limit t ws p before w x rest y true None h i a ih e = cc
@@ -184,8 +171,7 @@ inside_walk limit (w ∷ rest) t ws p before y h e =
     by (Ok x) ih f = shorter limit t p before x (outcome limit t ws p before w x rest y (is_semi x) (accept Top Empty Free (before ++ SEMI ∷ [])) h refl refl (ih x) f)
 
 name_of_outcome : (limit : ℕ) (t : Items) (p : Place) (front : List Token) → Outcome limit t p front → (length p.name < 32) × (body_at t p ≤ limit)
-name_of_outcome limit t p front (inl z) = let f = z.sound in let r' = f.room in (f.fits.0, omega (arith, r'))
-name_of_outcome limit t p front (inr z) = let f = z.fits in let r' = f.room in (z.short, omega (arith, r'))
+name_of_outcome limit t p front x4 = grind arith
 
 name_clean : (limit : ℕ) (t : Items) (y : St) (ws : List Place) (w : Place) (rest : List Place) (l : Lead) (cause : Cause) → AtName limit t w l cause → Good limit y → then (at_name t ws w l) (W rest) ≡ Some y → ⊥
 name_clean limit t y ws w rest (Makes x) c.BadName h so e = let f = (walk_sound limit rest (Then t (ws ++ w ∷ []) (Header w x)) [] Whole y e (good_items limit y so)).1.fits.0 in omega (arith, f, h)
@@ -197,12 +183,7 @@ name_clean limit t y ws w rest Starts c.Unknown h so e = let f : None ≡ Some y
 name_clean limit t y ws w rest _ _ h so e = absurd h
 
 vocabulary_clean : (t : Items) (y : St) (ws : List Place) (v : ℕ) (w : Place) (rest : List Place) (sort : Sort) (cause : Cause) → AtVocabulary sort cause → then (at_vocabulary t ws v w sort) (W rest) ≡ Some y → ⊥
-vocabulary_clean t y ws v w rest s.Definitions cause h e = absurd (none cause h)
-  where
-    none : (d : Cause) → AtVocabulary s.Definitions d → ⊥
-    none c.Full h = h
-    none _ h = h
-vocabulary_clean t y ws v w rest _ cause h e = cc
+vocabulary_clean t y ws v w rest sort cause h e = grind arith
 
 outcome_clean : (limit : ℕ) (t : Items) (p : Place) (before : List Token) (x : Token) (cause : Cause) → Outcome limit t p (before ++ x ∷ []) → body.Applies (controls t) (body_at t p) limit (refusal cause) before x → ⊥
 outcome_clean limit t p before x cause (inl z) h =
@@ -275,41 +256,20 @@ view limit source last screen offset d f = inr (inr (record { before = f.0; word
 
 -- the order of causes
 rank_same : (a b : Cause) → rank a ≡ rank b → a ≡ b
-rank_same c.OutOfMemory c.OutOfMemory e = refl
-rank_same c.EndsInside c.EndsInside e = refl
-rank_same c.BadNumber c.BadNumber e = refl
-rank_same c.BadPrimitive c.BadPrimitive e = refl
-rank_same c.Misplaced c.Misplaced e = refl
-rank_same c.Unbalanced c.Unbalanced e = refl
-rank_same c.Unknown c.Unknown e = refl
-rank_same c.BadName c.BadName e = refl
-rank_same c.Full c.Full e = refl
-rank_same c.NoBoot c.NoBoot e = refl
-rank_same c.Device c.Device e = refl
-rank_same _ _ e = absurd (omega (arith, e))
+rank_same a b e = grind arith
 
 ranked : (a : Cause) → (a ≡ c.OutOfMemory) ⊎ (0 < rank a)
-ranked c.OutOfMemory = inl refl
-ranked _ = inr (omega arith)
+ranked a = grind arith
 
 order : (m n : ℕ) → (m < n) ⊎ (n < m) ⊎ (m ≡ n)
-order zero zero = inr (inr refl)
-order zero (suc n) = inl (omega arith)
-order (suc m) zero = inr (inl (omega arith))
 order (suc m) (suc n) = elim (order m n) [ inl a ↦ inl (omega arith) | inr (inl a) ↦ inr (inl (omega arith)) | inr (inr a) ↦ inr (inr (ap suc a)) ]
+order m n = grind arith
 
 same_cause : (limit : ℕ) (t : Items) (stage : Stage) (w : Place) (after : List Place) (a b : Cause) → FirstCause limit t stage w after a → FirstCause limit t stage w after b → 0 < rank a → 0 < rank b → a ≡ b
-same_cause limit t stage w after a b f g x y =
-    elim (order (rank a) (rank b)) [
-      | inl q ↦ absurd (g.first a x q f.applies)
-      | inr (inl q) ↦ absurd (f.first b y q g.applies)
-      | inr (inr q) ↦ rank_same a b q
-    ]
+same_cause limit t stage w after a b f g x y = grind (arith, order, rank_same)
 
 pub turned : (p q o n : ℕ) (a b : Cause) → IsSameFault q n b p o a → IsSameFault p o a q n b
-turned p q o n a b (inl x) = inr (inl x)
-turned p q o n a b (inr (inl x)) = inl x
-turned p q o n a b (inr (inr x)) = inr (inr (sym x.0, sym x.1, sym x.2))
+turned p q o n a b x6 = grind arith
 
 at_one_word : (limit : ℕ) (source : List Place) (p q o n : ℕ) (a b : Cause) (f : AtWord limit source p o a) (g : AtWord limit source q n b) → g.before ≡ f.before → f.word ≡ g.word → f.after ≡ g.after → IsSameFault p o a q n b
 at_one_word limit source p q o n a b f g e h i =
@@ -365,17 +325,12 @@ none_at_fault limit source t ws stage last screen offset cause low high f h =
     ]
 
 one_kind : (s1 s2 : Stage) (a b : Cause) → s1 ≡ s2 → ((a ≡ c.EndsInside) × (s1 ≢ Whole)) ⊎ ((a ≡ c.NoBoot) × (s1 ≡ Whole)) → ((b ≡ c.EndsInside) × (s2 ≢ Whole)) ⊎ ((b ≡ c.NoBoot) × (s2 ≡ Whole)) → a ≡ b
-one_kind s1 s2 a b e (inl x) (inl y) = x.0 ∙ sym y.0
-one_kind s1 s2 a b e (inl x) (inr y) = absurd (x.1 (e ∙ y.1))
-one_kind s1 s2 a b e (inr x) (inl y) = absurd (y.1 (sym e ∙ x.1))
-one_kind s1 s2 a b e (inr x) (inr y) = x.0 ∙ sym y.0
+one_kind s1 s2 a b e x5 x6 = grind arith
 
 by_view : (limit : ℕ) (source : List Place) (last p q o n : ℕ) (a b : Cause) → View limit source last p o a → View limit source last q n b → IsSameFault p o a q n b
 by_view limit source last p q o n a b (inl x) g = inl x
 by_view limit source last p q o n a b f (inl x) = inr (inl x)
-by_view limit source last p q o n a b (inr (inl x)) (inr (inl y)) =
-    let st = same_state limit source x.items y.items x.words y.words x.stage y.stage x.front y.front in
-    inr (inr (x.screen_is ∙ sym y.screen_is, x.offset_is ∙ sym y.offset_is, one_kind x.stage y.stage a b st.2 x.kind y.kind))
+by_view limit source last p q o n a b (inr (inl x)) (inr (inl y)) = grind (arith, one_kind, same_state limit source x.items y.items x.words y.words x.stage y.stage x.front y.front)
 by_view limit source last p q o n a b (inr (inl x)) (inr (inr g)) = absurd (end_and_word limit source last p q o n a b x g)
 by_view limit source last p q o n a b (inr (inr f)) (inr (inl y)) = absurd (end_and_word limit source last q p n o b a y f)
 by_view limit source last p q o n a b (inr (inr f)) (inr (inr g)) =
@@ -392,11 +347,7 @@ good_front : (limit : ℕ) (source : List Place) (t : Items) (e : ℕ) → IsGoo
 good_front limit source t e g = record { is = g.is ∙ sym (append-nil (item_words t)); sound = g.sound; begun = refl }
 
 pub one_list : (limit : ℕ) (source : List Place) (t u : Items) (e f : ℕ) → IsGood limit source t e → IsGood limit source u f → (t ≡ u) × (e ≡ f)
-one_list limit source t u e f g h =
-    let s = same_state limit source t u [] [] Whole Whole (good_front limit source t e g) (good_front limit source u f h) in
-    let b : boot t ≡ boot u = ap boot s.0 in
-    let k : Some e ≡ Some f = sym g.starts ∙ b ∙ h.starts in
-    (s.0, cc)
+one_list limit source t u e f g h = grind (arith, good_front, same_state limit source t u [] [] Whole Whole (good_front limit source t e g) (good_front limit source u f h))
 
 pub one_image : (count : ℕ) (d : Disk) (from to : ℕ) (a b : Contents) (x y : Done) → IsBuiltOf count d from to a x → IsBuiltOf count d from to b y → a ≡ b
 one_image count d from to a b x y g h =

@@ -1,17 +1,14 @@
 -- What is so of sound items.
-use Rattle.std.proofs.Common.{◌≡◌, ◌≢◌, ℕ, ◌+◌, ◌<◌, ◌≤◌, ◌⊎◌, inl, inr, List, [], ◌∷◌, length, Some, None, refl, sym, subst, arith}
-use Rattle.std.specs.Prelude.{Bool, true, false, cond, Option, codes}
-use Rattle.std.specs.Str.{bytes_eq}
+use Rattle.std.proofs.Common.{◌≡◌, ◌≢◌, ℕ, ◌+◌, ◌<◌, ◌≤◌, ◌⊎◌, inl, inr, List, length, Some, refl, arith}
+use Rattle.std.specs.Prelude.{false, Option}
 use Rattle.memory.specs.declared.limit.TheConstants.{GREATEST_LIMIT}
 use Rattle.image_builder.specs.Places.{Place}
 use Rattle.image_builder.specs.Names.{Name}
 use Rattle.image_builder.specs.declared.entry.Kind.{Kind}
-use Rattle.image_builder.specs.declared.entry.Kind.TheVariants.{Primitive, Constant, Variable, Create, Vocabulary}
-use Rattle.image_builder.specs.declared.entry.Sign.{Sign}
 use Rattle.image_builder.specs.declared.entry.Sign.TheVariants as s
 use Rattle.image_builder.specs.Items.{Item, Header, Colon, Cell, Byte, Allot, Immediate, Definitions, Boot, Items, Nothing, Then, end_of, current, names, mark, new_name, record_of, sign_of}
 use Rattle.image_builder.specs.Grammar.{AreSound, IsSound, IsLimit}
-use Rattle.image_builder.specs.Meanings.{look, record_named, record_if, if_record}
+use Rattle.image_builder.specs.Meanings.{record_named, record_if}
 use Rattle.image_builder.specs.Built.{IsRecord}
 use Rattle.image_builder.proofs.Finding.{Every, every_map, every_found}
 use Rattle.image_builder.proofs.Imaging.{record_below, length-bytes}
@@ -28,42 +25,25 @@ pub record IsName (t : Items) (n : Name) : Type 0 where
   pub below : n.link + 3 + length n.name + 2 ≤ end_of t
 
 pub still : (t : Items) (ws : List Place) (i : Item) (v : ℕ) → (v ≡ 42) ⊎ IsRecord t v → (v ≡ 42) ⊎ IsRecord (Then t ws i) v
-still t ws i v (inl e) = inl e
-still t ws i v (inr r) = inr (inr r)
+still t ws i v x4 = grind arith
 
 name_still : (t : Items) (ws : List Place) (i : Item) (n : Name) → IsName t n → IsName (Then t ws i) n
 name_still t ws i n g = record { vocabulary_is = still t ws i n.vocabulary g.vocabulary_is; record_is = λ e. inr (g.record_is e); short = g.short; above = g.above; below = let x = g.below in omega arith }
 
 mark_names : (t : Items) (ns : List Name) → Every (IsName t) ns → Every (IsName t) (mark ns)
-mark_names t [] h = tt
-mark_names t (n ∷ ns) h = let g = h.0 in (record { vocabulary_is = g.vocabulary_is; record_is = g.record_is; short = g.short; above = g.above; below = g.below }, h.1)
-
-some_record : (g : Sign) (w v : ℕ) → if_record g w ≡ Some v → (g ≡ s.Record) × (w ≡ v)
-some_record s.Record w v e = (refl, cc)
-some_record _ w v e = cc
+mark_names t ns h = grind arith
 
 named_record : (t : Items) (p : Place) (o : Option Name) (v : ℕ) → ((n : Name) → o ≡ Some n → IsName t n) → record_if o ≡ Some v → (v ≡ 42) ⊎ IsRecord t v
-named_record t p None v f e = cc
-named_record t p (Some n) v f e =
-    let r = some_record n.sign (record_of n) v e in
-    inr (subst (λ u. IsRecord t u) r.1 ((f n refl).record_is r.0))
+named_record t p o v f e = grind arith
 
 pub record_is : (t : Items) (p : Place) (v : ℕ) → Every (IsName t) (names t) → record_named t p ≡ Some v → (v ≡ 42) ⊎ IsRecord t v
-record_is t p v h e = by (bytes_eq p.name (codes "FORTH")) e
-  where
-    by : (b : Bool) → cond b (Some 42) (record_if (look t p)) ≡ Some v → (v ≡ 42) ⊎ IsRecord t v
-    by true e = let q : 42 ≡ v = cc in inl (sym q)
-    by false e = named_record t p (look t p) v (λ n f. every_found (IsName t) (current t) p.name (names t) n h f) e
+record_is t p v h e = grind (arith, named_record, every_found)
 
 pub end_above : (t : Items) → 256 ≤ end_of t
 end_above t = let n = length-bytes (λ a c. 0) t false in omega arith
 
 header_name : (t : Items) (ws : List Place) (p : Place) (k : Kind) → length p.name < 32 → 256 ≤ end_of t → (current t ≡ 42) ⊎ IsRecord t (current t) → IsName (Then t ws (Header p k)) (new_name t p (sign_of k))
-header_name t ws p Vocabulary sh en c = record { vocabulary_is = still t ws (Header p Vocabulary) (current t) c; record_is = λ _. inl (omega arith); short = sh; above = omega arith; below = omega arith }
-header_name t ws p (Primitive n) sh en c = record { vocabulary_is = still t ws (Header p (Primitive n)) (current t) c; record_is = λ e. cc; short = sh; above = omega arith; below = omega arith }
-header_name t ws p (Constant n) sh en c = record { vocabulary_is = still t ws (Header p (Constant n)) (current t) c; record_is = λ e. cc; short = sh; above = omega arith; below = omega arith }
-header_name t ws p Variable sh en c = record { vocabulary_is = still t ws (Header p Variable) (current t) c; record_is = λ e. cc; short = sh; above = omega arith; below = omega arith }
-header_name t ws p Create sh en c = record { vocabulary_is = still t ws (Header p Create) (current t) c; record_is = λ e. cc; short = sh; above = omega arith; below = omega arith }
+header_name t ws p k sh en c = grind (arith, still, record_is)
 
 -- the current vocabulary and all names
 pub sound_names : (limit : ℕ) (t : Items) → AreSound limit t → ((current t ≡ 42) ⊎ IsRecord t (current t)) × Every (IsName t) (names t)
@@ -93,9 +73,4 @@ sound_below limit few t h = omega (arith, sound_end limit t few.0 h, few.1)
 
 -- no name is in a vocabulary yet to come
 pub none_above : (limit : ℕ) (t : Items) (v : ℕ) → AreSound limit t → end_of t ≤ v → 256 ≤ v → Every (λ n. n.vocabulary ≢ v) (names t)
-none_above limit t v h a b =
-    every_map (IsName t) (λ n. n.vocabulary ≢ v) (λ n g e. below (n.vocabulary) e g.vocabulary_is) (names t) (sound_names limit t h).1
-  where
-    below : (u : ℕ) → u ≡ v → (u ≡ 42) ⊎ IsRecord t u → ⊥
-    below u e (inl x) = omega arith
-    below u e (inr r) = let z = record_below t u r in omega arith
+none_above limit t v h a b = grind (arith, every_map, sound_names, record_below)

@@ -1,6 +1,6 @@
--- What one more word does, and its first cause.
-use Rattle.std.proofs.Common.{◌≡◌, ℕ, ◌+◌, ◌<◌, ◌≤◌, ◌⊎◌, inl, inr, List, [], ◌∷◌, ◌++◌, length, refl, sym, ap, ◌∙◌, subst, arith, append-nil}
-use Rattle.std.specs.Prelude.{Bool, true, false, IsTrue, ◌↔◌, Some, reverse}
+-- What one more word of a source does.
+use Rattle.std.proofs.Common.{◌≡◌, ℕ, ◌+◌, ◌<◌, ◌≤◌, ◌⊎◌, List, [], ◌∷◌, ◌++◌, length, refl, sym, ap, ◌∙◌, subst, arith, append-nil, inl, inr, map, append_assoc, length-append}
+use Rattle.std.specs.Prelude.{Bool, true, false, IsTrue, ◌↔◌, Some, reverse, Result, Ok, Err, slice_index}
 use Rattle.image_builder.specs.declared.state.Build.{Build}
 use Rattle.image_builder.specs.declared.spot.Sort.{Sort}
 use Rattle.image_builder.specs.declared.spot.Sort.TheVariants as s
@@ -15,18 +15,36 @@ use Rattle.image_builder.specs.declared.state.Site.{Site}
 use Rattle.image_builder.specs.declared.state.Title.{Title}
 use Rattle.image_builder.specs.Places.{Place, IsTitle}
 use Rattle.image_builder.specs.Names.{Name, stored, address, newest_first}
-use Rattle.colon_bodies.proofs.Whole.{starts, fronts}
+use Rattle.colon_bodies.proofs.Whole.{starts, fronts, goes_on}
 use Rattle.image_builder.proofs.Sound.{sound_end}
-use Rattle.std.proofs.lemmas.List.{length-reverse, length-map}
-use Rattle.image_builder.specs.Items.{Item, Header, Immediate, Definitions, Boot, Items, Then, item_words, item_size, head_size, kind_size, controls, end_of}
-use Rattle.image_builder.specs.Meanings.{look, record_named}
+use Rattle.std.proofs.lemmas.List.{length-reverse, length-map, map-append}
+use Rattle.image_builder.specs.Items.{Item, Header, Immediate, Definitions, Boot, Items, Then, item_words, item_size, head_size, kind_size, controls, end_of, Colon}
+use Rattle.image_builder.specs.Meanings.{look, record_named, meaning, meanings, half_past}
 use Rattle.image_builder.specs.Grammar.{AreSound, IsSound, Spells, Fits, Leads, IsOpen}
-use Rattle.image_builder.specs.Stages.{Whole, Counted, Due, Chosen, Inside, body_at}
-use Rattle.image_builder.specs.Faults.{AtNumber, AtName, FirstCause, rank}
+use Rattle.image_builder.specs.Stages.{Whole, Counted, Due, Chosen, Inside, body_at, Stage}
+use Rattle.image_builder.specs.Faults.{AtNumber, AtName, FirstCause, rank, refusal}
 use Rattle.image_builder.specs.Built.{Built}
-use Rattle.colon_bodies.specs.Draft.{IsBlank}
-use Rattle.image_builder.specs.State.{IsState, Goes}
+use Rattle.colon_bodies.specs.Draft.{IsBlank, Drafts, Goes as BodyGoes, Finishes as BodyEnds}
+use Rattle.image_builder.specs.State.{IsState, Goes, IsSame, Ends, Shows, Taken, TakenAt, located}
 use Rattle.image_builder.proofs.Making.{built_end}
+use Rattle.colon_bodies.specs.Tokens.{Token, SEMI}
+use Rattle.colon_bodies.specs.Tree.{Body}
+use Rattle.colon_bodies.specs.Faults as body
+use Rattle.colon_bodies.specs.Rules as rules
+use Rattle.colon_bodies.specs.declared.words.Half.{Half}
+use Rattle.colon_bodies.specs.declared.words.Half.TheVariants.{Free}
+use Rattle.colon_bodies.specs.declared.draft.Draft.{Draft}
+use Rattle.colon_bodies.specs.Open.{Outer, open_words}
+use Rattle.colon_bodies.proofs.Cells.{length-cell}
+use Rattle.colon_bodies.proofs.Laying.{length-all}
+use Rattle.colon_bodies.specs.declared.fault.BodyCause.{BodyCause}
+use Rattle.colon_bodies.specs.declared.fault.BodyCause.TheVariants as r
+use Rattle.colon_bodies.proofs.Taking.{half-open, known-append}
+use Rattle.colon_bodies.proofs.Reading.{whole_words, whole_depth}
+use Rattle.image_builder.specs.Causes.{cause_of}
+use Rattle.image_builder.specs.declared.state.Begun.{Begun}
+
+-- What one more word does, and its first cause.
 
 -- what goes on
 pub due : {limit : ℕ} (b : Build) (t : Items) (ws : List Place) (w : Place) (l : Lead) → Built limit b t → AreSound limit t → Leads l (ws ++ w ∷ []) → IsOpen t l → IsBlank b.draft → Goes limit b (g.Due l) t ws w
@@ -52,46 +70,20 @@ whole b t ws w i h s e d =
     }
 
 -- after a number
-no_earlier : (limit : ℕ) (t : Items) (n : ℕ) (sort : Sort) → (sort ≡ s.Comma) ⊎ (sort ≡ s.CharComma) ⊎ (sort ≡ s.Allot) → (d : Cause) → rank d < 8 → AtNumber limit t n sort d → ⊥
-no_earlier limit t n s.Comma e c.Full r h = absurd (omega (arith, r))
-no_earlier limit t n s.Comma e _ r h = absurd h
-no_earlier limit t n s.CharComma e c.Full r h = absurd (omega (arith, r))
-no_earlier limit t n s.CharComma e _ r h = absurd h
-no_earlier limit t n s.Allot e c.Full r h = absurd (omega (arith, r))
-no_earlier limit t n s.Allot e _ r h = absurd h
-no_earlier limit t n _ (inl e) d r h = cc
-no_earlier limit t n _ (inr (inl e)) d r h = cc
-no_earlier limit t n _ (inr (inr e)) d r h = cc
-
 pub counted_full : (limit : ℕ) (t : Items) (n : ℕ) (w : Place) (after : List Place) (sort : Sort) → w.sort ≡ sort → (sort ≡ s.Comma) ⊎ (sort ≡ s.CharComma) ⊎ (sort ≡ s.Allot) → AtNumber limit t n sort c.Full → FirstCause limit t (Counted n) w after c.Full
-counted_full limit t n w after sort e o h =
-    record {
-      applies = subst (λ x. AtNumber limit t n x c.Full) (sym e) h;
-      first = λ d a b j. no_earlier limit t n sort o d b (subst (λ x. AtNumber limit t n x d) e j);
-    }
+counted_full limit t n w after sort e o h = grind arith
 
 pub counted_due : {limit : ℕ} (b : Build) (t : Items) (n : ℕ) (ws : List Place) (w : Place) (l : Lead) (sort : Sort) → IsState limit b t ws (Counted n) → w.sort ≡ sort → ((a : Place) → a.sort ≡ s.Number n → Leads l (a ∷ w ∷ [])) → IsOpen t l → Goes limit b (g.Due l) t ws w
-counted_due b t n ws w l sort h e f o =
-    let a = h.begun in
-    due b t ws w l h.built h.sound (subst (λ x. Leads l (x ++ w ∷ [])) (sym a.1) (f a.0 a.2)) o h.drafts
+counted_due b t n ws w l sort h e f o = grind (arith, due)
 
 pub counted_whole : {limit : ℕ} (b new : Build) (t : Items) (n : ℕ) (ws : List Place) (w : Place) (i : Item) → IsState limit b t ws (Counted n) → ((a : Place) → a.sort ≡ s.Number n → Spells t (a ∷ w ∷ []) i) → Fits t i → end_of t + item_size i ≤ limit → Built limit new (Then t (ws ++ w ∷ []) i) → new.draft ≡ b.draft → Goes limit new g.Whole t ws w
-counted_whole b new t n ws w i h f fits room built kept =
-    let a = h.begun in
-    let d = h.drafts in
-    whole new t ws w i built h.sound
-    (record { spells = subst (λ x. Spells t (x ++ w ∷ []) i) (sym a.1) (f a.0 a.2); fits = fits; room = room })
-    (subst (λ x. IsBlank x) (sym kept) d)
+counted_whole b new t n ws w i h f fits room built kept = grind (arith, whole)
 
 pub over : {limit : ℕ} (b : Build) (t : Items) (r : Bool) (more : ℕ) → Built limit b t → IsTrue r ↔ (b.limit < length b.image.items + 256 + more) → r ≡ true → limit < end_of t + more
 over b t r more h i e = let x = i.0 e in let z = built_end b t h in let l = h.limit_is in omega arith
 
 pub not_over : {limit : ℕ} (b : Build) (t : Items) (r : Bool) (more : ℕ) → Built limit b t → IsTrue r ↔ (b.limit < length b.image.items + 256 + more) → r ≡ false → end_of t + more ≤ limit
-not_over {limit} b t r more h i e =
-    let z = built_end b t h in
-    let l = h.limit_is in
-    let no : b.limit < length b.image.items + 256 + more → ⊥ = λ x. let y = i.1 x in cc in
-    omega (arith, no)
+not_over {limit} b t r more h i e = grind (arith, built_end)
 
 -- where an item begins
 pub newest_length : (es : List Named) → length (newest_first es) ≡ length es
@@ -108,7 +100,7 @@ item_counted b t ws n a w h e f j =
       words = ws ++ w ∷ [];
       stage = Counted n;
       shows = (refl, (w, q, f, j));
-      is = record { built = h.built; sound = h.sound; begun = (w, q, e); drafts = h.drafts };
+      is = grind arith;
       front = refl;
     }
 
@@ -120,7 +112,7 @@ item_chosen b t ws w v h e f =
       words = ws ++ w ∷ [];
       stage = Chosen v;
       shows = refl;
-      is = record { built = h.built; sound = h.sound; begun = (w, q, e, sym f); drafts = h.drafts };
+      is = grind arith;
       front = refl;
     }
 
@@ -178,16 +170,146 @@ colon_goes {limit} b t ws a w h short room' titled =
     }
 
 full_alone : (limit : ℕ) (t : Items) (w : Place) (l : Lead) → (31 < length w.name → ⊥) → (d : Cause) → rank d < 8 → AtName limit t w l d → AtName limit t w l c.Full → ⊥
-full_alone limit t w (Makes k) h c.BadName r a f = h a
-full_alone limit t w (Makes k) h c.Full r a f = absurd (omega (arith, r))
-full_alone limit t w (Makes k) h _ r a f = a
-full_alone limit t w Defines h c.BadName r a f = h a
-full_alone limit t w Defines h c.Full r a f = absurd (omega (arith, r))
-full_alone limit t w Defines h _ r a f = a
-full_alone limit t w Starts h d r a f = f
+full_alone limit t w l h d r a f = grind arith
 
 pub name_full : (limit : ℕ) (t : Items) (w : Place) (after : List Place) (l : Lead) → length w.name < 32 → AtName limit t w l c.Full → FirstCause limit t (Due l) w after c.Full
 name_full limit t w after l h f = record { applies = f; first = λ d a b j. full_alone limit t w l (λ x. omega (arith, x, h)) d b j f }
 
 pub not_long : (b : Bool) (n : ℕ) → IsTrue b ↔ (31 < n) → b ≡ false → n < 32
 not_long b n h e = let no : 31 < n → ⊥ = λ x. let y = h.1 x in cc in omega (arith, no)
+
+-- A word of a body, and its first cause.
+
+-- one more word's meaning
+pub meanings_more : (t : Items) (h : Half) (inner : List Place) (toks : List Token) (w : Place) → meanings h t inner ≡ map (λ v. Ok v) toks → meanings h t (inner ++ w ∷ []) ≡ map (λ v. Ok v) toks ++ (meaning (rules.half_of h toks) t w ∷ [])
+meanings_more t h [] [] w e = refl
+meanings_more t h (p ∷ inner) (x ∷ toks) w e =
+    let a : meaning h t p ≡ Ok x = cc in
+    let b : meanings (half_past h (meaning h t p)) t inner ≡ map (λ v. Ok v) toks = cc in
+    let c : meanings (rules.half_after h x) t inner ≡ map (λ v. Ok v) toks = ap (λ m. meanings (half_past h m) t inner) (sym a) ∙ b in
+    ap (λ m. m ∷ meanings (half_past h m) t (inner ++ w ∷ [])) a ∙ ap (λ l. Ok x ∷ l) (meanings_more t (rules.half_after h x) inner toks w c)
+meanings_more t h inner toks w e = grind arith
+
+pub meanings_ok : (t : Items) (inner : List Place) (toks : List Token) (w : Place) (x : Token) → meanings Free t inner ≡ map (λ v. Ok v) toks → meaning (rules.half_of Free toks) t w ≡ Ok x → meanings Free t (inner ++ w ∷ []) ≡ map (λ v. Ok v) (toks ++ x ∷ [])
+meanings_ok t inner toks w x e m = grind (arith, meanings_more, map-append)
+
+pub means_fault : (limit : ℕ) (t : Items) (p w : Place) (before : List Token) (after : List Place) (e : Cause) → meaning (rules.half_of Free before) t w ≡ Err e → FirstCause limit t (Inside p before) w after e
+means_fault limit t p w before after e m = grind arith
+
+earlier : (rt : ℕ → ℕ) (at limit : ℕ) (before : List Token) (x : Token) (e : BodyCause) (d : Cause) → body.FirstCause rt at limit e before x → 0 < rank d → rank d < rank (cause_of e) → body.Applies rt at limit (refusal d) before x → ⊥
+earlier rt at limit before x e d f a b h = grind arith
+
+again : (rt : ℕ → ℕ) (at limit : ℕ) (before : List Token) (x : Token) (e : BodyCause) → body.FirstCause rt at limit e before x → (e ≡ r.Memory) ⊎ body.Applies rt at limit (refusal (cause_of e)) before x
+again rt at limit before x e f = grind arith
+
+pub body_fault : (limit : ℕ) (t : Items) (p w : Place) (before : List Token) (after : List Place) (x : Token) (e : Cause) (d : BodyCause) → meaning (rules.half_of Free before) t w ≡ Ok x → e ≡ cause_of d → body.FirstCause (controls t) (body_at t p) limit d before x → (e ≡ c.OutOfMemory) ⊎ FirstCause limit t (Inside p before) w after e
+body_fault limit t p w before after x e d m q f = grind (arith, again, earlier)
+
+pub same_built : {limit : ℕ} (b new : Build) (t : Items) → Built limit b t → IsSame b new → Built limit new t
+same_built b new t h k = grind arith
+
+pub inside_goes : {limit : ℕ} (b new : Build) (t : Items) (ws : List Place) (s : Title) (p w : Place) (before : List Token) (x : Token) (h : IsState limit b t ws (Inside p before)) → IsTitle s.screen s.name.items p → IsSame b new → meaning (rules.half_of Free before) t w ≡ Ok x → BodyGoes (controls t) (body_at t p) limit h.drafts.outer h.drafts.body h.drafts.half x new.draft → Goes limit new (g.Inside s) t ws w
+inside_goes {limit} b new t ws s p w before x h titled k m f =
+    let i = h.begun in
+    let d = goes_on (controls t) (body_at t p) limit before x b.draft new.draft h.drafts f in
+    record {
+      items = t;
+      words = ws ++ w ∷ [];
+      stage = Inside p (before ++ x ∷ []);
+      shows = titled;
+      is = record {
+        built = same_built b new t h.built k;
+        sound = h.sound;
+        drafts = d;
+        begun = record {
+          front = i.front;
+          inner = i.inner ++ w ∷ [];
+          is = ap (λ l. l ++ w ∷ []) i.is ∙ append_assoc i.front (p ∷ i.inner) (w ∷ []);
+          leads = i.leads;
+          short = i.short;
+          means = meanings_ok t i.inner before w x i.means m;
+          fits = fronts (controls t) (body_at t p) limit (before ++ x ∷ []) new.draft d;
+        };
+      };
+      front = refl;
+    }
+
+pub ends_goes : {limit : ℕ} (b new : Build) (t : Items) (ws : List Place) (p w : Place) (before : List Token) (h : IsState limit b t ws (Inside p before)) → meaning (rules.half_of Free before) t w ≡ Ok SEMI → Ends limit t p before new → Goes limit new g.Whole t ws w
+ends_goes b new t ws p w before h m f =
+    let i = h.begun in
+    whole new t ws w (Colon p f.body) (f.built (ws ++ w ∷ [])) h.sound
+    (record {
+      spells = (
+        i.front,
+        i.inner ++ w ∷ [],
+        ap (λ l. l ++ w ∷ []) i.is ∙ append_assoc i.front (p ∷ i.inner) (w ∷ []),
+        i.leads,
+        meanings_ok t i.inner before w SEMI i.means m ∙ ap (λ l. map (λ v. Ok v) (l ++ SEMI ∷ [])) f.is,
+      );
+      fits = (i.short, f.shallow, f.known, f.short);
+      room = f.room;
+    })
+    f.drafts
+
+-- the half that the draft keeps is that of the words
+pub half_is : {limit : ℕ} (b : Build) (t : Items) (ws : List Place) (p : Place) (before : List Token) (h : IsState limit b t ws (Inside p before)) → b.draft.half ≡ rules.half_of Free before
+half_is b t ws p before h =
+    let d = h.drafts in
+    d.is.half_is ∙ sym (ap (rules.half_of Free) d.front ∙ half-open d.outer d.body d.half)
+
+-- the draft's address and runtime cells, as the code has them
+pub draft_in : {limit : ℕ} (b : Build) (t : Items) (ws : List Place) (p : Place) (before : List Token) (at : ℕ) (h : IsState limit b t ws (Inside p before)) → at ≡ body_at t p → Drafts (slice_index b.runtime.items) at h.drafts.outer h.drafts.body h.drafts.half b.draft
+draft_in b t ws p before at h e = grind arith
+
+-- the same draft, taken out of its place
+pub taken_out : {limit : ℕ} (b : Build) (t : Items) (ws : List Place) (p : Place) (before : List Token) (at : ℕ) (draft : Draft) (h : IsState limit b t ws (Inside p before)) → at ≡ body_at t p → draft ≡ b.draft → Drafts (slice_index b.runtime.items) at h.drafts.outer h.drafts.body h.drafts.half draft
+taken_out b t ws p before at draft h e k = grind (arith, draft_in)
+
+pub goes_out : {limit : ℕ} (b new : Build) (t : Items) (p : Place) (at : ℕ) (o : Outer) (u : Body) (h : Half) (x : Token) → Built limit b t → at ≡ body_at t p → BodyGoes (slice_index b.runtime.items) at b.limit o u h x new.draft → BodyGoes (controls t) (body_at t p) limit o u h x new.draft
+goes_out {limit} b new t p at o u h x i e g = grind arith
+
+pub cause_out : {limit : ℕ} (b : Build) (t : Items) (ws : List Place) (p : Place) (before : List Token) (at : ℕ) (d : BodyCause) (x : Token) (h : IsState limit b t ws (Inside p before)) → at ≡ body_at t p → body.FirstCause (slice_index b.runtime.items) at b.limit d (open_words h.drafts.outer h.drafts.body h.drafts.half) x → body.FirstCause (controls t) (body_at t p) limit d before x
+cause_out {limit} b t ws p before at d x h e f = grind arith
+
+pub word_fault : {limit : ℕ} (b : Build) (t : Items) (ws : List Place) (p w : Place) (before : List Token) (after : List Place) (at : ℕ) (x : Token) (e : Cause) (h : IsState limit b t ws (Inside p before)) → at ≡ body_at t p → meaning (rules.half_of Free before) t w ≡ Ok x → (e ≡ c.OutOfMemory) ⊎ ((d : BodyCause) × (e ≡ cause_of d) × body.FirstCause (slice_index b.runtime.items) at b.limit d (open_words h.drafts.outer h.drafts.body h.drafts.half) x) → (e ≡ c.OutOfMemory) ⊎ FirstCause limit t (Inside p before) w after e
+word_fault b t ws p w before after at x e h q m (inl z) = inl z
+word_fault {limit} b t ws p w before after at x e h q m (inr z) = body_fault limit t p w before after x e z.0 m z.1 (cause_out b t ws p before at z.0 x h q z.2)
+
+-- where the body of a titled definition begins
+pub at_title : {limit : ℕ} (b : Build) (t : Items) (p : Place) (name : List ℕ) (here n : ℕ) → Built limit b t → here ≡ length b.image.items + 256 → n ≡ length name → p.name ≡ name → here + 7 + n ≡ body_at t p
+at_title b t p name here n h e l q = let z = built_end b t h in let k = ap length q in omega arith
+
+pub end_fault : (limit : ℕ) (t : Items) (p w : Place) (before : List Token) (after : List Place) (e : Cause) → meaning (rules.half_of Free before) t w ≡ Ok SEMI → (e ≡ c.OutOfMemory) ⊎ ((d : BodyCause) × (e ≡ cause_of d) × body.FirstCause (controls t) (body_at t p) limit d before SEMI) → (e ≡ c.OutOfMemory) ⊎ FirstCause limit t (Inside p before) w after e
+end_fault limit t p w before after e m x8 = grind (arith, body_fault)
+
+pub ended_cause : {limit : ℕ} (b : Build) (t : Items) (ws : List Place) (p : Place) (before : List Token) (at : ℕ) (e : Cause) (d : BodyCause) (h : IsState limit b t ws (Inside p before)) → at ≡ body_at t p → e ≡ cause_of d → (d ≡ r.Memory) ⊎ body.FirstCause (slice_index b.runtime.items) at b.limit d (open_words h.drafts.outer h.drafts.body h.drafts.half) SEMI → (e ≡ c.OutOfMemory) ⊎ ((x : BodyCause) × (e ≡ cause_of x) × body.FirstCause (controls t) (body_at t p) limit x before SEMI)
+ended_cause b t ws p before at e d h q i x11 = grind (arith, cause_out)
+
+pub ended_in : {limit : ℕ} (b : Build) (t : Items) (ws : List Place) (p : Place) (before : List Token) (at : ℕ) (image : List ℕ) (h : IsState limit b t ws (Inside p before)) → at ≡ body_at t p → BodyEnds (slice_index b.runtime.items) at b.limit h.drafts.outer h.drafts.body h.drafts.half image → BodyEnds (controls t) (body_at t p) limit h.drafts.outer h.drafts.body h.drafts.half image
+ended_in {limit} b t ws p before at image h e z = grind arith
+
+pub ended_ends : {limit : ℕ} (b new : Build) (t : Items) (ws : List Place) (p : Place) (before : List Token) (image : List ℕ) (h : IsState limit b t ws (Inside p before)) → (z : BodyEnds (controls t) (body_at t p) limit h.drafts.outer h.drafts.body h.drafts.half image) → ((vs : List Place) → Built limit new (Then t vs (Colon p z.body))) → IsBlank new.draft → Ends limit t p before new
+ended_ends b new t ws p before image h z f k = grind (arith, whole_words, whole_depth, known-append, length-append, length-all, length-cell)
+
+pub means : {limit : ℕ} {X : Result Token Cause} (b : Build) (t : Items) (ws : List Place) (p w : Place) (before : List Token) (h : IsState limit b t ws (Inside p before)) → meaning b.draft.half t w ≡ X → meaning (rules.half_of Free before) t w ≡ X
+means b t ws p w before h e = ap (λ g. meaning g t w) (sym (half_is b t ws p before h)) ∙ e
+
+-- The stages, one by one.
+pub taken_at : (limit : ℕ) (t : Items) (ws : List Place) (stage : Stage) (w : Place) (after : List Place) (r : Result Begun Cause) (b : Build) → Taken limit t ws stage w after r b → TakenAt limit t ws stage w after (located w.screen w.offset r) b
+taken_at limit t ws stage w after r b x8 = grind arith
+
+pub at_whole : {limit : ℕ} (b new : Build) (w : Place) (r : Result Begun Cause) → ((t : Items) (ws after : List Place) → IsState limit b t ws Whole → Taken limit t ws Whole w after r new) → (t : Items) (ws after : List Place) (stage : Stage) → Shows g.Whole ws stage → IsState limit b t ws stage → TakenAt limit t ws stage w after (located w.screen w.offset r) new
+at_whole {limit} b new w r f t ws after stage s h = grind (arith, taken_at)
+
+pub at_due : {limit : ℕ} (b new : Build) (l : Lead) (w : Place) (r : Result Begun Cause) → ((t : Items) (ws after : List Place) → IsState limit b t ws (Due l) → Taken limit t ws (Due l) w after r new) → (t : Items) (ws after : List Place) (stage : Stage) → Shows (g.Due l) ws stage → IsState limit b t ws stage → TakenAt limit t ws stage w after (located w.screen w.offset r) new
+at_due {limit} b new l w r f t ws after (Due m) s h =
+    taken_at limit t ws (Due m) w after r new (subst (λ x. Taken limit t ws (Due x) w after r new) s (f t ws after (subst (λ x. IsState limit b t ws (Due x)) (sym s) h)))
+at_due b new l w r f t ws after _ s h = absurd s
+
+pub at_chosen : {limit : ℕ} (b new : Build) (v : ℕ) (w : Place) (r : Result Begun Cause) → ((t : Items) (ws after : List Place) → IsState limit b t ws (Chosen v) → Taken limit t ws (Chosen v) w after r new) → (t : Items) (ws after : List Place) (stage : Stage) → Shows (g.Chosen v) ws stage → IsState limit b t ws stage → TakenAt limit t ws stage w after (located w.screen w.offset r) new
+at_chosen {limit} b new v w r f t ws after (Chosen u) s h =
+    taken_at limit t ws (Chosen u) w after r new (subst (λ x. Taken limit t ws (Chosen x) w after r new) s (f t ws after (subst (λ x. IsState limit b t ws (Chosen x)) (sym s) h)))
+at_chosen b new v w r f t ws after _ s h = absurd s
+
+pub at_inside : {limit : ℕ} (b new : Build) (p : Title) (w : Place) (r : Result Begun Cause) → ((t : Items) (ws after : List Place) (before : List Token) (q : Place) → IsTitle p.screen p.name.items q → IsState limit b t ws (Inside q before) → Taken limit t ws (Inside q before) w after r new) → (t : Items) (ws after : List Place) (stage : Stage) → Shows (g.Inside p) ws stage → IsState limit b t ws stage → TakenAt limit t ws stage w after (located w.screen w.offset r) new
+at_inside {limit} b new p w r f t ws after stage s h = grind (arith, taken_at)

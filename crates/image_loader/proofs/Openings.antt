@@ -6,13 +6,12 @@ use Rattle.std.proofs.lemmas.List.{length-drop, take-append-drop, take_all, take
 use Rattle.std.proofs.lemmas.Slice.Eq.{bytes_eq-Decides}
 use Rattle.memory.specs.Bytes.{IsCount}
 use Rattle.image_loader.specs.declared.fault.ImageFault.TheVariants as fault
-use Rattle.image_loader.specs.Files.{Contents, IsImage, IsCutShort, Opens, Agree, HasBadMagic, HasBadVersion, HasBadBuffers, magic, version, opening, field, field_at, tail}
+use Rattle.image_loader.specs.Files.{Contents, IsImage, IsCutShort, Opens, Agree, HasBadMagic, HasBadVersion, HasBadBuffers, magic, version, opening, field_at, tail}
 use Rattle.image_loader.specs.Reading.{agree, is_bad_count, opening_of}
 use Rattle.image_loader.proofs.Tails.{padded, blank}
 
 decide : (r : Bool) (P : Type 0) → Decides r P → P ⊎ (¬ P)
-decide true P d = inl (d.0 refl)
-decide false P d = inr (λ p. let e : false ≡ true = d.1 p in absurd (cc))
+decide r P d = grind arith
 
 pub agree_or_not : (xs ys : List ℕ) → Agree xs ys ⊎ (¬ Agree xs ys)
 agree_or_not xs ys = decide (agree xs ys) (Agree xs ys) (bytes_eq-Decides (take (length ys) xs) (take (length xs) ys))
@@ -21,8 +20,7 @@ pub agree_true : (xs ys : List ℕ) → Agree xs ys → agree xs ys ≡ true
 agree_true xs ys = (bytes_eq-Decides (take (length ys) xs) (take (length xs) ys)).1
 
 false_by : (b : Bool) → (¬ (b ≡ true)) → b ≡ false
-false_by true not_so = absurd (not_so refl)
-false_by false not_so = refl
+false_by b not_so = grind arith
 
 pub agree_false : (xs ys : List ℕ) → (¬ Agree xs ys) → agree xs ys ≡ false
 agree_false xs ys not_so = false_by (agree xs ys) (λ e. not_so ((bytes_eq-Decides (take (length ys) xs) (take (length xs) ys)).0 e))
@@ -32,46 +30,27 @@ count_fits : (n : ℕ) → IsCount n → is_bad_count n ≡ false
 count_fits n h = let low : nat_lt n 2 ≡ false = le-ltb _ _ h.0 in let high : nat_lt 16 n ≡ false = le-ltb _ _ h.1 in rw (low, high) refl
 
 count_or_not : (n : ℕ) → IsCount n ⊎ (¬ IsCount n)
-count_or_not n =
-    elim (cases_lt n 2) [
-      | inl low ↦ inr (λ s. let a = s.0 in omega arith)
-      | inr least ↦ elim (cases_lt 16 n) [ inl high ↦ inr (λ s. let a = s.1 in omega arith) | inr most ↦ inl (least, most) ]
-    ]
+count_or_not n = grind (arith, cases_lt)
 
 bad_count_true : (n : ℕ) → (¬ IsCount n) → is_bad_count n ≡ true
-bad_count_true n not_so =
-    elim (cases_lt n 2) [
-      | inl low ↦ let e : nat_lt n 2 ≡ true = lt-ltb _ _ low in rw e refl
-      | inr least ↦ elim (cases_lt 16 n) [
-        | inl high ↦ let e : nat_lt 16 n ≡ true = lt-ltb _ _ high in let f : nat_lt n 2 ≡ false = le-ltb _ _ least in rw (f, e) refl
-        | inr most ↦ absurd (not_so (least, most))
-      ]
-    ]
+bad_count_true n not_so = grind (arith, cases_lt, lt-ltb, le-ltb)
 
 nil_taken : (n : ℕ) → take {A = ℕ} n [] ≡ []
-nil_taken zero = refl
-nil_taken (suc n) = refl
+nil_taken n = grind arith
 
 -- what is read of an opening that is whole
 first_reads : (t : List ℕ) → opening_of (version 1 ++ t) ≡ Ok (4, 10)
 first_reads t = let long : nat_lt (length (version 1 ++ t)) 10 ≡ false = le-ltb _ _ (omega arith) in rw (nil_taken (length t), long) refl
 
 count_reads : (count : ℕ) (t : List ℕ) → IsCount count → opening_of (opening count ++ t) ≡ Ok (count, 12)
-count_reads count t h =
-    let bytes : List ℕ = opening count ++ t in
-    let e : nat_lt (length bytes) 11 ≡ false = le-ltb _ _ (omega arith) in
-    let l : nat_lt (length bytes) 12 ≡ false = le-ltb _ _ (omega arith) in
-    let n : field_at 10 bytes ≡ count = omega (arith, h.1) in
-    let good : is_bad_count (field_at 10 bytes) ≡ false = rw n (count_fits count h) in
-    rw (e, good, l, n) refl
+count_reads count t h = grind (arith, le-ltb, count_fits)
 
 pub opening_reads : (start : List ℕ) (count : ℕ) (t : List ℕ) → Opens start count → opening_of (start ++ t) ≡ Ok (count, length start)
 opening_reads start count t (inl (e, h)) = rw e (count_reads count t h)
 opening_reads start count t (inr (e, f)) = rw (e, f) (first_reads t)
 
 pub opened_count : (start : List ℕ) (count : ℕ) → Opens start count → IsCount count
-opened_count start count (inl (e, h)) = h
-opened_count start count (inr (e, f)) = rw f (omega arith, omega arith)
+opened_count start count x2 = grind arith
 
 -- a file that ends within its opening
 cut_first : (n : ℕ) → n < 10 → opening_of (take n (version 1)) ≡ Err fault.Truncated
@@ -88,10 +67,7 @@ cut_first (suc (suc (suc (suc (suc (suc (suc (suc (suc zero))))))))) h = refl
 cut_first (suc (suc (suc (suc (suc (suc (suc (suc (suc (suc n)))))))))) h = absurd (omega arith)
 
 half_reads : (count : ℕ) → IsCount count → opening_of (version 2 ++ count % 256 ∷ []) ≡ Err fault.Truncated
-half_reads count h =
-    let n : field_at 10 (version 2 ++ count % 256 ∷ []) ≡ count = omega (arith, h.1) in
-    let good : is_bad_count (field_at 10 (version 2 ++ count % 256 ∷ [])) ≡ false = rw n (count_fits count h) in
-    rw good refl
+half_reads count h = grind (arith, count_fits)
 
 cut_second : (n count : ℕ) → IsCount count → n < 12 → opening_of (take n (opening count)) ≡ Err fault.Truncated
 cut_second zero count c h = refl
@@ -144,9 +120,7 @@ pub data Opening (bytes : List ℕ) : Type 0 where
 
 -- the front of bytes that agree with a list, and are as long
 pub front_is : (bytes start : List ℕ) → length start ≤ length bytes → Agree bytes start → bytes ≡ start ++ drop (length start) bytes
-front_is bytes start long begins =
-    let front : take (length start) bytes ≡ start = begins ∙ take_all (length bytes) start (omega arith) in
-    sym (take-append-drop (length start) bytes) ∙ ap (λ t. t ++ drop (length start) bytes) front
+front_is bytes start long begins = grind (arith, take_all, take-append-drop)
 
 first_sort : (bytes : List ℕ) → Agree bytes (version 1) → Opening bytes
 first_sort bytes begins =
@@ -157,8 +131,7 @@ first_sort bytes begins =
 
 -- so far each number of buffers fits
 pub any_fits : (bytes : List ℕ) (count : ℕ) → length bytes ≤ 10 → Agree bytes (version 2) → Agree bytes (opening count)
-any_fits bytes count short begins =
-    take_all 12 bytes (omega arith) ∙ sym (take_all 10 bytes short) ∙ begins ∙ sym (take-append-le (length bytes) (version 2) (field count) short)
+any_fits bytes count short begins = grind (arith, take_all, take-append-le)
 
 one_agrees : (b count : ℕ) → Agree (version 2 ++ b ∷ []) (opening count) → b ≡ count % 256
 one_agrees b count h = cc
@@ -216,11 +189,7 @@ pub bad_magic_reads : (bytes : List ℕ) → HasBadMagic bytes → opening_of by
 bad_magic_reads bytes bad = let e : agree bytes magic ≡ false = agree_false bytes magic bad in rw e refl
 
 pub bad_version_reads : (bytes : List ℕ) → HasBadVersion bytes → opening_of bytes ≡ Err fault.BadVersion
-bad_version_reads bytes bad =
-    let e : agree bytes magic ≡ true = agree_true bytes magic bad.magic_fits in
-    let f : agree bytes (version 1) ≡ false = agree_false bytes (version 1) bad.one_misfits in
-    let g : agree bytes (version 2) ≡ false = agree_false bytes (version 2) bad.two_misfits in
-    rw (e, f, g) refl
+bad_version_reads bytes bad = grind (arith, agree_true, agree_false)
 
 bad_count_reads : (r : List ℕ) → 0 < length r → ((count : ℕ) → IsCount count → ¬ Agree (version 2 ++ r) (opening count)) → opening_of (version 2 ++ r) ≡ Err fault.BadBuffers
 bad_count_reads [] h bad = absurd (omega arith)

@@ -14,10 +14,7 @@ same_file image = simp append_assoc refl
 pub written : (image : Contents) (header bytes rest : List ℕ) (n : ℕ) → IsImage image → length header ≡ 16 → n ≡ length bytes
     → header ≡ opening image.buffers ++ field image.entry ++ field (length image.bytes) → bytes ≡ image.bytes
     → IsWritten (take (16 + n) (header ++ (bytes ++ rest))) image
-written image header bytes rest n is_image sixteen long h b = record {
-  spelled = in_front header bytes rest (16 + n) (omega (arith, sixteen, long)) ∙ ap (λ x. x ++ bytes) h ∙ ap (λ x. (opening image.buffers ++ field image.entry ++ field (length image.bytes)) ++ x) b ∙ same_file image;
-  is_image = is_image;
-}
+written image header bytes rest n is_image sixteen long h b = grind (arith, in_front, same_file)
 
 -- what is after them is the room's as it was
 pub beyond : (header bytes room : List ℕ) (n : ℕ) → length header ≡ 16 → n ≡ length bytes → drop (16 + n) (header ++ (bytes ++ drop n (drop 16 room))) ≡ drop (16 + n) room

@@ -4,7 +4,7 @@ use Rattle.std.proofs.lemmas.Bool.{le-ltb, lt-ltb, cases_lt}
 use Rattle.std.proofs.lemmas.List.{length-append, length-take, length-replicate, take-append-drop, drop_more}
 use Rattle.std.proofs.lemmas.List.Elements.{All-from_get_or}
 use Rattle.std.proofs.Math.Seq.{take-append_seam}
-use Rattle.memory.specs.Bytes.{IsCount, limit_of}
+use Rattle.memory.specs.Bytes.{IsCount}
 use Rattle.memory.proofs.Limits.{limit_least, limit_most}
 use Rattle.image_loader.specs.declared.fault.ImageFault.TheVariants as fault
 use Rattle.image_loader.specs.Files.{Contents, IsSize, IsImage, field, field_at, tail}
@@ -24,9 +24,8 @@ AreBytes-append (x ∷ xs) ys hx hy zero = hx 0
 AreBytes-append (x ∷ xs) ys hx hy (suc i) = AreBytes-append xs ys (λ k. hx (suc k)) hy i
 
 pub AreBytes-zeros : (n : ℕ) → AreBytes (replicate n 0)
-AreBytes-zeros zero i = omega arith
-AreBytes-zeros (suc n) zero = omega arith
 AreBytes-zeros (suc n) (suc i) = AreBytes-zeros n i
+AreBytes-zeros n x1 = grind arith
 
 AreBytes-take : (n : ℕ) (xs : List ℕ) → AreBytes xs → AreBytes (take n xs)
 AreBytes-take zero xs h i = omega arith
@@ -36,37 +35,18 @@ AreBytes-take (suc n) (x ∷ xs) h (suc i) = AreBytes-take n xs (λ k. h (suc k)
 
 -- sizes
 size_fits : (count n : ℕ) → IsSize count n → is_bad_size count n ≡ false
-size_fits count n h = let low : nat_lt n 256 ≡ false = le-ltb _ _ h.0 in
-    let high : nat_lt (limit_of count) n ≡ false = le-ltb _ _ h.1 in rw (low, high) refl
+size_fits count n h = grind (arith, le-ltb)
 
 size_or_not : (count n : ℕ) → IsSize count n ⊎ (¬ IsSize count n)
-size_or_not count n =
-    elim (cases_lt n 256) [
-      | inl low ↦ inr (λ s. let a = s.0 in omega arith)
-      | inr least ↦ elim (cases_lt (limit_of count) n) [ inl high ↦ inr (λ s. let a = s.1 in omega arith) | inr most ↦ inl (least, most) ]
-    ]
+size_or_not count n = grind (arith, cases_lt)
 
 bad_size_true : (count n : ℕ) → (¬ IsSize count n) → is_bad_size count n ≡ true
-bad_size_true count n not_so =
-    elim (cases_lt n 256) [
-      | inl low ↦ let e : nat_lt n 256 ≡ true = lt-ltb _ _ low in rw e refl
-      | inr least ↦ elim (cases_lt (limit_of count) n) [
-        | inl high ↦ let e : nat_lt (limit_of count) n ≡ true = lt-ltb _ _ high in let f : nat_lt n 256 ≡ false = le-ltb _ _ least in rw (f, e) refl
-        | inr most ↦ absurd (not_so (least, most))
-      ]
-    ]
+bad_size_true count n not_so = grind (arith, cases_lt, lt-ltb, le-ltb)
 
 -- entry and size are read, whatever follows
 fields_read : (count entry size : ℕ) (v : List ℕ) → IsCount count → entry < 65536 → IsSize count size
     → tail_of count (field entry ++ field size ++ v) ≡ body_by (nat_lt (length v) size) (nat_lt size (length v)) (record { buffers = count; entry = entry; bytes = v })
-fields_read count entry size v few fits is_size =
-    let t : List ℕ = field entry ++ field size ++ v in
-    let most = limit_most count few in
-    let long : nat_lt (length t) 4 ≡ false = le-ltb _ _ (omega arith) in
-    let size_is : field_at 2 t ≡ size = omega (arith, is_size.1, most) in
-    let entry_is : field_at 0 t ≡ entry = omega arith in
-    let good : is_bad_size count (field_at 2 t) ≡ false = rw size_is (size_fits count size is_size) in
-    rw (long, good, entry_is, size_is) refl
+fields_read count entry size v few fits is_size = grind (arith, limit_most, le-ltb, size_fits)
 
 pub small : (image : Contents) → IsImage image → length image.bytes < 65536
 small image h = omega (arith, h.size.1, limit_most image.buffers h.buffers)
@@ -75,17 +55,10 @@ pub most_bytes : (image : Contents) → IsImage image → length image.bytes ≤
 most_bytes image h = omega (arith, h.size.1, limit_most image.buffers h.buffers)
 
 pub whole_reads : (image : Contents) → IsImage image → tail_of image.buffers (tail image) ≡ Ok image
-whole_reads image h =
-    let even : nat_lt (length image.bytes) (length image.bytes) ≡ false = le-ltb _ _ (omega arith) in
-    fields_read image.buffers image.entry (length image.bytes) image.bytes h.buffers h.entry h.size ∙ rw even refl
+whole_reads image h = grind (arith, le-ltb, fields_read)
 
 pub followed_tail_reads : (image : Contents) (x : ℕ) (xs : List ℕ) → IsImage image → tail_of image.buffers (tail image ++ x ∷ xs) ≡ Err fault.TrailingBytes
-followed_tail_reads image x xs h =
-    let v : List ℕ = image.bytes in
-    let sum : length (v ++ x ∷ xs) ≡ length v + suc (length xs) = simp length-append refl in
-    let not_short : nat_lt (length (v ++ x ∷ xs)) (length v) ≡ false = le-ltb _ _ (omega (arith, sum)) in
-    let long : nat_lt (length v) (length (v ++ x ∷ xs)) ≡ true = lt-ltb _ _ (omega (arith, sum)) in
-    fields_read image.buffers image.entry (length v) (v ++ x ∷ xs) h.buffers h.entry h.size ∙ rw (not_short, long) refl
+followed_tail_reads image x xs h = grind (arith, length-append, le-ltb, lt-ltb, fields_read)
 
 cut_fields : (n : ℕ) (image : Contents) → n < 4 → tail_of image.buffers (take n (tail image)) ≡ Err fault.Truncated
 cut_fields zero image h = refl
@@ -95,26 +68,10 @@ cut_fields (suc (suc (suc zero))) image h = refl
 cut_fields (suc (suc (suc (suc n)))) image h = absurd (omega arith)
 
 pub cut_tail_reads : (t : List ℕ) (image : Contents) (x : ℕ) (xs : List ℕ) → IsImage image → t ++ x ∷ xs ≡ tail image → tail_of image.buffers t ≡ Err fault.Truncated
-cut_tail_reads t image x xs h spelled =
-    let n : ℕ = length t in
-    let cut : t ≡ take n (tail image) = sym (take-append_seam t (x ∷ xs)) ∙ ap (take n) spelled in
-    let sum : n + suc (length xs) ≡ length (tail image) = sym (length-append t (x ∷ xs)) ∙ ap length spelled in
-    let total : length (tail image) ≡ 4 + length image.bytes = omega arith in
-    elim (cases_lt n 4) [
-      | inl less ↦ ap (tail_of image.buffers) cut ∙ cut_fields n image less
-      | inr more ↦
-          let m : ℕ = n - 4 in
-          let split : take n (tail image) ≡ field image.entry ++ field (length image.bytes) ++ take m image.bytes = ap (λ k. take k (tail image)) (let e : n ≡ suc (suc (suc (suc m))) = omega arith in e) ∙ refl in
-          let shorter : length (take m image.bytes) < length image.bytes = simp length-take (omega arith) in
-          let short : nat_lt (length (take m image.bytes)) (length image.bytes) ≡ true = lt-ltb _ _ shorter in
-          ap (tail_of image.buffers) (cut ∙ split) ∙ fields_read image.buffers image.entry (length image.bytes) (take m image.bytes) h.buffers h.entry h.size ∙ rw short refl
-    ]
+cut_tail_reads t image x xs h spelled = grind (arith, take-append_seam, length-append, cases_lt, cut_fields, length-take, lt-ltb, fields_read)
 
 pub bad_tail_reads : (count : ℕ) (t : List ℕ) → 4 ≤ length t → (¬ IsSize count (field_at 2 t)) → tail_of count t ≡ Err fault.BadSize
-bad_tail_reads count t long bad =
-    let l : nat_lt (length t) 4 ≡ false = le-ltb _ _ long in
-    let b : is_bad_size count (field_at 2 t) ≡ true = bad_size_true count (field_at 2 t) bad in
-    rw (l, b) refl
+bad_tail_reads count t long bad = grind (arith, le-ltb, bad_size_true)
 
 -- each list of bytes is the tail of an image, or the beginning of one, or one with bytes after it, or has a bad size
 pub data Tail (count : ℕ) (t : List ℕ) : Type 0 where

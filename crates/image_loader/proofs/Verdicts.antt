@@ -1,5 +1,5 @@
 -- What reading gives of each sort of bytes, and of which sort bytes are where reading gives something.
-use Rattle.std.proofs.Common.{◌≡◌, ℕ, List, Result, Ok, Err, IfOk, IsOk, refl, sym, ◌∙◌, subst}
+use Rattle.std.proofs.Common.{◌≡◌, ℕ, List, Result, Ok, Err, IfOk, IsOk, refl, sym, ◌∙◌, subst, arith}
 use Rattle.image_loader.specs.declared.fault.ImageFault.{ImageFault}
 use Rattle.image_loader.specs.declared.fault.ImageFault.TheVariants as fault
 use Rattle.image_loader.specs.Files.{Contents, IsFile, IsCutShort, IsFollowed, HasBadMagic, HasBadVersion, HasBadBuffers, HasBadSize}
@@ -27,76 +27,28 @@ reads bytes (has_bad_buffers bad) = bad_buffers_reads bytes bad
 reads bytes (has_bad_size bad) = bad_size_reads bytes bad
 
 cut_short_given : {bytes : List ℕ} (k : Kind bytes) → given k ≡ Err fault.Truncated → IsCutShort bytes
-cut_short_given (is_cut_short f) e = f
-cut_short_given (is_file image f) e = absurd (cc)
-cut_short_given (is_followed f) e = absurd (cc)
-cut_short_given (has_bad_magic bad) e = absurd (cc)
-cut_short_given (has_bad_version bad) e = absurd (cc)
-cut_short_given (has_bad_buffers bad) e = absurd (cc)
-cut_short_given (has_bad_size bad) e = absurd (cc)
+cut_short_given k e = grind (arith, is_cut_short, is_file, is_followed, has_bad_magic, has_bad_version, has_bad_buffers, has_bad_size)
 
 followed_given : {bytes : List ℕ} (k : Kind bytes) → given k ≡ Err fault.TrailingBytes → IsFollowed bytes
-followed_given (is_followed f) e = f
-followed_given (is_file image f) e = absurd (cc)
-followed_given (is_cut_short f) e = absurd (cc)
-followed_given (has_bad_magic bad) e = absurd (cc)
-followed_given (has_bad_version bad) e = absurd (cc)
-followed_given (has_bad_buffers bad) e = absurd (cc)
-followed_given (has_bad_size bad) e = absurd (cc)
+followed_given k e = grind (arith, is_followed, is_file, is_cut_short, has_bad_magic, has_bad_version, has_bad_buffers, has_bad_size)
 
 bad_magic_given : {bytes : List ℕ} (k : Kind bytes) → given k ≡ Err fault.BadMagic → HasBadMagic bytes
-bad_magic_given (has_bad_magic bad) e = bad
-bad_magic_given (is_file image f) e = absurd (cc)
-bad_magic_given (is_cut_short f) e = absurd (cc)
-bad_magic_given (is_followed f) e = absurd (cc)
-bad_magic_given (has_bad_version bad) e = absurd (cc)
-bad_magic_given (has_bad_buffers bad) e = absurd (cc)
-bad_magic_given (has_bad_size bad) e = absurd (cc)
+bad_magic_given k e = grind (arith, has_bad_magic, is_file, is_cut_short, is_followed, has_bad_version, has_bad_buffers, has_bad_size)
 
 bad_version_given : {bytes : List ℕ} (k : Kind bytes) → given k ≡ Err fault.BadVersion → HasBadVersion bytes
-bad_version_given (has_bad_version bad) e = bad
-bad_version_given (has_bad_buffers bad) e = absurd (cc)
-bad_version_given (is_file image f) e = absurd (cc)
-bad_version_given (is_cut_short f) e = absurd (cc)
-bad_version_given (is_followed f) e = absurd (cc)
-bad_version_given (has_bad_magic bad) e = absurd (cc)
-bad_version_given (has_bad_size bad) e = absurd (cc)
+bad_version_given k e = grind (arith, has_bad_version, has_bad_buffers, is_file, is_cut_short, is_followed, has_bad_magic, has_bad_size)
 
 bad_buffers_given : {bytes : List ℕ} (k : Kind bytes) → given k ≡ Err fault.BadBuffers → HasBadBuffers bytes
-bad_buffers_given (has_bad_buffers bad) e = bad
-bad_buffers_given (is_file image f) e = absurd (cc)
-bad_buffers_given (is_cut_short f) e = absurd (cc)
-bad_buffers_given (is_followed f) e = absurd (cc)
-bad_buffers_given (has_bad_magic bad) e = absurd (cc)
-bad_buffers_given (has_bad_version bad) e = absurd (cc)
-bad_buffers_given (has_bad_size bad) e = absurd (cc)
+bad_buffers_given k e = grind (arith, has_bad_buffers, is_file, is_cut_short, is_followed, has_bad_magic, has_bad_version, has_bad_size)
 
 bad_size_given : {bytes : List ℕ} (k : Kind bytes) → given k ≡ Err fault.BadSize → HasBadSize bytes
-bad_size_given (has_bad_size bad) e = bad
-bad_size_given (is_file image f) e = absurd (cc)
-bad_size_given (is_cut_short f) e = absurd (cc)
-bad_size_given (is_followed f) e = absurd (cc)
-bad_size_given (has_bad_magic bad) e = absurd (cc)
-bad_size_given (has_bad_version bad) e = absurd (cc)
-bad_size_given (has_bad_buffers bad) e = absurd (cc)
+bad_size_given k e = grind (arith, has_bad_size, is_file, is_cut_short, is_followed, has_bad_magic, has_bad_version, has_bad_buffers)
 
 file_given : {bytes : List ℕ} (k : Kind bytes) → IsOk (given k) → (image : Contents) × (IsFile bytes image × (given k ≡ Ok image))
-file_given (is_file image f) e = (image, (f, refl))
-file_given (is_cut_short f) e = absurd (cc)
-file_given (is_followed f) e = absurd (cc)
-file_given (has_bad_magic bad) e = absurd (cc)
-file_given (has_bad_version bad) e = absurd (cc)
-file_given (has_bad_buffers bad) e = absurd (cc)
-file_given (has_bad_size bad) e = absurd (cc)
+file_given k e = grind (arith, is_file, is_cut_short, is_followed, has_bad_magic, has_bad_version, has_bad_buffers, has_bad_size)
 
 known_given : {bytes : List ℕ} (k : Kind bytes) → ¬ (given k ≡ Err fault.OutOfMemory)
-known_given (is_file image f) e = absurd (cc)
-known_given (is_cut_short f) e = absurd (cc)
-known_given (is_followed f) e = absurd (cc)
-known_given (has_bad_magic bad) e = absurd (cc)
-known_given (has_bad_version bad) e = absurd (cc)
-known_given (has_bad_buffers bad) e = absurd (cc)
-known_given (has_bad_size bad) e = absurd (cc)
+known_given k e = grind (arith, is_file, is_cut_short, is_followed, has_bad_magic, has_bad_version, has_bad_buffers, has_bad_size)
 
 -- what is given for the sort of these bytes is what a function that reads them gives
 sorted : (bytes : List ℕ) (r : Result Contents ImageFault) (fit : AreBytes bytes) → r ≡ read_of bytes → given (kind_of bytes fit) ≡ r

@@ -1,12 +1,10 @@
 -- The ends of a run.
-use Rattle.std.proofs.Common.{◌≡◌, ℕ, ◌+◌, ◌<◌, Bool, true, false, List, [], ◌++◌, Option, None, Some, is_none, ◌&&◌, if◌then◌else◌, refl, sym, ap, subst, ◌∙◌, inl, inr, arith, append-nil, append_assoc}
+use Rattle.std.proofs.Common.{◌≡◌, ℕ, ◌+◌, ◌<◌, Bool, true, false, List, [], ◌++◌, Option, None, Some, is_none, if◌then◌else◌, refl, sym, ap, subst, ◌∙◌, inr, arith, append-nil, append_assoc}
 use Rattle.std.specs.Prelude.{IsSome}
 use Rattle.std.specs.Io.KnownBytes.{Appends, Keeps}
 use Rattle.block_buffers.specs.Disks.{Disk}
 use Rattle.machine_parts.specs.Whole.{Whole}
-use Rattle.machine_parts.specs.declared.parts.Request.{Request}
 use Rattle.machine.specs.declared.act.Cause.{Cause}
-use Rattle.machine.specs.declared.act.Cause.TheVariants as causes
 use Rattle.inner_interpreter.specs.declared.stop.Stop.{Stop}
 use Rattle.inner_interpreter.specs.declared.stop.Stop.TheVariants as stop
 use Rattle.machine.specs.declared.extent.Extent.{Extent}
@@ -15,7 +13,6 @@ use Rattle.machine.specs.Answer.{InputFault, asked_by, is_answer}
 use Rattle.inner_interpreter.specs.Runs.{World, rounds, stops, stop_by, stop_of}
 use Rattle.inner_interpreter.specs.Sent.{AppendsPart}
 use Rattle.inner_interpreter.specs.Served.{is_input_fault}
-use Rattle.machine.specs.Met.{is_met}
 use Rattle.inner_interpreter.specs.Tracing.{AddsLine, IsDue, Reached, ReachedCut, MadeTraced, EndsTraced, EndsCutTraced, EndsFaultedTraced, EndsUntraced, Finishes, line_next, traced_line, trace}
 use Rattle.inner_interpreter.specs.Worlds.{IsAt, IsFaulted}
 use Rattle.inner_interpreter.proofs.Running.{cut_behind, kept_at}
@@ -23,14 +20,10 @@ use Rattle.inner_interpreter.proofs.Sending.{appends_both}
 use Rattle.inner_interpreter.proofs.Stretched.{rounds_add, runs_on, trace_add}
 
 appends_none : (a : Option (List ℕ)) → Appends a a []
-appends_none None = tt
-appends_none (Some xs) = sym (append-nil xs)
+appends_none a = grind (arith, append-nil)
 
 appends_kept : (a b c : Option (List ℕ)) (xs : List ℕ) → Appends a b xs → Keeps b c → Appends a c xs
-appends_kept None b c xs h k = tt
-appends_kept (Some os) None c xs h k = absurd h
-appends_kept (Some os) (Some bs) None xs h k = absurd k
-appends_kept (Some os) (Some bs) (Some cs) xs h k = k ∙ h
+appends_kept a b c xs h k = grind arith
 
 -- where the run goes on, the line is that of the state
 line_goes : (e : Extent) (line : Whole → List ℕ) (w : World) (s : State) → s ≡ w.state → stops w ≡ None → traced_line e line w ≡ line_next e line s
@@ -42,10 +35,7 @@ runs_at w s unread disk sent left halt some at = runs_on w (ap (λ (v : State). 
 
 -- while a request waits, no line is due
 asked_line : (e : Extent) (line : Whole → List ℕ) (s : State) → is_answer (asked_by s.wait) InputFault ≡ true → line_next e line s ≡ []
-asked_line e line s h = by_wait (asked_by s.wait) h where
-  by_wait : (o : Option Request) → is_answer o InputFault ≡ true → (if is_none o && is_met e s.parts then line s.parts else []) ≡ []
-  by_wait None q = cc
-  by_wait (Some r) q = refl
+asked_line e line s h = grind arith
 
 pub none_made : (e : Extent) (line : Whole → List ℕ) (w : World) (s : State) (unread : Option (List ℕ)) (disk : Option Disk) (sent : Option (List ℕ)) (left : ℕ) (t : Option (List ℕ))
     → IsAt w s unread disk sent left → MadeTraced e line w s unread disk sent left t t
@@ -55,9 +45,7 @@ none_made e line w s unread disk sent left t at = (0, at, appends_none t)
 -- the trace of some rounds, and then of these
 more_trace : (e : Extent) (line : Whole → List ℕ) (w : World) (n m : ℕ) (ls : List ℕ) (t0 t1 t2 : Option (List ℕ))
     → AddsLine e m (rounds n w) → traced_line e line (rounds n w) ≡ ls → Appends t0 t1 (trace e line n w) → Appends t1 t2 ls → Appends t0 t2 (trace e line (m + n) w)
-more_trace e line w n m ls t0 t1 t2 adds same h k =
-    let all : trace e line (m + n) w ≡ trace e line n w ++ ls = trace_add e line m n w ∙ ap (λ xs. trace e line n w ++ xs) (adds line ∙ same) in
-    subst (Appends t0 t2) (sym all) (appends_both t0 t1 t2 (trace e line n w) ls h k)
+more_trace e line w n m ls t0 t1 t2 adds same h k = grind (arith, trace_add, appends_both)
 
 pub more_made : (e : Extent) (line : Whole → List ℕ) (w : World) (s s' : State) (unread unread' : Option (List ℕ)) (disk disk' : Option Disk) (sent sent' : Option (List ℕ)) (left left' : ℕ) (t0 t1 t2 : Option (List ℕ))
     → s.halt ≡ None → 0 < left → Appends t1 t2 (line_next e line s)
@@ -122,15 +110,7 @@ made_cut e line w s unread disk sent t0 t2 r ended = record {
 -- the trace's writer failed at last
 pub made_untraced : (e : Extent) (line : Whole → List ℕ) (w : World) (s : State) (unread : Option (List ℕ)) (disk : Option Disk) (sent : Option (List ℕ)) (t0 t2 : Option (List ℕ)) (r : Stop)
     → EndsTraced e line w s unread disk sent t0 t2 r → EndsUntraced e line w s unread disk sent t0 t2
-made_untraced e line w s unread disk sent t0 t2 r ended = record {
-  count = ended.ends.count;
-  at = ended.ends.at;
-  front = [];
-  back = traced_line e line (rounds ended.ends.count w);
-  line_is = refl;
-  trace_is = subst (Appends t0 t2) (sym (append-nil (trace e line ended.ends.count w))) ended.trace_is;
-  due = inl (subst IsSome (sym ended.ends.stops_so) refl);
-}
+made_untraced e line w s unread disk sent t0 t2 r ended = grind (arith, append-nil)
 
 -- a front of bytes, after others
 record Behind (a c : Option (List ℕ)) (xs bs : List ℕ) : Type 0 where
@@ -140,33 +120,12 @@ record Behind (a c : Option (List ℕ)) (xs bs : List ℕ) : Type 0 where
   all : Appends a c (xs ++ front)
 
 part_behind : (a b c : Option (List ℕ)) (xs bs : List ℕ) → Appends a b xs → AppendsPart b c bs → Behind a c xs bs
-part_behind None b c xs bs h k = record { front = []; back = bs; is = refl; all = tt }
-part_behind (Some os) None c xs bs h k = absurd h
-part_behind (Some os) (Some ys) None xs bs h k = absurd k
-part_behind (Some os) (Some ys) (Some zs) xs bs h k = record {
-  front = k.0;
-  back = k.1;
-  is = k.2;
-  all = k.3 ∙ ap (λ v. v ++ k.0) h ∙ append_assoc os xs k.0;
-}
+part_behind a b c xs bs h k = grind (arith, append_assoc)
 
 -- the trace's writer failed in a line
 pub line_untraced : (e : Extent) (line : Whole → List ℕ) (w : World) (s : State) (unread : Option (List ℕ)) (disk : Option Disk) (sent : Option (List ℕ)) (left : ℕ) (t0 t1 t2 : Option (List ℕ))
     → s.halt ≡ None → 0 < left → AppendsPart t1 t2 (line_next e line s) → IsDue e s → MadeTraced e line w s unread disk sent left t0 t1 → EndsUntraced e line w s unread disk sent t0 t2
-line_untraced e line w s unread disk sent left t0 t1 t2 halt some told due made =
-    let v = rounds made.0 w in
-    let at = made.1 in
-    let same : traced_line e line v ≡ line_next e line s = line_goes e line v s at.state_is (runs_at v s unread disk sent left halt some at) in
-    let part = part_behind t0 t1 t2 (trace e line made.0 w) (traced_line e line v) made.2 (subst (AppendsPart t1 t2) (sym same) told) in
-    record {
-      count = made.0;
-      at = record { state_is = at.state_is; unread_is = at.unread_is; disk_is = at.disk_is; sent_is = at.sent_is; left_is = refl };
-      front = part.front;
-      back = part.back;
-      line_is = part.is;
-      trace_is = part.all;
-      due = inr due;
-    }
+line_untraced e line w s unread disk sent left t0 t1 t2 halt some told due made = grind (arith, line_goes, runs_at, part_behind)
 
 pub rounds_cut : (e : Extent) (line : Whole → List ℕ) (w : World) (s s' : State) (unread unread' : Option (List ℕ)) (disk disk' : Option Disk) (sent sent' : Option (List ℕ)) (left : ℕ) (t0 t1 t2 : Option (List ℕ))
     → s.halt ≡ None → 0 < left → Appends t1 t2 (line_next e line s)
@@ -195,25 +154,13 @@ rounds_faulted e line w s s' unread unread' disk disk' sent sent' left t0 t1 t2 
 
 -- a run that ends well ends with the stop
 pub done_so : (r s : Stop) (w w' t t' : Bool) (P : Stop → Type 0) → Finishes r s w w' t t' → w' ≡ false → t' ≡ false → P s → P r
-done_so r s w w' t t' P (inl h) f g p = rw (h.0) p
-done_so r s w w' t t' P (inr (inl h)) f g p = absurd (let q : w' ≡ true = h.1 in cc)
-done_so r s w w' t t' P (inr (inr h)) f g p = absurd (let q : t' ≡ true = h.2 in cc)
+done_so r s w w' t t' P h f g p = grind arith
 
 -- a halted machine doesn't stop for want of ticks
 pub not_limit : (c : Cause) (s r : Stop) (w w' t t' : Bool) → s ≡ stop_of c → Finishes r s w w' t t' → r ≡ stop.Limit → ⊥
-not_limit causes.Bye s r w w' t t' e (inl h) q = let no : stop.Bye ≡ stop.Limit = sym e ∙ sym h.0 ∙ q in cc
-not_limit causes.InputEnded s r w w' t t' e (inl h) q = let no : stop.InputEnded ≡ stop.Limit = sym e ∙ sym h.0 ∙ q in cc
-not_limit causes.InputFault s r w w' t t' e (inl h) q = let no : stop.InputFault ≡ stop.Limit = sym e ∙ sym h.0 ∙ q in cc
-not_limit (causes.Fault f) s r w w' t t' e (inl h) q = let no : stop.Fault f ≡ stop.Limit = sym e ∙ sym h.0 ∙ q in cc
-not_limit c s r w w' t t' e (inr (inl h)) q = let no : stop.OutputFault ≡ stop.Limit = sym h.0 ∙ q in cc
-not_limit c s r w w' t t' e (inr (inr h)) q = let no : stop.TraceFault ≡ stop.Limit = sym h.0 ∙ q in cc
+not_limit c s r w w' t t' e h q = grind arith
 
 -- a machine that halted for another cause doesn't stop for a failed reader
 pub not_input_fault : (c : Cause) (h : Option Cause) (s r : Stop) (w w' t t' : Bool) → is_input_fault h ≡ false → h ≡ Some c → s ≡ stop_of c → Finishes r s w w' t t' → r ≡ stop.InputFault → ⊥
 unfolding is_input_fault
-not_input_fault causes.Bye h s r w w' t t' n k e (inl d) q = let no : stop.Bye ≡ stop.InputFault = sym e ∙ sym d.0 ∙ q in cc
-not_input_fault causes.InputEnded h s r w w' t t' n k e (inl d) q = let no : stop.InputEnded ≡ stop.InputFault = sym e ∙ sym d.0 ∙ q in cc
-not_input_fault causes.InputFault h s r w w' t t' n k e (inl d) q = let no : true ≡ false = sym (ap is_input_fault k) ∙ n in cc
-not_input_fault (causes.Fault f) h s r w w' t t' n k e (inl d) q = let no : stop.Fault f ≡ stop.InputFault = sym e ∙ sym d.0 ∙ q in cc
-not_input_fault c h s r w w' t t' n k e (inr (inl d)) q = let no : stop.OutputFault ≡ stop.InputFault = sym d.0 ∙ q in cc
-not_input_fault c h s r w w' t t' n k e (inr (inr d)) q = let no : stop.TraceFault ≡ stop.InputFault = sym d.0 ∙ q in cc
+not_input_fault c h s r w w' t t' n k e m q = grind arith

@@ -1,13 +1,11 @@
 -- The written rounds report no failed reader to the machine.
-use Rattle.std.proofs.Common.{◌≡◌, ◌≢◌, ℕ, zero, suc, ◌+◌, ◌==◌, ◌∷◌, [], List, length, nat_lt, Option, Some, None, Bool, true, false, Result, Ok, Err, IsOkAnd, IsErrOf, refl, ap, sym, subst, ◌∙◌, if◌then◌else◌}
-use Rattle.block_buffers.specs.Disks.{Disk, succeeds}
+use Rattle.std.proofs.Common.{rules, ◌≡◌, ◌≢◌, ℕ, zero, suc, ◌+◌, ◌==◌, List, Option, Some, None, Bool, true, false, Result, Ok, Err, IsOkAnd, IsErrOf, refl, ap, if◌then◌else◌}
+use Rattle.block_buffers.specs.Disks.{Disk}
 use Rattle.memory.specs.Bytes.{cell}
 use Rattle.memory.specs.declared.system.TheConstants.{FAULT}
 use Rattle.machine_parts.specs.Whole.{Whole}
 use Rattle.machine_parts.specs.Row.{After}
-use Rattle.machine_parts.specs.declared.parts.Outcome.TheVariants.{Done, Show, Byte as ByteOut, Ask as AskOut, Fault as FaultOut, Abort, Halt as HaltOut}
 use Rattle.machine_parts.specs.declared.parts.Request.{Request}
-use Rattle.machine_parts.specs.declared.parts.Request.TheVariants as request
 use Rattle.machine.specs.declared.act.Act.{Act}
 use Rattle.machine.specs.declared.act.Cause.{Cause}
 use Rattle.machine.specs.declared.act.Cause.TheVariants as cause
@@ -20,9 +18,9 @@ use Rattle.machine.specs.State.{State}
 use Rattle.machine.specs.Tick.{taken, executed, by_fault, concluded, ticked, ran, is_quiet}
 use Rattle.machine.specs.Answer as answering
 use Rattle.machine.specs.Answer.{Reply, asked_by, is_answer, answered, answer_of, key_answered, line_answered, read_answered, write_answered}
-use Rattle.inner_interpreter.specs.Lines.{line_of, line_reply}
+use Rattle.inner_interpreter.specs.Lines.{line_reply}
 use Rattle.inner_interpreter.specs.Served.{is_input_fault, HasNotFailed}
-use Rattle.inner_interpreter.specs.Runs.{World, Served, served, round_by, round, rounds, stops, stop_by, next_by}
+use Rattle.inner_interpreter.specs.Runs.{World, Served, served, round, rounds, stops, stop_by, next_by}
 use Rattle.inner_interpreter.specs.Worlds.{stretch}
 use Rattle.inner_interpreter.proofs.Shapes.{either, by_answer}
 
@@ -32,11 +30,7 @@ HasRead s = s.halt ≢ Some cause.InputFault
 
 as_test : (c : Option Cause) → c ≢ Some cause.InputFault → is_input_fault c ≡ false
 unfolding is_input_fault
-as_test (Some cause.InputFault) h = absurd (h refl)
-as_test (Some cause.Bye) h = refl
-as_test (Some cause.InputEnded) h = refl
-as_test (Some (cause.Fault f)) h = refl
-as_test None h = refl
+as_test c h = search rules
 
 fault_read : (s : Whole) (shown : Shown) (f : ℕ) → HasRead (by_fault s shown f).0
 unfolding by_fault
@@ -44,13 +38,7 @@ fault_read s shown f = either HasRead (cell s.memory FAULT == 0) _ _ (λ q. cc) 
 
 concluded_read : (w : ℕ) (x : After) → HasRead (concluded w x).0
 unfolding concluded
-concluded_read w (s, Done) = λ q. cc
-concluded_read w (s, Show span) = λ q. cc
-concluded_read w (s, ByteOut c) = λ q. cc
-concluded_read w (s, AskOut r) = λ q. cc
-concluded_read w (s, FaultOut f) = fault_read s _ f
-concluded_read w (s, Abort span) = fault_read s _ 17
-concluded_read w (s, HaltOut) = λ q. cc
+concluded_read w x = search (rules, fault_read)
 
 ticked_read : (s : Whole) → HasRead (ticked s).0
 unfolding ticked
@@ -58,14 +46,7 @@ ticked_read s = concluded_read (taken s).0 (executed (taken s).0 (taken s).1)
 
 answered_read : (s : Whole) (p : Request × ℕ) (reply : Reply) → reply ≢ answering.InputFault → HasRead (answered s p reply).0
 unfolding answered key_answered line_answered read_answered write_answered
-answered_read s p (answering.Key c) n = either HasRead (nat_lt 256 (length (c ∷ s.values))) _ _ (fault_read s _ 2) (λ q. cc)
-answered_read s p (answering.Line bytes returned) n = either HasRead (nat_lt (length s.values) 2) _ _ (fault_read s _ 1) (λ q. cc)
-answered_read s p answering.InputEnd n = λ q. cc
-answered_read s p answering.InputFault n = absurd (n refl)
-answered_read s p (answering.ReadOk page) n = λ q. cc
-answered_read s p answering.ReadFault n = fault_read s _ 9
-answered_read s p answering.WriteOk n = λ q. cc
-answered_read s p answering.WriteFault n = fault_read s _ 10
+answered_read s p reply n = search (rules, either, fault_read)
 
 pub answer_read : (s : State) (reply : Reply) → HasRead s → reply ≢ answering.InputFault → HasRead (answer_of s reply).0
 answer_read s reply h n = by_answer HasRead s reply (λ p q. answered_read s.parts p reply n) (λ q. h)
@@ -79,10 +60,7 @@ not_told : (reply : Reply) → tells_fault reply ≡ false → reply ≢ answeri
 not_told reply h q = let no : tells_fault reply ≡ true = ap tells_fault q in cc
 
 pub told_read : (old new : State) (act : Act) (reply : Reply) → old.halt ≡ None → (new, act) ≡ answer_of old reply → tells_fault reply ≡ false → HasNotFailed new
-told_read old new act reply h q k =
-    let goes : HasRead old = λ r. let no : Some cause.InputFault ≡ None = sym r ∙ h in cc in
-    let same : new ≡ (answer_of old reply).0 = ap (λ (t : State × Act). t.0) q in
-    subst HasNotFailed (sym same) (as_test (answer_of old reply).0.halt (answer_read old reply goes (not_told reply k)))
+told_read old new act reply h q k = search (rules, as_test, answer_read, not_told)
 
 -- an answer that was taken, and reports no failed reader
 pub told_ok : (old new : State) (reply : Reply) (r : Result Act Refused) (x : Act) → old.halt ≡ None
@@ -104,9 +82,7 @@ told_ok old new reply r x h done refused e k = by_fits (is_answer (asked_by old.
 
 -- a line that was typed is no failure
 line_is_typed : (bytes : List ℕ) (returned : Bool) → line_reply bytes returned ≢ answering.InputFault
-line_is_typed [] false q = cc
-line_is_typed [] true q = cc
-line_is_typed (c ∷ bytes) returned q = cc
+line_is_typed bytes returned q = search rules
 
 ran_read : (n k : ℕ) (s : Whole) → HasRead (ran k n s).1
 unfolding ran
@@ -124,26 +100,17 @@ pub went_read : (count : ℕ) (s t : State) (act : Act) → (count, t, act) ≡ 
 went_read count s t act is = stretch_read count s t (ap (λ (r : ℕ × State × Act). r.1) is)
 
 read_reply : (b : Bool) (page : List ℕ) → (if b then answering.ReadOk page else answering.ReadFault) ≢ answering.InputFault
-read_reply true page q = cc
-read_reply false page q = cc
+read_reply b page q = search rules
 
 write_reply : (b : Bool) (x y : Served) → x.reply ≡ answering.WriteOk → y.reply ≡ answering.WriteFault → (if b then x else y).reply ≢ answering.InputFault
-write_reply true x y h k q = cc
-write_reply false x y h k q = cc
+write_reply b x y h k q = search rules
 
 served_read : (s : State) (r : Request) (typed : List ℕ) (disk : Disk) → (served s r typed disk).reply ≢ answering.InputFault
-served_read s request.Key [] disk q = cc
-served_read s request.Key (c ∷ typed) disk q = cc
-served_read s (request.Line n) typed disk q = line_is_typed (line_of n typed).bytes (line_of n typed).returned q
-served_read s (request.Read u) typed disk q = read_reply (succeeds disk u) _ q
-served_read s (request.Write u) typed disk q = write_reply (succeeds disk u) _ _ refl refl q
+served_read s r typed disk q = search (rules, line_is_typed, read_reply, write_reply)
 
 round_read : (w : World) → HasRead w.state → HasRead (round w).state
 unfolding round
-round_read w h = by_wait (asked_by w.state.wait) where
-  by_wait : (o : Option Request) → HasRead (round_by w o).state
-  by_wait None = ticked_read w.state.parts
-  by_wait (Some r) = answer_read w.state (served w.state r w.typed w.disk).reply h (served_read w.state r w.typed w.disk)
+round_read w h = search (rules, ticked_read, answer_read, served_read)
 
 rounds_read : (n : ℕ) (w : World) → HasRead w.state → HasRead (rounds n w).state
 unfolding rounds
@@ -154,12 +121,7 @@ rounds_read (suc n) w h = by_stop (stops (rounds n w)) (rounds_read n w h) where
   by_stop (Some s) k = k
 
 stop_read : (c : Option Cause) (left : ℕ) → c ≢ Some cause.InputFault → stop_by c left ≢ Some stop.InputFault
-stop_read (Some cause.Bye) left h q = cc
-stop_read (Some cause.InputEnded) left h q = cc
-stop_read (Some cause.InputFault) left h q = h refl
-stop_read (Some (cause.Fault f)) left h q = cc
-stop_read None zero h q = cc
-stop_read None (suc n) h q = cc
+stop_read c left h q = search rules
 
 pub input_fault_law : (w : World) (n : ℕ) → w.state.halt ≢ Some cause.InputFault → stops (rounds n w) ≢ Some stop.InputFault
 input_fault_law w n h = stop_read (rounds n w).state.halt (rounds n w).left (rounds_read n w h)

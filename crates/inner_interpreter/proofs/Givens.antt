@@ -1,5 +1,5 @@
 -- What a reader gave.
-use Rattle.std.proofs.Common.{◌≡◌, ℕ, List, [], ◌∷◌, ◌++◌, Bool, Option, Some, length, refl, sym, ap, ◌∙◌, arith, append_assoc, ◌+◌}
+use Rattle.std.proofs.Common.{◌≡◌, ℕ, List, [], ◌∷◌, ◌++◌, Bool, Option, Some, length, refl, ap, ◌∙◌, arith, append_assoc, ◌+◌}
 use Rattle.std.proofs.lemmas.List.{length-append}
 use Rattle.inner_interpreter.specs.Reads.{IsLineGiven, as_given}
 
@@ -9,8 +9,7 @@ as_given-append (x ∷ xs) ys = ap (λ v. Some x ∷ v) (as_given-append xs ys)
 
 -- a byte of a line more
 pub given_more : (old mid new : List (Option ℕ)) (line line' : List ℕ) (c : ℕ) (o : Option ℕ) → o ≡ Some c → line' ≡ line ++ c ∷ [] → mid ≡ old ++ as_given line → new ≡ mid ++ o ∷ [] → new ≡ old ++ as_given line'
-given_more old mid new line line' c o e l x y =
-    y ∙ ap (λ v. mid ++ v ∷ []) e ∙ ap (λ v. v ++ Some c ∷ []) x ∙ append_assoc old (as_given line) (Some c ∷ []) ∙ ap (λ v. old ++ v) (sym (as_given-append line (c ∷ []))) ∙ ap (λ v. old ++ as_given v) (sym l)
+given_more old mid new line line' c o e l x y = grind (arith, append_assoc, as_given-append)
 
 -- a line whose bytes and what ended it were given
 abbrev pub HasGiven : ℕ → List ℕ → Bool → List (Option ℕ) → List (Option ℕ) → Type 0

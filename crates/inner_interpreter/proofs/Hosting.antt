@@ -1,15 +1,12 @@
 -- What a host sees of its calls is what the moves of a list leave.
-use Rattle.std.proofs.Common.{◌≡◌, ℕ, zero, suc, ◌+◌, ◌-◌, List, [], ◌∷◌, ◌++◌, Option, Some, None, Bool, true, false, is_none, IsSome, ◌&&◌, Ok, Err, refl, sym, ap, subst, ◌∙◌, arith, replicate}
+use Rattle.std.proofs.Common.{◌≡◌, ℕ, zero, suc, ◌+◌, ◌-◌, List, [], ◌∷◌, ◌++◌, Option, Some, None, Bool, true, false, Ok, Err, refl, sym, ap, subst, ◌∙◌, arith, replicate}
 use Rattle.machine_parts.specs.Whole.{Whole}
-use Rattle.machine_parts.specs.declared.parts.Request.{Request}
 use Rattle.machine.specs.declared.act.Act.{Act}
 use Rattle.machine.specs.declared.act.Cause.{Cause}
 use Rattle.machine.specs.declared.act.Event.{Event}
-use Rattle.machine.specs.declared.act.Event.TheVariants.{Went, Ask, Fault, Halt}
 use Rattle.machine.specs.declared.act.Shown.{Shown}
-use Rattle.machine.specs.declared.act.Shown.TheVariants.{Nothing, Byte, Span, Line}
 use Rattle.machine.specs.declared.act.Refused.{Refused}
-use Rattle.machine.specs.declared.act.Refused.TheVariants.{Waiting, Halted, NotAsked}
+use Rattle.machine.specs.declared.act.Refused.TheVariants.{Halted, NotAsked}
 use Rattle.machine.specs.State.{State}
 use Rattle.machine.specs.Tick.{Runs, running, is_quiet, ran, ticked, IsRefused}
 use Rattle.machine.specs.Answer.{asked_by, is_answer}
@@ -31,31 +28,15 @@ pub tick_taken : (s : State) → Runs s → takes s Tick ≡ true
 tick_taken s h = rw (h.0, h.1) refl
 
 pub tick_left : (s : State) (t : State) (refused : Refused) → IsRefused s t refused → takes s Tick ≡ false
-tick_left s t Halted h = by_halt s.halt h.0 where
-  by_halt : (o : Option Cause) → IsSome o → (is_none o && is_none s.wait) ≡ false
-  by_halt (Some c) q = refl
-  by_halt None q = cc
-tick_left s t Waiting h = by_wait s.wait h.1 where
-  by_wait : (o : Option (Request × ℕ)) → IsSome o → (is_none s.halt && is_none o) ≡ false
-  by_wait (Some p) q = rw (h.0) refl
-  by_wait None q = cc
-tick_left s t NotAsked h = absurd h
+tick_left s t refused h = grind arith
 
 -- a refused move leaves the state
 pub stays_refused : (s t : State) (refused : Refused) → IsRefused s t refused → t ≡ s
-stays_refused s t Halted h = h.1
-stays_refused s t Waiting h = h.2
-stays_refused s t NotAsked h = absurd h
+stays_refused s t refused h = grind arith
 
 -- a quiet act says of nothing
 at_quiet : (act : Act) (shown : Shown) (event : Event) → act.shown ≡ shown → act.event ≡ event → is_quiet act ≡ true → told_event act.event ≡ []
-at_quiet act shown Went e f q = rw f refl
-at_quiet act Nothing (Ask r) e f q = let no : is_quiet act ≡ false = rw (e, f) refl in cc
-at_quiet act Nothing (Fault n) e f q = let no : is_quiet act ≡ false = rw (e, f) refl in cc
-at_quiet act Nothing (Halt c) e f q = let no : is_quiet act ≡ false = rw (e, f) refl in cc
-at_quiet act (Byte c) event e f q = let no : is_quiet act ≡ false = rw e refl in cc
-at_quiet act (Span c) event e f q = let no : is_quiet act ≡ false = rw e refl in cc
-at_quiet act (Line c) event e f q = let no : is_quiet act ≡ false = rw e refl in cc
+at_quiet act shown event e f q = grind arith
 
 quiet_tells : (act : Act) → is_quiet act ≡ true → told_event act.event ≡ []
 quiet_tells act q = at_quiet act act.shown act.event refl refl q

@@ -16,7 +16,6 @@ pub mod Ending
 pub mod Faultless
 mod HostCalls
 pub mod Hosting
-mod Walks
 pub mod Slicing
 mod Making
 mod Givens

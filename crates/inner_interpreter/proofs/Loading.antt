@@ -1,5 +1,5 @@
 -- A machine that was loaded.
-use Rattle.std.proofs.Common.{◌≡◌, ◌∙◌, refl, ap, subst, length, ℕ, List, Option, Some}
+use Rattle.std.proofs.Common.{rules, ◌≡◌, ap, length, ℕ, List, Option, Some}
 use Rattle.std.specs.Prelude.{IfSome}
 use Rattle.block_buffers.specs.Disks.{Disk}
 use Rattle.image_loader.specs.Files.{Contents}
@@ -11,9 +11,7 @@ use Rattle.inner_interpreter.specs.Worlds.{IsAt, loaded}
 pub loaded_at : (image : Contents) (s : State) (count limit : ℕ) (unread : Option (List ℕ)) (disk : Option Disk) (sent : Option (List ℕ)) (typed : List ℕ) (d : Disk) (shown : List ℕ)
     → s ≡ start image count → IfSome disk (λ x. count ≡ length x.blocks) → unread ≡ Some typed → disk ≡ Some d → sent ≡ Some shown
     → IsAt (loaded image typed d shown limit) s unread disk sent limit
-loaded_at image s count limit unread disk sent typed d shown is told u k t =
-    let n : count ≡ length d.blocks = subst (λ o. IfSome o (λ x. count ≡ length x.blocks)) k told in
-    record { state_is = is ∙ ap (start image) n; unread_is = u; disk_is = k; sent_is = t; left_is = refl }
+loaded_at image s count limit unread disk sent typed d shown is told u k t = search rules
 
 pub start_not_failed : (image : Contents) (s : State) (count : ℕ) → s ≡ start image count → HasNotFailed s
 unfolding is_input_fault

@@ -7,7 +7,7 @@ use Rattle.machine.specs.declared.act.Act.{Act}
 use Rattle.machine.specs.declared.act.Event.{Event}
 use Rattle.machine.specs.State.{State}
 use Rattle.inner_interpreter.specs.Moves.{Turn, Tick, shown_bytes}
-use Rattle.inner_interpreter.specs.Histories.{Made, acted, behind, made, takes, told_event}
+use Rattle.inner_interpreter.specs.Histories.{acted, behind, made, takes, told_event}
 use Rattle.inner_interpreter.proofs.HostCalls.{ManyTicked}
 use Rattle.inner_interpreter.specs.Hosts.{IsMade, HasMade, turn_of}
 use Rattle.inner_interpreter.proofs.Hosting.{taken_move, left_move, tick_left, stays_refused, one_call}
@@ -31,33 +31,14 @@ left_made s t x ts o es h e = record {
 
 pub taken_made : (s t : State) (act : Act) (x : Turn) (ts : List Turn) (o o' : Option (List ℕ)) (es es' : List Event) → takes s x ≡ true → (t, act) ≡ acted s x → Appends o o' (shown_bytes t.parts.memory act.shown) → es' ≡ es ++ told_event act.event
     → HasMade s (x ∷ ts) t ts o o' es es'
-taken_made s t act x ts o o' es es' h e sent told = record {
-  bytes = shown_bytes t.parts.memory act.shown;
-  told = told_event act.event;
-  made_is = subst (λ (v : State × Act). made s (x ∷ ts) ≡ behind (shown_bytes v.0.parts.memory v.1.shown) (told_event v.1.event) (made v.0 ts)) (sym e) (taken_move s x ts h);
-  sent_is = sent;
-  events_are = told;
-}
+taken_made s t act x ts o o' es es' h e sent told = grind (arith, taken_move)
 
 pub made_more : (s t u : State) (ts us vs : List Turn) (o o' o'' : Option (List ℕ)) (es es' es'' : List Event) → HasMade s ts t us o o' es es' → HasMade t us u vs o' o'' es' es'' → HasMade s ts u vs o o'' es es''
-made_more s t u ts us vs o o' o'' es es' es'' x y = record {
-  bytes = x.bytes ++ y.bytes;
-  told = x.told ++ y.told;
-  made_is = x.made_is ∙ ap (behind x.bytes x.told) y.made_is ∙ behind_both (made u vs);
-  sent_is = appends_both o o' o'' x.bytes y.bytes x.sent_is y.sent_is;
-  events_are = y.events_are ∙ ap (λ v. v ++ y.told) x.events_are ∙ append_assoc es x.told y.told;
-} where
-  behind_both : (m : Made) → behind x.bytes x.told (behind y.bytes y.told m) ≡ behind (x.bytes ++ y.bytes) (x.told ++ y.told) m
-  behind_both m = ap (λ bs. record { state = m.state; shown = bs; events = x.told ++ (y.told ++ m.events) }) (sym (append_assoc x.bytes y.bytes m.shown))
-      ∙ ap (λ vs. record { state = m.state; shown = (x.bytes ++ y.bytes) ++ m.shown; events = vs }) (sym (append_assoc x.told y.told m.events))
+made_more s t u ts us vs o o' o'' es es' es'' x y = grind (arith, appends_both, append_assoc)
 
 pub all_made : (s t : State) (ts : List Turn) (o o' : Option (List ℕ)) (es es' : List Event) → HasMade s ts t [] o o' es es' → IsMade (made s ts) t o o' es es'
 unfolding made
-all_made s t ts o o' es es' h = record {
-  state_is = sym (ap (λ (m : Made). m.state) h.made_is);
-  sent_is = subst (λ bs. Appends o o' bs) (sym (ap (λ (m : Made). m.shown) h.made_is ∙ append-nil h.bytes)) h.sent_is;
-  events_are = h.events_are ∙ ap (λ vs. es ++ vs) (sym (ap (λ (m : Made). m.events) h.made_is ∙ append-nil h.told));
-}
+all_made s t ts o o' es es' h = grind (arith, append-nil)
 
 -- the next move of a list was made
 pub next_made : (moves : List Move) (i : ℕ) (d : Move) (s t u : State) (all : List Turn) (o o' o'' : Option (List ℕ)) (es es' es'' : List Event) → i < length moves → HasMade s all t (map turn_of (drop i moves)) o o' es es'

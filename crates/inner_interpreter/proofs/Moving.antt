@@ -3,10 +3,9 @@ use Rattle.std.proofs.Common.{◌≡◌, ℕ, zero, suc, ◌+◌, ◌-◌, ◌�
 use Rattle.std.proofs.lemmas.List.Sums.{sum_by-cons, sum_by-append}
 use Rattle.machine_parts.specs.Whole.{Whole}
 use Rattle.machine_parts.specs.declared.parts.Request.{Request}
-use Rattle.machine_parts.specs.declared.parts.Request.TheVariants.{Key, Line, Read, Write}
 use Rattle.machine.specs.declared.act.Act.{Act}
 use Rattle.machine.specs.State.{State}
-use Rattle.machine.specs.Tick.{ran, ticked, is_quiet, quiet, running}
+use Rattle.machine.specs.Tick.{ran, ticked, is_quiet, running}
 use Rattle.machine.specs.Answer.{Reply, InputFault, is_answer, asked_by, answered, answer_of}
 use Rattle.inner_interpreter.specs.Moves.{Turn, Tick, Answer, Enter, after, turned, Accepts, AreAccepted, shown_bytes, call_by, device_call, device_calls, turn_bytes, shown_by, IsTurnGiven, AreGiven, Logs, logs, is_tick, is_reply, words_in, ticks_in, answers_in, HasMoved}
 use Rattle.inner_interpreter.specs.Served.{HasActed, HasFaulted}
@@ -22,10 +21,7 @@ use Rattle.machine.proofs.Ran.{ran_quiet, ran_loud}
 
 -- an answer fits only while a request waits
 pub asked_waits : (s : State) (reply : Reply) → is_answer (asked_by s.wait) reply ≡ true → waiting s.wait ≡ 1
-asked_waits s reply h = by_wait s.wait h where
-  by_wait : (o : Option (Request × ℕ)) → is_answer (asked_by o) reply ≡ true → waiting o ≡ 1
-  by_wait None q = cc
-  by_wait (Some p) q = refl
+asked_waits s reply h = grind arith
 
 pub after-append : (ts us : List Turn) (s : State) → after s (ts ++ us) ≡ after (after s ts) us
 unfolding after
@@ -53,13 +49,10 @@ given-append [] us s g h x y = rw x y
 given-append (t ∷ ts) us s g h x y = (x.0, x.1 ++ h, ap (λ v. v ++ h) x.2 ∙ append_assoc x.0 x.1 h, x.3, given-append ts us (turned s t) x.1 h x.4 y)
 
 pub appends_none : (a : Option (List ℕ)) → Appends a a []
-appends_none None = tt
-appends_none (Some xs) = sym (append-nil xs)
+appends_none a = grind (arith, append-nil)
 
 pub kept_appends : (a b : Option (List ℕ)) → Keeps a b → Appends a b []
-kept_appends None b h = tt
-kept_appends (Some xs) None h = absurd h
-kept_appends (Some xs) (Some ys) h = h ∙ sym (append-nil xs)
+kept_appends a b h = grind (arith, append-nil)
 
 unfoldable pub moved_none : (s : State) (c : List DeviceCall) (a b : Option (List ℕ)) (r : List (Option ℕ)) (whole : Bool) → Appends a b [] → HasMoved s s (logs c a r) (logs c b r) whole [] 0
 unfolding after device_calls shown_by AreAccepted AreGiven
@@ -163,11 +156,7 @@ none_sent false (Some xs) (Some ys) h =
 
 -- such an answer comes from no call of the device
 no_call : (r : Option Request) (p : Whole) → call_by r p InputFault ≡ []
-no_call None p = refl
-no_call (Some Key) p = refl
-no_call (Some (Line n)) p = refl
-no_call (Some (Read u)) p = refl
-no_call (Some (Write u)) p = refl
+no_call r p = grind arith
 
 abbrev Silent : State × Act → Type 0
 Silent v = shown_bytes v.0.parts.memory v.1.shown ≡ []
@@ -175,10 +164,7 @@ Silent v = shown_bytes v.0.parts.memory v.1.shown ≡ []
 -- and it shows nothing
 fault_shows : (s : State) → Silent (answer_of s InputFault)
 unfolding answer_of answered shown_bytes
-fault_shows s = by_wait s.wait where
-  by_wait : (o : Option (Request × ℕ)) → Silent (elim o [ Some p ↦ answered s.parts p InputFault | None ↦ (s, quiet) ])
-  by_wait None = refl
-  by_wait (Some p) = refl
+fault_shows s = grind arith
 
 -- the machine learned that the reader failed
 pub moved_faulted : (a b : State) (f g : List DeviceCall) (r r' : List (Option ℕ)) (s : Option (List ℕ)) → HasFaulted a b f g r r' → HasMoved a b (logs f s r) (logs g s r') true [] 0
@@ -199,9 +185,7 @@ record RanSo (n k : ℕ) (p : Whole) (c : List DeviceCall) (s s' : Option (List 
   moved : HasMoved (running p) (ran k n p).1 (logs c s r) (logs c s' r) whole [] ticks
 
 ran_on : (n k : ℕ) (p : Whole) → is_quiet (ticked p).1 ≡ true → ran k (suc n) p ≡ ran (k + 1) n (ticked p).0.parts
-ran_on n k p q =
-    let less : suc n - 1 ≡ n = omega arith in
-    ran_quiet k (suc n) p (omega arith) q ∙ ap (λ i. ran (k + 1) i (ticked p).0.parts) less
+ran_on n k p q = grind (arith, ran_quiet)
 
 by_quiet : (n k : ℕ) (p : Whole) (c : List DeviceCall) (s s' : Option (List ℕ)) (r : List (Option ℕ)) (whole : Bool) → is_quiet (ticked p).1 ≡ true
     → ran k (suc n) p ≡ ran (k + 1) n (ticked p).0.parts → RanSo n (k + 1) (ticked p).0.parts c s s' r whole → RanSo (suc n) k p c s s' r whole
@@ -218,11 +202,7 @@ by_quiet n k p c s s' r whole q same more =
 by_tick : (n k : ℕ) (p : Whole) (c : List DeviceCall) (s s' : Option (List ℕ)) (r : List (Option ℕ)) (whole : Bool) → Sends whole s s' (last_bytes (ran k (suc n) p))
     → (Sends whole s s' (last_bytes (ran (k + 1) n (ticked p).0.parts)) → RanSo n (k + 1) (ticked p).0.parts c s s' r whole)
     → (b : Bool) → is_quiet (ticked p).1 ≡ b → RanSo (suc n) k p c s s' r whole
-by_tick n k p c s s' r whole h more false q =
-    let loud : ran k (suc n) p ≡ (k + 1, (ticked p).0, (ticked p).1) = ran_loud k (suc n) p (omega arith) q in
-    record { ticks = 1; count = ap (λ r. r.0) loud; moved = rw loud (moved_tick p c s s' r whole (subst (λ (r : ℕ × State × Act). Sends whole s s' (last_bytes r)) loud h)) }
-by_tick n k p c s s' r whole h later true q =
-    by_quiet n k p c s s' r whole q (ran_on n k p q) (later (subst (λ (r : ℕ × State × Act). Sends whole s s' (last_bytes r)) (ran_on n k p q) h))
+by_tick n k p c s s' r whole h more b q = grind (arith, ran_loud, moved_tick, by_quiet, ran_on)
 
 ran_so : (n k : ℕ) (p : Whole) (c : List DeviceCall) (s s' : Option (List ℕ)) (r : List (Option ℕ)) (whole : Bool) → Sends whole s s' (last_bytes (ran k n p)) → RanSo n k p c s s' r whole
 unfolding ran shown_bytes
@@ -250,18 +230,12 @@ moved_went_part = moved_sent false
 pub few_answers : (ts : List Turn) (s : State) → AreAccepted s ts → answers_in ts + waiting (after s ts).wait ≤ ticks_in ts + waiting s.wait
 unfolding after AreAccepted
 few_answers [] s h = omega arith
-few_answers (Tick ∷ ts) s h =
-    let rest = few_answers ts (turned s Tick) h.1 in
-    let free : waiting s.wait ≡ 0 = ap waiting h.0.1 in
-    omega (arith, rest, free, one_waits (turned s Tick).wait, sum_by-cons (λ t. if is_tick t then 1 else 0) Tick ts, sum_by-cons (λ t. if is_reply t then 1 else 0) Tick ts)
+few_answers (Tick ∷ ts) s h = omega (arith, one_waits, sum_by-cons, few_answers ts (turned s Tick) h.1)
 few_answers (Answer reply ∷ ts) s h =
     let rest = few_answers ts (turned s (Answer reply)) h.1 in
     let free : waiting (turned s (Answer reply)).wait ≡ 0 = ap waiting (answer_none s reply) in
     omega (arith, rest, free, asked_waits s reply h.0.2, sum_by-cons (λ t. if is_tick t then 1 else 0) (Answer reply) ts, sum_by-cons (λ t. if is_reply t then 1 else 0) (Answer reply) ts)
-few_answers (Enter word ∷ ts) s h =
-    let rest = few_answers ts (turned s (Enter word)) h.1 in
-    let free : waiting s.wait ≡ 0 = ap waiting h.0.1 in
-    omega (arith, rest, free, sum_by-cons (λ t. if is_tick t then 1 else 0) (Enter word) ts, sum_by-cons (λ t. if is_reply t then 1 else 0) (Enter word) ts)
+few_answers (Enter word ∷ ts) s h = grind (arith, sum_by-cons, few_answers ts (turned s (Enter word)) h.1)
 
 -- moves that are no ticks
 pub moved_still : (a b : State) (f g : Logs) (whole : Bool) (left : ℕ) → HasMoved a b f g whole [] 0 → HasMoved a b f g whole [] (left - left)
@@ -269,12 +243,7 @@ moved_still a b f g whole left h = let none : left - left ≡ 0 = omega arith in
 
 -- a writer that was sent nothing more
 unfoldable pub moved_kept : (a b : State) (c d : List DeviceCall) (o o' o'' : Option (List ℕ)) (r r' : List (Option ℕ)) (words : List ℕ) (ticks : ℕ) → Keeps o' o'' → HasMoved a b (logs c o r) (logs d o' r') true words ticks → HasMoved a b (logs c o r) (logs d o'' r') true words ticks
-moved_kept a b c d o o' o'' r r' words ticks k h = record { turns = h.turns; accepted = h.accepted; state_is = h.state_is; calls_are = h.calls_are; front = h.front; back = h.back; shown_is = h.shown_is; sent_is = appends_kept o o' o'' h.front h.sent_is k; all_sent = h.all_sent; given = h.given; reads_are = h.reads_are; are_given = h.are_given; words_are = h.words_are; ticks_are = h.ticks_are } where
-  appends_kept : (x y z : Option (List ℕ)) (bs : List ℕ) → Appends x y bs → Keeps y z → Appends x z bs
-  appends_kept None y z bs h k = tt
-  appends_kept (Some xs) None z bs h k = absurd h
-  appends_kept (Some xs) (Some ys) None bs h k = absurd k
-  appends_kept (Some xs) (Some ys) (Some zs) bs h k = k ∙ h
+moved_kept a b c d o o' o'' r r' words ticks k h = grind arith
 
 pub moved_first : (a b : State) (c d : List DeviceCall) (o o' o'' : Option (List ℕ)) (r r' : List (Option ℕ)) (whole : Bool) (words : List ℕ) (ticks : ℕ) → Keeps o o' → HasMoved a b (logs c o' r) (logs d o'' r') whole words ticks → HasMoved a b (logs c o r) (logs d o'' r') whole words ticks
 moved_first a b c d o o' o'' r r' whole words ticks k h = record { turns = h.turns; accepted = h.accepted; state_is = h.state_is; calls_are = h.calls_are; front = h.front; back = h.back; shown_is = h.shown_is; sent_is = appends_both o o' o'' [] h.front (kept_appends o o' k) h.sent_is; all_sent = h.all_sent; given = h.given; reads_are = h.reads_are; are_given = h.are_given; words_are = h.words_are; ticks_are = h.ticks_are }

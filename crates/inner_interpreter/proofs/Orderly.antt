@@ -1,5 +1,5 @@
 -- The buffers of a machine stay in order.
-use Rattle.std.proofs.Common.{◌≡◌, ℕ, ◌==◌, ◌∷◌, length, nat_lt, Option, Some, None, true, false, refl, ap, sym, subst, ◌∙◌}
+use Rattle.std.proofs.Common.{rules, arith, ◌≡◌, ℕ, ◌==◌, ◌∷◌, length, nat_lt, Option, Some, None, true, false, refl, ap, sym, subst, ◌∙◌}
 use Rattle.block_buffers.specs.Entries.{holds}
 use Rattle.block_buffers.proofs.Kept.{are_started, are_assigned, are_unmarked}
 use Rattle.block_buffers.proofs.Blocks.{blocks_started, blocks_assigned, blocks_unmarked}
@@ -53,14 +53,7 @@ unfolding concluded
 concluded_orderly w (s, Done) h a k f = unasked s None h
 concluded_orderly w (s, Show span) h a k f = unasked s None h
 concluded_orderly w (s, ByteOut c) h a k f = unasked s None h
-concluded_orderly w (s, AskOut r) h a k f = record {
-  buffers = h.buffers;
-  once = h.once;
-  absent = λ u v q. a u (ap (λ (o : Option (Request × ℕ)). AskOut (elim o [ Some p ↦ p.0 | None ↦ r ])) q);
-  held = λ u v q. k u (ap (λ (o : Option (Request × ℕ)). AskOut (elim o [ Some p ↦ p.0 | None ↦ r ])) q);
-  room = λ v q. subst (λ (i : Request). AsksFitly (s, AskOut i)) (same_request (r, w) (request.Key, v) q) f;
-  two = λ n v q. subst (λ (i : Request). AsksFitly (s, AskOut i)) (same_request (r, w) (request.Line n, v) q) f;
-}
+concluded_orderly w (s, AskOut r) h a k f = grind (arith, same_request)
 concluded_orderly w (s, FaultOut n) h a k f = faulted_orderly s Nothing n h
 concluded_orderly w (s, Abort span) h a k f = faulted_orderly s (shown_span span) 17 h
 concluded_orderly w (s, HaltOut) h a k f = unasked s (Some Bye) h
@@ -72,9 +65,7 @@ thread_orderly c w s h = by_room P s _ _ h (by_room_r P s _ _ h h) where
 
 executed_orderly : (w : ℕ) (s : Whole) → AreOrderly s.buffers → AreOrderly (executed w s).0.buffers
 unfolding executed
-executed_orderly w s h =
-    let c : ℕ = cell s.memory w
-    in by_if (λ x. AreOrderly x.0.buffers) (nat_lt c 256) _ _ ((behaves_row c w s).keeps h) (thread_orderly c w s h)
+executed_orderly w s h = search (rules, by_if, behaves_row, thread_orderly)
 
 thread_absent : (c w : ℕ) (s : Whole) → ReadsAbsent (thread c w s)
 thread_absent c w s = by_room ReadsAbsent s _ _ (λ u q. cc) (by_room_r ReadsAbsent s _ _ (λ u q. cc) (λ u q. cc))
@@ -84,9 +75,7 @@ row_absent c w s u q = absent_read c w s (row c w s).0 u (ap (λ (o : Outcome). 
 
 executed_absent : (w : ℕ) (s : Whole) → ReadsAbsent (executed w s)
 unfolding executed
-executed_absent w s =
-    let c : ℕ = cell s.memory w
-    in by_if ReadsAbsent (nat_lt c 256) _ _ (row_absent c w s) (thread_absent c w s)
+executed_absent w s = search (rules, by_if, row_absent, thread_absent)
 
 thread_held : (c w : ℕ) (s : Whole) → WritesHeld (thread c w s)
 thread_held c w s = by_room WritesHeld s _ _ (λ u q. cc) (by_room_r WritesHeld s _ _ (λ u q. cc) (λ u q. cc))
@@ -96,28 +85,21 @@ row_held c w s h u q = held_write c w s (row c w s).0 u h (ap (λ (o : Outcome).
 
 executed_held : (w : ℕ) (s : Whole) → AreOrderly s.buffers → WritesHeld (executed w s)
 unfolding executed
-executed_held w s h =
-    let c : ℕ = cell s.memory w
-    in by_if WritesHeld (nat_lt c 256) _ _ (row_held c w s h) (thread_held c w s)
+executed_held w s h = search (rules, by_if, row_held, thread_held)
 
 thread_fitly : (c w : ℕ) (s : Whole) → AsksFitly (thread c w s)
 thread_fitly c w s = by_room AsksFitly s _ _ tt (by_room_r AsksFitly s _ _ tt tt)
 
 executed_fitly : (w : ℕ) (s : Whole) → AsksFitly (executed w s)
 unfolding executed
-executed_fitly w s =
-    let c : ℕ = cell s.memory w
-    in by_if AsksFitly (nat_lt c 256) _ _ (behaves_row c w s).fitly (thread_fitly c w s)
+executed_fitly w s = search (rules, by_if, behaves_row, thread_fitly)
 
 taken_orderly : (s : Whole) → AreOrderly s.buffers → AreOrderly (taken s).1.buffers
 taken_orderly s h = subst AreOrderly (sym (is_taken s).buffers) h
 
 ticked_orderly : (s : Whole) → AreOrderly s.buffers → IsOrderly (ticked s).0
 unfolding ticked
-ticked_orderly s h =
-    concluded_orderly (taken s).0 (executed (taken s).0 (taken s).1)
-    (executed_orderly (taken s).0 (taken s).1 (taken_orderly s h)) (executed_absent (taken s).0 (taken s).1)
-    (executed_held (taken s).0 (taken s).1 (taken_orderly s h)) (executed_fitly (taken s).0 (taken s).1)
+ticked_orderly s h = search (rules, concluded_orderly, executed_orderly, taken_orderly, executed_absent, executed_held, executed_fitly)
 
 answered_orderly : (s : Whole) (p : Request × ℕ) (reply : Reply) → AreOrderly s.buffers → ((u w : ℕ) → Some p ≡ Some (request.Read u, w) → holds s.buffers u ≡ false) → fits_request p.0 reply ≡ true → IsOrderly (answered s p reply).0
 unfolding answered key_answered line_answered read_answered write_answered
@@ -145,14 +127,7 @@ answer_orderly s reply f h =
 pub moved_orderly : (s : State) (t : Turn) → Accepts s t → IsOrderly s → IsOrderly (turned s t)
 moved_orderly s Tick a h = ticked_orderly s.parts (record { buffers = h.buffers; once = h.once })
 moved_orderly s (Answer reply) a h = answer_orderly s reply a.2 h
-moved_orderly s (Enter word) a h = record {
-  buffers = h.buffers;
-  once = h.once;
-  absent = h.absent;
-  held = h.held;
-  room = h.room;
-  two = h.two;
-}
+moved_orderly s (Enter word) a h = grind arith
 
 pub start_orderly : (image : Contents) (block_count : ℕ) → IsImage image → IsOrderly (start image block_count)
 start_orderly image block_count h = unasked _ None (record { buffers = are_started image.buffers h.buffers; once = blocks_started image.buffers })

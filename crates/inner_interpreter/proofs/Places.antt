@@ -1,14 +1,13 @@
 -- Rounds do the same wherever memory lies, and leave it there.
-use Rattle.std.proofs.Common.{◌≡◌, ◌∙◌, ℕ, zero, suc, ◌-◌, List, [], ◌∷◌, ◌++◌, Option, Some, None, refl, ap}
+use Rattle.std.proofs.Common.{rules, ◌≡◌, ◌∙◌, ℕ, zero, suc, List, [], ◌∷◌, Option, Some, None, refl, ap}
 use Rattle.block_buffers.specs.Disks.{Disk}
 use Rattle.machine_parts.specs.declared.parts.Request.{Request}
-use Rattle.machine_parts.specs.declared.parts.Request.TheVariants as request
 use Rattle.machine.specs.State.{State, state_at}
 use Rattle.machine.specs.Answer.{Reply, asked_by}
 use Rattle.machine.proofs.Places.{ticked_at, ticked_stays, answer_at, answer_stays}
 use Rattle.inner_interpreter.specs.declared.stop.Stop.{Stop}
-use Rattle.inner_interpreter.specs.Moves.{Move, move_of, tick_move, answer_move, Turn, Tick, Answer, Enter, turned, after}
-use Rattle.inner_interpreter.specs.Runs.{World, Served, served, round, round_by, stops, next_by, rounds}
+use Rattle.inner_interpreter.specs.Moves.{Move, move_of, tick_move, answer_move, Turn, turned, after}
+use Rattle.inner_interpreter.specs.Runs.{World, served, round, round_by, stops, next_by, rounds}
 
 -- the same world with memory at another place
 abbrev pub world_at : Option ℕ → World → World
@@ -25,21 +24,10 @@ pub answer_move_at : (p : Option ℕ) (s : State) (reply : Reply) → answer_mov
 answer_move_at p s reply = ap move_of (answer_at p s reply)
 
 pub served_at : (p : Option ℕ) (s : State) (r : Request) (typed : List ℕ) (disk : Disk) → served (state_at p s) r typed disk ≡ served s r typed disk
-served_at p s request.Key typed disk = refl
-served_at p s (request.Line n) typed disk = refl
-served_at p s (request.Read u) typed disk = refl
-served_at p s (request.Write u) typed disk = refl
+served_at p s r typed disk = cc
 
 round_by_at : (p : Option ℕ) (w : World) (asked : Option Request) → round_by (world_at p w) asked ≡ world_at p (round_by w asked)
-round_by_at p w None =
-    ap (λ (m : Move). the_world w.typed w.disk w.left m) (tick_move_at p w.state) where
-      the_world : List ℕ → Disk → ℕ → Move → World
-      the_world typed disk left m = record { state = m.state; typed = typed; disk = disk; shown = w.shown ++ m.bytes; left = left - 1 }
-round_by_at p w (Some r) =
-    ap (λ (s : Served). the_world s (answer_move (state_at p w.state) s.reply)) (served_at p w.state r w.typed w.disk)
-    ∙ ap (λ (m : Move). the_world (served w.state r w.typed w.disk) m) (answer_move_at p w.state (served w.state r w.typed w.disk).reply) where
-      the_world : Served → Move → World
-      the_world s m = record { state = m.state; typed = s.typed; disk = s.disk; shown = w.shown ++ m.bytes; left = w.left }
+round_by_at p w asked = search (rules, tick_move_at, served_at, answer_move_at)
 
 pub round_at : (p : Option ℕ) (w : World) → round (world_at p w) ≡ world_at p (round w)
 unfolding round
@@ -59,9 +47,7 @@ pub rounds_stay : (n : ℕ) (w : World) → (rounds n w).state.parts.place ≡ w
 rounds_stay n w = ap (λ (v : World). v.state.parts.place) (rounds_at w.state.parts.place n w)
 
 turned_stays : (s : State) (t : Turn) → (turned s t).parts.place ≡ s.parts.place
-turned_stays s Tick = ticked_stays s.parts
-turned_stays s (Answer reply) = answer_stays s reply
-turned_stays s (Enter word) = refl
+turned_stays s t = search (rules, ticked_stays, answer_stays)
 
 pub after_stays : (s : State) (turns : List Turn) → (after s turns).parts.place ≡ s.parts.place
 unfolding after

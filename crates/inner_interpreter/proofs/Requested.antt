@@ -1,5 +1,5 @@
 -- How many requests of the device a token makes, each answered Ok.
-use Rattle.std.proofs.Common.{◌≡◌, ℕ, ◌+◌, ◌<◌, ◌≤◌, ◌==◌, List, [], ◌∷◌, length, nat_lt, Option, Some, None, Bool, true, false, refl, arith, ap, sym, subst, ◌∙◌, if◌then◌else◌}
+use Rattle.std.proofs.Common.{◌≡◌, ℕ, ◌+◌, ◌<◌, ◌≤◌, ◌==◌, List, [], ◌∷◌, length, Option, Some, None, true, false, refl, arith, ap, sym, subst, ◌∙◌}
 use Rattle.std.specs.Prelude.{All}
 use Rattle.std.proofs.lemmas.List.Elements.{All-head, All-tail}
 use Rattle.block_buffers.specs.declared.entry.Entry.{Entry}
@@ -14,7 +14,7 @@ use Rattle.memory.proofs.Pages.{cell_below, length-with_page}
 use Rattle.machine_parts.specs.Whole.{Whole}
 use Rattle.machine_parts.specs.Row.{After}
 use Rattle.machine_parts.specs.declared.parts.Outcome.{Outcome}
-use Rattle.machine_parts.specs.declared.parts.Outcome.TheVariants.{Done, Show, Byte as ByteOut, Ask as AskOut, Fault as FaultOut, Abort, Halt as HaltOut}
+use Rattle.machine_parts.specs.declared.parts.Outcome.TheVariants.{Ask as AskOut}
 use Rattle.machine_parts.specs.declared.parts.Request.{Request}
 use Rattle.machine_parts.specs.declared.parts.Request.TheVariants as request
 use Rattle.machine_parts.proofs.Shapes.{by_room, by_room_r}
@@ -48,32 +48,14 @@ fault_asks_none s shown f = either (λ t. asks_device (asked_by t.wait) ≡ fals
 
 concluded_asks : (w : ℕ) (x : After) → asks_device (asked_by (concluded w x).0.wait) ≡ true → device_asked x.1 ≡ true
 unfolding concluded
-concluded_asks w (s, Done) q = cc
-concluded_asks w (s, Show span) q = cc
-concluded_asks w (s, ByteOut c) q = cc
-concluded_asks w (s, AskOut request.Key) q = cc
-concluded_asks w (s, AskOut (request.Line n)) q = cc
-concluded_asks w (s, AskOut (request.Read u)) q = refl
-concluded_asks w (s, AskOut (request.Write u)) q = refl
-concluded_asks w (s, FaultOut f) q = cc (fault_asks_none s (concluded w (s, Done)).1.shown f)
-concluded_asks w (s, Abort span) q = cc (fault_asks_none s (concluded w (s, Show span)).1.shown 17)
-concluded_asks w (s, HaltOut) q = cc
+concluded_asks w x q = grind (arith, fault_asks_none)
 
 abbrev ok_state : State → List ℕ → State
 ok_state t page = turned t (Answer (ok_to (asked_by t.wait) page))
 
 concluded_behind : (w : ℕ) (x : After) (page : List ℕ) → device_asked x.1 ≡ true → ok_state (concluded w x).0 page ≡ running (behind w x page)
 unfolding concluded answer_of answered read_answered write_answered
-concluded_behind w (s, Done) page q = cc
-concluded_behind w (s, Show span) page q = cc
-concluded_behind w (s, ByteOut c) page q = cc
-concluded_behind w (s, AskOut request.Key) page q = cc
-concluded_behind w (s, AskOut (request.Line n)) page q = cc
-concluded_behind w (s, AskOut (request.Read u)) page q = refl
-concluded_behind w (s, AskOut (request.Write u)) page q = refl
-concluded_behind w (s, FaultOut f) page q = cc
-concluded_behind w (s, Abort span) page q = cc
-concluded_behind w (s, HaltOut) page q = cc
+concluded_behind w x page q = grind arith
 
 thread_asks_none : (c w : ℕ) (s : Whole) → device_asked (thread c w s).1 ≡ false
 thread_asks_none c w s = by_room P s _ _ refl (by_room_r P s _ _ refl refl) where
@@ -82,22 +64,10 @@ thread_asks_none c w s = by_room P s _ _ refl (by_room_r P s _ _ refl refl) wher
 
 executed_row : (w : ℕ) (s : Whole) → device_asked (executed w s).1 ≡ true → executed w s ≡ row (cell s.memory w) w s
 unfolding executed
-executed_row w s q = by_code (nat_lt (cell s.memory w) 256) q where
-  either : Bool → After
-  either b = if b then row (cell s.memory w) w s else thread (cell s.memory w) w s
-
-  by_code : (b : Bool) → device_asked (either b).1 ≡ true → either b ≡ row (cell s.memory w) w s
-  by_code true k = refl
-  by_code false k = let no : device_asked (thread (cell s.memory w) w s).1 ≡ false = thread_asks_none (cell s.memory w) w s in cc
+executed_row w s q = grind (arith, either, device_asked, thread_asks_none)
 
 kept : (s : Whole) (x : After) → device_asked x.1 ≡ true → StopsKeeping s x → Keeps s x.0
-kept s (t, Done) q h = cc
-kept s (t, Show span) q h = cc
-kept s (t, ByteOut c) q h = cc
-kept s (t, AskOut r) q h = h
-kept s (t, FaultOut f) q h = cc
-kept s (t, Abort span) q h = cc
-kept s (t, HaltOut) q h = cc
+kept s x q h = grind arith
 
 victim_within : (b : List Entry) → AreBuffers b → address_of b (victim b).slot ≤ 64512
 victim_within b h = omega (arith, limit_is (length b) h.count, victim_small b h)
@@ -110,16 +80,7 @@ limit_referenced : (old new : List Entry) → IsReordered old new → limit new 
 limit_referenced old new (slots, e) = ap (λ es. limit es) e ∙ ap limit_of (length-references slots old)
 
 limit_answered : (o : Outcome) (b : List Entry) → AreBuffers b → limit (buffers_answered o b) ≡ limit b
-limit_answered Done b h = refl
-limit_answered (Show span) b h = refl
-limit_answered (ByteOut c) b h = refl
-limit_answered (AskOut request.Key) b h = refl
-limit_answered (AskOut (request.Line n)) b h = refl
-limit_answered (AskOut (request.Read u)) b h = ap limit_of (length-assigned u b h)
-limit_answered (AskOut (request.Write u)) b h = ap limit_of (length-unmarked u b)
-limit_answered (FaultOut f) b h = refl
-limit_answered (Abort span) b h = refl
-limit_answered HaltOut b h = refl
+limit_answered o b h = grind (arith, length-assigned, length-unmarked)
 
 -- memory keeps its size, and below the buffers its cells
 record IsKept (end : ℕ) (old new : List ℕ) : Type 0 where
@@ -127,19 +88,7 @@ record IsKept (end : ℕ) (old new : List ℕ) : Type 0 where
   cells : (a : ℕ) → a + 2 ≤ end → cell new a ≡ cell old a
 
 memory_kept : (o : Outcome) (t : Whole) (page : List ℕ) → length t.memory ≡ 65536 → AreBuffers t.buffers → length page ≡ 1024 → IsKept (limit t.buffers) t.memory (memory_behind o t page)
-memory_kept Done t page l h k = record { size = l; cells = λ a b. refl }
-memory_kept (Show span) t page l h k = record { size = l; cells = λ a b. refl }
-memory_kept (ByteOut c) t page l h k = record { size = l; cells = λ a b. refl }
-memory_kept (AskOut request.Key) t page l h k = record { size = l; cells = λ a b. refl }
-memory_kept (AskOut (request.Line n)) t page l h k = record { size = l; cells = λ a b. refl }
-memory_kept (AskOut (request.Read u)) t page l h k = record {
-  size = length-with_page t.memory page (address_of t.buffers (victim t.buffers).slot) l (victim_within t.buffers h) k;
-  cells = λ a b. cell_below t.memory page (address_of t.buffers (victim t.buffers).slot) a l (victim_within t.buffers h) (victim_above t.buffers a b);
-}
-memory_kept (AskOut (request.Write u)) t page l h k = record { size = l; cells = λ a b. refl }
-memory_kept (FaultOut f) t page l h k = record { size = l; cells = λ a b. refl }
-memory_kept (Abort span) t page l h k = record { size = l; cells = λ a b. refl }
-memory_kept HaltOut t page l h k = record { size = l; cells = λ a b. refl }
+memory_kept o t page l h k = grind (arith, length-with_page, victim_within, cell_below, victim_above)
 
 -- after an Ok: the row may make fewer requests, and the token means the same
 record IsNearer (n w : ℕ) (s t : Whole) : Type 0 where
@@ -171,28 +120,14 @@ nearer_token n w s page h l code below k asks =
     in subst P (sym same) (nearer n w s page h l code below k (subst (λ (x : After). device_asked x.1 ≡ true) same asks))
 
 ok_fits : (r : Option Request) (page : List ℕ) → asks_device r ≡ true → is_answer r (ok_to r page) ≡ true
-ok_fits None page q = cc
-ok_fits (Some request.Key) page q = cc
-ok_fits (Some (request.Line n)) page q = cc
-ok_fits (Some (request.Read u)) page q = refl
-ok_fits (Some (request.Write u)) page q = refl
+ok_fits r page q = grind arith
 
 ok_spelled : (r : Option Request) (page : List ℕ) → IsPage page → IsSpelled (ok_to r page)
-ok_spelled None page h = h
-ok_spelled (Some request.Key) page h = h
-ok_spelled (Some (request.Line n)) page h = h
-ok_spelled (Some (request.Read u)) page h = h
-ok_spelled (Some (request.Write u)) page h = tt
+ok_spelled r page h = grind arith
 
 concluded_goes : (w : ℕ) (x : After) → device_asked x.1 ≡ true → (concluded w x).0.halt ≡ None
 unfolding concluded
-concluded_goes w (s, Done) q = cc
-concluded_goes w (s, Show span) q = cc
-concluded_goes w (s, ByteOut c) q = cc
-concluded_goes w (s, AskOut r) q = refl
-concluded_goes w (s, FaultOut f) q = cc
-concluded_goes w (s, Abort span) q = cc
-concluded_goes w (s, HaltOut) q = cc
+concluded_goes w x q = grind arith
 
 most : (pages : List (List ℕ)) (s : State) (n w : ℕ) → IsOrderly s → Runs s → length s.parts.memory ≡ 65536 → token_of s ≡ w → cell s.parts.memory w ≡ n → w + 2 ≤ limit s.parts.buffers → All IsPage pages → AreAsked s pages → length pages ≤ left n s.parts
 unfolding AreAsked ticked taken

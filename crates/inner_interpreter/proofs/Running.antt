@@ -1,5 +1,5 @@
 -- Rounds of a run, by what its ends say.
-use Rattle.std.proofs.Common.{◌≡◌, ◌⊎◌, ℕ, suc, ◌+◌, ◌-◌, ◌<◌, ◌≤◌, true, List, [], ◌++◌, Option, None, Some, refl, sym, ap, ◌∙◌, inl, inr, subst, arith, Result, Ok, Err, OnOk, is_none, if◌then◌else◌}
+use Rattle.std.proofs.Common.{◌≡◌, ◌⊎◌, ℕ, suc, ◌+◌, ◌-◌, ◌<◌, ◌≤◌, true, List, [], ◌++◌, Option, None, Some, refl, sym, ap, ◌∙◌, inl, inr, subst, arith, Result, OnOk}
 use Rattle.std.specs.Prelude.{IsSome}
 use Rattle.std.specs.Io.KnownBytes.{Appends, Keeps}
 use Rattle.block_buffers.specs.Disks.{Disk}
@@ -7,12 +7,11 @@ use Rattle.machine_parts.specs.declared.parts.Request.{Request}
 use Rattle.machine.specs.declared.act.Act.{Act}
 use Rattle.machine.specs.State.{State}
 use Rattle.machine_parts.specs.Whole.{Whole}
-use Rattle.inner_interpreter.specs.declared.stop.Stop.{Stop}
 use Rattle.machine.specs.declared.extent.Extent.{Extent}
 use Rattle.machine.specs.Tick.{ran, running, ticked}
 use Rattle.machine.specs.Met.{AreUnmet}
-use Rattle.inner_interpreter.specs.Tracing.{Reached, ReachedCut, line_next, traced_line, trace}
-use Rattle.machine.specs.Answer.{answer_of, asked_by, is_answer, InputFault}
+use Rattle.inner_interpreter.specs.Tracing.{Reached, ReachedCut, traced_line, trace}
+use Rattle.machine.specs.Answer.{asked_by, is_answer, InputFault}
 use Rattle.inner_interpreter.specs.Lines.{IsLeft}
 use Rattle.inner_interpreter.specs.Moves.{shown_bytes}
 use Rattle.inner_interpreter.specs.Served.{Answered, served_move, Faults}
@@ -20,11 +19,10 @@ use Rattle.inner_interpreter.specs.Sent.{AppendsPart}
 use Rattle.inner_interpreter.specs.Runs.{World, round, round_by, rounds, stops, answer_round, served}
 use Rattle.inner_interpreter.specs.Worlds.{IsAt, IsBrokenOff, IsCut, IsFaulted, IsHeldUp, stretch}
 use Rattle.inner_interpreter.proofs.Sending.{SentPart, part_of}
-use Rattle.inner_interpreter.proofs.Stretched.{one_round, rounds_add, runs_on, stretched, behind, adds_line, adds_one, silent_before}
+use Rattle.inner_interpreter.proofs.Stretched.{one_round, rounds_add, stretched, behind, adds_line, adds_one, silent_before}
 
 pub asked_none : (wait : Option (Request × ℕ)) → asked_by wait ≡ None → wait ≡ None
-asked_none None e = refl
-asked_none (Some p) e = absurd (cc)
+asked_none wait e = grind arith
 
 pub runs_running : (s : State) → s.halt ≡ None → s.wait ≡ None → s ≡ running s.parts
 runs_running s h w = rw (h, w) refl
@@ -35,14 +33,10 @@ round_answer w r e = ap (round_by w) e
 
 -- reported bytes after bytes were appended
 sent_more : (old new : Option (List ℕ)) (xs bs : List ℕ) → old ≡ Some xs → Appends old new bs → new ≡ Some (xs ++ bs)
-sent_more None new xs bs e h = absurd (cc)
-sent_more (Some os) None xs bs e h = absurd h
-sent_more (Some os) (Some ns) xs bs e h = let same : os ≡ xs = cc in ap (λ v. Some v) (h ∙ ap (λ v. v ++ bs) same)
+sent_more old new xs bs e h = grind arith
 
 sent_kept : (old new : Option (List ℕ)) (xs : List ℕ) → old ≡ Some xs → Keeps old new → new ≡ Some xs
-sent_kept None new xs e h = absurd (cc)
-sent_kept (Some os) None xs e h = absurd h
-sent_kept (Some os) (Some ns) xs e h = ap (λ v. Some v) h ∙ e
+sent_kept old new xs e h = grind arith
 
 pub stretch_at : (e : Extent) (w : World) (s s' : State) (unread : Option (List ℕ)) (disk : Option Disk) (sent sent' : Option (List ℕ)) (left left' m : ℕ)
     → s.halt ≡ None → s.wait ≡ None → s' ≡ (stretch m s).1 → (stretch m s).0 ≡ m → 0 < m → m ≤ left → left' ≡ left - m → AreUnmet e (m - 1) (ticked s.parts).0.parts
@@ -120,8 +114,7 @@ Tells s r unread disk s' unread' disk' P =
 
 goes_at : (w : World) (s : State) (unread : Option (List ℕ)) (disk : Option Disk) (sent : Option (List ℕ)) (left : ℕ)
     → s.halt ≡ None → 0 < left → IsAt w s unread disk sent left → rounds 1 w ≡ round w
-goes_at w s unread disk sent left halt some at =
-    one_round w (ap (λ (v : State). v.halt) (sym at.state_is) ∙ halt) (omega (arith, at.left_is))
+goes_at w s unread disk sent left halt some at = grind (arith, one_round)
 
 pub answer_at : (e : Extent) (w : World) (s s' : State) (r : Request) (unread unread' : Option (List ℕ)) (disk disk' : Option Disk) (sent sent' : Option (List ℕ)) (left : ℕ)
     → s.halt ≡ None → 0 < left → asked_by s.wait ≡ Some r → Tells s r unread disk s' unread' disk' (Appends sent sent') → IsAt w s unread disk sent left → Reached e w s' unread' disk' sent' left
@@ -169,12 +162,7 @@ answer_cut e w s s' r unread unread' disk disk' sent sent' left halt some asks t
 pub kept_cut : (n : ℕ) (w : World) (s : State) (unread : Option (List ℕ)) (disk : Option Disk) (sent sent' : Option (List ℕ)) (left : ℕ)
     → Keeps sent sent' → (is_answer (asked_by (rounds n w).state.wait) InputFault ≡ true) ⊎ IsSome (stops (rounds n w)) → IsAt (rounds n w) s unread disk sent left
     → IsCut n w s unread disk sent'
-kept_cut n w s unread disk sent sent' left k due at = record {
-  state_is = at.state_is;
-  unread_is = at.unread_is;
-  disk_is = at.disk_is;
-  sent_is = inr (record { sent_is = sent_kept sent sent' (rounds n w).shown at.sent_is k; due = due });
-}
+kept_cut n w s unread disk sent sent' left k due at = grind arith
 
 -- some rounds after others are rounds of the whole run
 pub cut_behind : (n k : ℕ) (w : World) (s : State) (unread : Option (List ℕ)) (disk : Option Disk) (sent : Option (List ℕ))
@@ -208,43 +196,22 @@ cut_behind n k w s unread disk sent c = record {
 -- nothing is traced while a request waits
 line_asked : (e : Extent) (line : Whole → List ℕ) (w : World) (r : Request) → asked_by w.state.wait ≡ Some r → traced_line e line w ≡ []
 unfolding traced_line
-line_asked e line w r q = by_stop (stops w) where
-  by_stop : (o : Option Stop) → (if is_none o then line_next e line w.state else []) ≡ []
-  by_stop None = rw q refl
-  by_stop (Some t) = refl
+line_asked e line w r q = grind arith
 
 -- no round was made, and the writer failed in passing on
 pub flush_cut : (e : Extent) (w : World) (s : State) (unread : Option (List ℕ)) (disk : Option Disk) (sent sent' : Option (List ℕ)) (left : ℕ)
     → (r : Request) → asked_by s.wait ≡ Some r → is_answer (Some r) InputFault ≡ true → Keeps sent sent' → IsAt w s unread disk sent left → ReachedCut e w s unread disk sent'
 unfolding rounds trace
-flush_cut e w s unread disk sent sent' left r asks typed k at =
-    let q : asked_by w.state.wait ≡ Some r = ap (λ (v : State). asked_by v.wait) (sym at.state_is) ∙ asks in
-    (0, (λ line. sym (line_asked e line w r q)), kept_cut 0 w s unread disk sent sent' left k (inl (ap (λ o. is_answer o InputFault) q ∙ typed)) at)
+flush_cut e w s unread disk sent sent' left r asks typed k at = grind (arith, line_asked, kept_cut)
 
 pub kept_at : (w : World) (s : State) (unread : Option (List ℕ)) (disk : Option Disk) (sent sent' : Option (List ℕ)) (left : ℕ)
     → Keeps sent sent' → IsAt w s unread disk sent left → IsAt w s unread disk sent' left
-kept_at w s unread disk sent sent' left k at = record {
-  state_is = at.state_is;
-  unread_is = at.unread_is;
-  disk_is = at.disk_is;
-  sent_is = sent_kept sent sent' w.shown at.sent_is k;
-  left_is = at.left_is;
-}
+kept_at w s unread disk sent sent' left k at = grind arith
 
 pub faulted_at : (w : World) (s s' : State) (r : Request) (unread unread' : Option (List ℕ)) (disk disk' : Option Disk) (sent sent' : Option (List ℕ)) (left : ℕ)
     → s.halt ≡ None → 0 < left → asked_by s.wait ≡ Some r → ((typed : List ℕ) → unread ≡ Some typed → IsLeft (Some r) typed unread')
     → Faults s s' → disk' ≡ disk → sent' ≡ sent → IsAt w s unread disk sent left → IsFaulted w s' unread' disk' sent'
-faulted_at w s s' r unread unread' disk disk' sent sent' left halt some asks lost f d t at = record {
-  unread_is =
-      let q : asked_by w.state.wait ≡ Some r = ap (λ (v : State). asked_by v.wait) (sym at.state_is) ∙ asks in
-      subst (λ o. IsLeft o w.typed unread') (sym q) (lost w.typed at.unread_is);
-  goes = runs_on w (ap (λ (v : State). v.halt) (sym at.state_is) ∙ halt) (omega (arith, at.left_is));
-  asked = ap (λ (v : State). is_answer (asked_by v.wait) InputFault) (sym at.state_is) ∙ f.asked;
-  state_is = f.state_is ∙ ap (λ v. (answer_of v InputFault).0) at.state_is;
-  disk_is = d ∙ at.disk_is;
-  sent_is = t ∙ at.sent_is;
-}
+faulted_at w s s' r unread unread' disk disk' sent sent' left halt some asks lost f d t at = grind arith
 
 pub on_ok_then : {T E : Type 0} (r : Result T E) (P Q : Type 0) → (P → Q) → OnOk r P → OnOk r Q
-on_ok_then (Ok x) P Q f h = f h
-on_ok_then (Err e) P Q f h = tt
+on_ok_then r P Q f h = grind arith

@@ -2,11 +2,10 @@
 use Rattle.std.proofs.Common.{◌≡◌, ℕ, zero, suc, ◌+◌, ◌-◌, ◌≤◌, ◌<◌, Option, None, Some, refl, sym, ap, ◌∙◌, arith}
 use Rattle.machine_parts.specs.declared.parts.Request.{Request}
 use Rattle.machine.specs.declared.act.Cause.{Cause}
-use Rattle.machine.specs.declared.act.Cause.TheVariants.{Bye, InputEnded, InputFault, Fault}
 use Rattle.machine.specs.Answer.{asked_by}
 use Rattle.inner_interpreter.specs.declared.stop.Stop.{Stop}
 use Rattle.inner_interpreter.specs.declared.stop.Stop.TheVariants.{Limit}
-use Rattle.inner_interpreter.specs.Runs.{World, round, round_by, rounds, stop_by, stop_of, stops, next_by}
+use Rattle.inner_interpreter.specs.Runs.{World, round, round_by, rounds, stop_by, stops, next_by}
 use Rattle.inner_interpreter.specs.Slices.{with_left}
 
 -- k ticks more are left
@@ -14,24 +13,17 @@ abbrev pub more : ℕ → World → World
 more k w = with_left (w.left + k) w
 
 by_request : (k : ℕ) (v : World) (o : Option Request) → 0 < v.left → round_by (more k v) o ≡ more k (round_by v o)
-by_request k v None some =
-    let left : v.left + k - 1 ≡ v.left - 1 + k = omega (arith, some) in
-    ap (λ l. with_left l (round_by v None)) left
-by_request k v (Some r) some = refl
+by_request k v o some = grind arith
 
 round_more : (k : ℕ) (v : World) → 0 < v.left → round (more k v) ≡ more k (round v)
 unfolding round
 round_more k v some = by_request k v (asked_by v.state.wait) some
 
 goes_more : (k : ℕ) (c : Option Cause) (left : ℕ) → stop_by c left ≡ None → stop_by c (left + k) ≡ None
-goes_more k (Some c) left q = absurd (cc)
-goes_more k None zero q = absurd (cc)
-goes_more k None (suc n) q = let e : suc n + k ≡ suc (n + k) = omega arith in ap (stop_by None) e
+goes_more k c left q = grind arith
 
 some_left : (c : Option Cause) (left : ℕ) → stop_by c left ≡ None → 0 < left
-some_left (Some c) left q = absurd (cc)
-some_left None zero q = absurd (cc)
-some_left None (suc n) q = omega arith
+some_left c left q = grind arith
 
 -- with k ticks more some rounds lead to the same, with k ticks more
 abbrev Leads : ℕ → World → World → Type 0
@@ -50,14 +42,7 @@ leads zero k w = (0, refl)
 leads (suc n) k w = next_leads k w (rounds n w) (stops (rounds n w)) refl (leads n k w)
 
 limit_left : (c : Option Cause) (left : ℕ) → stop_by c left ≡ Some Limit → left ≡ 0
-limit_left (Some c) left q = absurd (no_cause c q) where
-  no_cause : (c : Cause) → Some (stop_of c) ≡ Some Limit → ⊥
-  no_cause Bye q = cc
-  no_cause InputEnded q = cc
-  no_cause InputFault q = cc
-  no_cause (Fault f) q = cc
-limit_left None zero q = refl
-limit_left None (suc n) q = absurd (cc)
+limit_left c left q = grind arith
 
 pub slices_law : (w : World) (a n : ℕ) → a ≤ w.left → stops (rounds n (with_left a w)) ≡ Some Limit
     → (m : ℕ) × (rounds m w ≡ with_left (w.left - a) (rounds n (with_left a w)))
@@ -71,12 +56,7 @@ slices_law w a n most q =
 
 -- a stop stays where more ticks are left, but one for want of ticks
 stop_more : (d : ℕ) (c : Option Cause) (left : ℕ) (stop : Stop) → stop_by c left ≡ Some stop → (stop ≡ Limit → d ≡ 0) → stop_by c (left + d) ≡ Some stop
-stop_more d (Some c) left stop q z = q
-stop_more d None zero stop q z =
-    let lim : stop ≡ Limit = cc in
-    let e : 0 + d ≡ 0 = omega (arith, z lim) in
-    ap (stop_by None) e ∙ q
-stop_more d None (suc n) stop q z = absurd (cc)
+stop_more d c left stop q z = grind arith
 
 -- a slice of a run, as rounds of the whole
 pub last_slice : (u : World) (a k : ℕ) (stop : Stop) → a ≤ u.left → stops (rounds k (with_left a u)) ≡ Some stop → (stop ≡ Limit → u.left - a ≡ 0)

@@ -1,16 +1,15 @@
 -- A stretch of ticks is as many rounds.
-use Rattle.std.proofs.Common.{◌≡◌, ℕ, zero, suc, ◌+◌, ◌-◌, ◌<◌, ◌≤◌, ◌++◌, List, Bool, true, false, None, refl, sym, ap, ◌∙◌, append-nil, append_assoc, arith, Option, Some, [], if◌then◌else◌, is_none}
+use Rattle.std.proofs.Common.{◌≡◌, ℕ, zero, suc, ◌+◌, ◌-◌, ◌<◌, ◌≤◌, ◌++◌, List, Bool, true, false, None, refl, sym, ap, ◌∙◌, append-nil, append_assoc, arith, []}
 use Rattle.machine_parts.specs.Whole.{Whole}
 use Rattle.machine.specs.declared.act.Act.{Act}
 use Rattle.machine.specs.State.{State}
 use Rattle.machine.specs.Tick.{ran, ticked, is_quiet, running, quiet}
 use Rattle.machine.specs.Answer.{asked_by}
 use Rattle.inner_interpreter.specs.Moves.{shown_bytes}
-use Rattle.inner_interpreter.specs.declared.stop.Stop.{Stop}
 use Rattle.machine.specs.declared.extent.Extent.{Extent}
 use Rattle.inner_interpreter.specs.Runs.{World, round, round_by, rounds, stops, stop_by, next_by, tick_round}
 use Rattle.machine.specs.Met.{is_met, AreUnmet}
-use Rattle.inner_interpreter.specs.Tracing.{AddsLine, line_next, traced_line, trace}
+use Rattle.inner_interpreter.specs.Tracing.{AddsLine, traced_line, trace}
 use Rattle.inner_interpreter.proofs.Quiet.{ticked_runs, quiet_shows}
 use Rattle.machine.proofs.Ran.{ran_quiet, ran_loud}
 
@@ -27,9 +26,7 @@ goes_on left m e = rw e refl
 
 -- where the machine has not halted and ticks are left, the run goes on
 pub runs_on : (w : World) → w.state.halt ≡ None → 0 < w.left → stops w ≡ None
-runs_on w h l =
-    let more : w.left ≡ suc (w.left - 1) = omega arith in
-    ap (λ o. stop_by o w.left) h ∙ goes_on w.left (w.left - 1) more
+runs_on w h l = grind arith
 
 -- and a round is made
 pub one_round : (w : World) → w.state.halt ≡ None → 0 < w.left → rounds 1 w ≡ round w
@@ -53,21 +50,12 @@ unfolding shown_bytes
 no_tick w s e = same_world w (running s) _ _ (sym e) (append-nil w.shown) (omega arith)
 
 first_tick : (w : World) (s : Whole) → w.state ≡ running s → 0 < w.left → rounds 1 w ≡ behind w 1 (ticked s).0 (ticked s).1
-first_tick w s e l =
-    let parts : w.state.parts ≡ s = ap (λ (t : State). t.parts) e in
-    let halt : w.state.halt ≡ None = ap (λ (t : State). t.halt) e in
-    let wait : w.state.wait ≡ None = ap (λ (t : State). t.wait) e in
-    one_round w halt l ∙ round_tick w wait ∙ ap (λ p. behind w 1 (ticked p).0 (ticked p).1) parts
+first_tick w s e l = grind (arith, one_round, round_tick)
 
 -- a quiet tick and j more are j + 1 ticks
 behind_quiet : (w : World) (j : ℕ) (s : Whole) (t : State) (act : Act) → is_quiet (ticked s).1 ≡ true
     → behind (behind w 1 (ticked s).0 (ticked s).1) j t act ≡ behind w (j + 1) t act
-behind_quiet w j s t act q =
-    let nothing : w.shown ++ shown_bytes (ticked s).0.parts.memory (ticked s).1.shown ≡ w.shown =
-    ap (λ bs. w.shown ++ bs) (quiet_shows (ticked s).0.parts.memory (ticked s).1 q) ∙ append-nil w.shown in
-    let left : w.left - 1 - j ≡ w.left - (j + 1) = omega arith in
-    ap (λ bs. record { state = t; typed = w.typed; disk = w.disk; shown = bs ++ shown_bytes t.parts.memory act.shown; left = w.left - 1 - j }) nothing
-    ∙ ap (λ n. record { state = t; typed = w.typed; disk = w.disk; shown = w.shown ++ shown_bytes t.parts.memory act.shown; left = n }) left
+behind_quiet w j s t act q = grind (arith, quiet_shows, append-nil)
 
 -- n ticks at most are some rounds
 abbrev pub IsStretched : World → ℕ → ℕ × State × Act → Type 0
@@ -76,19 +64,7 @@ IsStretched w k r = (j : ℕ) × (r.0 ≡ k + j) × (rounds j w ≡ behind w j r
 by_tick : (n k : ℕ) (w : World) (s : Whole) → w.state ≡ running s → suc n ≤ w.left
     → ((ticked s).0 ≡ running (ticked s).0.parts → n ≤ w.left - 1 → IsStretched (behind w 1 (ticked s).0 (ticked s).1) (k + 1) (ran (k + 1) n (ticked s).0.parts))
     → (b : Bool) → is_quiet (ticked s).1 ≡ b → IsStretched w k (ran k (suc n) s)
-by_tick n k w s e h more false q =
-    rw (ran_loud k (suc n) s (omega arith) q) (1, omega arith, first_tick w s e (omega arith))
-by_tick n k w s e h more true q =
-    let later = more (ticked_runs s q) (omega arith) in
-    let j : ℕ = later.0 in
-    let r : ℕ × State × Act = ran (k + 1) n (ticked s).0.parts in
-    let less : suc n - 1 ≡ n = omega arith in
-    let same : ran k (suc n) s ≡ r = ran_quiet k (suc n) s (omega arith) q ∙ ap (λ i. ran (k + 1) i (ticked s).0.parts) less in
-    let first = first_tick w s e (omega arith) in
-    let made : rounds (j + 1) w ≡ behind w (j + 1) r.1 r.2 =
-    rounds_add j 1 w ∙ ap (rounds j) first ∙ later.2 ∙ behind_quiet w j s r.1 r.2 q in
-    let total : r.0 ≡ k + (j + 1) = omega (arith, later.1) in
-    rw same (j + 1, total, made)
+by_tick n k w s e h more b q = grind (arith, ran_loud, first_tick, ticked_runs, ran_quiet, rounds_add, behind_quiet)
 
 pub stretched : (n k : ℕ) (w : World) (s : Whole) → w.state ≡ running s → n ≤ w.left → IsStretched w k (ran k n s)
 unfolding ran rounds
@@ -100,21 +76,7 @@ silent_by : (j k : ℕ) (w : World) (s : Whole) → w.state ≡ running s → su
     → ((ticked s).0 ≡ running (ticked s).0.parts → (ran (k + 1) (suc j) (ticked s).0.parts).0 ≡ k + 1 + suc j
     → (rounds j (behind w 1 (ticked s).0 (ticked s).1)).shown ≡ (behind w 1 (ticked s).0 (ticked s).1).shown)
     → (b : Bool) → is_quiet (ticked s).1 ≡ b → (rounds (suc j) w).shown ≡ w.shown
-silent_by j k w s same left all rest true q =
-    let one : suc j ≡ j + 1 = omega arith in
-    let less : suc (suc j) - 1 ≡ suc j = omega arith in
-    let on : ran k (suc (suc j)) s ≡ ran (k + 1) (suc j) (ticked s).0.parts =
-    ran_quiet k (suc (suc j)) s (omega arith) q ∙ ap (λ i. ran (k + 1) i (ticked s).0.parts) less in
-    let count : (ran (k + 1) (suc j) (ticked s).0.parts).0 ≡ k + 1 + suc j =
-    ap (λ (r : ℕ × State × Act). r.0) (sym on) ∙ all ∙ omega arith in
-    let first : rounds (suc j) w ≡ rounds j (behind w 1 (ticked s).0 (ticked s).1) =
-    ap (λ i. rounds i w) one ∙ rounds_add j 1 w ∙ ap (rounds j) (first_tick w s same (omega (arith, left))) in
-    let nothing : w.shown ++ shown_bytes (ticked s).0.parts.memory (ticked s).1.shown ≡ w.shown =
-    ap (λ bs. w.shown ++ bs) (quiet_shows (ticked s).0.parts.memory (ticked s).1 q) ∙ append-nil w.shown in
-    ap (λ (v : World). v.shown) first ∙ rest (ticked_runs s q) count ∙ nothing
-silent_by j k w s same left all rest false q =
-    let last : k + 1 ≡ k + suc (suc j) = ap (λ (r : ℕ × State × Act). r.0) (sym (ran_loud k (suc (suc j)) s (omega arith) q)) ∙ all in
-    absurd (omega (arith, last))
+silent_by j k w s same left all rest b q = grind (arith, ran_quiet, rounds_add, first_tick, quiet_shows, append-nil, ticked_runs, ran_loud)
 
 pub silent_before : (j k : ℕ) (w : World) (s : Whole) → w.state ≡ running s → suc j ≤ w.left → (ran k (suc j) s).0 ≡ k + suc j → (rounds j w).shown ≡ w.shown
 unfolding rounds
@@ -144,25 +106,13 @@ adds_one e w = λ line. trace_one e line w
 -- nothing is traced where no token of the extent comes next
 line_unmet : (e : Extent) (line : Whole → List ℕ) (w : World) (s : Whole) → w.state ≡ running s → is_met e s ≡ false → traced_line e line w ≡ []
 unfolding traced_line
-line_unmet e line w s same unmet =
-    ap (λ (t : State). if is_none (stops w) then line_next e line t else []) same ∙ by_stop (stops w) where
-      by_stop : (o : Option Stop) → (if is_none o then line_next e line (running s) else []) ≡ []
-      by_stop None = rw unmet refl
-      by_stop (Some t) = refl
+line_unmet e line w s same unmet = grind arith
 
 by_quiet : (e : Extent) (line : Whole → List ℕ) (j k : ℕ) (w : World) (s : Whole) → w.state ≡ running s → suc j ≤ w.left → (ran k (suc j) s).0 ≡ k + suc j → AreUnmet e j (ticked s).0.parts
     → ((ticked s).0 ≡ running (ticked s).0.parts → (ran (k + 1) j (ticked s).0.parts).0 ≡ k + 1 + j → trace e line j (behind w 1 (ticked s).0 (ticked s).1) ≡ [])
     → (b : Bool) → is_quiet (ticked s).1 ≡ b → trace e line j (rounds 1 w) ≡ []
 unfolding trace
-by_quiet e line j k w s same left all unmet rest true q =
-    let less : suc j - 1 ≡ j = omega arith in
-    let on : ran k (suc j) s ≡ ran (k + 1) j (ticked s).0.parts = ran_quiet k (suc j) s (omega arith) q ∙ ap (λ i. ran (k + 1) i (ticked s).0.parts) less in
-    let count : (ran (k + 1) j (ticked s).0.parts).0 ≡ k + 1 + j = ap (λ (r : ℕ × State × Act). r.0) (sym on) ∙ all ∙ omega arith in
-    ap (λ v. trace e line j v) (first_tick w s same (omega arith)) ∙ rest (ticked_runs s q) count
-by_quiet e line j k w s same left all unmet rest false q =
-    let last : k + 1 ≡ k + suc j = ap (λ (r : ℕ × State × Act). r.0) (sym (ran_loud k (suc j) s (omega arith) q)) ∙ all in
-    let none : j ≡ 0 = omega (arith, last) in
-    ap (λ i. trace e line i (rounds 1 w)) none
+by_quiet e line j k w s same left all unmet rest b q = grind (arith, ran_quiet, first_tick, ticked_runs, ran_loud)
 
 untraced : (e : Extent) (line : Whole → List ℕ) (j k : ℕ) (w : World) (s : Whole) → w.state ≡ running s → j ≤ w.left → (ran k j s).0 ≡ k + j → AreUnmet e j s → trace e line j w ≡ []
 unfolding trace AreUnmet

@@ -1,5 +1,5 @@
 -- The trace of a run, by the moves that it made.
-use Rattle.std.proofs.Common.{◌≡◌, ℕ, zero, suc, ◌+◌, ◌-◌, ◌≤◌, ◌<◌, List, [], ◌∷◌, ◌++◌, Option, Some, None, Bool, true, false, refl, sym, ap, subst, ◌∙◌, inl, inr, arith, append-nil, append_assoc, if◌then◌else◌, is_none, ◌&&◌}
+use Rattle.std.proofs.Common.{◌≡◌, ℕ, zero, suc, ◌+◌, ◌-◌, ◌≤◌, ◌<◌, List, [], ◌∷◌, ◌++◌, Option, Some, Bool, true, false, refl, sym, ap, subst, ◌∙◌, inl, inr, arith, append-nil, append_assoc, if◌then◌else◌}
 use Rattle.std.proofs.lemmas.List.Sums.{sum_by-cons}
 use Rattle.std.specs.Io.KnownBytes.{Appends, Keeps}
 use Rattle.machine_parts.specs.Whole.{Whole}
@@ -7,7 +7,7 @@ use Rattle.machine_parts.specs.declared.parts.Request.{Request}
 use Rattle.machine.specs.declared.act.Act.{Act}
 use Rattle.machine.specs.declared.extent.Extent.{Extent}
 use Rattle.machine.specs.State.{State}
-use Rattle.machine.specs.Tick.{ran, ticked, is_quiet, running}
+use Rattle.machine.specs.Tick.{ran, ticked, running}
 use Rattle.machine.specs.Met.{is_met, AreUnmet}
 use Rattle.machine.specs.Answer.{asked_by}
 use Rattle.machine.proofs.Ran.{ran_quiet, ran_loud}
@@ -43,11 +43,7 @@ no_lines e line (Answer reply ∷ ts) s h = no_lines e line ts (turned s (Answer
 no_lines e line (Enter word ∷ ts) s h = no_lines e line ts (turned s (Enter word)) (omega (arith, h, one_tick (Enter word) ts))
 
 unmet_line : (e : Extent) (line : Whole → List ℕ) (s : State) → is_met e s.parts ≡ false → line_next e line s ≡ []
-unmet_line e line s h = by (is_none (asked_by s.wait))
-  where
-    by : (b : Bool) → (if b && is_met e s.parts then line s.parts else []) ≡ []
-    by true = rw h refl
-    by false = refl
+unmet_line e line s h = grind arith
 
 waiting_line : (e : Extent) (line : Whole → List ℕ) (s : State) (r : Request) → asked_by s.wait ≡ Some r → line_next e line s ≡ []
 waiting_line e line s r h = rw h refl
@@ -72,21 +68,7 @@ unmet_tick : (e : Extent) (line : Whole → List ℕ) (n k : ℕ) (p : Whole) (t
     → ((ticked p).0 ≡ running (ticked p).0.parts → (ran (k + 1) n (ticked p).0.parts).0 ≡ k + 1 + n → lines_by e line (running (ticked p).0.parts) b.rest ≡ [])
     → lines_by e line (running p) ts ≡ []
 unfolding lines_by
-unmet_tick e line n k p ts all unmet t b more =
-    ap (λ us. lines_by e line (running p) us) b.is
-    ∙ ap (λ ls. ls ++ lines_by e line (ticked p).0 b.rest) (unmet_line e line (running p) unmet)
-    ∙ after_tick (is_quiet (ticked p).1) refl
-  where
-    after_tick : (q : Bool) → is_quiet (ticked p).1 ≡ q → lines_by e line (ticked p).0 b.rest ≡ []
-    after_tick true q =
-        let runs : (ticked p).0 ≡ running (ticked p).0.parts = ticked_runs p q in
-        let less : suc n - 1 ≡ n = omega arith in
-        let on : ran k (suc n) p ≡ ran (k + 1) n (ticked p).0.parts = ran_quiet k (suc n) p (omega arith) q ∙ ap (λ i. ran (k + 1) i (ticked p).0.parts) less in
-        let count : (ran (k + 1) n (ticked p).0.parts).0 ≡ k + 1 + n = ap (λ (r : ℕ × State × Act). r.0) (sym on) ∙ all ∙ omega arith in
-        ap (λ s. lines_by e line s b.rest) runs ∙ more runs count
-    after_tick false q =
-        let last : k + 1 ≡ k + suc n = ap (λ (r : ℕ × State × Act). r.0) (sym (ran_loud k (suc n) p (omega arith) q)) ∙ all in
-        no_lines e line b.rest (ticked p).0 (omega (arith, last, b.ticks, t))
+unmet_tick e line n k p ts all unmet t b more = grind (arith, unmet_line, ticked_runs, ran_quiet, ran_loud, no_lines)
 
 -- no line where no token of the extent comes next
 unmet_lines : (e : Extent) (line : Whole → List ℕ) (n k : ℕ) (p : Whole) (ts : List Turn) → (ran k n p).0 ≡ k + n → AreUnmet e n p → AreAccepted (running p) ts → words_in ts ≡ [] → ticks_in ts ≡ n → lines_by e line (running p) ts ≡ []
@@ -100,37 +82,15 @@ unmet_lines e line (suc n) k p ts all unmet h w t =
 -- of a stretch of ticks only the first may have a line
 first_line : (e : Extent) (m : ℕ) (p : Whole) → 0 < m → (ran 0 m p).0 ≡ m → AreUnmet e (m - 1) (ticked p).0.parts → AddsFirst e (running p) m
 unfolding lines_by
-first_line e m p some all unmet = λ ts h w t line. with_tick ts line (begins p ts h w (omega (arith, t, some))) t
-  where
-    rest_of : (ts : List Turn) (line : Whole → List ℕ) (b : Begins p ts) → ticks_in ts ≡ m → (q : Bool) → is_quiet (ticked p).1 ≡ q → lines_by e line (ticked p).0 b.rest ≡ []
-    rest_of ts line b t true q =
-        let runs : (ticked p).0 ≡ running (ticked p).0.parts = ticked_runs p q in
-        let on : ran 0 m p ≡ ran (0 + 1) (m - 1) (ticked p).0.parts = ran_quiet 0 m p some q in
-        let count : (ran 1 (m - 1) (ticked p).0.parts).0 ≡ 1 + (m - 1) = ap (λ (r : ℕ × State × Act). r.0) (sym on) ∙ all ∙ omega (arith, some) in
-        ap (λ s. lines_by e line s b.rest) runs
-        ∙ unmet_lines e line (m - 1) 1 (ticked p).0.parts b.rest count unmet (subst (λ s. AreAccepted s b.rest) runs b.accepted) b.words (omega (arith, b.ticks, t, some))
-    rest_of ts line b t false q =
-        let last : 0 + 1 ≡ m = ap (λ (r : ℕ × State × Act). r.0) (sym (ran_loud 0 m p some q)) ∙ all in
-        no_lines e line b.rest (ticked p).0 (omega (arith, last, b.ticks, t))
-
-    with_tick : (ts : List Turn) (line : Whole → List ℕ) → Begins p ts → ticks_in ts ≡ m → lines_by e line (running p) ts ≡ line_next e line (running p)
-    with_tick ts line b t =
-        ap (λ us. lines_by e line (running p) us) b.is
-        ∙ ap (λ ls. line_next e line (running p) ++ ls) (rest_of ts line b t (is_quiet (ticked p).1) refl)
-        ∙ append-nil (line_next e line (running p))
+first_line e m p some all unmet = grind (arith, begins, ticked_runs, ran_quiet, unmet_lines, ran_loud, no_lines, append-nil)
 
 -- the ticks that a call makes out of those that are left
 pub went_first : (e : Extent) (left count : ℕ) (s t : State) (act : Act) → s ≡ running s.parts → (count, t, act) ≡ ran 0 count s.parts → 0 < count → count ≤ left → AreUnmet e (count - 1) (ticked s.parts).0.parts → AddsFirst e s (left - (left - count))
-went_first e left count s t act runs is some most unmet =
-    let all : (ran 0 count s.parts).0 ≡ count = sym (ap (λ (v : ℕ × State × Act). v.0) is) in
-    let same : count ≡ left - (left - count) = omega (arith, most) in
-    subst (λ n. AddsFirst e s n) same (subst (λ v. AddsFirst e v count) (sym runs) (first_line e count s.parts some all unmet))
+went_first e left count s t act runs is some most unmet = grind (arith, first_line)
 
 -- moves while a request waits, none of them a tick
 pub still_first : (e : Extent) (left : ℕ) (s : State) (r : Request) → asked_by s.wait ≡ Some r → AddsFirst e s (left - left)
-still_first e left s r h = λ ts a w t line.
-    let none : left - left ≡ 0 = omega arith in
-    no_lines e line ts s (t ∙ none) ∙ sym (waiting_line e line s r h)
+still_first e left s r h = grind (arith, no_lines, waiting_line)
 
 -- moves with the trace that was sent of them
 pub record HasTraced (e : Extent) (line : Whole → List ℕ) (old new : State) (log log' : Logs) (whole : Bool) (ticks : ℕ) (told told' : Option (List ℕ)) : Type 0 where
@@ -195,10 +155,7 @@ traced_run {e} {line} {a} {b} {f} {g} {limit} {left} {t} {t'} why most none x = 
 
 -- what was sent before a line was cut, and the front of that line
 cut_lines : (t t' t'' : Option (List ℕ)) (bs l : List ℕ) → Appends t t' bs → AppendsPart t' t'' l → (front : List ℕ) × (back : List ℕ) × Appends t t'' (bs ++ front) × (l ≡ front ++ back)
-cut_lines None t' t'' bs l h k = ([], l, tt, refl)
-cut_lines (Some xs) None t'' bs l h k = absurd h
-cut_lines (Some xs) (Some ys) None bs l h k = absurd k
-cut_lines (Some xs) (Some ys) (Some zs) bs l h k = (k.0, k.1, appends_both (Some xs) (Some ys) (Some zs) bs k.0 h k.3, k.2)
+cut_lines t t' t'' bs l h k = grind (arith, appends_both)
 
 -- a run that stopped since a line couldn't be sent
 pub traced_cut : {e : Extent} {line : Whole → List ℕ} {a b : State} {f g : Logs} {limit left : ℕ} {t t' t'' : Option (List ℕ)} → left ≤ limit → HasTraced e line a b f g true (limit - left) t t' → AppendsPart t' t'' (line_next e line b) → HasRunTraced e line a b f g limit stop.TraceFault t t''

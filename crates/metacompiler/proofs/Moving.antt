@@ -1,6 +1,6 @@
 -- Rounds and screens by the moves that the machine makes, whatever its device is.
-use Rattle.std.proofs.Common.{◌≡◌, ℕ, suc, ◌+◌, ◌-◌, ◌<◌, ◌∷◌, [], List, Option, Some, None, false, IsFalse, inl, inr, refl, ap, sym, subst, ◌∙◌, arith}
-use Rattle.std.specs.Prelude.{Result, Ok, Err, IfOk, IfErr}
+use Rattle.std.proofs.Common.{◌≡◌, ℕ, suc, ◌+◌, ◌<◌, ◌∷◌, [], List, Option, Some, None, false, IsFalse, inl, inr, refl, ap, sym, subst, ◌∙◌, arith}
+use Rattle.std.specs.Prelude.{Result, Err, IfOk, IfErr}
 use Rattle.image_loader.specs.Files.{Contents}
 use Rattle.machine_parts.specs.declared.parts.Request.{Request}
 use Rattle.machine_parts.specs.declared.parts.Request.TheVariants as request
@@ -14,8 +14,7 @@ use Rattle.block_buffers.specs.DeviceCalls.{DeviceCall}
 use Rattle.inner_interpreter.specs.Moves.{Turn, Tick, Answer, Accepts, is_entry}
 use Rattle.inner_interpreter.specs.Served.{HasActed}
 use Rattle.metacompiler.specs.Rounds.{Stop, Ended, Limit, Asked, is_end, stop_by}
-use Rattle.metacompiler.specs.Loaded as loaded
-use Rattle.metacompiler.specs.Loaded.{LoadFault, NotFound, ChainTooLong, Unfinished, BadSize, OutOfMemory, IsSaved}
+use Rattle.metacompiler.specs.Loaded.{LoadFault, OutOfMemory, IsSaved}
 use Rattle.metacompiler.specs.Moved.{Stage, stage, behind, stop_by_tick, stop_behind, AreRounds, at_screen, AreRead, HasLoaded}
 use Rattle.metacompiler.specs.Making.{GoesOn, LeadsTo, IsLed, IsSettledBy, IsReadOn}
 use Rattle.metacompiler.proofs.Making.{NoAsk, Tells, ticked_told, answer_told, stop_goes}
@@ -27,8 +26,7 @@ one_move p t None some own ok e = λ r y h. record { moves = t ∷ h.moves; roun
 one_move p t (Some z) some own ok e = record { moves = t ∷ []; rounds = (some, own, ok, rw e (refl, refl, refl)) }
 
 led_then : (p m q : Stage) (y : Option Stop) → LeadsTo p m None → LeadsTo m q y → LeadsTo p q y
-led_then p m q None f g = λ r z h. f r z (g r z h)
-led_then p m q (Some z) f g = f q z g
+led_then p m q y0 f g = grind arith
 
 -- where no tick is left
 pub none_left : (p : Stage) → p.left ≡ 0 → IsLed p p (Some Limit)
@@ -37,26 +35,19 @@ none_left p e = record { goes = tt; leads = record { moves = []; rounds = (e, re
 
 -- a tick
 silent : (s : State) (e : Event) → NoAsk e → stop_by_tick s e ≡ stop_by s e
-silent s event.Went h = refl
-silent s (event.Ask r) h = absurd h
-silent s (event.Fault f) h = refl
-silent s (event.Halt c) h = refl
+silent s y0 h = grind arith
 
 tick_leads : (s new : State) (c : List DeviceCall) (n : ℕ) (act : Act) → IsTicked s new act → LeadsTo (stage s c (n + 1)) (stage new c n) (stop_by_tick new act.event)
 tick_leads s new c n act t =
     let e : new ≡ (ticked s.parts).0 = ap (λ v. v.0) t.1 in
     let a : act ≡ (ticked s.parts).1 = ap (λ v. v.1) t.1 in
-    let less : n ≡ n + 1 - 1 = omega arith in
-    let q : stage new c n ≡ behind (stage s c (n + 1)) Tick = ap (λ v. stage v c n) e ∙ ap (λ k. stage (ticked s.parts).0 c k) less in
+    let q : stage new c n ≡ behind (stage s c (n + 1)) Tick = ap (λ v. stage v c n) e ∙ ap (λ k. stage (ticked s.parts).0 c k) (omega arith) in
     let y : stop_by_tick new act.event ≡ stop_behind s Tick = ap (λ v. stop_by_tick v act.event) e ∙ ap (λ (v : Act). stop_by_tick (ticked s.parts).0 v.event) a in
     let base : LeadsTo (stage s c (n + 1)) (behind (stage s c (n + 1)) Tick) (stop_behind s Tick) = one_move (stage s c (n + 1)) Tick (stop_behind s Tick) (omega arith) refl t.0 refl in
     subst (λ v. LeadsTo (stage s c (n + 1)) v (stop_by_tick new act.event)) (sym q) (subst (λ o. LeadsTo (stage s c (n + 1)) (behind (stage s c (n + 1)) Tick) o) (sym y) base)
 
 tick_tells : (s new : State) (act : Act) → IsTicked s new act → Tells new act.event
-tick_tells s new act t =
-    let e : new ≡ (ticked s.parts).0 = ap (λ v. v.0) t.1 in
-    let a : act ≡ (ticked s.parts).1 = ap (λ v. v.1) t.1 in
-    subst (λ v. Tells v act.event) (sym e) (subst (λ (v : Act). Tells (ticked s.parts).0 v.event) (sym a) (ticked_told s.parts))
+tick_tells s new act t = grind (arith, ticked_told)
 
 pub tick_led : (s new : State) (c : List DeviceCall) (n : ℕ) (act : Act) (y : Option Stop) → IsTicked s new act → NoAsk act.event → y ≡ stop_by new act.event → IsLed (stage s c (n + 1)) (stage new c n) y
 tick_led s new c n act y t none e =
@@ -77,11 +68,9 @@ asked_led s mid new c c' n act r y t e h = by_request r (subst (λ v. LeadsTo (s
 pub answer_led : (s new : State) (c c' : List DeviceCall) (reads reads' : List (Option ℕ)) (n : ℕ) (act : Act) (r : Request) → asked_by s.wait ≡ Some r → 0 < n → HasActed s new c c' reads reads' act → IsLed (stage s c n) (stage new c' n) (stop_by new act.event)
 answer_led s new c c' reads reads' n act r asks some h =
     let t = answer_of s h.reply in
-    let e : new ≡ t.0 = ap (λ v. v.0) h.acts in
-    let a : act ≡ t.1 = ap (λ v. v.1) h.acts in
     let base : IsLed (stage s c n) (behind (stage s c n) (Answer h.reply)) (stop_by t.0 t.1.event) =
     record { goes = stop_goes t.0 t.1.event (answer_told s r h.reply asks); leads = one_move (stage s c n) (Answer h.reply) (stop_by t.0 t.1.event) some refl h.accepted refl } in
-    rw (e, a, h.calls_are) base
+    rw (ap (λ v. v.0) h.acts, ap (λ v. v.1) h.acts, h.calls_are) base
 
 -- rounds so far, and what comes after them
 pub led_on : (p m q : Stage) (y : Option Stop) → IsLed p m None → (Runs m.machine → IsLed m q y) → IsLed p q y
@@ -102,24 +91,11 @@ no_more word screen m All h = h.on m Ended (refl, refl)
 
 -- a refusal, where no screen is read
 pub refused_saved : (o : Result ℕ LoadFault) (r : Result Contents LoadFault) (P : Type 0) → IfErr o (λ c. (r ≡ Err c) × P) → IfErr o (λ c. IsSaved (Err c) r × P)
-refused_saved (Ok w) r P h = tt
-refused_saved (Err c) r P h = (rw h.0 (same c), h.1) where
-  same : (c : LoadFault) → IsSaved (Err c) (Err c)
-  same NotFound = refl
-  same ChainTooLong = refl
-  same (loaded.Fault f) = refl
-  same loaded.Halted = refl
-  same loaded.Asked = refl
-  same loaded.Limit = refl
-  same Unfinished = refl
-  same BadSize = refl
-  same OutOfMemory = tt
+refused_saved y0 r y1 h = grind arith
 
 -- no memory for the machine
 pub unloaded : (o : Result ℕ LoadFault) (P : Type 0) → P → IfErr o (λ c. IsSaved (Err c) (Err OutOfMemory) × P)
-unloaded (Ok w) P p = tt
-unloaded (Err c) P p = (tt, p)
+unloaded y0 y1 p = grind arith
 
 pub not_read : (o : Result ℕ LoadFault) (image : Contents) (count from to ticks : ℕ) (calls : List DeviceCall) → IfOk o (λ word. HasLoaded word image count from to ticks calls calls (Err OutOfMemory))
-not_read (Ok w) image count from to ticks calls = inr (refl, refl)
-not_read (Err c) image count from to ticks calls = tt
+not_read y0 image count from to ticks calls = grind arith

@@ -1,16 +1,14 @@
 -- The words of a screen with one definition.
-use Rattle.std.proofs.Common.{◌≡◌, ◌≤◌, ◌+◌, ℕ, List, [], ◌∷◌, codes, Some, None, refl, ap, ◌∙◌, arith, Bool, true, false, if◌then◌else◌}
+use Rattle.std.proofs.Common.{◌≡◌, ◌≤◌, ◌+◌, ℕ, List, [], ◌∷◌, codes, Some, None, refl, arith, Bool, false, if◌then◌else◌}
 use Rattle.memory.specs.Bytes.{cell}
 use Rattle.memory.specs.declared.system.TheConstants.{CURRENT, DP}
-use Rattle.dictionary.specs.Header.{compilation_address}
-use Rattle.dictionary.specs.Search.{Found, sought_from}
+use Rattle.dictionary.specs.Search.{Found}
 use Rattle.colon_bodies.specs.Tokens.{NAME, SEMI}
 use Rattle.colon_bodies.specs.declared.words.Half.TheVariants.{Free}
 use Rattle.source_words.specs.Modes.{begins_body, begins_comment, ends_body, names_in_body, names_outside, takes_text}
 use Rattle.source_words.specs.Words.{SourceWord, source_words, words_of_screens, screen_words, words_from, is_comment, has_text, size_of, word_of, name_of, before}
 use Rattle.colon_bodies.specs.Meaning.{Plain, Figure, Wide}
 use Rattle.image_builder.specs.Spelled.{choosing, counting, ending, figure_of, keyword, naming, repeating, saying, sense_of_word}
-use Rattle.number_text.specs.Numbers.{is_double, is_number}
 use Rattle.metacompiler.specs.Meaning.{named_token, token_as, token_of}
 use Rattle.metacompiler.specs.Sample.{IsCalled, square, square_screen}
 use Rattle.metacompiler.specs.Sources.{AreDefined}
@@ -26,20 +24,12 @@ read screen = refl
 
 -- a word that is no keyword is what its name is found as
 found_as : (m : List ℕ) (l x y : ℕ) (number double : Bool) → token_as m Free (Found l) (if number then (if double then Wide x else Figure y) else Plain) ≡ named_token m Free l
-found_as m l x y true true = refl
-found_as m l x y true false = refl
-found_as m l x y false double = refl
+found_as m l x y y0 double = grind arith
 
 called : (m : List ℕ) (screen offset : ℕ) (name : List ℕ) (address : ℕ) → begins_comment name ≡ false → keyword name [] ≡ None → IsCalled m name address
     → token_of m (cell m CURRENT) Free (plain screen offset name) ≡ Some (NAME address)
 unfolding plain sense_of_word figure_of
-called m screen offset name address remark none c =
-    let sense : sense_of_word name [] ≡ figure_of name = rw (remark, none) refl in
-    ap (λ s. token_as m Free (sought_from m (cell m CURRENT) name) s) sense
-    ∙ ap (λ s. token_as m Free s (figure_of name)) c.found
-    ∙ found_as m c.link _ _ (is_number 10 name) (is_double name)
-    ∙ ap (λ (b : Bool). if b then None else Some (NAME (compilation_address m c.link))) c.plain
-    ∙ ap (λ a. Some (NAME a)) c.address_is
+called m screen offset name address remark none c = grind arith
 
 none_of : (text : List ℕ) → keyword (codes "SQ") text ≡ None
 unfolding keyword naming choosing repeating counting saying ending

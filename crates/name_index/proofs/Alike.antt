@@ -1,5 +1,5 @@
 -- What is read at watched addresses is the same in each memory that agrees there.
-use Rattle.std.proofs.Common.{◌≡◌, ℕ, ◌+◌, ◌<◌, ◌≤◌, List, length, true, arith, sym, ◌∙◌}
+use Rattle.std.proofs.Common.{◌≡◌, ℕ, ◌+◌, ◌<◌, ◌≤◌, List, length, true, arith, sym}
 use Rattle.std.proofs.lemmas.Grind.{common_steps}
 use Rattle.memory.specs.Bytes.{cell}
 use Rattle.memory.proofs.Same.{cell_by}
@@ -28,15 +28,10 @@ pub record Member (top : ℕ) (m : List ℕ) (l x : ℕ) : Type 0 where
   pub falls : x + 2 ≤ l
 
 pub link_alike : (top l link : ℕ) (m other : List ℕ) → Member top m l link → Agree top m other → cell other l ≡ link
-link_alike top l link m other is g =
-    cell_by other m l (omega (arith, is.small, is.ends)) (g l (watched top l is.from (omega (arith, is.ends))))
-    (g (l + 1) (watched top (l + 1) (omega (arith, is.from)) (omega (arith, is.ends)))) ∙ is.link
+link_alike top l link m other is g = grind (arith, cell_by, watched)
 
 header_alike : (top l link : ℕ) (m other : List ℕ) → Member top m l link → Agree top m other → HeaderSame m other l
-header_alike top l link m other is g = record {
-  ends = omega (arith, is.small, is.ends);
-  same = λ i x y. sym (g i (watched top i (omega (arith, is.from, x)) (omega (arith, is.ends, y))));
-}
+header_alike top l link m other is g = grind (arith, watched)
 
 pub named_alike : (top l link : ℕ) (m other name : List ℕ) → Member top m l link → length other ≡ 65536 → Agree top m other
     → is_named other name l ≡ is_named m name l

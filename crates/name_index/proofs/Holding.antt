@@ -33,27 +33,15 @@ holds_none index limit m table heads top = record {
 pub holds_same : (limit : ℕ) (index other : NameIndex) (m : List ℕ) → slots_of other.table ≡ slots_of index.table → other.heads ≡ index.heads → other.top ≡ index.top
     → Holds limit index m → Holds limit other m
 unfolding Holds
-holds_same limit index other m table heads top holds = record {
-  bound = rw top holds.bound;
-  slots = λ k b. rw (table, heads, top) (holds.slots k b);
-}
+holds_same limit index other m table heads top holds = grind arith
 
 -- what holds for one memory holds for each that agrees with it
 serves_by : (top k known e : ℕ) (m other : List ℕ) → Agree top m other → Serves top m k known e → Serves top other k known e
-serves_by top k known e m other t is = record {
-  older = is.older;
-  same = same_by top k known e m other t is.same;
-}
+serves_by top k known e m other t is = grind (arith, same_by)
 
 pub holds_by : (limit : ℕ) (index : NameIndex) (m other : List ℕ) → (256 < index.top → index.top ≤ limit → Agree index.top m other) → Holds limit index m → Holds limit index other
 unfolding Holds
-holds_by limit index m other s holds = record {
-  bound = holds.bound;
-  slots = λ k b.
-      serves_by index.top k (slice_index index.heads (k % 4)) (slice_index (slots_of index.table) k) m other
-      (elim (cases_lt 256 index.top) [ inl h ↦ s h (holds.bound h) | inr h ↦ λ a w. absurd (watched_none index.top a h w) ])
-      (holds.slots k b);
-}
+holds_by limit index m other s holds = grind (arith, serves_by, cases_lt, watched_none)
 
 -- memories that are the same below an address, and below the limit
 watched_below : (top floor a : ℕ) → top ≤ floor → is_watched top a ≡ true → a < floor
@@ -61,8 +49,7 @@ unfolding is_watched
 watched_below top floor a k w = grind (arith, common_steps)
 
 pub holds_above : (limit floor : ℕ) (index : NameIndex) (m other : List ℕ) → (256 < index.top → index.top ≤ floor) → AgreeBelow floor m other → Holds limit index m → Holds limit index other
-holds_above limit floor index m other t s holds =
-    holds_by limit index m other (λ r b a w. s a (watched_below index.top floor a (t r) w)) holds
+holds_above limit floor index m other t s holds = search (arith, holds_by, watched_below)
 
 pub holds_below_limit : (limit : ℕ) (index : NameIndex) (m other : List ℕ) → AgreeBelow limit m other → Holds limit index m → Holds limit index other
 holds_below_limit limit index m other s holds = holds_by limit index m other (λ r b a w. s a (watched_below index.top limit a b w)) holds
@@ -73,15 +60,7 @@ unfolding is_met is_watched
 apart top start end a f w h k = grind (arith, common_steps)
 
 pub beside : (top at n : ℕ) → at < 65536 → n < 65536 → is_met top at (at + n) ≡ false → is_met top 0 (at + n - 65536) ≡ false → (a : ℕ) → is_watched top a ≡ true → IsBeside at n a
-beside top at n h k f g a w i lt e =
-    elim (cases_lt (at + i) 65536) [
-      | inl low ↦
-          let p : true ≡ false = apart top at (at + n) a f w (omega (arith, e, low)) (omega (arith, e, low, lt)) in
-          cc
-      | inr high ↦
-          let p : true ≡ false = apart top 0 (at + n - 65536) a g w (omega arith) (omega (arith, e, high, h, k, lt)) in
-          cc
-    ]
+beside top at n h k f g a w i lt e = grind (arith, cases_lt, apart)
 
 -- a range that meets something has a watched address
 watched_header : (top a : ℕ) → 256 ≤ a → a < top → is_watched top a ≡ true

@@ -26,9 +26,7 @@ sought_long m name some e = rw (some_name name some, e) refl
 
 -- FORTH in CONTEXT is searched once
 twice : (s : Sought) → or_else s s ≡ s
-twice (Found l) = refl
-twice Nowhere = refl
-twice TooLong = refl
+twice s = grind arith
 
 pub sought_once : (m name : List ℕ) → 0 < length name → cell m 32 ≡ 42 → sought m name ≡ sought_in m 42 name
 unfolding sought sought_from first_from sought_in

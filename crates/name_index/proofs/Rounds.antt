@@ -23,22 +23,11 @@ pub record Round (top : ℕ) (m : List ℕ) (k known f l t : ℕ) : Type 0 where
   pub older : t ≤ known → Same top m k known t × Above top (λ more. Same more m k l l → Same more m k f l)
 
 first_round : (top k known f t : ℕ) (m : List ℕ) → Serves top m k known t → Round top m k known f f t
-first_round top k known f t m serves = record {
-  steady = same_trans top k known t known m serves.same (same_sym top k known t m serves.same);
-  newer = λ h. absurd (omega (arith, h, serves.older));
-  older = λ h. (serves.same, λ more le small e. e);
-}
+first_round top k known f t m serves = grind (arith, same_trans, same_sym)
 
 -- member l, its link x, and the top that it asks for
 member_of : (top more l x : ℕ) (m : List ℕ) → top ≤ more → more < 65536 → Member top m l x → Member more m l x
-member_of top more l x m le small is = record {
-  size = is.size;
-  small = small;
-  from = is.from;
-  ends = omega (arith, le, is.ends);
-  link = is.link;
-  falls = is.falls;
-}
+member_of top more l x m le small is = grind arith
 
 next_newer : (old top k known f l x t : ℕ) (m : List ℕ) → old ≤ top → Member top m l x → Round old m k known f l t
     → known < t → (t ≤ f) × Above top (λ more. Same more m k x x → Same more m k f t)
@@ -85,11 +74,7 @@ pub record Rounds (top : ℕ) (m : List ℕ) (class known f l : ℕ) (before tab
 
 pub first_rounds : (top class known f : ℕ) (m heads before : List ℕ) → slice_index heads class ≡ known
     → ((k : ℕ) → k < 8192 → Serves top m k (slice_index heads (k % 4)) (slice_index before k)) → Rounds top m class known f f before before
-first_rounds top class known f m heads before e serves = record {
-  slots = λ k b c. first_round top k known f (slice_index before k) m
-      (subst (λ (h : ℕ). Serves top m k h (slice_index before k)) (subst (λ (i : ℕ). slice_index heads i ≡ known) (sym c) e) (serves k b));
-  others = λ k b c. refl;
-}
+first_rounds top class known f m heads before e serves = grind (arith, first_round)
 
 -- an index that holds
 pub begin_rounds : (limit class f : ℕ) (index : NameIndex) (m : List ℕ) → Holds limit index m

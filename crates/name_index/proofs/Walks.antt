@@ -11,8 +11,7 @@ use Rattle.name_index.specs.Index.{Same}
 use Rattle.name_index.proofs.Alike.{Member, agree_less, link_alike, named_alike}
 
 pub same_none : (top k : ℕ) (m : List ℕ) → Same top m k 0 0
-same_none top k m other lo g name s n p h q =
-    walked_at_end (is_named other name) other n 0 refl ∙ sym (walked_at_end (is_named other name) other p 0 refl)
+same_none top k m other lo g name s n p h q = grind (arith, walked_at_end)
 
 pub same_sym : (top k a b : ℕ) (m : List ℕ) → Same top m k a b → Same top m k b a
 same_sym top k a b m f other lo g name s n p h q = sym (f other lo g name s p n q h)
@@ -32,15 +31,7 @@ same_by top k a b m other t f third lt g name s n p h q = f third lt (λ x w. g 
 steady_step : (m name : List ℕ) (l x n p : ℕ) (b : Bool) → is_named m name l ≡ b → cell m l ≡ x → x + 2 ≤ l → l ≤ 2 * n → l ≤ 2 * p
     → walked (is_named m name) m (n - 1) x ≡ walked (is_named m name) m (p - 1) x
     → walked (is_named m name) m n l ≡ walked (is_named m name) m p l
-steady_step m name l x n p true e link falls h q same =
-    walked_here (is_named m name) m n l (omega (arith, falls, h)) (omega (arith, falls)) e
-    ∙ sym (walked_here (is_named m name) m p l (omega (arith, falls, q)) (omega (arith, falls)) e)
-steady_step m name l x n p false e link falls h q same =
-    walked_later (is_named m name) m n l (omega (arith, falls, h)) (omega (arith, falls)) e
-    ∙ ap (λ (y : ℕ). walked (is_named m name) m (n - 1) y) link
-    ∙ same
-    ∙ sym (ap (λ (y : ℕ). walked (is_named m name) m (p - 1) y) link)
-    ∙ sym (walked_later (is_named m name) m p l (omega (arith, falls, q)) (omega (arith, falls)) e)
+steady_step m name l x n p b e link falls h q same = grind (arith, walked_here, walked_later)
 
 pub same_up : (top k l x : ℕ) (m : List ℕ) → Member top m l x → Same top m k x x → Same top m k l l
 same_up top k l x m is f other lo g name s n p h q =
@@ -49,8 +40,7 @@ same_up top k l x m is f other lo g name s n p h q =
 
 -- a member whose name has another slot is passed
 second_of_two : (a b : Bool) → (a && b) ≡ true → b ≡ true
-second_of_two true b e = e
-second_of_two false b e = cc
+second_of_two a b e = grind arith
 
 same_bytes : (xs ys : List ℕ) → bytes_eq xs ys ≡ true → xs ≡ ys
 same_bytes xs ys e = search (rules, bytes_eq-Decides)
@@ -60,8 +50,7 @@ unfolding is_named
 named_so m name l e = same_bytes (name_of m l) name (second_of_two (not (is_hidden m l)) (bytes_eq (name_of m l) name) e)
 
 false_by : (b : Bool) → (b ≡ true → false ≡ true) → b ≡ false
-false_by true h = let e : false ≡ true = h refl in cc
-false_by false h = refl
+false_by b h = grind arith
 
 slot_class : (name : List ℕ) → slot_of name % 4 ≡ class_of name
 unfolding slot_of slot_in class_of
@@ -69,13 +58,7 @@ slot_class name = omega arith
 
 other_slot : (m name : List ℕ) (l k class : ℕ) → slot_of name ≡ k → k % 4 ≡ class → slot_in class (name_of m l) ≢ k → is_named m name l ≡ false
 unfolding slot_of
-other_slot m name l k class s c other =
-    false_by (is_named m name l) (λ e.
-    let same : name_of m l ≡ name = named_so m name l e in
-    let class_same : class_of name ≡ class = sym (slot_class name) ∙ ap (λ (x : ℕ). x % 4) s ∙ c in
-    let at : slot_in class (name_of m l) ≡ k =
-    ap (λ (xs : List ℕ). slot_in class xs) same ∙ ap (λ (x : ℕ). slot_in x name) (sym class_same) ∙ s in
-    absurd (other at))
+other_slot m name l k class s c other = grind (arith, false_by, named_so, slot_class)
 
 pub same_past : (top k class l x : ℕ) (m : List ℕ) → Member top m l x → k % 4 ≡ class → slot_in class (name_of m l) ≢ k
     → Same top m k x x → Same top m k l x

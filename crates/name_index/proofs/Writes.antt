@@ -1,5 +1,5 @@
 -- Which addresses a write leaves as they were, and writes that no find rests on.
-use Rattle.std.proofs.Common.{◌≡◌, ◌≢◌, ℕ, zero, suc, ◌+◌, ◌-◌, ◌<◌, ◌≤◌, ◌%◌, ◌/◌, List, [], ◌∷◌, length, true, false, refl, arith, sym, ◌∙◌}
+use Rattle.std.proofs.Common.{◌≡◌, ◌≢◌, ℕ, zero, suc, ◌+◌, ◌-◌, ◌<◌, ◌≤◌, List, [], ◌∷◌, length, true, false, refl, arith, sym}
 use Rattle.std.proofs.lemmas.Grind.{common_steps}
 use Rattle.cells.specs.Cell.{wrap}
 use Rattle.memory.specs.Bytes.{byte, put_byte, put_cell, put_bytes, filled, moved_up, moved_down, with_page, Write, PutCell, PutBytes}
@@ -30,37 +30,28 @@ beside_byte m at x h a b = byte_set m at x a (beside_first at 1 a h (omega arith
 
 pub beside_cell : (m : List ℕ) (at x : ℕ) → at < 65536 → AgreeBeside at 2 m (put_cell m at x)
 unfolding put_cell
-beside_cell m at x h a b =
-    byte_set (put_byte m at (x % 256)) (wrap (at + 1)) (x / 256) a (beside_last at 1 a b)
-    ∙ byte_set m at (x % 256) a (beside_first at 2 a h (omega arith) b)
+beside_cell m at x h a b = grind (arith, byte_set, beside_last, beside_first)
 
 pub beside_bytes : (m : List ℕ) (at : ℕ) (bs : List ℕ) → at < 65536 → AgreeBeside at (length bs) m (put_bytes m at bs)
 unfolding put_bytes
 beside_bytes m at [] h a b = refl
-beside_bytes m at (x ∷ bs) h a b =
-    beside_bytes (put_byte m at x) (wrap (at + 1)) bs (omega arith) a (beside_rest at (length bs) a b)
-    ∙ byte_set m at x a (beside_first at (suc (length bs)) a h (omega arith) b)
+beside_bytes m at (x ∷ bs) h a b = grind (arith, beside_rest, byte_set, beside_first, beside_bytes (put_byte m at x) (wrap (at + 1)) bs (omega arith) a (beside_rest at (length bs) a b))
 
 -- FILL, CMOVE and CMOVE>
 pub beside_filled : (m : List ℕ) (at n x : ℕ) → AgreeBeside at n m (filled m at n x)
 unfolding filled
 beside_filled m at zero x a b = refl
-beside_filled m at (suc n) x a b =
-    byte_set (filled m at n x) (wrap (at + n)) x a (beside_last at n a b) ∙ beside_filled m at n x a (beside_less at n a b)
+beside_filled m at (suc n) x a b = grind (arith, byte_set, beside_last, beside_less, beside_filled m at n x a (beside_less at n a b))
 
 pub beside_moved_up : (m : List ℕ) (from to n : ℕ) → AgreeBeside to n m (moved_up m from to n)
 unfolding moved_up
 beside_moved_up m from to zero a b = refl
-beside_moved_up m from to (suc n) a b =
-    byte_set (moved_up m from to n) (wrap (to + n)) (byte (moved_up m from to n) (wrap (from + n))) a (beside_last to n a b)
-    ∙ beside_moved_up m from to n a (beside_less to n a b)
+beside_moved_up m from to (suc n) a b = grind (arith, byte_set, beside_last, beside_less, beside_moved_up m from to n a (beside_less to n a b))
 
 pub beside_moved_down : (m : List ℕ) (from to n : ℕ) → AgreeBeside to n m (moved_down m from to n)
 unfolding moved_down
 beside_moved_down m from to zero a b = refl
-beside_moved_down m from to (suc n) a b =
-    beside_moved_down (put_byte m (wrap (to + n)) (byte m (wrap (from + n)))) from to n a (beside_less to n a b)
-    ∙ byte_set m (wrap (to + n)) (byte m (wrap (from + n))) a (beside_last to n a b)
+beside_moved_down m from to (suc n) a b = grind (arith, beside_less, byte_set, beside_last, beside_moved_down (put_byte m (wrap (to + n)) (byte m (wrap (from + n)))) from to n a (beside_less to n a b))
 
 -- a write below the dictionary
 below_dictionary : (top start end : ℕ) → end ≤ 256 → is_met top start end ≡ false
@@ -80,8 +71,7 @@ holds_system_cell limit at x index m h holds =
 
 -- a page of a block buffer
 pub holds_page : (limit at : ℕ) (index : NameIndex) (m bs : List ℕ) → length m ≡ 65536 → limit ≤ at → at ≤ 64512 → Holds limit index m → Holds limit index (with_page m at bs)
-holds_page limit at index m bs lm behind small holds =
-    holds_below_limit limit index m (with_page m at bs) (λ a k. byte_below m bs at a lm small (omega (arith, k, behind))) holds
+holds_page limit at index m bs lm behind small holds = grind (arith, holds_below_limit, byte_below)
 
 -- a write to addresses none of which is watched
 abbrev pub IsAside : ℕ → Write → Type 0

@@ -1,3 +1,2 @@
 mod Copying
-mod Walks
 pub mod Making

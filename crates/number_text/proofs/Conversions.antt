@@ -1,4 +1,4 @@
-use Rattle.std.proofs.Common.{◌≡◌, ℕ, ◌+◌, ◌*◌, ◌%◌, ◌<◌, ◌≤◌, List, [], ◌∷◌, length, drop, slice_index, refl, arith, nat_lt, true, ◌∙◌}
+use Rattle.std.proofs.Common.{◌≡◌, ℕ, ◌+◌, ◌*◌, ◌%◌, ◌<◌, ◌≤◌, List, [], ◌∷◌, length, drop, slice_index, refl, arith}
 use Rattle.std.proofs.lemmas.Grind.{common_steps}
 use Rattle.std.proofs.lemmas.List.{drop_more, drop_all}
 use Rattle.std.proofs.lemmas.List.Sums.{take_while-cons}
@@ -7,9 +7,7 @@ use Rattle.number_text.proofs.Values.{continued_none, continued-cons}
 
 leading_more : (base i : ℕ) (t : List ℕ) → i < length t → digit (slice_index t i) < base → leading_digits base (drop i t) ≡ slice_index t i ∷ leading_digits base (drop (i + 1) t)
 unfolding leading_digits is_digit
-leading_more base i t h q =
-    let e : nat_lt (digit (slice_index t i)) base ≡ true = grind arith in
-    rw (drop_more t i 0 h) (take_while-cons (is_digit base) (slice_index t i) (drop (i + 1) t) ∙ rw e refl)
+leading_more base i t h q = grind (arith, drop_more, take_while-cons)
 
 leading_stop : (base i : ℕ) (t : List ℕ) → i < length t → base ≤ digit (slice_index t i) → leading_digits base (drop i t) ≡ []
 unfolding leading_digits is_digit
@@ -33,8 +31,7 @@ nothing base number h = continued_none base number 0 [] (omega arith) h
 
 pub with_more : (base number i : ℕ) (t : List ℕ) → i < length t → digit (slice_index t i) < base →
     continued base number (leading_digits base (drop i t)) ≡ continued base (((number * base) % 4294967296 + digit (slice_index t i)) % 4294967296) (leading_digits base (drop (i + 1) t))
-with_more base number i t h q =
-    rw (leading_more base i t h q) (continued-cons base number (slice_index t i) (leading_digits base (drop (i + 1) t)))
+with_more base number i t h q = grind (arith, leading_more, continued-cons)
 
 pub with_stop : (base number i : ℕ) (t : List ℕ) → i < length t → number < 4294967296 → base ≤ digit (slice_index t i) → continued base number (leading_digits base (drop i t)) ≡ number
 with_stop base number i t h k q = rw (leading_stop base i t h q) (nothing base number k)

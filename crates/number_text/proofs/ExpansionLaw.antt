@@ -1,4 +1,4 @@
-use Rattle.std.proofs.Common.{◌≡◌, ℕ, ◌+◌, ◌*◌, ◌^◌, ◌<◌, ◌≤◌, List, [], ◌∷◌, length, map, refl, true, nat_lt, arith, IsTrue, sym, ap, ◌∙◌, inl, inr, slice_index}
+use Rattle.std.proofs.Common.{◌≡◌, ℕ, ◌+◌, ◌*◌, ◌^◌, ◌<◌, ◌≤◌, List, [], ◌∷◌, length, map, refl, true, arith, IsTrue, sym, ◌∙◌, inl, inr, slice_index}
 use Rattle.std.specs.Prelude.{All}
 use Rattle.std.specs.List.{AllByRecursion}
 use Rattle.std.proofs.lemmas.Bool.{cases_lt}
@@ -10,10 +10,7 @@ use Rattle.number_text.specs.Digits.{is_base, byte_of, digit, is_digit, are_digi
 use Rattle.number_text.proofs.Expansions.{expansion_zero, expansion_some}
 
 step : (n b d p v : ℕ) → (n * b + d) * p + v ≡ n * (p * b) + (d * p + v)
-step n b d p v =
-    let e1 : (n * b + d) * p ≡ n * b * p + d * p = add-mul (n * b) d p in
-    let e2 : n * b * p ≡ n * (p * b) = mul_assoc n b p ∙ ap (λ (y : ℕ). n * y) (mul_comm b p) in
-    omega arith
+step n b d p v = grind (arith, add-mul, mul_assoc, mul_comm)
 
 -- digits that are read one by one stand for their sum of powers
 read_after : (b n : ℕ) (ds : List ℕ) → number_from_digits_after b n ds ≡ n * b ^ length ds + value b ds
@@ -46,9 +43,7 @@ all_below-expansion base number h =
 
 -- no leading zero
 pub first-expansion : (base number : ℕ) → IsTrue (is_base base) → 0 < number → 0 < slice_index (expansion base number) 0
-first-expansion base number h p =
-    let l : 2 ≤ base = grind arith in
-    rw (expansion_some base number p) (first_digits_of base number l p)
+first-expansion base number h p = grind (arith, expansion_some, first_digits_of)
 
 pub expansion-zero : (base : ℕ) → expansion base 0 ≡ 0 ∷ []
 expansion-zero base = expansion_zero base 0 (omega arith)
@@ -60,28 +55,19 @@ digit-byte_of d h = grind arith
 
 shown_back : (base : ℕ) (ds : List ℕ) → base ≤ 72 → AllByRecursion (λ d. d < base) ds → map digit (map byte_of ds) ≡ ds
 shown_back base [] h all = refl
-shown_back base (d ∷ ds) h all =
-    rw (digit-byte_of d (omega (arith, all.0)), shown_back base ds h all.1) refl
+shown_back base (d ∷ ds) h all = grind (arith, digit-byte_of, shown_back base ds h all.1)
 
 shown_digits : (base : ℕ) (ds : List ℕ) → base ≤ 72 → AllByRecursion (λ d. d < base) ds → are_digits base (map byte_of ds) ≡ true
 unfolding are_digits is_digit
 shown_digits base [] h all = refl
-shown_digits base (d ∷ ds) h all =
-    let below : d < base = all.0 in
-    let test : nat_lt d base ≡ true = grind arith in
-    rw (digit-byte_of d (omega arith), test) (shown_digits base ds h all.1)
+shown_digits base (d ∷ ds) h all = grind (arith, digit-byte_of, shown_digits base ds h all.1)
 
 -- a number that is shown reads as itself
 pub text_value-expansion : (base number : ℕ) → IsTrue (is_base base) → text_value base (map byte_of (expansion base number)) ≡ number
 unfolding text_value
-text_value-expansion base number h =
-    let most : base ≤ 72 = grind arith in
-    let all : AllByRecursion (λ d. d < base) (expansion base number) = recursion_from_All (λ d. d < base) (expansion base number) (all_below-expansion base number h) in
-    rw (shown_back base (expansion base number) most all) (value-expansion base number h)
+text_value-expansion base number h = grind (arith, recursion_from_All, all_below-expansion, shown_back, value-expansion)
 
 pub are_digits-expansion : (base number : ℕ) → IsTrue (is_base base) → are_digits base (map byte_of (expansion base number)) ≡ true
-are_digits-expansion base number h =
-    let most : base ≤ 72 = grind arith in
-    shown_digits base (expansion base number) most (recursion_from_All (λ d. d < base) (expansion base number) (all_below-expansion base number h))
+are_digits-expansion base number h = grind (arith, shown_digits, recursion_from_All, all_below-expansion)
 
 pub ruleset expansion_laws = (value-expansion, all_below-expansion, first-expansion, expansion-zero, text_value-expansion, are_digits-expansion)

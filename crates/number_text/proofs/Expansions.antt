@@ -1,4 +1,4 @@
-use Rattle.std.proofs.Common.{◌≡◌, ℕ, ◌+◌, ◌^◌, ◌%◌, ◌/◌, ◌<◌, ◌≤◌, List, [], ◌∷◌, ◌++◌, ◌∙◌, length, reverse, refl, arith, IsTrue, ◌==◌, true, false, inl, inr, length-append}
+use Rattle.std.proofs.Common.{◌≡◌, ℕ, ◌+◌, ◌^◌, ◌%◌, ◌/◌, ◌<◌, ◌≤◌, List, [], ◌∷◌, ◌++◌, length, reverse, refl, arith, IsTrue, ◌==◌, true, false, inl, inr, length-append}
 use Rattle.std.proofs.lemmas.Bool.{cases_lt}
 use Rattle.std.proofs.lemmas.List.{reverse-append}
 use Rattle.std.proofs.lemmas.Int.Digits.{digits_of_step, length-digits_of-le}
@@ -22,24 +22,17 @@ expansion_some b n h = let z : (n == 0) ≡ false = grind arith in rw z refl
 
 -- the highest digit alone
 expansion_last : (b n : ℕ) → 2 ≤ b → n < b → expansion b n ≡ n % b ∷ []
-expansion_last b n h q = elim (cases_lt 0 n) [
-  | inl p ↦ expansion_some b n p ∙ digits_of_step b n h p ∙ rw (div-eq_of_lt {n = n} {m = b} q) refl
-  | inr p ↦ let e : n % b ≡ 0 = omega arith in rw e (expansion_zero b n p)
-]
+expansion_last b n h q = grind (arith, cases_lt, expansion_some, digits_of_step, div-eq_of_lt, expansion_zero)
 
 -- the digits of the quotient, then the remainder
 expansion_more : (b n : ℕ) → 2 ≤ b → b ≤ n → expansion b n ≡ expansion b (n / b) ++ n % b ∷ []
-expansion_more b n h q =
-    let s : 0 < n / b = quotient_some n b (omega arith) q in
-    rw (expansion_some b n (omega arith), expansion_some b (n / b) s) (digits_of_step b n h (omega arith))
+expansion_more b n h q = grind (arith, quotient_some, expansion_some, digits_of_step)
 
 pub count_last : (b n : ℕ) → IsTrue (is_base b) → n < b → length (expansion b n) ≡ 1
 count_last b n h q = let l : 2 ≤ b = grind arith in rw (expansion_last b n l q) refl
 
 pub count_more : (b n : ℕ) → IsTrue (is_base b) → b ≤ n → length (expansion b n) ≡ 1 + length (expansion b (n / b))
-count_more b n h q =
-    let l : 2 ≤ b = grind arith in
-    rw (expansion_more b n l q) (length-append (expansion b (n / b)) (n % b ∷ []) ∙ omega arith)
+count_more b n h q = grind (arith, expansion_more, length-append)
 
 -- a double has at most 32 digits
 pub count_most : (b n : ℕ) → IsTrue (is_base b) → n < 4294967296 → length (expansion b n) ≤ 32

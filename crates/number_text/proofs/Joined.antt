@@ -1,7 +1,7 @@
 -- Texts that come in two pieces.
-use Rattle.std.proofs.Common.{◌≡◌, ℕ, ◌+◌, ◌-◌, ◌*◌, ◌^◌, ◌%◌, ◌<◌, ◌≤◌, ◌&&◌, ◌++◌, List, [], ◌∷◌, length, drop, take, slice_index, refl, arith, Bool, true, false, if◌then◌else◌, ◌∙◌, ap, sym}
+use Rattle.std.proofs.Common.{◌≡◌, ℕ, ◌+◌, ◌-◌, ◌*◌, ◌%◌, ◌<◌, ◌&&◌, ◌++◌, List, [], ◌∷◌, length, take, slice_index, refl, arith, Bool, true, false, if◌then◌else◌, ◌∙◌, ap, sym}
 use Rattle.std.proofs.lemmas.Grind.{common_steps}
-use Rattle.std.proofs.lemmas.List.{length-append, take_all}
+use Rattle.std.proofs.lemmas.List.{length-append}
 use Rattle.std.proofs.Math.Seq.{take-append-add}
 use Rattle.std.proofs.lemmas.List.Folds.{list_all-append}
 use Rattle.number_text.specs.Digits.{digit, is_digit, are_digits, continued}
@@ -10,25 +10,20 @@ use Rattle.number_text.proofs.Values.{continued-cons, continued_none}
 
 pub minus_joined : (xs ys : List ℕ) → 0 < length xs → is_minus (xs ++ ys) ≡ is_minus xs
 unfolding is_minus
-minus_joined [] ys h = absurd (omega (arith, h))
-minus_joined (x ∷ xs) ys h = let l = length-append xs ys in grind (arith, common_steps, l)
+minus_joined xs ys h = grind (arith, length-append, common_steps)
 
 by_minus : (b : Bool) (x : ℕ) (xs ys : List ℕ) → (if b then xs ++ ys else x ∷ (xs ++ ys)) ≡ (if b then xs else x ∷ xs) ++ ys
-by_minus true x xs ys = refl
-by_minus false x xs ys = refl
+by_minus b x xs ys = grind arith
 
 behind_joined : (xs ys : List ℕ) → 0 < length xs → behind_minus (xs ++ ys) ≡ behind_minus xs ++ ys
-behind_joined [] ys h = absurd (omega (arith, h))
-behind_joined (x ∷ xs) ys h = rw (minus_joined (x ∷ xs) ys h) (by_minus (is_minus (x ∷ xs)) x xs ys)
+behind_joined xs ys h = grind (arith, minus_joined, by_minus)
 
 at_last : (x : ℕ) (zs : List ℕ) → 0 < length zs → slice_index (x ∷ zs) (length (x ∷ zs) - 1) ≡ slice_index zs (length zs - 1)
-at_last x [] h = absurd (omega (arith, h))
-at_last x (z ∷ zs) h = grind (arith, common_steps)
+at_last x zs h = grind (arith, common_steps)
 
 last_joined : (xs ys : List ℕ) → 0 < length ys → slice_index (xs ++ ys) (length (xs ++ ys) - 1) ≡ slice_index ys (length ys - 1)
 last_joined [] ys h = refl
-last_joined (x ∷ xs) ys h =
-    let l = length-append xs ys in at_last x (xs ++ ys) (omega (arith, l, h)) ∙ last_joined xs ys h
+last_joined (x ∷ xs) ys h = grind (arith, length-append, at_last, last_joined xs ys h)
 
 dot_joined : (xs ys : List ℕ) → 0 < length ys → has_dot (xs ++ ys) ≡ has_dot ys
 unfolding has_dot
@@ -59,7 +54,4 @@ small base n h ys = ap (λ k. continued base k ys) (continued_none base n 0 [] (
 
 pub continued_joined : (base n : ℕ) (xs ys : List ℕ) → n < 4294967296 → continued base n (xs ++ ys) ≡ continued base (continued base n xs) ys
 continued_joined base n [] ys h = sym (small base n h ys)
-continued_joined base n (x ∷ xs) ys h =
-    continued-cons base n x (xs ++ ys)
-    ∙ continued_joined base (((n * base) % 4294967296 + digit x) % 4294967296) xs ys (omega arith)
-    ∙ ap (λ k. continued base k ys) (sym (continued-cons base n x xs))
+continued_joined base n (x ∷ xs) ys h = grind (arith, continued-cons, continued_joined base (((n * base) % 4294967296 + digit x) % 4294967296) xs ys (omega arith))

@@ -15,18 +15,14 @@ length-put_byte m a b = length-set m a b
 length-put_down : (m : List ℕ) (end : ℕ) (ds : List ℕ) → length (put_down m end ds) ≡ length m
 unfolding put_down
 length-put_down m end [] = refl
-length-put_down m end (d ∷ ds) =
-    length-put_down (put_byte m (difference end 1) (byte_of d)) (difference end 1) ds ∙ length-put_byte m (difference end 1) (byte_of d)
+length-put_down m end (d ∷ ds) = grind (arith, length-put_byte, length-put_down (put_byte m (difference end 1) (byte_of d)) (difference end 1) ds)
 
 -- a byte stays that is more than the count of digits below the end
 byte-put_down : (m : List ℕ) (end a below : ℕ) (ds : List ℕ) → a < 65536 → end ≡ wrap (a + below) → below ≤ 65536 → length ds < below →
     byte (put_down m end ds) a ≡ byte m a
 unfolding put_down byte put_byte
 byte-put_down m end a below [] h e k q = refl
-byte-put_down m end a below (d ∷ ds) h e k q =
-    let ne : a ≢ difference end 1 = omega arith in
-    byte-put_down (put_byte m (difference end 1) (byte_of d)) (difference end 1) a (below - 1) ds h (omega arith) (omega arith) (omega arith)
-    ∙ get_or-set_other m (difference end 1) a (byte_of d) 0 ne
+byte-put_down m end a below (d ∷ ds) h e k q = grind (arith, get_or-set_other, byte-put_down (put_byte m (difference end 1) (byte_of d)) (difference end 1) a (below - 1) ds h (omega arith) (omega arith) (omega arith))
 
 bytes-more : (m : List ℕ) (a n : ℕ) → length m ≡ 65536 → a < 65536 → n < 65536 → bytes m a (suc n) ≡ bytes m a n ++ byte m (wrap (a + n)) ∷ []
 unfolding bytes
@@ -69,11 +65,7 @@ put_down_shows m end (d ∷ ds) l h k =
 -- the same for a picture, whose digits come the highest first
 pub picture_shows : (m : List ℕ) (end : ℕ) (ds : List ℕ) → length m ≡ 65536 → end < 65536 → length ds < 65536 →
     bytes (put_down m end (reverse ds)) (difference end (length ds)) (length ds) ≡ map byte_of ds
-picture_shows m end ds l h k =
-    let e : length (reverse ds) ≡ length ds = length-reverse ds in
-    let s : bytes (put_down m end (reverse ds)) (difference end (length (reverse ds))) (length (reverse ds)) ≡ map byte_of (reverse (reverse ds)) =
-    put_down_shows m end (reverse ds) l h (omega arith) in
-    rw (e, reverse-reverse ds) at s
+picture_shows m end ds l h k = grind (arith, length-reverse, put_down_shows, reverse-reverse)
 
 apart : (m : List ℕ) (i j x y : ℕ) → i ≢ j → put_byte (put_byte m i x) j y ≡ put_byte (put_byte m j y) i x
 unfolding put_byte
@@ -83,10 +75,7 @@ apart m i j x y h = set_comm m i j x y h
 put_later : (m : List ℕ) (a n p b : ℕ) (bs : List ℕ) → a < 65536 → n < 65536 → p ≡ wrap (a + n) → length bs ≤ n → put_bytes (put_byte m p b) a bs ≡ put_byte (put_bytes m a bs) p b
 unfolding put_bytes
 put_later m a n p b [] h k e l = refl
-put_later m a n p b (c ∷ bs) h k e l =
-    let ne : p ≢ a = omega arith in
-    ap (λ (x : List ℕ). put_bytes x (wrap (a + 1)) bs) (apart m p a b c ne)
-    ∙ put_later (put_byte m a c) (wrap (a + 1)) (n - 1) p b bs (omega arith) (omega arith) (omega arith) (omega arith)
+put_later m a n p b (c ∷ bs) h k e l = grind (arith, apart, put_later (put_byte m a c) (wrap (a + 1)) (n - 1) p b bs (omega arith) (omega arith) (omega arith) (omega arith))
 
 put_last : (m : List ℕ) (a p b : ℕ) (bs : List ℕ) → a < 65536 → p ≡ wrap (a + length bs) → put_bytes m a (bs ++ b ∷ []) ≡ put_byte (put_bytes m a bs) p b
 unfolding put_bytes
@@ -108,9 +97,6 @@ put_down_up m end (d ∷ ds) h k =
 
 -- the same for a picture, whose digits come the highest first
 pub picture_put : (m : List ℕ) (end : ℕ) (ds : List ℕ) → end < 65536 → length ds < 65536 → put_down m end (reverse ds) ≡ put_bytes m (difference end (length ds)) (map byte_of ds)
-picture_put m end ds h k =
-    let e : length (reverse ds) ≡ length ds = length-reverse ds in
-    let s : put_down m end (reverse ds) ≡ put_bytes m (difference end (length (reverse ds))) (map byte_of (reverse (reverse ds))) = put_down_up m end (reverse ds) h (omega arith) in
-    rw (e, reverse-reverse ds) at s
+picture_put m end ds h k = grind (arith, length-reverse, put_down_up, reverse-reverse)
 
 pub ruleset pictures = (picture_shows, picture_put)

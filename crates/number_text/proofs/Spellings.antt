@@ -1,10 +1,10 @@
-use Rattle.std.proofs.Common.{◌≡◌, ◌≢◌, ℕ, ◌+◌, ◌-◌, ◌%◌, ◌<◌, List, [], ◌∷◌, ◌++◌, ◌∙◌, length, length-append, take, drop, slice_index, refl, sym, ap, arith, Bool, true, false, not, ◌&&◌, ◌==◌, if◌then◌else◌}
+use Rattle.std.proofs.Common.{◌≡◌, ◌≢◌, ℕ, ◌-◌, ◌<◌, List, [], ◌∷◌, ◌++◌, length, length-append, take, drop, slice_index, refl, arith, Bool, true, false, if◌then◌else◌}
 use Rattle.std.proofs.lemmas.List.{append-nil, drop_more, drop_all, take-append-drop}
 use Rattle.std.proofs.lemmas.List.Sums.{AllPass-from_list_all}
 use Rattle.std.proofs.Math.ListN.{get_or-append}
 use Rattle.std.proofs.Math.Seq.{take-append_seam, get_or-append_seam}
-use Rattle.number_text.specs.Digits.{digit, is_digit, are_digits, text_value}
-use Rattle.number_text.specs.Numbers.{is_minus, has_dot, behind_minus, before_dot, digit_part, is_number, is_double, number_value, with_sign, sign, point, spelled, IsSpelling}
+use Rattle.number_text.specs.Digits.{digit, is_digit, are_digits}
+use Rattle.number_text.specs.Numbers.{is_minus, has_dot, behind_minus, before_dot, digit_part, is_number, is_double, number_value, sign, point, spelled, IsSpelling}
 
 -- neither `-` nor `.` is a digit
 minus_no_digit : (base x : ℕ) → base < 65536 → x ≡ 45 → is_digit base x ≡ false
@@ -45,14 +45,7 @@ has_dot_yes t h q = grind arith
 finish : (base : ℕ) (text rest ds : List ℕ) (minus dot : Bool) → is_minus text ≡ minus → behind_minus text ≡ rest → has_dot rest ≡ dot → before_dot rest ≡ ds →
     0 < length ds → are_digits base ds ≡ true → IsSpelling base text minus ds dot
 unfolding is_number is_double number_value
-finish base text rest ds minus dot m b d p some digits =
-    let part : digit_part text ≡ ds = ap before_dot b ∙ p in
-    let full : (length ds == 0) ≡ false = grind arith in
-    record {
-      number = ap (λ (x : List ℕ). not (length x == 0) && are_digits base x) part ∙ rw (full, digits) refl;
-      double = ap has_dot b ∙ d;
-      value = ap (λ (x : List ℕ). with_sign (is_minus text) (text_value base x % 4294967296)) part ∙ rw m refl;
-    }
+finish base text rest ds minus dot m b d p some digits = grind arith
 
 -- after the digits
 point_parts : (base : ℕ) (ds : List ℕ) (dot : Bool) → base < 65536 → 0 < length ds → are_digits base ds ≡ true →
@@ -69,12 +62,7 @@ point_parts base ds true b some digits =
 -- before the digits
 sign_parts : (base : ℕ) (ds ys : List ℕ) (minus : Bool) → base < 65536 → 0 < length ds → are_digits base ds ≡ true →
     (is_minus (sign minus ++ (ds ++ ys)) ≡ minus) × (behind_minus (sign minus ++ (ds ++ ys)) ≡ ds ++ ys)
-sign_parts base ds ys true b some digits = let yes : is_minus (45 ∷ ds ++ ys) ≡ true = is_minus_yes (ds ++ ys) in (yes, rw yes refl)
-sign_parts base ds ys false b some digits =
-    let front : slice_index (ds ++ ys) 0 ≡ slice_index ds 0 = get_or-append ds ys 0 0 some in
-    let no : is_minus (ds ++ ys) ≡ false =
-    is_minus_no (ds ++ ys) (omega (arith, length-append ds ys)) (λ e. no_minus_at base 0 ds b digits some (sym front ∙ e)) in
-    (no, rw no refl)
+sign_parts base ds ys minus b some digits = grind (arith, is_minus_yes, get_or-append, is_minus_no, length-append, no_minus_at)
 
 -- each spelling is a number
 pub spelling : (base : ℕ) (ds : List ℕ) (minus dot : Bool) → base < 65536 → 0 < length ds → are_digits base ds ≡ true →
@@ -94,25 +82,15 @@ unfolding is_minus
 no_minus_of_nothing = refl
 
 minus_back : (t : List ℕ) (b : Bool) → is_minus t ≡ b → t ≡ sign b ++ (if b then drop 1 t else t)
-minus_back t false e = refl
-minus_back [] true e = let f = no_minus_of_nothing in cc
-minus_back (c ∷ cs) true e = ap (λ (x : ℕ). x ∷ cs) (minus_first c cs e)
+minus_back t b e = grind (arith, no_minus_of_nothing, minus_first)
 
 dot_last : (t : List ℕ) → has_dot t ≡ true → (0 < length t) × (slice_index t (length t - 1) ≡ 46)
 unfolding has_dot
 dot_last t e = (grind arith, grind arith)
 
 dot_back : (t : List ℕ) (b : Bool) → has_dot t ≡ b → t ≡ (if b then take (length t - 1) t else t) ++ point b
-dot_back t false e = sym (append-nil t)
-dot_back t true e =
-    let last : (0 < length t) × (slice_index t (length t - 1) ≡ 46) = dot_last t e in
-    let n : ℕ = length t - 1 in
-    let one : drop n t ≡ slice_index t n ∷ drop (n + 1) t = drop_more t n 0 (omega arith) in
-    let none : drop (n + 1) t ≡ [] = drop_all (n + 1) t (omega arith) in
-    sym (take-append-drop n t) ∙ ap (λ (x : List ℕ). take n t ++ x) (one ∙ rw (none, last.1) refl)
+dot_back t b e = grind (arith, append-nil, dot_last, drop_more, drop_all, take-append-drop)
 
 pub only_spellings : (text : List ℕ) → text ≡ spelled (is_minus text) (digit_part text) (is_double text)
 unfolding is_double
-only_spellings text =
-    minus_back text (is_minus text) refl
-    ∙ ap (λ (x : List ℕ). sign (is_minus text) ++ x) (dot_back (behind_minus text) (has_dot (behind_minus text)) refl)
+only_spellings text = grind (arith, minus_back, dot_back)

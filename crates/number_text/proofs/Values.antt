@@ -1,4 +1,4 @@
-use Rattle.std.proofs.Common.{◌≡◌, ℕ, ◌+◌, ◌*◌, ◌^◌, ◌%◌, ◌<◌, ◌≤◌, List, ◌∷◌, length, drop, slice_index, refl, arith, true, false, ◌∙◌, ap, sym}
+use Rattle.std.proofs.Common.{◌≡◌, ℕ, ◌+◌, ◌*◌, ◌^◌, ◌%◌, ◌<◌, ◌≤◌, List, ◌∷◌, length, drop, slice_index, refl, arith, true, false, ◌∙◌, ap}
 use Rattle.std.proofs.lemmas.Grind.{common_steps}
 use Rattle.std.proofs.lemmas.List.{drop_more, drop_all, length-map}
 use Rattle.std.proofs.lemmas.Nat.{mul-mod_first}
@@ -41,8 +41,7 @@ one_digit n b d p v =
 pub continued-cons : (base number c : ℕ) (cs : List ℕ) →
     continued base number (c ∷ cs) ≡ continued base (((number * base) % 4294967296 + digit c) % 4294967296) cs
 unfolding continued
-continued-cons base number c cs =
-    rw (text_value-cons base c cs, pow-suc base (length cs)) (sym (one_digit number base (digit c) (base ^ length cs) (text_value base cs)))
+continued-cons base number c cs = grind (arith, text_value-cons, pow-suc, one_digit)
 
 pub continued_more : (base number i : ℕ) (t : List ℕ) → i < length t →
     continued base number (drop i t) ≡ continued base (((number * base) % 4294967296 + digit (slice_index t i)) % 4294967296) (drop (i + 1) t)

@@ -1,5 +1,5 @@
 -- What a row asks of its device, what it leaves of the buffers, and what it keeps where it stops: by its shape.
-use Rattle.std.proofs.Common.{◌≡◌, ℕ, ◌==◌, ◌||◌, ◌<◌, ◌≤◌, List, [], ◌∷◌, ◌++◌, length, nat_lt, Option, Some, None, Bool, true, false, refl, sym, subst, if◌then◌else◌}
+use Rattle.std.proofs.Common.{◌≡◌, ℕ, ◌==◌, ◌||◌, ◌<◌, ◌≤◌, List, [], ◌∷◌, ◌++◌, length, Option, Some, None, Bool, true, false, refl, sym, subst, if◌then◌else◌, arith}
 use Rattle.block_buffers.specs.declared.entry.Entry.{Entry}
 use Rattle.block_buffers.specs.Entries.{holds, slot_of, victim, has_updated, first_updated, moved_front, after_references, assigned, front_marked, unassigned, AreBuffers, HasNoBlockTwice}
 use Rattle.block_buffers.proofs.Kept.{are_moved, are_assigned, are_marked, are_unassigned, blocks_moved}
@@ -154,12 +154,7 @@ stops_behind s slot (t, outcome.Abort span) h = keeps_behind s t slot h
 stops_behind s slot (t, outcome.Halt) h = tt
 
 behaves_referenced : (m : Option After) (s : Whole) (u : ℕ) (x : After) → Behaves m (with_block s u) x → Behaves m s x
-behaves_referenced m s u x h = record {
-  stops = stops_behind s (slot_of s.buffers u) x h.stops;
-  asks = h.asks;
-  keeps = λ k. h.keeps (orderly_moved (slot_of s.buffers u) s.buffers k);
-  fitly = h.fitly;
-}
+behaves_referenced m s u x h = grind (arith, stops_behind, orderly_moved)
 
 -- a row that stops here
 stopped : (s : Whole) (o : Outcome) → AsksFitly (s, o) → Behaves (Some (s, o)) s (s, o)
@@ -167,11 +162,7 @@ stopped s o f = record { stops = stops_same s o; asks = λ q. refl; keeps = λ k
 
 without_fitly : (s : Whole) (u : ℕ) → AsksFitly (s, without_block s u)
 unfolding without_block
-without_fitly s u = by_count (nat_lt u s.block_count) (victim s.buffers).updated where
-  by_count : (a b : Bool) → AsksFitly (s, (if a then (if b then write_of (victim s.buffers) else outcome.Ask (request.Read u)) else outcome.Fault 7))
-  by_count true true = tt
-  by_count true false = tt
-  by_count false b = tt
+without_fitly s u = grind arith
 
 pub behaves_fetches : (us : List ℕ) (s : Whole) (u : ℕ) (f : Whole → ℕ → After) → ((slot : ℕ) → Behaves (missing us (with_block s u)) (with_block s u) (f (with_block s u) slot)) → Behaves (missing (u ∷ us) s) s (fetches s u f)
 unfolding missing
@@ -196,10 +187,7 @@ given s = if (victim s.buffers).updated then Some (s, write_of (victim s.buffers
 
 pub behaves_saves_victim : (s : Whole) (x : After) → Behaves None s x → Behaves (given s) s (saves_victim s x)
 unfolding saves_victim given
-behaves_saves_victim s x h = by_test (victim s.buffers).updated where
-  by_test : (b : Bool) → Behaves (if b then Some (s, write_of (victim s.buffers)) else None) s (if b then (s, write_of (victim s.buffers)) else x)
-  by_test true = stopped s (write_of (victim s.buffers)) tt
-  by_test false = h
+behaves_saves_victim s x h = grind (arith, stopped)
 
 -- what SAVE-BUFFERS and FLUSH ask at most: that the first updated buffer be written
 unfoldable pub saved : Whole → Option After
@@ -207,10 +195,7 @@ saved s = if has_updated s.buffers then Some (s, write_of (first_updated s.buffe
 
 pub behaves_saves : (s : Whole) (x : After) → Behaves None s x → Behaves (saved s) s (saves s x)
 unfolding saves saved
-behaves_saves s x h = by_test (has_updated s.buffers) where
-  by_test : (b : Bool) → Behaves (if b then Some (s, write_of (first_updated s.buffers)) else None) s (if b then (s, write_of (first_updated s.buffers)) else x)
-  by_test true = stopped s (write_of (first_updated s.buffers)) tt
-  by_test false = h
+behaves_saves s x h = grind (arith, stopped)
 
 -- a plain row
 pub behaves_plain : (m : Option After) (s : Whole) (x : After) → IsPlain s x → Behaves m s x

@@ -1,6 +1,6 @@
 -- An index that knows of a write holds for the memory after it. Cells of the system by their addresses: STATE 16,
 -- BASE 18, >IN 20, DP 28, LAST 30, HLD 36, VOC-LINK 52.
-use Rattle.std.proofs.Common.{◌≡◌, ℕ, ◌+◌, ◌-◌, ◌%◌, ◌<◌, ◌≤◌, List, [], ◌∷◌, length, map, arith, ◌∙◌, IsTrue, length-append, subst, sym, true, false}
+use Rattle.std.proofs.Common.{◌≡◌, ℕ, ◌+◌, ◌-◌, ◌%◌, ◌<◌, ◌≤◌, List, [], ◌∷◌, length, map, arith, ◌∙◌, IsTrue, length-append, subst, sym, true}
 use Rattle.std.specs.Prelude.{Result, Ok}
 use Rattle.std.proofs.lemmas.List.{length-map}
 use Rattle.std.proofs.lemmas.Grind.{common_steps}
@@ -72,9 +72,7 @@ minus_holds limit index new m other place n is negative e h told holds =
 
 pub plus_holds : (limit : ℕ) (index : NameIndex) (m other : List ℕ) (n : ℕ) → other ≡ signed_picture m n → n < 32768 → Holds limit index m → Holds limit index other
 unfolding signed_picture
-plus_holds limit index m other n is positive holds =
-    let t : is_negative n ≡ false = grind (arith, common_steps) in
-    rw (is, t) holds
+plus_holds limit index m other n is positive holds = grind (arith, common_steps)
 
 -- the digits of a double are in the 32 bytes below the picture's old end
 beside_digits : (m : List ℕ) (end base number : ℕ) → end < 65536 → IsTrue (is_base base) → number < 4294967296
@@ -139,8 +137,7 @@ header_holds limit index one two m header here size head end link k h g first se
     let s1 : AgreeBeside here size m m1 = subst (λ n. AgreeBeside here n m m1) k (beside_bytes m here header h) in
     let h1 : Holds limit one m1 = first limit m m1 s1 holds in
     let h2 : Holds limit one m2 = holds_system_cell limit 28 end one m1 (omega arith) h1 in
-    let h3 : Holds limit two m3 = second limit m2 m3 (beside_cell m2 head link g) h2 in
-    holds_system_cell limit 30 link two m3 (omega arith) h3
+    grind (arith, beside_cell, holds_system_cell)
 
 -- ;
 pub ended_holds : (limit : ℕ) (index one two : NameIndex) (m other : List ℕ) (here count : ℕ) → other ≡ ended m → here ≡ cell m 28 → here < 65536 → count ≡ newest_count m → count < 65536
@@ -154,8 +151,7 @@ ended_holds limit index one two m other here count is e h f g first second holds
     let s1 : AgreeBeside here 2 m m1 = subst (λ n. AgreeBeside here n m m1) (length-cell_bytes x) (beside_bytes m here (cell_bytes x) h) in
     let h1 : Holds limit one m1 = first limit m m1 s1 holds in
     let h2 : Holds limit one m2 = holds_system_cell limit 28 _ one m1 (omega arith) h1 in
-    let h3 : Holds limit two m3 = second limit m2 m3 (beside_byte m2 count _ g) h2 in
-    rw (is, sym e, sym f) (holds_system_cell limit 16 0 two m3 (omega arith) h3)
+    grind (arith, beside_byte, holds_system_cell)
 
 pub definition_holds : (limit : ℕ) (index one two : NameIndex) (m other : List ℕ) (result : Result Unit Full) (room here count : ℕ) (u : Unit) → IsEnded room m other result → result ≡ Ok u
     → here ≡ cell m 28 → here < 65536 → count ≡ newest_count m → count < 65536

@@ -1,5 +1,5 @@
 -- Ranges of memory in two pieces.
-use Rattle.std.proofs.Common.{◌≡◌, ℕ, ◌+◌, ◌-◌, ◌≤◌, ◌<◌, List, [], ◌∷◌, ◌++◌, length, take, min, arith, ap, sym, ◌∙◌, inl, inr, refl}
+use Rattle.std.proofs.Common.{◌≡◌, ℕ, ◌+◌, ◌-◌, ◌≤◌, ◌<◌, List, [], ◌∷◌, ◌++◌, length, take, min, arith, ap, sym, ◌∙◌}
 use Rattle.std.proofs.lemmas.List.{append-nil, take_all, take-append-le}
 use Rattle.std.proofs.lemmas.Bool.{cases_lt}
 use Rattle.std.proofs.Math.Seq.{take-append-add}
@@ -19,13 +19,7 @@ first_in_both n xs ys h =
     ap (λ k. take k (xs ++ ys)) e ∙ take-append-add xs ys (n - length xs)
 
 few_of : (k : ℕ) (ys : List ℕ) → take (min (length ys) k) ys ≡ take k ys
-few_of k ys = elim (cases_lt k (length ys)) [
-  | inl more ↦ let e : min (length ys) k ≡ k = omega (arith, more) in rw e refl
-  | inr less ↦ let e : min (length ys) k ≡ length ys = omega (arith, less) in rw e (take_all (length ys) ys (omega arith) ∙ sym (take_all k ys less))
-]
+few_of k ys = grind (arith, cases_lt, take_all)
 
 pub first_joined : (n : ℕ) (xs ys : List ℕ) → take n (xs ++ ys) ≡ take (min (length xs) n) xs ++ take (min (length ys) (n - min (length xs) n)) ys
-first_joined n xs ys = elim (cases_lt n (length xs)) [
-  | inl long ↦ let e : min (length xs) n ≡ n = omega (arith, long) in let z : n - n ≡ 0 = omega arith in rw (few_of (n - min (length xs) n) ys, e, z) (first_in_one n xs ys long)
-  | inr short ↦ let e : min (length xs) n ≡ length xs = omega (arith, short) in rw (few_of (n - min (length xs) n) ys, e, take_all (length xs) xs (omega arith)) (first_in_both n xs ys short)
-]
+first_joined n xs ys = grind (arith, cases_lt, few_of, first_in_one, take_all, first_in_both)

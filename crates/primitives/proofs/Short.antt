@@ -1,5 +1,5 @@
 -- No header's name has more than 31 bytes: so a longer one is sought as its first 32 bytes are.
-use Rattle.std.proofs.Common.{◌≡◌, ℕ, ◌+◌, ◌<◌, ◌≤◌, List, [], ◌∷◌, length, take, slice_index, Bool, ◌==◌, refl, arith, ap, sym, ◌∙◌, inl, inr}
+use Rattle.std.proofs.Common.{◌≡◌, ℕ, ◌<◌, List, [], ◌∷◌, length, take, Bool, ◌==◌, refl, arith, inl, inr}
 use Rattle.std.specs.Prelude.{find}
 use Rattle.std.specs.Int.Bits.{mask_lt}
 use Rattle.std.proofs.lemmas.Bool.{cases_lt}
@@ -31,12 +31,10 @@ find_same p q e (x ∷ xs) = rw (e x, find_same p q e xs) refl
 
 head_short : (voc : ℕ) (name : List ℕ) → head_of voc (take 32 name) ≡ head_of voc name
 unfolding head_of
-head_short voc [] = refl
-head_short voc (x ∷ xs) = refl
+head_short voc name = grind arith
 
 empty_short : (name : List ℕ) → (length (take 32 name) == 0) ≡ (length name == 0)
-empty_short [] = refl
-empty_short (x ∷ xs) = grind (arith, common_steps)
+empty_short name = grind (arith, common_steps)
 
 first_short : (m name : List ℕ) (voc : ℕ) → length m ≡ 65536 → first_in (is_named m (take 32 name)) m voc (take 32 name) ≡ first_in (is_named m name) m voc name
 unfolding first_in walked

@@ -2,7 +2,7 @@
 use Rattle.std.proofs.Common.{◌≡◌, ℕ, ◌+◌, ◌<◌, ◌++◌, refl, ap, arith}
 use Rattle.std.specs.Prelude.{true, false}
 use Rattle.memory.specs.Bytes.{cell_bytes}
-use Rattle.colon_bodies.specs.Tree.{Body, Empty, Call, Tick, Pair, Literal, Double, Text, IfThen, IfElse, Until, Again, While, Loop, Definition, Simple, Doing}
+use Rattle.colon_bodies.specs.Tree.{Body, Empty, Call, Tick, Pair, Literal, Double, Text, IfThen, IfElse, Until, Again, While, Loop, Definition}
 use Rattle.colon_bodies.specs.Code.{size, code, all_code, thread}
 
 abbrev pub AreSame : (ℕ → ℕ) → (ℕ → ℕ) → Type 0
@@ -26,8 +26,7 @@ code_same f g (Text t true bs) at h = rw (code_same f g t at h, h 17 (omega arit
 code_same f g (Text t false bs) at h = rw (code_same f g t at h, h 16 (omega arith)) refl
 
 pub all_same : (f g : ℕ → ℕ) (d : Definition) (at : ℕ) → AreSame f g → all_code f d at ≡ all_code g d at
-all_same f g (Simple t) at h = code_same f g t at h
-all_same f g (Doing t a) at h = rw (code_same f g t at h, code_same f g a (at + (size t + 2)) h, h 18 (omega arith)) refl
+all_same f g y0 at h = grind (arith, code_same, size)
 
 pub thread_same : (f g : ℕ → ℕ) (d : Definition) (at : ℕ) → ((k : ℕ) → k < 32 → f k ≡ g k) → thread f d at ≡ thread g d at
 thread_same f g d at h = rw (all_same f g d at h, h 5 (omega arith)) refl

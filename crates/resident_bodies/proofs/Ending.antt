@@ -39,29 +39,19 @@ abbrev pub IsPlaced : (head here : ℕ) → Type 0
 IsPlaced head here = ((42 ≤ head) × (head + 1 < 52)) ⊎ ((256 ≤ head) × (head + 1 < here))
 
 pub head_low : (head here : ℕ) → 256 ≤ here → IsPlaced head here → (42 ≤ head) × (head + 1 < here)
-head_low head here l (inl q) = (q.0, let z = q.1 in omega arith)
-head_low head here l (inr q) = (let z = q.0 in omega arith, q.1)
+head_low head here l y0 = grind arith
 
 pub top_byte : (p : List ℕ) (d head x j : ℕ) → head + 1 < 65536 → j / 2 ≢ 14 → j / 2 ≢ 15 → j ≢ head → j ≢ head + 1 → byte (tops p d head x) j ≡ byte p j
-top_byte p d head x j h a b c e =
-    byte_cell (put_cell (put_cell p 28 d) head x) 30 x j (omega arith) (omega arith) (omega arith)
-    ∙ byte_cell (put_cell p 28 d) head x j h c e
-    ∙ byte_cell p 28 d j (omega arith) (omega arith) (omega arith)
+top_byte p d head x j h a b c e = omega (arith, byte_cell)
 
 pub length-tops : (p : List ℕ) (d head x : ℕ) → length (tops p d head x) ≡ length p
 length-tops p d head x = length_cell (put_cell (put_cell p 28 d) head x) 30 x ∙ length_cell (put_cell p 28 d) head x ∙ length_cell p 28 d
 
 pub top_both : (p q : List ℕ) (d e head x j : ℕ) → length p ≡ 65536 → length q ≡ 65536 → head + 1 < 65536 → j / 2 ≢ 14 → byte p j ≡ byte q j → byte (tops p d head x) j ≡ byte (tops q e head x) j
-top_both p q d e head x j lp lq h a s =
-    let one : byte (put_cell p 28 d) j ≡ byte (put_cell q 28 e) j = byte_cell p 28 d j (omega arith) (omega arith) (omega arith) ∙ s ∙ sym (byte_cell q 28 e j (omega arith) (omega arith) (omega arith)) in
-    cell_both (put_cell (put_cell p 28 d) head x) (put_cell (put_cell q 28 e) head x) 30 x j (length_cell (put_cell p 28 d) head x ∙ length_cell p 28 d ∙ lp) (length_cell (put_cell q 28 e) head x ∙ length_cell q 28 e ∙ lq) (omega arith)
-    (cell_both (put_cell p 28 d) (put_cell q 28 e) head x j (length_cell p 28 d ∙ lp) (length_cell q 28 e ∙ lq) h one)
+top_both p q d e head x j lp lq h a s = grind (arith, byte_cell, cell_both, length_cell)
 
 pub top_here : (p : List ℕ) (d head x : ℕ) → length p ≡ 65536 → 42 ≤ head → head + 1 < 65536 → cell (tops p d head x) 28 ≡ d
-top_here p d head x l a h =
-    cell_beside (put_cell (put_cell p 28 d) head x) 30 x 28 (omega arith) (omega arith) (omega arith) (omega arith) (omega arith)
-    ∙ cell_beside (put_cell p 28 d) head x 28 h (omega arith) (omega arith) (omega arith) (omega arith)
-    ∙ cell_here p 28 d l (omega arith)
+top_here p d head x l a h = omega (arith, cell_beside, cell_here)
 
 pub top_last : (p : List ℕ) (d head x : ℕ) → length p ≡ 65536 → cell (tops p d head x) 30 ≡ x
 top_last p d head x l = cell_here (put_cell (put_cell p 28 d) head x) 30 x (length_cell (put_cell p 28 d) head x ∙ length_cell p 28 d ∙ l) (omega arith)
@@ -91,10 +81,7 @@ length-whole v k c name = length-append (front v k) (c ∷ (name ++ cell_bytes 1
 
 header_is : (v k c : ℕ) (name extra : List ℕ) → header_bytes v k c name 1 extra ≡ whole_header v k c name ++ extra
 unfolding header_bytes
-header_is v k c name extra = pieces (cell_bytes v) (cell_bytes k) c name (cell_bytes 1) extra
-  where
-    pieces : (a b : List ℕ) (c : ℕ) (n o x : List ℕ) → a ++ (b ++ (c ∷ (n ++ (o ++ x)))) ≡ ((a ++ b) ++ (c ∷ (n ++ o))) ++ x
-    pieces a b c n o x = sym (append_assoc (a ++ b) (c ∷ (n ++ o)) x ∙ append_assoc a b (c ∷ ((n ++ o) ++ x)) ∙ ap (λ l. a ++ (b ++ (c ∷ l))) (append_assoc n o x))
+header_is v k c name extra = grind (arith, append_assoc)
 
 -- memory after `:`
 begun_is : (m name : List ℕ) → begun m name ≡ put_cell (put_cell (tops (put_bytes m (cell m 28) (header_bytes (cell m 22) (cell m (head_of (cell m 34) name)) (160 + length name) name 1 [])) (wrap (cell m 28 + length (header_bytes (cell m 22) (cell m (head_of (cell m 34) name)) (160 + length name) name 1 []))) (head_of (cell m 34) name) (wrap (cell m 28 + 2))) 16 65535) 32 (cell m 34)
@@ -125,103 +112,43 @@ length-header : (v k c : ℕ) (name extra : List ℕ) → length (header_bytes v
 length-header v k c name extra = length_header v k c 1 name extra
 
 pub begun_opening : (m name : List ℕ) (here head : ℕ) → Site m name here head → here + (7 + length name) ≤ GREATEST_LIMIT → begun m name ≡ opening m name here head
-begun_opening m name here head s r =
-    let f = λ (h g d x : ℕ). put_cell (put_cell (tops (put_bytes m h (header_bytes (cell m 22) (cell m g) (160 + length name) name 1 [])) d g x) 16 65535) 32 (cell m 34) in
-    let lo = s.low in
-    let n : wrap (here + length (header_bytes (cell m 22) (cell m head) (160 + length name) name 1 [])) ≡ here + (7 + length name) = omega (arith, length-header (cell m 22) (cell m head) (160 + length name) name []) in
-    let x : wrap (here + 2) ≡ here + 2 = omega arith in
-    begun_is m name
-    ∙ ap (λ h. f h (head_of (cell m 34) name) (wrap (h + length (header_bytes (cell m 22) (cell m (head_of (cell m 34) name)) (160 + length name) name 1 []))) (wrap (h + 2))) s.here_is
-    ∙ ap (λ g. f here g (wrap (here + length (header_bytes (cell m 22) (cell m g) (160 + length name) name 1 []))) (wrap (here + 2))) s.head_is
-    ∙ ap (λ d. f here head d (wrap (here + 2))) n
-    ∙ ap (λ y. f here head (here + (7 + length name)) y) x
+begun_opening m name here head s r = grind (arith, length-header, begun_is)
 
 laid_closed : (m name : List ℕ) (here head : ℕ) (b : Definition) → Site m name here head → here + (7 + length name + length (thread (runtime m) b (here + (7 + length name)))) ≤ GREATEST_LIMIT → laid_definition m (cell m 22) name b ≡ closed m name (thread (runtime m) b (here + (7 + length name))) here head
-laid_closed m name here head b s r =
-    let t = λ (h : ℕ). thread (runtime m) b (h + (7 + length name)) in
-    let f = λ (h g d x : ℕ). tops (put_bytes m h (header_bytes (cell m 22) (cell m g) (128 + length name) name 1 (t h))) d g x in
-    let lo = s.low in
-    let n : wrap (here + length (header_bytes (cell m 22) (cell m head) (128 + length name) name 1 (t here))) ≡ here + (7 + length name + length (t here)) = omega (arith, length-header (cell m 22) (cell m head) (128 + length name) name (t here)) in
-    let x : wrap (here + 2) ≡ here + 2 = omega arith in
-    written_is m (cell m 22) name b
-    ∙ ap (λ h. f h (head_of (cell m 34) name) (wrap (h + length (header_bytes (cell m 22) (cell m (head_of (cell m 34) name)) (128 + length name) name 1 (t h)))) (wrap (h + 2))) s.here_is
-    ∙ ap (λ g. f here g (wrap (here + length (header_bytes (cell m 22) (cell m g) (128 + length name) name 1 (t here)))) (wrap (here + 2))) s.head_is
-    ∙ ap (λ d. f here head d (wrap (here + 2))) n
-    ∙ ap (λ y. f here head (here + (7 + length name + length (t here))) y) x
+laid_closed m name here head b s r = grind (arith, length-header, written_is)
 
 -- what is in them
 whole_has : (m name extra : List ℕ) (here head c i : ℕ) → Site m name here head → here + (7 + length name + length extra) ≤ GREATEST_LIMIT → i < 7 + length name + length extra
     → byte (put_bytes m here (header_bytes (cell m 22) (cell m head) c name 1 extra)) (here + i) ≡ slice_index (whole_header (cell m 22) (cell m head) c name ++ extra) i
-whole_has m name extra here head c i s r h =
-    let n = length-header (cell m 22) (cell m head) c name extra in
-    laid_has m here i (header_bytes (cell m 22) (cell m head) c name 1 extra) s.all (omega arith) (omega arith)
-    ∙ ap (λ l. slice_index l i) (header_is (cell m 22) (cell m head) c name extra)
+whole_has m name extra here head c i s r h = grind (arith, length-header, laid_has, header_is)
 
 pub opening_low : (m name : List ℕ) (here head j : ℕ) → Site m name here head → here + (7 + length name) ≤ GREATEST_LIMIT → j < here → j / 2 ≢ 8 → j / 2 ≢ 14 → j / 2 ≢ 15 → j / 2 ≢ 16 → j ≢ head → j ≢ head + 1 → byte (opening m name here head) j ≡ byte m j
-opening_low m name here head j s r h a b c e f g =
-    let hl = head_low head here s.low s.placed in
-    let h1 = header_bytes (cell m 22) (cell m head) (160 + length name) name 1 [] in
-    byte_cell (put_cell (opened m name here head) 16 65535) 32 (cell m 34) j (omega arith) (omega arith) (omega arith)
-    ∙ byte_cell (opened m name here head) 16 65535 j (omega arith) (omega arith) (omega arith)
-    ∙ top_byte (put_bytes m here h1) (here + (7 + length name)) head (here + 2) j (omega (arith, hl.1)) b c f g
-    ∙ byte_below m here h1 j (omega (arith, length-header (cell m 22) (cell m head) (160 + length name) name [])) h
+opening_low m name here head j s r h a b c e f g = omega (arith, head_low, byte_cell, top_byte, byte_below, length-header)
 
 pub opening_header : (m name : List ℕ) (here head i : ℕ) → Site m name here head → here + (7 + length name) ≤ GREATEST_LIMIT → i < 7 + length name → byte (opening m name here head) (here + i) ≡ slice_index (whole_header (cell m 22) (cell m head) (160 + length name) name ++ []) i
-opening_header m name here head i s r h =
-    let hl = head_low head here s.low s.placed in
-    let lo = s.low in
-    let h1 = header_bytes (cell m 22) (cell m head) (160 + length name) name 1 [] in
-    let j = here + i in
-    byte_cell (put_cell (opened m name here head) 16 65535) 32 (cell m 34) j (omega arith) (omega arith) (omega arith)
-    ∙ byte_cell (opened m name here head) 16 65535 j (omega arith) (omega arith) (omega arith)
-    ∙ top_byte (put_bytes m here h1) (here + (7 + length name)) head (here + 2) j (omega (arith, hl.1)) (omega arith) (omega arith) (omega (arith, hl.1)) (omega (arith, hl.1))
-    ∙ whole_has m name [] here head (160 + length name) i s (omega arith) (omega arith)
+opening_header m name here head i s r h = omega (arith, head_low, byte_cell, top_byte, whole_has)
 
 closed_has : (m name extra : List ℕ) (here head i : ℕ) → Site m name here head → here + (7 + length name + length extra) ≤ GREATEST_LIMIT → i < 7 + length name + length extra → byte (closed m name extra here head) (here + i) ≡ slice_index (whole_header (cell m 22) (cell m head) (128 + length name) name ++ extra) i
-closed_has m name extra here head i s r h =
-    let hl = head_low head here s.low s.placed in
-    let lo = s.low in
-    let h2 = header_bytes (cell m 22) (cell m head) (128 + length name) name 1 extra in
-    top_byte (put_bytes m here h2) (here + (7 + length name + length extra)) head (here + 2) (here + i) (omega (arith, hl.1)) (omega arith) (omega arith) (omega (arith, hl.1)) (omega (arith, hl.1))
-    ∙ whole_has m name extra here head (128 + length name) i s r h
+closed_has m name extra here head i s r h = omega (arith, head_low, top_byte, whole_has)
 
 pub length-opening : (m name : List ℕ) (here head : ℕ) → Site m name here head → length (opening m name here head) ≡ 65536
-length-opening m name here head s =
-    let h1 = header_bytes (cell m 22) (cell m head) (160 + length name) name 1 [] in
-    length_cell (put_cell (opened m name here head) 16 65535) 32 (cell m 34) ∙ length_cell (opened m name here head) 16 65535
-    ∙ length-tops (put_bytes m here h1) (here + (7 + length name)) head (here + 2) ∙ length_bytes m here h1 ∙ s.all
+length-opening m name here head s = omega (arith, length_cell, length-tops, length_bytes)
 
 pub opening_here : (m name : List ℕ) (here head : ℕ) → Site m name here head → here + (7 + length name) ≤ GREATEST_LIMIT → cell (opening m name here head) 28 ≡ here + (7 + length name)
-opening_here m name here head s r =
-    let hl = head_low head here s.low s.placed in
-    let h1 = header_bytes (cell m 22) (cell m head) (160 + length name) name 1 [] in
-    cell_beside (put_cell (opened m name here head) 16 65535) 32 (cell m 34) 28 (omega arith) (omega arith) (omega arith) (omega arith) (omega arith)
-    ∙ cell_beside (opened m name here head) 16 65535 28 (omega arith) (omega arith) (omega arith) (omega arith) (omega arith)
-    ∙ top_here (put_bytes m here h1) (here + (7 + length name)) head (here + 2) (length_bytes m here h1 ∙ s.all) hl.0 (omega (arith, hl.1))
+opening_here m name here head s r = omega (arith, head_low, cell_beside, top_here, length_bytes)
 
 pub opening_last : (m name : List ℕ) (here head : ℕ) → Site m name here head → here + (7 + length name) ≤ GREATEST_LIMIT → cell (opening m name here head) 30 ≡ here + 2
-opening_last m name here head s r =
-    let h1 = header_bytes (cell m 22) (cell m head) (160 + length name) name 1 [] in
-    cell_beside (put_cell (opened m name here head) 16 65535) 32 (cell m 34) 30 (omega arith) (omega arith) (omega arith) (omega arith) (omega arith)
-    ∙ cell_beside (opened m name here head) 16 65535 30 (omega arith) (omega arith) (omega arith) (omega arith) (omega arith)
-    ∙ top_last (put_bytes m here h1) (here + (7 + length name)) head (here + 2) (length_bytes m here h1 ∙ s.all)
+opening_last m name here head s r = omega (arith, cell_beside, top_last, length_bytes)
 
 pub cell_of : (m n : List ℕ) (a : ℕ) → a + 1 < 65536 → byte m a ≡ byte n a → byte m (a + 1) ≡ byte n (a + 1) → cell m a ≡ cell n a
 unfolding cell
 cell_of m n a h e f = let w : wrap (a + 1) ≡ a + 1 = omega arith in rw (w, e, f) refl
 
 apart : (k head here : ℕ) → k < 32 → IsPlaced head here → (64 + 2 * k ≢ head) × (64 + 2 * k ≢ head + 1) × (64 + 2 * k + 1 ≢ head) × (64 + 2 * k + 1 ≢ head + 1)
-apart k head here h (inl q) = let z = q.1 in (omega arith, omega arith, omega arith, omega arith)
-apart k head here h (inr q) = let z = q.0 in (omega arith, omega arith, omega arith, omega arith)
+apart k head here h y0 = grind arith
 
 pub opening_controls : (m name : List ℕ) (here head k : ℕ) → Site m name here head → here + (7 + length name) ≤ GREATEST_LIMIT → k < 32 → runtime (opening m name here head) k ≡ runtime m k
-opening_controls m name here head k s r h =
-    let a = 64 + 2 * k in
-    let lo = s.low in
-    let q = apart k head here h s.placed in
-    cell_of (opening m name here head) m a (omega arith)
-    (opening_low m name here head a s r (omega arith) (omega arith) (omega arith) (omega arith) (omega arith) q.0 q.1)
-    (opening_low m name here head (a + 1) s r (omega arith) (omega arith) (omega arith) (omega arith) (omega arith) q.2 q.3)
+opening_controls m name here head k s r h = grind (arith, apart, cell_of, opening_low)
 
 -- what `;` leaves
 abbrev pub finished : (s : List ℕ) → (here n e : ℕ) → List ℕ
@@ -247,14 +174,11 @@ pub ended_is : (m name s : List ℕ) (here head : ℕ) (b : Definition) → Read
 unfolding newest_count
 ended_is m name s here head b r =
     let st = r.site in
-    let lo = st.low in
-    let room = r.room in
     let k = r.body.kept in
     let pf = here + (7 + length name) in
     let o = opening m name here head in
     let f = whole_header (cell m 22) (cell m head) (160 + length name) name in
     let last : cell s 30 ≡ here + 2 = kept_cell pf 30 s o k (omega arith) (omega arith) (omega arith) (omega arith) (omega arith) (omega arith) ∙ opening_last m name here head st (omega arith) in
-    let at : wrap (cell s 30 + 2) ≡ here + 4 = omega arith in
     let four : length (front (cell m 22) (cell m head)) ≡ 4 = length-front (cell m 22) (cell m head) in
     let count : byte s (here + 4) ≡ 160 + length name =
     k (here + 4) (omega arith) (omega arith) (omega arith) ∙ opening_header m name here head 4 st (omega arith) (omega arith)
@@ -263,49 +187,32 @@ ended_is m name s here head b r =
     let c : runtime s 5 ≡ runtime m 5 = kept_cell pf 74 s o k (omega arith) (omega arith) (omega arith) (omega arith) (omega arith) (omega arith) ∙ opening_controls m name here head 5 st (omega arith) (omega arith) in
     let g = λ (e p x : ℕ). put_cell (put_byte (laid s (cell_bytes e)) p (revealed x)) 16 0 in
     ap (λ e. g e (wrap (cell s 30 + 2)) (byte s (wrap (cell s 30 + 2)))) c
-    ∙ ap (λ p. g (runtime m 5) p (byte s p)) at
+    ∙ ap (λ p. g (runtime m 5) p (byte s p)) (omega arith)
     ∙ ap (λ x. g (runtime m 5) (here + 4) x) count
     ∙ ap (λ x. put_cell (put_byte (laid s (cell_bytes (runtime m 5))) (here + 4) x) 16 0) (reveal_new name st.short)
 
 -- its bytes, except the count and STATE
 pub finished_byte : (s : List ℕ) (here n e j : ℕ) → j / 2 ≢ 8 → j / 2 ≢ 14 → j ≢ here + 4 → byte (finished s here n e) j ≡ byte (put_bytes s (cell s 28) (cell_bytes e)) j
 unfolding laid_at
-finished_byte s here n e j a b c =
-    byte_cell (put_byte (laid s (cell_bytes e)) (here + 4) (128 + n)) 16 0 j (omega arith) (omega arith) (omega arith)
-    ∙ byte_set (laid s (cell_bytes e)) (here + 4) (128 + n) j c
-    ∙ byte_cell (put_bytes s (cell s 28) (cell_bytes e)) 28 (wrap (cell s 28 + length (cell_bytes e))) j (omega arith) (omega arith) (omega arith)
+finished_byte s here n e j a b c = omega (arith, byte_cell, byte_set)
 
 pub length-laid : (s bs : List ℕ) → length (laid s bs) ≡ length s
 unfolding laid_at
 length-laid s bs = length_cell (put_bytes s (cell s 28) bs) 28 (wrap (cell s 28 + length bs)) ∙ length_bytes s (cell s 28) bs
 
 finished_count : (s : List ℕ) (here n e : ℕ) → length s ≡ 65536 → 256 ≤ here → here + 4 < 65536 → byte (finished s here n e) (here + 4) ≡ 128 + n
-finished_count s here n e l a h =
-    byte_cell (put_byte (laid s (cell_bytes e)) (here + 4) (128 + n)) 16 0 (here + 4) (omega arith) (omega arith) (omega arith)
-    ∙ byte_here (laid s (cell_bytes e)) (here + 4) (128 + n) (omega (arith, length-laid s (cell_bytes e)))
+finished_count s here n e l a h = omega (arith, byte_cell, byte_here, length-laid)
 
 pub finished_state : (s : List ℕ) (here n e j : ℕ) → length s ≡ 65536 → j / 2 ≡ 8 → byte (finished s here n e) j ≡ 0
 unfolding put_cell
-finished_state s here n e j l h =
-    let m = put_byte (laid s (cell_bytes e)) (here + 4) (128 + n) in
-    let lm : length m ≡ 65536 = length_byte (laid s (cell_bytes e)) (here + 4) (128 + n) ∙ length-laid s (cell_bytes e) ∙ l in
-    elim (cases_lt j 17) [
-      | inl a ↦ let q : j ≡ 16 = omega arith in
-          ap (λ i. byte (finished s here n e) i) q ∙ byte_set (put_byte m 16 0) 17 0 16 (omega arith) ∙ byte_here m 16 0 (omega (arith, lm))
-      | inr a ↦ let q : j ≡ 17 = omega arith in
-          ap (λ i. byte (finished s here n e) i) q ∙ byte_here (put_byte m 16 0) 17 0 (omega (arith, length_byte m 16 0, lm))
-    ]
+finished_state s here n e j l h = grind (arith, length_byte, length-laid, byte_set, byte_here)
 
 low_zero : (m : List ℕ) (j : ℕ) → cell m 16 ≡ 0 → j / 2 ≡ 8 → byte m j ≡ 0
 unfolding cell
-low_zero m j e h = elim (cases_lt j 17) [
-  | inl a ↦ let q : j ≡ 16 = omega arith in ap (λ i. byte m i) q ∙ omega arith
-  | inr a ↦ let q : j ≡ 17 = omega arith in ap (λ i. byte m i) q ∙ omega arith
-]
+low_zero m j e h = grind arith
 
 false_not : (b : Bool) → b ≡ false → b ≡ true → ⊥
-false_not true e f = cc
-false_not false e f = cc
+false_not y0 e f = grind arith
 
 -- below the definition
 agree_low : (m name s : List ℕ) (here head j : ℕ) (b : Definition) → Read m name here head b s → j < here → j / 4 ≢ 5 → j / 2 ≢ 14 → j / 2 ≢ 16
@@ -315,36 +222,13 @@ agree_low m name s here head j b r h a c e = by (j / 2 == 8) refl
     by : (x : Bool) → (j / 2 == 8) ≡ x → byte (finished s here (length name) (runtime m 5)) j ≡ byte (closed m name (thread (runtime m) b (here + (7 + length name))) here head) j
     by true q =
         let st = r.site in
-        let lo = st.low in
-        let hl = head_low head here st.low st.placed in
         let extra = thread (runtime m) b (here + (7 + length name)) in
         let le = length-extra (runtime m) b (here + (7 + length name)) in
-        let room = r.room in
-        let h2 = header_bytes (cell m 22) (cell m head) (128 + length name) name 1 extra in
-        let z = eqb-true (j / 2) 8 q in
-        finished_state s here (length name) (runtime m 5) j r.body.all z
-        ∙ sym (top_byte (put_bytes m here h2) (here + (7 + length name + length extra)) head (here + 2) j (omega (arith, hl.1)) c (omega arith) (omega (arith, hl.0)) (omega (arith, hl.0))
-        ∙ byte_below m here h2 j (omega (arith, length-header (cell m 22) (cell m head) (128 + length name) name extra)) h
-        ∙ low_zero m j st.executing z)
+        grind (arith, finished_state, top_byte, byte_below, length-header, low_zero)
     by false q =
         let st = r.site in
-        let lo = st.low in
-        let hl = head_low head here st.low st.placed in
-        let extra = thread (runtime m) b (here + (7 + length name)) in
         let le = length-extra (runtime m) b (here + (7 + length name)) in
-        let room = r.room in
-        let dp = r.body.here in
-        let h1 = header_bytes (cell m 22) (cell m head) (160 + length name) name 1 [] in
-        let h2 = header_bytes (cell m 22) (cell m head) (128 + length name) name 1 extra in
-        let z : j / 2 ≢ 8 = λ x. false_not (j / 2 == 8) q (eq-eqb (j / 2) 8 x) in
-        let p1 : byte (put_bytes m here h1) j ≡ byte m j = byte_below m here h1 j (omega (arith, length-header (cell m 22) (cell m head) (160 + length name) name [])) h in
-        let p2 : byte (put_bytes m here h2) j ≡ byte m j = byte_below m here h2 j (omega (arith, length-header (cell m 22) (cell m head) (128 + length name) name extra)) h in
-        finished_byte s here (length name) (runtime m 5) j z c (omega arith)
-        ∙ byte_below s (cell s 28) (cell_bytes (runtime m 5)) j (omega (arith, length-cell (runtime m 5))) (omega arith)
-        ∙ r.body.kept j (omega arith) a c
-        ∙ byte_cell (put_cell (opened m name here head) 16 65535) 32 (cell m 34) j (omega arith) (omega arith) (omega arith)
-        ∙ byte_cell (opened m name here head) 16 65535 j (omega arith) (omega arith) (omega arith)
-        ∙ top_both (put_bytes m here h1) (put_bytes m here h2) (here + (7 + length name)) (here + (7 + length name + length extra)) head (here + 2) j (length_bytes m here h1 ∙ st.all) (length_bytes m here h2 ∙ st.all) (omega (arith, hl.1)) c (p1 ∙ sym p2)
+        grind (arith, false_not, eq-eqb, byte_below, length-header, finished_byte, length-cell, byte_cell, top_both, length_bytes)
 
 -- its header
 agree_header : (m name s : List ℕ) (here head i : ℕ) (b : Definition) → Read m name here head b s → i < 7 + length name
@@ -353,93 +237,44 @@ agree_header m name s here head i b r h = by (i == 4) refl
   where
     by : (x : Bool) → (i == 4) ≡ x → byte (finished s here (length name) (runtime m 5)) (here + i) ≡ byte (closed m name (thread (runtime m) b (here + (7 + length name))) here head) (here + i)
     by true q =
-        let st = r.site in
-        let lo = st.low in
-        let room = r.room in
-        let extra = thread (runtime m) b (here + (7 + length name)) in
         let le = length-extra (runtime m) b (here + (7 + length name)) in
-        let z = eqb-true i 4 q in
-        let f = whole_header (cell m 22) (cell m head) (128 + length name) name in
-        let four : length (front (cell m 22) (cell m head)) ≡ 4 = length-front (cell m 22) (cell m head) in
-        ap (λ k. byte (finished s here (length name) (runtime m 5)) (here + k)) z
-        ∙ finished_count s here (length name) (runtime m 5) r.body.all st.low (omega arith)
-        ∙ sym (ap (λ k. byte (closed m name extra here head) (here + k)) z
-        ∙ closed_has m name extra here head 4 st (omega arith) (omega arith)
-        ∙ get_or_append_left f extra 0 4 (omega (arith, length-whole (cell m 22) (cell m head) (128 + length name) name))
-        ∙ ap (λ k. slice_index f k) (sym four) ∙ count_here (front (cell m 22) (cell m head)) (name ++ cell_bytes 1) (128 + length name))
+        grind (arith, eqb-true, length-front, finished_count, closed_has, get_or_append_left, length-whole, count_here)
     by false q =
-        let st = r.site in
-        let lo = st.low in
-        let room = r.room in
-        let dp = r.body.here in
-        let extra = thread (runtime m) b (here + (7 + length name)) in
         let le = length-extra (runtime m) b (here + (7 + length name)) in
-        let z : i ≢ 4 = λ x. false_not (i == 4) q (eq-eqb i 4 x) in
-        let v = cell m 22 in
-        let k = cell m head in
-        let f1 = whole_header v k (160 + length name) name in
-        let f2 = whole_header v k (128 + length name) name in
-        let four : length (front v k) ≡ 4 = length-front v k in
-        finished_byte s here (length name) (runtime m 5) (here + i) (omega arith) (omega arith) (omega arith)
-        ∙ byte_below s (cell s 28) (cell_bytes (runtime m 5)) (here + i) (omega (arith, length-cell (runtime m 5))) (omega arith)
-        ∙ r.body.kept (here + i) (omega arith) (omega arith) (omega arith)
-        ∙ opening_header m name here head i st (omega arith) h
-        ∙ get_or_append_left f1 [] 0 i (omega (arith, length-whole v k (160 + length name) name))
-        ∙ count_other (front v k) (name ++ cell_bytes 1) (160 + length name) (128 + length name) i (λ x. z (x ∙ four))
-        ∙ sym (closed_has m name extra here head i st (omega arith) (omega arith) ∙ get_or_append_left f2 extra 0 i (omega (arith, length-whole v k (128 + length name) name)))
+        grind (arith, length-front, finished_byte, byte_below, length-cell, opening_header, get_or_append_left, length-whole, count_other, closed_has)
 
 -- its code
 agree_code : (m name s : List ℕ) (here head i : ℕ) (b : Definition) → Read m name here head b s → i < all_size b + 2
     → byte (finished s here (length name) (runtime m 5)) (here + (7 + length name) + i) ≡ byte (closed m name (thread (runtime m) b (here + (7 + length name))) here head) (here + (7 + length name) + i)
 agree_code m name s here head i b r h =
-    let st = r.site in
-    let lo = st.low in
-    let room = r.room in
-    let dp = r.body.here in
     let pf = here + (7 + length name) in
-    let extra = thread (runtime m) b pf in
-    let le = length-extra (runtime m) b pf in
     let e = runtime m 5 in
     let o = opening m name here head in
     let code = all_code (runtime o) b pf in
     let lc = length-all (runtime o) b pf in
-    let same : code ≡ all_code (runtime m) b pf = all_same (runtime o) (runtime m) b pf (λ k lt. opening_controls m name here head k st (omega arith) lt) in
+    let same : code ≡ all_code (runtime m) b pf = all_same (runtime o) (runtime m) b pf (λ k lt. opening_controls m name here head k r.site (omega arith) lt) in
     let f2 = whole_header (cell m 22) (cell m head) (128 + length name) name in
     let w = length-whole (cell m 22) (cell m head) (128 + length name) name in
     let stands : Stands (put_bytes s (cell s 28) (cell_bytes e)) pf (code ++ cell_bytes e) = lay s code (cell_bytes e) pf (cell s 28) r.body.all (omega arith) (omega (arith, length-cell e)) r.body.stands in
     let j : here + (7 + length name) + i ≡ here + (7 + length name + i) = omega arith in
-    let p : 7 + length name + i ≡ length f2 + i = omega arith in
-    finished_byte s here (length name) e (pf + i) (omega arith) (omega arith) (omega arith)
-    ∙ stands_has (put_bytes s (cell s 28) (cell_bytes e)) pf i (code ++ cell_bytes e) stands (omega (arith, length-append code (cell_bytes e), length-cell e))
-    ∙ ap (λ l. slice_index (l ++ cell_bytes e) i) same
-    ∙ sym (ap (λ x. byte (closed m name extra here head) x) j
-    ∙ closed_has m name extra here head (7 + length name + i) st (omega arith) (omega arith)
-    ∙ ap (λ x. slice_index (f2 ++ extra) x) p
-    ∙ get_or-append-add f2 extra i 0)
+    grind (arith, finished_byte, stands_has, length-append, length-cell, closed_has, get_or-append-add)
 
 -- HERE
 finished_here : (s : List ℕ) (here n e : ℕ) → length s ≡ 65536 → 256 ≤ here → here + 4 < 65536 → cell s 28 + 2 ≤ GREATEST_LIMIT → cell (finished s here n e) 28 ≡ cell s 28 + 2
 unfolding laid_at
 finished_here s here n e l a h r =
     let p = put_bytes s (cell s 28) (cell_bytes e) in
-    let x = wrap (cell s 28 + length (cell_bytes e)) in
     let c = laid s (cell_bytes e) in
     cell_beside (put_byte c (here + 4) (128 + n)) 16 0 28 (omega arith) (omega arith) (omega arith) (omega arith) (omega arith)
     ∙ cell_of (put_byte c (here + 4) (128 + n)) c 28 (omega arith) (byte_set c (here + 4) (128 + n) 28 (omega arith)) (byte_set c (here + 4) (128 + n) 29 (omega arith))
-    ∙ cell_here p 28 x (length_bytes s (cell s 28) (cell_bytes e) ∙ l) (omega arith) ∙ omega (arith, length-cell e)
+    ∙ cell_here p 28 (wrap (cell s 28 + length (cell_bytes e))) (length_bytes s (cell s 28) (cell_bytes e) ∙ l) (omega arith) ∙ omega (arith, length-cell e)
 
 closed_here : (m name extra : List ℕ) (here head : ℕ) → Site m name here head → here + (7 + length name + length extra) ≤ GREATEST_LIMIT → cell (closed m name extra here head) 28 ≡ here + (7 + length name + length extra)
-closed_here m name extra here head s r =
-    let hl = head_low head here s.low s.placed in
-    let h2 = header_bytes (cell m 22) (cell m head) (128 + length name) name 1 extra in
-    top_here (put_bytes m here h2) (here + (7 + length name + length extra)) head (here + 2) (length_bytes m here h2 ∙ s.all) hl.0 (omega (arith, hl.1))
+closed_here m name extra here head s r = omega (arith, head_low, top_here, length_bytes)
 
 agrees : (m name s : List ℕ) (here head : ℕ) (b : Definition) → Read m name here head b s → Agrees (finished s here (length name) (runtime m 5)) (closed m name (thread (runtime m) b (here + (7 + length name))) here head)
 agrees m name s here head b r =
     let st = r.site in
-    let lo = st.low in
-    let room = r.room in
-    let dp = r.body.here in
     let pf = here + (7 + length name) in
     let extra = thread (runtime m) b pf in
     let le = length-extra (runtime m) b pf in
@@ -466,25 +301,18 @@ ended_agrees m name s b o h =
     let here = cell m 28 in
     let head = head_of (cell m 34) name in
     let st = site_of_opens m name (all_size b + 2) o in
-    let lo = o.low in
-    let hi = o.high in
     let pf = here + (7 + length name) in
-    let q : begun m name ≡ opening m name here head = begun_opening m name here head st (omega arith) in
-    let body : Bodied (opening m name here head) pf b s = subst (λ x. Bodied x pf b s) q h in
+    let body : Bodied (opening m name here head) pf b s = subst (λ x. Bodied x pf b s) (begun_opening m name here head st (omega arith)) h in
     let r : Read m name here head b s = record { site = st; room = omega arith; body = body } in
     let le = length-extra (runtime m) b pf in
-    let w : laid_definition m (cell m 22) name b ≡ closed m name (thread (runtime m) b pf) here head = laid_closed m name here head b st (omega arith) in
-    let e : ended s ≡ finished s here (length name) (runtime m 5) = ended_is m name s here head b r in
-    subst (λ x. Agrees x (laid_definition m (cell m 22) name b)) (sym e)
-    (subst (λ x. Agrees (finished s here (length name) (runtime m 5)) x) (sym w) (agrees m name s here head b r))
+    subst (λ x. Agrees x (laid_definition m (cell m 22) name b)) (sym (ended_is m name s here head b r))
+    (subst (λ x. Agrees (finished s here (length name) (runtime m 5)) x) (sym (laid_closed m name here head b st (omega arith))) (agrees m name s here head b r))
 
 pub definition_is : (m d name : List ℕ) (b : Definition) → Opens m name (all_size b + 2) → Agrees (ended (lays_all (all_words b) (begun m name) d).0) (laid_definition m (cell m 22) name b)
 definition_is m d name b o =
     let here = cell m 28 in
     let head = head_of (cell m 34) name in
     let st = site_of_opens m name (all_size b + 2) o in
-    let lo = o.low in
-    let hi = o.high in
     let pf = here + (7 + length name) in
     let laid_body : Bodied (opening m name here head) pf b (lays_all (all_words b) (opening m name here head) d).0 = body_laid (opening m name here head) d pf b (length-opening m name here head st) (opening_here m name here head st (omega arith)) (omega arith) (omega arith) in
     let q : begun m name ≡ opening m name here head = begun_opening m name here head st (omega arith) in

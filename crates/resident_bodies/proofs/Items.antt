@@ -2,7 +2,6 @@
 use Rattle.std.proofs.Common.{◌≡◌, ◌⊎◌, ℕ, zero, suc, ◌+◌, ◌*◌, ◌-◌, ◌/◌, ◌%◌, ◌<◌, ◌≤◌, inl, inr, List, [], ◌∷◌, ◌++◌, length, drop, subst, refl, sym, ap, ◌∙◌, arith, append_assoc, length-append, length-drop}
 use Rattle.std.specs.Prelude.{Bool, true, false, slice_set, ◌==◌, if◌then◌else◌}
 use Rattle.std.proofs.Math.Seq.{set-append_seam}
-use Rattle.std.proofs.lemmas.Bool.{eqb-true, eq-eqb}
 use Rattle.std.proofs.lemmas.List.{drop-drop, length-replicate}
 use Rattle.cells.specs.Cell.{wrap}
 use Rattle.memory.specs.Bytes.{cell, put_byte, put_cell, put_bytes, cell_bytes, front_put, written}
@@ -13,7 +12,7 @@ use Rattle.dictionary.specs.Adding.{header_bytes, with_header_at}
 use Rattle.dictionary.proofs.Pieces.{length_header}
 use Rattle.compiling_words.specs.Code.{runtime}
 use Rattle.colon_bodies.specs.Tree.{Definition}
-use Rattle.colon_bodies.specs.Code.{all_size, all_code, thread}
+use Rattle.colon_bodies.specs.Code.{all_size, thread}
 use Rattle.colon_bodies.proofs.Cells.{length-cell, patched}
 use Rattle.colon_bodies.proofs.Laying.{length-all}
 use Rattle.image_builder.specs.Places.{Place}
@@ -44,9 +43,8 @@ put_at xs ys [] n e h l = refl
 put_at xs [] (b ∷ bs) n e h l = absurd (omega arith)
 put_at xs (y ∷ ys) (b ∷ bs) n e h l =
     let one : slice_set (xs ++ y ∷ ys) n b ≡ (xs ++ b ∷ []) ++ ys = ap (λ i. slice_set (xs ++ y ∷ ys) i b) e ∙ set-append_seam xs y ys b ∙ sym (append_assoc xs (b ∷ []) ys) in
-    let w : wrap (n + 1) ≡ n + 1 = wrap_small (n + 1) (omega arith) in
     let k : n + 1 ≡ length (xs ++ b ∷ []) = omega (arith, length-append xs (b ∷ [])) in
-    rw (one, w) (put_at (xs ++ b ∷ []) ys bs (n + 1) k (omega arith) (omega arith) ∙ append_assoc xs (b ∷ []) (bs ++ drop (length bs) ys))
+    rw (one, wrap_small (n + 1) (omega arith)) (put_at (xs ++ b ∷ []) ys bs (n + 1) k (omega arith) (omega arith) ∙ append_assoc xs (b ∷ []) (bs ++ drop (length bs) ys))
 
 -- a cell that is put among bytes
 put_patch : (front back : List ℕ) (x y i : ℕ) → length front ≡ i → i + 1 < 65536 → put_cell (front ++ (cell_bytes y ++ back)) i x ≡ front ++ (cell_bytes x ++ back)
@@ -98,23 +96,14 @@ unfolding cell_bytes
 length-sys e l v r a b c d f = refl
 
 cells_same : (e l v r f : ℕ) (g h : ℕ → ℕ) → ((i : ℕ) → g i ≡ h i) → cells e l v r g f ≡ cells e l v r h f
-cells_same e l v r f g h q =
-    ap (λ x. sys e l v r x (g 1) (g 2) (g 3) f) (q 0) ∙ ap (λ x. sys e l v r (h 0) x (g 2) (g 3) f) (q 1)
-    ∙ ap (λ x. sys e l v r (h 0) (h 1) x (g 3) f) (q 2) ∙ ap (λ x. sys e l v r (h 0) (h 1) (h 2) x f) (q 3)
+cells_same e l v r f g h q = grind arith
 
 -- the heads after a definition
 not_both : (b : Bool) → b ≡ false → b ≡ true → ⊥
-not_both true e f = cc
-not_both false e f = cc
+not_both y0 e f = grind arith
 
 heads_now : (t : Items) (n : Name) (k i : ℕ) → n.vocabulary ≡ 42 → class_of n.name ≡ k → (if i == k then n.link else newest_link (names t) 42 i) ≡ newest_link (n ∷ names t) 42 i
-heads_now t n k i v c = by (i == k) refl
-  where
-    by : (b : Bool) → (i == k) ≡ b → (if b then n.link else newest_link (names t) 42 i) ≡ newest_link (n ∷ names t) 42 i
-    by true e =
-        let q : class_of n.name ≡ i = c ∙ sym (eqb-true i k e) in
-        sym (ap (λ d. newest_link (n ∷ names t) 42 d) (sym q) ∙ ap (λ u. newest_link (n ∷ names t) u (class_of n.name)) (sym v) ∙ head_new (names t) n)
-    by false e = head_else (names t) n 42 i (λ a b. not_both (i == k) e (eq-eqb i k (b ∙ c)))
+heads_now t n k i v c = grind arith
 
 -- the bytes of memory, part by part
 abbrev parts : (a c z v x : List ℕ) → List ℕ
@@ -160,21 +149,14 @@ own_is t p b =
     ∙ sym (own_bytes (cell_bytes p.screen) (cell_bytes (link_of t p)) ((length p.name + 128) ∷ []) p.name (cell_bytes 1) (thread (controls t) b (end_of t + head_size p)))
 
 length-own : (t : Items) (p : Place) (b : Definition) → length (header_of p.screen (link_of t p) p.name (thread (controls t) b (end_of t + head_size p))) ≡ head_size p + (all_size b + 2)
-length-own t p b =
-    let at = end_of t + head_size p in
-    let x = thread (controls t) b at in
-    length_header p.screen (link_of t p) (128 + length p.name) 1 p.name x
-    ∙ omega (arith, length-append (all_code (controls t) b at) (cell_bytes (controls t 5)), length-all (controls t) b at, length-cell (controls t 5))
+length-own t p b = grind (arith, length_header, length-append, length-all, length-cell)
 
 -- where the definition goes
 name_at : (limit : ℕ) → IsLimit limit → (t : Items) (name : List ℕ) → AreSound limit t → head_of (cell (memory_of t) 34) name ≡ current t + 2 * class_of name
 unfolding head_of
 name_at limit few t name h =
     let v : cell (memory_of t) 34 ≡ current t = system_cell t 17 (omega arith) in
-    let b = vocabulary_below limit few t (current t) h (sound_names limit t h).0 in
-    let c = class_is name in
-    let k = class_below name in
-    omega (arith, v, b, c, k)
+    grind (arith, vocabulary_below, sound_names, class_is, class_below)
 
 -- the four writes, in front of a chain of FORTH
 forth_writes : (limit : ℕ) → IsLimit limit → (t : Items) (ws : List Place) (p : Place) (b : Definition) (x : List ℕ) → AreSound limit t → current t ≡ 42
@@ -184,7 +166,6 @@ forth_writes : (limit : ℕ) → IsLimit limit → (t : Items) (ws : List Place)
 forth_writes limit few t ws p b x h v =
     let c = low (λ a. controls t (a / 2)) 0 32 in
     let u = Then t ws (Colon p b) in
-    let n = new_name t p s.Plain in
     let k = class_of p.name in
     let e = end_of t in
     let f = end_of u in
@@ -192,15 +173,14 @@ forth_writes limit few t ws p b x h v =
     let r = newest_record t in
     let g = heads_of t 42 in
     let rest = c ++ (zeros 128 ++ (item_bytes (heads_of t) t false ++ x)) in
-    let at : current t + 2 * k ≡ 42 + 2 * k = omega arith in
     let now = λ (i : ℕ). if i == k then e + 2 else g i in
     let same : item_bytes (heads_of t) t false ≡ item_bytes (heads_of u) t false = headed_bytes limit t p s.Plain (item_bytes (heads_of t) t false) (item_bytes (heads_of t) t false) (current t) h refl refl (λ _. refl) (λ z. absurd (z v)) in
     ap (λ m. put_cell (put_cell (put_cell m (current t + 2 * k) (e + 2)) 30 (e + 2)) 54 f) (put_end e l (current t) r (g 0) (g 1) (g 2) (g 3) e f rest)
-    ∙ ap (λ i. put_cell (put_cell (put_cell (cells f l (current t) r g e ++ rest) i (e + 2)) 30 (e + 2)) 54 f) at
+    ∙ ap (λ i. put_cell (put_cell (put_cell (cells f l (current t) r g e ++ rest) i (e + 2)) 30 (e + 2)) 54 f) (omega arith)
     ∙ ap (λ m. put_cell (put_cell m 30 (e + 2)) 54 f) (put_head f l (current t) r g e k (e + 2) rest (class_below p.name))
     ∙ ap (λ m. put_cell m 54 f) (put_last f l (current t) r (now 0) (now 1) (now 2) (now 3) e (e + 2) rest)
     ∙ put_fence f (e + 2) (current t) r (now 0) (now 1) (now 2) (now 3) e f rest
-    ∙ ap (λ y. y ++ rest) (cells_same f (e + 2) (current t) r f now (heads_of u 42) (λ i. heads_now t n k i v refl))
+    ∙ ap (λ y. y ++ rest) (cells_same f (e + 2) (current t) r f now (heads_of u 42) (λ i. heads_now t (new_name t p s.Plain) k i v refl))
     ∙ ap (λ w. parts (low (system u) 0 32) c (zeros 128) w x) same
 
 -- and in front of a chain of another vocabulary, whose record is among the items
@@ -224,9 +204,7 @@ record_writes limit few t ws p b x h o =
     let w = record_below t (current t) o in
     let room = sound_below limit few t h in
     let q = bytes_seam (heads_of t) (heads_of u) t false (current t) k o (class_below p.name) (λ y d a. head_else (names t) n y d a) (current t + 2 * k - 256) (omega arith) in
-    let len = q.length_is in
     let kb = class_below p.name in
-    let x2 : newest_link (n ∷ names t) (current t) k ≡ e + 2 = head_new (names t) n in
     let a = cells f l (current t) r g e in
     let front = a ++ (c ++ (z ++ q.front)) in
     let place : length front ≡ current t + 2 * k = omega (arith, length-append a (c ++ (z ++ q.front)), length-append c (z ++ q.front), length-append z q.front, length-low (λ (y : ℕ). controls t (y / 2)) 0 32, length-zeros 128, length-sys f l (current t) r (g 0) (g 1) (g 2) (g 3) e) in
@@ -235,7 +213,7 @@ record_writes limit few t ws p b x h o =
     ∙ ap (λ y. put_cell y (current t + 2 * k) (e + 2)) (among a c z q.front (cell_bytes q.was) q.back x)
     ∙ put_patch front (q.back ++ x) (e + 2) q.was (current t + 2 * k) place (omega arith)
     ∙ sym (among a c z q.front (cell_bytes (e + 2)) q.back x)
-    ∙ ap (λ y. parts a c z (q.front ++ (cell_bytes y ++ q.back)) x) (sym x2)
+    ∙ ap (λ y. parts a c z (q.front ++ (cell_bytes y ++ q.back)) x) (sym (head_new (names t) n))
     ∙ ap (λ y. parts a c z y x) (sym q.new_is) in
     let rest = c ++ (z ++ (new ++ x)) in
     let heads : (i : ℕ) → g i ≡ heads_of u 42 i = λ i. head_else (names t) n 42 i (λ y _. omega (arith, y, w)) in
@@ -250,7 +228,6 @@ unfolding front_put
 item_is limit few t ws p b h =
     let u = Then t ws (Colon p b) in
     let before = h.0 in
-    let room = sound_below limit few u h in
     let e = end_of t in
     let c = low (λ a. controls t (a / 2)) 0 32 in
     let z = zeros 128 in
@@ -272,11 +249,10 @@ item_is limit few t ws p b h =
     ∙ ap (λ x. image t ++ (hb ++ x)) (drop-drop (length hb) (length (image t)) memory.zeros ∙ ap (λ x. drop x memory.zeros) (omega arith))
     ∙ in_parts (low (system t) 0 32) c z old (hb ++ rest) in
     let we : wrap (e + length hb) ≡ end_of u = omega arith in
-    let wl : wrap (e + 2) ≡ e + 2 = omega arith in
     let three : put_cell (writes (memory_of t) e at hb) 54 (end_of u) ≡ put_cell (put_cell (put_cell (put_cell (parts (low (system t) 0 32) c z old (hb ++ rest)) 28 (end_of u)) at (e + 2)) 30 (e + 2)) 54 (end_of u) =
     ap (λ m. put_cell (put_cell (put_cell (put_cell m 28 (wrap (e + length hb))) at (wrap (e + 2))) 30 (wrap (e + 2))) 54 (end_of u)) two
     ∙ ap (λ x. put_cell (put_cell (put_cell (put_cell (parts (low (system t) 0 32) c z old (hb ++ rest)) 28 x) at (wrap (e + 2))) 30 (wrap (e + 2))) 54 (end_of u)) we
-    ∙ ap (λ x. put_cell (put_cell (put_cell (put_cell (parts (low (system t) 0 32) c z old (hb ++ rest)) 28 (end_of u)) at x) 30 x) 54 (end_of u)) wl in
+    ∙ ap (λ x. put_cell (put_cell (put_cell (put_cell (parts (low (system t) 0 32) c z old (hb ++ rest)) 28 (end_of u)) at x) 30 x) 54 (end_of u)) (omega arith) in
     let four : put_cell (put_cell (put_cell (put_cell (parts (low (system t) 0 32) c z old (hb ++ rest)) 28 (end_of u)) at (e + 2)) 30 (e + 2)) 54 (end_of u) ≡ parts (low (system u) 0 32) c z (item_bytes (heads_of u) t false) (hb ++ rest) =
     elim voc [ inl v ↦ forth_writes limit few t ws p b (hb ++ rest) before v | inr r ↦ record_writes limit few t ws p b (hb ++ rest) before r ] in
     let five : memory_of u ≡ parts (low (system u) 0 32) c z (item_bytes (heads_of u) t false) (hb ++ rest) =
@@ -286,8 +262,7 @@ item_is limit few t ws p b h =
 
 -- a definition may begin after the items
 head_placed : (t : Items) (voc class : ℕ) → class < 4 → (voc ≡ 42) ⊎ IsRecord t voc → ((42 ≤ voc + 2 * class) × (voc + 2 * class + 1 < 52)) ⊎ ((256 ≤ voc + 2 * class) × (voc + 2 * class + 1 < end_of t))
-head_placed t voc class h (inl e) = inl (omega arith, omega arith)
-head_placed t voc class h (inr r) = let w = record_below t voc r in inr (omega (arith, w.0), omega (arith, w.1))
+head_placed t voc class h y0 = grind (arith, record_below)
 
 pub image_opens : (limit : ℕ) → IsLimit limit → (t : Items) (name : List ℕ) (behind : ℕ) → AreSound limit t → length name ≤ 31 → end_of t + (7 + length name + behind) ≤ limit → Opens (memory_of t) name behind
 image_opens limit few t name behind h l r =

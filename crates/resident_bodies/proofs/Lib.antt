@@ -1,4 +1,3 @@
-pub mod Lying
 pub mod Words
 pub mod Rows
 pub mod Moved
@@ -6,7 +5,4 @@ pub mod Bodies
 pub mod Controls
 pub mod Items
 pub mod Ending
-pub mod Twice
-pub mod Groups
 pub mod Gaps
-pub mod Known

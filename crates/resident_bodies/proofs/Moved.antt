@@ -1,6 +1,6 @@
 -- >IN moves, and then bytes are written.
 use Rattle.std.proofs.Common.{◌≡◌, ℕ, ◌+◌, ◌*◌, ◌/◌, ◌%◌, ◌<◌, ◌≤◌, List, ◌++◌, ap, ◌∙◌, arith}
-use Rattle.std.specs.Prelude.{Bool, true, false}
+use Rattle.std.specs.Prelude.{Bool}
 use Rattle.memory.specs.Bytes.{cell, put_cell, cell_bytes}
 use Rattle.memory.proofs.Stands.{cell_below}
 use Rattle.memory.proofs.Kept.{byte_cell, length_cell, cell_beside}
@@ -9,18 +9,12 @@ use Rattle.compiling_words.specs.Code.{runtime, literal_code, text_code}
 use Rattle.colon_bodies.specs.declared.words.Half.{Half}
 use Rattle.colon_bodies.specs.Tokens.{NAME, NUMBER, DOUBLE, TEXT, text_control}
 use Rattle.colon_bodies.specs.Tree.{Body}
-use Rattle.colon_bodies.specs.Open.{Outer, open_code}
+use Rattle.colon_bodies.specs.Open.{Outer}
 use Rattle.resident_bodies.specs.Words.{lays}
 use Rattle.resident_bodies.specs.Drafts.{Draft}
 
 pub moved : (before : List ℕ) (at : ℕ) (o : Outer) (t : Body) (h : Half) (m d below : List ℕ) (q : ℕ) → 256 ≤ at → Draft before at o t h m d below → Draft before at o t h (put_cell m 20 q) d below
-moved before at o t h m d below q l g = record {
-  stands = cell_below m (open_code (runtime before) o t h at) at 20 q (omega arith) (omega arith) g.stands;
-  here = cell_beside m 20 q 28 (omega arith) (omega arith) (omega arith) (omega arith) (omega arith) ∙ g.here;
-  kept = λ i a b c. byte_cell m 20 q i (omega arith) (omega arith) (omega arith) ∙ g.kept i a b c;
-  all = length_cell m 20 q ∙ g.all;
-  stack = g.stack;
-}
+moved before at o t h m d below q l g = grind (arith, cell_below, cell_beside, byte_cell, length_cell)
 
 here_is : (m : List ℕ) (q : ℕ) → cell (put_cell m 20 q) 28 ≡ cell m 28
 here_is m q = cell_beside m 20 q 28 (omega arith) (omega arith) (omega arith) (omega arith) (omega arith)
@@ -42,10 +36,7 @@ moved_double m d q n =
     ∙ ap (λ c. laid_at (cell m 28) (put_cell m 20 q) ((cell_bytes c ++ cell_bytes (n % 65536)) ++ (cell_bytes c ++ cell_bytes (n / 65536)))) (control_is m q 6 (omega arith))
 
 text_small : (k : Bool) → text_control k < 32
-text_small true = omega arith
-text_small false = omega arith
+text_small y0 = grind arith
 
 pub moved_text : (m d text : List ℕ) (q : ℕ) (k : Bool) → (lays (TEXT k text) (put_cell m 20 q) d).0 ≡ laid_at (cell m 28) (put_cell m 20 q) (text_code (runtime m (text_control k)) text)
-moved_text m d text q k =
-    ap (λ h. laid_at h (put_cell m 20 q) (text_code (runtime (put_cell m 20 q) (text_control k)) text)) (here_is m q)
-    ∙ ap (λ c. laid_at (cell m 28) (put_cell m 20 q) (text_code c text)) (control_is m q (text_control k) (text_small k))
+moved_text m d text q k = grind (arith, here_is, control_is, text_small)

@@ -1,5 +1,5 @@
 -- The rows of a body's keywords.
-use Rattle.std.proofs.Common.{◌≡◌, ℕ, ◌+◌, ◌≤◌, List, ◌∷◌, ◌++◌, length, Some, refl, sym, ap, subst, arith}
+use Rattle.std.proofs.Common.{◌≡◌, ℕ, ◌+◌, ◌≤◌, List, ◌∷◌, ◌++◌, length, Some, refl, sym, subst, arith}
 use Rattle.std.specs.Prelude.{true, false, nat_lt, Option}
 use Rattle.memory.specs.Bytes.{cell, put_cell, cell_bytes}
 use Rattle.dictionary.specs.Laying.{fits}
@@ -14,15 +14,14 @@ use Rattle.primitives.specs.Interpret.{compiles_past}
 use Rattle.primitives.specs.Defining.{lays_past}
 use Rattle.input_source.specs.declared.words.Word.{Word}
 use Rattle.memory.proofs.Kept.{cell_beside}
-use Rattle.dictionary.specs.Laying.{laid_at}
 use Rattle.compiling_words.specs.Code.{runtime, control_code}
 use Rattle.compiling_words.specs.Definitions.{ended}
 use Rattle.compiling_words.specs.Laying.{laid}
 use Rattle.colon_bodies.specs.declared.words.Half.{Half}
 use Rattle.colon_bodies.specs.declared.words.Half.TheVariants.{Free}
-use Rattle.colon_bodies.specs.Tokens.{Token, NAME, IF, ELSE, THEN, BEGIN, UNTIL, AGAIN, WHILE, REPEAT, DO, LOOP, DOES, laid_by}
+use Rattle.colon_bodies.specs.Tokens.{Token, IF, ELSE, THEN, BEGIN, UNTIL, AGAIN, WHILE, REPEAT, DO, LOOP, DOES, laid_by}
 use Rattle.colon_bodies.specs.Tree.{Body}
-use Rattle.colon_bodies.specs.Open.{Outer, InIf, InElse, InBegin, InWhile, InDo, State, At, fit, read, open_size}
+use Rattle.colon_bodies.specs.Open.{Outer, State, At, fit, read, open_size}
 use Rattle.colon_bodies.proofs.Cells.{length-cell}
 use Rattle.resident_bodies.specs.Words.{ahead, laid_and_resolved, lays, row_of}
 use Rattle.resident_bodies.specs.Drafts.{places, Draft}
@@ -113,31 +112,16 @@ plus_loop_row w s a b d h g = resolved_is (with_stack s (b ∷ a ∷ d)) 11 b a 
 
 -- the row of a word that fits
 fit_row : (at : ℕ) (o p : Outer) (t u : Body) (h : Half) (k : Token) (n w : ℕ) (s : Whole) (below : List ℕ) → row_of k ≡ Some n → fit o t k ≡ Some (At p u h) → cell s.memory 28 + laid_by k ≤ limit s.buffers → length (places at o ++ below) ≤ 250 → RowIs n w s k (places at o ++ below)
-fit_row at o p t u h IF n w s below q e r g = at_number 179 n w s IF (places at o ++ below) q (if_row w s (places at o ++ below) r g)
-fit_row at o p t u h BEGIN n w s below q e r g = at_number 182 n w s BEGIN (places at o ++ below) q (begin_row w s (places at o ++ below) g)
-fit_row at o p t u h DO n w s below q e r g = at_number 187 n w s DO (places at o ++ below) q (do_row w s (places at o ++ below) r g)
-fit_row at o p t u h DOES n w s below q e r g = at_number 178 n w s DOES (places at o ++ below) q (does_row w s (places at o ++ below) r g)
-fit_row at (InIf o t) p a u h THEN n w s below q e r g = at_number 181 n w s THEN (places at (InIf o t) ++ below) q (then_row w s _ (places at o ++ below))
-fit_row at (InElse o t a) p b u h THEN n w s below q e r g = at_number 181 n w s THEN (places at (InElse o t a) ++ below) q (then_row w s _ (places at o ++ below))
-fit_row at (InIf o t) p a u h ELSE n w s below q e r g = at_number 180 n w s ELSE (places at (InIf o t) ++ below) q (else_row w s _ (places at o ++ below) r (omega arith))
-fit_row at (InBegin o t) p a u h UNTIL n w s below q e r g = at_number 183 n w s UNTIL (places at (InBegin o t) ++ below) q (until_row w s _ (places at o ++ below) r (omega arith))
-fit_row at (InBegin o t) p a u h AGAIN n w s below q e r g = at_number 186 n w s AGAIN (places at (InBegin o t) ++ below) q (again_row w s _ (places at o ++ below) r (omega arith))
-fit_row at (InBegin o t) p a u h WHILE n w s below q e r g = at_number 184 n w s WHILE (places at (InBegin o t) ++ below) q (while_row w s (places at (InBegin o t) ++ below) r g)
-fit_row at (InWhile o t a) p b u h REPEAT n w s below q e r g = at_number 185 n w s REPEAT (places at (InWhile o t a) ++ below) q (repeat_row w s _ _ (places at o ++ below) r (omega arith))
-fit_row at (InDo o t) p a u h (LOOP false) n w s below q e r g = at_number 188 n w s (LOOP false) (places at (InDo o t) ++ below) q (loop_row w s _ _ (places at o ++ below) r (omega arith))
-fit_row at (InDo o t) p a u h (LOOP true) n w s below q e r g = at_number 189 n w s (LOOP true) (places at (InDo o t) ++ below) q (plus_loop_row w s _ _ (places at o ++ below) r (omega arith))
-fit_row at _ p t u h _ n w s below q e r g = cc
+fit_row at o p t u h y0 n w s below q e r g = grind (arith, at_number, if_row, begin_row, do_row, does_row, then_row, else_row, until_row, again_row, while_row, repeat_row, loop_row, plus_loop_row)
 
 fits_so : (o : Outer) (t : Body) (k : Token) (n : ℕ) (x : Option State) → row_of k ≡ Some n → read o t Free k ≡ x → fit o t k ≡ x
-fits_so o t (NAME v) n x q e = cc
-fits_so o t _ n x q e = e
+fits_so o t y0 n x q e = grind arith
 
 pub row_is : (before : List ℕ) (at : ℕ) (o p : Outer) (t u : Body) (h : Half) (k : Token) (n w : ℕ) (s : Whole) (below : List ℕ) → at + open_size o t Free + laid_by k ≤ limit s.buffers → length s.values ≤ 250 → row_of k ≡ Some n → read o t Free k ≡ Some (At p u h) → Draft before at o t Free s.memory s.values below
     → row n w s ≡ (record s { memory = (lays k s.memory s.values).0; values = (lays k s.memory s.values).1 }, Done)
 unfolding RowIs
 row_is before at o p t u h k n w s below r g q e d =
     let v = d.stack in
-    let c = d.here in
     subst (λ x. RowIs n w s k x) (sym v) (fit_row at o p t u h k n w s below q (fits_so o t k n (Some (At p u h)) q e) (omega arith) (subst (λ x. length x ≤ 250) v g))
 
 pub semicolon_is : (s : Whole) (w : ℕ) → cell s.memory 28 + 2 ≤ limit s.buffers → row 169 w s ≡ (record s { memory = ended s.memory }, Done)
@@ -150,18 +134,8 @@ moved_here m q = cell_beside m 20 q 28 (omega arith) (omega arith) (omega arith)
 
 pub compiles_past_is : (s : Whole) (w : Word) (bs : List ℕ) → cell s.memory 28 + length bs ≤ limit s.buffers → length s.values ≤ 255 → compiles_past s w bs ≡ (record s { values = 65535 ∷ s.values; memory = laid (put_cell s.memory 20 w.next) bs }, Done)
 unfolding compiles_past room
-compiles_past_is s w bs h g =
-    rw (has_room_is s (length bs) h, room_is (length (65535 ∷ s.values)) (omega arith))
-    (ap (λ (n : ℕ). after s (65535 ∷ s.values) (laid_at n (put_cell s.memory 20 w.next) bs)) (sym (moved_here s.memory w.next)))
-  where
-    after : Whole → List ℕ → List ℕ → After
-    after s d m = (record s { values = d; memory = m }, Done)
+compiles_past_is s w bs h g = grind (arith, has_room_is, room_is, moved_here)
 
 pub lays_past_is : (s : Whole) (w : Word) (bs : List ℕ) → cell s.memory 28 + length bs ≤ limit s.buffers → lays_past s w bs ≡ (record s { memory = laid (put_cell s.memory 20 w.next) bs }, Done)
 unfolding lays_past
-lays_past_is s w bs h =
-    rw (has_room_is s (length bs) h)
-    (ap (λ (n : ℕ). after s (laid_at n (put_cell s.memory 20 w.next) bs)) (sym (moved_here s.memory w.next)))
-  where
-    after : Whole → List ℕ → After
-    after s m = (record s { memory = m }, Done)
+lays_past_is s w bs h = grind (arith, has_room_is, moved_here)

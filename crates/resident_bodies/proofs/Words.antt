@@ -1,24 +1,109 @@
 -- What each word makes of a definition written in part.
-use Rattle.std.proofs.Common.{◌≡◌, ℕ, ◌+◌, ◌/◌, ◌%◌, ◌<◌, ◌≤◌, List, [], ◌∷◌, ◌++◌, length, Some, refl, sym, ap, ◌∙◌, subst, arith, append_assoc, length-append}
-use Rattle.std.specs.Prelude.{Bool, true, false}
-use Rattle.memory.specs.Bytes.{cell, put_cell, cell_bytes}
+use Rattle.std.proofs.Common.{◌≡◌, ◌≢◌, ℕ, zero, suc, ◌+◌, ◌<◌, ◌≤◌, List, [], ◌∷◌, ◌++◌, length, refl, ap, ◌∙◌, arith, length-append, ◌-◌, ◌/◌, ◌%◌, length-set, Some, sym, subst, append_assoc}
+use Rattle.std.specs.Prelude.{slice_set, Bool}
+use Rattle.std.proofs.lemmas.List.{set-set, set-append_left, set-append_right}
+use Rattle.memory.specs.Bytes.{cell, put_byte, put_cell, put_bytes, cell_bytes}
 use Rattle.memory.specs.declared.limit.TheConstants.{GREATEST_LIMIT}
-use Rattle.memory.proofs.Same.{Stands}
-use Rattle.compiling_words.specs.Code.{runtime, control_code, literal_code, text_code}
+use Rattle.memory.proofs.Puts.{put_bytes-append}
+use Rattle.memory.proofs.Kept.{wrap_small, length_bytes, cell_here, byte_cell, byte_below, length_cell, cell_beside}
+use Rattle.dictionary.specs.Laying.{laid_at}
 use Rattle.compiling_words.specs.Laying.{laid}
+use Rattle.memory.proofs.Same.{Stands}
+use Rattle.memory.proofs.Stands.{lay, cell_below}
+use Rattle.compiling_words.specs.Code.{runtime, control_code, literal_code, text_code}
+use Rattle.colon_bodies.specs.Draft.{Patches, marks_of, Drafted}
+use Rattle.colon_bodies.proofs.Cells.{patched, length-cell}
 use Rattle.colon_bodies.specs.declared.words.Half.{Half}
 use Rattle.colon_bodies.specs.declared.words.Half.TheVariants.{Free, Ticked, Forced, Compiling, Both}
-use Rattle.colon_bodies.specs.declared.draft.Mark.TheVariants as mark
 use Rattle.colon_bodies.specs.Tokens.{Token, NAME, NUMBER, DOUBLE, TEXT, TICK, FORCE, COMPILE, IF, ELSE, THEN, BEGIN, UNTIL, AGAIN, WHILE, REPEAT, DO, LOOP, DOES, text_control, loop_control, laid_by}
 use Rattle.colon_bodies.specs.Tree.{Body, Empty, Tick, Literal, Double, Text, IfThen, IfElse, Until, Again, While, Loop}
 use Rattle.colon_bodies.specs.Code.{size, code}
 use Rattle.colon_bodies.specs.Open.{Outer, Top, Past, InIf, InElse, InBegin, InWhile, InDo, At, complete, fit, read, outer_size, open_size, outer_code, open_code}
-use Rattle.colon_bodies.specs.Draft.{marks_of, Drafted}
-use Rattle.colon_bodies.proofs.Cells.{length-cell}
 use Rattle.colon_bodies.proofs.Laying.{length-open, called, done, then_if, then_else, opened_if, opened_do, opened_begin, switched, tested, repeated, looped}
+use Rattle.resident_bodies.specs.Drafts.{Kept, places, Draft}
 use Rattle.resident_bodies.specs.Words.{ahead, laid_and_resolved, lays}
-use Rattle.resident_bodies.specs.Drafts.{places, Draft}
-use Rattle.resident_bodies.proofs.Lying.{Lies, with_cell, patches, lies_laid, lies_patched, control_kept}
+use Rattle.colon_bodies.specs.declared.draft.Mark.TheVariants as mark
+
+-- Bytes that are written by two calls, and by one.
+
+set_swap : (l : List ℕ) (i j a b : ℕ) → i ≢ j → slice_set (slice_set l i a) j b ≡ slice_set (slice_set l j b) i a
+set_swap [] i j a b h = refl
+set_swap (x ∷ l) zero zero a b h = absurd (h refl)
+set_swap (x ∷ l) zero (suc j) a b h = refl
+set_swap (x ∷ l) (suc i) zero a b h = refl
+set_swap (x ∷ l) (suc i) (suc j) a b h = ap (λ k. x ∷ k) (set_swap l i j a b (λ e. h (ap suc e)))
+
+-- a byte above DP, and DP
+byte_past : (m : List ℕ) (x n y : ℕ) → 30 ≤ n → put_byte (put_cell m 28 x) n y ≡ put_cell (put_byte m n y) 28 x
+unfolding put_cell put_byte
+byte_past m x n y h = grind (arith, set_swap)
+
+bytes_past : (m : List ℕ) (x n : ℕ) (bs : List ℕ) → 30 ≤ n → n + length bs < 65536 → put_bytes (put_cell m 28 x) n bs ≡ put_cell (put_bytes m n bs) 28 x
+unfolding put_bytes
+bytes_past m x n [] h l = refl
+bytes_past m x n (b ∷ bs) h l =
+    rw (wrap_small (n + 1) (omega arith)) (ap (λ k. put_bytes k (n + 1) bs) (byte_past m x n b h) ∙ bytes_past (put_byte m n b) x (n + 1) bs (omega arith) (omega arith))
+
+-- DP twice
+cell_twice : (m : List ℕ) (x y : ℕ) → put_cell (put_cell m 28 x) 28 y ≡ put_cell m 28 y
+unfolding put_cell put_byte
+cell_twice m x y = grind (arith, set_swap, set-set)
+
+pub laid_twice : (m xs ys : List ℕ) → length m ≡ 65536 → 30 ≤ cell m 28 → cell m 28 + length xs + length ys ≤ GREATEST_LIMIT → laid (laid m xs) ys ≡ laid m (xs ++ ys)
+unfolding laid_at
+laid_twice m xs ys l a h = grind (arith, cell_here, length_bytes, length-append, bytes_past, cell_twice, put_bytes-append)
+
+-- Bytes that lie at a place up to HERE, and what is written after them and written among them.
+
+-- the bytes bs lie at a place, up to HERE, and below it memory is as before
+pub record Lies (before : List ℕ) (at : ℕ) (bs m : List ℕ) : Type 0 where
+  pub stands : Stands m at bs
+  pub here : cell m 28 ≡ at + length bs
+  pub kept : Kept at m before
+  pub all : length m ≡ 65536
+
+-- one cell of a list of bytes is another
+abbrev pub with_cell : List ℕ → (place x : ℕ) → List ℕ
+with_cell bs place x = slice_set (slice_set bs place (x % 256)) (place + 1) (x / 256)
+
+pub patches : (bs : List ℕ) (place x : ℕ) → Patches bs (with_cell bs place x) place x
+patches bs place x = λ front back y e n. patched bs front back x y place e n
+
+-- one byte among those that are somewhere
+set_within : (m bs : List ℕ) (at i place b : ℕ) → i ≡ at + place → place < length bs → Stands m at bs → Stands (put_byte m i b) at (slice_set bs place b)
+unfolding put_byte
+set_within m bs at i place b e h s =
+    let p = s.place in
+    let k : i - at ≡ place = omega arith in
+    record {
+      before = s.before;
+      after = s.after;
+      is = ap (λ l. slice_set l i b) s.is ∙ set-append_right s.before (bs ++ s.after) at i b p (omega arith) ∙ ap (λ n. s.before ++ slice_set (bs ++ s.after) n b) k ∙ ap (λ l. s.before ++ l) (set-append_left bs s.after place b h);
+      place = p;
+    }
+
+stands_cell : (m bs : List ℕ) (at i place x : ℕ) → i ≡ at + place → place + 1 < length bs → i + 1 < 65536 → Stands m at bs → Stands (put_cell m i x) at (with_cell bs place x)
+unfolding put_cell
+stands_cell m bs at i place x e h l s = grind (arith, set_within, wrap_small, length-set)
+
+pub length-with : (bs : List ℕ) (place x : ℕ) → length (with_cell bs place x) ≡ length bs
+length-with bs place x = length-set (slice_set bs place (x % 256)) (place + 1) (x / 256) ∙ length-set bs place (x % 256)
+
+-- bytes are written
+pub lies_laid : (before : List ℕ) (at : ℕ) (bs cs m : List ℕ) → 256 ≤ at → at + length bs + length cs ≤ GREATEST_LIMIT → Lies before at bs m → Lies before at (bs ++ cs) (laid m cs)
+unfolding laid_at
+lies_laid before at bs cs m l r g = grind (arith, length-append, cell_below, lay, cell_here, length_bytes, byte_cell, byte_below, length_cell)
+
+-- a cell among them is written over
+pub lies_patched : (before : List ℕ) (at : ℕ) (bs m : List ℕ) (i place x : ℕ) → 256 ≤ at → at + length bs ≤ GREATEST_LIMIT → i ≡ at + place → place + 1 < length bs → Lies before at bs m → Lies before at (with_cell bs place x) (put_cell m i x)
+lies_patched before at bs m i place x l r e h g = grind (arith, stands_cell, cell_beside, length-with, byte_cell, length_cell)
+
+-- a control primitive is that of the memory before
+pub control_kept : (before : List ℕ) (at : ℕ) (bs m : List ℕ) (k : ℕ) → 256 ≤ at → k < 32 → Lies before at bs m → runtime m k ≡ runtime before k
+unfolding cell
+control_kept before at bs m k l h g = grind arith
+
+-- What each word makes of a definition written in part.
 
 -- the words that were read lie somewhere
 abbrev pub Open : List ℕ → ℕ → Outer → Body → Half → List ℕ → Type 0
@@ -28,13 +113,7 @@ pub opens : (before : List ℕ) (at : ℕ) (o : Outer) (t : Body) (h : Half) (m 
 opens before at o t h m d below g = record { stands = g.stands; here = g.here ∙ ap (λ n. at + n) (sym (length-open (runtime before) o t h at)); kept = g.kept; all = g.all }
 
 drafts : (before : List ℕ) (at : ℕ) (o : Outer) (t : Body) (h : Half) (bs m d below : List ℕ) → bs ≡ open_code (runtime before) o t h at → d ≡ places at o ++ below → Lies before at bs m → Draft before at o t h m d below
-drafts before at o t h bs m d below e s g = record {
-  stands = subst (λ l. Stands m at l) e g.stands;
-  here = g.here ∙ ap (λ n. at + n) (ap length e ∙ length-open (runtime before) o t h at);
-  kept = g.kept;
-  all = g.all;
-  stack = s;
-}
+drafts before at o t h bs m d below e s g = grind (arith, length-open)
 
 drafted : (before : List ℕ) (at : ℕ) (o : Outer) (t : Body) (h : Half) → Drafted (runtime before) at o t h (open_code (runtime before) o t h at) (marks_of at o)
 drafted before at o t h = record { bytes = refl; marked = refl }
@@ -47,13 +126,11 @@ length-two x y = length-append (cell_bytes x) (cell_bytes y) ∙ omega (arith, l
 
 -- a control primitive and a cell are written
 lies_control : (before : List ℕ) (at : ℕ) (o : Outer) (t : Body) (h : Half) (m : List ℕ) (k x : ℕ) → 256 ≤ at → at + open_size o t h + 4 ≤ GREATEST_LIMIT → Open before at o t h m → Lies before at (open_code (runtime before) o t h at ++ (cell_bytes (runtime m k) ++ cell_bytes x)) (laid m (control_code m k x))
-lies_control before at o t h m k x l r g =
-    lies_laid before at (open_code (runtime before) o t h at) (control_code m k x) m l (omega (arith, length-open_code before at o t h, length-two (runtime m k) x)) g
+lies_control before at o t h m k x l r g = search (arith, lies_laid, length-open_code, length-two)
 
 -- a cell is written
 lies_cell : (before : List ℕ) (at : ℕ) (o : Outer) (t : Body) (h : Half) (m : List ℕ) (x : ℕ) → 256 ≤ at → at + open_size o t h + 2 ≤ GREATEST_LIMIT → Open before at o t h m → Lies before at (open_code (runtime before) o t h at ++ cell_bytes x) (laid m (cell_bytes x))
-lies_cell before at o t h m x l r g =
-    lies_laid before at (open_code (runtime before) o t h at) (cell_bytes x) m l (omega (arith, length-open_code before at o t h, length-cell x)) g
+lies_cell before at o t h m x l r g = search (arith, lies_laid, length-open_code, length-cell)
 
 -- names, numbers and texts
 pub name_word : (before : List ℕ) (at : ℕ) (o : Outer) (t : Body) (h : Half) (m below : List ℕ) (w : ℕ) → 256 ≤ at → at + open_size o t h + 2 ≤ GREATEST_LIMIT → Open before at o t h m → Draft before at o (complete h t w) Free (laid m (cell_bytes w)) (places at o ++ below) below
@@ -90,8 +167,7 @@ double_word before at o t m below n l r g =
     (lies_laid before at bs cs m l (omega (arith, length-open_code before at o t Free, k)) g)
 
 text_small : (k : Bool) → text_control k < 32
-text_small true = omega arith
-text_small false = omega arith
+text_small y0 = grind arith
 
 text_word : (before : List ℕ) (at : ℕ) (o : Outer) (t : Body) (m below : List ℕ) (k : Bool) (ts : List ℕ) → 256 ≤ at → at + open_size o t Free + (3 + length ts) ≤ GREATEST_LIMIT → Open before at o t Free m → Draft before at o (Text t k ts) Free (laid m (text_code (runtime m (text_control k)) ts)) (places at o ++ below) below
 unfolding text_code
@@ -111,15 +187,13 @@ text_word before at o t m below k ts l r g =
 -- what is half read
 tick_word : (before : List ℕ) (at : ℕ) (o : Outer) (t : Body) (m below : List ℕ) → 256 ≤ at → at + open_size o t Free + 2 ≤ GREATEST_LIMIT → Open before at o t Free m → Draft before at o t Ticked (laid m (cell_bytes (runtime m 6))) (places at o ++ below) below
 tick_word before at o t m below l r g =
-    let rt = runtime before in
-    let bs = open_code rt o t Free at in
+    let bs = open_code (runtime before) o t Free at in
     let c = control_kept before at bs m 6 l (omega arith) g in
     drafts before at o t Ticked (bs ++ cell_bytes (runtime m 6)) (laid m (cell_bytes (runtime m 6))) (places at o ++ below) below (ap (λ v. bs ++ cell_bytes v) c) refl (lies_cell before at o t Free m (runtime m 6) l r g)
 
 compile_word : (before : List ℕ) (at : ℕ) (o : Outer) (t : Body) (m below : List ℕ) → 256 ≤ at → at + open_size o t Free + 2 ≤ GREATEST_LIMIT → Open before at o t Free m → Draft before at o t Compiling (laid m (cell_bytes (runtime m 19))) (places at o ++ below) below
 compile_word before at o t m below l r g =
-    let rt = runtime before in
-    let bs = open_code rt o t Free at in
+    let bs = open_code (runtime before) o t Free at in
     let c = control_kept before at bs m 19 l (omega arith) g in
     drafts before at o t Compiling (bs ++ cell_bytes (runtime m 19)) (laid m (cell_bytes (runtime m 19))) (places at o ++ below) below (ap (λ v. bs ++ cell_bytes v) c) refl (lies_cell before at o t Free m (runtime m 19) l r g)
 
@@ -169,31 +243,24 @@ begin_word before at o t m below g =
 -- jumps back
 back : (rt : ℕ → ℕ) (o : Outer) (t a : Body) (at k : ℕ) → open_code rt (InBegin o t) a Free at ++ (cell_bytes k ++ cell_bytes (at + (outer_size o + size t)))
     ≡ outer_code rt o at ++ (code rt t (at + outer_size o) ++ (code rt a (at + outer_size o + size t) ++ (cell_bytes k ++ cell_bytes (at + outer_size o + size t))))
-back rt o t a at k =
-    let A = outer_code rt o at in
-    let C = code rt t (at + outer_size o) in
-    let q : at + (outer_size o + size t) ≡ at + outer_size o + size t = omega arith in
-    let flat : open_code rt (InBegin o t) a Free at ++ (cell_bytes k ++ cell_bytes (at + (outer_size o + size t))) ≡ A ++ (C ++ (code rt a (at + (outer_size o + size t)) ++ (cell_bytes k ++ cell_bytes (at + (outer_size o + size t))))) = simp append_assoc in
-    flat ∙ ap (λ (i : ℕ). A ++ (C ++ (code rt a i ++ (cell_bytes k ++ cell_bytes i)))) q
+back rt o t a at k = grind (arith, append_assoc)
 
 until_word : (before : List ℕ) (at : ℕ) (o : Outer) (t a : Body) (m below : List ℕ) → 256 ≤ at → at + open_size (InBegin o t) a Free + 4 ≤ GREATEST_LIMIT → Open before at (InBegin o t) a Free m → Draft before at o (Until t a) Free (laid m (control_code m 8 (at + (outer_size o + size t)))) (places at o ++ below) below
 until_word before at o t a m below l r g =
     let rt = runtime before in
     let bs = open_code rt (InBegin o t) a Free at in
-    let x = runtime m 8 in
     let y = at + (outer_size o + size t) in
     let c = control_kept before at bs m 8 l (omega arith) g in
-    drafts before at o (Until t a) Free (bs ++ (cell_bytes x ++ cell_bytes y)) (laid m (control_code m 8 y)) (places at o ++ below) below
+    drafts before at o (Until t a) Free (bs ++ (cell_bytes (runtime m 8) ++ cell_bytes y)) (laid m (control_code m 8 y)) (places at o ++ below) below
     (ap (λ v. bs ++ (cell_bytes v ++ cell_bytes y)) c ∙ back rt o t a at (rt 8)) refl (lies_control before at (InBegin o t) a Free m 8 y l r g)
 
 again_word : (before : List ℕ) (at : ℕ) (o : Outer) (t a : Body) (m below : List ℕ) → 256 ≤ at → at + open_size (InBegin o t) a Free + 4 ≤ GREATEST_LIMIT → Open before at (InBegin o t) a Free m → Draft before at o (Again t a) Free (laid m (control_code m 7 (at + (outer_size o + size t)))) (places at o ++ below) below
 again_word before at o t a m below l r g =
     let rt = runtime before in
     let bs = open_code rt (InBegin o t) a Free at in
-    let x = runtime m 7 in
     let y = at + (outer_size o + size t) in
     let c = control_kept before at bs m 7 l (omega arith) g in
-    drafts before at o (Again t a) Free (bs ++ (cell_bytes x ++ cell_bytes y)) (laid m (control_code m 7 y)) (places at o ++ below) below
+    drafts before at o (Again t a) Free (bs ++ (cell_bytes (runtime m 7) ++ cell_bytes y)) (laid m (control_code m 7 y)) (places at o ++ below) below
     (ap (λ v. bs ++ (cell_bytes v ++ cell_bytes y)) c ∙ back rt o t a at (rt 7)) refl (lies_control before at (InBegin o t) a Free m 7 y l r g)
 
 while_word : (before : List ℕ) (at : ℕ) (o : Outer) (t a : Body) (m below : List ℕ) → 256 ≤ at → at + open_size (InBegin o t) a Free + 4 ≤ GREATEST_LIMIT → Open before at (InBegin o t) a Free m
@@ -243,9 +310,7 @@ length-both : (bs : List ℕ) (x y : ℕ) → length ((bs ++ cell_bytes x) ++ ce
 length-both bs x y = omega (arith, length-append (bs ++ cell_bytes x) (cell_bytes y), length-append bs (cell_bytes x), length-cell x, length-cell y)
 
 behind : (before : List ℕ) (at : ℕ) (o : Outer) (t : Body) (m : List ℕ) (k x : ℕ) → at + open_size o t Free + 4 ≤ GREATEST_LIMIT → Open before at o t Free m → ahead m (length (control_code m k x)) ≡ at + length ((open_code (runtime before) o t Free at ++ cell_bytes (runtime m k)) ++ cell_bytes x)
-behind before at o t m k x r g =
-    let h = g.here in
-    omega (arith, length-two (runtime m k) x, length-both (open_code (runtime before) o t Free at) (runtime m k) x, length-open_code before at o t Free)
+behind before at o t m k x r g = omega (arith, length-two, length-both, length-open_code)
 
 else_word : (before : List ℕ) (at : ℕ) (o : Outer) (t a : Body) (m below : List ℕ) → 256 ≤ at → at + open_size (InIf o t) a Free + 4 ≤ GREATEST_LIMIT → Open before at (InIf o t) a Free m
     → Draft before at (InElse o t a) Empty Free (laid_and_resolved m (control_code m 7 0) (at + (outer_size o + size t + 2))) (ahead m 2 ∷ (places at o ++ below)) below
@@ -284,8 +349,7 @@ repeat_word before at o t a b m below l r g =
     (lies_patched before at two (laid m (control_code m 7 y)) (at + p) p x l (omega (arith, n, k)) refl (omega (arith, n, k)) (two_cells before at (InWhile o t a) b m 7 y l r g))
 
 loop_small : (k : Bool) → loop_control k < 32
-loop_small true = omega arith
-loop_small false = omega arith
+loop_small y0 = grind arith
 
 loop_word : (before : List ℕ) (at : ℕ) (o : Outer) (t a : Body) (m below : List ℕ) (k : Bool) → 256 ≤ at → at + open_size (InDo o t) a Free + 4 ≤ GREATEST_LIMIT → Open before at (InDo o t) a Free m
     → Draft before at o (Loop t a k) Free (laid_and_resolved m (control_code m (loop_control k) (at + (outer_size o + size t + 4))) (at + (outer_size o + size t + 2))) (places at o ++ below) below
@@ -307,11 +371,7 @@ loop_word before at o t a m below k l r g =
 
 -- each word that fits
 same_state : (P : Outer → Body → Half → Type 0) (o p : Outer) (t u : Body) (h k : Half) → Some (At o t h) ≡ Some (At p u k) → P o t h → P p u k
-same_state P o p t u h k e x =
-    let a : o ≡ p = cc in
-    let b : t ≡ u = cc in
-    let c : h ≡ k = cc in
-    subst (λ i. P i u k) a (subst (λ i. P o i k) b (subst (λ i. P o t i) c x))
+same_state P o p t u h k e x = grind arith
 
 abbrev Behind : List ℕ → ℕ → Token → List ℕ → List ℕ → List ℕ → Outer → Body → Half → Type 0
 Behind before at w m d below p u k = Draft before at p u k (lays w m d).0 (lays w m d).1 below

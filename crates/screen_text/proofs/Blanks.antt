@@ -1,4 +1,4 @@
-use Rattle.std.proofs.Common.{◌≡◌, ◌≢◌, ◌∙◌, ℕ, zero, suc, ◌+◌, ◌-◌, ◌%◌, ◌<◌, ◌≤◌, ◌==◌, List, [], ◌∷◌, ◌++◌, length, take, drop, get_or, slice_index, Bool, true, false, ◌&&◌, ◌||◌, append_assoc, append-nil, length-append, arith, refl, ap, sym}
+use Rattle.std.proofs.Common.{◌≡◌, ◌≢◌, ◌∙◌, ℕ, suc, ◌+◌, ◌-◌, ◌%◌, ◌<◌, ◌≤◌, ◌==◌, List, [], ◌∷◌, ◌++◌, length, take, drop, get_or, slice_index, Bool, true, false, ◌&&◌, ◌||◌, append_assoc, append-nil, length-append, arith, refl, ap}
 use Rattle.std.proofs.lemmas.Grind.{common_steps}
 use Rattle.std.proofs.lemmas.List.{drop_all, at_drop_all, at_drop_more}
 use Rattle.screen_text.specs.Bytes.{bad_byte, blanks, padded, is_blank, is_text, trimmed, spread}
@@ -12,8 +12,7 @@ unfolding is_blank
 blank-cons b bs = refl
 
 and-false : (b : Bool) → (b && false) ≡ false
-and-false true = refl
-and-false false = refl
+and-false b = grind arith
 
 -- a blank after
 pub blank-more : (xs : List ℕ) → is_blank (xs ++ 32 ∷ []) ≡ is_blank xs
@@ -38,21 +37,14 @@ trimmed-text [] b h = rw (not_blank [] b h) refl
 trimmed-text (x ∷ xs) b h = rw (not_blank (x ∷ xs) b h, trimmed-text xs b h) refl
 
 last_of : (line : List ℕ) (end : ℕ) → 0 < end → end ≤ length line → take end line ≡ take (end - 1) line ++ slice_index line (end - 1) ∷ []
-last_of [] end some within = absurd (omega arith)
-last_of (b ∷ line) zero some within = absurd (omega arith)
-last_of (b ∷ line) (suc zero) some within = refl
-last_of (b ∷ line) (suc (suc n)) some within =
-    let e : suc (suc n) - 1 ≡ suc n = omega arith in
-    let f : suc n - 1 ≡ n = omega arith in
-    ap (λ r. b ∷ r) (last_of line (suc n) (omega arith) (omega arith)) ∙ rw (e, f) refl
+last_of (b ∷ line) (suc (suc n)) some within = grind (arith, last_of line (suc n) (omega arith) (omega arith))
+last_of line end some within = grind arith
 
 pub trimmed_less : (line : List ℕ) (end : ℕ) → 0 < end → end ≤ length line → slice_index line (end - 1) ≡ 32 → trimmed (take end line) ≡ trimmed (take (end - 1) line)
-trimmed_less line end some within e =
-    ap trimmed (last_of line end some within) ∙ ap (λ b. trimmed (take (end - 1) line ++ b ∷ [])) e ∙ trimmed-more (take (end - 1) line)
+trimmed_less line end some within e = grind (arith, last_of, trimmed-more)
 
 pub trimmed_whole : (line : List ℕ) (end : ℕ) → 0 < end → end ≤ length line → slice_index line (end - 1) ≢ 32 → trimmed (take end line) ≡ take end line
-trimmed_whole line end some within e =
-    ap trimmed (last_of line end some within) ∙ trimmed-text (take (end - 1) line) (slice_index line (end - 1)) e ∙ sym (last_of line end some within)
+trimmed_whole line end some within e = grind (arith, last_of, trimmed-text)
 
 pub trimmed_none : (line : List ℕ) → trimmed (take 0 line) ≡ []
 unfolding trimmed
@@ -62,24 +54,16 @@ trimmed_none line = refl
 pub spread_tab : (xs rest : List ℕ) (n : ℕ) → n ≡ 8 - length xs % 8 →
     padded (length xs + n) xs ++ spread (length (padded (length xs + n) xs)) rest ≡ xs ++ spread (length xs) (9 ∷ rest)
 unfolding padded spread
-spread_tab xs rest n e =
-    let k : length xs + n - length xs ≡ n = omega arith in
-    let l : length (xs ++ blanks n) ≡ length xs + n = omega (arith, length-append xs (blanks n), length-blanks n) in
-    rw (k, l, append_assoc, e) refl
+spread_tab xs rest n e = grind (arith, length-append, length-blanks, append_assoc)
 
 pub spread_other : (xs rest : List ℕ) (b : ℕ) → b ≢ 9 → (xs ++ b ∷ []) ++ spread (length (xs ++ b ∷ [])) rest ≡ xs ++ spread (length xs) (b ∷ rest)
 unfolding spread
-spread_other xs rest b h =
-    let q : (b == 9) ≡ false = grind arith in
-    let l : length (xs ++ b ∷ []) ≡ length xs + 1 = length-append xs (b ∷ []) in
-    rw (l, append_assoc, q) refl
+spread_other xs rest b h = grind (arith, length-append, append_assoc)
 
 -- where the whole line is spread
 pub spread_all : (plain line all : List ℕ) (i : ℕ) → length line ≤ i → plain ++ spread (length plain) (drop i line) ≡ all → plain ≡ all
 unfolding spread
-spread_all plain line all i within e =
-    let none : drop i line ≡ [] = drop_all i line within in
-    sym (append-nil plain) ∙ ap (λ r. plain ++ spread (length plain) r) (sym none) ∙ e
+spread_all plain line all i within e = grind (arith, drop_all, append-nil)
 
 -- `bad_byte`, a byte on, where it stops, and at the end
 pub bad_more : (line : List ℕ) (i : ℕ) → i < length line → (get_or line i 0 == 9 || is_text (get_or line i 0)) ≡ true → bad_byte (drop i line) ≡ bad_byte (drop (i + 1) line)

@@ -29,8 +29,7 @@ pub record IsDigit (d : ℕ) : Type 0 where
 
 digit-by : (low : Bool) (d : ℕ) → nat_lt d 10 ≡ low → d < 16 → IsDigit d
 unfolding digit is_text value
-digit-by true d e below = record { text = rw e (grind arith); high = rw e (omega arith); value = rw e (grind arith) }
-digit-by false d e below = record { text = rw e (grind arith); high = rw e (omega arith); value = rw e (grind arith) }
+digit-by low d e below = grind arith
 
 pub digit-is : (d : ℕ) → d < 16 → IsDigit d
 digit-is d below = digit-by (nat_lt d 10) d refl below
@@ -61,10 +60,7 @@ escapes-text (b ∷ bs) e =
 -- a blank is written as it is, and no other byte begins by one
 blank-by : (plain : Bool) (b : ℕ) (rest : List ℕ) → is_plain b ≡ plain → is_blank ((if plain then b ∷ [] else 126 ∷ digit (b / 16) ∷ digit (b % 16) ∷ []) ++ rest) ≡ ((b == 32) && is_blank rest)
 unfolding is_plain is_text
-blank-by true b rest e = blank-cons b rest
-blank-by false b rest e =
-    let no : (b == 32) ≡ false = grind arith in
-    blank-cons 126 (digit (b / 16) ∷ digit (b % 16) ∷ rest) ∙ rw no refl
+blank-by plain b rest e = grind (arith, blank-cons)
 
 blank-escaped : (bs : List ℕ) → is_blank (flat_map escaped_byte bs) ≡ is_blank bs
 unfolding escaped_byte
@@ -76,15 +72,7 @@ tidy-front : (plain : Bool) (b : ℕ) (rest : List ℕ) → b < 256 → ((b == 3
     trimmed ((if plain then b ∷ [] else 126 ∷ digit (b / 16) ∷ digit (b % 16) ∷ []) ++ rest) ≡ (if plain then b ∷ [] else 126 ∷ digit (b / 16) ∷ digit (b % 16) ∷ []) ++ rest
 unfolding trimmed
 tidy-front true b rest below e same = rw (blank-cons b rest ∙ e, same) refl
-tidy-front false b rest below e same =
-    let h : IsDigit (b / 16) = digit-is (b / 16) (omega arith) in
-    let l : IsDigit (b % 16) = digit-is (b % 16) (omega arith) in
-    let hh : 48 ≤ digit (b / 16) = h.high in
-    let ll : 48 ≤ digit (b % 16) = l.high in
-    trimmed-cons 126 (digit (b / 16) ∷ digit (b % 16) ∷ rest) (λ k. omega arith)
-    ∙ ap (λ xs. 126 ∷ xs) (trimmed-cons (digit (b / 16)) (digit (b % 16) ∷ rest) (λ k. omega arith))
-    ∙ ap (λ xs. 126 ∷ digit (b / 16) ∷ xs) (trimmed-cons (digit (b % 16)) rest (λ k. omega arith))
-    ∙ ap (λ xs. 126 ∷ digit (b / 16) ∷ digit (b % 16) ∷ xs) same
+tidy-front false b rest below e same = grind (arith, trimmed-cons, digit-is (b / 16) (omega arith), digit-is (b % 16) (omega arith))
 
 -- what a line without blanks at its end is made of
 pub record Ends (b : ℕ) (bs : List ℕ) : Type 0 where
@@ -92,8 +80,7 @@ pub record Ends (b : ℕ) (bs : List ℕ) : Type 0 where
   pub rest : trimmed bs ≡ bs
 
 ends-by : (t : Bool) (b : ℕ) (bs : List ℕ) → is_blank (b ∷ bs) ≡ t → (if t then [] else b ∷ trimmed bs) ≡ b ∷ bs → Ends b bs
-ends-by true b bs e same = absurd (cc)
-ends-by false b bs e same = record { some = e; rest = cc }
+ends-by t b bs e same = grind arith
 
 ends : (b : ℕ) (bs : List ℕ) → trimmed (b ∷ bs) ≡ b ∷ bs → Ends b bs
 unfolding trimmed
@@ -109,8 +96,7 @@ tidy-escapes (b ∷ bs) e same =
     tidy-front (is_plain b) b (flat_map escaped_byte bs) (byte-low b t.0) open-blank (tidy-escapes bs t.1 n.rest)
 
 by-blank : (t : Bool) (b : ℕ) (bs : List ℕ) → is_byte b ≡ true → list_all is_byte bs ≡ true → list_all is_byte (if t then [] else b ∷ bs) ≡ true
-by-blank true b bs e more = refl
-by-blank false b bs e more = and_from (is_byte b) (list_all is_byte bs) e more
+by-blank t b bs e more = grind (arith, and_from)
 
 trimmed-bytes : (bs : List ℕ) → list_all is_byte bs ≡ true → list_all is_byte (trimmed bs) ≡ true
 unfolding trimmed
@@ -121,10 +107,11 @@ trimmed-bytes (b ∷ bs) e =
 
 tidy-escaped : (line : List ℕ) → list_all is_byte line ≡ true → trimmed line ≡ line → IsTidy (escaped line)
 unfolding escaped
-tidy-escaped line e same = record {
-  text = rw (escapes-text line e) (unfold is_text in refl);
-  trimmed = trimmed-cons 37 (126 ∷ flat_map escaped_byte line) (λ k. omega arith) ∙ ap (λ xs. 37 ∷ xs) (trimmed-cons 126 (flat_map escaped_byte line) (λ k. omega arith)) ∙ ap (λ xs. 37 ∷ 126 ∷ xs) (tidy-escapes line e same);
-}
+tidy-escaped line e same =
+    record {
+      text = rw (escapes-text line e) (unfold is_text in refl);
+      trimmed = grind (arith, trimmed-cons, tidy-escapes);
+    }
 
 -- what is escaped is read as it was
 abbrev into : Unescaped → List ℕ → Unescaped
@@ -136,24 +123,15 @@ tilde u none = rw none refl
 
 first : (u : Unescaped) (d : ℕ) → d < 16 → with_character (record u { begun = 1 }) (digit d) ≡ record u { begun = 2 + d }
 unfolding with_character
-first u d below =
-    let h : IsDigit d = digit-is d below in
-    let v : value (digit d) ≡ d = h.value in
-    let good : nat_lt d 16 ≡ true = lt-ltb d 16 below in
-    rw (v, good) refl
+first u d below = grind (arith, digit-is d below, lt-ltb d 16 below)
 
 second-by : (u : Unescaped) (n c d : ℕ) → n ≡ 2 + d → value c < 16 → with_character (record u { begun = n }) c ≡ record u { bytes = u.bytes ++ (16 * (n - 2) + value c) ∷ []; begun = 0 }
 unfolding with_character
-second-by u n c d e below =
-    let none : (n == 0) ≡ false = grind arith in
-    let one : (n == 1) ≡ false = grind arith in
-    let good : nat_lt (value c) 16 ≡ true = lt-ltb (value c) 16 below in
-    rw (none, good, one) refl
+second-by u n c d e below = grind (arith, lt-ltb)
 
 second : (u : Unescaped) (b : ℕ) → b < 256 → u.begun ≡ 0 → with_character (record u { begun = 2 + b / 16 }) (digit (b % 16)) ≡ into u (b ∷ [])
 second u b below none =
     let l : IsDigit (b % 16) = digit-is (b % 16) (omega arith) in
-    let v : value (digit (b % 16)) ≡ b % 16 = l.value in
     let small : value (digit (b % 16)) < 16 = omega arith in
     let whole : 16 * (2 + b / 16 - 2) + value (digit (b % 16)) ≡ b = omega arith in
     second-by u (2 + b / 16) (digit (b % 16)) (b / 16) refl small
@@ -161,10 +139,7 @@ second u b below none =
     ∙ ap (λ n. record u { bytes = u.bytes ++ b ∷ []; begun = n }) (sym none)
 
 three : (u : Unescaped) (b : ℕ) → b < 256 → u.begun ≡ 0 → with_character (with_character (with_character u 126) (digit (b / 16))) (digit (b % 16)) ≡ into u (b ∷ [])
-three u b below none =
-    ap (λ v. with_character (with_character v (digit (b / 16))) (digit (b % 16))) (tilde u none)
-    ∙ ap (λ v. with_character v (digit (b % 16))) (first u (b / 16) (omega arith))
-    ∙ second u b below none
+three u b below none = grind (arith, tilde, first, second)
 
 plain-one : (u : Unescaped) (b : ℕ) → u.begun ≡ 0 → (b == 126) ≡ false → with_character u b ≡ into u (b ∷ [])
 unfolding with_character
@@ -173,11 +148,7 @@ plain-one u b none other = rw (none, other) refl
 one-by : (plain : Bool) (u : Unescaped) (b : ℕ) (rest : List ℕ) → is_plain b ≡ plain → u.begun ≡ 0 → b < 256 →
     fold with_character u ((if plain then b ∷ [] else 126 ∷ digit (b / 16) ∷ digit (b % 16) ∷ []) ++ rest) ≡ fold with_character (into u (b ∷ [])) rest
 unfolding is_plain
-one-by true u b rest e none below =
-    let t = and_parts (is_text b) (not (b == 126)) e in
-    let other : (b == 126) ≡ false = grind arith in
-    ap (λ v. fold with_character v rest) (plain-one u b none other)
-one-by false u b rest e none below = ap (λ v. fold with_character v rest) (three u b below none)
+one-by plain u b rest e none below = grind (arith, and_parts, plain-one, three)
 
 one-read : (u : Unescaped) (b : ℕ) (rest : List ℕ) → u.begun ≡ 0 → b < 256 → fold with_character u (escaped_byte b ++ rest) ≡ fold with_character (into u (b ∷ [])) rest
 unfolding escaped_byte
@@ -205,9 +176,7 @@ plain-escaped s line e = whole-read s line e
 
 written-by : (text : Bool) (s : State) (bs : List ℕ) → list_all is_text (trimmed bs) ≡ text → list_all is_byte bs ≡ true → with_text s (if text then marked (trimmed bs) else escaped (trimmed bs)) ≡ with_line s (trimmed bs)
 written-by true s bs e bytes = ap (λ l. with_text s (marked l)) (sym (trimmed-again bs)) ∙ text-read s (trimmed bs) e ∙ ap (with_line s) (trimmed-again bs)
-written-by false s bs e bytes =
-    let fit : list_all is_byte (trimmed bs) ≡ true = trimmed-bytes bs bytes in
-    taken_plain s (escaped (trimmed bs)) (tidy-escaped (trimmed bs) fit (trimmed-again bs)) ∙ plain-escaped s (trimmed bs) fit
+written-by false s bs e bytes = grind (arith, trimmed-bytes, taken_plain, tidy-escaped, trimmed-again, plain-escaped)
 
 -- a line of a screen is read as it was
 pub line-read : (s : State) (bs : List ℕ) → list_all is_byte bs ≡ true → with_text s (written (trimmed bs)) ≡ with_line s (trimmed bs)
@@ -237,14 +206,7 @@ step-by : (none sign digital one : Bool) (u : Unescaped) (c : ℕ) → (u.begun 
     else if one then record u { begun = 2 + value c }
     else record u { bytes = u.bytes ++ (16 * (u.begun - 2) + value c) ∷ []; begun = 0 })
 unfolding is_byte
-step-by true true digital one u c a b d e byte h = record { bytes = h.bytes; begun = omega arith }
-step-by true false digital one u c a b d e byte h = record { bytes = push-byte u.bytes c h.bytes (unfold is_byte in byte); begun = h.begun }
-step-by false sign false one u c a b d e byte h = record { bytes = h.bytes; begun = h.begun }
-step-by false sign true true u c a b d e byte h = let v : value c < 16 = ltb-true (value c) 16 d in record { bytes = h.bytes; begun = omega arith }
-step-by false sign true false u c a b d e byte h =
-    let v : value c < 16 = ltb-true (value c) 16 d in
-    let k : u.begun ≤ 17 = h.begun in
-    record { bytes = push-byte u.bytes (16 * (u.begun - 2) + value c) h.bytes (lt-ltb (16 * (u.begun - 2) + value c) 256 (omega arith)); begun = omega arith }
+step-by none sign digital one u c a b d e byte h = grind (arith, push-byte, ltb-true, lt-ltb)
 
 step : (u : Unescaped) (c : ℕ) → is_byte c ≡ true → Fits u → Fits (with_character u c)
 unfolding with_character

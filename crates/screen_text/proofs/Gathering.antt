@@ -1,4 +1,4 @@
-use Rattle.std.proofs.Common.{◌≡◌, ◌∙◌, ℕ, zero, suc, ◌+◌, ◌*◌, ◌<◌, ◌≤◌, ◌==◌, List, [], ◌∷◌, ◌++◌, length, take, drop, map, flat_map, Bool, true, false, ◌||◌, nat_lt, if◌then◌else◌, append_assoc, append-nil, length-append, arith, Ok, refl, ap, sym}
+use Rattle.std.proofs.Common.{◌≡◌, ◌∙◌, ℕ, zero, suc, ◌+◌, ◌*◌, ◌<◌, ◌≤◌, ◌==◌, List, [], ◌∷◌, ◌++◌, length, take, drop, map, flat_map, Bool, true, false, ◌||◌, if◌then◌else◌, append_assoc, append-nil, length-append, arith, Ok, refl, ap, sym}
 use Rattle.std.specs.Prelude.{All, eqb}
 use Rattle.std.specs.List.{list_all, list_any, IsDistinct, AllByRecursion}
 use Rattle.std.proofs.lemmas.Grind.{flat_map-append}
@@ -31,10 +31,7 @@ Apart before (n ∷ numbers) = (list_any (λ m. m == n) before ≡ false) × Apa
 
 any-more : (before : List ℕ) (x n : ℕ) → list_any (λ m. m == n) before ≡ false → eqb x n ≡ false → list_any (λ m. m == n) (before ++ x ∷ []) ≡ false
 any-more [] x n none e = rw e refl
-any-more (b ∷ before) x n none e =
-    let t : ((b == n) || list_any (λ m. m == n) before) ≡ false = none in
-    let first : (b == n) ≡ false = grind arith in
-    rw (first, any-more before x n (grind arith) e) refl
+any-more (b ∷ before) x n none e = grind (arith, any-more before x n (grind arith) e)
 
 apart-more : (before : List ℕ) (x : ℕ) (numbers : List ℕ) → Apart before numbers → AllByRecursion (λ y. eqb x y ≡ false) numbers → Apart (before ++ x ∷ []) numbers
 unfolding Apart
@@ -54,9 +51,7 @@ apart-none (n ∷ numbers) = (refl, apart-none numbers)
 begins : (s : State) (n : ℕ) → (s.headed || length s.numbers == 0) ≡ true → list_any (λ m. m == n) s.numbers ≡ false → length s.numbers < 65536 →
     with_screen s n ≡ Ok (record { headed = true; numbers = s.numbers ++ n ∷ []; bytes = whole s })
 unfolding with_screen
-begins s n may none few =
-    let room : nat_lt (length s.numbers) 65536 ≡ true = grind arith in
-    rw (may, none, room) refl
+begins s n may none few = grind arith
 
 -- what is read of screens after others
 pub record Reads (s : State) (texts : List (List ℕ)) (ns bs : List ℕ) : Type 0 where
@@ -76,7 +71,7 @@ reads_screen s screen h may none few size =
     record {
       after = a.after;
       leads = joins s t a.after (heading screen.number ∷ []) (map written (screen_lines 16 screen.bytes)) (one s t (heading screen.number) first) a.leads;
-      headed = ap (λ b. b || length a.after.numbers == 0) a.headed;
+      headed = grind arith;
       numbers = a.numbers;
       bytes = a.bytes;
     }
@@ -92,13 +87,7 @@ reads_screens (screen ∷ screens) s each new few may size =
     let filled : length (whole a.after) ≡ 1024 * length a.after.numbers = ap length a.bytes ∙ length-append (whole s) screen.bytes ∙ (let w = h.size in omega arith) in
     let b : Reads a.after (all_lines screens) (numbers_of screens) (bytes_of screens) =
     reads_screens screens a.after (All-tail IsWritable screen screens each) (rw a.numbers new.1) (omega arith) a.headed filled in
-    record {
-      after = b.after;
-      leads = joins s a.after b.after (source_lines screen) (all_lines screens) a.leads b.leads;
-      headed = b.headed;
-      numbers = b.numbers ∙ ap (λ xs. xs ++ numbers_of screens) a.numbers ∙ append_assoc s.numbers (screen.number ∷ []) (numbers_of screens);
-      bytes = b.bytes ∙ ap (λ xs. xs ++ bytes_of screens) a.bytes ∙ append_assoc (whole s) screen.bytes (bytes_of screens);
-    }
+    search (arith, joins, append_assoc)
 
 -- the text of screens has just these lines
 lines-text : (lines : List (List ℕ)) → flat_map line_text lines ≡ ended (map written lines)
@@ -122,8 +111,7 @@ text-is (s ∷ screens) = ap (λ r. r ++ text_of screens) (screen-text-is s) ∙
 rows-by : (t : Bool) (n : ℕ) (part : List ℕ) → list_all is_text (written (trimmed (take 64 part))) ≡ true → are_text (map written (screen_lines n (drop 64 part))) ≡ true →
     are_text (map written (if t then [] else trimmed (take 64 part) ∷ screen_lines n (drop 64 part))) ≡ true
 unfolding are_text
-rows-by true n part e more = refl
-rows-by false n part e more = rw (e, more) refl
+rows-by t n part e more = grind arith
 
 rows-text : (n : ℕ) (part : List ℕ) → list_all is_byte part ≡ true → are_text (map written (screen_lines n part)) ≡ true
 unfolding are_text screen_lines

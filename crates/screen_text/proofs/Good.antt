@@ -1,4 +1,4 @@
-use Rattle.std.proofs.Common.{◌≡◌, ◌∙◌, ℕ, zero, suc, ◌+◌, ◌-◌, ◌*◌, ◌%◌, ◌<◌, ◌≤◌, ◌==◌, List, [], ◌∷◌, ◌++◌, length, drop, Bool, true, false, not, ◌&&◌, ◌||◌, nat_lt, nat_le, if◌then◌else◌, length-append, arith, Ok, Err, Result, refl, ap}
+use Rattle.std.proofs.Common.{◌≡◌, ◌∙◌, ℕ, zero, suc, ◌+◌, ◌-◌, ◌*◌, ◌%◌, ◌<◌, ◌≤◌, ◌==◌, List, [], ◌∷◌, ◌++◌, length, drop, Bool, true, false, not, ◌||◌, nat_lt, nat_le, if◌then◌else◌, length-append, arith, Ok, Err, Result, refl, ap}
 use Rattle.std.specs.Prelude.{eqb}
 use Rattle.std.specs.List.{list_all, list_any, IsDistinct, AllByRecursion}
 use Rattle.std.proofs.lemmas.List.Folds.{list_all-append}
@@ -36,24 +36,15 @@ all-below (m ∷ numbers) x h n e = (h.0, all-below numbers x h.1 n e)
 distinct-more : (numbers : List ℕ) (n : ℕ) → IsDistinct eqb numbers → list_any (λ m. m == n) numbers ≡ false → IsDistinct eqb (numbers ++ n ∷ [])
 unfolding IsDistinct
 distinct-more [] n h e = (tt, tt)
-distinct-more (m ∷ numbers) n h e =
-    let t : ((m == n) || list_any (λ k. k == n) numbers) ≡ false = e in
-    let first : eqb m n ≡ false = grind arith in
-    (all-below numbers m h.0 n first, distinct-more numbers n h.1 (grind arith))
+distinct-more (m ∷ numbers) n h e = grind (arith, all-below, distinct-more numbers n h.1 (grind arith))
 
 not-above : (numbers : List ℕ) (count : ℕ) → list_all (λ n. nat_le n count) numbers ≡ true → list_any (λ m. m == count + 1) numbers ≡ false
 not-above [] count e = refl
-not-above (n ∷ numbers) count e =
-    let t : (nat_le n count && list_all (λ m. nat_le m count) numbers) ≡ true = e in
-    let first : (n == count + 1) ≡ false = grind arith in
-    rw (first, not-above numbers count (grind arith)) refl
+not-above (n ∷ numbers) count e = grind (arith, not-above numbers count (grind arith))
 
 higher : (numbers : List ℕ) (count : ℕ) → list_all (λ n. nat_le n count) numbers ≡ true → list_all (λ n. nat_le n (count + 1)) numbers ≡ true
 higher [] count e = refl
-higher (n ∷ numbers) count e =
-    let t : (nat_le n count && list_all (λ m. nat_le m count) numbers) ≡ true = e in
-    let first : nat_le n (count + 1) ≡ true = grind arith in
-    rw (first, higher numbers count (grind arith)) refl
+higher (n ∷ numbers) count e = grind (arith, higher numbers count (grind arith))
 
 blanks-text : (n : ℕ) → list_all is_text (blanks n) ≡ true
 unfolding blanks is_text
@@ -83,15 +74,7 @@ more-text xs ys a b = list_all-append is_text xs ys ∙ rw (a, b) refl
 in_room : (s : State) (line : List ℕ) → IsGood s → length line ≤ 64 → list_all is_byte line ≡ true → length s.bytes < 1024 * length s.numbers → IsGood (record s { bytes = s.bytes ++ padded 64 line })
 in_room s line h short text some =
     let size : length (s.bytes ++ padded 64 line) ≡ 64 * (h.rows + 1) = (let z = h.size in omega (arith, length-append s.bytes (padded 64 line), length-padded 64 line short)) in
-    record {
-      low = h.low;
-      distinct = h.distinct;
-      counted = h.counted;
-      rows = h.rows + 1;
-      size = size;
-      fits = (let z = h.size in omega arith);
-      bytes = more-bytes s.bytes (padded 64 line) h.bytes (padded-bytes 64 line text);
-    }
+    search (arith, more-bytes, padded-bytes)
 
 -- a line that begins the next screen
 in_next : (s : State) (line : List ℕ) → IsGood s → s.headed ≡ false → length line ≤ 64 → list_all is_byte line ≡ true → length s.numbers < 65535 →
@@ -103,7 +86,7 @@ in_next s line h plain short text some =
     let top : nat_le (length s.numbers + 1) (length s.numbers + 1) ≡ true = grind arith in
     let counted : list_all (λ n. nat_le n (length s.numbers)) s.numbers ≡ true = h.counted plain in
     record {
-      low = list_all-append (λ n. nat_lt n 65536) s.numbers ((length s.numbers + 1) ∷ []) ∙ rw (h.low, low) refl;
+      low = grind (arith, list_all-append);
       distinct = distinct-more s.numbers (length s.numbers + 1) h.distinct (not-above s.numbers (length s.numbers) counted);
       counted = λ e. ap (λ k. list_all (λ n. nat_le n k) (s.numbers ++ (length s.numbers + 1) ∷ [])) count
           ∙ list_all-append (λ n. nat_le n (length s.numbers + 1)) s.numbers ((length s.numbers + 1) ∷ []) ∙ rw (higher s.numbers (length s.numbers) counted, top) refl;
@@ -120,11 +103,7 @@ line_by : (long room headed next : Bool) (s : State) (line : List ℕ) → nat_l
     else if headed then Err FullScreen
     else if next then Ok (record s { numbers = s.numbers ++ (length s.numbers + 1) ∷ []; bytes = s.bytes ++ padded 64 line })
     else Err NoScreen)
-line_by true room headed next s line a b c d h text = tt
-line_by false true headed next s line a b c d h text = in_room s line h (grind arith) text (grind arith)
-line_by false false true next s line a b c d h text = tt
-line_by false false false true s line a b c d h text = in_next s line h c (grind arith) text (grind arith)
-line_by false false false false s line a b c d h text = tt
+line_by long room headed next s line a b c d h text = grind (arith, in_room, in_next)
 
 good_line : (s : State) (line : List ℕ) → IsGood s → list_all is_byte line ≡ true → IsGoodResult (with_line s line)
 unfolding with_line
@@ -143,7 +122,7 @@ screen_by false false false s n e h small =
     let low : nat_lt n 65536 ≡ true = grind arith in
     let size : length (padded (1024 * length s.numbers) s.bytes) ≡ 1024 * length s.numbers = length-padded (1024 * length s.numbers) s.bytes h.fits in
     record {
-      low = list_all-append (λ m. nat_lt m 65536) s.numbers (n ∷ []) ∙ rw (h.low, low) refl;
+      low = grind (arith, list_all-append);
       distinct = distinct-more s.numbers n h.distinct e;
       counted = λ plain. absurd (cc);
       rows = 16 * length s.numbers;
@@ -157,8 +136,7 @@ unfolding with_screen
 good_screen s n h small = screen_by (not (s.headed || length s.numbers == 0)) (list_any (λ m. m == n) s.numbers) (not (nat_lt (length s.numbers) 65536)) s n refl h small
 
 escapes_by : (whole : Bool) (s : State) (u : Unescaped) → IsGood s → list_all is_byte u.bytes ≡ true → IsGoodResult (if whole then with_line s u.bytes else Err BadEscape)
-escapes_by true s u h bytes = good_line s u.bytes h bytes
-escapes_by false s u h bytes = tt
+escapes_by x0 s u h bytes = grind (arith, good_line)
 
 good_escapes : (s : State) (text : List ℕ) → IsGood s → list_all is_text text ≡ true → IsGoodResult (with_escapes s (unescaped text))
 unfolding with_escapes
@@ -171,11 +149,7 @@ plain_by : (marked twice signed named : Bool) (s : State) (line : List ℕ) → 
     else if named then with_screen s (number_of (drop 9 line))
     else Err BadHeading)
 unfolding is_heading
-plain_by false twice signed named s line e h text = good_line s line h (text-bytes line text)
-plain_by true true signed named s line e h text = good_line s (drop 1 line) h (text-bytes (drop 1 line) (all-back is_text 1 line text))
-plain_by true false true named s line e h text = good_escapes s (drop 2 line) h (all-back is_text 2 line text)
-plain_by true false false true s line e h text = good_screen s (number_of (drop 9 line)) h (let low : nat_lt (number_of (drop 9 line)) 65536 ≡ true = grind arith in grind arith)
-plain_by true false false false s line e h text = tt
+plain_by marked twice signed named s line e h text = grind (arith, good_line, text-bytes, all-back, good_escapes, good_screen)
 
 good_plain : (s : State) (line : List ℕ) → IsGood s → list_all is_text line ≡ true → IsGoodResult (with_plain s line)
 unfolding with_plain
@@ -183,19 +157,15 @@ good_plain s line h text = plain_by (has_mark line) (has_mark (drop 1 line)) (ha
 
 spread-by : (tab : Bool) (b column : ℕ) (bs : List ℕ) → (b == 9) ≡ tab → (b == 9 || is_text b) ≡ true → ((c : ℕ) → list_all is_text (spread c bs) ≡ true) →
     list_all is_text (if tab then blanks (8 - column % 8) ++ spread (column + (8 - column % 8)) bs else b ∷ spread (column + 1) bs) ≡ true
-spread-by true b column bs e good more = more-text (blanks (8 - column % 8)) (spread (column + (8 - column % 8)) bs) (blanks-text (8 - column % 8)) (more (column + (8 - column % 8)))
-spread-by false b column bs e good more = let t : is_text b ≡ true = rw e at good in rw (t, more (column + 1)) refl
+spread-by tab b column bs e good more = grind (arith, more-text, blanks-text)
 
 spread-text : (column : ℕ) (bs : List ℕ) → list_all (λ b. b == 9 || is_text b) bs ≡ true → list_all is_text (spread column bs) ≡ true
 unfolding spread
 spread-text column [] e = refl
-spread-text column (b ∷ bs) e =
-    let t : ((b == 9 || is_text b) && list_all (λ c. c == 9 || is_text c) bs) ≡ true = e in
-    spread-by (b == 9) b column bs refl (grind arith) (λ c. spread-text c bs (grind arith))
+spread-text column (b ∷ bs) e = spread-by (b == 9) b column bs refl (grind arith) (λ c. spread-text c bs (grind arith))
 
 text_by : (fine : Bool) (s : State) (line : List ℕ) → list_all (λ b. b == 9 || is_text b) line ≡ fine → IsGood s → IsGoodResult (if fine then with_plain s (trimmed (spread 0 line)) else Err (BadByte (bad_byte line)))
-text_by true s line e h = good_plain s (trimmed (spread 0 line)) h (trimmed-text-of (spread 0 line) (spread-text 0 line e))
-text_by false s line e h = tt
+text_by fine s line e h = grind (arith, good_plain, trimmed-text-of, spread-text)
 
 good_text : (s : State) (line : List ℕ) → IsGood s → IsGoodResult (with_text s line)
 unfolding with_text
@@ -206,8 +176,7 @@ IsGoodText (Ok s) = IsGood s
 IsGoodText (Err fault) = Unit {0}
 
 then_good : (k : ℕ) (r : Result State Cause) (next : State → Result State TextFault) → IsGoodResult r → ((s : State) → IsGood s → IsGoodText (next s)) → IsGoodText (then_read k r next)
-then_good k (Ok s) next h more = more s h
-then_good k (Err cause) next h more = tt
+then_good k r next h more = grind arith
 
 pub good_texts : (k : ℕ) (s : State) (texts : List (List ℕ)) → IsGood s → IsGoodText (with_texts k s texts)
 unfolding with_texts

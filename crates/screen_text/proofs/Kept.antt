@@ -1,4 +1,4 @@
-use Rattle.std.proofs.Common.{◌≡◌, ◌∙◌, ℕ, ◌<◌, ◌≤◌, List, [], ◌∷◌, length, Bool, true, false, ◌||◌, append-nil, arith, Ok, refl, ap, sym}
+use Rattle.std.proofs.Common.{◌≡◌, ◌∙◌, ℕ, ◌<◌, ◌≤◌, List, [], ◌∷◌, length, Bool, true, ◌||◌, append-nil, arith, Ok, refl, ap, sym}
 use Rattle.std.specs.Prelude.{All, eqb}
 use Rattle.std.specs.List.{list_any}
 use Rattle.std.proofs.lemmas.List.{length-map}
@@ -11,8 +11,7 @@ use Rattle.screen_text.proofs.Splitting.{lines-ended}
 use Rattle.screen_text.proofs.Gathering.{Reads, all_lines, all-text-lines, apart-none, new-of, reads_screens, text-is}
 
 below-by : (t : Bool) (q : ℕ) (s : Screen) (numbers : List ℕ) → eqb q s.number ≡ t → s.number < 65536 → (list_any (eqb q) numbers ≡ true → q < 65536) → (eqb q s.number || list_any (eqb q) numbers) ≡ true → q < 65536
-below-by true q s numbers is low more e = let same : q ≡ s.number = grind arith in omega arith
-below-by false q s numbers is low more e = more (rw is at e)
+below-by t q s numbers is low more e = grind arith
 
 -- a number among those of screens
 below : (screens : List Screen) → All IsWritable screens → (q : ℕ) → list_any (eqb q) (numbers_of screens) ≡ true → q < 65536

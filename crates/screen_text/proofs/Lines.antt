@@ -1,4 +1,4 @@
-use Rattle.std.proofs.Common.{◌≡◌, ◌∙◌, ℕ, zero, suc, ◌+◌, ◌-◌, ◌*◌, ◌<◌, ◌≤◌, List, [], ◌∷◌, ◌++◌, length, take, drop, map, flat_map, get_or, true, false, Ok, Err, Result, append_assoc, append-nil, length-take-le, drop-cons, add-one, inl, inr, Bor, arith, refl, ap, sym}
+use Rattle.std.proofs.Common.{◌≡◌, ◌∙◌, ℕ, suc, ◌+◌, ◌-◌, ◌*◌, ◌<◌, ◌≤◌, List, [], ◌∷◌, ◌++◌, length, take, drop, map, flat_map, get_or, true, false, Ok, Err, Result, append_assoc, append-nil, length-take-le, drop-cons, add-one, Bor, arith, refl, ap, sym}
 use Rattle.std.proofs.lemmas.List.{drop-drop, drop_all, take_all}
 use Rattle.screen_text.specs.declared.cause.Cause.{Cause}
 use Rattle.screen_text.specs.declared.cause.TextFault.{TextFault}
@@ -9,8 +9,7 @@ use Rattle.screen_text.specs.Reading.{State, Refuses, RefusesText, with_text, wi
 -- where the rest of a screen is blank no line comes any more, and else the next
 pub lines_end : (n : ℕ) (bytes : List ℕ) → is_blank bytes ≡ true → flat_map line_text (screen_lines n bytes) ≡ []
 unfolding screen_lines
-lines_end zero bytes e = refl
-lines_end (suc n) bytes e = rw e refl
+lines_end n bytes e = grind arith
 
 pub lines_more : (n : ℕ) (bytes : List ℕ) → is_blank bytes ≡ false →
     flat_map line_text (screen_lines (suc n) bytes) ≡ line_text (trimmed (take 64 bytes)) ++ flat_map line_text (screen_lines n (drop 64 bytes))
@@ -38,9 +37,7 @@ rows_end text all n bytes e blank = sym (append-nil text) ∙ ap (λ r. text ++ 
 
 pub rows_none : (text : List ℕ) (row : ℕ) (bytes all : List ℕ) → 16 ≤ row → text ++ flat_map line_text (screen_lines (16 - row) bytes) ≡ all → text ≡ all
 unfolding screen_lines
-rows_none text row bytes all done e =
-    let none : 16 - row ≡ 0 = omega arith in
-    sym (append-nil text) ∙ ap (λ n. text ++ flat_map line_text (screen_lines n bytes)) (sym none) ∙ e
+rows_none text row bytes all done e = grind (arith, append-nil)
 
 pub rows_more : (text all bytes rest line : List ℕ) (row : ℕ) → row < 16 → text ++ flat_map line_text (screen_lines (16 - row) (drop (64 * row) bytes)) ≡ all →
     is_blank rest ≡ false → rest ≡ drop (64 * row) bytes → line ≡ trimmed (take 64 rest) →
@@ -49,13 +46,7 @@ rows_more text all bytes rest line row within e blank r l =
     let n : 16 - row ≡ suc (16 - (row + 1)) = omega arith in
     let k : 64 * row + 64 ≡ 64 * (row + 1) = omega arith in
     let skipped : drop 64 rest ≡ drop (64 * (row + 1)) bytes = ap (drop 64) r ∙ drop-drop 64 (64 * row) bytes ∙ ap (λ j. drop j bytes) k in
-    append_assoc text (line_text line) _
-    ∙ ap (λ b. text ++ (line_text line ++ flat_map line_text (screen_lines (16 - (row + 1)) b))) (sym skipped)
-    ∙ ap (λ b. text ++ (line_text b ++ flat_map line_text (screen_lines (16 - (row + 1)) (drop 64 rest)))) l
-    ∙ ap (λ b. text ++ b) (sym (lines_more (16 - (row + 1)) rest blank))
-    ∙ ap (λ j. text ++ flat_map line_text (screen_lines j rest)) (sym n)
-    ∙ ap (λ b. text ++ flat_map line_text (screen_lines (16 - row) b)) r
-    ∙ e
+    grind (arith, append_assoc, lines_more)
 
 fronted : (bs : List (Bor (List ℕ))) (i : ℕ) (d : Bor (List ℕ)) → i < length bs → map (λ x. x.now) (drop i bs) ≡ (get_or bs i d).now ∷ map (λ x. x.now) (drop (i + 1) bs)
 fronted bs i d below = ap (map (λ x. x.now)) (drop-cons bs i d below) ∙ ap (λ k. (get_or bs i d).now ∷ map (λ x. x.now) (drop k bs)) (sym (add-one i))
@@ -63,14 +54,11 @@ fronted bs i d below = ap (map (λ x. x.now)) (drop-cons bs i d below) ∙ ap (�
 -- what all lines come to is what those come to that aren't taken yet
 pub takes_more : (r : Result State TextFault) (s t : State) (bs : List (Bor (List ℕ))) (i : ℕ) (d : Bor (List ℕ)) → i < length bs → r ≡ with_texts (i + 1) s (map (λ x. x.now) (drop i bs)) →
     with_text s (get_or bs i d).now ≡ Ok t → r ≡ with_texts (i + 1 + 1) t (map (λ x. x.now) (drop (i + 1) bs))
-takes_more r s t bs i d below e took =
-    e ∙ ap (with_texts (i + 1) s) (fronted bs i d below) ∙ texts_more (i + 1) s t (get_or bs i d).now (map (λ x. x.now) (drop (i + 1) bs)) took
+takes_more r s t bs i d below e took = grind (arith, fronted, texts_more)
 
 pub takes_end : (r : Result State TextFault) (s : State) (cause : Cause) (bs : List (Bor (List ℕ))) (i : ℕ) (d : Bor (List ℕ)) → i < length bs → r ≡ with_texts (i + 1) s (map (λ x. x.now) (drop i bs)) →
     Refuses (with_text s (get_or bs i d).now) cause → RefusesText r (record { line = i + 1; cause = cause })
-takes_end r s cause bs i d below e (inl refused) =
-    inl (e ∙ ap (with_texts (i + 1) s) (fronted bs i d below) ∙ texts_end (i + 1) s (get_or bs i d).now (map (λ x. x.now) (drop (i + 1) bs)) cause refused)
-takes_end r s cause bs i d below e (inr wanting) = inr wanting
+takes_end r s cause bs i d below e x8 = grind (arith, fronted, texts_end)
 
 pub takes_all : (r : Result State TextFault) (s : State) (bs : List (Bor (List ℕ))) (i : ℕ) → length bs ≤ i → r ≡ with_texts (i + 1) s (map (λ x. x.now) (drop i bs)) → r ≡ Ok s
 unfolding with_texts

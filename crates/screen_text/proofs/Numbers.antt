@@ -1,4 +1,4 @@
-use Rattle.std.proofs.Common.{◌≡◌, ◌∙◌, ℕ, ◌+◌, ◌-◌, ◌*◌, ◌/◌, ◌%◌, ◌<◌, ◌≤◌, min, List, [], ◌∷◌, ◌++◌, drop, true, arith, refl, ap}
+use Rattle.std.proofs.Common.{◌≡◌, ℕ, ◌+◌, ◌-◌, ◌*◌, ◌/◌, ◌%◌, ◌<◌, ◌≤◌, min, List, [], ◌∷◌, ◌++◌, drop, true, arith, refl}
 use Rattle.std.specs.Prelude.{decimal}
 use Rattle.std.specs.List.{list_all}
 use Rattle.std.proofs.lemmas.Grind.{common_steps}
@@ -32,17 +32,7 @@ unfolding number_of
 number-more ds d = grind (arith, common_steps)
 
 more_digits : (n : ℕ) (ds : List ℕ) → 10 ≤ n → Digits (n / 10) ds → Digits n (ds ++ (48 + n % 10) ∷ [])
-more_digits n ds high h =
-    let low : n % 10 < 10 = omega arith in
-    let t : is_text (48 + n % 10) ≡ true = digit-text (n % 10) low in
-    record {
-      value = λ small. let v : number_of ds ≡ n / 10 = h.value (omega arith) in number-more ds (48 + n % 10) ∙ ap (λ k. min 65536 (10 * k + (48 + n % 10 - 48))) v ∙ (let s : 10 * (n / 10) + (48 + n % 10 - 48) ≡ n = omega arith in grind arith);
-      text = list_all-append is_text ds ((48 + n % 10) ∷ []) ∙ rw (h.text, t) refl;
-      front = ds;
-      last = 48 + n % 10;
-      is = refl;
-      high = omega arith;
-    }
+more_digits n ds high h = grind (arith, digit-text, number-more, list_all-append)
 
 pub digits_of : (n : ℕ) → n < 65536 → Digits n (decimal n)
 digits_of n small = decimal_by_steps Digits one_digit more_digits n (omega arith)

@@ -1,4 +1,4 @@
-use Rattle.std.proofs.Common.{◌≡◌, ◌∙◌, ℕ, suc, ◌+◌, ◌-◌, ◌*◌, ◌<◌, ◌≤◌, List, [], ◌++◌, length, take, drop, fold, get_or, drop-cons, add-one, length-append, length-take-le, length-drop, arith, ap, sym}
+use Rattle.std.proofs.Common.{◌≡◌, ◌∙◌, ℕ, suc, ◌+◌, ◌-◌, ◌*◌, ◌<◌, ◌≤◌, List, ◌++◌, length, take, drop, fold, get_or, drop-cons, add-one, length-append, length-take-le, length-drop, arith, ap, sym}
 use Rattle.std.proofs.lemmas.List.{drop-drop, drop_all, take_all, append-nil}
 use Rattle.screen_text.specs.Bytes.{blanks, padded}
 use Rattle.screen_text.proofs.Blanks.{length-blanks}
@@ -16,11 +16,7 @@ unfolding with_screens screens_of
 placed_more file new all numbers bytes k d below e is =
     let far : 1024 * k + 1024 ≡ 1024 * (k + 1) = omega arith in
     let rest : drop 1024 (drop (1024 * k) bytes) ≡ drop (1024 * (k + 1)) bytes = drop-drop 1024 (1024 * k) bytes ∙ ap (λ j. drop j bytes) far in
-    ap (λ f. fold with_screen f (screens_of (drop (k + 1) numbers) (drop (1024 * (k + 1)) bytes))) is
-    ∙ ap (λ bs. fold with_screen (with_screen file (record { number = get_or numbers k d; bytes = take 1024 (drop (1024 * k) bytes) })) (screens_of (drop (k + 1) numbers) bs)) (sym rest)
-    ∙ ap (λ ns. fold with_screen (with_screen file (record { number = get_or numbers k d; bytes = take 1024 (drop (1024 * k) bytes) })) (screens_of ns (drop 1024 (drop (1024 * k) bytes)))) (add-one-drop numbers k)
-    ∙ ap (λ ns. fold with_screen file (screens_of ns (drop (1024 * k) bytes))) (sym (drop-cons numbers k d below))
-    ∙ e
+    grind (arith, add-one-drop, drop-cons)
 
 -- all are written
 pub placed_all : (file all numbers bytes : List ℕ) (k : ℕ) → length numbers ≤ k → with_screens file (screens_of (drop k numbers) (drop (1024 * k) bytes)) ≡ all → file ≡ all
@@ -38,17 +34,7 @@ long_enough end new old e = omega (arith, ap length e, length-append old (blanks
 pub put_back : (len start number : ℕ) (page new put old : List ℕ) → start ≡ 1024 * number → new ≡ padded (start + 1024) old → length page ≡ 1024 → len ≡ length new → put ≡ take start new ++ (page ++ drop (start + length page) new) →
     take len (put ++ drop (length put) new) ≡ with_screen old (record { number = number; bytes = page })
 unfolding with_screen
-put_back len start number page new put old s e size l p =
-    let room : start + 1024 ≤ length new = long_enough (start + 1024) new old e in
-    let far : start + length page ≡ 1024 * (number + 1) = omega arith in
-    let end : start + 1024 ≡ 1024 * (number + 1) = omega arith in
-    let grown : new ≡ padded (1024 * (number + 1)) old = e ∙ ap (λ k. padded k old) end in
-    let same : length put ≡ length new =
-    ap length p ∙ length-append (take start new) (page ++ drop (start + length page) new) ∙ (let f : length (take start new) ≡ start = length-take-le start new (omega arith) in omega (arith, length-append page (drop (start + length page) new), length-drop (start + length page) new)) in
-    let none : drop (length put) new ≡ [] = drop_all (length put) new (omega arith) in
-    ap (λ r. take len (put ++ r)) none ∙ ap (take len) (append-nil put) ∙ take_all len put (omega arith) ∙ p
-    ∙ ap (λ k. take start new ++ (page ++ drop k new)) far ∙ ap (λ k. take k new ++ (page ++ drop (1024 * (number + 1)) new)) s
-    ∙ ap (λ f. take (1024 * number) f ++ (page ++ drop (1024 * (number + 1)) f)) grown
+put_back len start number page new put old s e size l p = grind (arith, long_enough, length-append, length-take-le, length-drop, drop_all, append-nil, take_all)
 
 pub page_of : (new file numbers bytes : List ℕ) (k d : ℕ) (r : List ℕ) (ns : List ℕ) → ns ≡ numbers → r ≡ bytes →
     new ≡ with_screen file (record { number = get_or ns k d; bytes = take (1024 * k + 1024 - 1024 * k) (drop (1024 * k) r) }) →

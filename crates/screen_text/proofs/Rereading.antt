@@ -1,4 +1,4 @@
-use Rattle.std.proofs.Common.{◌≡◌, ◌∙◌, ℕ, zero, suc, ◌+◌, ◌-◌, ◌*◌, ◌<◌, ◌≤◌, List, [], ◌∷◌, ◌++◌, length, take, drop, map, Bool, true, false, nat_lt, if◌then◌else◌, append_assoc, length-append, take-append-drop, length-take-le, length-drop, arith, Ok, refl, ap, sym}
+use Rattle.std.proofs.Common.{◌≡◌, ◌∙◌, ℕ, zero, suc, ◌+◌, ◌-◌, ◌*◌, ◌<◌, ◌≤◌, List, [], ◌∷◌, ◌++◌, length, take, drop, map, Bool, true, false, if◌then◌else◌, append_assoc, length-append, take-append-drop, length-take-le, length-drop, arith, Ok, refl, ap, sym}
 use Rattle.std.specs.List.{list_all}
 use Rattle.std.proofs.lemmas.Bool.{and_parts, and_from}
 use Rattle.screen_text.specs.Bytes.{blanks, padded, is_blank, trimmed}
@@ -20,18 +20,12 @@ pub one : (s t : State) (text : List ℕ) → with_text s text ≡ Ok t → Lead
 one s t text e = record { reads = λ line more. texts_more line s t text more e }
 
 pub joins : (s t u : State) (xs ys : List (List ℕ)) → Leads s xs t → Leads t ys u → Leads s (xs ++ ys) u
-joins s t u xs ys a b = record {
-  reads = λ line more.
-      ap (with_texts line s) (append_assoc xs ys more) ∙ a.reads line (ys ++ more) ∙ b.reads (line + length xs) more ∙ ap (λ k. with_texts k u more) (omega (arith, length-append xs ys));
-}
+joins s t u xs ys a b = grind (arith, append_assoc, length-append)
 
 -- a line goes into a screen that has room
 room : (s : State) (line : List ℕ) → length line ≤ 64 → length s.bytes < 1024 * length s.numbers → with_line s line ≡ Ok (record s { bytes = s.bytes ++ padded 64 line })
 unfolding with_line
-room s line short some =
-    let a : nat_lt 64 (length line) ≡ false = grind arith in
-    let b : nat_lt (length s.bytes) (1024 * length s.numbers) ≡ true = grind arith in
-    rw (a, b) refl
+room s line short some = grind arith
 
 -- what is added to the last screen, which is filled by it
 pub record Adds (s : State) (texts : List (List ℕ)) (part : List ℕ) : Type 0 where
@@ -49,8 +43,7 @@ adds_blank s part fits e =
     record { after = s; leads = stays s; headed = refl; numbers = refl; bytes = ap (λ n. s.bytes ++ blanks n) k ∙ ap (λ xs. s.bytes ++ xs) (sym (blank-is part e)) }
 
 shorter : (t : Bool) (b : ℕ) (bs : List ℕ) → length (trimmed bs) ≤ length bs → length (if t then [] else b ∷ trimmed bs) ≤ length (b ∷ bs)
-shorter true b bs e = omega arith
-shorter false b bs e = omega arith
+shorter t b bs e = grind arith
 
 length-trimmed : (bs : List ℕ) → length (trimmed bs) ≤ length bs
 unfolding trimmed
@@ -58,11 +51,10 @@ length-trimmed [] = omega arith
 length-trimmed (b ∷ bs) = shorter (is_blank (b ∷ bs)) b bs (length-trimmed bs)
 
 pub all-front : (p : ℕ → Bool) (n : ℕ) (bs : List ℕ) → list_all p bs ≡ true → list_all p (take n bs) ≡ true
-all-front p zero bs e = refl
-all-front p (suc n) [] e = refl
 all-front p (suc n) (b ∷ bs) e =
     let t = and_parts (p b) (list_all p bs) e in
     and_from (p b) (list_all p (take n bs)) t.0 (all-front p n bs t.1)
+all-front p n bs e = grind (arith, and_parts, and_from)
 
 -- one line, then the lines after it
 adds_line : (s : State) (part : List ℕ) (texts : List (List ℕ)) → 64 ≤ length part → list_all is_byte part ≡ true → length s.bytes + length part ≡ 1024 * length s.numbers →
@@ -83,9 +75,8 @@ adds_line s part texts long text fits more =
     }
 
 pub all-back : (p : ℕ → Bool) (n : ℕ) (bs : List ℕ) → list_all p bs ≡ true → list_all p (drop n bs) ≡ true
-all-back p zero bs e = e
-all-back p (suc n) [] e = refl
 all-back p (suc n) (b ∷ bs) e = all-back p n bs (and_parts (p b) (list_all p bs) e).1
+all-back p n bs e = grind (arith, and_parts)
 
 adds_by : (t : Bool) (n : ℕ) (s : State) (part : List ℕ) → is_blank part ≡ t → 64 ≤ length part → list_all is_byte part ≡ true → length s.bytes + length part ≡ 1024 * length s.numbers →
     Adds (record s { bytes = s.bytes ++ take 64 part }) (map written (screen_lines n (drop 64 part))) (drop 64 part) →

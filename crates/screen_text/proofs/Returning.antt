@@ -1,6 +1,6 @@
 use Rattle.std.proofs.Common.{◌≡◌, ◌∙◌, ℕ, ◌*◌, ◌<◌, List, [], ◌∷◌, ◌++◌, length, take, drop, Bool, true, ◌&&◌, nat_lt, length-take-le, length-drop, take-append-drop, arith, Ok, Err, Result, refl, ap, sym, subst}
-use Rattle.std.specs.Prelude.{All, eqb}
-use Rattle.std.specs.List.{list_all, IsDistinct}
+use Rattle.std.specs.Prelude.{All}
+use Rattle.std.specs.List.{list_all}
 use Rattle.std.proofs.lemmas.List.Elements.{All-nil, All-cons}
 use Rattle.screen_text.specs.declared.cause.TextFault.{TextFault}
 use Rattle.screen_text.specs.Escapes.{is_byte}
@@ -45,15 +45,7 @@ pub record IsReturned (numbers bytes : List ℕ) : Type 0 where
 
 good-returned : (s : State) → IsGood s → IsReturned s.numbers (whole s)
 unfolding whole
-good-returned s h =
-    let size : length (whole s) ≡ 1024 * length s.numbers = length-padded (1024 * length s.numbers) s.bytes h.fits in
-    let text : list_all is_byte (whole s) ≡ true = padded-bytes (1024 * length s.numbers) s.bytes h.bytes in
-    record {
-      writable = record { each = writable-cut s.numbers (whole s) h.low size text; distinct = subst (IsDistinct eqb) (sym (numbers-cut s.numbers (whole s))) h.distinct };
-      numbers_same = numbers-cut s.numbers (whole s);
-      bytes_same = bytes-cut s.numbers (whole s) size;
-      size = size;
-    }
+good-returned s h = grind (arith, length-padded, padded-bytes, writable-cut, numbers-cut, bytes-cut)
 
 returned-by : (r : Result State TextFault) → IsGoodText r → (numbers bytes : List ℕ) → IsRead r numbers bytes → IsReturned numbers bytes
 returned-by (Ok s) good numbers bytes h = subst (λ ns. IsReturned ns bytes) (sym h.0) (subst (IsReturned s.numbers) (sym h.1) (good-returned s good))
@@ -65,10 +57,7 @@ returned text numbers bytes h = returned-by (read text) (good_texts 1 nothing (t
 
 -- and the text of these is read as the same
 pub same_again : (text numbers bytes : List ℕ) → IsRead (read text) numbers bytes → IsRead (read (text_of (screens_of numbers bytes))) numbers bytes
-same_again text numbers bytes h =
-    let r : IsReturned numbers bytes = returned text numbers bytes h in
-    let again : IsRead (read (text_of (screens_of numbers bytes))) (numbers_of (screens_of numbers bytes)) (bytes_of (screens_of numbers bytes)) = reread (screens_of numbers bytes) r.writable in
-    subst (λ bs. IsRead (read (text_of (screens_of numbers bytes))) numbers bs) r.bytes_same (subst (λ ns. IsRead (read (text_of (screens_of numbers bytes))) ns (bytes_of (screens_of numbers bytes))) r.numbers_same again)
+same_again text numbers bytes h = grind (arith, returned, reread)
 
 -- there are 1,024 bytes for each number
 pub read_size : (text : List ℕ) (s : State) (numbers bytes : List ℕ) → read text ≡ Ok s → numbers ≡ s.numbers → bytes ≡ whole s → length bytes ≡ 1024 * length numbers

@@ -1,11 +1,11 @@
-use Rattle.std.proofs.Common.{◌≡◌, ◌≢◌, ◌∙◌, ℕ, suc, ◌+◌, ◌-◌, ◌<◌, ◌≤◌, ◌==◌, List, [], ◌∷◌, ◌++◌, length, drop, Bool, true, false, ◌&&◌, ◌||◌, nat_lt, if◌then◌else◌, arith, refl, ap, sym}
+use Rattle.std.proofs.Common.{◌≡◌, ◌≢◌, ◌∙◌, ℕ, suc, ◌+◌, ◌-◌, ◌<◌, ◌≤◌, ◌==◌, List, [], ◌∷◌, ◌++◌, length, drop, Bool, true, false, ◌||◌, if◌then◌else◌, arith, refl, ap, sym}
 use Rattle.std.specs.Prelude.{codes, decimal, bytes_eq}
 use Rattle.std.specs.List.{list_all}
 use Rattle.std.proofs.lemmas.List.Folds.{list_all-append}
 use Rattle.screen_text.specs.Bytes.{blanks, padded, is_blank, is_text, trimmed, spread}
 use Rattle.screen_text.specs.Escapes.{has_sign}
 use Rattle.screen_text.specs.Screens.{heading, has_mark, marked}
-use Rattle.screen_text.specs.Reading.{State, number_of, is_heading, with_line, with_plain, with_screen, with_text}
+use Rattle.screen_text.specs.Reading.{State, is_heading, with_line, with_plain, with_screen, with_text}
 use Rattle.screen_text.proofs.Blanks.{blank-cons, trimmed-text}
 use Rattle.screen_text.proofs.Numbers.{Digits, digits_of, number-heading}
 
@@ -23,16 +23,12 @@ no-tab b e = grind arith
 
 pub lined : (line : List ℕ) → list_all is_text line ≡ true → list_all (λ b. b == 9 || is_text b) line ≡ true
 lined [] e = refl
-lined (b ∷ line) e =
-    let t : (is_text b && list_all is_text line) ≡ true = e in
-    rw (text-byte b (grind arith), lined line (grind arith)) refl
+lined (b ∷ line) e = grind (arith, text-byte, lined line (grind arith))
 
 pub unspread : (column : ℕ) (line : List ℕ) → list_all is_text line ≡ true → spread column line ≡ line
 unfolding spread
 unspread column [] e = refl
-unspread column (b ∷ line) e =
-    let t : (is_text b && list_all is_text line) ≡ true = e in
-    rw (no-tab b (grind arith), unspread (column + 1) line (grind arith)) refl
+unspread column (b ∷ line) e = grind (arith, no-tab, unspread (column + 1) line (grind arith))
 
 -- a tidy line is taken as it is
 pub taken_plain : (s : State) (line : List ℕ) → IsTidy line → with_text s line ≡ with_plain s line
@@ -58,8 +54,7 @@ heading-sign n = refl
 -- a line of a screen is read as it was, whether it begins with % or not
 pub unmarked : (s : State) (line : List ℕ) (m : Bool) → has_mark line ≡ m → with_plain s (if m then 37 ∷ line else line) ≡ with_line s line
 unfolding with_plain
-unmarked s line true e = rw (has-front line, e) refl
-unmarked s line false e = rw e refl
+unmarked s line m e = grind (arith, has-front)
 
 same-bytes : (xs : List ℕ) → bytes_eq xs xs ≡ true
 same-bytes [] = refl
@@ -67,47 +62,30 @@ same-bytes (x ∷ xs) = grind (arith, same-bytes xs)
 
 pub headed : (s : State) (n : ℕ) → n < 65536 → with_plain s (heading n) ≡ with_screen s n
 unfolding with_plain is_heading
-headed s n small =
-    let value : number_of (drop 9 (heading n)) ≡ n = number-heading n small in
-    let low : nat_lt n 65536 ≡ true = grind arith in
-    let one : has_mark (heading n) ≡ true = heading-one n in
-    let two : has_mark (drop 1 (heading n)) ≡ false = heading-two n in
-    let sign : has_sign (drop 1 (heading n)) ≡ false = heading-sign n in
-    rw (one, two, sign, value, low, same-bytes (heading n)) refl
+headed s n small = grind (arith, number-heading, heading-one, heading-two, heading-sign, same-bytes)
 
 -- bytes that begin with one that is no blank
 pub trimmed-cons : (b : ℕ) (bs : List ℕ) → b ≢ 32 → trimmed (b ∷ bs) ≡ b ∷ trimmed bs
 unfolding trimmed
-trimmed-cons b bs h =
-    let q : (b == 32) ≡ false = grind arith in
-    rw (blank-cons b bs, q) refl
+trimmed-cons b bs h = grind (arith, blank-cons)
 
 by_blank : (t : Bool) (b : ℕ) (bs : List ℕ) → is_text b ≡ true → list_all is_text bs ≡ true → list_all is_text (if t then [] else b ∷ bs) ≡ true
-by_blank true b bs e more = refl
-by_blank false b bs e more = rw (e, more) refl
+by_blank t b bs e more = grind arith
 
 pub trimmed-text-of : (bs : List ℕ) → list_all is_text bs ≡ true → list_all is_text (trimmed bs) ≡ true
 unfolding trimmed
 trimmed-text-of [] e = refl
-trimmed-text-of (b ∷ bs) e =
-    let t : (is_text b && list_all is_text bs) ≡ true = e in
-    let more : list_all is_text (trimmed bs) ≡ true = trimmed-text-of bs (grind arith) in
-    by_blank (is_blank (b ∷ bs)) b (trimmed bs) (grind arith) more
+trimmed-text-of (b ∷ bs) e = grind (arith, by_blank, trimmed-text-of bs (grind arith))
 
 -- what is blank is all blanks
 pub blank-is : (bs : List ℕ) → is_blank bs ≡ true → bs ≡ blanks (length bs)
 unfolding is_blank blanks
 blank-is [] e = refl
-blank-is (b ∷ bs) e =
-    let t : ((b == 32) && is_blank bs) ≡ true = e in
-    let first : b ≡ 32 = grind arith in
-    let rest : bs ≡ blanks (length bs) = blank-is bs (grind arith) in
-    ap (λ x. x ∷ bs) first ∙ ap (λ xs. 32 ∷ xs) rest
+blank-is (b ∷ bs) e = grind (arith, blank-is bs (grind arith))
 
 blank-by : (t : Bool) (b : ℕ) (bs : List ℕ) → is_blank (b ∷ bs) ≡ t → is_blank (trimmed bs) ≡ is_blank bs → is_blank (if t then [] else b ∷ trimmed bs) ≡ is_blank (b ∷ bs)
 unfolding is_blank
-blank-by true b bs e more = sym e
-blank-by false b bs e more = ap (λ r. (b == 32) && r) more
+blank-by t b bs e more = grind arith
 
 blank-of-trimmed : (bs : List ℕ) → is_blank (trimmed bs) ≡ is_blank bs
 unfolding trimmed
@@ -116,11 +94,7 @@ blank-of-trimmed (b ∷ bs) = blank-by (is_blank (b ∷ bs)) b bs refl (blank-of
 
 again-by : (t : Bool) (b : ℕ) (bs : List ℕ) → is_blank (b ∷ bs) ≡ t → trimmed (trimmed bs) ≡ trimmed bs → trimmed (if t then [] else b ∷ trimmed bs) ≡ (if t then [] else b ∷ trimmed bs)
 unfolding trimmed
-again-by true b bs e more = refl
-again-by false b bs e more =
-    let same : is_blank (b ∷ trimmed bs) ≡ is_blank (b ∷ bs) = blank-cons b (trimmed bs) ∙ ap (λ r. (b == 32) && r) (blank-of-trimmed bs) ∙ sym (blank-cons b bs) in
-    let q : is_blank (b ∷ trimmed bs) ≡ false = same ∙ e in
-    rw (q, more) refl
+again-by t b bs e more = grind (arith, blank-cons, blank-of-trimmed)
 
 pub trimmed-again : (bs : List ℕ) → trimmed (trimmed bs) ≡ trimmed bs
 unfolding trimmed
@@ -129,8 +103,7 @@ trimmed-again (b ∷ bs) = again-by (is_blank (b ∷ bs)) b bs refl (trimmed-aga
 
 tidy-by : (line : List ℕ) (m : Bool) → IsTidy line → IsTidy (if m then 37 ∷ line else line)
 unfolding is_text
-tidy-by line true h = record { text = rw h.text refl; trimmed = trimmed-cons 37 line (λ e. omega arith) ∙ ap (λ xs. 37 ∷ xs) h.trimmed }
-tidy-by line false h = h
+tidy-by line m h = grind (arith, trimmed-cons)
 
 -- a line of a screen is written tidy
 pub tidy-line : (bs : List ℕ) → list_all is_text bs ≡ true → IsTidy (marked (trimmed bs))
@@ -157,9 +130,7 @@ heading-read s n small = taken_plain s (heading n) (tidy-heading n small) ∙ he
 padded-by : (t : Bool) (b : ℕ) (bs : List ℕ) → is_blank (b ∷ bs) ≡ t → padded (length bs) (trimmed bs) ≡ bs → padded (length (b ∷ bs)) (if t then [] else b ∷ trimmed bs) ≡ b ∷ bs
 unfolding padded
 padded-by true b bs e more = (let z : suc (length bs) - 0 ≡ length (b ∷ bs) = omega arith in ap blanks z) ∙ sym (blank-is (b ∷ bs) e)
-padded-by false b bs e more =
-    let k : suc (length bs) - suc (length (trimmed bs)) ≡ length bs - length (trimmed bs) = omega arith in
-    ap (λ n. b ∷ (trimmed bs ++ blanks n)) k ∙ ap (λ xs. b ∷ xs) more
+padded-by false b bs e more = grind arith
 
 -- filled again
 pub padded-trimmed : (bs : List ℕ) → padded (length bs) (trimmed bs) ≡ bs

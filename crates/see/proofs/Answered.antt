@@ -1,16 +1,14 @@
 -- What SEE answers is true, and says all.
-use Rattle.std.proofs.Common.{◌≡◌, ℕ, Bool, true, false, List, [], ◌∷◌, Option, Some, None, inl, inr, refl, sym, ap, subst, ◌∙◌, if◌then◌else◌, not, Vec}
+use Rattle.std.proofs.Common.{◌≡◌, ℕ, Bool, true, List, [], ◌∷◌, Option, Some, None, inl, inr, refl, sym, subst, ◌∙◌, if◌then◌else◌, Vec, arith}
 use Rattle.std.specs.Prelude.{Result, Ok, Err, IfErr, slice_index}
 use Rattle.std.specs.declared.alloc.Global.{Global}
-use Rattle.dictionary.specs.Search.{Found, Nowhere, TooLong, sought}
+use Rattle.dictionary.specs.Search.{Found, sought}
 use Rattle.colon_bodies.specs.Tree.{Definition}
-use Rattle.colon_bodies.specs.Tokens.{Token, NAME, NUMBER, TEXT}
+use Rattle.colon_bodies.specs.Tokens.{Token}
 use Rattle.colon_bodies.proofs.Bytes.{one_thread}
-use Rattle.memory.specs.Bytes.{cell}
-use Rattle.dictionary.specs.Header.{compilation_address}
 use Rattle.see.specs.Shown.{Shown}
 use Rattle.see.specs.Extent.{parameter_field, extent, controls_of}
-use Rattle.see.specs.Naming.{IsReadableWord, AreReadableWords, IsReadable, word_fault, words_fault, first_fault, or_fault, is_word, name_at, is_meant, is_free, number_text, is_quotable}
+use Rattle.see.specs.Naming.{IsReadableWord, AreReadableWords, IsReadable, word_fault, words_fault, first_fault, or_fault, is_word}
 use Rattle.see.specs.Reading.{AreCells}
 use Rattle.see.specs.Printing.{its_words, printed_text, text}
 use Rattle.see.specs.Seeing.{IsColon, IsCode, HasControlsApart, IsDefined, IsPrinted, IsSeen}
@@ -29,18 +27,13 @@ IfPlaced None = Unit {0}
 IfPlaced (Some e) = IsPlaced e
 
 either : (b : Bool) (x y : Option SeeRefused) → IfPlaced x → IfPlaced y → IfPlaced (if b then x else y)
-either true x y h k = h
-either false x y h k = k
+either b x y h k = grind arith
 
 word_placed : (m : List ℕ) (h : ℕ) (w : Token) → IfPlaced (word_fault m h w)
-word_placed m h (NAME w) = either (not (is_word (name_at m w))) (Some (r.Nameless w)) _ tt (either (is_meant m h (name_at m w) w) None (Some r.Shadowed) tt tt)
-word_placed m h (NUMBER n) = either (is_free m h (number_text n)) None (Some r.Shadowed) tt tt
-word_placed m h (TEXT k bs) = either (is_quotable bs) None (Some r.BadText) tt tt
-word_placed m h _ = tt
+word_placed m h w = grind (arith, either)
 
 or_placed : (x y : Option SeeRefused) → IfPlaced x → IfPlaced y → IfPlaced (or_fault x y)
-or_placed None y h k = k
-or_placed (Some e) y h k = h
+or_placed x y h k = grind arith
 
 words_placed : (m : List ℕ) (h : ℕ) (ws : List Token) → IfPlaced (words_fault m h ws)
 words_placed m h [] = tt
@@ -51,42 +44,22 @@ first_placed m l name ws e q = subst IfPlaced q (either (is_word name) (words_fa
 
 -- nothing is wrong with a word just where it is readable
 tested : (b : Bool) (e : SeeRefused) → (if b then None else Some e) ≡ None → b ≡ true
-tested true e h = refl
-tested false e h = cc
+tested b e h = grind arith
 
 passed : (b : Bool) (e : SeeRefused) → b ≡ true → (if b then None else Some e) ≡ None
-passed true e h = refl
-passed false e h = cc
-
-both_tested : (a b : Bool) (e f : SeeRefused) → (if not a then Some e else if b then None else Some f) ≡ None → (a ≡ true) × (b ≡ true)
-both_tested true true e f h = (refl, refl)
-both_tested true false e f h = cc
-both_tested false b e f h = cc
-
-both_passed : (a b : Bool) (e f : SeeRefused) → a ≡ true → b ≡ true → (if not a then Some e else if b then None else Some f) ≡ None
-both_passed true true e f h k = refl
-both_passed true false e f h k = cc
-both_passed false b e f h k = cc
+passed b e h = grind arith
 
 word_tested : (m : List ℕ) (h : ℕ) (w : Token) → word_fault m h w ≡ None → IsReadableWord m h w
-word_tested m h (NAME w) e = both_tested (is_word (name_at m w)) (is_meant m h (name_at m w) w) (r.Nameless w) r.Shadowed e
-word_tested m h (NUMBER n) e = tested (is_free m h (number_text n)) r.Shadowed e
-word_tested m h (TEXT k bs) e = tested (is_quotable bs) r.BadText e
-word_tested m h _ e = tt
+word_tested m h w e = grind (arith, tested)
 
 word_passed : (m : List ℕ) (h : ℕ) (w : Token) → IsReadableWord m h w → word_fault m h w ≡ None
-word_passed m h (NAME w) p = both_passed (is_word (name_at m w)) (is_meant m h (name_at m w) w) (r.Nameless w) r.Shadowed p.0 p.1
-word_passed m h (NUMBER n) p = passed (is_free m h (number_text n)) r.Shadowed p
-word_passed m h (TEXT k bs) p = passed (is_quotable bs) r.BadText p
-word_passed m h _ p = refl
+word_passed m h w p = grind (arith, passed)
 
 or_none : (x y : Option SeeRefused) → or_fault x y ≡ None → (x ≡ None) × (y ≡ None)
-or_none None y h = (refl, h)
-or_none (Some e) y h = cc
+or_none x y h = grind arith
 
 none_or : (x y : Option SeeRefused) → x ≡ None → y ≡ None → or_fault x y ≡ None
-none_or None y h k = k
-none_or (Some e) y h k = h
+none_or x y h k = grind arith
 
 words_tested : (m : List ℕ) (h : ℕ) (ws : List Token) → words_fault m h ws ≡ None → AreReadableWords m h ws
 words_tested m h [] e = tt
@@ -97,8 +70,7 @@ words_passed m h [] p = refl
 words_passed m h (w ∷ ws) p = none_or (word_fault m h w) (words_fault m h ws) (word_passed m h w p.0) (words_passed m h ws p.1)
 
 named_tested : (b : Bool) (x : Option SeeRefused) (e : SeeRefused) → (if b then x else Some e) ≡ None → (b ≡ true) × (x ≡ None)
-named_tested true x e h = (refl, h)
-named_tested false x e h = cc
+named_tested b x e h = grind arith
 
 pub readable : (m : List ℕ) (l : ℕ) (name : List ℕ) (ws : List Token) → first_fault m l name ws ≡ None → IsReadable m l name ws
 readable m l name ws e = let p = named_tested (is_word name) (words_fault m l ws) _ e in record { named = p.0; words = words_tested m l ws p.1 }
@@ -119,13 +91,7 @@ seen_by m name l ws (Err r.NotFound) c a s (inr q) = absurd (first_placed m l na
 seen_by m name l ws (Err r.ChainTooLong) c a s (inr q) = absurd (first_placed m l name ws _ q)
 seen_by m name l ws (Err r.NotColon) c a s (inr q) = absurd (first_placed m l name ws _ q)
 seen_by m name l ws (Err r.NotStructured) c a s (inr q) = absurd (first_placed m l name ws _ q)
-seen_by m name l ws (Err (r.Nameless w)) c a s (inl q) = absurd (cc)
-seen_by m name l ws (Err r.Shadowed) c a s (inl q) = absurd (cc)
-seen_by m name l ws (Err r.BadText) c a s (inl q) = absurd (cc)
-seen_by m name l ws (Err r.NotFound) c a s (inl q) = absurd (cc)
-seen_by m name l ws (Err r.ChainTooLong) c a s (inl q) = absurd (cc)
-seen_by m name l ws (Err r.NotColon) c a s (inl q) = absurd (cc)
-seen_by m name l ws (Err r.NotStructured) c a s (inl q) = absurd (cc)
+seen_by m name l ws _ c a s (inl q) = absurd (cc)
 
 found_once : (m name : List ℕ) (k l : ℕ) → sought m name ≡ Found k → sought m name ≡ Found l → k ≡ l
 found_once m name k l e f = let q : Found k ≡ Found l = sym e ∙ f in cc
@@ -136,20 +102,8 @@ told m name k l c d e p q f g =
     let s = found_once m name k l p.colon.0.is q.colon.0.is in
     let code : IsCode m l c = subst (λ i. IsCode m i c) s p.code in
     let t : c ≡ d = one_thread (slice_index (controls_of m)) q.apart c d (parameter_field m l) code.plain q.code.plain (code.is ∙ sym q.code.is) in
-    let z : Some e ≡ None = sym f ∙ ap (λ i. first_fault m i name (its_words c)) s ∙ ap (λ b. first_fault m l name (its_words b)) t ∙ g in
     absurd (cc)
 
 -- where a readable definition is, no refusal is true but lack of memory
 pub none_refused : (m name : List ℕ) (x : Result (Vec ℕ Global) SeeRefused) → IsSeen m name x → (l : ℕ) (d : Definition) → IsDefined m name l d → IsReadable m l name (its_words d) → IfErr x (λ e. e ≡ r.OutOfMemory)
-none_refused m name (Ok v) s l d h f = tt
-none_refused m name (Err r.OutOfMemory) s l d h f = refl
-none_refused m name (Err r.NotFound) s l d h f = let z : Nowhere ≡ Found l = sym s ∙ h.colon.0.is in absurd (cc)
-none_refused m name (Err r.ChainTooLong) (inl s) l d h f = let z : TooLong ≡ Found l = sym s ∙ h.colon.0.is in absurd (cc)
-none_refused m name (Err r.ChainTooLong) (inr s) l d h f = let z : true ≡ false = sym s.2 ∙ h.colon.0.within in absurd (cc)
-none_refused m name (Err r.NotColon) s l d h f = absurd (s.2 (ap (λ i. cell m (compilation_address m i)) (found_once m name s.0 l s.1.is h.colon.0.is) ∙ h.colon.1))
-none_refused m name (Err r.NotStructured) s l d h f =
-    let e = found_once m name s.0 l s.1.0.is h.colon.0.is in
-    absurd (s.2 h.apart d (subst (λ i. IsCode m i d) (sym e) h.code))
-none_refused m name (Err (r.Nameless w)) s l d h f = absurd (told m name s.0 l s.1 d _ s.2 h s.3 (faultless m l name _ f))
-none_refused m name (Err r.Shadowed) s l d h f = absurd (told m name s.0 l s.1 d _ s.2 h s.3 (faultless m l name _ f))
-none_refused m name (Err r.BadText) s l d h f = absurd (told m name s.0 l s.1 d _ s.2 h s.3 (faultless m l name _ f))
+none_refused m name x x3 l d h f = grind (arith, found_once, told, faultless)

@@ -1,16 +1,9 @@
 pub mod Printed
 pub mod Answered
-pub mod Figures
-pub mod Stepping
 pub mod Telling
-pub mod Rereading
-pub mod Within
 pub mod Whole
 pub mod Sketching
-pub mod Cutting
 pub mod Growing
-pub mod Shutting
 pub mod Turning
 pub mod Showing
-pub mod Plainness
 pub mod Loneness

@@ -1,5 +1,5 @@
 -- Words are printed one after another.
-use Rattle.std.proofs.Common.{◌≡◌, ℕ, Bool, true, false, List, [], ◌∷◌, ◌++◌, refl, sym, ap, subst, ◌∙◌, append_assoc, append-nil, map, length, drop, suc, ◌<◌, ◌≤◌, get_or, Option, Some, None, ◌⊎◌, inl, inr}
+use Rattle.std.proofs.Common.{◌≡◌, ℕ, Bool, true, List, [], ◌∷◌, ◌++◌, refl, sym, ap, subst, ◌∙◌, append_assoc, append-nil, map, length, drop, suc, ◌<◌, ◌≤◌, get_or, Option, Some, None, ◌⊎◌, arith}
 use Rattle.std.proofs.Math.Seq.{drop-cons}
 use Rattle.std.proofs.Math.ListN.{drop_of_length-le}
 use Rattle.colon_bodies.specs.declared.words.BodyWord.{BodyWord}
@@ -7,9 +7,8 @@ use Rattle.colon_bodies.specs.Draft.{token}
 use Rattle.std.proofs.lemmas.List.{map-append}
 use Rattle.source_words.specs.Spaced.{Spelling, bare, spaced, spaced_behind, quoted}
 use Rattle.std.specs.Prelude.{codes}
-use Rattle.colon_bodies.specs.Tokens.{Token, NAME, NUMBER}
+use Rattle.colon_bodies.specs.Tokens.{Token, NAME}
 use Rattle.colon_bodies.specs.Tree.{named}
-use Rattle.colon_bodies.specs.Plain.{respelled}
 use Rattle.see.specs.Reading.{AreCells}
 use Rattle.see.specs.Printing.{is_forced, printed, called, all_printed, printed_text}
 use Rattle.see.specs.Naming.{is_word, name_at, word_fault, words_fault, first_fault, or_fault}
@@ -19,30 +18,16 @@ use Rattle.see.specs.declared.refusal.SeeRefused.TheVariants as r
 pub spaced_append : (a b : List Spelling) → spaced_behind (a ++ b) ≡ spaced_behind a ++ spaced_behind b
 unfolding spaced_behind
 spaced_append [] b = refl
-spaced_append (w ∷ a) b =
-    ap (λ l. 32 ∷ (w.name ++ (quoted w.text ++ l))) (spaced_append a b)
-    ∙ ap (λ l. 32 ∷ (w.name ++ l)) (sym (append_assoc (quoted w.text) (spaced_behind a) (spaced_behind b)))
-    ∙ ap (λ l. 32 ∷ l) (sym (append_assoc w.name (quoted w.text ++ spaced_behind a) (spaced_behind b)))
+spaced_append (w ∷ a) b = grind (arith, append_assoc, spaced_append a b)
 
 -- the first of some words, and the others
-respelled_first : (f : ℕ → Bool) (w : Token) (ws : List Token) → respelled f (w ∷ ws) ≡ respelled f (w ∷ []) ++ respelled f ws
-respelled_first f (NAME w) ws = ap (λ l. l ++ respelled f ws) (sym (append-nil (named (f w) w)))
-respelled_first f w ws = refl
-
 printed_first : (m : List ℕ) (h : ℕ) (w : Token) (ws : List Token) → all_printed m h (w ∷ ws) ≡ all_printed m h (w ∷ []) ++ all_printed m h ws
-printed_first m h w ws =
-    ap (map (printed m)) (respelled_first (is_forced m h) w ws) ∙ map-append (printed m) (respelled (is_forced m h) (w ∷ [])) (respelled (is_forced m h) ws)
+printed_first m h w ws = grind (arith, map-append)
 
 first_spaced : (m : List ℕ) (h : ℕ) (w : Token) (ws : List Token) → spaced_behind (all_printed m h (w ∷ ws)) ≡ spaced_behind (all_printed m h (w ∷ [])) ++ spaced_behind (all_printed m h ws)
 first_spaced m h w ws = ap spaced_behind (printed_first m h w ws) ∙ spaced_append (all_printed m h (w ∷ [])) (all_printed m h ws)
 
 -- a word more is written
-pub next_written : (m : List ℕ) (h : ℕ) (w : Token) (ws : List Token) (old new : List ℕ) → new ≡ old ++ spaced_behind (all_printed m h (w ∷ [])) → new ++ spaced_behind (all_printed m h ws) ≡ old ++ spaced_behind (all_printed m h (w ∷ ws))
-next_written m h w ws old new e =
-    ap (λ l. l ++ spaced_behind (all_printed m h ws)) e
-    ∙ append_assoc old (spaced_behind (all_printed m h (w ∷ []))) (spaced_behind (all_printed m h ws))
-    ∙ ap (λ l. old ++ l) (sym (first_spaced m h w ws))
-
 -- nothing more is written
 pub none_written : (m : List ℕ) (h : ℕ) (old : List ℕ) → old ++ spaced_behind (all_printed m h []) ≡ old
 unfolding spaced_behind
@@ -55,17 +40,14 @@ two_written x a b old mid new k e f =
     ∙ ap (λ l. old ++ l) (sym (spaced_append (bare a ∷ []) (bare b ∷ [])))
 
 called_as : (m : List ℕ) (w : ℕ) (b : Bool) → map (printed m) (named b w ++ []) ≡ called b (name_at m w)
-called_as m w true = refl
-called_as m w false = refl
+called_as m w b = grind arith
 
 pub called_is : (m : List ℕ) (h : ℕ) (w : ℕ) → all_printed m h (NAME w ∷ []) ≡ called (is_forced m h w) (name_at m w)
 called_is m h w = called_as m w (is_forced m h w)
 
 -- the words from a place on
 pub step_written : (m : List ℕ) (h : ℕ) (ws : List BodyWord) (i : ℕ) (d : BodyWord) (old new all : List ℕ) → i < length ws → new ≡ old ++ spaced_behind (all_printed m h (token (get_or ws i d) ∷ [])) → old ++ spaced_behind (all_printed m h (map token (drop i ws))) ≡ all → new ++ spaced_behind (all_printed m h (map token (drop (suc i) ws))) ≡ all
-step_written m h ws i d old new all lt e k =
-    next_written m h (token (get_or ws i d)) (map token (drop (suc i) ws)) old new e
-    ∙ ap (λ l. old ++ spaced_behind (all_printed m h (map token l))) (sym (drop-cons ws i d lt)) ∙ k
+step_written m h ws i d old new all lt e k = grind (arith, drop-cons, append_assoc, first_spaced)
 
 pub end_written : (m : List ℕ) (h : ℕ) (ws : List BodyWord) (i : ℕ) (old all : List ℕ) → length ws ≤ i → old ++ spaced_behind (all_printed m h (map token (drop i ws))) ≡ all → old ≡ all
 end_written m h ws i old all le k =
@@ -80,12 +62,7 @@ shown_behind m h name ws old new e f =
 
 -- no fault in some words, and one in the next
 pub fault_on : (m : List ℕ) (h : ℕ) (ws : List BodyWord) (i : ℕ) (d : BodyWord) (all : Option SeeRefused) → i < length ws → words_fault m h (token (get_or ws i d) ∷ []) ≡ None → words_fault m h (map token (drop i ws)) ≡ all → words_fault m h (map token (drop (suc i) ws)) ≡ all
-fault_on m h ws i d all lt e k =
-    sym (or_right (word_fault m h (token (get_or ws i d))) (words_fault m h (map token (drop (suc i) ws))) e) ∙ ap (λ l. words_fault m h (map token l)) (sym (drop-cons ws i d lt)) ∙ k
-  where
-    or_right : (x y : Option SeeRefused) → or_fault x None ≡ None → or_fault x y ≡ y
-    or_right None y q = refl
-    or_right (Some z) y q = cc
+fault_on m h ws i d all lt e k = grind (arith, drop-cons)
 
 pub fault_here : (m : List ℕ) (h : ℕ) (ws : List BodyWord) (i : ℕ) (d : BodyWord) (all : Option SeeRefused) (z : SeeRefused) → i < length ws → words_fault m h (token (get_or ws i d) ∷ []) ≡ Some z → words_fault m h (map token (drop i ws)) ≡ all → all ≡ Some z
 fault_here m h ws i d all z lt e k =
@@ -99,22 +76,15 @@ pub fault_none : (m : List ℕ) (h : ℕ) (ws : List BodyWord) (i : ℕ) (all : 
 fault_none m h ws i all le k = sym k ∙ ap (λ l. words_fault m h (map token l)) (drop_of_length-le ws le)
 
 pub refused_here : (m : List ℕ) (h : ℕ) (ws : List BodyWord) (i : ℕ) (d : BodyWord) (z : SeeRefused) → i < length ws → (z ≡ r.OutOfMemory) ⊎ (words_fault m h (token (get_or ws i d) ∷ []) ≡ Some z) → words_fault m h (map token (drop i ws)) ≡ words_fault m h (map token ws) → (z ≡ r.OutOfMemory) ⊎ (words_fault m h (map token ws) ≡ Some z)
-refused_here m h ws i d z lt (inl e) k = inl e
-refused_here m h ws i d z lt (inr e) k = inr (fault_here m h ws i d (words_fault m h (map token ws)) z lt e k)
+refused_here m h ws i d z lt x7 k = search (arith, fault_here)
 
 -- a whole definition is written
 pub all_shown : (m : List ℕ) (l : ℕ) (name : List ℕ) (ws : List Token) (old new : List ℕ) → is_word name ≡ true → words_fault m l ws ≡ None → AreCells ws → old ≡ spaced (bare (codes ":") ∷ bare name ∷ []) → new ≡ old ++ spaced_behind (all_printed m l ws) → (first_fault m l name ws ≡ None) × AreCells ws × (new ≡ printed_text m l name ws)
 all_shown m l name ws old new w f c e g = (rw w f, c, shown_behind m l name ws old new e g)
 
 -- numbers that are cells
-cells_join : (xs ys : List Token) → AreCells xs → AreCells ys → AreCells (xs ++ ys)
-cells_join [] ys h k = k
-cells_join (NUMBER n ∷ xs) ys h k = (h.0, cells_join xs ys h.1 k)
-cells_join (_ ∷ xs) ys h k = cells_join xs ys h k
-
 pub cells_on : (ws : List BodyWord) (i : ℕ) (d : BodyWord) (all : Type 0) → i < length ws → AreCells (token (get_or ws i d) ∷ []) → (AreCells (map token (drop i ws)) → all) → AreCells (map token (drop (suc i) ws)) → all
-cells_on ws i d all lt c k rest =
-    k (subst (λ l. AreCells (map token l)) (sym (drop-cons ws i d lt)) (cells_join (token (get_or ws i d) ∷ []) (map token (drop (suc i) ws)) c rest))
+cells_on ws i d all lt c k rest = grind (arith, drop-cons)
 
 pub cells_end : (ws : List BodyWord) (i : ℕ) (all : Type 0) → length ws ≤ i → (AreCells (map token (drop i ws)) → all) → all
 cells_end ws i all le k = k (subst (λ l. AreCells (map token l)) (sym (drop_of_length-le ws le)) tt)

@@ -1,46 +1,96 @@
--- What is compiled again.
-use Rattle.std.proofs.Common.{◌≡◌, true, false, ℕ, ◌+◌, ◌≤◌, List, [], ◌∷◌, ◌++◌, length, Some, refl, sym, ap, subst, ◌∙◌, arith, append_assoc, append-nil, length-append}
+-- Plain definitions: their words, what these compile to, and their bounds.
+use Rattle.std.proofs.Common.{◌≡◌, false, ℕ, List, [], ◌∷◌, ◌++◌, sym, subst, append_assoc, arith, ◌+◌, ◌≤◌, length, Some, refl, ap, ◌∙◌, append-nil, length-append, Bool}
+use Rattle.colon_bodies.specs.declared.words.Half.{Half}
 use Rattle.colon_bodies.specs.declared.words.Half.TheVariants.{Free}
+use Rattle.colon_bodies.specs.Tokens.{Token, DOES, SEMI, laid, NAME, AreShort}
+use Rattle.colon_bodies.specs.Tree.{Body, Empty, Definition, Simple, Doing, words, all_words, named, depth, all_depth}
+use Rattle.colon_bodies.specs.Rules.{half_after, half_of, AreKnown}
+use Rattle.colon_bodies.specs.Open.{Top}
+use Rattle.colon_bodies.specs.Plain.{IsPlainBody, IsPlainDefinition, AreApart, spelled, all_spelled, respelled}
+use Rattle.see.specs.PlainWords.{IsPlainWord, ArePlainWords}
+use Rattle.std.specs.Prelude.{IsTrue, ◌↔◌}
+use Rattle.colon_bodies.proofs.Taking.{half-open, half-append, known-append, laid-append, laid-all}
+use Rattle.colon_bodies.proofs.Exact.{known_front, known_last, ends_alone, no_fault}
+use Rattle.colon_bodies.proofs.Parts.{by_parts}
 use Rattle.colon_bodies.specs.declared.fault.BodyCause.{BodyCause}
 use Rattle.colon_bodies.specs.declared.fault.BodyCause.TheVariants as r
-use Rattle.colon_bodies.specs.Tokens.{Token, SEMI, laid}
-use Rattle.colon_bodies.specs.Tree.{Body, Empty, Call, Tick, Pair, Literal, Double, Text, IfThen, IfElse, Until, Again, While, Loop, Definition, Simple, Doing, words, all_words}
-use Rattle.memory.specs.Bytes.{cell_bytes}
-use Rattle.colon_bodies.specs.Code.{all_code, thread}
-use Rattle.colon_bodies.specs.Rules.{AreKnown}
+use Rattle.colon_bodies.specs.Code.{thread}
 use Rattle.colon_bodies.specs.Faults.{IsFault}
-use Rattle.colon_bodies.specs.Plain.{AreApart, IsPlainBody, IsPlainDefinition}
-use Rattle.see.specs.PlainWords.{ArePlainWords}
-use Rattle.colon_bodies.specs.Open.{Top}
 use Rattle.colon_bodies.specs.Draft.{Compiled}
-use Rattle.see.specs.Shown.{Shown, Makes, Compiles, IsThread}
+use Rattle.see.specs.Shown.{Shown, Makes, Compiles, IsThread, IsWithinBounds}
 use Rattle.colon_bodies.proofs.Reading.{accept, accept_all}
-use Rattle.colon_bodies.proofs.Taking.{known-append, laid-append, laid-all}
 use Rattle.colon_bodies.proofs.Laying.{length-all}
 use Rattle.colon_bodies.proofs.Cells.{length-cell}
 use Rattle.colon_bodies.specs.Found.{found}
 use Rattle.colon_bodies.proofs.Bytes.{found_again}
-use Rattle.see.proofs.Plainness.{all_plain_is, are_all_plain}
-use Rattle.colon_bodies.proofs.Exact.{known_last, ends_alone, no_fault}
+use Rattle.colon_bodies.proofs.Spelling.{all_spelled_words}
 
+-- The words of plain definitions.
+words_free : (t : Body) → half_of Free (words t) ≡ Free
+words_free t = half-open Top t Free
+
+split_words : (rt : ℕ → ℕ) (h : Half) (xs ys : List Token) → ArePlainWords rt h (xs ++ ys) → ArePlainWords rt h xs × ArePlainWords rt (half_of h xs) ys
+split_words rt h [] ys p = (tt, p)
+split_words rt h (x ∷ xs) ys p = let s = split_words rt (half_after h x) xs ys p.1 in ((p.0, s.0), s.1)
+
+join_words : (rt : ℕ → ℕ) (h : Half) (xs ys : List Token) → ArePlainWords rt h xs → ArePlainWords rt (half_of h xs) ys → ArePlainWords rt h (xs ++ ys)
+join_words rt h [] ys p q = q
+join_words rt h (x ∷ xs) ys p q = (p.0, join_words rt (half_after h x) xs ys p.1 q)
+
+apart : (rt : ℕ → ℕ) (t : Body) (ys : List Token) → ArePlainWords rt Free (words t ++ ys) → ArePlainWords rt Free (words t) × ArePlainWords rt Free ys
+apart rt t ys p = let s = split_words rt Free (words t) ys p in (s.0, subst (λ h. ArePlainWords rt h ys) (words_free t) s.1)
+
+along : (rt : ℕ → ℕ) (t : Body) (ys : List Token) → ArePlainWords rt Free (words t) → ArePlainWords rt Free ys → ArePlainWords rt Free (words t ++ ys)
+along rt t ys p q = join_words rt Free (words t) ys p (subst (λ h. ArePlainWords rt h ys) (sym (words_free t)) q)
+
+known_back : (rt : ℕ → ℕ) (xs ys : List Token) → AreKnown rt (xs ++ ys) → AreKnown rt ys
+known_back rt [] ys h = h
+known_back rt (x ∷ xs) ys h = known_back rt xs ys h.1
+
+known_parts : (rt : ℕ → ℕ) (xs ys : List Token) → AreKnown rt (xs ++ ys) ↔ (AreKnown rt xs × AreKnown rt ys)
+known_parts rt xs ys = (λ h. (known_front rt xs ys h, known_back rt xs ys h), λ h. known-append rt xs ys h.0 h.1)
+
+plain_parts : (rt : ℕ → ℕ) (t : Body) (ys : List Token) → ArePlainWords rt Free (words t ++ ys) ↔ (ArePlainWords rt Free (words t) × ArePlainWords rt Free ys)
+plain_parts rt t ys = (λ h. apart rt t ys h, λ h. along rt t ys h.0 h.1)
+
+plain_is : (rt : ℕ → ℕ) (t : Body) → ArePlainWords rt Free (words t) → AreKnown rt (words t) → IsPlainBody rt t
+plain_is rt = by_parts (λ t. ArePlainWords rt Free (words t) → AreKnown rt (words t) → IsPlainBody rt t) (elim [ Empty ↦ λ ih p k. tt | t ↦ λ ih p k. grind (arith, plain_parts, known_parts, ih) ])
+
+pub all_plain_is : (rt : ℕ → ℕ) (d : Definition) (ys : List Token) → ArePlainWords rt Free (all_words d ++ ys) → AreKnown rt (all_words d ++ ys) → IsPlainDefinition rt d
+all_plain_is rt (Simple t) ys p k = plain_is rt t (split_words rt Free (words t) ys p).0 (known_front rt (words t) ys k)
+all_plain_is rt (Doing t a) ys p k =
+    let q = split_words rt Free (words t ++ (DOES ∷ words a)) ys p in
+    let l = known_front rt (words t ++ (DOES ∷ words a)) ys k in
+    grind (arith, plain_is, known_front, apart rt t _ q.0, known_back rt (words t) _ l)
+
+is_plain : (rt : ℕ → ℕ) (t : Body) → IsPlainBody rt t → ArePlainWords rt Free (words t)
+is_plain rt = by_parts (λ t. IsPlainBody rt t → ArePlainWords rt Free (words t)) (elim [ Empty ↦ λ ih h. tt | t ↦ λ ih h. grind (arith, along, ih) ])
+
+pub are_all_plain : (rt : ℕ → ℕ) (d : Definition) → IsPlainDefinition rt d → ArePlainWords rt Free (all_words d ++ SEMI ∷ [])
+are_all_plain rt d h = grind (arith, along, is_plain, append_assoc)
+
+-- word by word
+pub record Plainly (rt : ℕ → ℕ) (h : Half) (done : List Token) : Type 0 where
+  pub half_is : h ≡ half_of Free done
+  pub plain : ArePlainWords rt Free done
+
+pub plainly_on : (rt : ℕ → ℕ) (h : Half) (done : List Token) (w : Token) → Plainly rt h done → IsPlainWord rt h w → Plainly rt (half_after h w) (done ++ w ∷ [])
+plainly_on rt h done w p q = grind (arith, half-append, join_words)
+
+pub plainly_not : (rt : ℕ → ℕ) (h : Half) (done after all : List Token) (w : Token) → Plainly rt h done → all ≡ done ++ (w ∷ after) → ArePlainWords rt Free all → IsPlainWord rt h w
+plainly_not rt h done after all w p e q = grind (arith, split_words)
+
+pub not_true : (P : Type 0) → IsTrue false → P
+not_true P z = cc
+
+-- What is compiled again.
 no_length : (xs : List Token) → length xs ≡ 0 → xs ≡ []
 no_length [] h = refl
 no_length (x ∷ xs) h = absurd (omega arith)
 
 -- all the words were compiled, to these bytes
 pub made : (rt : ℕ → ℕ) (at limit : ℕ) (source : List Token) (image bytes : List ℕ) (used : ℕ) → Compiled rt at limit source image used → used ≡ length source → image ≡ bytes → Makes rt at bytes source
-made rt at limit source image bytes used c u e =
-    let g = c.good in
-    let l = ap length g.is ∙ length-append (all_words c.body ++ SEMI ∷ []) g.after in
-    let n = no_length g.after (omega (arith, l, u, g.used_is)) in
-    record {
-      body = c.body;
-      words_are = g.is ∙ ap (λ a. (all_words c.body ++ SEMI ∷ []) ++ a) n ∙ append-nil (all_words c.body ++ SEMI ∷ []);
-      bytes_are = sym e ∙ c.is;
-      shallow = g.shallow;
-      known = g.known;
-      short = g.short;
-    }
+made rt at limit source image bytes used c u e = grind (arith, length-append, no_length, append-nil)
 
 -- the words of a definition compile to that definition
 same_some : (t u : Definition) → ◌≡◌ {A = _} (Some t) (Some u) → t ≡ u
@@ -62,56 +112,48 @@ compiles_well rt at limit source place cause d k e f =
 
 -- what a plain definition writes has cells
 plain_known : (rt : ℕ → ℕ) (t : Body) → IsPlainBody rt t → AreKnown rt (words t)
-plain_known rt Empty h = tt
-plain_known rt (Call t true w) h = let e = h.1 in cc
-plain_known rt (Call t false w) h = known-append rt (words t) _ (plain_known rt t h.0) (tt, tt)
-plain_known rt (Tick t w) h = absurd h
-plain_known rt (Pair t true w) h = let e = h.1 in cc
-plain_known rt (Pair t false w) h = known-append rt (words t) _ (plain_known rt t h.0) (h.2, (tt, tt))
-plain_known rt (Literal t n) h = known-append rt (words t) _ (plain_known rt t h.0) (h.1, tt)
-plain_known rt (Double t n) h = absurd h
-plain_known rt (Text t k bs) h = known-append rt (words t) _ (plain_known rt t h.0) (h.1, tt)
-plain_known rt (IfThen t a) h = known-append rt (words t) _ (plain_known rt t h.0) (h.1, known-append rt (words a) _ (plain_known rt a h.2) (tt, tt))
-plain_known rt (IfElse t a b) h = known-append rt (words t) _ (plain_known rt t h.0) (h.1, known-append rt (words a) _ (plain_known rt a h.2) (h.3, known-append rt (words b) _ (plain_known rt b h.4) (tt, tt)))
-plain_known rt (Until t a) h = known-append rt (words t) _ (plain_known rt t h.0) (tt, known-append rt (words a) _ (plain_known rt a h.1) (h.2, tt))
-plain_known rt (Again t a) h = known-append rt (words t) _ (plain_known rt t h.0) (tt, known-append rt (words a) _ (plain_known rt a h.1) (h.2, tt))
-plain_known rt (While t a b) h = known-append rt (words t) _ (plain_known rt t h.0) (tt, known-append rt (words a) _ (plain_known rt a h.1) (h.2, known-append rt (words b) _ (plain_known rt b h.3) (h.4, tt)))
-plain_known rt (Loop t a k) h = known-append rt (words t) _ (plain_known rt t h.0) (h.1, known-append rt (words a) _ (plain_known rt a h.2) (h.3, tt))
-
-pub all_known : (rt : ℕ → ℕ) (d : Definition) → IsPlainDefinition rt d → AreKnown rt (all_words d)
-all_known rt (Simple t) h = plain_known rt t h
-all_known rt (Doing t a) h = known-append rt (words t) _ (plain_known rt t h.0) (h.1, plain_known rt a h.2)
+plain_known rt = by_parts (λ t. IsPlainBody rt t → AreKnown rt (words t)) (elim [ Empty ↦ λ ih h. tt | t ↦ λ ih h. grind (arith, known-append, ih) ])
 
 pub thread_compiles : (rt : ℕ → ℕ) (at limit : ℕ) (bytes : List ℕ) (d : Definition) → at + length bytes ≤ limit → IsThread rt at bytes d → Compiles rt at limit d
-thread_compiles rt at limit bytes d room h =
-    let l = ap length h.is in
-    record {
-      shallow = h.shallow;
-      known = known-append rt (all_words d) _ (all_known rt d h.plain) (h.exit, tt);
-      short = h.short;
-      room = omega (arith, l, room, length-append (all_code rt d at) (cell_bytes (rt 5)), length-all rt d at, length-cell (rt 5), laid-all d, laid-append (all_words d) (SEMI ∷ []));
-    }
+thread_compiles rt at limit bytes d room h = grind (arith, known-append, length-append, length-all, length-cell, laid-all, laid-append, plain_known)
 
 pub found_in : (rt : ℕ → ℕ) (at : ℕ) (bytes : List ℕ) (d : Definition) → AreApart rt → IsThread rt at bytes d → found rt bytes at ≡ Some d
 found_in rt at bytes d a h = ap (λ b. found rt b at) (sym h.is) ∙ found_again rt a d at h.plain
 
 pub shown : (rt : ℕ → ℕ) (at : ℕ) (bytes : List ℕ) (ws : List Token) → ArePlainWords rt Free ws → Makes rt at bytes ws → Shown rt at bytes ws
-shown rt at bytes ws p m =
-    record {
-      body = m.body;
-      words_are = m.words_are;
-      is = record {
-        plain = all_plain_is rt m.body (SEMI ∷ []) (subst (λ l. ArePlainWords rt Free l) m.words_are p) m.known;
-        exit = known_last rt (all_words m.body) SEMI m.known;
-        shallow = m.shallow;
-        short = m.short;
-        is = sym m.bytes_are;
-      };
-    }
+shown rt at bytes ws p m = grind (arith, all_plain_is, known_last)
 
 pub plainly : (rt : ℕ → ℕ) (d : Definition) (ws : List Token) → IsPlainDefinition rt d → ws ≡ all_words d ++ SEMI ∷ [] → ArePlainWords rt Free ws
 plainly rt d ws h e = subst (λ l. ArePlainWords rt Free l) (sym e) (are_all_plain rt d h)
 
 pub thread_laid : (rt : ℕ → ℕ) (at : ℕ) (bytes : List ℕ) (d : Definition) (ws : List Token) → ws ≡ all_words d ++ SEMI ∷ [] → thread rt d at ≡ bytes → laid ws ≤ length bytes
-thread_laid rt at bytes d ws e h =
-    omega (arith, ap laid e, ap length h, length-append (all_code rt d at) (cell_bytes (rt 5)), length-all rt d at, length-cell (rt 5), laid-all d, laid-append (all_words d) (SEMI ∷ []))
+thread_laid rt at bytes d ws e h = grind (arith, length-append, length-all, length-cell, laid-all, laid-append)
+
+-- Forced names leave a definition within its bounds.
+
+-- they are no structures
+spelled_depth : (f : ℕ → Bool) (t : Body) → depth (spelled f t) ≡ depth t
+spelled_depth f = by_parts (λ t. depth (spelled f t) ≡ depth t) (elim [ Empty ↦ λ ih. refl | t ↦ λ ih. grind (arith, ih) ])
+
+all_spelled_depth : (f : ℕ → Bool) (d : Definition) → all_depth (all_spelled f d) ≡ all_depth d
+all_spelled_depth f d = grind (arith, spelled_depth)
+
+-- they write no control, and are no texts
+named_known : (rt : ℕ → ℕ) (b : Bool) (w : ℕ) (ws : List Token) → AreKnown rt ws → AreKnown rt (named b w ++ ws)
+named_known rt b w ws h = grind arith
+
+respelled_known : (rt : ℕ → ℕ) (f : ℕ → Bool) (ws : List Token) → AreKnown rt ws → AreKnown rt (respelled f ws)
+respelled_known rt f [] h = tt
+respelled_known rt f (NAME w ∷ ws) h = named_known rt (f w) w (respelled f ws) (respelled_known rt f ws h.1)
+respelled_known rt f (w ∷ ws) h = (h.0, respelled_known rt f ws h.1)
+
+named_short : (b : Bool) (w : ℕ) (ws : List Token) → AreShort ws → AreShort (named b w ++ ws)
+named_short b w ws h = grind arith
+
+respelled_short : (f : ℕ → Bool) (ws : List Token) → AreShort ws → AreShort (respelled f ws)
+respelled_short f [] h = tt
+respelled_short f (NAME w ∷ ws) h = named_short (f w) w (respelled f ws) (respelled_short f ws h.1)
+respelled_short f (w ∷ ws) h = (h.0, respelled_short f ws h.1)
+
+pub spelled_within : (rt : ℕ → ℕ) (at : ℕ) (bytes : List ℕ) (f : ℕ → Bool) (d : Definition) → IsThread rt at bytes d → IsWithinBounds rt (all_spelled f d)
+spelled_within rt at bytes f d h = grind (arith, all_spelled_words, all_spelled_depth, known-append, respelled_known, respelled_short, plain_known)

@@ -1,26 +1,118 @@
--- What each printed word is read as.
-use Rattle.std.proofs.Common.{◌≡◌, ◌≢◌, ℕ, ◌<◌, ◌≤◌, ◌%◌, Bool, true, false, not, ◌&&◌, ◌==◌, List, [], ◌∷◌, ◌++◌, length, Some, refl, sym, ap, ◌∙◌, subst, arith, append-nil, if◌then◌else◌, ◌⊎◌, inl, inr, zero, suc}
-use Rattle.std.specs.Prelude.{slice_index}
-use Rattle.std.specs.List.{list_all}
+-- Printed words, numbers and definitions are read as they were.
+use Rattle.std.proofs.Common.{◌≡◌, ℕ, Bool, true, false, not, ◌&&◌, ◌||◌, ◌==◌, nat_lt, List, [], ◌∷◌, length, Option, Some, None, refl, arith, if◌then◌else◌, ◌<◌, ◌≤◌, ◌+◌, ◌-◌, ◌%◌, ◌++◌, map, suc, subst, ◌≢◌, sym, ap, ◌∙◌, append-nil, inl, inr}
+use Rattle.std.specs.Prelude.{codes, is_some, pos, negsuc, ◌^◌, slice_index}
+use Rattle.std.specs.List.{list_all, AllByRecursion}
+use Rattle.std.specs.Str.{bytes_eq}
+use Rattle.source_words.specs.Modes.{takes_text, begins_comment, ends_body, names_in_body}
+use Rattle.source_words.specs.Spaced.{bare, IsStep, is_plain_word, Spelling}
+use Rattle.source_words.proofs.Colons.{plain_word_step}
+use Rattle.colon_bodies.specs.Tokens.{Token, TICK, FORCE, COMPILE, TEXT, DOES, SEMI, NAME, NUMBER, DOUBLE}
+use Rattle.image_builder.specs.Spelled.{keyword, naming, saying, ending, either_token, choosing, repeating, counting, sense_of_word, figure_of, text_of}
+use Rattle.see.specs.Naming.{is_word, number_text, is_meant, is_free, name_at, IsReadableWord, AreReadableWords}
+use Rattle.see.specs.Printing.{is_keyword, gives_immediate, is_forced, printed, called, all_printed}
+use Rattle.std.specs.Int.{cast_signed, w16}
+use Rattle.std.specs.Fmt.{decimal}
+use Rattle.std.proofs.Math.Dec.{ltb}
+use Rattle.std.proofs.lemmas.Bool.{lt-ltb, le-ltb, cases_lt}
+use Rattle.std.proofs.lemmas.Fmt.{decimal-digits_of, decimal_digit, decimal_nonempty}
+use Rattle.std.proofs.lemmas.Int.Digits.{all_below_base_digits_of}
+use Rattle.number_text.specs.Digits.{byte_of, expansion, are_digits, text_value, is_digit, digit}
+use Rattle.number_text.specs.Numbers.{with_sign, sign, is_number, is_double, spelled, IsSpelling}
+use Rattle.number_text.proofs.Expansions.{expansion_some, expansion_zero}
+use Rattle.number_text.proofs.ExpansionLaw.{text_value-expansion, are_digits-expansion}
 use Rattle.dictionary.specs.Header.{compilation_address}
-use Rattle.dictionary.specs.Search.{Sought, Found, Nowhere, TooLong, sought_hiding}
-use Rattle.source_words.specs.Modes.{begins_comment}
-use Rattle.source_words.specs.Spaced.{Spelling, bare}
-use Rattle.number_text.specs.Digits.{is_digit, digit, are_digits}
-use Rattle.number_text.specs.Numbers.{is_number, is_double, spelled, sign, IsSpelling}
+use Rattle.dictionary.specs.Search.{Found, Nowhere, sought_hiding}
 use Rattle.number_text.proofs.Spellings.{spelling}
-use Rattle.colon_bodies.specs.Tokens.{Token, NAME, NUMBER}
-use Rattle.colon_bodies.specs.Plain.{IsPlainCell}
+use Rattle.colon_bodies.specs.Plain.{IsPlainCell, respelled}
 use Rattle.colon_bodies.specs.declared.words.Half.{Half}
-use Rattle.colon_bodies.specs.declared.words.Half.TheVariants.{Free, Ticked, Forced, Compiling, Both}
+use Rattle.colon_bodies.specs.declared.words.Half.TheVariants.{Free, Forced, Compiling, Both}
 use Rattle.colon_bodies.specs.Meaning.{Plain, Keyword, Figure, Wide}
-use Rattle.image_builder.specs.Spelled.{keyword, naming, choosing, repeating, counting, saying, ending, sense_of_word, figure_of, text_of}
-use Rattle.see.specs.Naming.{number_text, is_word, gives, gives_none, is_meant, is_free, name_at}
-use Rattle.see.specs.Printing.{gives_immediate, is_forced, is_keyword}
 use Rattle.see.specs.Extent.{controls_of}
-use Rattle.see.specs.Reading.{is_inner, named_token, token_as, token_of}
-use Rattle.see.proofs.Figures.{figured}
-use Rattle.see.proofs.Stepping.{IsBare, bare_is, neither}
+use Rattle.see.specs.Reading.{is_inner, named_token, token_as, token_of, tokens_of, AreCells}
+use Rattle.std.proofs.lemmas.List.{map-append}
+use Rattle.colon_bodies.specs.Tree.{named}
+use Rattle.colon_bodies.specs.Rules.{half_after}
+use Rattle.see.specs.PlainWords.{IsPlainWord, ArePlainWords}
+
+-- The words that are printed are read as they were.
+both : (a b : Bool) → (a && b) ≡ true → (a ≡ true) × (b ≡ true)
+both a b h = grind arith
+
+pub neither : (a b : Bool) → (a || b) ≡ false → (a ≡ false) × (b ≡ false)
+neither a b h = grind arith
+
+-- a keyword that is none is none of each kind
+none_of : (a b : Option Token) → is_some (either_token a b) ≡ false → (a ≡ None) × (is_some b ≡ false)
+none_of a b h = grind arith
+
+naming_none : (a b c : Bool) (x y z : Token) → (if a then Some x else if b then Some y else if c then Some z else None) ≡ None → (a || b) ≡ false
+naming_none a b c x y z h = grind arith
+
+two_none : (a b : Bool) (x y : Token) → (if a then Some x else if b then Some y else None) ≡ None → ((a || b) ≡ false) × (b ≡ false)
+two_none a b x y h = grind arith
+
+-- a word that is no keyword asks for nothing more
+pub record IsBare (name : List ℕ) : Type 0 where
+  pub no_keyword : keyword name [] ≡ None
+  pub no_comment : begins_comment name ≡ false
+  pub no_lead : names_in_body name ≡ false
+  pub no_text : takes_text name ≡ false
+  pub no_end : ends_body name ≡ false
+
+no_lead_in : (name : List ℕ) → naming name ≡ None → names_in_body name ≡ false
+unfolding naming names_in_body
+no_lead_in name h = naming_none (bytes_eq name (codes "[']")) (bytes_eq name (codes "[COMPILE]")) (bytes_eq name (codes "COMPILE")) TICK FORCE COMPILE h
+
+no_text_in : (name : List ℕ) → saying name [] ≡ None → takes_text name ≡ false
+unfolding saying takes_text
+no_text_in name h = (two_none (bytes_eq name (codes ".\"")) (bytes_eq name (codes "ABORT\"")) (TEXT false []) (TEXT true []) h).0
+
+no_end_in : (name : List ℕ) → ending name ≡ None → ends_body name ≡ false
+unfolding ending ends_body
+no_end_in name h = (two_none (bytes_eq name (codes "DOES>")) (bytes_eq name (codes ";")) DOES SEMI h).1
+
+pub bare_is : (name : List ℕ) → is_keyword name ≡ false → IsBare name
+unfolding is_keyword keyword
+bare_is name h = grind (arith, neither, none_of, no_lead_in, no_text_in, no_end_in)
+
+pub bare_step : (name : List ℕ) → is_word name ≡ true → IsBare name → IsStep (bare name ∷ [])
+unfolding is_word is_plain_word
+bare_step name w b =
+    let p = both (not (length name == 0)) (list_all (λ x. not (x == 32)) name) w in
+    let long : nat_lt 0 (length name) ≡ true = grind arith in
+    plain_word_step name (rw (long, p.1, b.no_comment, b.no_end, b.no_lead, b.no_text) refl)
+
+-- A number's text spells it.
+shown_same : (ds : List ℕ) → AllByRecursion (λ d. d < 10) ds → map (λ d. 48 + d) ds ≡ map byte_of ds
+shown_same [] a = refl
+shown_same (d ∷ ds) a = let below : d < 10 = a.0 in let t : nat_lt d 10 ≡ true = grind arith in rw (t, shown_same ds a.1) refl
+
+decimal_is : (n : ℕ) → n < 2 ^ 64 → decimal n ≡ map byte_of (expansion 10 n)
+decimal_is n h = grind (arith, cases_lt, decimal-digits_of, shown_same, all_below_base_digits_of, expansion_some, decimal_digit, expansion_zero)
+
+-- the text is a sign and digits, which stand for the number
+pub record IsFigure (text : List ℕ) (n : ℕ) : Type 0 where
+  pub minus : Bool
+  pub ds : List ℕ
+  pub is : text ≡ sign minus ++ ds
+  pub some : 0 < length ds
+  pub digits : are_digits 10 ds ≡ true
+  pub value : with_sign minus (text_value 10 ds % 4294967296) % 65536 ≡ n
+
+some_digits : (n : ℕ) → n < 2 ^ 64 → 0 < length (map byte_of (expansion 10 n))
+some_digits n h = subst (λ l. 0 < length l) (decimal_is n h) (decimal_nonempty n h)
+
+positive : (n : ℕ) → n < 32768 → cast_signed w16 n ≡ pos n
+positive n h = let e : ltb n 32768 ≡ true = lt-ltb n 32768 h in rw e refl
+
+negative : (n : ℕ) → 32768 ≤ n → cast_signed w16 n ≡ negsuc (65536 - suc n)
+negative n h = let e : ltb n 32768 ≡ false = le-ltb n 32768 h in rw e refl
+
+pub figured : (n : ℕ) → n < 65536 → IsFigure (number_text n) n
+unfolding number_text
+figured n h = grind (arith, cases_lt, positive, decimal_is, some_digits, are_digits-expansion, text_value-expansion, negative)
+
+-- What each printed word is read as.
 
 -- nothing, or COMPILE, is half read
 abbrev pub Loose : Half → Type 0
@@ -28,16 +120,8 @@ Loose Free = Unit {0}
 Loose Compiling = Unit {0}
 Loose _ = ⊥
 
-both : (a b : Bool) → (a && b) ≡ true → (a ≡ true) × (b ≡ true)
-both true b h = (refl, h)
-both false b h = cc
-
 pub told_keyword : (m : List ℕ) (l : ℕ) (h : Half) (w : Spelling) (t : Token) → Loose h → sense_of_word w.name (text_of w.text) ≡ Keyword t → token_of m l h w ≡ Some t
-told_keyword m l Free w t p e = rw e refl
-told_keyword m l Compiling w t p e = rw e refl
-told_keyword m l Ticked w t p e = absurd p
-told_keyword m l Forced w t p e = absurd p
-told_keyword m l Both w t p e = absurd p
+told_keyword m l h w t p e = grind arith
 
 -- the sense of a word that is no keyword
 bare_sense : (name : List ℕ) → IsBare name → sense_of_word name [] ≡ figure_of name
@@ -45,15 +129,7 @@ unfolding sense_of_word
 bare_sense name b = rw (b.no_comment, b.no_keyword) refl
 
 figure_name : (m : List ℕ) (h : Half) (k : ℕ) (a b : Bool) (n v : ℕ) → Loose h → token_as m h (Found k) (if a then (if b then Wide v else Figure n) else Plain) ≡ named_token m h k
-figure_name m Free k true true n v p = refl
-figure_name m Free k true false n v p = refl
-figure_name m Free k false b n v p = refl
-figure_name m Compiling k true true n v p = refl
-figure_name m Compiling k true false n v p = refl
-figure_name m Compiling k false b n v p = refl
-figure_name m Ticked k a b n v p = absurd p
-figure_name m Forced k a b n v p = absurd p
-figure_name m Both k a b n v p = absurd p
+figure_name m h k a b n v p = grind arith
 
 bare_named : (m : List ℕ) (h : Half) (k : ℕ) (name : List ℕ) → Loose h → token_as m h (Found k) (figure_of name) ≡ named_token m h k
 unfolding figure_of
@@ -65,37 +141,17 @@ pub record Meant (m : List ℕ) (l : ℕ) (name : List ℕ) (w : ℕ) : Type 0 w
   pub is : sought_hiding m name l ≡ Found k
   pub at : compilation_address m k ≡ w
 
-same_address : (a w : ℕ) → (a == w) ≡ true → a ≡ w
-same_address a w h = grind arith
-
 pub meant_is : (m : List ℕ) (l : ℕ) (name : List ℕ) (w : ℕ) → is_meant m l name w ≡ true → Meant m l name w
 unfolding is_meant
-meant_is m l name w h = by (sought_hiding m name l) refl h
-  where
-    by : (s : Sought) → sought_hiding m name l ≡ s → gives m s w ≡ true → Meant m l name w
-    by (Found k) e g = record { k = k; is = e; at = same_address (compilation_address m k) w g }
-    by Nowhere e g = cc
-    by TooLong e g = cc
+meant_is m l name w h = grind arith
 
 free_is : (m : List ℕ) (l : ℕ) (name : List ℕ) → is_free m l name ≡ true → sought_hiding m name l ≡ Nowhere
 unfolding is_free
-free_is m l name h = by (sought_hiding m name l) refl h
-  where
-    by : (s : Sought) → sought_hiding m name l ≡ s → gives_none s ≡ true → sought_hiding m name l ≡ Nowhere
-    by Nowhere e g = e
-    by (Found k) e g = cc
-    by TooLong e g = cc
+free_is m l name h = grind arith
 
 -- a name that is no inner control's
 inner_one : (x w : ℕ) → (x ≢ 0 → w ≢ x) → (not (x == 0) && (w == x)) ≡ false
-inner_one x w h = elim (same x) [
-  | inl z ↦ rw z refl
-  | inr z ↦ let n : (w == x) ≡ false = (let k = h z in grind arith) in let e : (x == 0) ≡ false = grind arith in rw (e, n) refl
-]
-  where
-    same : (y : ℕ) → (y ≡ 0) ⊎ (y ≢ 0)
-    same zero = inl refl
-    same (suc y) = inr (λ e. omega arith)
+inner_one x w h = grind arith
 
 pub not_inner : (controls : List ℕ) (w : ℕ) → IsPlainCell (slice_index controls) w → is_inner controls w ≡ false
 unfolding is_inner
@@ -119,30 +175,7 @@ digit_range b h = (grind arith, grind arith)
 
 no_keyword_at : (b : ℕ) (rest : List ℕ) → 44 < b → b < 58 → b ≢ 46 → IsBare (b ∷ rest)
 unfolding keyword naming choosing repeating counting saying ending begins_comment Rattle.source_words.specs.Modes.names_in_body Rattle.source_words.specs.Modes.takes_text Rattle.source_words.specs.Modes.ends_body
-no_keyword_at b rest lo hi dot =
-    let a91 : (b == 91) ≡ false = grind arith in
-    let a67 : (b == 67) ≡ false = grind arith in
-    let a73 : (b == 73) ≡ false = grind arith in
-    let a69 : (b == 69) ≡ false = grind arith in
-    let a84 : (b == 84) ≡ false = grind arith in
-    let a66 : (b == 66) ≡ false = grind arith in
-    let a85 : (b == 85) ≡ false = grind arith in
-    let a65 : (b == 65) ≡ false = grind arith in
-    let a87 : (b == 87) ≡ false = grind arith in
-    let a82 : (b == 82) ≡ false = grind arith in
-    let a68 : (b == 68) ≡ false = grind arith in
-    let a76 : (b == 76) ≡ false = grind arith in
-    let a43 : (b == 43) ≡ false = grind arith in
-    let a46 : (b == 46) ≡ false = grind arith in
-    let a59 : (b == 59) ≡ false = grind arith in
-    let a40 : (b == 40) ≡ false = grind arith in
-    record {
-      no_keyword = rw (a91, a67, a73, a69, a84, a66, a85, a65, a87, a82, a68, a76, a43, a46, a59) refl;
-      no_comment = rw a40 refl;
-      no_lead = rw a91 refl;
-      no_text = rw (a46, a65) refl;
-      no_end = rw a59 refl;
-    }
+no_keyword_at b rest lo hi dot = search arith
 
 digits_bare : (ds : List ℕ) → 0 < length ds → are_digits 10 ds ≡ true → IsBare ds
 unfolding are_digits
@@ -162,7 +195,6 @@ no_blanks [] h = refl
 no_blanks (d ∷ ds) h =
     let p = both (is_digit 10 d) (list_all (is_digit 10) ds) h in
     let r = digit_range d p.0 in
-    let low : 48 ≤ d = r.0 in
     let e : (d == 32) ≡ false = grind arith in
     rw (e, no_blanks ds p.1) refl
 
@@ -172,8 +204,7 @@ some_word ds n h = let z : (length ds == 0) ≡ false = grind arith in rw (z, no
 
 signed_word : (minus : Bool) (ds : List ℕ) → 0 < length ds → are_digits 10 ds ≡ true → is_word (sign minus ++ ds) ≡ true
 unfolding is_word
-signed_word true ds n h = let z : (length (45 ∷ ds) == 0) ≡ false = grind arith in rw (z, no_blanks ds h) refl
-signed_word false ds n h = some_word ds n h
+signed_word minus ds n h = grind (arith, no_blanks, some_word)
 
 pub number_word : (n : ℕ) → n < 65536 → is_word (number_text n) ≡ true
 number_word n h = let f = figured n h in subst (λ t. is_word t ≡ true) (sym f.is) (signed_word f.minus f.ds f.some f.digits)
@@ -185,13 +216,6 @@ number_figure n h =
     let t : number_text n ≡ spelled f.minus f.ds false = f.is ∙ ap (λ l. sign f.minus ++ l) (sym (append-nil f.ds)) in
     let s : IsSpelling 10 (number_text n) f.minus f.ds false = subst (λ l. IsSpelling 10 l f.minus f.ds false) (sym t) (spelling 10 f.ds f.minus false (omega arith) f.some f.digits) in
     rw (s.number, s.double) (ap Figure (ap (λ v. v % 65536) s.value ∙ f.value))
-
-pub told_number : (m : List ℕ) (l : ℕ) (h : Half) (n : ℕ) → n < 65536 → Loose h → is_free m l (number_text n) ≡ true → token_of m l h (bare (number_text n)) ≡ Some (NUMBER n)
-told_number m l Free n lt p f = rw (free_is m l (number_text n) f, bare_sense (number_text n) (number_bare n lt), number_figure n lt) refl
-told_number m l Compiling n lt p f = rw (free_is m l (number_text n) f, bare_sense (number_text n) (number_bare n lt), number_figure n lt) refl
-told_number m l Ticked n lt p f = absurd p
-told_number m l Forced n lt p f = absurd p
-told_number m l Both n lt p f = absurd p
 
 -- a name that isn't forced
 pub told_name : (m : List ℕ) (l : ℕ) (h : Half) (w : ℕ) → Loose h → (h ≡ Free → IsPlainCell (slice_index (controls_of m)) w) → is_meant m l (name_at m w) w ≡ true → is_forced m l w ≡ false → token_of m l h (bare (name_at m w)) ≡ Some (NAME w)
@@ -206,9 +230,7 @@ told_name m l Compiling w p c t f =
     let q = meant_is m l name w t in
     let g = neither (gives_immediate m (sought_hiding m name l)) (is_keyword name) f in
     rw (q.is, bare_sense name (bare_is name g.1)) (bare_named m Compiling q.k name tt ∙ rw (sym (ap (gives_immediate m) q.is) ∙ g.0, q.at) refl)
-told_name m l Ticked w p c t f = absurd p
-told_name m l Forced w p c t f = absurd p
-told_name m l Both w p c t f = absurd p
+told_name m l _ w p c t f = absurd p
 
 -- and one that is, after [COMPILE]
 pub told_forced : (m : List ℕ) (l : ℕ) (w : ℕ) → is_meant m l (name_at m w) w ≡ true → token_of m l Forced (bare (name_at m w)) ≡ Some (NAME w)
@@ -216,3 +238,59 @@ told_forced m l w t = let q = meant_is m l (name_at m w) w t in rw (q.is, q.at) 
 
 pub told_both : (m : List ℕ) (l : ℕ) (w : ℕ) → is_meant m l (name_at m w) w ≡ true → token_of m l Both (bare (name_at m w)) ≡ Some (NAME w)
 told_both m l w t = let q = meant_is m l (name_at m w) w t in rw (q.is, q.at) refl
+
+-- A printed definition is read as it was.
+
+-- the words that plain definitions have
+abbrev IsPrintable : Token → Type 0
+IsPrintable (DOUBLE n) = ⊥
+IsPrintable TICK = ⊥
+IsPrintable FORCE = ⊥
+IsPrintable _ = Unit {0}
+
+printable : (rt : ℕ → ℕ) (h : Half) (w : Token) → Loose h → IsPlainWord rt h w → IsPrintable w
+printable rt h w p q = grind arith
+
+loose_after : (h : Half) (w : Token) → Loose h → IsPrintable w → Loose (half_after h w)
+loose_after h w p q = grind arith
+
+abbrev CellOf : Token → Type 0
+CellOf (NUMBER n) = n < 65536
+CellOf _ = Unit {0}
+
+abbrev NotName : Token → Type 0
+NotName (NAME w) = ⊥
+NotName _ = Unit {0}
+
+-- a word that is no name
+told_token : (m : List ℕ) (l : ℕ) (h : Half) (w : Token) → Loose h → NotName w → IsPrintable w → IsReadableWord m l w → CellOf w → token_of m l h (printed m w) ≡ Some w
+unfolding sense_of_word keyword naming choosing repeating counting saying ending begins_comment
+told_token m l h w p x q r c = grind (arith, told_keyword, free_is, bare_sense, number_bare, number_figure)
+
+told_force : (m : List ℕ) (l : ℕ) (h : Half) → Loose h → token_of m l h (bare (codes "[COMPILE]")) ≡ Some FORCE
+unfolding sense_of_word keyword naming begins_comment
+told_force m l h p = told_keyword m l h (bare (codes "[COMPILE]")) FORCE p refl
+
+one_told : (m : List ℕ) (l : ℕ) (h : Half) (s : Spelling) (w : Token) (rest : List Spelling) → token_of m l h s ≡ Some w → tokens_of m l h (s ∷ rest) ≡ Some w ∷ tokens_of m l (half_after h w) rest
+one_told m l h s w rest e = rw e refl
+
+-- a name, forced or not
+name_told : (m : List ℕ) (l : ℕ) (h : Half) (w : ℕ) (b : Bool) (rest : List Spelling) → Loose h → is_forced m l w ≡ b → IsPlainWord (slice_index (controls_of m)) h (NAME w) → is_meant m l (name_at m w) w ≡ true → tokens_of m l h (called b (name_at m w) ++ rest) ≡ map (λ t. Some t) (named b w) ++ tokens_of m l Free rest
+name_told m l h w b rest p e q t = grind (arith, one_told, told_name, told_force, told_forced, told_both)
+
+named_printed : (m : List ℕ) (b : Bool) (w : ℕ) (xs : List Token) → map (printed m) (named b w ++ xs) ≡ called b (name_at m w) ++ map (printed m) xs
+named_printed m b w xs = grind arith
+
+free_after : (h : Half) (w : ℕ) → Loose h → half_after h (NAME w) ≡ Free
+free_after h w p = grind arith
+
+-- all the words
+pub all_told : (m : List ℕ) (l : ℕ) (h : Half) (ws : List Token) → Loose h → ArePlainWords (slice_index (controls_of m)) h ws → AreReadableWords m l ws → AreCells ws → tokens_of m l h (all_printed m l ws) ≡ map (λ t. Some t) (respelled (is_forced m l) ws)
+all_told m l h [] p q r c = refl
+all_told m l h (NAME w ∷ ws) p q r c =
+    ap (tokens_of m l h) (named_printed m (is_forced m l w) w (respelled (is_forced m l) ws))
+    ∙ name_told m l h w (is_forced m l w) (all_printed m l ws) p refl q.0 r.0.1
+    ∙ ap (λ k. map (λ t. Some t) (named (is_forced m l w) w) ++ k) (all_told m l Free ws tt (subst (λ i. ArePlainWords (slice_index (controls_of m)) i ws) (free_after h w p) q.1) r.1 c)
+    ∙ sym (map-append (λ t. Some t) (named (is_forced m l w) w) (respelled (is_forced m l) ws))
+all_told m l h (NUMBER n ∷ ws) p q r c = let k = printable _ h (NUMBER n) p q.0 in one_told m l h (printed m (NUMBER n)) (NUMBER n) (all_printed m l ws) (told_token m l h (NUMBER n) p tt k r.0 c.0) ∙ ap (λ i. Some (NUMBER n) ∷ i) (all_told m l (half_after h (NUMBER n)) ws (loose_after h (NUMBER n) p k) q.1 r.1 c.1)
+all_told m l h (w ∷ ws) p q r c = let k = printable _ h w p q.0 in one_told m l h (printed m w) w (all_printed m l ws) (told_token m l h w p tt k r.0 tt) ∙ ap (λ i. Some w ∷ i) (all_told m l (half_after h w) ws (loose_after h w p k) q.1 r.1 c)

@@ -1,14 +1,13 @@
 -- One instruction after another.
-use Rattle.std.proofs.Common.{◌≡◌, Bool, true, false, ℕ, ◌+◌, ◌*◌, ◌<◌, cond, List, [], ◌∷◌, ◌++◌, length, take, drop, Option, Some, None, IfSome, zero, suc, inl, inr, refl, sym, ap, ◌∙◌, subst, arith, append_assoc}
-use Rattle.std.proofs.Math.Dec.{eqb}
+use Rattle.std.proofs.Common.{◌≡◌, Bool, ℕ, ◌+◌, ◌<◌, cond, List, [], ◌∷◌, length, take, drop, Option, Some, IfSome, zero, suc, refl, sym, ap, ◌∙◌, arith, append_assoc}
 use Rattle.std.specs.Prelude.{slice_index, replicate}
 use Rattle.std.proofs.lemmas.Bool.{cases_lt}
 use Rattle.std.proofs.lemmas.List.{get_or-replicate, get_or_past, length-replicate}
-use Rattle.colon_bodies.specs.Tokens.{Token, DOES}
-use Rattle.colon_bodies.specs.Tree.{Body, Empty, Definition, Simple, Doing, words, all_words}
-use Rattle.colon_bodies.specs.Instructions.{Instr, ICall, INum, ICompile, IText, IQuery, IBranch, IDo, ILoop, len}
-use Rattle.colon_bodies.specs.Structures.{Frames, FTop, FPast, FIf, FElse, FDo, Shape, In, shut, step, went, onward, done, run}
-use Rattle.colon_bodies.specs.Found.{Front, Off, First, peel, with_cell, with_text, of_control, first, with_first, and_more, instrs, if_exit, before_exit, before_last, built_of, found}
+use Rattle.colon_bodies.specs.Tokens.{Token}
+use Rattle.colon_bodies.specs.Tree.{Body, Empty, Definition, all_words}
+use Rattle.colon_bodies.specs.Instructions.{Instr, len}
+use Rattle.colon_bodies.specs.Structures.{Frames, FTop, Shape, In, shut, step, went, onward, done, run}
+use Rattle.colon_bodies.specs.Found.{Front, Off, First, with_text, of_control, first, with_first, and_more, instrs, before_exit, before_last, built_of, found}
 use Rattle.see.specs.declared.front.Taken.{Taken}
 use Rattle.see.specs.declared.structures.Frame.{Frame}
 use Rattle.see.specs.Apart.{instr, front}
@@ -20,40 +19,21 @@ abbrev Lengths : ℕ → Front → Type 0
 Lengths n Off = Unit {0}
 Lengths n (First i r) = len i + length r ≡ n
 
-cell_length : (bs : List ℕ) (f : ℕ → Instr) → ((x : ℕ) → len (f x) ≡ 4) → Lengths (2 + length bs) (with_cell f (peel bs))
-cell_length [] f h = tt
-cell_length (a ∷ []) f h = tt
-cell_length (a ∷ b ∷ bs) f h = let e = h (a + 256 * b) in omega (arith, e)
-
 taken_dropped : (n : ℕ) (bs : List ℕ) → length (take n bs) + length (drop n bs) ≡ length bs
-taken_dropped zero bs = omega arith
-taken_dropped (suc n) [] = refl
 taken_dropped (suc n) (b ∷ bs) = omega (arith, taken_dropped n bs)
+taken_dropped n bs = grind arith
 
 text_length : (k : Bool) (bs : List ℕ) → Lengths (2 + length bs) (with_text k bs)
-text_length k [] = tt
-text_length k (n ∷ bs) = omega (arith, taken_dropped n bs)
+text_length k bs = grind (arith, taken_dropped)
 
 either : (n : ℕ) (b : Bool) (x y : Front) → Lengths n x → Lengths n y → Lengths n (cond b x y)
-either n true x y h k = h
-either n false x y h k = k
+either n b x y h k = grind arith
 
 control_length : (k : ℕ) (bs : List ℕ) → Lengths (2 + length bs) (of_control k bs)
-control_length k bs =
-    let n = 2 + length bs in
-    either n (eqb k 6) _ _ (cell_length bs INum (λ x. refl))
-    (either n (eqb k 16) _ _ (text_length false bs)
-    (either n (eqb k 17) _ _ (text_length true bs)
-    (either n (eqb k 8) _ _ (cell_length bs IQuery (λ x. refl))
-    (either n (eqb k 7) _ _ (cell_length bs IBranch (λ x. refl))
-    (either n (eqb k 9) _ _ (cell_length bs IDo (λ x. refl))
-    (either n (eqb k 10) _ _ (cell_length bs (ILoop false) (λ x. refl))
-    (either n (eqb k 11) _ _ (cell_length bs (ILoop true) (λ x. refl))
-    (either n (eqb k 18) _ _ refl (cell_length bs ICompile (λ x. refl))))))))))
+control_length k bs = grind (arith, either, text_length)
 
 pub off_length : (k : ℕ) (bs : List ℕ) (o : Option Taken) (n : ℕ) → front o ≡ of_control k bs → n ≡ 2 + length bs → IfSome o (λ t. len (instr t.first) + length t.rest.now ≡ n)
-off_length k bs None n e h = tt
-off_length k bs (Some t) n e h = let l = rw (sym e) at (control_length k bs) in l ∙ sym h
+off_length k bs o n e h = grind (arith, control_length)
 
 -- a definition that is found, read so far
 pub record Walk (rt : ℕ → ℕ) (t : Definition) (bs : List ℕ) (f : Frames) (c : Body) (here : ℕ) : Type 0 where
@@ -65,18 +45,15 @@ pub record Walk (rt : ℕ → ℕ) (t : Definition) (bs : List ℕ) (f : Frames)
   pub runs : run js f c here ≡ Some t
 
 built_is : (at : ℕ) (t : Definition) (o : Option (List Instr)) → built_of at o ≡ Some t → (js : List Instr) × (o ≡ Some js) × (run js FTop Empty at ≡ Some t)
-built_is at t None e = cc
-built_is at t (Some js) e = (js, refl, e)
+built_is at t o e = grind arith
 
 last_is : (x : ℕ) (js : List Instr) (o : Option (List Instr)) → before_last x o ≡ Some js → (is : List Instr) × (o ≡ Some is) × (before_exit x is ≡ Some js)
-last_is x js None e = cc
-last_is x js (Some is) e = (is, refl, e)
+last_is x js o e = grind arith
 
 pub walk_start : (rt : ℕ → ℕ) (t : Definition) (bs : List ℕ) (at : ℕ) → found rt bs at ≡ Some t → Walk rt t bs FTop Empty at
 walk_start rt t bs at e =
     let b = built_is at t (before_last (rt 5) (instrs rt (length bs) bs)) e in
-    let l = last_is (rt 5) b.0 (instrs rt (length bs) bs) b.1 in
-    record { fuel = length bs; is = l.0; js = b.0; read = l.1; cut = l.2; runs = b.2 }
+    grind (arith, last_is (rt 5) b.0 (instrs rt (length bs) bs) b.1)
 
 -- the instruction at its front
 record Opened (rt : ℕ → ℕ) (t : Definition) (bs : List ℕ) (f : Frames) (c : Body) (here : ℕ) : Type 0 where
@@ -91,8 +68,7 @@ record Opened (rt : ℕ → ℕ) (t : Definition) (bs : List ℕ) (f : Frames) (
   runs : run js f c here ≡ Some t
 
 with_is : (i : Instr) (o : Option (List Instr)) (is : List Instr) → with_first i o ≡ Some is → (js : List Instr) × (o ≡ Some js) × (i ∷ js ≡ is)
-with_is i None is e = cc
-with_is i (Some js) is e = (js, refl, cc)
+with_is i o is e = grind arith
 
 opened : (rt : ℕ → ℕ) (t : Definition) (bs : List ℕ) (f : Frames) (c : Body) (here : ℕ) → Walk rt t bs f c here → Opened rt t bs f c here
 opened rt t [] f c here w = absurd (none w.is w.read w.cut)
@@ -126,17 +102,10 @@ shape_is : (s : Shape) → (f : Frames) × (c : Body) × (s ≡ In f c)
 shape_is (In f c) = (f, c, refl)
 
 went_is : (s : Option Shape) (go : Frames → Body → Option Definition) (t : Definition) → went s go ≡ Some t → (f : Frames) × (c : Body) × (s ≡ Some (In f c)) × (go f c ≡ Some t)
-went_is None go t e = cc
-went_is (Some (In f c)) go t e = (f, c, refl, e)
+went_is s go t e = grind arith
 
 no_rest : (rt : ℕ → ℕ) (n : ℕ) (rest : List ℕ) → 0 < length rest → instrs rt n rest ≡ Some [] → ⊥
-no_rest rt n [] h e = absurd (omega arith)
-no_rest rt zero (b ∷ bs) h e = cc
-no_rest rt (suc n) (b ∷ bs) h e = by (first rt (b ∷ bs)) e
-  where
-    by : (x : Front) → and_more x (instrs rt n) ≡ Some [] → ⊥
-    by Off k = cc
-    by (First i r) k = let q = with_is i (instrs rt n r) [] k in let z = q.2 in cc
+no_rest rt n rest h e = grind (arith, with_is)
 
 pub walk_on : (rt : ℕ → ℕ) (t : Definition) (bs : List ℕ) (f : Frames) (c : Body) (here : ℕ) (i : Instr) (rest : List ℕ) → Walk rt t bs f c here → first rt bs ≡ First i rest → 0 < length rest → Onward rt t f c here i rest
 walk_on rt t bs f c here i rest w e h =
@@ -170,56 +139,20 @@ pub record Last (t : Definition) (f : Frames) (c : Body) (here : ℕ) : Type 0 w
   pub shuts : shut f c here ≡ In frame body
   pub ends : done (In frame body) ≡ Some t
 
-exit_none : (x : ℕ) (i : Instr) (js : List Instr) → if_exit x i ≡ Some js → js ≡ []
-exit_none x (ICall w) js e = by (eqb w x) e
-  where
-    by : (b : Bool) → cond b (Some []) None ≡ Some js → js ≡ []
-    by true k = cc
-    by false k = cc
-exit_none x _ js e = cc
-
 no_length : (xs : List ℕ) → length xs ≡ 0 → xs ≡ []
 no_length [] h = refl
 no_length (x ∷ xs) h = absurd (omega arith)
 
 pub walk_end : (rt : ℕ → ℕ) (t : Definition) (bs : List ℕ) (f : Frames) (c : Body) (here : ℕ) (i : Instr) (rest : List ℕ) → Walk rt t bs f c here → first rt bs ≡ First i rest → length rest ≡ 0 → Last t f c here
-walk_end rt t bs f c here i rest w e h =
-    let z = no_length rest h in
-    let o = opened rt t bs f c here w in
-    let q : First o.i o.rest ≡ First i rest = sym o.first_is ∙ e in
-    let b : o.rest ≡ [] = cc in
-    by o.is o.fuel o.js (ap (instrs rt o.fuel) (sym b) ∙ o.read) o.cut o.runs
-  where
-    empty_is : (n : ℕ) (is : List Instr) → instrs rt n [] ≡ Some is → is ≡ []
-    empty_is n is k = cc
-
-    by : (is : List Instr) (n : ℕ) (js : List Instr) → instrs rt n [] ≡ Some is → before_exit (rt 5) ((opened rt t bs f c here w).i ∷ is) ≡ Some js → run js f c here ≡ Some t → Last t f c here
-    by (j ∷ is) n js r k u = let z = empty_is n (j ∷ is) r in cc
-    by [] n js r k u =
-        let s = shape_is (shut f c here) in
-        let z = exit_none (rt 5) (opened rt t bs f c here w).i js k in
-        record { frame = s.0; body = s.1; shuts = s.2; ends = ap done (sym s.2) ∙ ap (λ l. run l f c here) (sym z) ∙ u }
+walk_end rt t bs f c here i rest w e h = grind (arith, no_length, opened, shape_is)
 
 -- zeros
 zeros : (n p : ℕ) → slice_index (replicate n 0) p ≡ 0
-zeros n p =
-    elim (cases_lt p n) [
-      | inl h ↦ get_or-replicate n p 0 0 h
-      | inr h ↦ get_or_past (replicate n 0) p 0 (let z : ℕ = 0 in omega (arith, length-replicate n z))
-    ]
+zeros n p = grind (arith, cases_lt, get_or-replicate, get_or_past, length-replicate)
 
 -- all the words
 pub done_words : (at : ℕ) (t : Definition) (f : Frames) (c : Body) (here : ℕ) (seen : List Token) (counts : List ℕ) (frames : List Frame) → Seen at f c here seen counts frames → done (In f c) ≡ Some t → IsSketch (all_words t) seen counts × AreUnforced (all_words t)
-done_words at t FTop c here seen counts frames s e =
-    let q : Simple c ≡ t = cc in
-    (subst (λ d. IsSketch (all_words d) seen counts) q s.sketch, subst (λ d. AreUnforced (all_words d)) q s.unforced)
-done_words at t (FPast a) c here seen counts frames s e =
-    let q : Doing a c ≡ t = cc in
-    let l : (words a ++ DOES ∷ []) ++ words c ≡ all_words t = append_assoc (words a) (DOES ∷ []) (words c) ∙ ap all_words q in
-    (subst (λ ws. IsSketch ws seen counts) l s.sketch, subst (λ ws. AreUnforced ws) l s.unforced)
-done_words at t (FIf f a to) c here seen counts frames s e = cc
-done_words at t (FElse f a b to) c here seen counts frames s e = cc
-done_words at t (FDo f a) c here seen counts frames s e = cc
+done_words at t f c here seen counts frames s e = grind (arith, append_assoc)
 
 -- the words so far, of a definition that is found
 pub record Going (rt : ℕ → ℕ) (t : Definition) (at : ℕ) (left : List ℕ) (here : ℕ) (seen : List Token) (counts : List ℕ) (frames : List Frame) : Type 0 where
@@ -245,5 +178,4 @@ some_length xs h = omega (arith, λ (q : length xs ≡ 0). h q)
 
 -- an instruction has bytes
 pub some_bytes : (i : Instr) → 0 < len i
-some_bytes (IText k bs) = omega arith
-some_bytes _ = omega arith
+some_bytes i = grind arith

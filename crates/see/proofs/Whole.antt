@@ -1,16 +1,16 @@
 -- A whole definition that is printed is read as it was.
-use Rattle.std.proofs.Common.{◌≡◌, ◌≢◌, ℕ, Bool, true, false, not, ◌&&◌, ◌==◌, List, [], ◌∷◌, ◌++◌, length, map, Some, refl, sym, ap, ◌∙◌, subst, arith, append_assoc}
-use Rattle.std.specs.Prelude.{All, codes, slice_index, Result, Ok, Err, IfOk, Vec}
+use Rattle.std.proofs.Common.{◌≡◌, ◌≢◌, ℕ, Bool, true, false, not, ◌&&◌, ◌==◌, List, [], ◌∷◌, ◌++◌, length, map, Some, refl, sym, ap, ◌∙◌, arith, append_assoc}
+use Rattle.std.specs.Prelude.{All, codes, slice_index, Result, IfOk, Vec}
 use Rattle.std.specs.List.{list_all}
 use Rattle.std.proofs.lemmas.List.Elements.{All-nil, All-cons}
 use Rattle.std.proofs.lemmas.List.{map-append}
 use Rattle.source_words.specs.declared.modes.Mode.TheVariants.{Outside}
 use Rattle.source_words.specs.Modes.{takes_text, begins_comment, ends_body, names_in_body}
 use Rattle.source_words.specs.Words.{screen_words}
-use Rattle.source_words.specs.Spaced.{Spelling, spelling, bare, spaced, IsStep, AreSteps, IsWhole, joined, is_plain_word, colon_words}
+use Rattle.source_words.specs.Spaced.{Spelling, spelling, bare, IsStep, AreSteps, IsWhole, joined, is_plain_word, colon_words}
 use Rattle.source_words.proofs.Colons.{colon_reread, plain_word_step, led_step, text_step}
-use Rattle.colon_bodies.specs.Tokens.{Token, NAME, NUMBER, DOUBLE, TICK, FORCE, COMPILE, IF, ELSE, THEN, BEGIN, UNTIL, AGAIN, WHILE, REPEAT, DO, LOOP, TEXT, DOES, SEMI}
-use Rattle.colon_bodies.specs.Tree.{Body, Empty, Call, Literal, Double, Tick, Pair, IfThen, IfElse, Until, Again, While, Loop, Text, Definition, Simple, Doing, words, all_words, named}
+use Rattle.colon_bodies.specs.Tokens.{Token, NAME, NUMBER, DOUBLE, TICK, FORCE, LOOP, TEXT, SEMI}
+use Rattle.colon_bodies.specs.Tree.{Body, Empty, Definition, words, all_words, named}
 use Rattle.colon_bodies.specs.Plain.{respelled, IsPlainBody, IsPlainDefinition, all_spelled}
 use Rattle.colon_bodies.proofs.Spelling.{spelled_thread, all_spelled_words}
 use Rattle.colon_bodies.specs.declared.words.Half.TheVariants.{Free}
@@ -21,11 +21,9 @@ use Rattle.see.specs.Reading.{tokens_of, AreCells}
 use Rattle.see.specs.Seeing.{IsAgain, IsDefined, IsSeen, IsReadBack}
 use Rattle.see.specs.declared.refusal.SeeRefused.{SeeRefused}
 use Rattle.std.specs.declared.alloc.Global.{Global}
-use Rattle.see.proofs.Stepping.{bare_is, bare_step, neither}
-use Rattle.see.proofs.Telling.{number_bare, number_word}
-use Rattle.see.proofs.Rereading.{all_told}
-use Rattle.see.proofs.Plainness.{are_all_plain}
-use Rattle.see.proofs.Within.{spelled_within}
+use Rattle.see.proofs.Telling.{bare_is, bare_step, neither, number_bare, number_word, all_told}
+use Rattle.see.proofs.Showing.{are_all_plain, spelled_within}
+use Rattle.colon_bodies.proofs.Parts.{by_parts}
 
 -- ; ends a definition, and is nowhere else
 abbrev NoEnd : List Token → Type 0
@@ -37,25 +35,21 @@ NoEnd (FORCE ∷ ws) = ⊥
 NoEnd (w ∷ ws) = NoEnd ws
 
 both : (a b : Bool) → (a && b) ≡ true → (a ≡ true) × (b ≡ true)
-both true b h = (refl, h)
-both false b h = cc
+both a b h = grind arith
 
 negated : (a : Bool) → not a ≡ true → a ≡ false
-negated true h = cc
-negated false h = refl
+negated a h = grind arith
 
 others : (c : ℕ) (xs : List ℕ) → list_all (λ b. not (b == c)) xs ≡ true → All (λ b. b ≢ c) xs
 others c [] h = All-nil (λ b. b ≢ c)
 others c (x ∷ xs) h =
     let q : (not (x == c) ≡ true) × (list_all (λ b. not (b == c)) xs ≡ true) = both (not (x == c)) (list_all (λ b. not (b == c)) xs) h in
-    let e : (x == c) ≡ false = negated (x == c) q.0 in
     All-cons (λ b. b ≢ c) x xs (grind arith) (others c xs q.1)
 
 pub whole_word : (name : List ℕ) → is_word name ≡ true → IsWhole name
 unfolding is_word
 whole_word name h =
     let p = both (not (length name == 0)) (list_all (λ x. not (x == 32)) name) h in
-    let q : not (length name == 0) ≡ true = p.0 in
     record { some = grind arith; whole = others 32 name p.1 }
 
 -- a name, forced or not, is a step
@@ -75,8 +69,7 @@ steps m l (NAME w ∷ ws) = called (is_forced m l w) (name_at m w) ∷ steps m l
 steps m l (w ∷ ws) = (printed m w ∷ []) ∷ steps m l ws
 
 named_printed : (m : List ℕ) (b : Bool) (w : ℕ) (xs : List Token) → map (printed m) (named b w ++ xs) ≡ called b (name_at m w) ++ map (printed m) xs
-named_printed m true w xs = refl
-named_printed m false w xs = refl
+named_printed m b w xs = grind arith
 
 joined_steps : (m : List ℕ) (l : ℕ) (ws : List Token) → joined (steps m l ws) ≡ all_printed m l ws
 joined_steps m l [] = refl
@@ -93,23 +86,12 @@ are_steps m l (NAME w ∷ ws) e r c = (name_step (name_at m w) (is_forced m l w)
 are_steps m l (NUMBER n ∷ ws) e r c = (bare_step (number_text n) (number_word n c.0) (number_bare n c.0), are_steps m l ws e r.1 c.1)
 are_steps m l (TEXT false bs ∷ ws) e r c = (text_step (codes ".\"") bs (whole_word (codes ".\"") refl) refl refl refl refl (others 34 bs r.0), are_steps m l ws e r.1 c)
 are_steps m l (TEXT true bs ∷ ws) e r c = (text_step (codes "ABORT\"") bs (whole_word (codes "ABORT\"") refl) refl refl refl refl (others 34 bs r.0), are_steps m l ws e r.1 c)
-are_steps m l (COMPILE ∷ ws) e r c = (keyword_step (codes "COMPILE") refl, are_steps m l ws e r.1 c)
-are_steps m l (IF ∷ ws) e r c = (keyword_step (codes "IF") refl, are_steps m l ws e r.1 c)
-are_steps m l (ELSE ∷ ws) e r c = (keyword_step (codes "ELSE") refl, are_steps m l ws e r.1 c)
-are_steps m l (THEN ∷ ws) e r c = (keyword_step (codes "THEN") refl, are_steps m l ws e r.1 c)
-are_steps m l (BEGIN ∷ ws) e r c = (keyword_step (codes "BEGIN") refl, are_steps m l ws e r.1 c)
-are_steps m l (UNTIL ∷ ws) e r c = (keyword_step (codes "UNTIL") refl, are_steps m l ws e r.1 c)
-are_steps m l (AGAIN ∷ ws) e r c = (keyword_step (codes "AGAIN") refl, are_steps m l ws e r.1 c)
-are_steps m l (WHILE ∷ ws) e r c = (keyword_step (codes "WHILE") refl, are_steps m l ws e r.1 c)
-are_steps m l (REPEAT ∷ ws) e r c = (keyword_step (codes "REPEAT") refl, are_steps m l ws e r.1 c)
-are_steps m l (DO ∷ ws) e r c = (keyword_step (codes "DO") refl, are_steps m l ws e r.1 c)
-are_steps m l (LOOP false ∷ ws) e r c = (keyword_step (codes "LOOP") refl, are_steps m l ws e r.1 c)
-are_steps m l (LOOP true ∷ ws) e r c = (keyword_step (codes "+LOOP") refl, are_steps m l ws e r.1 c)
-are_steps m l (DOES ∷ ws) e r c = (keyword_step (codes "DOES>") refl, are_steps m l ws e r.1 c)
 are_steps m l (SEMI ∷ ws) e r c = absurd e
 are_steps m l (DOUBLE n ∷ ws) e r c = absurd e
 are_steps m l (TICK ∷ ws) e r c = absurd e
 are_steps m l (FORCE ∷ ws) e r c = absurd e
+are_steps m l (LOOP false ∷ ws) e r c = (keyword_step (codes "LOOP") refl, are_steps m l ws e r.1 c)
+are_steps m l (_ ∷ ws) e r c = (keyword_step _ refl, are_steps m l ws e r.1 c)
 
 noend_append : (xs ys : List Token) → NoEnd xs → NoEnd ys → NoEnd (xs ++ ys)
 noend_append [] ys h k = k
@@ -120,29 +102,10 @@ noend_append (FORCE ∷ xs) ys h k = absurd h
 noend_append (_ ∷ xs) ys h k = noend_append xs ys h k
 
 noend_words : (rt : ℕ → ℕ) (t : Body) → IsPlainBody rt t → NoEnd (words t)
-noend_words rt Empty h = tt
-noend_words rt (Call t true w) h = let e = h.1 in cc
-noend_words rt (Call t false w) h = noend_append (words t) (NAME w ∷ []) (noend_words rt t h.0) tt
-noend_words rt (Tick t w) h = absurd h
-noend_words rt (Pair t true w) h = let e = h.1 in cc
-noend_words rt (Pair t false w) h = noend_append (words t) (COMPILE ∷ NAME w ∷ []) (noend_words rt t h.0) tt
-noend_words rt (Literal t n) h = noend_append (words t) (NUMBER n ∷ []) (noend_words rt t h.0) tt
-noend_words rt (Double t n) h = absurd h
-noend_words rt (Text t k bs) h = noend_append (words t) (TEXT k bs ∷ []) (noend_words rt t h.0) tt
-noend_words rt (IfThen t a) h = noend_append (words t) (IF ∷ (words a ++ THEN ∷ [])) (noend_words rt t h.0) (noend_append (words a) (THEN ∷ []) (noend_words rt a h.2) tt)
-noend_words rt (IfElse t a b) h =
-    noend_append (words t) (IF ∷ (words a ++ (ELSE ∷ (words b ++ THEN ∷ [])))) (noend_words rt t h.0)
-    (noend_append (words a) (ELSE ∷ (words b ++ THEN ∷ [])) (noend_words rt a h.2) (noend_append (words b) (THEN ∷ []) (noend_words rt b h.4) tt))
-noend_words rt (Until t a) h = noend_append (words t) (BEGIN ∷ (words a ++ UNTIL ∷ [])) (noend_words rt t h.0) (noend_append (words a) (UNTIL ∷ []) (noend_words rt a h.1) tt)
-noend_words rt (Again t a) h = noend_append (words t) (BEGIN ∷ (words a ++ AGAIN ∷ [])) (noend_words rt t h.0) (noend_append (words a) (AGAIN ∷ []) (noend_words rt a h.1) tt)
-noend_words rt (While t a b) h =
-    noend_append (words t) (BEGIN ∷ (words a ++ (WHILE ∷ (words b ++ REPEAT ∷ [])))) (noend_words rt t h.0)
-    (noend_append (words a) (WHILE ∷ (words b ++ REPEAT ∷ [])) (noend_words rt a h.1) (noend_append (words b) (REPEAT ∷ []) (noend_words rt b h.3) tt))
-noend_words rt (Loop t a k) h = noend_append (words t) (DO ∷ (words a ++ LOOP k ∷ [])) (noend_words rt t h.0) (noend_append (words a) (LOOP k ∷ []) (noend_words rt a h.2) tt)
+noend_words rt = by_parts (λ t. IsPlainBody rt t → NoEnd (words t)) (elim [ Empty ↦ λ ih h. tt | t ↦ λ ih h. grind (arith, noend_append, ih) ])
 
 noend_all : (rt : ℕ → ℕ) (d : Definition) → IsPlainDefinition rt d → NoEnd (all_words d)
-noend_all rt (Simple t) h = noend_words rt t h
-noend_all rt (Doing t a) h = noend_append (words t) (DOES ∷ words a) (noend_words rt t h.0) (noend_words rt a h.2)
+noend_all rt d h = grind (arith, noend_words, noend_append)
 
 -- the words before the last
 readable_front : (m : List ℕ) (l : ℕ) (xs ys : List Token) → AreReadableWords m l (xs ++ ys) → AreReadableWords m l xs
@@ -169,16 +132,10 @@ colon_is m l name ws = ap (λ k. bare (codes ":") ∷ bare name ∷ k) (printed_
 
 words_read : (m : List ℕ) (l : ℕ) (name : List ℕ) (d : Definition) (screen : ℕ) → IsPlainDefinition (slice_index (controls_of m)) d → IsReadable m l name (its_words d) → AreCells (its_words d) → map spelling (screen_words Outside screen (text m l name d)) ≡ bare (codes ":") ∷ bare name ∷ all_printed m l (its_words d)
 unfolding text
-words_read m l name d screen p r c =
-    let e = colon_is m l name (all_words d) in
-    let s = are_steps m l (all_words d) (noend_all (slice_index (controls_of m)) d p) (readable_front m l (all_words d) (SEMI ∷ []) r.words) (cells_front (all_words d) (SEMI ∷ []) c) in
-    ap (λ k. map spelling (screen_words Outside screen (spaced k))) e ∙ colon_reread screen name (steps m l (all_words d)) (whole_word name r.named) s ∙ sym e
+words_read m l name d screen p r c = search (arith, colon_is, are_steps, noend_all, readable_front, cells_front, colon_reread, whole_word)
 
 tokens_read : (m : List ℕ) (l : ℕ) (d : Definition) → IsPlainDefinition (slice_index (controls_of m)) d → AreReadableWords m l (its_words d) → AreCells (its_words d) → tokens_of m l Free (all_printed m l (its_words d)) ≡ map (λ w. Some w) (its_words (all_spelled (is_forced m l) d))
-tokens_read m l d p r c =
-    let rt = slice_index (controls_of m) in
-    all_told m l Free (its_words d) tt (are_all_plain rt d p) r c
-    ∙ ap (map (λ w. Some w)) (respelled_end (is_forced m l) (all_words d) ∙ ap (λ k. k ++ SEMI ∷ []) (sym (all_spelled_words rt (is_forced m l) d p)))
+tokens_read m l d p r c = grind (arith, all_told, are_all_plain, respelled_end, all_spelled_words)
 
 -- the text is read as a definition that is written as the word's extent
 pub read_again : (m name : List ℕ) (l : ℕ) (d : Definition) → IsDefined m name l d → IsReadable m l name (its_words d) → AreCells (its_words d) → (e : Definition) × IsAgain m l name (text m l name d) e
@@ -193,7 +150,4 @@ read_again m name l d h r c =
     )
 
 pub seen_read : (m name : List ℕ) (x : Result (Vec ℕ Global) SeeRefused) → IsSeen m name x → IfOk x (λ v. IsReadBack m name v.items)
-seen_read m name (Ok v) s =
-    let r = read_again m name s.0 s.1 s.2 s.3 s.4 in
-    (s.0, r.0, s.2.colon, subst (λ b. IsAgain m s.0 name b r.0) (sym s.5) r.1)
-seen_read m name (Err e) s = tt
+seen_read m name x s = grind (arith, read_again)

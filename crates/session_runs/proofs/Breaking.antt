@@ -1,5 +1,5 @@
 -- A run in slices and with breaks, by what its ends say.
-use Rattle.std.proofs.Common.{◌≡◌, ℕ, ◌+◌, ◌-◌, ◌≤◌, List, [], ◌∷◌, Option, Some, None, Bool, true, false, inl, inr, refl, sym, ap, subst, ◌∙◌, arith}
+use Rattle.std.proofs.Common.{rules, ◌≡◌, ℕ, ◌+◌, ◌-◌, ◌≤◌, List, [], ◌∷◌, Option, Some, None, Bool, true, false, inl, inr, refl, sym, ap, subst, ◌∙◌, arith}
 use Rattle.block_buffers.specs.Disks.{Disk}
 use Rattle.machine.specs.State.{State}
 use Rattle.machine.specs.Tick.{Runs}
@@ -7,7 +7,6 @@ use Rattle.inner_interpreter.specs.declared.stop.Stop.{Stop}
 use Rattle.inner_interpreter.specs.declared.stop.Stop.TheVariants.{Limit}
 use Rattle.inner_interpreter.specs.Moves.{Enter, turned}
 use Rattle.machine.specs.declared.act.Cause.{Cause}
-use Rattle.machine.specs.declared.act.Cause.TheVariants.{Bye, InputEnded, InputFault, Fault}
 use Rattle.inner_interpreter.specs.Runs.{World, rounds, stop_by, stops}
 use Rattle.inner_interpreter.specs.Slices.{with_left}
 use Rattle.session_runs.specs.Interrupted.{Interrupts, Break, broken, AreBroken, EndsBroken}
@@ -74,18 +73,12 @@ broken_between word w s s' unread disk sent left before after (inr h) x = record
 
 -- an end that didn't fail
 pub not_failed : (b : Bool) → (b ≡ true → ⊥) → b ≡ false
-not_failed true h = absurd (h refl)
-not_failed false h = refl
+not_failed b h = search rules
 
 -- a machine that can go on after its ticks is not halted
 pub goes_on : (h : Option Cause) → stop_by h 0 ≡ Some Limit → h ≡ None
-goes_on None e = refl
-goes_on (Some Bye) e = absurd (cc)
-goes_on (Some InputEnded) e = absurd (cc)
-goes_on (Some InputFault) e = absurd (cc)
-goes_on (Some (Fault f)) e = absurd (cc)
+goes_on h e = search rules
 
 -- of what was due no more is due then
 pub still_due : (word : Option ℕ) (s t : State) (before after asked asked' : ℕ) → Interrupts word s t before after → before + asked ≤ asked' → after + asked ≤ asked'
-still_due word s t before after asked asked' (inl stays) h = omega (arith, stays.1, h)
-still_due word s t before after asked asked' (inr x) h = omega (arith, x.4, h)
+still_due word s t before after asked asked' h k = search rules

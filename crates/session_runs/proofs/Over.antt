@@ -1,5 +1,5 @@
 -- A session over ends that nothing was asked of before.
-use Rattle.std.proofs.Common.{◌≡◌, ◌⊎◌, ◌∙◌, inl, inr, ap, subst, ℕ, List, [], Option, Bool, false}
+use Rattle.std.proofs.Common.{rules, arith, ◌≡◌, ◌⊎◌, ℕ, List, [], Option, Bool, false}
 use Rattle.block_buffers.specs.DeviceCalls.{DeviceCall}
 use Rattle.image_loader.specs.Files.{Contents}
 use Rattle.inner_interpreter.specs.Moves.{logs}
@@ -14,19 +14,7 @@ over_file : {R D : Type 0} (reads : R → List (Option ℕ)) (calls : D → List
     ⊎ IsUnsat status failed r r' d d' sent sent'
     → HasSession file count wanted (logs [] sent []) (logs (calls d') sent' (reads r')) (host_log 0 false []) host unread failed status
     ⊎ IsWanting status failed (reads r') (calls d') sent sent'
-over_file reads calls file count wanted r r' d d' n e k host unread failed sent sent' status hr hd hn he hk (inl h) =
-    inl (subst (λ x. HasSession file count wanted (logs [] sent []) (logs (calls d') sent' (reads r')) (host_log 0 false x) host unread failed status) hk
-    (subst (λ x. HasSession file count wanted (logs [] sent []) (logs (calls d') sent' (reads r')) (host_log 0 x k) host unread failed status) he
-    (subst (λ x. HasSession file count wanted (logs [] sent []) (logs (calls d') sent' (reads r')) (host_log x e k) host unread failed status) hn
-    (subst (λ x. HasSession file count wanted (logs x sent []) (logs (calls d') sent' (reads r')) (host_log n e k) host unread failed status) hd
-    (subst (λ x. HasSession file count wanted (logs (calls d) sent x) (logs (calls d') sent' (reads r')) (host_log n e k) host unread failed status) hr h)))))
-over_file reads calls file count wanted r r' d d' n e k host unread failed sent sent' status hr hd hn he hk (inr u) =
-    inr (record {
-      untyped = ap reads u.unrun.reader_is ∙ hr;
-      uncalled = ap calls u.unrun.device_is ∙ hd;
-      status_is = u.unrun.status_is;
-      printed = u.printed;
-    })
+over_file reads calls file count wanted r r' d d' n e k host unread failed sent sent' status hr hd hn he hk h = search rules
 
 pub over : {R D : Type 0} (reads : R → List (Option ℕ)) (calls : D → List DeviceCall) (bytes : List ℕ) (count : ℕ) (wanted : Wanted)
     (r r' : R) (d d' : D) (n : ℕ) (e : Bool) (k : List ℕ) (host : HostLog) (unread failed : Bool) (sent sent' : Option (List ℕ)) (status : ℕ)
@@ -35,5 +23,4 @@ pub over : {R D : Type 0} (reads : R → List (Option ℕ)) (calls : D → List 
     ⊎ IsUnsat status failed r r' d d' sent sent')
     → OfImageFile bytes (λ file. HasSession file count wanted (logs [] sent []) (logs (calls d') sent' (reads r')) (host_log 0 false []) host unread failed status
     ⊎ IsWanting status failed (reads r') (calls d') sent sent')
-over reads calls bytes count wanted r r' d d' n e k host unread failed sent sent' status hr hd hn he hk h =
-    λ file is. over_file reads calls file count wanted r r' d d' n e k host unread failed sent sent' status hr hd hn he hk (h file is)
+over reads calls bytes count wanted r r' d d' n e k host unread failed sent sent' status hr hd hn he hk h = grind arith

@@ -1,5 +1,5 @@
 -- A session, by what its run and its end come to.
-use Rattle.std.proofs.Common.{◌≡◌, ◌⊎◌, ◌↔◌, ℕ, List, Option, Some, None, Bool, true, false, inl, inr, refl, sym, ap, subst, ◌∙◌}
+use Rattle.std.proofs.Common.{rules, ◌≡◌, ◌⊎◌, ◌↔◌, ℕ, List, Option, Some, None, Bool, true, false, subst}
 use Rattle.std.specs.Prelude.{if◌then◌else◌}
 use Rattle.block_buffers.specs.DeviceCalls.{DeviceCall}
 use Rattle.image_loader.specs.Files.{Contents}
@@ -27,46 +27,18 @@ pub ended_so : (state : State) (reader writer reader' writer' ended : Bool) (how
     → (how ≡ ending.Asked → ended ≡ true)
     → (how ≡ ending.Asked → reader ≡ false → writer ≡ false → (reader' ≡ false) × (writer' ≡ false) × (state.halt ≡ None))
     → HasEndedSo state reader' writer' ended how
-ended_so state reader writer reader' writer' ended (ending.Stopped stop) fine good by output input asked unfailed = record {
-  by = by;
-  output = λ q. ap ending.Stopped ((output fine good).1 q);
-  input = λ q. ap ending.Stopped (input fine q);
-  asked = asked;
-}
-ended_so state reader writer reader' writer' ended ending.Asked fine good by output input asked unfailed =
-    let u = unfailed refl fine good in
-    record {
-      by = λ _ _. u.2;
-      output = λ q. let z : true ≡ false = sym q ∙ u.1 in absurd (cc);
-      input = λ q. let z : true ≡ false = sym q ∙ u.0 in absurd (cc);
-      asked = asked;
-    }
+ended_so state reader writer reader' writer' ended how fine good by output input asked unfailed = search rules
 
 pub session_of : (image : Contents) (count : ℕ) (wanted : Wanted) (log log' : Logs) (host host' : HostLog) (reader writer : Bool) (status : ℕ) (machine state : State) (word : Option ℕ) (how : Ending) (calls : List DeviceCall) (ended : Bool) (interruptions : ℕ) (kept : List ℕ)
     → machine ≡ start image count → word ≡ break_word machine.parts.memory → HasWorked word machine state log (logs calls log'.sent log'.reads) host.interruptions interruptions wanted.limit how
     → HasEndedSo state reader writer ended how → kept ≡ host.kept → host'.interruptions ≡ interruptions → host'.ended ≡ ended
     → HasFinished state.parts wanted.saves wanted.keeps how calls log'.calls kept host'.kept status
     → HasSession image count wanted log log' host host' reader writer status
-session_of image count wanted log log' host host' reader writer status machine state word how calls ended interruptions kept same is_word worked so is_kept is_count is_ended finished =
-    let word_is : word ≡ break_word (start image count).parts.memory = is_word ∙ ap (λ (m : State). break_word m.parts.memory) same in
-    record {
-      state = state;
-      how = how;
-      calls = calls;
-      worked = subst (λ n. HasWorked (break_word (start image count).parts.memory) (start image count) state log (logs calls log'.sent log'.reads) host.interruptions n wanted.limit how) (sym is_count)
-          (subst (λ w. HasWorked w (start image count) state log (logs calls log'.sent log'.reads) host.interruptions interruptions wanted.limit how) word_is
-          (subst (λ m. HasWorked word m state log (logs calls log'.sent log'.reads) host.interruptions interruptions wanted.limit how) same worked));
-      ended = so.by;
-      output = so.output;
-      input = so.input;
-      asked = λ q. is_ended ∙ so.asked q;
-      finished = subst (λ k. HasFinished state.parts wanted.saves wanted.keeps how calls log'.calls k host'.kept status) is_kept finished;
-    }
+session_of image count wanted log log' host host' reader writer status machine state word how calls ended interruptions kept same is_word worked so is_kept is_count is_ended finished = search rules
 
 -- the status of a session whose output failed: 5, unless a changed block could not be written
 by_all : (all : Bool) (how : Ending) (status : ℕ) → status ≡ (if all then ending_status how else 1) → how ≡ ending.Stopped OutputFault → (status ≡ 5) ⊎ (status ≡ 1)
-by_all true how status is h = inl (is ∙ ap ending_status h)
-by_all false how status is h = inr is
+by_all all how status is h = search rules
 
 pub cut_status : (s : Whole) (saves keeps : Bool) (how : Ending) (calls calls' : List DeviceCall) (kept kept' : List ℕ) (status : ℕ)
     → HasFinished s saves keeps how calls calls' kept kept' status → how ≡ ending.Stopped OutputFault → (status ≡ 5) ⊎ (status ≡ 1)

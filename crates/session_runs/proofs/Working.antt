@@ -49,18 +49,12 @@ worked_on word a b c f g h most limit left count lefts fewer x y =
 
 -- its host asked for the end
 pub worked_asked : (word : Option ℕ) (a b : State) (f g : Logs) (asked asked' most limit left : ℕ) → most ≤ asked' - asked → HasWorkedOn word a b f g true most (limit - left) → HasWorked word a b f g asked asked' limit ending.Asked
-worked_asked word a b f g asked asked' most limit left less x = record {
-  ticks = limit - left;
-  few = omega arith;
-  all = λ q. absurd (cc);
-  worked = worked_most word a b f g true most (asked' - asked) (limit - left) less x;
-}
+worked_asked word a b f g asked asked' most limit left less x = grind arith
 
 -- perhaps the word is entered then
 pub worked_between : (word : Option ℕ) (a b c : State) (f : Logs) (calls : List DeviceCall) (o : Option (List ℕ)) (r : List (Option ℕ)) (k before after ticks : ℕ) → before ≤ k → Interrupts word b c before after
     → HasWorkedOn word a b f (logs calls o r) true (k - before) ticks → HasWorkedOn word a c f (logs calls o r) true (k - after) ticks
-worked_between word a b c f calls o r k before after ticks fits (inl stays) x =
-    rw (stays.0) (worked_most word a b f (logs calls o r) true (k - before) (k - after) ticks (omega (arith, stays.1)) x)
+worked_between word a b c f calls o r k before after ticks fits (inl stays) x = grind (arith, worked_most)
 worked_between word a b c f calls o r k before after ticks fits (inr h) x =
     let sum : ticks + 0 ≡ ticks = omega arith in
     let entry : HasMoved b c (logs calls o r) (logs calls o r) true (h.0 ∷ []) 0 = rw (h.3) (moved_one b (Enter h.0) calls calls o o r r [] true h.2 (sym (append-nil calls)) (appends_none o) (sym (append-nil r)) refl) in

@@ -35,6 +35,4 @@ one_screen m n s = append-nil (screen_words m n s)
 -- a screen more, after the others
 pub words_snoc : (m : Mode) (n : ℕ) (before : List (List ℕ)) (s : List ℕ) →
     words_of_screens m n (before ++ s ∷ []) ≡ words_of_screens m n before ++ screen_words (after_words m (words_of_screens m n before)) (n + length before) s
-words_snoc m n before s =
-    words_append m n before (s ∷ [])
-    ∙ ap (λ r. words_of_screens m n before ++ r) (one_screen (after_words m (words_of_screens m n before)) (n + length before) s)
+words_snoc m n before s = grind (arith, words_append, one_screen)

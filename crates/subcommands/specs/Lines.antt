@@ -4,7 +4,8 @@ use Rattle.std.specs.declared.alloc.Global.{Global}
 use Rattle.std.specs.Io.KnownBytes.{Appends}
 use Rattle.block_buffers.specs.Disks.{Disk}
 use Rattle.dictionary.specs.Search.{sought}
-use Rattle.subcommands.specs.Causes.{IsNoFile, build_cause, image_cause, view_cause, see_cause}
+use Rattle.subcommands.specs.Causes.{IsNoFile, build_cause, image_cause, view_cause, see_cause, upgrade_cause}
+use Rattle.image_loader.specs.declared.upgrading.UpgradeFault.TheVariants as upgrade
 use Rattle.image_loader.specs.Files.{Contents, IsFile, IsWritten}
 use Rattle.image_loader.specs.declared.fault.ImageFault.{ImageFault}
 use Rattle.image_builder.specs.Sources.{Done, IsRefused}
@@ -110,7 +111,7 @@ upgraded image given = record image { buffers = new_buffers image given }
 
 -- that an image is too large was printed
 abbrev pub PrintsTooLarge : (status : ℕ) → (old new : Option (List ℕ)) → Type 0
-PrintsTooLarge status old new = PrintsRefusal (codes "image") (codes "TooLarge") status old new
+PrintsTooLarge status old new = PrintsRefusal (codes "image") (upgrade_cause upgrade.TooLarge) status old new
 
 -- these bytes are the file that is written of this image, and its line was printed
 abbrev pub IsUpgraded : List ℕ → Contents → (old new : Option (List ℕ)) → Type 0

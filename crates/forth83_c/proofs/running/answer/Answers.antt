@@ -1,4 +1,4 @@
-use Rattle.std.proofs.Common.{rules, ◌≡◌}
+use Rattle.std.proofs.Common.{rules}
 use Rattle.memory.specs.Mirrored.{stored}
 use Rattle.forth83_c.specs.Kept.{state_of}
 use Rattle.forth83_c.proofs.running.answer.Goals as goal

@@ -2,7 +2,7 @@ use Rattle.std.proofs.Common.{refl, sym, ap, subst, ◌∙◌}
 use Rattle.std.specs.Prelude.{slice_index}
 use Rattle.std.proofs.lemmas.Result.{err_from_is_err_and}
 use Rattle.colon_bodies.specs.Draft.{IsBlank}
-use Rattle.image_builder.proofs.Bodies.{taken_out, ended_cause, ended_in, ended_ends, same_built}
+use Rattle.image_builder.proofs.Taking.{taken_out, ended_cause, ended_in, ended_ends, same_built}
 use Rattle.image_builder.proofs.body.end_body.Goals as goal
 
 pub returns-in_err-bytes : goal.returns-in_err-bytes

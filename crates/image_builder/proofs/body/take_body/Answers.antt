@@ -1,27 +1,16 @@
 use Rattle.std.proofs.Common.{inr, ap, ◌∙◌, arith}
-use Rattle.std.specs.Prelude.{slice_index, Ok}
+use Rattle.std.specs.Prelude.{Ok}
 use Rattle.std.proofs.lemmas.Result.{err_from_is_err_and}
 use Rattle.colon_bodies.specs.Draft.{token}
 use Rattle.image_builder.specs.Places.{place}
-use Rattle.image_builder.proofs.Bodies.{means, means_fault, end_fault, draft_in, goes_out, word_fault, at_title, inside_goes, ends_goes}
+use Rattle.image_builder.proofs.Taking.{means, means_fault, end_fault, draft_in, goes_out, word_fault, at_title, inside_goes, ends_goes}
 use Rattle.image_builder.proofs.body.take_body.Goals as goal
 
 pub draft_word-requires-clause-drafting : goal.draft_word-requires-clause-drafting
-draft_word-requires-clause-drafting c =
-    let s = c.requires.somewhere in
-    let h = s.is in
-    let d = h.drafts in
-    let e = at_title c.args.b.now s.items s.place c.args.p.name.items c.here.result c.len.result h.built c.here.ensures.address (omega (arith, c.args.p.name.ok.0)) s.titled.1 in
-    record { rt = slice_index c.args.b.now.runtime.items; outer = d.outer; body = d.body; half = d.half; is = (draft_in c.args.b.now s.items s.words s.place s.before _ h e).is }
+draft_word-requires-clause-drafting c = search (arith, at_title, draft_in)
 
 pub draft_word-requires-clause-room : goal.draft_word-requires-clause-room
-draft_word-requires-clause-room c =
-    let s = c.requires.somewhere in
-    let h = s.is in
-    let d = h.drafts in
-    let e = at_title c.args.b.now s.items s.place c.args.p.name.items c.here.result c.len.result h.built c.here.ensures.address (omega (arith, c.args.p.name.ok.0)) s.titled.1 in
-    let room' = d.room in
-    omega arith
+draft_word-requires-clause-room c = grind (arith, at_title, c.requires.somewhere)
 
 pub draft_word-requires-clause-limit : goal.draft_word-requires-clause-limit
 draft_word-requires-clause-limit c = let s = c.requires.somewhere in let h = s.is in let b = h.built in b.limited.1

@@ -1,9 +1,7 @@
 use Rattle.std.proofs.Common.{◌∙◌}
 use Rattle.image_builder.specs.Spelled.{all_placed}
 use Rattle.image_builder.specs.Sources.{source_of}
-use Rattle.image_builder.proofs.Held.{held_building, is_read}
-use Rattle.image_builder.proofs.Refusing.{stopped_refused, ended_refused, built_of, refused_by}
-use Rattle.image_builder.proofs.Disks.{built_of_read, refused_at_once}
+use Rattle.image_builder.proofs.Screens.{held_building, is_read, stopped_refused, ended_refused, built_of, refused_by, built_of_read, refused_at_once}
 use Rattle.block_buffers.proofs.Likeness.{like_none}
 use Rattle.image_builder.proofs.building.build.Goals as goal
 

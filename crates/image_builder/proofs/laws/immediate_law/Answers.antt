@@ -1,4 +1,4 @@
-use Rattle.image_builder.proofs.Fields.{marks_say}
+use Rattle.image_builder.proofs.Chained.{marks_say}
 use Rattle.image_builder.proofs.laws.immediate_law.Goals as goal
 
 pub returns : goal.returns

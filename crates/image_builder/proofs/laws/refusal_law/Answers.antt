@@ -1,5 +1,4 @@
-use Rattle.image_builder.proofs.OneRefusal.{one_refusal, refused_at, good_refused}
-use Rattle.image_builder.proofs.Refusing.{fault_of_source}
+use Rattle.image_builder.proofs.Screens.{one_refusal, refused_at, good_refused, fault_of_source}
 use Rattle.image_builder.proofs.laws.refusal_law.Goals as goal
 
 pub returns-clause-one : goal.returns-clause-one

@@ -25,5 +25,4 @@ pub index_mut-requires : goal.index_mut-requires
 index_mut-requires c =
     let x = c.requires.building in
     let h = c.in_ok-make_header.ensures.headed c.args.b.now.limit x.items (place c.args.p) (refl, refl) x.is x.sound in
-    let a = h.all in
-    omega (arith, a, c.requires.number, c.make_header.new.b.runtime.ok.0)
+    grind arith

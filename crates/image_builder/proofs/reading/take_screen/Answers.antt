@@ -1,10 +1,8 @@
-use Rattle.std.proofs.Common.{◌≡◌, ◌<◌, ◌≤◌, sym, ◌∙◌, subst, refl, ap, inl, inr, length, arith, Some}
-use Rattle.std.specs.Prelude.{IfSome}
-use Rattle.block_buffers.specs.Calls.{Reads}
+use Rattle.std.proofs.Common.{◌<◌, ◌≤◌, sym, ◌∙◌, subst, refl, ap, inl, inr, length, arith, Some}
 use Rattle.block_buffers.proofs.Likeness.{none_like, none_made, read_like, read_told}
 use Rattle.source_words.specs.Words.{screen_words}
 use Rattle.image_builder.specs.Reading.{TakesAll}
-use Rattle.image_builder.proofs.Midways.{asked_then, held_after, read_done, read_failed, screen_taken}
+use Rattle.image_builder.proofs.Screens.{asked_then, held_after, read_done, read_failed, screen_taken}
 use Rattle.image_builder.proofs.reading.take_screen.Goals as goal
 
 pub returns-clause-taken : goal.returns-clause-taken
@@ -18,10 +16,7 @@ pub returns-clause-held : goal.returns-clause-held
 returns-clause-held g c = held_after c.args.mode (screen_words c.args.mode c.args.screen c.read.new.page) c.take_words.result c.args.compilation.now c.take_words.new.compilation c.requires c.take_words.ensures
 
 pub returns-clause-like : goal.returns-clause-like
-returns-clause-like g c = λ d e.
-    let t = subst (λ o. IfSome o (λ x. Reads x c.args.screen (g.D.Device.disk c.read.new.self) c.read.new.page c.read.result)) e c.read.ensures.told in
-    let n = subst (λ o. IfSome o (λ x. c.count-count.result ≡ length x.blocks)) e c.count-count.ensures.told in
-    read_like d _ _ c.args.screen c.read.new.page c.read.result _ _ (sym c.count-count.ensures.value ∙ n) c.read.ensures.logged t
+returns-clause-like g c = grind (arith, read_like)
 
 pub returns-clause-asked : goal.returns-clause-asked
 returns-clause-asked g c = asked_then c.args.screen _ c.take_words.result c.read.new.page c.read.result _ _ (omega (arith, c.count-count.ensures.value, c.if-from-count.false, c.from.ensures)) (sym c.is_err.ensures.value ∙ c.if-is_err.false) c.read.ensures.logged
@@ -33,10 +28,7 @@ returns-then-is_err-clause-taken g c = λ d e did limit front h.
     (refl, h, inl (read_failed d c.args.screen c.read.result c.read.new.page (Some e) (g.D.Device.calls c.args.device.now) (g.D.Device.calls c.read.new.self) (sym c.is_err.ensures.value ∙ c.if-is_err.true) less t c.read.ensures.logged))
 
 pub returns-then-is_err-clause-like : goal.returns-then-is_err-clause-like
-returns-then-is_err-clause-like g c = λ d e.
-    let t = subst (λ o. IfSome o (λ x. Reads x c.args.screen (g.D.Device.disk c.read.new.self) c.read.new.page c.read.result)) e c.read.ensures.told in
-    let n = subst (λ o. IfSome o (λ x. c.count-count.result ≡ length x.blocks)) e c.count-count.ensures.told in
-    read_like d _ _ c.args.screen c.read.new.page c.read.result _ _ (sym c.count-count.ensures.value ∙ n) c.read.ensures.logged t
+returns-then-is_err-clause-like g c = grind (arith, read_like)
 
 pub returns-then-from-count-clause-taken : goal.returns-then-from-count-clause-taken
 returns-then-from-count-clause-taken g c = λ d e did limit front h.
@@ -44,6 +36,4 @@ returns-then-from-count-clause-taken g c = λ d e did limit front h.
     (refl, h, inr (record { past = past; disk = ap Some (none_made d e _ _ did); failures = refl }))
 
 pub returns-then-from-count-clause-like : goal.returns-then-from-count-clause-like
-returns-then-from-count-clause-like g c = λ d e.
-    let n = subst (λ o. IfSome o (λ x. c.count-count.result ≡ length x.blocks)) e c.count-count.ensures.told in
-    none_like d _ _ _ (sym c.count-count.ensures.value ∙ n) e
+returns-then-from-count-clause-like g c = grind (arith, none_like)

@@ -1,32 +1,24 @@
-use Rattle.std.proofs.Common.{[], refl, arith, ◌+◌, ◌∙◌}
+use Rattle.std.proofs.Common.{arith, ◌+◌}
 use Rattle.std.proofs.lemmas.Result.{err_from_is_err_and}
-use Rattle.image_builder.proofs.Held.{held_own, held_as}
-use Rattle.image_builder.proofs.Screens.{none_underway, screens_more_read, screens_stop, all_screens, never_began}
+use Rattle.image_builder.proofs.Screens.{held_own, held_as, none_underway, screens_more_read, screens_stop, all_screens, never_began}
 use Rattle.block_buffers.proofs.Likeness.{like_none, like_so_far}
 use Rattle.block_buffers.proofs.ReadPages.{as_many, none_read, one_read}
 use Rattle.image_builder.proofs.reading.take_screens.Goals as goal
 
 pub loop-screen-init : goal.loop-screen-init
-loop-screen-init g c = record {
-  held = record { front = []; holds = c.requires };
-  within = λ h. absurd (omega arith);
-  above = omega arith;
-  counted = refl;
-  read = none_read c.args.from _ _;
-  like = λ d e. like_none d _ _ _ _ c.count.ensures.value c.count.ensures.told e;
-  taken = λ d e did. none_underway d e c.args.from _ c.args.compilation.now _ c.requires did;
-}
+loop-screen-init g c = search (arith, none_read, like_none, none_underway)
 
 pub loop-screen-preserved : goal.loop-screen-preserved
-loop-screen-preserved g c = record {
-  held = held_as c.loop-screen.compilation c.take_screen.new.compilation c.loop-screen.invariant.held c.in_ok-mode.ensures.held;
-  within = λ h. omega arith;
-  above = omega (arith, c.loop-screen.invariant.above);
-  counted = c.take_screen.ensures.counted ∙ c.loop-screen.invariant.counted;
-  read = one_read c.args.from c.loop-screen.screen _ _ _ _ _ c.loop-screen.invariant.above c.loop-screen.invariant.counted c.loop-screen.invariant.read c.in_ok-mode.ensures.asked;
-  like = λ d e. like_so_far d _ _ _ _ _ _ _ c.loop-screen.invariant.counted (c.loop-screen.invariant.like d e) c.take_screen.ensures.like;
-  taken = λ d e did. screens_more_read d e c.args.from c.loop-screen.screen _ _ _ _ _ _ _ _ _ _ c.loop-screen.invariant.counted c.loop-screen.invariant.read c.in_ok-mode.ensures.asked c.loop-screen.invariant.taken c.in_ok-mode.ensures.taken did;
-}
+loop-screen-preserved g c =
+    record {
+      held = held_as c.loop-screen.compilation c.take_screen.new.compilation c.loop-screen.invariant.held c.in_ok-mode.ensures.held;
+      within = λ h. omega arith;
+      above = omega (arith, c.loop-screen.invariant.above);
+      counted = grind arith;
+      read = one_read c.args.from c.loop-screen.screen _ _ _ _ _ c.loop-screen.invariant.above c.loop-screen.invariant.counted c.loop-screen.invariant.read c.in_ok-mode.ensures.asked;
+      like = λ d e. like_so_far d _ _ _ _ _ _ _ c.loop-screen.invariant.counted (c.loop-screen.invariant.like d e) c.take_screen.ensures.like;
+      taken = λ d e did. screens_more_read d e c.args.from c.loop-screen.screen _ _ _ _ _ _ _ _ _ _ c.loop-screen.invariant.counted c.loop-screen.invariant.read c.in_ok-mode.ensures.asked c.loop-screen.invariant.taken c.in_ok-mode.ensures.taken did;
+    }
 
 pub returns-in_err-mode-clause-taken : goal.returns-in_err-mode-clause-taken
 returns-in_err-mode-clause-taken g c = λ d e did.

@@ -1,12 +1,12 @@
+use Rattle.std.proofs.Common.{arith}
 use Rattle.std.proofs.lemmas.Result.{err_from_is_err_and}
 use Rattle.source_words.specs.Words.{screen_words}
 use Rattle.source_words.specs.Scanned.{source_word}
-use Rattle.image_builder.proofs.Midways.{none_taken, one_taken, one_refused, all_taken, held_midway}
+use Rattle.image_builder.proofs.Screens.{none_taken, one_taken, one_refused, all_taken, held_midway}
 use Rattle.image_builder.proofs.reading.take_words.Goals as goal
 
 pub loop-word-init : goal.loop-word-init
-loop-word-init c = λ limit.
-    none_taken c.args.mode (screen_words c.args.mode c.args.screen c.args.text.now) c.args.compilation.now c.new-scanner.result c.new-scanner.ensures.left c.new-scanner.ensures.mode
+loop-word-init c = grind (arith, none_taken)
 
 pub loop-word-preserved : goal.loop-word-preserved
 loop-word-preserved c = λ limit.

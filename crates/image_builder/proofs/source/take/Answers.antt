@@ -1,7 +1,7 @@
 use Rattle.std.proofs.Common.{subst}
 use Rattle.image_builder.specs.Places.{place}
 use Rattle.image_builder.specs.State.{Shows}
-use Rattle.image_builder.proofs.Dispatch.{at_whole, at_due, at_chosen, at_inside}
+use Rattle.image_builder.proofs.Taking.{at_whole, at_due, at_chosen, at_inside}
 use Rattle.image_builder.proofs.source.take.Goals as goal
 
 pub returns-in-Whole : goal.returns-in-Whole

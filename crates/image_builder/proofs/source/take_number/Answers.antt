@@ -1,6 +1,6 @@
 use Rattle.image_builder.specs.Places.{place}
 use Rattle.image_builder.specs.Stages.{Counted}
-use Rattle.image_builder.proofs.Dispatch.{taken_at}
+use Rattle.image_builder.proofs.Taking.{taken_at}
 use Rattle.image_builder.proofs.source.take_number.Goals as goal
 
 pub returns-in-None : goal.returns-in-None

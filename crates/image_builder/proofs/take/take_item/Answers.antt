@@ -1,7 +1,7 @@
-use Rattle.std.proofs.Common.{◌++◌, ◌∷◌, [], refl, sym, ◌∙◌}
+use Rattle.std.proofs.Common.{◌++◌, ◌∷◌, [], refl, arith}
 use Rattle.image_builder.specs.Places.{place}
 use Rattle.image_builder.specs.declared.entry.Kind.TheVariants as k
-use Rattle.image_builder.specs.declared.entry.Lead.TheVariants.{Makes, Defines, Starts}
+use Rattle.image_builder.specs.declared.entry.Lead.TheVariants.{Makes, Defines}
 use Rattle.image_builder.proofs.Taking.{item_due, item_counted, item_immediate}
 use Rattle.image_builder.proofs.take.take_item.Goals as goal
 
@@ -25,6 +25,4 @@ returns-else-not-has_names c = λ t ws after h.
     item_immediate c.args.b.now c.set_immediate.new.b t ws (place c.args.w) h c.in-Immediate.is (c.has_names.ensures.0 c.if-not-has_names.false) (c.set_immediate.ensures.built c.args.b.now.limit t (ws ++ place c.args.w ∷ []) h.built) c.set_immediate.ensures.kept
 
 pub returns-in-None : goal.returns-in-None
-returns-in-None c = λ t ws after h.
-    let i = h.built in
-    item_due c.args.b.now t ws (place c.args.w) Starts h (place c.args.w, refl, c.in-Boot.is) (sym i.boot_is ∙ c.in-None.is)
+returns-in-None c = grind (arith, item_due)

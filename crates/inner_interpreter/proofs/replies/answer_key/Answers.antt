@@ -1,7 +1,6 @@
 use Rattle.std.proofs.Common.{refl}
 use Rattle.machine.specs.Answer as answering
 use Rattle.inner_interpreter.proofs.Faultless.{told_ok}
-use Rattle.inner_interpreter.proofs.Lining.{kept_unread}
 use Rattle.inner_interpreter.proofs.replies.answer_key.Goals as goal
 
 pub returns-in-Ok-Some-clause-read : goal.returns-in-Ok-Some-clause-read
@@ -9,6 +8,3 @@ returns-in-Ok-Some-clause-read g c = told_ok _ _ (answering.Key c.in-Ok-Some.byt
 
 pub returns-in-Ok-None-clause-read : goal.returns-in-Ok-None-clause-read
 returns-in-Ok-None-clause-read g c = told_ok _ _ (answering.InputEnd) _ _ c.requires.goes c.answer-in-Ok-None.ensures.done c.answer-in-Ok-None.ensures.not_asked c.unwrap-in-Ok-None.ensures refl
-
-pub returns-in-Err-clause-left : goal.returns-in-Err-clause-left
-returns-in-Err-clause-left g c = λ typed e. kept_unread _ _ _ e c.in-Err.ensures.bytes

@@ -9,9 +9,3 @@ returns-in-Key-clause-answered g c = c.answer_key.ensures.answered (g.D.Device.c
 
 pub returns-in-Line-clause-answered : goal.returns-in-Line-clause-answered
 returns-in-Line-clause-answered g c = c.answer_line.ensures.answered (g.D.Device.calls c.args.device.now)
-
-pub returns-in-Read-clause-answered : goal.returns-in-Read-clause-answered
-returns-in-Read-clause-answered g c = c.answer_read.ensures.answered (g.R.Input.reads c.args.reader.now)
-
-pub returns-in-Write-clause-answered : goal.returns-in-Write-clause-answered
-returns-in-Write-clause-answered g c = c.answer_write.ensures.answered (g.R.Input.reads c.args.reader.now)

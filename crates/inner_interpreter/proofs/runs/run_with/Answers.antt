@@ -1,4 +1,4 @@
-use Rattle.std.proofs.Common.{rules, arith, ◌≡◌, None, Some, true, false, ap, Err, ◌∙◌}
+use Rattle.std.proofs.Common.{rules, arith, true, false, ap, Err, ◌∙◌}
 use Rattle.inner_interpreter.specs.declared.stop.Stop.TheVariants as stop
 use Rattle.inner_interpreter.specs.Tracing.{EndsTraced}
 use Rattle.inner_interpreter.proofs.Moving.{moved_as}
@@ -34,8 +34,7 @@ loop-cause-preserved g c = record {
 pub returns-in-Some-clause-runs : goal.returns-in-Some-clause-runs
 returns-in-Some-clause-runs g c = record {
   whole = λ fine good kept w at.
-      let halts : c.loop-cause.machine.halt ≡ Some c.in-Some.cause = search rules in
-      let ends = made_cause _ _ w _ _ _ _ _ _ _ _ _ c.in-Some.cause halts c.finish.ensures.bytes c.finish.ensures.lines (c.loop-cause.invariant.made w at) in
+      let ends = made_cause _ _ w _ _ _ _ _ _ _ _ _ c.in-Some.cause (search rules) c.finish.ensures.bytes c.finish.ensures.lines (c.loop-cause.invariant.made w at) in
       done_so c.finish.result c.stop_by_cause.result _ _ _ _
       (EndsTraced _ _ w c.loop-cause.machine (g.R.Input.unread c.loop-cause.reader) (g.D.Device.disk c.loop-cause.device) (g.W.Output.sent c.finish.new.writer) _ (g.T.Output.sent c.finish.new.trace))
       c.finish.ensures.done good kept (rw c.stop_by_cause.ensures ends);
@@ -48,12 +47,10 @@ returns-in-Some-clause-runs g c = record {
   };
   trace_told = search rules;
   cut = λ fine failed w at.
-      let halts : c.loop-cause.machine.halt ≡ Some c.in-Some.cause = search rules in
-      made_cut _ _ w _ _ _ _ _ _ _ (made_cause _ _ w _ _ _ _ _ _ _ _ _ c.in-Some.cause halts c.finish.ensures.bytes c.finish.ensures.lines (c.loop-cause.invariant.made w at));
+      made_cut _ _ w _ _ _ _ _ _ _ (made_cause _ _ w _ _ _ _ _ _ _ _ _ c.in-Some.cause (search rules) c.finish.ensures.bytes c.finish.ensures.lines (c.loop-cause.invariant.made w at));
   faulted = search rules;
   untraced = λ fine failed w at.
-      let halts : c.loop-cause.machine.halt ≡ Some c.in-Some.cause = search rules in
-      made_untraced _ _ w _ _ _ _ _ _ _ (made_cause _ _ w _ _ _ _ _ _ _ _ _ c.in-Some.cause halts c.finish.ensures.bytes c.finish.ensures.lines (c.loop-cause.invariant.made w at));
+      made_untraced _ _ w _ _ _ _ _ _ _ (made_cause _ _ w _ _ _ _ _ _ _ _ _ c.in-Some.cause (search rules) c.finish.ensures.bytes c.finish.ensures.lines (c.loop-cause.invariant.made w at));
   passed = search rules;
   moved = traced_run _ c.loop-cause.invariant.few (λ q. absurd (not_limit c.in-Some.cause _ _ _ _ _ _ c.stop_by_cause.ensures c.finish.ensures.done q))
       (traced_kept _ c.finish.ensures.bytes c.finish.ensures.lines c.loop-cause.invariant.traced);
@@ -62,26 +59,18 @@ returns-in-Some-clause-runs g c = record {
 pub returns-then-left-eq0-clause-runs : goal.returns-then-left-eq0-clause-runs
 returns-then-left-eq0-clause-runs g c = record {
   whole = λ fine good kept w at.
-      let goes : c.loop-cause.machine.halt ≡ None = search rules in
-      let ends = made_limit _ _ w _ _ _ _ _ _ _ _ _ goes c.if-left-eq0.true c.finish-then-left-eq0.ensures.bytes c.finish-then-left-eq0.ensures.lines (c.loop-cause.invariant.made w at) in
+      let ends = made_limit _ _ w _ _ _ _ _ _ _ _ _ (search rules) c.if-left-eq0.true c.finish-then-left-eq0.ensures.bytes c.finish-then-left-eq0.ensures.lines (c.loop-cause.invariant.made w at) in
       done_so c.finish-then-left-eq0.result stop.Limit _ _ _ _
       (EndsTraced _ _ w c.loop-cause.machine (g.R.Input.unread c.loop-cause.reader) (g.D.Device.disk c.loop-cause.device) (g.W.Output.sent c.finish-then-left-eq0.new.writer) _ (g.T.Output.sent c.finish-then-left-eq0.new.trace))
       c.finish-then-left-eq0.ensures.done good kept ends;
   ended = search rules;
-  ends_told = record {
-    output = search rules;
-    input = search rules;
-    one = search rules;
-    told = search rules;
-  };
+  ends_told = search rules;
   trace_told = search rules;
   cut = λ fine failed w at.
-      let goes : c.loop-cause.machine.halt ≡ None = search rules in
-      made_cut _ _ w _ _ _ _ _ _ _ (made_limit _ _ w _ _ _ _ _ _ _ _ _ goes c.if-left-eq0.true c.finish-then-left-eq0.ensures.bytes c.finish-then-left-eq0.ensures.lines (c.loop-cause.invariant.made w at));
+      made_cut _ _ w _ _ _ _ _ _ _ (made_limit _ _ w _ _ _ _ _ _ _ _ _ (search rules) c.if-left-eq0.true c.finish-then-left-eq0.ensures.bytes c.finish-then-left-eq0.ensures.lines (c.loop-cause.invariant.made w at));
   faulted = search rules;
   untraced = λ fine failed w at.
-      let goes : c.loop-cause.machine.halt ≡ None = search rules in
-      made_untraced _ _ w _ _ _ _ _ _ _ (made_limit _ _ w _ _ _ _ _ _ _ _ _ goes c.if-left-eq0.true c.finish-then-left-eq0.ensures.bytes c.finish-then-left-eq0.ensures.lines (c.loop-cause.invariant.made w at));
+      made_untraced _ _ w _ _ _ _ _ _ _ (made_limit _ _ w _ _ _ _ _ _ _ _ _ (search rules) c.if-left-eq0.true c.finish-then-left-eq0.ensures.bytes c.finish-then-left-eq0.ensures.lines (c.loop-cause.invariant.made w at));
   passed = search rules;
   moved = traced_run _ c.loop-cause.invariant.few (λ q. c.if-left-eq0.true)
       (traced_kept _ c.finish-then-left-eq0.ensures.bytes c.finish-then-left-eq0.ensures.lines c.loop-cause.invariant.traced);
@@ -91,12 +80,7 @@ pub returns-in-Err-clause-runs : goal.returns-in-Err-clause-runs
 returns-in-Err-clause-runs g c = record {
   whole = search rules;
   ended = search rules;
-  ends_told = record {
-    output = search rules;
-    input = search rules;
-    one = search rules;
-    told = search rules;
-  };
+  ends_told = search rules;
   trace_told = search rules;
   cut = search rules;
   faulted = search rules;
@@ -110,12 +94,7 @@ pub returns-in-Err-Reader-clause-runs : goal.returns-in-Err-Reader-clause-runs
 returns-in-Err-Reader-clause-runs g c = record {
   whole = search rules;
   ended = search rules;
-  ends_told = record {
-    output = search rules;
-    input = search rules;
-    one = search rules;
-    told = search rules;
-  };
+  ends_told = search rules;
   trace_told = search rules;
   cut = search rules;
   faulted = λ fine fails w at.
@@ -131,12 +110,7 @@ pub returns-in-Err-Writer-clause-runs : goal.returns-in-Err-Writer-clause-runs
 returns-in-Err-Writer-clause-runs g c = record {
   whole = search rules;
   ended = search rules;
-  ends_told = record {
-    output = search rules;
-    input = search rules;
-    one = search rules;
-    told = search rules;
-  };
+  ends_told = search rules;
   trace_told = search rules;
   cut = λ fine fails w at.
       rounds_cut _ _ w c.loop-cause.machine _ _ _ _ _ _ _ _ _ _ _ (search rules) (omega arith) (search rules) (λ v here. rw (← c.extent-extent.ensures) (c.make_rounds.ensures.cut (c.in-Err-Writer.is ∙ ap Err c.in-Err-Writer.field-0-is) v here)) (c.loop-cause.invariant.made w at);

@@ -1,5 +1,5 @@
 use Rattle.std.proofs.Common.{arith, ◌∙◌}
-use Rattle.inner_interpreter.proofs.Sending.{appends_more, part_kept}
+use Rattle.inner_interpreter.proofs.Sending.{appends_more}
 use Rattle.inner_interpreter.proofs.sends.send_all.Goals as goal
 
 pub loop-sent-preserved : goal.loop-sent-preserved
@@ -8,6 +8,3 @@ loop-sent-preserved g c = record {
   told = appends_more _ _ _ c.loop-sent.sent c.in-Ok.count c.args.bytes.now c.loop-sent.invariant.told c.in-Ok.ensures.bytes;
   mark = c.in-Ok.ensures.mark ∙ c.loop-sent.invariant.mark;
 }
-
-pub returns-in-Err-clause-err : goal.returns-in-Err-clause-err
-returns-in-Err-clause-err g c = part_kept _ _ _ c.loop-sent.sent _ (omega arith) c.loop-sent.invariant.told c.in-Err.ensures.bytes

@@ -1,9 +1,8 @@
 use Rattle.memory.specs.Mirrored.{stored}
-use Rattle.std.proofs.Common.{rules, arith, ◌≡◌, ◌-◌, ◌==◌, ◌∷◌, ◌++◌, [], suc, subst, sym, false}
-use Rattle.memory.specs.Bytes.{cell}
+use Rattle.std.proofs.Common.{rules, arith, ◌≡◌, ◌-◌, subst}
 use Rattle.std.proofs.lemmas.Bool.{eqb-true}
 use Rattle.metacompiler.specs.Residency.{Walked}
-use Rattle.metacompiler.proofs.Chaining.{walked_none, walked_more, walked_all}
+use Rattle.metacompiler.proofs.Residence.{walked_none, walked_more, walked_all}
 use Rattle.metacompiler.proofs.checking.push_chain.Goals as goal
 
 pub loop-left-init : goal.loop-left-init
@@ -14,15 +13,7 @@ returns-then-l-eq0 c = λ _. let e : c.loop-left.l ≡ 0 = search rules in
     walked_all (stored c.args.memory.now) c.args.head c.args.headers.now.items c.loop-left.headers.items c.loop-left.left (subst (λ n. Walked (stored c.args.memory.now) c.args.head c.args.headers.now.items c.loop-left.headers.items n c.loop-left.left) e c.loop-left.invariant)
 
 pub loop-left-preserved : goal.loop-left-preserved
-loop-left-preserved c =
-    let e : c.loop-left.left ≡ suc (c.loop-left.left - 1) = omega (arith, c.loop-left-test.true) in
-    let h = subst (λ n. Walked (stored c.args.memory.now) c.args.head c.args.headers.now.items c.loop-left.headers.items c.loop-left.l n) e c.loop-left.invariant in
-    let z : (c.loop-left.l == 0) ≡ false = search rules in
-    let items : c.push.new.self.items ≡ c.loop-left.headers.items ++ (c.loop-left.l ∷ []) = search rules in
-    let next : c.cell-l-in-loop-left.result ≡ cell (stored c.args.memory.now) c.loop-left.l = c.cell-l-in-loop-left.ensures in
-    subst (λ n. Walked (stored c.args.memory.now) c.args.head c.args.headers.now.items c.push.new.self.items n (c.loop-left.left - 1)) (sym next)
-    (subst (λ xs. Walked (stored c.args.memory.now) c.args.head c.args.headers.now.items xs (cell (stored c.args.memory.now) c.loop-left.l) (c.loop-left.left - 1)) (sym items)
-    (walked_more (stored c.args.memory.now) c.args.head c.args.headers.now.items c.loop-left.headers.items c.loop-left.l (c.loop-left.left - 1) h z))
+loop-left-preserved c = grind (arith, rules, walked_more)
 
 pub returns : goal.returns
 returns c = λ t. let e : c.loop-left.l ≡ 0 = eqb-true c.loop-left.l 0 t in

@@ -2,7 +2,7 @@ use Rattle.memory.specs.Mirrored.{stored}
 use Rattle.std.proofs.Common.{rules, ◌+◌}
 use Rattle.cells.specs.Cell.{wrap}
 use Rattle.metacompiler.specs.Residency.{Joined, JoinedAll}
-use Rattle.metacompiler.proofs.Chaining.{joined_all, where_true}
+use Rattle.metacompiler.proofs.Residence.{joined_all, where_true}
 use Rattle.metacompiler.proofs.checking.push_vocabulary.Goals as goal
 
 pub returns : goal.returns

@@ -1,4 +1,4 @@
-use Rattle.metacompiler.proofs.Agreeing.{agree, enough}
+use Rattle.metacompiler.proofs.Residents.{agree, enough}
 use Rattle.metacompiler.proofs.laws.agree_law.Goals as goal
 
 pub returns-clause-agree : goal.returns-clause-agree

@@ -1,4 +1,4 @@
-use Rattle.metacompiler.proofs.Turn.{turn_six, turn_eight, turn_four}
+use Rattle.metacompiler.proofs.Turns.{turn_six, turn_eight, turn_four}
 use Rattle.metacompiler.proofs.laws.turn_law.Goals as goal
 
 pub returns-clause-compiled : goal.returns-clause-compiled

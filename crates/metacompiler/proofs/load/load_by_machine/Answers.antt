@@ -3,10 +3,9 @@ use Rattle.std.specs.Prelude.{IfOk, IfErr, Err}
 use Rattle.std.proofs.lemmas.Result.{IfOk-weaker}
 use Rattle.block_buffers.specs.Disks.{Disk}
 use Rattle.machine.specs.State.{State, start}
-use Rattle.machine.specs.Tick.{Runs}
 use Rattle.metacompiler.specs.Loaded.{interpret_in, by_interpret, loaded_by_machine, IsLoaded}
 use Rattle.metacompiler.specs.Moved.{stage, word_for, HasRead}
-use Rattle.metacompiler.proofs.Agreeing.{compiles_by}
+use Rattle.metacompiler.proofs.Residents.{compiles_by}
 use Rattle.metacompiler.proofs.Moving.{refused_saved, unloaded, not_read}
 use Rattle.metacompiler.proofs.load.load_by_machine.Goals as goal
 
@@ -28,10 +27,9 @@ returns g c = record {
     told d q =
         let count : c.count-count.result ≡ length d.blocks = rw q at c.count-count.ensures.told in
         let m : c.load-machine.result ≡ start c.args.image.now (length d.blocks) = c.load-machine.ensures ∙ ap (λ n. start c.args.image.now n) count in
-        let runs : Runs c.load-machine.result = rw m (refl, refl) in
         subst (λ (s : State). IsLoaded d (by_interpret c.args.image.now.entry s.parts d c.args.from c.args.to c.args.limit (interpret_in s.parts.memory)) c.load_on.result (g.D.Device.disk c.load_on.new.device)) m
         (subst (λ e. IsLoaded d (by_interpret e c.load-machine.result.parts d c.args.from c.args.to c.args.limit (interpret_in c.load-machine.result.parts.memory)) c.load_on.result (g.D.Device.disk c.load_on.new.device)) c.entry.ensures
-        (c.load_on.ensures.told d q runs))
+        (c.load_on.ensures.told d q (rw m (refl, refl))))
 
 pub returns-in_default-clause-refused : goal.returns-in_default-clause-refused
 returns-in_default-clause-refused g c = unloaded _ _ refl

@@ -16,8 +16,7 @@ returns-then-not-is_end g c = record {
   moved = λ runs. let test = c.loop-screen-test.true in
       let e : c.args.to + 1 - c.loop-screen.screen ≡ suc (c.args.to - c.loop-screen.screen) = omega arith in
       let h = subst (λ n. IsReadOn c.args.interpret n c.loop-screen.screen (stage c.loop-screen.machine (g.D.Device.calls c.loop-screen.device) c.loop-screen.left) (AreRead c.args.interpret (c.args.to + 1 - c.args.from) c.args.from (stage c.args.machine.now (g.D.Device.calls c.args.device.now) c.args.left.now))) e (c.loop-screen.invariant.moved runs) in
-      let y : is_end c.load_screen-stop.result ≡ false = search rules in
-      stops_here c.args.interpret (c.args.to - c.loop-screen.screen) c.loop-screen.screen _ _ c.load_screen-stop.result _ h c.load_screen-stop.ensures.moved y;
+      stops_here c.args.interpret (c.args.to - c.loop-screen.screen) c.loop-screen.screen _ _ c.load_screen-stop.result _ h c.load_screen-stop.ensures.moved (search rules);
 }
 
 pub loop-screen-preserved : goal.loop-screen-preserved
@@ -25,15 +24,13 @@ loop-screen-preserved g c = record {
   told = λ d q runs. let test = c.loop-screen-test.true in
       let e : c.args.to + 1 - c.loop-screen.screen ≡ suc (c.args.to + 1 - (c.loop-screen.screen + 1)) = omega arith in
       let h = subst (λ n. AreSoFar c.args.interpret n c.loop-screen.screen (screens c.args.interpret (c.args.to + 1 - c.args.from) c.args.from c.args.left.now c.args.machine.now.parts d) c.loop-screen.machine (g.D.Device.disk c.loop-screen.device) c.loop-screen.left) e (c.loop-screen.invariant.told d q runs) in
-      let y : is_end c.load_screen-stop.result ≡ true = search rules in
-      let z = at_end c.load_screen-stop.result y in
+      let z = at_end c.load_screen-stop.result (search rules) in
       one_read c.args.interpret (c.args.to + 1 - (c.loop-screen.screen + 1)) c.loop-screen.screen _ c.loop-screen.machine c.load_screen-stop.new.machine _ _ c.loop-screen.left c.load_screen-stop.new.left h
       (λ f r goes. subst (λ v. StopsAt (rounds c.loop-screen.left (entered c.loop-screen.machine.parts c.args.interpret c.loop-screen.screen) f) c.load_screen-stop.new.machine (g.D.Device.disk c.load_screen-stop.new.device) c.load_screen-stop.new.left v) z (c.load_screen-stop.ensures.told f r goes));
   moved = λ runs. let test = c.loop-screen-test.true in
       let e : c.args.to + 1 - c.loop-screen.screen ≡ suc (c.args.to + 1 - (c.loop-screen.screen + 1)) = omega arith in
       let h = subst (λ n. IsReadOn c.args.interpret n c.loop-screen.screen (stage c.loop-screen.machine (g.D.Device.calls c.loop-screen.device) c.loop-screen.left) (AreRead c.args.interpret (c.args.to + 1 - c.args.from) c.args.from (stage c.args.machine.now (g.D.Device.calls c.args.device.now) c.args.left.now))) e (c.loop-screen.invariant.moved runs) in
-      let y : is_end c.load_screen-stop.result ≡ true = search rules in
-      let z = at_end c.load_screen-stop.result y in
+      let z = at_end c.load_screen-stop.result (search rules) in
       one_more c.args.interpret (c.args.to + 1 - (c.loop-screen.screen + 1)) c.loop-screen.screen _ _ _ h
       (λ goes. subst (λ v. IsLed (at_screen c.args.interpret c.loop-screen.screen (stage c.loop-screen.machine (g.D.Device.calls c.loop-screen.device) c.loop-screen.left)) (stage c.load_screen-stop.new.machine (g.D.Device.calls c.load_screen-stop.new.device) c.load_screen-stop.new.left) (Some v)) z (c.load_screen-stop.ensures.moved goes));
 }
@@ -53,20 +50,16 @@ returns g c = record {
 pub returns-else-not-is_end : goal.returns-else-not-is_end
 returns-else-not-is_end g c = record {
   told = λ d q runs. let test = c.loop-screen-test.true in
-      let last : c.loop-screen.screen ≡ c.args.to = omega arith in
       let e : c.args.to + 1 - c.loop-screen.screen ≡ suc 0 = omega arith in
       let h = subst (λ n. AreSoFar c.args.interpret n c.loop-screen.screen (screens c.args.interpret (c.args.to + 1 - c.args.from) c.args.from c.args.left.now c.args.machine.now.parts d) c.loop-screen.machine (g.D.Device.disk c.loop-screen.device) c.loop-screen.left) e (c.loop-screen.invariant.told d q runs) in
-      let y : is_end c.load_screen-stop.result ≡ true = search rules in
-      let z = at_end c.load_screen-stop.result y in
+      let z = at_end c.load_screen-stop.result (search rules) in
       all_read c.args.interpret (c.loop-screen.screen + 1) _ c.load_screen-stop.new.machine _ c.load_screen-stop.new.left
       (one_read c.args.interpret 0 c.loop-screen.screen _ c.loop-screen.machine c.load_screen-stop.new.machine _ _ c.loop-screen.left c.load_screen-stop.new.left h
       (λ f r goes. subst (λ v. StopsAt (rounds c.loop-screen.left (entered c.loop-screen.machine.parts c.args.interpret c.loop-screen.screen) f) c.load_screen-stop.new.machine (g.D.Device.disk c.load_screen-stop.new.device) c.load_screen-stop.new.left v) z (c.load_screen-stop.ensures.told f r goes)));
   moved = λ runs. let test = c.loop-screen-test.true in
-      let last : c.loop-screen.screen ≡ c.args.to = omega arith in
       let e : c.args.to + 1 - c.loop-screen.screen ≡ suc 0 = omega arith in
       let h = subst (λ n. IsReadOn c.args.interpret n c.loop-screen.screen (stage c.loop-screen.machine (g.D.Device.calls c.loop-screen.device) c.loop-screen.left) (AreRead c.args.interpret (c.args.to + 1 - c.args.from) c.args.from (stage c.args.machine.now (g.D.Device.calls c.args.device.now) c.args.left.now))) e (c.loop-screen.invariant.moved runs) in
-      let y : is_end c.load_screen-stop.result ≡ true = search rules in
-      let z = at_end c.load_screen-stop.result y in
+      let z = at_end c.load_screen-stop.result (search rules) in
       no_more c.args.interpret (c.loop-screen.screen + 1) _ _
       (one_more c.args.interpret 0 c.loop-screen.screen _ _ _ h
       (λ goes. subst (λ v. IsLed (at_screen c.args.interpret c.loop-screen.screen (stage c.loop-screen.machine (g.D.Device.calls c.loop-screen.device) c.loop-screen.left)) (stage c.load_screen-stop.new.machine (g.D.Device.calls c.load_screen-stop.new.device) c.load_screen-stop.new.left) (Some v)) z (c.load_screen-stop.ensures.moved goes)));

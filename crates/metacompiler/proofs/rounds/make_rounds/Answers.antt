@@ -7,10 +7,7 @@ use Rattle.metacompiler.proofs.Moving.{led_on, none_left}
 use Rattle.metacompiler.proofs.rounds.make_rounds.Goals as goal
 
 pub loop-left-init : goal.loop-left-init
-loop-left-init g c = record {
-  told = search rules;
-  moved = λ runs. record { goes = runs; leads = λ r y h. h };
-}
+loop-left-init g c = search (arith, rules)
 
 pub returns-in-Some : goal.returns-in-Some
 returns-in-Some g c = record {

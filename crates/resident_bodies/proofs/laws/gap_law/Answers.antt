@@ -1,5 +1,4 @@
-use Rattle.resident_bodies.proofs.Gaps.{gap, past}
-use Rattle.resident_bodies.proofs.Known.{rows}
+use Rattle.resident_bodies.proofs.Gaps.{gap, past, rows}
 use Rattle.resident_bodies.proofs.laws.gap_law.Goals as goal
 
 pub returns-clause-gap : goal.returns-clause-gap

@@ -15,11 +15,7 @@ use Rattle.see.proofs.Turning.{some_length, some_bytes, going_start, walk_end, w
 use Rattle.see.proofs.find.find.Goals as goal
 
 pub loop-next-init : goal.loop-next-init
-loop-next-init c = (
-  refl,
-  ap length c.in_ok-begins.ensures ∙ length-replicate _ _,
-  λ t e. going_start (slice_index c.args.runtime.now) t _ _ _ _ _ _ (ap (map token) c.new-words.ensures.items) c.in_ok-begins.ensures c.new-frames.ensures.items e,
-)
+loop-next-init c = grind (arith, length-replicate, going_start)
 
 pub returns-then-is_nothing : goal.returns-then-is_nothing
 returns-then-is_nothing c = λ t e.

@@ -4,7 +4,7 @@ use Rattle.colon_bodies.specs.Draft.{token}
 use Rattle.colon_bodies.specs.declared.words.BodyWord.TheVariants as w
 use Rattle.colon_bodies.proofs.Taking.{false_test}
 use Rattle.colon_bodies.proofs.Whole.{cut, more}
-use Rattle.see.proofs.Plainness.{plainly_on, plainly_not, not_true}
+use Rattle.see.proofs.Showing.{plainly_on, plainly_not, not_true}
 use Rattle.see.proofs.plain.are_plain.Goals as goal
 
 pub returns-then-not-is_plain_word : goal.returns-then-not-is_plain_word

@@ -1,7 +1,7 @@
 use Rattle.std.proofs.Common.{take, map}
 use Rattle.std.specs.Prelude.{slice_index}
 use Rattle.colon_bodies.specs.Draft.{token}
-use Rattle.see.proofs.Plainness.{Plainly}
+use Rattle.see.proofs.Showing.{Plainly}
 use Rattle.see.proofs.plain.are_plain.Given as goal
 
 abbrev pub invariant-loop-word : goal.invariant-loop-word

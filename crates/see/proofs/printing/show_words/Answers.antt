@@ -1,13 +1,11 @@
 use Rattle.memory.specs.Mirrored.{stored}
-use Rattle.std.proofs.Common.{add-one, rules}
+use Rattle.std.proofs.Common.{add-one, arith}
 use Rattle.colon_bodies.specs.declared.words.BodyWord.TheVariants as w
 use Rattle.see.proofs.Printed.{step_written, end_written, cells_on, cells_end, refused_here, fault_on, fault_none}
 use Rattle.see.proofs.printing.show_words.Goals as goal
 
 pub returns-in_err-show_word : goal.returns-in_err-show_word
-returns-in_err-show_word c =
-    let z = refused_here (stored c.args.memory.now) c.args.hidden c.args.words.now c.loop-word.word-index (w.Name 0) c.in_err-show_word.field-0.0 c.loop-word-test.true c.in_err-show_word.ensures c.loop-word.invariant.0 in
-    search rules
+returns-in_err-show_word c = grind (arith, refused_here (stored c.args.memory.now) c.args.hidden c.args.words.now c.loop-word.word-index (w.Name 0) c.in_err-show_word.field-0.0 c.loop-word-test.true c.in_err-show_word.ensures c.loop-word.invariant.0)
 
 pub loop-word-preserved : goal.loop-word-preserved
 loop-word-preserved c = rw add-one (

@@ -1,6 +1,6 @@
 use Rattle.std.proofs.Common.{ap, ◌∙◌}
 use Rattle.see.specs.Seen.{begins_at}
-use Rattle.see.proofs.Shutting.{begins_top}
+use Rattle.see.proofs.Growing.{begins_top}
 use Rattle.see.proofs.structures.body_start.Goals as goal
 
 pub returns : goal.returns

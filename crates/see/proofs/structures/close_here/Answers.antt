@@ -2,14 +2,11 @@ use Rattle.std.proofs.Common.{refl, arith}
 use Rattle.colon_bodies.specs.Draft.{token}
 use Rattle.colon_bodies.specs.declared.words.BodyWord.TheVariants as w
 use Rattle.colon_bodies.proofs.Taking.{false_test}
-use Rattle.see.proofs.Shutting.{shuts_turn, shuts_end}
+use Rattle.see.proofs.Growing.{shuts_turn, shuts_end}
 use Rattle.see.proofs.structures.close_here.Goals as goal
 
 pub loop-frames-smaller : goal.loop-frames-smaller
-loop-frames-smaller c =
-    let p = c.ends_here.ensures.some c.loop-frames-test.true in
-    let s = c.pop_frame.ensures.shorter (c.pop_frame.ensures.some p) in
-    omega (arith, s)
+loop-frames-smaller c = grind arith
 
 pub loop-frames-preserved : goal.loop-frames-preserved
 loop-frames-preserved c = λ at n f g b d s e.

@@ -3,7 +3,7 @@ use Rattle.colon_bodies.specs.Tree.{Body}
 use Rattle.colon_bodies.specs.Draft.{token}
 use Rattle.colon_bodies.specs.Structures.{Frames, In, shut}
 use Rattle.see.specs.Seen.{Seen}
-use Rattle.see.proofs.Shutting.{Shuts}
+use Rattle.see.proofs.Growing.{Shuts}
 use Rattle.see.proofs.structures.close_here.Given as goal
 
 abbrev pub invariant-loop-frames : goal.invariant-loop-frames

@@ -4,8 +4,7 @@ use Rattle.colon_bodies.specs.Tokens.{AGAIN, laid}
 use Rattle.colon_bodies.specs.Tree.{Again, words}
 use Rattle.see.specs.Seen.{frame_words}
 use Rattle.colon_bodies.specs.declared.words.BodyWord.TheVariants as w
-use Rattle.see.proofs.Cutting.{again_cut}
-use Rattle.see.proofs.Growing.{back_place, back_seen}
+use Rattle.see.proofs.Growing.{again_cut, back_place, back_seen}
 use Rattle.see.proofs.structures.take_again.Goals as goal
 
 pub returns-then-not-count_begin : goal.returns-then-not-count_begin

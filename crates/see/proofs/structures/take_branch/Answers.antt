@@ -1,5 +1,5 @@
 use Rattle.std.proofs.Common.{arith}
-use Rattle.see.proofs.Shutting.{branch_forward, branch_over, branch_back, start_back}
+use Rattle.see.proofs.Growing.{branch_forward, branch_over, branch_back, start_back}
 use Rattle.see.proofs.structures.take_branch.Goals as goal
 
 pub returns-then-here-to : goal.returns-then-here-to
@@ -13,8 +13,4 @@ returns-then-to-body_start c = λ within f g b d s e.
     c.take_repeat.ensures c.args.here f g b d s within c.requires (omega (arith, i, lt)) (branch_over f b c.args.here c.args.to _ (omega arith) (omega (arith, i, j, lt)) e)
 
 pub returns : goal.returns
-returns c = λ within f g b d s e.
-    let i = c.body_start.ensures f s.frames_are in
-    let j = start_back c.args.at f b c.args.here _ _ _ s in
-    let ge = c.if-to-body_start.false in
-    c.take_again.ensures c.args.frames.now.items within f g b d s (branch_back f b c.args.here c.args.to _ (omega arith) (omega (arith, i, j, ge)) e)
+returns c = grind (arith, start_back, branch_back)

@@ -4,8 +4,7 @@ use Rattle.colon_bodies.specs.Tokens.{UNTIL, laid}
 use Rattle.colon_bodies.specs.Tree.{Until, words}
 use Rattle.see.specs.Seen.{frame_words}
 use Rattle.colon_bodies.specs.declared.words.BodyWord.TheVariants as w
-use Rattle.see.proofs.Cutting.{if_cut, until_cut}
-use Rattle.see.proofs.Growing.{if_seen, back_place, back_seen}
+use Rattle.see.proofs.Growing.{if_cut, until_cut, if_seen, back_place, back_seen}
 use Rattle.see.proofs.structures.take_query.Goals as goal
 
 pub returns-then-here-to : goal.returns-then-here-to

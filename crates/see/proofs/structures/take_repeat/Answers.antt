@@ -7,8 +7,7 @@ use Rattle.see.specs.Places.{without_begins}
 use Rattle.see.specs.Seen.{frame_words, frames_of, top_frame, beneath, start}
 use Rattle.colon_bodies.specs.declared.words.BodyWord.TheVariants as w
 use Rattle.see.specs.declared.structures.Frame.TheVariants as k
-use Rattle.see.proofs.Cutting.{repeat_cut}
-use Rattle.see.proofs.Growing.{if_within, repeat_place, repeat_seen}
+use Rattle.see.proofs.Growing.{repeat_cut, if_within, repeat_place, repeat_seen}
 use Rattle.see.proofs.structures.take_repeat.Goals as goal
 
 pub returns-then-index-len : goal.returns-then-index-len

@@ -4,7 +4,7 @@ use Rattle.colon_bodies.specs.Draft.{token}
 use Rattle.colon_bodies.specs.declared.words.BodyWord.TheVariants as w
 use Rattle.colon_bodies.proofs.Taking.{laid-append}
 use Rattle.colon_bodies.proofs.Whole.{cut, more}
-use Rattle.see.proofs.Plainness.{not_true}
+use Rattle.see.proofs.Showing.{not_true}
 use Rattle.see.proofs.thread.fits.Goals as goal
 
 pub returns-then-k-left : goal.returns-then-k-left

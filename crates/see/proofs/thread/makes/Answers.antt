@@ -1,4 +1,4 @@
-use Rattle.std.proofs.Common.{sym, ◌∙◌}
+use Rattle.std.proofs.Common.{◌∙◌, arith}
 use Rattle.std.specs.Prelude.{slice_index}
 use Rattle.colon_bodies.specs.Draft.{token}
 use Rattle.colon_bodies.proofs.Taking.{false_test}
@@ -12,9 +12,7 @@ returns-then-used-words-clause-no c = λ d k e h.
     absurd (c.if-used-words.true (x.0 ∙ map_length token c.args.words.now))
 
 pub returns-else-used-words-clause-yes : goal.returns-else-used-words-clause-yes
-returns-else-used-words-clause-yes c = λ t.
-    made (slice_index c.args.runtime.now) c.args.at 65535 _ _ _ _ c.in-Ok.ensures.compiled
-    (c.if-used-words.false ∙ sym (map_length token c.args.words.now)) (sym c.deref.ensures.value ∙ c.is_same.ensures.0 t)
+returns-else-used-words-clause-yes c = grind (arith, made, map_length)
 
 pub returns-else-used-words-clause-no : goal.returns-else-used-words-clause-no
 returns-else-used-words-clause-no c = λ d k e h.
@@ -22,8 +20,7 @@ returns-else-used-words-clause-no c = λ d k e h.
     c.is_same.ensures.1 (c.deref.ensures.value ∙ x.1 ∙ h)
 
 pub returns-else-is_memory-clause-no : goal.returns-else-is_memory-clause-no
-returns-else-is_memory-clause-no c = λ d k e h.
-    absurd (false_test _ _ c.is_memory.ensures c.if-is_memory.false (compiles_well (slice_index c.args.runtime.now) c.args.at 65535 _ _ _ d k e c.in-Err.ensures.refused))
+returns-else-is_memory-clause-no c = grind (arith, false_test, compiles_well)
 
 pub returns-then-not-fits-clause-no : goal.returns-then-not-fits-clause-no
 returns-then-not-fits-clause-no c = λ d k e h.

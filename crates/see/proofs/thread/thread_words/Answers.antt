@@ -1,9 +1,6 @@
-use Rattle.std.proofs.Common.{map, refl, ap, subst, ◌∙◌, arith}
+use Rattle.std.proofs.Common.{map, refl, ap, ◌∙◌, arith}
 use Rattle.std.specs.Prelude.{slice_index}
 use Rattle.colon_bodies.specs.Draft.{token}
-use Rattle.see.specs.PlainWords.{ArePlainWords}
-use Rattle.see.specs.Shown.{Makes}
-use Rattle.colon_bodies.specs.declared.words.Half.TheVariants.{Free}
 use Rattle.colon_bodies.proofs.Taking.{false_test}
 use Rattle.see.proofs.Showing.{found_in, thread_compiles, shown, plainly}
 use Rattle.see.proofs.thread.thread_words.Goals as goal
@@ -27,13 +24,7 @@ returns-else-branch-clause-complete c = λ a d h.
     absurd (let z = c.if-branch.false in cc)
 
 pub returns-then-branch-clause-sound : goal.returns-then-branch-clause-sound
-returns-then-branch-clause-sound c =
-    let rt = slice_index c.args.runtime.now in (
-      c.are_apart.ensures.0 c.if-not-are_apart.false,
-      shown rt c.args.at c.args.bytes.now _
-          (subst (λ l. ArePlainWords rt Free (map token l)) c.deref.ensures.value (c.are_plain.ensures.0 c.if-not-are_plain.false))
-          (subst (λ l. Makes rt c.args.at c.args.bytes.now (map token l)) c.deref-in-Some.ensures.value (c.in_ok-makes-in-Some.ensures.yes c.if-branch.true)),
-    )
+returns-then-branch-clause-sound c = grind (arith, shown)
 
 pub returns-then-not-are_plain-clause-complete : goal.returns-then-not-are_plain-clause-complete
 returns-then-not-are_plain-clause-complete c = λ a d h.

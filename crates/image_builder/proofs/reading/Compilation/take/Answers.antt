@@ -1,7 +1,7 @@
 use Rattle.std.proofs.lemmas.Result.{err_from_is_err_and}
 use Rattle.source_words.specs.Scanned.{source_word}
 use Rattle.image_builder.specs.Places.{place}
-use Rattle.image_builder.proofs.Held.{word_taken, word_refused}
+use Rattle.image_builder.proofs.Screens.{word_taken, word_refused}
 use Rattle.image_builder.proofs.reading.Compilation.take.Goals as goal
 
 pub returns-in_err-self : goal.returns-in_err-self
