@@ -57,5 +57,6 @@ def with_table(readme: str, sources: List[Source]) -> Tuple[str, List[str]]:
 def sources_of(crate: pathlib.Path) -> List[Source]:
     """A crate's definitions, then its sources, the one that names the others first."""
     specs = sorted(path for path in crate.glob("specs/**/*.antt") if path.name != "Lib.antt")
-    code = sorted(crate.glob("src/**/*.rt"), key=lambda path: (path.name not in ("lib.rt", "main.rt"), str(path)))
+    code = [*crate.glob("src/**/*.rt"), *crate.glob("src/**/*.unproved")]
+    code.sort(key=lambda path: (path.stem not in ("lib", "main"), str(path)))
     return [Source(path.relative_to(crate).as_posix(), path.read_text(encoding="utf-8")) for path in specs + code]
