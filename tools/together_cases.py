@@ -225,6 +225,7 @@ class Prover:
 
     def __init__(self) -> None:
         self.asked: List[List[str]] = []
+        self.kept: List[pathlib.Path] = []
 
     def line(self, name: str, sign: str, body: str) -> str:
         """What is said of one function."""
@@ -234,9 +235,10 @@ class Prover:
             return f"./proofs/{name}/Answers.antt:6:5: error: `returns`: `c` has no field `now`\nfn low::{name}: not proved"
         return f"fn low::{name}: proved"
 
-    def check(self, crate: str, texts: Dict[str, str], functions: Iterable[str]) -> verdicts.Check:
+    def check(self, crate: str, texts: Dict[str, str], functions: Iterable[str], kept: pathlib.Path) -> verdicts.Check:
         body, names = texts["src/lib.rt"], sorted(functions)
         self.asked.append(names)
+        self.kept += [kept] if kept.is_dir() else []
         shown = [(name, sign) for name, sign in (("same", "+"), ("other", "-")) if not names or f"low::{name}" in names or "n + 3" in body]
         lines = [self.line(name, sign, body) for name, sign in shown]
         proved = sum(line.endswith(": proved") for line in lines)
@@ -269,7 +271,7 @@ class Together(unittest.TestCase):
         """The names of the edits that each check tries."""
         self.write(changes)
         with mock.patch.object(self.tool, "ROOT", self.own):
-            return [[it.name[:-len(".edit")] for it in joined] for joined in self.tool.rounds_in(self.copy)]
+            return [[it.name[:-len(".edit")] for it in joined] for rounds in self.tool.rounds_in(self.copy) for joined in rounds]
 
     def run_all(self, changes: Dict[str, Tuple[str, str]]) -> Tuple[int, List[str]]:
         """Tries these edits: the status, and what is printed."""
@@ -324,6 +326,12 @@ class Together(unittest.TestCase):
     def test_what_is_not_refused_is_tried_again_alone(self) -> None:
         self.run_all({"a": ("n + 0", "n + 1"), "b": ("n - 0", "n - 0 // the same")})
         self.assertEqual([["low::other", "low::same"], []], self.prover.asked)
+
+    def test_checks_of_a_crate_share_a_folder_that_is_gone_afterwards(self) -> None:
+        self.run_all({"a": ("n + 0", "n + 1"), "b": ("n + 0", "n + 1 + 0"), "c": ("n - 0", "n - 1")})
+        self.assertEqual(2, len(self.prover.kept))
+        self.assertEqual(1, len(set(self.prover.kept)))
+        self.assertFalse(self.prover.kept[0].exists())
 
     def test_methods_by_their_type(self) -> None:
         self.assertEqual(["Pair::first", "low::pairs::same", "low::same"],

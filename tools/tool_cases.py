@@ -54,6 +54,30 @@ class QuietEnds(unittest.TestCase):
         self.assertEqual(7, quiet_end.status_of(lambda: 7))
 
 
+class SideBySide(unittest.TestCase):
+    """Commands that run side by side are all run, shown as a whole and counted."""
+
+    @staticmethod
+    def run_with(lines: str, *words: str) -> "subprocess.CompletedProcess[str]":
+        return subprocess.run([ROOT / "tools/side-by-side", *words], input=lines, stdout=subprocess.PIPE, stderr=subprocess.STDOUT, text=True, check=False)
+
+    def test_counts_what_passed_and_failed(self) -> None:
+        done = self.run_with("true\n\nsh -c 'echo why; exit 3'\nno-such-command\n")
+        self.assertEqual((1, "1 passed, 2 failed"), (done.returncode, done.stdout.splitlines()[-1]))
+        self.assertIn("test: sh -c 'echo why; exit 3'\nwhy\ntest: FAILED: sh -c 'echo why; exit 3'\n", done.stdout)
+        self.assertIn("test: FAILED: no-such-command\n", done.stdout)
+
+    def test_what_all_pass_passes(self) -> None:
+        done = self.run_with("echo one\necho two\n", "--at-once", "1")
+        self.assertEqual((0, "test: echo one\none\ntest: echo two\ntwo\n2 passed, 0 failed\n"), (done.returncode, done.stdout))
+
+    def test_nothing_to_run_fails(self) -> None:
+        self.assertEqual(1, self.run_with("\n").returncode)
+
+    def test_at_least_one_command_at_once(self) -> None:
+        self.assertEqual(2, self.run_with("true\n", "--at-once", "0").returncode)
+
+
 class Tallies(unittest.TestCase):
     """What is wrong is counted and reported after the name of the check; what is right is only counted."""
 
