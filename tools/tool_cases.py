@@ -16,6 +16,7 @@ from unittest import mock
 
 import arithmetic_cases
 import command_lines
+import declared
 import sessions
 import tally
 
@@ -76,6 +77,45 @@ class SideBySide(unittest.TestCase):
 
     def test_at_least_one_command_at_once(self) -> None:
         self.assertEqual(2, self.run_with("true\n", "--at-once", "0").returncode)
+
+
+class Declared(unittest.TestCase):
+    """The enums and structs of a source, and those that definitions name."""
+
+    SOURCE = """//! Answers.
+
+/// The answer to a request. It may be none.
+#[derive(Clone)]
+pub enum Answer<'a> {
+    /// A byte.
+    Key(u8),
+    Line { bytes: &'a [u8], returned: bool },
+    End = 3,
+}
+
+/// Where a block is.
+pub struct Place {
+    /// From 0 on.
+    pub slot: usize,
+    hidden: u8,
+    pub block: Option<u16>,
+}
+
+enum Inner {
+    One,
+}
+"""
+
+    def test_variants_and_public_fields(self) -> None:
+        self.assertEqual(
+            [declared.Item("low", "Answer", "The answer to a request.", ("Key(u8)", "Line { bytes: &'a [u8], returned: bool }", "End = 3")),
+             declared.Item("low", "Place", "Where a block is.", ("slot: usize", "block: Option<u16>"))],
+            declared.items_in("low", self.SOURCE))
+
+    def test_names_of_definitions(self) -> None:
+        names = ["low.specs.declared.act.Answer.TheVariants.Key", "low.specs.declared.act.Answer.Answer", "low.specs.declared.Memory.Memory",
+                 "mid.specs.declared.system.TheConstants.DP", "std.specs.declared.alloc.Global.Global", "low.specs.Bytes.cell"]
+        self.assertEqual([("low", "Answer"), ("low", "Memory"), ("mid", "DP")], declared.cited(names))
 
 
 class Tallies(unittest.TestCase):
