@@ -1,6 +1,6 @@
 -- What a written block, and a buffer that is given to a block, change for the references that follow.
-use Rattle.std.proofs.Common.{◌≡◌, ℕ, zero, suc, ◌+◌, ◌-◌, ◌<◌, ◌≤◌, List, [], ◌∷◌, length, get_or, Option, Some, unwrap_or, refl, arith, ap, ◌∙◌, sym, subst, true, false, Bool, if◌then◌else◌}
-use Rattle.std.specs.Prelude.{Contains, IsSome, count_by}
+use Rattle.std.proofs.Common.{◌≡◌, ℕ, zero, suc, ◌+◌, ◌-◌, ◌<◌, ◌≤◌, List, [], ◌∷◌, length, get_or, Some, unwrap_or, refl, arith, ap, ◌∙◌, sym, subst, true, false, Bool, if◌then◌else◌}
+use Rattle.std.specs.Prelude.{Contains, count_by}
 use Rattle.std.proofs.lemmas.List.{get_or-map, length-map}
 use Rattle.std.proofs.lemmas.List.Sorted.{list_any-IsPermutation}
 use Rattle.std.proofs.lemmas.List.Sums.{sum_by-cons}
@@ -28,9 +28,6 @@ holds_moved slot u b = sym (list_any-IsPermutation (is_of u) b (moved_front slot
 
 unmark_here : (u : ℕ) (e : Entry) → is_of u e ≡ true → (unmarked_entry u e).updated ≡ false
 unmark_here u e h = rw h refl
-
-some_block : (o : Option ℕ) → IsSome o → o ≡ Some (unwrap_or o 0)
-some_block o h = grind arith
 
 -- an updated entry of the list has a block
 pub of_updated : (b : List Entry) (k : ℕ) (d : Entry) → AreBuffers b → k < length b → (get_or b k d).updated ≡ true → is_of (unwrap_or (get_or b k d).block 0) (get_or b k d) ≡ true

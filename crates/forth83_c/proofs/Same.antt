@@ -7,17 +7,10 @@ use Rattle.dictionary.specs.Header.{compilation_address}
 use Rattle.dictionary.specs.Search.{Sought, Found, sought}
 use Rattle.dictionary.proofs.Unnamed.{name_never}
 use Rattle.stacks.specs.Cells.{first_of}
-use Rattle.machine_parts.specs.Whole.{Whole}
 use Rattle.machine.specs.State.{State}
 use Rattle.forth83_c.specs.declared.record.Forth83.{Forth83}
 use Rattle.forth83_c.specs.Called.{HasFound}
 use Rattle.forth83_c.specs.Kept.{marked, wait_of, halt_of, entries_of, IsRecord, IsKept}
-
-same_parts : (s t : Whole) → s.memory ≡ t.memory → s.values ≡ t.values → s.returns ≡ t.returns → s.ip ≡ t.ip → s.pending ≡ t.pending → s.buffers ≡ t.buffers → s.block_count ≡ t.block_count → s.place ≡ t.place → s ≡ t
-same_parts s t a b c d e f g h = rw (a, b, c, d, e, f, g, h) refl
-
-same_whole : (s t : State) → s.parts ≡ t.parts → s.wait ≡ t.wait → s.halt ≡ t.halt → s ≡ t
-same_whole s t a b c = rw (a, b, c) refl
 
 pub same_state : (k : Forth83) (s t : State) → IsKept k s → IsKept k t → s ≡ t
 same_state k s t h g = grind arith

@@ -116,11 +116,6 @@ stopped_refused {limit} d from to (stop.Word f) done h =
     let r = settled f.screen f.offset f.cause from in
     as_refused d from to h.k r.screen r.offset r.cause done h.few h.disk (word_answer {limit = limit} d from to h.k f.screen f.offset f.cause done b.0 b.1 b.2 b.3)
 
--- if all screens can be read, a fault of all words is one of the words that can be read
-of_readable : (limit : ℕ) (d : Disk) (from to screen offset : ℕ) (cause : Cause) → AllReadable d from to →
-    IsFault limit (all_placed (source_of d from to)) to screen offset cause → IsFault limit (all_placed (readable_words d from to)) to screen offset cause
-of_readable limit d from to screen offset cause all = subst (λ n. IsFault limit (all_placed (source_words from (screens d from n))) to screen offset cause) (sym all)
-
 -- the end of all screens, as a refusal
 pub ended_refused : {limit : ℕ} (d : Disk) (from to : ℕ) (k : Compilation) (f : BuildFault) (done : Done) → TookAll limit d from to k done → (f.cause ≡ c.EndsInside) ⊎ (f.cause ≡ c.NoBoot) ⊎ (f.cause ≡ c.OutOfMemory) →
     IsFault limit (all_placed (source_of d from to)) to f.screen f.offset f.cause → IsRefused limit d from to (settled f.screen f.offset f.cause from) done

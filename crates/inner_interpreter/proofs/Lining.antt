@@ -19,9 +19,6 @@ line_end n = grind arith
 pub line_ends : (n : ℕ) (front : List ℕ) (rest typed : List ℕ) (n' : ℕ) → rest ≡ [] → with_front front (line_of n' rest) ≡ line_of n typed → with_front front (record { bytes = []; returned = false; rest = [] }) ≡ line_of n typed
 line_ends n front rest typed n' e h = ap (with_front front) (sym (line_end n') ∙ ap (line_of n') (sym e)) ∙ h
 
-line_returned : (m : ℕ) (b : ℕ) (ys : List ℕ) → is_return b ≡ true → line_of (suc m) (b ∷ ys) ≡ record { bytes = []; returned = true; rest = ys }
-line_returned m b ys e = rw e refl
-
 line_more : (m : ℕ) (b : ℕ) (ys front : List ℕ) → is_return b ≡ false → with_front front (line_of (suc m) (b ∷ ys)) ≡ with_front (front ++ b ∷ []) (line_of m ys)
 line_more m b ys front e = rw e (ap (λ v. record { bytes = v; returned = (line_of m ys).returned; rest = (line_of m ys).rest }) (sym (append_assoc front (b ∷ []) (line_of m ys).bytes)))
 

@@ -245,9 +245,6 @@ moved_still a b f g whole left h = let none : left - left ≡ 0 = omega arith in
 unfoldable pub moved_kept : (a b : State) (c d : List DeviceCall) (o o' o'' : Option (List ℕ)) (r r' : List (Option ℕ)) (words : List ℕ) (ticks : ℕ) → Keeps o' o'' → HasMoved a b (logs c o r) (logs d o' r') true words ticks → HasMoved a b (logs c o r) (logs d o'' r') true words ticks
 moved_kept a b c d o o' o'' r r' words ticks k h = grind arith
 
-pub moved_first : (a b : State) (c d : List DeviceCall) (o o' o'' : Option (List ℕ)) (r r' : List (Option ℕ)) (whole : Bool) (words : List ℕ) (ticks : ℕ) → Keeps o o' → HasMoved a b (logs c o' r) (logs d o'' r') whole words ticks → HasMoved a b (logs c o r) (logs d o'' r') whole words ticks
-moved_first a b c d o o' o'' r r' whole words ticks k h = record { turns = h.turns; accepted = h.accepted; state_is = h.state_is; calls_are = h.calls_are; front = h.front; back = h.back; shown_is = h.shown_is; sent_is = appends_both o o' o'' [] h.front (kept_appends o o' k) h.sent_is; all_sent = h.all_sent; given = h.given; reads_are = h.reads_are; are_given = h.are_given; words_are = h.words_are; ticks_are = h.ticks_are }
-
 -- less is said where not all was to be sent
 unfoldable pub moved_so : (a b : State) (f g : Logs) (whole : Bool) (words : List ℕ) (ticks : ℕ) → HasMoved a b f g true words ticks → HasMoved a b f g whole words ticks
 moved_so a b f g whole words ticks h = record { turns = h.turns; accepted = h.accepted; state_is = h.state_is; calls_are = h.calls_are; front = h.front; back = h.back; shown_is = h.shown_is; sent_is = h.sent_is; all_sent = λ q. h.all_sent refl; given = h.given; reads_are = h.reads_are; are_given = h.are_given; words_are = h.words_are; ticks_are = h.ticks_are }

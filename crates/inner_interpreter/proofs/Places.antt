@@ -4,9 +4,9 @@ use Rattle.block_buffers.specs.Disks.{Disk}
 use Rattle.machine_parts.specs.declared.parts.Request.{Request}
 use Rattle.machine.specs.State.{State, state_at}
 use Rattle.machine.specs.Answer.{Reply, asked_by}
-use Rattle.machine.proofs.Places.{ticked_at, ticked_stays, answer_at, answer_stays}
+use Rattle.machine.proofs.Places.{ticked_at, answer_at}
 use Rattle.inner_interpreter.specs.declared.stop.Stop.{Stop}
-use Rattle.inner_interpreter.specs.Moves.{Move, move_of, tick_move, answer_move, Turn, turned, after}
+use Rattle.inner_interpreter.specs.Moves.{Move, move_of, tick_move, answer_move}
 use Rattle.inner_interpreter.specs.Runs.{World, served, round, round_by, stops, next_by, rounds}
 
 -- the same world with memory at another place
@@ -45,11 +45,3 @@ rounds_at p (suc n) w = ap (λ (v : World). next_by v (stops v)) (rounds_at p n 
 -- memory stays where it is
 pub rounds_stay : (n : ℕ) (w : World) → (rounds n w).state.parts.place ≡ w.state.parts.place
 rounds_stay n w = ap (λ (v : World). v.state.parts.place) (rounds_at w.state.parts.place n w)
-
-turned_stays : (s : State) (t : Turn) → (turned s t).parts.place ≡ s.parts.place
-turned_stays s t = search (rules, ticked_stays, answer_stays)
-
-pub after_stays : (s : State) (turns : List Turn) → (after s turns).parts.place ≡ s.parts.place
-unfolding after
-after_stays s [] = refl
-after_stays s (t ∷ turns) = after_stays (turned s t) turns ∙ turned_stays s t

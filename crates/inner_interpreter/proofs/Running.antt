@@ -12,12 +12,11 @@ use Rattle.machine.specs.Tick.{ran, running, ticked}
 use Rattle.machine.specs.Met.{AreUnmet}
 use Rattle.inner_interpreter.specs.Tracing.{Reached, ReachedCut, traced_line, trace}
 use Rattle.machine.specs.Answer.{asked_by, is_answer, InputFault}
-use Rattle.inner_interpreter.specs.Lines.{IsLeft}
 use Rattle.inner_interpreter.specs.Moves.{shown_bytes}
-use Rattle.inner_interpreter.specs.Served.{Answered, served_move, Faults}
+use Rattle.inner_interpreter.specs.Served.{Answered, served_move}
 use Rattle.inner_interpreter.specs.Sent.{AppendsPart}
 use Rattle.inner_interpreter.specs.Runs.{World, round, round_by, rounds, stops, answer_round, served}
-use Rattle.inner_interpreter.specs.Worlds.{IsAt, IsBrokenOff, IsCut, IsFaulted, IsHeldUp, stretch}
+use Rattle.inner_interpreter.specs.Worlds.{IsAt, IsBrokenOff, IsCut, IsHeldUp, stretch}
 use Rattle.inner_interpreter.proofs.Sending.{SentPart, part_of}
 use Rattle.inner_interpreter.proofs.Stretched.{one_round, rounds_add, stretched, behind, adds_line, adds_one, silent_before}
 
@@ -34,9 +33,6 @@ round_answer w r e = ap (round_by w) e
 -- reported bytes after bytes were appended
 sent_more : (old new : Option (List ℕ)) (xs bs : List ℕ) → old ≡ Some xs → Appends old new bs → new ≡ Some (xs ++ bs)
 sent_more old new xs bs e h = grind arith
-
-sent_kept : (old new : Option (List ℕ)) (xs : List ℕ) → old ≡ Some xs → Keeps old new → new ≡ Some xs
-sent_kept old new xs e h = grind arith
 
 pub stretch_at : (e : Extent) (w : World) (s s' : State) (unread : Option (List ℕ)) (disk : Option Disk) (sent sent' : Option (List ℕ)) (left left' m : ℕ)
     → s.halt ≡ None → s.wait ≡ None → s' ≡ (stretch m s).1 → (stretch m s).0 ≡ m → 0 < m → m ≤ left → left' ≡ left - m → AreUnmet e (m - 1) (ticked s.parts).0.parts
@@ -207,11 +203,6 @@ flush_cut e w s unread disk sent sent' left r asks typed k at = grind (arith, li
 pub kept_at : (w : World) (s : State) (unread : Option (List ℕ)) (disk : Option Disk) (sent sent' : Option (List ℕ)) (left : ℕ)
     → Keeps sent sent' → IsAt w s unread disk sent left → IsAt w s unread disk sent' left
 kept_at w s unread disk sent sent' left k at = grind arith
-
-pub faulted_at : (w : World) (s s' : State) (r : Request) (unread unread' : Option (List ℕ)) (disk disk' : Option Disk) (sent sent' : Option (List ℕ)) (left : ℕ)
-    → s.halt ≡ None → 0 < left → asked_by s.wait ≡ Some r → ((typed : List ℕ) → unread ≡ Some typed → IsLeft (Some r) typed unread')
-    → Faults s s' → disk' ≡ disk → sent' ≡ sent → IsAt w s unread disk sent left → IsFaulted w s' unread' disk' sent'
-faulted_at w s s' r unread unread' disk disk' sent sent' left halt some asks lost f d t at = grind arith
 
 pub on_ok_then : {T E : Type 0} (r : Result T E) (P Q : Type 0) → (P → Q) → OnOk r P → OnOk r Q
 on_ok_then r P Q f h = grind arith

@@ -1,7 +1,7 @@
 -- Bytes that are sent in several calls.
-use Rattle.std.proofs.Common.{◌≡◌, ℕ, List, [], ◌∷◌, ◌++◌, ◌+◌, ◌-◌, ◌<◌, ◌≤◌, length, arith, take, drop, Option, None, Some, sym, ◌∙◌, append_assoc}
+use Rattle.std.proofs.Common.{◌≡◌, ℕ, List, [], ◌∷◌, ◌++◌, ◌+◌, ◌-◌, ◌<◌, ◌≤◌, length, arith, take, drop, Option, Some, ◌∙◌, append_assoc}
 use Rattle.std.proofs.Math.Seq.{take-add}
-use Rattle.std.proofs.lemmas.List.{take-append-drop, append-nil, take_all, length-drop, length-append}
+use Rattle.std.proofs.lemmas.List.{append-nil, take_all, length-drop, length-append}
 use Rattle.std.specs.Io.KnownBytes.{Appends, Keeps}
 use Rattle.inner_interpreter.specs.Sent.{AppendsPart}
 
@@ -16,12 +16,6 @@ part_first a b xs ys h = grind (arith, append_assoc, length-append)
 
 pub part_second : (a b c : Option (List ℕ)) (xs ys : List ℕ) → Appends a b xs → AppendsPart b c ys → AppendsPart a c (xs ++ ys)
 part_second a b c xs ys h k = grind (arith, append_assoc)
-
-pub part_kept : (a b c : Option (List ℕ)) (n : ℕ) (bs : List ℕ) → n < length bs → Appends a b (take n bs) → Keeps b c → AppendsPart a c bs
-part_kept None b c n bs l h k = tt
-part_kept (Some os) None c n bs l h k = absurd h
-part_kept (Some os) (Some xs) None n bs l h k = absurd k
-part_kept (Some os) (Some xs) (Some ys) n bs l h k = (take n bs, drop n bs, sym (take-append-drop n bs), k ∙ h, simp length-drop (omega (arith, l)))
 
 -- a byte that was sent at once, or wasn't
 pub one_sent : (a b : Option (List ℕ)) (n x : ℕ) → 0 < n → n ≤ 1 → Appends a b (take n (x ∷ [])) → Appends a b (x ∷ [])

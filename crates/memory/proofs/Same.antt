@@ -33,8 +33,5 @@ bytes_by m n a k lm ln h g s =
     let b3 : byte m (wrap (a + i)) ≡ byte n (wrap (a + i)) = rw (wrap_small (a + i) (omega arith)) (s (a + i) (omega arith) (omega arith)) in
     b1 ∙ b3 ∙ sym b2)
 
-pub cell_same : (lo hi : ℕ) (m n : List ℕ) (a : ℕ) → Same lo hi m n → hi ≤ 65536 → lo ≤ a → a + 1 < hi → cell m a ≡ cell n a
-cell_same lo hi m n a s t h k = cell_by m n a (omega arith) (s a h (omega arith)) (s (a + 1) (omega arith) k)
-
 pub bytes_same : (lo hi : ℕ) (m n : List ℕ) (a k : ℕ) → Same lo hi m n → hi ≤ 65536 → length m ≡ 65536 → length n ≡ 65536 → lo ≤ a → a + k ≤ hi → a < 65536 → bytes m a k ≡ bytes n a k
 bytes_same lo hi m n a k s h lm ln l f g = bytes_by m n a k lm ln (omega arith) g (λ i x y. s i (omega arith) (omega arith))

@@ -121,21 +121,11 @@ unnamed : (n : List ℕ) (voc : ℕ) (nm text : List ℕ) (k : Token) (number do
     → name_first n Free Nowhere (figure_by nm number double) ≡ Some k → Case n voc nm text k
 unnamed n voc nm text k y0 double s e i d q = grind arith
 
-immediate_or : (n : List ℕ) (l : ℕ) (k : Token) (b : Bool) → is_immediate n l ≡ b → (if b then None else Some (NAME (compilation_address n l))) ≡ Some k → (is_immediate n l ≡ false) × (NAME (compilation_address n l) ≡ k)
-immediate_or n l k y0 e q = grind arith
-
-by_search : (n : List ℕ) (voc : ℕ) (nm text : List ℕ) (k : Token) (x : Sought) → sought_from n voc nm ≡ x → keyword nm text ≡ None → name_first n Free x (figure_of nm) ≡ Some k → Case n voc nm text k
-unfolding figure_of
-by_search n voc nm text k y0 s e q = grind arith
-
 -- Free and Compiling look at words in the same way
 abbrev pub Loose : Half → Type 0
 Loose Free = Unit {0}
 Loose Compiling = Unit {0}
 Loose _ = ⊥
-
-figure_loose : (n : List ℕ) (nm : List ℕ) (x : Sought) (number double : Bool) → token_as n Free x (figure_by nm number double) ≡ name_first n Free x (figure_by nm number double)
-figure_loose n nm x y0 double = grind arith
 
 loose_is : (n : List ℕ) (x : Sought) (s : Sense) → token_as n Compiling x s ≡ token_as n Free x s
 loose_is n x y0 = grind arith
@@ -285,10 +275,6 @@ frames_few o t h u ks e l = let d = accept_depth ks o t h u e in omega arith
 
 pub loose_after : (h : Half) (k : Token) → Loose h → lead_if (Some k) ≡ false → Loose (half_after h k)
 loose_after y0 k p e = grind arith
-
--- after [']  and [COMPILE] the reader takes a name alone
-pub tight_name : (o p : Outer) (t v : Tree) (h g : Half) (k : Token) → Tight h → read o t h k ≡ Some (At p v g) → (w : ℕ) × (k ≡ NAME w)
-tight_name o p t v y0 g k x e = grind arith
 
 -- the mode after a word of a body
 pub mode_after : (nm : List ℕ) (semi lead : Bool) → ends_body nm ≡ semi → names_in_body nm ≡ lead → after Body nm ≡ (if semi then Outside else if lead then NameInBody else Body)

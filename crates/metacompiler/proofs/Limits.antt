@@ -3,13 +3,10 @@ use Rattle.std.proofs.Common.{◌≡◌, ℕ, zero, suc, ◌+◌, refl, arith, i
 use Rattle.std.specs.Prelude.{◌==◌}
 use Rattle.block_buffers.specs.Disks.{Disk}
 use Rattle.machine_parts.specs.Whole.{Whole}
-use Rattle.machine_parts.specs.declared.parts.Request.{Request}
 use Rattle.machine.specs.declared.act.Event.{Event}
 use Rattle.machine.specs.State.{State}
 use Rattle.machine.specs.Tick.{ticked}
-use Rattle.machine.specs.Answer.{answer_of}
-use Rattle.inner_interpreter.specs.Runs.{served}
-use Rattle.metacompiler.specs.Rounds.{Stop, Ended, Limit, Out, out, went, stopped, by_answer, by_device, by_request, by_tick, rounds, entered, by_stop, then_screens, screens}
+use Rattle.metacompiler.specs.Rounds.{Stop, Ended, Limit, Out, out, by_tick, rounds, entered, by_stop, then_screens, screens}
 
 -- the same, with k ticks more left
 abbrev pub later : ℕ → Out → Out
@@ -18,21 +15,6 @@ later k o = record { parts = o.parts; disk = o.disk; left = o.left + k; stop = o
 -- for want of ticks, and none is left; or the same with more of them
 abbrev pub Lasts : (k : ℕ) → (less more : Out) → Type 0
 Lasts k less more = ((less.stop ≡ Limit) × (less.left ≡ 0)) ⊎ (more ≡ later k less)
-
-went_lasts : (k n : ℕ) (go on : Whole → Disk → Out) (s : Whole) (d : Disk) → ((u : Whole) (e : Disk) → Lasts k (go u e) (on u e)) → Lasts k (went n go s d) (went (n + k) on s d)
-went_lasts k n go on s d h = grind arith
-
-answer_lasts : (k n : ℕ) (go on : Whole → Disk → Out) (s : State) (d : Disk) (e : Event) → ((u : Whole) (e : Disk) → Lasts k (go u e) (on u e)) → Lasts k (by_answer n go s d e) (by_answer (n + k) on s d e)
-answer_lasts k n go on s d y0 h = grind arith
-
-device_lasts : (k n : ℕ) (go on : Whole → Disk → Out) (s : State) (d : Disk) (r : Request) → ((u : Whole) (e : Disk) → Lasts k (go u e) (on u e)) → Lasts k (by_device n go s d r) (by_device (n + k) on s d r)
-device_lasts k n go on s d r h = answer_lasts k n go on (answer_of s (served s r [] d).reply).0 (served s r [] d).disk (answer_of s (served s r [] d).reply).1.event h
-
-left_lasts : (k n : ℕ) (go on : Whole → Disk → Out) (s : State) (d : Disk) (r : Request) → ((u : Whole) (e : Disk) → Lasts k (go u e) (on u e)) → Lasts k (if n == 0 then out s.parts d n Limit else by_device n go s d r) (if n + k == 0 then out s.parts d (n + k) Limit else by_device (n + k) on s d r)
-left_lasts k y0 go on s d r h = grind arith
-
-request_lasts : (k n : ℕ) (go on : Whole → Disk → Out) (s : State) (d : Disk) (r : Request) → ((u : Whole) (e : Disk) → Lasts k (go u e) (on u e)) → Lasts k (by_request n go s d r) (by_request (n + k) on s d r)
-request_lasts k n go on s d y0 h = grind arith
 
 tick_lasts : (k n : ℕ) (go on : Whole → Disk → Out) (s : State) (d : Disk) (e : Event) → ((u : Whole) (e : Disk) → Lasts k (go u e) (on u e)) → Lasts k (by_tick n go s d e) (by_tick (n + k) on s d e)
 tick_lasts k n go on s d y0 h = grind arith
@@ -62,21 +44,6 @@ all_last k w count b n s d = screens_last k w count b (out s d n Ended) (out s d
 -- a stop for want of ticks
 abbrev IsDone : Out → Type 0
 IsDone o = o.stop ≡ Limit → o.left ≡ 0
-
-went_done : (n : ℕ) (go : Whole → Disk → Out) (s : Whole) (d : Disk) → ((u : Whole) (e : Disk) → IsDone (go u e)) → IsDone (went n go s d)
-went_done n go s d h = grind arith
-
-stopped_done : (e : Event) → stopped e ≡ Limit → ⊥
-stopped_done y0 q = grind arith
-
-answer_done : (n : ℕ) (go : Whole → Disk → Out) (s : State) (d : Disk) (e : Event) → ((u : Whole) (e : Disk) → IsDone (go u e)) → IsDone (by_answer n go s d e)
-answer_done n go s d y0 h = grind arith
-
-device_done : (n : ℕ) (go : Whole → Disk → Out) (s : State) (d : Disk) (r : Request) → ((u : Whole) (e : Disk) → IsDone (go u e)) → IsDone (if n == 0 then out s.parts d n Limit else by_device n go s d r)
-device_done y0 go s d r h = grind arith
-
-request_done : (n : ℕ) (go : Whole → Disk → Out) (s : State) (d : Disk) (r : Request) → ((u : Whole) (e : Disk) → IsDone (go u e)) → IsDone (by_request n go s d r)
-request_done n go s d y0 h = grind arith
 
 tick_done : (n : ℕ) (go : Whole → Disk → Out) (s : State) (d : Disk) (e : Event) → ((u : Whole) (e : Disk) → IsDone (go u e)) → IsDone (by_tick n go s d e)
 tick_done n go s d y0 h = grind arith

@@ -99,9 +99,6 @@ stop_of left (request.Read u) = if left == 0 then Some Limit else None
 stop_of left (request.Write u) = if left == 0 then Some Limit else None
 stop_of left r = Some Asked
 
-none_some : (y : Stop) → None ≡ Some y → ⊥
-none_some y e = absurd (cc)
-
 pub unsettled : (left : ℕ) (s : State) (d : Disk) (r : Request) (disk : Option Disk) (y : Stop) → stop_of left r ≡ Some y → disk ≡ Some d → GoesOn s (Some y) → IsSettled left s d r s disk (Some y)
 unsettled left s d y0 disk y e q h = grind arith
 

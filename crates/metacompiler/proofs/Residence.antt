@@ -1,5 +1,5 @@
 -- How residence is decided.
-use Rattle.std.proofs.Common.{◌≡◌, ℕ, suc, ◌+◌, ◌≤◌, ◌<◌, ◌⊎◌, inl, inr, ◌∷◌, List, [], length, Bool, true, false, not, Some, refl, ap, subst, ◌∙◌, arith, ◌*◌, ◌%◌, ◌++◌, sym, append_assoc, length-append}
+use Rattle.std.proofs.Common.{◌≡◌, ℕ, suc, ◌+◌, ◌≤◌, ◌<◌, ◌⊎◌, inl, inr, ◌∷◌, List, [], length, Bool, true, false, Some, refl, ap, subst, ◌∙◌, arith, ◌*◌, ◌%◌, ◌++◌, sym, append_assoc, length-append}
 use Rattle.std.specs.Prelude.{◌==◌, ◌&&◌, ◌||◌, nat_le, codes, slice_index, Result, IfOk, IsTrue}
 use Rattle.std.specs.List.{list_all, list_any, Contains}
 use Rattle.std.proofs.lemmas.List.Elements.{All-contains}
@@ -32,9 +32,6 @@ second : (a b : Bool) → (a && b) ≡ true → b ≡ true
 second a b e = (both a b e).1
 
 ruleset tests = (first, second)
-
-turned_true : (a : Bool) → not a ≡ true → a ≡ false
-turned_true y0 e = grind arith
 
 -- a keyword that is found
 keyword_at : (m : List ℕ) (voc : ℕ) (name : List ℕ) (number : ℕ) (s : Sought) → sought_from m voc name ≡ s → is_keyword_at m number s ≡ true → Key m voc name number true

@@ -8,7 +8,7 @@ use Rattle.memory.specs.Bytes.{cell, limit_of, byte, front_put, zeros}
 use Rattle.dictionary.specs.Chain.{chain}
 use Rattle.memory.specs.declared.limit.TheConstants.{GREATEST_LIMIT}
 use Rattle.dictionary.specs.Header.{compilation_address}
-use Rattle.dictionary.specs.Search.{head_of, by_address}
+use Rattle.dictionary.specs.Search.{head_of}
 use Rattle.memory.proofs.Limits.{limit_most}
 use Rattle.block_buffers.specs.Disks.{Disk}
 use Rattle.block_buffers.proofs.Kept.{length-start}
@@ -24,7 +24,7 @@ use Rattle.metacompiler.specs.Orderly.{IsHead, HeaderClear, HeadersClear, CellAp
 use Rattle.metacompiler.specs.Resident.{fields, IsRead, IsRecord, end_of_header, Resident}
 use Rattle.metacompiler.specs.Rounds.{Ended, Out, out, screens, then_screens}
 use Rattle.metacompiler.specs.Sources.{ColonDefinition, laid_one, laid_all, AreDefined}
-use Rattle.metacompiler.specs.Loaded.{LoadFault, NotFound, ChainTooLong, Fault, Halted, Asked, Limit, Unfinished, BadSize, OutOfMemory, Loaded, address_found, interpret_in, by_interpret, by_out, ended, restored, IsLoaded, IsLaidOr, loaded_by_machine}
+use Rattle.metacompiler.specs.Loaded.{LoadFault, NotFound, ChainTooLong, Fault, Halted, Asked, Limit, Unfinished, BadSize, OutOfMemory, Loaded, by_out, ended, restored, IsLoaded, IsLaidOr, loaded_by_machine}
 use Rattle.metacompiler.specs.Compiled.{memory_of, context_behind, Agree, Enough, Compiles}
 use Rattle.metacompiler.proofs.Orders.{orderly_kept}
 use Rattle.metacompiler.proofs.Defining.{context_of, agrees_self, saved_as, load_law, enough_law}
@@ -54,9 +54,6 @@ belows l (k ∷ ks) = if nat_lt k l then k ∷ belows l ks else belows l ks
 abbrev aboves : ℕ → List ℕ → List ℕ
 aboves l [] = []
 aboves l (k ∷ ks) = if nat_lt k l then aboves l ks else k ∷ aboves l ks
-
-is_less : (k l : ℕ) → nat_lt k l ≡ true → k < l
-is_less k l h = grind arith
 
 is_not : (k l : ℕ) → nat_lt k l ≡ false → l ≤ k
 is_not k l h = grind arith
@@ -192,11 +189,6 @@ head_in voc x h =
     record { at = slice_index x 0 % 4; is = omega arith; small = (class_small (slice_index x 0)) }
 
 -- two heads of one record, and of two that are apart
-same_record : (voc g h : ℕ) → InRecord voc g → InRecord voc h → (h ≡ g) ⊎ ((g + 1 < h) ⊎ (h + 1 < g))
-same_record voc g h x y = grind arith
-
-other_record : (voc voc2 g h : ℕ) → (voc + 10 ≤ voc2) ⊎ (voc2 + 10 ≤ voc) → InRecord voc g → InRecord voc2 h → (h ≡ g) ⊎ ((g + 1 < h) ⊎ (h + 1 < g))
-other_record voc voc2 g h y0 x y = grind arith
 
 turned : (g h : ℕ) → (h ≡ g) ⊎ ((g + 1 < h) ⊎ (h + 1 < g)) → (g ≡ h) ⊎ ((h + 1 < g) ⊎ (g + 1 < h))
 turned g h y0 = grind arith
@@ -205,14 +197,9 @@ records : (voc voc2 g h : ℕ) → (voc ≡ voc2) ⊎ ((voc + 10 ≤ voc2) ⊎ (
 records voc voc2 g h y0 x y = grind arith
 
 -- FORTH's record and another
-forth_apart : (m : List ℕ) (voc : ℕ) → IsRecord m voc → (voc ≡ 42) ⊎ ((voc + 10 ≤ 42) ⊎ (42 + 10 ≤ voc))
-forth_apart m voc y0 = grind arith
 
 record_end : (m : List ℕ) (voc : ℕ) → cell m 28 ≤ GREATEST_LIMIT → IsRecord m voc → voc + 10 ≤ GREATEST_LIMIT
 record_end m voc h y0 = grind arith
-
-record_placed : (m : List ℕ) (voc g : ℕ) → IsRecord m voc → InRecord voc g → ((42 ≤ g) × (g + 1 < 52)) ⊎ ((256 ≤ g) × (g + 1 < cell m 28))
-record_placed m voc g y0 x = grind arith
 
 -- where a head is: in CURRENT's record, in CONTEXT's, or in FORTH's
 data Whose (cur ctx g : ℕ) : Type 0 where
@@ -371,15 +358,6 @@ same_context : (m : List ℕ) (es : List ColonDefinition) → context_of (cell m
 same_context m y0 = grind arith
 
 -- INTERPRET is found
-interpret_found : {limit : ℕ} (ws : Words) (a : ℕ) (m : List ℕ) → Resident limit ws a m → interpret_in m ≡ Ok ws.interpret
-interpret_found {limit} ws a m r = ap (λ s. address_found (by_address m s)) r.interpret ∙ ap (λ w. Ok w) r.address
-
-by_found : (entry : ℕ) (u : Whole) (d : Disk) (from to ticks w : ℕ) → 0 < from → by_interpret entry u d from to ticks (Ok w) ≡ by_out entry u.memory (screens w (to + 1 - from) from ticks u d)
-by_found entry u d from to ticks w h = let z : (from == 0) ≡ false = grind arith in rw z refl
-
-loaded_is : {limit : ℕ} (image : Contents) (d : Disk) (from to ticks : ℕ) (ws : Words) (a : ℕ) → 0 < from → Resident limit ws a (memory_of image d)
-    → loaded_by_machine image d from to ticks ≡ by_out image.entry (memory_of image d) (screens ws.interpret (to + 1 - from) from ticks (start image (length d.blocks)).parts d)
-loaded_is {limit} image d from to ticks ws a h r = grind arith
 
 answer_of : {limit : ℕ} (image : Contents) (d : Disk) (from to ticks : ℕ) (ws : Words) (a : ℕ) (n : List ℕ) (context : ℕ) → 0 < from → Resident limit ws a (memory_of image d)
     → IsLaidOr image n context (by_out image.entry (memory_of image d) (screens ws.interpret (to + 1 - from) from ticks (start image (length d.blocks)).parts d)).answer

@@ -1,15 +1,13 @@
 -- The words of a screen with one definition.
-use Rattle.std.proofs.Common.{◌≡◌, ◌≤◌, ◌+◌, ℕ, List, [], ◌∷◌, codes, Some, None, refl, arith, Bool, false, if◌then◌else◌}
+use Rattle.std.proofs.Common.{◌≡◌, ◌≤◌, ◌+◌, ℕ, List, [], ◌∷◌, codes, Some, None, refl, arith, false, if◌then◌else◌}
 use Rattle.memory.specs.Bytes.{cell}
 use Rattle.memory.specs.declared.system.TheConstants.{CURRENT, DP}
-use Rattle.dictionary.specs.Search.{Found}
 use Rattle.colon_bodies.specs.Tokens.{NAME, SEMI}
 use Rattle.colon_bodies.specs.declared.words.Half.TheVariants.{Free}
 use Rattle.source_words.specs.Modes.{begins_body, begins_comment, ends_body, names_in_body, names_outside, takes_text}
 use Rattle.source_words.specs.Words.{SourceWord, source_words, words_of_screens, screen_words, words_from, is_comment, has_text, size_of, word_of, name_of, before}
-use Rattle.colon_bodies.specs.Meaning.{Plain, Figure, Wide}
 use Rattle.image_builder.specs.Spelled.{choosing, counting, ending, figure_of, keyword, naming, repeating, saying, sense_of_word}
-use Rattle.metacompiler.specs.Meaning.{named_token, token_as, token_of}
+use Rattle.metacompiler.specs.Meaning.{token_of}
 use Rattle.metacompiler.specs.Sample.{IsCalled, square, square_screen}
 use Rattle.metacompiler.specs.Sources.{AreDefined}
 
@@ -23,8 +21,6 @@ unfolding plain square_screen words_of_screens screen_words words_from is_commen
 read screen = refl
 
 -- a word that is no keyword is what its name is found as
-found_as : (m : List ℕ) (l x y : ℕ) (number double : Bool) → token_as m Free (Found l) (if number then (if double then Wide x else Figure y) else Plain) ≡ named_token m Free l
-found_as m l x y y0 double = grind arith
 
 called : (m : List ℕ) (screen offset : ℕ) (name : List ℕ) (address : ℕ) → begins_comment name ≡ false → keyword name [] ≡ None → IsCalled m name address
     → token_of m (cell m CURRENT) Free (plain screen offset name) ≡ Some (NAME address)

@@ -1,6 +1,6 @@
 -- A colon item's memory, as one header with its code after it.
 use Rattle.std.proofs.Common.{◌≡◌, ◌⊎◌, ℕ, zero, suc, ◌+◌, ◌*◌, ◌-◌, ◌/◌, ◌%◌, ◌<◌, ◌≤◌, inl, inr, List, [], ◌∷◌, ◌++◌, length, drop, subst, refl, sym, ap, ◌∙◌, arith, append_assoc, length-append, length-drop}
-use Rattle.std.specs.Prelude.{Bool, true, false, slice_set, ◌==◌, if◌then◌else◌}
+use Rattle.std.specs.Prelude.{false, slice_set, ◌==◌, if◌then◌else◌}
 use Rattle.std.proofs.Math.Seq.{set-append_seam}
 use Rattle.std.proofs.lemmas.List.{drop-drop, length-replicate}
 use Rattle.cells.specs.Cell.{wrap}
@@ -99,8 +99,6 @@ cells_same : (e l v r f : ℕ) (g h : ℕ → ℕ) → ((i : ℕ) → g i ≡ h 
 cells_same e l v r f g h q = grind arith
 
 -- the heads after a definition
-not_both : (b : Bool) → b ≡ false → b ≡ true → ⊥
-not_both y0 e f = grind arith
 
 heads_now : (t : Items) (n : Name) (k i : ℕ) → n.vocabulary ≡ 42 → class_of n.name ≡ k → (if i == k then n.link else newest_link (names t) 42 i) ≡ newest_link (n ∷ names t) 42 i
 heads_now t n k i v c = grind arith
