@@ -29,10 +29,10 @@ use Rattle.metacompiler.proofs.WordSteps.{text_row_of, text_step, tick_step, for
 
 -- a text
 key_text : (n : List ℕ) (voc : ℕ) (nm bs : List ℕ) (k : Bool) → IsKey n voc nm (TEXT k bs) → Key n voc nm (text_row_of k) true
-key_text n voc nm bs y0 x = grind arith
+key_text n voc nm bs k x = grind arith
 
 free_text : (o p : Outer) (t v : Tree) (h g : Half) (k : Bool) (bs : List ℕ) → Loose h → read o t h (TEXT k bs) ≡ Some (At p v g) → h ≡ Free
-free_text o p t v y0 g k bs l r = grind arith
+free_text o p t v h g k bs l r = grind arith
 
 by_text : (E : Env) (s : Here) (o : Outer) (t : Tree) (h : Half) (v : SourceWord) (sw : List SourceWord) (k : Bool) (ks : List Token) → let text = text_of_screen s in let z = parsed text (next text s.place).next 34 in let bs = bytes_of text z in
     IsEnv E → Facing E s o t h v sw (TEXT k bs) ks → Textly s v sw → keyword (name text s.place) bs ≡ Some (TEXT k bs) → Accepted o t h (TEXT k bs) ks E.body → Stepped E s ks
@@ -76,10 +76,10 @@ second_token o t h [] u l e = absurd (no_whole o t h u l (accept_end o t h u e))
 second_token o t h (k ∷ ks) u l e = grind arith
 
 means_two : (n : List ℕ) (voc : ℕ) (h : Half) (sw : List SourceWord) (ks more : List Token) (w : ℕ) (rest : List SourceWord) → ks ≡ NAME w ∷ more → Means n voc h sw (ks ++ SEMI ∷ []) rest → (w2 : SourceWord) × (sw2 : List SourceWord) × (sw ≡ w2 ∷ sw2) × (token_of n voc h w2 ≡ Some (NAME w)) × Means n voc (half_after h (NAME w)) sw2 (more ++ SEMI ∷ []) rest
-means_two n voc h y0 ks more w rest e m = grind arith
+means_two n voc h sw ks more w rest e m = grind arith
 
 after_name : (h : Half) (w : ℕ) → half_after h (NAME w) ≡ Free
-after_name y0 w = grind arith
+after_name h w = grind arith
 
 -- after a word and the name that it takes
 two_steps : (E : Env) (s : Here) (o p : Outer) (t v0 : Tree) (h : Half) (v : SourceWord) (sw : List SourceWord) (k : Token) (ks more : List Token) (sw2 : List SourceWord) (w q : ℕ) → Facing E s o t h v sw k ks

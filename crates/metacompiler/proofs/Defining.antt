@@ -173,7 +173,7 @@ context_of cur voc [] = voc
 context_of cur voc (e ∷ es) = cur
 
 context_own : (cur : ℕ) (es : List ColonDefinition) → context_of cur cur es ≡ cur
-context_own cur y0 = grind arith
+context_own cur es = grind arith
 
 -- All of them.
 pub define_all : {limit : ℕ} (ws : Words) (a cur ctx most here voc : ℕ) (n : List ℕ) (s : Here) (sw : List SourceWord) (es : List ColonDefinition) → Orderly limit ws a cur ctx most here n → most + length es ≤ 32767 → ((y : List ℕ) → IsHead cur ctx (head_of voc y)) → Keys n voc → Keys n cur → length s.values ≤ 100

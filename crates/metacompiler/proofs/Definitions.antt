@@ -322,7 +322,7 @@ key_kept : (here : ℕ) (n k : List ℕ) (voc : ℕ) (x : List ℕ) (number : �
 key_kept here n k voc x number bit s y = search (arith)
 
 is_key_kept : (here : ℕ) (n k : List ℕ) (voc : ℕ) (x : List ℕ) (w : Token) → runtime k 19 ≡ runtime n 19 → Same here n k voc x → IsKey n voc x w → IsKey k voc x w
-is_key_kept here n k voc x y0 c s y = grind arith
+is_key_kept here n k voc x w c s y = grind arith
 
 -- a name that is no keyword isn't that of one
 not_keyword : (title nm text : List ℕ) (w : Token) → ((t : List ℕ) → keyword title t ≡ None) → keyword nm text ≡ Some w → bytes_eq title nm ≡ false

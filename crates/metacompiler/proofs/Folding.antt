@@ -119,7 +119,7 @@ figure_by nm number double = if number then (if double then Wide (number_value 1
 
 unnamed : (n : List ℕ) (voc : ℕ) (nm text : List ℕ) (k : Token) (number double : Bool) → sought_from n voc nm ≡ Nowhere → keyword nm text ≡ None → is_number 10 nm ≡ number → is_double nm ≡ double
     → name_first n Free Nowhere (figure_by nm number double) ≡ Some k → Case n voc nm text k
-unnamed n voc nm text k y0 double s e i d q = grind arith
+unnamed n voc nm text k number double s e i d q = grind arith
 
 -- Free and Compiling look at words in the same way
 abbrev pub Loose : Half → Type 0
@@ -128,15 +128,15 @@ Loose Compiling = Unit {0}
 Loose _ = ⊥
 
 loose_is : (n : List ℕ) (x : Sought) (s : Sense) → token_as n Compiling x s ≡ token_as n Free x s
-loose_is n x y0 = grind arith
+loose_is n x s = grind arith
 
 case_free : (n : List ℕ) (voc : ℕ) (nm text : List ℕ) (k : Token) (o : Option Token) → keyword nm text ≡ o → begins_comment nm ≡ false → token_as n Free (sought_from n voc nm) (keyword_or o (figure_of nm)) ≡ Some k → Case n voc nm text k
 unfolding figure_of
-case_free n voc nm text k y0 e c q = grind arith
+case_free n voc nm text k o e c q = grind arith
 
 pub case_of : (n : List ℕ) (voc : ℕ) (h : Half) (nm text : List ℕ) (k : Token) → Loose h → begins_comment nm ≡ false → token_as n h (sought_from n voc nm) (sense_of_word nm text) ≡ Some k → Case n voc nm text k
 unfolding sense_of_word
-case_of n voc y0 nm text k p c q = grind (arith, case_free, loose_is)
+case_of n voc h nm text k p c q = grind (arith, case_free, loose_is)
 
 -- after ['] and [COMPILE] a name is due, immediate or not
 abbrev pub Tight : Half → Type 0
@@ -176,7 +176,7 @@ sense_named nm text k e = by (begins_comment nm) (keyword nm text) refl refl e
     by false (Some w) f g q = let r : w ≡ k = cc in subst NotName r (marks_of nm text (Some w) g).4
 
 pub due_name : (n : List ℕ) (voc : ℕ) (h : Half) (nm text : List ℕ) (w : ℕ) → Tight h → token_as n h (sought_from n voc nm) (sense_of_word nm text) ≡ Some (NAME w) → (l : ℕ) × (sought_from n voc nm ≡ Found l) × (compilation_address n l ≡ w)
-due_name n voc y0 nm text w t q = grind (arith, due_by, sense_named)
+due_name n voc h nm text w t q = grind (arith, due_by, sense_named)
 
 -- A body that the machine reads, word by word, over screens.
 
@@ -265,7 +265,7 @@ pub accept_one : (o : Outer) (t : Tree) (h : Half) (k : Token) (ks : List Token)
 accept_one o t h k ks u e = grind (arith, next_state, accept, finish, no_end, finish_end)
 
 pub no_semi : (o : Outer) (t : Tree) (h : Half) → read o t h SEMI ≡ None
-no_semi o t y0 = grind arith
+no_semi o t h = grind arith
 
 pub accept_end : (o : Outer) (t : Tree) (h : Half) (u : Definition) → accept o t h (SEMI ∷ []) ≡ Some u → whole o t h ≡ Some u
 accept_end o t h u e = (finish_is o t h u SEMI [] (sym (ap (λ x. next_state x (λ p v k. accept p v k []) (finish o t h SEMI [])) (no_semi o t h)) ∙ e)).0
@@ -274,7 +274,7 @@ pub frames_few : (o : Outer) (t : Tree) (h : Half) (u : Definition) (ks : List T
 frames_few o t h u ks e l = let d = accept_depth ks o t h u e in omega arith
 
 pub loose_after : (h : Half) (k : Token) → Loose h → lead_if (Some k) ≡ false → Loose (half_after h k)
-loose_after y0 k p e = grind arith
+loose_after h k p e = grind arith
 
 -- the mode after a word of a body
 pub mode_after : (nm : List ℕ) (semi lead : Bool) → ends_body nm ≡ semi → names_in_body nm ≡ lead → after Body nm ≡ (if semi then Outside else if lead then NameInBody else Body)
@@ -336,14 +336,14 @@ one_step E s o p t v h g w sw k ks q x lead reads rest left turned =
 
 -- what a keyword's name is, by its row
 key_row : (n : List ℕ) (voc : ℕ) (nm : List ℕ) (k : Token) (number : ℕ) → row_of k ≡ Some number → IsKey n voc nm k → Key n voc nm number true × (nat_lt number 256 ≡ true)
-key_row n voc nm y0 number e x = grind arith
+key_row n voc nm k number e x = grind arith
 
 -- a keyword with a row is where nothing is half read
 free_row : (o p : Outer) (t v : Tree) (h g : Half) (k : Token) (number : ℕ) → row_of k ≡ Some number → Loose h → read o t h k ≡ Some (At p v g) → h ≡ Free
-free_row o p t v y0 g k number e l r = grind arith
+free_row o p t v h g k number e l r = grind arith
 
 row_no_lead : (k : Token) (number : ℕ) → row_of k ≡ Some number → (lead_if (Some k) ≡ false) × (semi_if (Some k) ≡ false)
-row_no_lead y0 number e = grind arith
+row_no_lead k number e = grind arith
 
 -- the place's facts that every step wants
 pub record Facts (E : Env) (s : Here) (o : Outer) (t : Tree) (h : Half) : Type 0 where

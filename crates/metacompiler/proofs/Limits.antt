@@ -17,7 +17,7 @@ abbrev pub Lasts : (k : ℕ) → (less more : Out) → Type 0
 Lasts k less more = ((less.stop ≡ Limit) × (less.left ≡ 0)) ⊎ (more ≡ later k less)
 
 tick_lasts : (k n : ℕ) (go on : Whole → Disk → Out) (s : State) (d : Disk) (e : Event) → ((u : Whole) (e : Disk) → Lasts k (go u e) (on u e)) → Lasts k (by_tick n go s d e) (by_tick (n + k) on s d e)
-tick_lasts k n go on s d y0 h = grind arith
+tick_lasts k n go on s d e h = grind arith
 
 pub rounds_last : (k n : ℕ) (s : Whole) (d : Disk) → Lasts k (rounds n s d) (rounds (n + k) s d)
 unfolding rounds
@@ -29,7 +29,7 @@ rounds_last k (suc n) s d =
 
 -- screens, one after another
 stop_lasts : (k : ℕ) (go : ℕ → Whole → Disk → Out) (less more : Out) (y : Stop) → less.stop ≡ y → ((n : ℕ) (s : Whole) (d : Disk) → Lasts k (go n s d) (go (n + k) s d)) → Lasts k less more → Lasts k (by_stop go less y) (by_stop go more more.stop)
-stop_lasts k go less more y0 e h y1 = grind arith
+stop_lasts k go less more y e h y1 = grind arith
 
 pub screens_last : (k w count b : ℕ) (less more : Out) → Lasts k less more → Lasts k (then_screens w count b less) (then_screens w count b more)
 unfolding then_screens
@@ -46,7 +46,7 @@ abbrev IsDone : Out → Type 0
 IsDone o = o.stop ≡ Limit → o.left ≡ 0
 
 tick_done : (n : ℕ) (go : Whole → Disk → Out) (s : State) (d : Disk) (e : Event) → ((u : Whole) (e : Disk) → IsDone (go u e)) → IsDone (by_tick n go s d e)
-tick_done n go s d y0 h = grind arith
+tick_done n go s d e h = grind arith
 
 rounds_done : (n : ℕ) (s : Whole) (d : Disk) → IsDone (rounds n s d)
 unfolding rounds
@@ -54,7 +54,7 @@ rounds_done zero s d = λ q. refl
 rounds_done (suc n) s d = let t = ticked s in tick_done n (λ (u : Whole) (f : Disk). rounds n u f) t.0 d t.1.event (λ u f. rounds_done n u f)
 
 stop_done : (go : ℕ → Whole → Disk → Out) (o : Out) (y : Stop) → o.stop ≡ y → ((n : ℕ) (s : Whole) (d : Disk) → IsDone (go n s d)) → IsDone o → IsDone (by_stop go o y)
-stop_done go o y0 e h g = grind arith
+stop_done go o y e h g = grind arith
 
 screens_done : (w count b : ℕ) (o : Out) → IsDone o → IsDone (then_screens w count b o)
 unfolding then_screens

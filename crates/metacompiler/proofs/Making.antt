@@ -29,7 +29,7 @@ abbrev pub Told : State × Act → Type 0
 Told t = Tells t.0 t.1.event
 
 either : (b : Bool) (x y : State × Act) → Told x → Told y → Told (if b then x else y)
-either y0 x y p q = grind arith
+either b x y p q = grind arith
 
 fault_told : (s : Whole) (shown : Shown) (f : ℕ) → Told (by_fault s shown f)
 unfolding by_fault
@@ -37,7 +37,7 @@ fault_told s shown f = either (cell s.memory FAULT == 0) _ _ tt tt
 
 concluded_told : (w : ℕ) (x : After) → Told (concluded w x)
 unfolding concluded
-concluded_told w y0 = grind (arith, fault_told)
+concluded_told w x = grind (arith, fault_told)
 
 pub ticked_told : (s : Whole) → Told (ticked s)
 unfolding ticked
@@ -45,7 +45,7 @@ ticked_told s = concluded_told (taken s).0 (executed (taken s).0 (taken s).1)
 
 answered_told : (s : Whole) (p : Request × ℕ) (reply : Reply) → Told (answered s p reply)
 unfolding answered key_answered line_answered read_answered write_answered
-answered_told s p y0 = grind (arith, either, nat_lt, fault_told)
+answered_told s p reply = grind (arith, either, nat_lt, fault_told)
 
 pub answer_told : (s : State) (r : Request) (reply : Reply) → asked_by s.wait ≡ Some r → Told (answer_of s reply)
 unfolding answer_of
@@ -57,16 +57,16 @@ NoAsk (event.Ask r) = ⊥
 NoAsk e = Unit {0}
 
 pub stop_goes : (s : State) (e : Event) → Tells s e → GoesOn s (stop_by s e)
-stop_goes s y0 h = grind arith
+stop_goes s e h = grind arith
 
 went_is : (left : ℕ) (go : Whole → Disk → Out) (s : State) (d : Disk) → went left go s.parts d ≡ continued left go s d (stop_by s event.Went)
 went_is left go s d = grind arith
 
 answer_is : (left : ℕ) (go : Whole → Disk → Out) (s : State) (d : Disk) (e : Event) → by_answer left go s d e ≡ continued left go s d (stop_by s e)
-answer_is left go s d y0 = grind arith
+answer_is left go s d e = grind arith
 
 tick_is : (left : ℕ) (go : Whole → Disk → Out) (s : State) (d : Disk) (e : Event) → NoAsk e → by_tick left go s d e ≡ continued left go s d (stop_by s e)
-tick_is left go s d y0 h = grind arith
+tick_is left go s d e h = grind arith
 
 -- an answer of the device
 settled : (left : ℕ) (s new : State) (d : Disk) (r : Request) (unread : Option (List ℕ)) (disk : Option Disk) (act : Act)
@@ -100,7 +100,7 @@ stop_of left (request.Write u) = if left == 0 then Some Limit else None
 stop_of left r = Some Asked
 
 pub unsettled : (left : ℕ) (s : State) (d : Disk) (r : Request) (disk : Option Disk) (y : Stop) → stop_of left r ≡ Some y → disk ≡ Some d → GoesOn s (Some y) → IsSettled left s d r s disk (Some y)
-unsettled left s d y0 disk y e q h = grind arith
+unsettled left s d r disk y e q h = grind arith
 
 -- a tick that asked
 pub asked_waits : (s : Whole) (new : State) (act : Act) (r : Request) → (new, act) ≡ ticked s → act.event ≡ event.Ask r → (new.halt ≡ None) × (asked_by new.wait ≡ Some r)
@@ -145,7 +145,7 @@ one_read w more screen o s new disk disk' left left' h r = grind arith
 
 stopped_stays : (w more screen : ℕ) (s : Whole) (d : Disk) (left : ℕ) (y : Stop) → y ≢ Ended → then_screens w more screen (out s d left y) ≡ out s d left y
 unfolding then_screens
-stopped_stays w y0 screen s d left y n = grind arith
+stopped_stays w more screen s d left y n = grind arith
 
 pub stops_reading : (w more screen : ℕ) (o : Out) (s new : State) (disk disk' : Option Disk) (left left' : ℕ) (y : Stop) → AreSoFar w (suc more) screen o s disk left
     → ((d : Disk) → disk ≡ Some d → Runs s → StopsAt (rounds left (entered s.parts w screen) d) new disk' left' y) → y ≢ Ended → StopsAt o new disk' left' y
@@ -157,7 +157,7 @@ unfolding then_screens
 all_read w screen o s disk left h = record { told = h.told; disk_is = h.disk_is; stop_is = sym h.same; goes = h.goes }
 
 pub at_end : (y : Stop) → is_end y ≡ true → y ≡ Ended
-at_end y0 e = grind arith
+at_end y e = grind arith
 
 pub before_end : (y : Stop) → is_end y ≡ false → y ≢ Ended
 before_end y e q = let w : is_end y ≡ true = ap is_end q in let z : true ≡ false = sym w ∙ e in cc

@@ -26,7 +26,7 @@ one_move p t None some own ok e = λ r y h. record { moves = t ∷ h.moves; roun
 one_move p t (Some z) some own ok e = record { moves = t ∷ []; rounds = (some, own, ok, rw e (refl, refl, refl)) }
 
 led_then : (p m q : Stage) (y : Option Stop) → LeadsTo p m None → LeadsTo m q y → LeadsTo p q y
-led_then p m q y0 f g = grind arith
+led_then p m q y f g = grind arith
 
 -- where no tick is left
 pub none_left : (p : Stage) → p.left ≡ 0 → IsLed p p (Some Limit)
@@ -35,7 +35,7 @@ none_left p e = record { goes = tt; leads = record { moves = []; rounds = (e, re
 
 -- a tick
 silent : (s : State) (e : Event) → NoAsk e → stop_by_tick s e ≡ stop_by s e
-silent s y0 h = grind arith
+silent s e h = grind arith
 
 tick_leads : (s new : State) (c : List DeviceCall) (n : ℕ) (act : Act) → IsTicked s new act → LeadsTo (stage s c (n + 1)) (stage new c n) (stop_by_tick new act.event)
 tick_leads s new c n act t =
@@ -91,11 +91,11 @@ no_more word screen m All h = h.on m Ended (refl, refl)
 
 -- a refusal, where no screen is read
 pub refused_saved : (o : Result ℕ LoadFault) (r : Result Contents LoadFault) (P : Type 0) → IfErr o (λ c. (r ≡ Err c) × P) → IfErr o (λ c. IsSaved (Err c) r × P)
-refused_saved y0 r y1 h = grind arith
+refused_saved o r P h = grind arith
 
 -- no memory for the machine
 pub unloaded : (o : Result ℕ LoadFault) (P : Type 0) → P → IfErr o (λ c. IsSaved (Err c) (Err OutOfMemory) × P)
-unloaded y0 y1 p = grind arith
+unloaded o P p = grind arith
 
 pub not_read : (o : Result ℕ LoadFault) (image : Contents) (count from to ticks : ℕ) (calls : List DeviceCall) → IfOk o (λ word. HasLoaded word image count from to ticks calls calls (Err OutOfMemory))
-not_read y0 image count from to ticks calls = grind arith
+not_read o image count from to ticks calls = grind arith

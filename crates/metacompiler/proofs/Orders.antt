@@ -408,14 +408,14 @@ orderly_kept {limit} ws a cur ctx most here view n name b g l s h =
 
 -- the header that is found is apart from the head
 find_step : (here head : ℕ) (m : List ℕ) (test : ℕ → Bool) (l x : ℕ) (ls : List ℕ) (b : Bool) → test l ≡ b → HeaderApart here head m l → (find test ls ≡ Some x → HeaderApart here head m x) → find test (l ∷ ls) ≡ Some x → HeaderApart here head m x
-find_step here head m test l x ls y0 e g f q = grind arith
+find_step here head m test l x ls b e g f q = grind arith
 
 apart_find : (here head : ℕ) (m : List ℕ) (test : ℕ → Bool) (x : ℕ) (ls : List ℕ) → HeadersApart here head m ls → find test ls ≡ Some x → HeaderApart here head m x
 apart_find here head m test x [] g q = cc
 apart_find here head m test x (l ∷ ls) g q = find_step here head m test l x ls (test l) refl g.0 (λ (e : find test ls ≡ Some x). apart_find here head m test x ls g.1 e) q
 
 found_by : (o : Option ℕ) (longer : Bool) (x : ℕ) → comes_to o longer ≡ Found x → o ≡ Some x
-found_by y0 longer x e = grind arith
+found_by o longer x e = grind arith
 
 apart_walked : (here head : ℕ) (m : List ℕ) (test : ℕ → Bool) (h x : ℕ) → ChainApart here head m h → walked test m 32768 (cell m h) ≡ Found x → HeaderApart here head m x
 unfolding walked
@@ -424,7 +424,7 @@ apart_walked here head m test h x c q =
     (found_by (find test (chain m 32768 (cell m h))) (is_longer m 32768 (cell m h)) x q)
 
 by_either : (here head : ℕ) (m : List ℕ) (v w : Sought) (x : ℕ) (b : Bool) → (if b then Nowhere else or_else v w) ≡ Found x → (v ≡ Found x → HeaderApart here head m x) → (w ≡ Found x → HeaderApart here head m x) → HeaderApart here head m x
-by_either here head m v w x y0 q f g = grind arith
+by_either here head m v w x b q f g = grind arith
 
 pub found_apart : (here head voc : ℕ) (m nm : List ℕ) (l : ℕ) → ChainApart here head m (head_of voc nm) → ChainApart here head m (head_of 42 nm) → sought_from m voc nm ≡ Found l → HeaderApart here head m l
 unfolding sought_from first_from first_in

@@ -35,21 +35,21 @@ ruleset tests = (first, second)
 
 -- a keyword that is found
 keyword_at : (m : List ℕ) (voc : ℕ) (name : List ℕ) (number : ℕ) (s : Sought) → sought_from m voc name ≡ s → is_keyword_at m number s ≡ true → Key m voc name number true
-keyword_at m voc name number y0 e h = grind arith
+keyword_at m voc name number s e h = grind arith
 
 keyword_by : (m : List ℕ) (voc : ℕ) (name : List ℕ) (number : ℕ) → has_keyword m voc name number ≡ true → Key m voc name number true
 unfolding has_keyword
 keyword_by m voc name number h = keyword_at m voc name number (sought_from m voc name) refl h
 
 colon_at : (m : List ℕ) (voc : ℕ) (s : Sought) → sought_from m voc (codes ":") ≡ s → is_colon_at m s ≡ true → Key m voc (codes ":") 168 false
-colon_at m voc y0 e h = grind arith
+colon_at m voc s e h = grind arith
 
 colon_by : (m : List ℕ) (voc : ℕ) → has_colon m voc ≡ true → Key m voc (codes ":") 168 false
 unfolding has_colon
 colon_by m voc h = colon_at m voc (sought_from m voc (codes ":")) refl h
 
 compile_at : (m : List ℕ) (voc : ℕ) (s : Sought) → sought_from m voc (codes "COMPILE") ≡ s → is_compile_at m s ≡ true → IsKey m voc (codes "COMPILE") COMPILE
-compile_at m voc y0 e h = grind arith
+compile_at m voc s e h = grind arith
 
 compile_by : (m : List ℕ) (voc : ℕ) → has_compile m voc ≡ true → IsKey m voc (codes "COMPILE") COMPILE
 unfolding has_compile
@@ -145,7 +145,7 @@ all_at : (p : ℕ → Bool) (xs : List ℕ) (l : ℕ) → list_all p xs ≡ true
 all_at p xs l h c = All-contains (λ x. p x ≡ true) xs l (AllPass-from_list_all p xs h) c
 
 either : (a b : Bool) → (a || b) ≡ true → (a ≡ true) ⊎ (b ≡ true)
-either y0 b e = grind arith
+either a b e = grind arith
 
 -- headers
 header_of : (m hs : List ℕ) (w : ℕ) → has_header m hs w ≡ true → (l : ℕ) × Contains hs l × (compilation_address m l ≡ w)
@@ -186,7 +186,7 @@ read_in : (m hs : List ℕ) (l : ℕ) → HasChains m hs → IsRead hs m l → C
 read_in m hs l c y0 = grind arith
 
 link_of : (m : List ℕ) (word : ℕ) (s : Sought) → by_address m s ≡ Found word → (l : ℕ) × (s ≡ Found l) × (compilation_address m l ≡ word)
-link_of m word y0 e = grind arith
+link_of m word s e = grind arith
 
 idle_of : (m : List ℕ) (limit : ℕ) → is_idle m limit ≡ true → (cell m 16 ≡ 0) × (cell m 18 ≡ 10) × (cell m 28 ≤ limit) × (256 ≤ cell m 28)
 unfolding is_idle
@@ -296,7 +296,7 @@ self : (a : List ℕ) → AllIn a a
 self a = λ l h. h
 
 class_of : (P : ℕ → Type 0) (n : ℕ) → n < 4 → P 0 → P 1 → P 2 → P 3 → P n
-class_of y0 y1 h a b c d = grind arith
+class_of P n h a b c d = grind arith
 
 class_small : (b : ℕ) → b % 4 < 4
 class_small b = omega arith
@@ -329,4 +329,4 @@ has_chains m a b c d p q r h (x, inr (inr e)) = subst (λ (j : ℕ). ChainIn m j
 
 -- what holds where an answer is true
 pub where_true : {E : Type 0} (r : Result Bool E) (A B : Type 0) → IfOk r (λ w. IsTrue w → A) → (A → B) → IfOk r (λ w. IsTrue w → B)
-where_true y0 y1 y2 x f = grind arith
+where_true r A B x f = grind arith

@@ -59,49 +59,49 @@ is_not : (k l : ℕ) → nat_lt k l ≡ false → l ≤ k
 is_not k l h = grind arith
 
 count_step : (k n : ℕ) (xs ys : List ℕ) (b : Bool) → length xs + length ys ≡ n → length (if b then k ∷ xs else xs) + length (if b then ys else k ∷ ys) ≡ suc n
-count_step k n xs ys y0 h = grind arith
+count_step k n xs ys b h = grind arith
 
 counted : (l : ℕ) (ks : List ℕ) → length (belows l ks) + length (aboves l ks) ≡ length ks
 counted l [] = refl
 counted l (k ∷ ks) = count_step k (length ks) (belows l ks) (aboves l ks) (nat_lt k l) (counted l ks)
 
 below_step : (lo hi l k : ℕ) (ks : List ℕ) (b : Bool) → nat_lt k l ≡ b → lo ≤ k → Beside l k → Within lo l ks → Within lo l (if b then k ∷ ks else ks)
-below_step lo hi l k ks y0 e h x w = grind arith
+below_step lo hi l k ks b e h x w = grind arith
 
 below_within : (lo hi l : ℕ) (ks : List ℕ) → Within lo hi ks → FromAll l ks → Within lo l (belows l ks)
 below_within lo hi l [] w f = refl
 below_within lo hi l (k ∷ ks) w f = below_step lo hi l k (belows l ks) (nat_lt k l) refl w.0.0 f.0 (below_within lo hi l ks w.1 f.1)
 
 above_step : (lo hi l k : ℕ) (ks : List ℕ) (b : Bool) → nat_lt k l ≡ b → k + 7 ≤ hi → Beside l k → Within (l + 7) hi ks → Within (l + 7) hi (if b then ks else k ∷ ks)
-above_step lo hi l k ks y0 e h x w = grind arith
+above_step lo hi l k ks b e h x w = grind arith
 
 above_within : (lo hi l : ℕ) (ks : List ℕ) → Within lo hi ks → FromAll l ks → Within (l + 7) hi (aboves l ks)
 above_within lo hi l [] w f = refl
 above_within lo hi l (k ∷ ks) w f = above_step lo hi l k (aboves l ks) (nat_lt k l) refl w.0.1 f.0 (above_within lo hi l ks w.1 f.1)
 
 from_if : (x k : ℕ) (xs ys : List ℕ) (b : Bool) → FromAll x (k ∷ xs) → FromAll x ys → FromAll x (if b then k ∷ xs else ys)
-from_if x k xs ys y0 f g = grind arith
+from_if x k xs ys b f g = grind arith
 
 from_below : (x l : ℕ) (ks : List ℕ) → FromAll x ks → FromAll x (belows l ks)
 from_below x l [] f = refl
 from_below x l (k ∷ ks) f = from_if x k (belows l ks) (belows l ks) (nat_lt k l) (f.0, from_below x l ks f.1) (from_below x l ks f.1)
 
 from_if_not : (x k : ℕ) (xs ys : List ℕ) (b : Bool) → FromAll x xs → FromAll x (k ∷ ys) → FromAll x (if b then xs else k ∷ ys)
-from_if_not x k xs ys y0 f g = grind arith
+from_if_not x k xs ys b f g = grind arith
 
 from_above : (x l : ℕ) (ks : List ℕ) → FromAll x ks → FromAll x (aboves l ks)
 from_above x l [] f = refl
 from_above x l (k ∷ ks) f = from_if_not x k (aboves l ks) (aboves l ks) (nat_lt k l) (from_above x l ks f.1) (f.0, from_above x l ks f.1)
 
 pair_if : (k : ℕ) (xs ys : List ℕ) (b : Bool) → Pairwise (k ∷ xs) → Pairwise ys → Pairwise (if b then k ∷ xs else ys)
-pair_if k xs ys y0 f g = grind arith
+pair_if k xs ys b f g = grind arith
 
 pair_below : (l : ℕ) (ks : List ℕ) → Pairwise ks → Pairwise (belows l ks)
 pair_below l [] p = refl
 pair_below l (k ∷ ks) p = pair_if k (belows l ks) (belows l ks) (nat_lt k l) (from_below k l ks p.0, pair_below l ks p.1) (pair_below l ks p.1)
 
 pair_if_not : (k : ℕ) (xs ys : List ℕ) (b : Bool) → Pairwise xs → Pairwise (k ∷ ys) → Pairwise (if b then xs else k ∷ ys)
-pair_if_not k xs ys y0 f g = grind arith
+pair_if_not k xs ys b f g = grind arith
 
 pair_above : (l : ℕ) (ks : List ℕ) → Pairwise ks → Pairwise (aboves l ks)
 pair_above l [] p = refl
@@ -138,7 +138,7 @@ is_some : (l : ℕ) → (l == 0) ≡ false → l ≢ 0
 is_some l h = grind arith
 
 end_step : (m : List ℕ) (n l : ℕ) (b : Bool) → (l == 0) ≡ b → (length (chain m n (cell m l)) < n → linked m (length (chain m n (cell m l))) (cell m l) ≡ 0) → length (if b then [] else l ∷ chain m n (cell m l)) < suc n → linked m (length (if b then [] else l ∷ chain m n (cell m l))) l ≡ 0
-end_step m n l y0 e f h = grind arith
+end_step m n l b e f h = grind arith
 
 -- after the last member comes 0
 pub ends : (m : List ℕ) (n l : ℕ) → length (chain m n l) < n → linked m (length (chain m n l)) l ≡ 0
@@ -147,7 +147,7 @@ ends m zero l h = absurd (omega arith)
 ends m (suc n) l h = end_step m n l (l == 0) refl (ends m n (cell m l)) h
 
 some_step : (m : List ℕ) (n l i : ℕ) (b : Bool) → (l == 0) ≡ b → ((j : ℕ) → j < length (chain m n (cell m l)) → linked m j (cell m l) ≢ 0) → i < length (if b then [] else l ∷ chain m n (cell m l)) → linked m i l ≢ 0
-some_step m n l i y0 e f h = grind arith
+some_step m n l i b e f h = grind arith
 
 -- and none before it is 0
 pub some : (m : List ℕ) (n l i : ℕ) → i < length (chain m n l) → linked m i l ≢ 0
@@ -156,7 +156,7 @@ some m zero l i h = absurd (omega arith)
 some m (suc n) l i h = some_step m n l i (l == 0) refl (some m n (cell m l)) h
 
 at_step : (m : List ℕ) (n l i : ℕ) (b : Bool) → ((j : ℕ) → j < length (chain m n (cell m l)) → slice_index (chain m n (cell m l)) j ≡ linked m j (cell m l)) → i < length (if b then [] else l ∷ chain m n (cell m l)) → slice_index (if b then [] else l ∷ chain m n (cell m l)) i ≡ linked m i l
-at_step m n l i y0 f h = grind arith
+at_step m n l i b f h = grind arith
 
 pub member_at : (m : List ℕ) (n l i : ℕ) → i < length (chain m n l) → slice_index (chain m n l) i ≡ linked m i l
 unfolding chain
@@ -355,7 +355,7 @@ unfolding words_of_screens
 no_words from = refl
 
 same_context : (m : List ℕ) (es : List ColonDefinition) → context_of (cell m 34) (cell m 32) es ≡ context_behind m es
-same_context m y0 = grind arith
+same_context m es = grind arith
 
 -- INTERPRET is found
 

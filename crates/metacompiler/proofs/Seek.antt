@@ -213,10 +213,10 @@ due_here m blocks b p more w rest l h e s = grind (arith, none_left, screens_fro
 -- Buffers between screens: clean ones stay clean, and a screen that was in none is in none after the read of another.
 
 or_left : (a b : Bool) → (a || b) ≡ false → a ≡ false
-or_left y0 b h = grind arith
+or_left a b h = grind arith
 
 or_right : (a b : Bool) → (a || b) ≡ false → b ≡ false
-or_right y0 b h = grind arith
+or_right a b h = grind arith
 
 or_both : (a b : Bool) → a ≡ false → b ≡ false → (a || b) ≡ false
 or_both a b h g = rw (h, g) refl

@@ -162,7 +162,7 @@ abbrev Room : (limit : ℕ) → ℕ → Outer → Body → Half → Token → Li
 Room limit at o t h w m = (256 ≤ at) × (at + open_size o t h + laid_by w ≤ limit) × (cell m 28 ≡ at + open_size o t h)
 
 fit_aside : {limit : ℕ} (at : ℕ) (o p : Outer) (t u : Body) (k : Half) (w : Token) (m below : List ℕ) (i : ℕ) → Room limit at o t Free w m → fit o t w ≡ Some (At p u k) → IsAside limit i → byte (lays w m (places at o ++ below)).0 i ≡ byte m i
-fit_aside {limit} at o p t u k y0 m below i r e a = grind (arith, one_byte, two_byte, laid_byte, length-wide, length-text, put_aside, resolved_byte, length-two)
+fit_aside {limit} at o p t u k w m below i r e a = grind (arith, one_byte, two_byte, laid_byte, length-wide, length-text, put_aside, resolved_byte, length-two)
 
 read_aside : {limit : ℕ} (at : ℕ) (o p : Outer) (t u : Body) (h k : Half) (w : Token) (m below : List ℕ) (i : ℕ) → Room limit at o t h w m → read o t h w ≡ Some (At p u k) → IsAside limit i → byte (lays w m (places at o ++ below)).0 i ≡ byte m i
 read_aside {limit} at o p t u h k (NAME w) m below i r e a = let r0 = r.0 in let r1 = r.1 in let r2 = r.2 in one_byte m w i (omega arith) (omega arith) a
@@ -360,7 +360,7 @@ text_row false u d i b p w text r s h = reads_here (at u d i) b p text (tells_on
 text_row true u d i b p w text r s h = reads_here (at u d i) b p text (tells_on 17) (reading_at u d i b p text r) ∙ tells_here 17 (at u d i) b p text (reading_at u d i b p text r) s h
 
 text_small : (k : Bool) → nat_lt (text_row_of k) 256 ≡ true
-text_small y0 = grind arith
+text_small k = grind arith
 
 text_length : (text : List ℕ) (p : ℕ) → length text ≡ 1024 → p ≤ 1024 → length (bytes_of text (parsed text p 34)) ≡ (parsed text p 34).len
 text_length text p l h = grind (arith, parsed_within, length-take-le, length-drop)

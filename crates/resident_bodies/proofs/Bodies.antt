@@ -23,7 +23,7 @@ pub grows : (o p : Outer) (t u : Body) (h k : Half) (w : Token) → read o t h w
 grows o p t u h k w e = grind arith
 
 no_semi : (o : Outer) (t : Body) (h : Half) → read o t h SEMI ≡ None
-no_semi o t y0 = grind arith
+no_semi o t h = grind arith
 
 -- a whole body after all its words
 record Read (before : List ℕ) (at : ℕ) (u : Definition) (m d below : List ℕ) : Type 0 where
@@ -60,7 +60,7 @@ begins m d at l e h = record {
 
 -- the whole exists
 pub whole_code : (rt : ℕ → ℕ) (at : ℕ) (o : Outer) (t : Body) (h : Half) (u : Definition) → whole o t h ≡ Some u → (open_code rt o t h at ≡ all_code rt u at) × (open_size o t h ≡ all_size u) × (places at o ≡ [])
-whole_code rt at y0 t h u e = grind (arith, append_assoc)
+whole_code rt at o t h u e = grind (arith, append_assoc)
 
 all_read : (m d : List ℕ) (at : ℕ) (body : Definition) → length m ≡ 65536 → cell m 28 ≡ at → 256 ≤ at → at + all_size body ≤ GREATEST_LIMIT → Read m at body (lays_all (all_words body) m d).0 (lays_all (all_words body) m d).1 d
 all_read m d at body l e g h = reads (all_words body) m at Top Empty Free body m d d g (omega (arith, laid-all body)) (accept_all body) (begins m d at l e (omega arith))

@@ -26,7 +26,7 @@ code_same f g (Text t true bs) at h = rw (code_same f g t at h, h 17 (omega arit
 code_same f g (Text t false bs) at h = rw (code_same f g t at h, h 16 (omega arith)) refl
 
 pub all_same : (f g : ℕ → ℕ) (d : Definition) (at : ℕ) → AreSame f g → all_code f d at ≡ all_code g d at
-all_same f g y0 at h = grind (arith, code_same, size)
+all_same f g d at h = grind (arith, code_same, size)
 
 pub thread_same : (f g : ℕ → ℕ) (d : Definition) (at : ℕ) → ((k : ℕ) → k < 32 → f k ≡ g k) → thread f d at ≡ thread g d at
 thread_same f g d at h = rw (all_same f g d at h, h 5 (omega arith)) refl

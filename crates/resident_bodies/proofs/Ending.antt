@@ -212,7 +212,7 @@ unfolding cell
 low_zero m j e h = grind arith
 
 false_not : (b : Bool) → b ≡ false → b ≡ true → ⊥
-false_not y0 e f = grind arith
+false_not b e f = grind arith
 
 -- below the definition
 agree_low : (m name s : List ℕ) (here head j : ℕ) (b : Definition) → Read m name here head b s → j < here → j / 4 ≢ 5 → j / 2 ≢ 14 → j / 2 ≢ 16

@@ -208,14 +208,14 @@ known_takes_r4 s f h = by_takes_r4 Known s f (known_fault s 3 refl) h
 
 known_searches : (s : Whole) (x : Sought) (nowhere : After) (found : ℕ → After) → Known nowhere → ((l : ℕ) → Known (found l)) → Known (searches s x nowhere found)
 unfolding searches
-known_searches s y0 nowhere found h k = grind (arith, known_fault)
+known_searches s x nowhere found h k = grind (arith, known_fault)
 
 known_forgets : (s : Whole) (x : Result ℕ ForgetFault) (after : ℕ → After) → ((t : ℕ) → Known (after t)) → Known (forgets s x after)
 unfolding forgets
-known_forgets s y0 after h = grind (arith, known_fault)
+known_forgets s x after h = grind (arith, known_fault)
 
 asked : (t : Whole) (a b : Bool) (q r : Request) → Known (t, (if a then (if b then outcome.Ask q else outcome.Ask r) else outcome.Fault 7))
-asked t y0 b q r = grind (arith, known_ask, known_fault)
+asked t a b q r = grind (arith, known_ask, known_fault)
 
 known_without : (s t : Whole) (u : ℕ) → Known (t, without_block s u)
 unfolding without_block

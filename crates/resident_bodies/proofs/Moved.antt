@@ -36,7 +36,7 @@ moved_double m d q n =
     ∙ ap (λ c. laid_at (cell m 28) (put_cell m 20 q) ((cell_bytes c ++ cell_bytes (n % 65536)) ++ (cell_bytes c ++ cell_bytes (n / 65536)))) (control_is m q 6 (omega arith))
 
 text_small : (k : Bool) → text_control k < 32
-text_small y0 = grind arith
+text_small k = grind arith
 
 pub moved_text : (m d text : List ℕ) (q : ℕ) (k : Bool) → (lays (TEXT k text) (put_cell m 20 q) d).0 ≡ laid_at (cell m 28) (put_cell m 20 q) (text_code (runtime m (text_control k)) text)
 moved_text m d text q k = grind (arith, here_is, control_is, text_small)

@@ -112,10 +112,10 @@ plus_loop_row w s a b d h g = resolved_is (with_stack s (b ∷ a ∷ d)) 11 b a 
 
 -- the row of a word that fits
 fit_row : (at : ℕ) (o p : Outer) (t u : Body) (h : Half) (k : Token) (n w : ℕ) (s : Whole) (below : List ℕ) → row_of k ≡ Some n → fit o t k ≡ Some (At p u h) → cell s.memory 28 + laid_by k ≤ limit s.buffers → length (places at o ++ below) ≤ 250 → RowIs n w s k (places at o ++ below)
-fit_row at o p t u h y0 n w s below q e r g = grind (arith, at_number, if_row, begin_row, do_row, does_row, then_row, else_row, until_row, again_row, while_row, repeat_row, loop_row, plus_loop_row)
+fit_row at o p t u h k n w s below q e r g = grind (arith, at_number, if_row, begin_row, do_row, does_row, then_row, else_row, until_row, again_row, while_row, repeat_row, loop_row, plus_loop_row)
 
 fits_so : (o : Outer) (t : Body) (k : Token) (n : ℕ) (x : Option State) → row_of k ≡ Some n → read o t Free k ≡ x → fit o t k ≡ x
-fits_so o t y0 n x q e = grind arith
+fits_so o t k n x q e = grind arith
 
 pub row_is : (before : List ℕ) (at : ℕ) (o p : Outer) (t u : Body) (h : Half) (k : Token) (n w : ℕ) (s : Whole) (below : List ℕ) → at + open_size o t Free + laid_by k ≤ limit s.buffers → length s.values ≤ 250 → row_of k ≡ Some n → read o t Free k ≡ Some (At p u h) → Draft before at o t Free s.memory s.values below
     → row n w s ≡ (record s { memory = (lays k s.memory s.values).0; values = (lays k s.memory s.values).1 }, Done)

@@ -167,7 +167,7 @@ double_word before at o t m below n l r g =
     (lies_laid before at bs cs m l (omega (arith, length-open_code before at o t Free, k)) g)
 
 text_small : (k : Bool) → text_control k < 32
-text_small y0 = grind arith
+text_small k = grind arith
 
 text_word : (before : List ℕ) (at : ℕ) (o : Outer) (t : Body) (m below : List ℕ) (k : Bool) (ts : List ℕ) → 256 ≤ at → at + open_size o t Free + (3 + length ts) ≤ GREATEST_LIMIT → Open before at o t Free m → Draft before at o (Text t k ts) Free (laid m (text_code (runtime m (text_control k)) ts)) (places at o ++ below) below
 unfolding text_code
@@ -349,7 +349,7 @@ repeat_word before at o t a b m below l r g =
     (lies_patched before at two (laid m (control_code m 7 y)) (at + p) p x l (omega (arith, n, k)) refl (omega (arith, n, k)) (two_cells before at (InWhile o t a) b m 7 y l r g))
 
 loop_small : (k : Bool) → loop_control k < 32
-loop_small y0 = grind arith
+loop_small k = grind arith
 
 loop_word : (before : List ℕ) (at : ℕ) (o : Outer) (t a : Body) (m below : List ℕ) (k : Bool) → 256 ≤ at → at + open_size (InDo o t) a Free + 4 ≤ GREATEST_LIMIT → Open before at (InDo o t) a Free m
     → Draft before at o (Loop t a k) Free (laid_and_resolved m (control_code m (loop_control k) (at + (outer_size o + size t + 4))) (at + (outer_size o + size t + 2))) (places at o ++ below) below
