@@ -51,16 +51,21 @@ def cited(names: Iterable[str]) -> List[Tuple[str, str]]:
     return sorted({(path[0], item_of(path[3:])) for path in paths if path[1:3] == ["specs", "declared"] and path[0] != "std"})
 
 
-def table(names: Iterable[str]) -> List[str]:
-    """The lines of two tables: of the enums, and of the structs that have public fields; and of constants with their numbers."""
+def found(names: Iterable[str]) -> Tuple[List[Item], List[Tuple[str, str, str]]]:
+    """The enums and the structs with public fields among what definitions name; and the constants, each with its crate and its number."""
     wanted = cited(names)
     sources = {crate: [it.read_text(encoding="utf-8") for it in sorted((CRATES / crate / "src").rglob("*.rt"))] for crate, _ in wanted}
     items: Dict[Tuple[str, str], Item] = {(it.crate, it.name): it for crate, texts in sources.items() for text in texts for it in items_in(crate, text)}
     numbers = {(crate, name): value for crate, texts in sources.items() for text in texts for name, value in CONSTANT.findall(text)}
-    rows = [items[it].row() for it in wanted if it in items and items[it].parts]
+    return [items[it] for it in wanted if it in items and items[it].parts], [(*it, numbers[it]) for it in wanted if it in numbers]
+
+
+def table(names: Iterable[str]) -> List[str]:
+    """The lines of two tables: of the enums, and of the structs that have public fields; and of constants with their numbers."""
+    items, numbers = found(names)
     shown: Dict[str, List[str]] = {}
-    for crate, name in wanted:
-        if (crate, name) in numbers:
-            shown.setdefault(crate, []).append(f"`{name}` {numbers[crate, name]}")
+    for crate, name, value in numbers:
+        shown.setdefault(crate, []).append(f"`{name}` {value}")
     constants = [f"| `{crate}` | {', '.join(them)} |" for crate, them in shown.items()]
+    rows = [it.row() for it in items]
     return ["| type | what it is | its variants, or its fields |", "|---|---|---|", *rows, "", "| crate | constants |", "|---|---|", *constants]

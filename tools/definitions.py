@@ -3,6 +3,8 @@ import pathlib
 import re
 from typing import Dict, Iterable, Iterator, List, NamedTuple, Optional, Set, Tuple
 
+import promises
+
 CRATES = pathlib.Path(__file__).resolve().parent.parent / "crates"
 HEAD = re.compile(r"^(?:(?:abbrev|unfoldable) )?(?:pub )?(?:record |data )?([^\s:(){]+) ?.*:")
 CONSTRUCTOR = re.compile(r"^  (?:pub )?([A-Z][\w'-]*) :")
@@ -23,7 +25,14 @@ class Definition(NamedTuple):
 
     @property
     def lines(self) -> int:
-        return sum(1 for line in self.text.splitlines() if line.strip())
+        """How many lines one has to read; none of a table of rows, which is made of their headings."""
+        is_made = self.module == "Table" and self.name.endswith("_rows")
+        return 0 if is_made else sum(1 for line in self.text.splitlines() if line.strip())
+
+    @property
+    def file(self) -> str:
+        """The file that has it, below crates/; a trait's is a source."""
+        return f"{self.crate}/{self.module if self.module.endswith('.rt') else f'specs/{self.module}.antt'}"
 
 
 class Module(NamedTuple):
@@ -134,6 +143,26 @@ class Library:
         for text, imports in roots:
             visit(text, imports, "")
         return order, names
+
+    def of_promise(self, promise: promises.Promise) -> Tuple[List[Definition], Set[str]]:
+        """What a promise needs: the clauses of traits that it speaks of, each after the definitions that it cites; and names."""
+        needed, names = self.followed(clauses_of(*function) for function in promise.functions)
+        for crate, file, trait in promise.traits:
+            text, imports = trait_of(crate, file, trait)
+            more, others = self.followed([(text, imports)])
+            needed += [one for one in [*more, Definition(crate, f"src/{file}", f"trait {trait}", text, ())] if one not in needed]
+            names |= others
+        return needed, names
+
+
+def trait_of(crate: str, file: str, trait: str) -> Tuple[str, Dict[str, Tuple[str, str]]]:
+    """The clauses of a trait and what its logs are, without comments and imports; and what its file imports."""
+    text = (CRATES / crate / "src" / file).read_text(encoding="utf-8")
+    found = re.search(rf"^pub trait {trait}\b.*?^\}}$", text, re.M | re.S)
+    if found is None:
+        raise ValueError(f"{crate}/src/{file} has no trait {trait}")
+    lines = (line for line in found[0].splitlines() if line.strip() and not re.match(r" *(//|ghost use|#\[)", line))
+    return "\n".join(lines), imports_of(text)
 
 
 def clauses_of(crate: str, file: str, function: str, *names: str) -> Tuple[str, Dict[str, Tuple[str, str]]]:

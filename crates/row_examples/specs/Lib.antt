@@ -1,0 +1,10 @@
+pub mod Control
+pub mod Stack
+pub mod Cell
+pub mod Double
+pub mod MemoryRows
+pub mod Devices
+pub mod Numbers
+pub mod Input
+pub mod Compiling
+pub mod Editor
