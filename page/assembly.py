@@ -52,7 +52,7 @@ def packed(name: str, content: bytes) -> str:
 
 
 def page(data: Dict[str, object], files: Dict[str, bytes], facts: Dict[str, str]) -> str:
-    """The page with its data. FILES are the machine's `module` and the `image`; FACTS are TITLE, VERSION, SHA256 and PROVED, as texts."""
+    """The page with its data. FILES are the machine's `module` and the `image`; FACTS are TITLE, VERSION, SHA256, PROVED, CLAIM and ROSE, as texts."""
     script = bundle()
     values = {name: html.escape(text) for name, text in facts.items()}
     values["HELP"] = filled(text_of("help.html"), values)

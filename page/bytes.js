@@ -2,15 +2,19 @@
 
 // Bytes are read as UTF-8 if that is possible, otherwise as a character for each byte, as on old disks.
 const STRICT = new TextDecoder("utf-8", { fatal: true });
-export function decode(bytes) {
+export function strictly(bytes) {
   try {
     return STRICT.decode(bytes);
   } catch {
-    return Array.from(bytes, (byte) => String.fromCharCode(byte)).join("");
+    return null;
   }
 }
 
+export const decode = (bytes) => strictly(bytes) ?? Array.from(bytes, (byte) => String.fromCharCode(byte)).join("");
+
 export const encode = (text) => new TextEncoder().encode(text);
+
+export const isSame = (one, other) => one.length === other.length && one.every((byte, at) => byte === other[at]);
 
 export function toBase64(bytes) {
   let text = "";

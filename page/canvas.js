@@ -11,6 +11,7 @@ export class Canvas {
     this.image = new ImageData(WIDE, HIGH);
     parts.save.addEventListener("click", () => this.save());
     parts.try.addEventListener("click", () => this.try());
+    parts.lines.addEventListener("click", ({ target }) => target.dataset.line && page.send(target.dataset.line));
   }
 
   get session() { return this.page.session; }
@@ -30,7 +31,8 @@ export class Canvas {
   look() {
     const first = this.first();
     this.play(first);
-    if (document.body.dataset.tab !== "canvas" || this.isAsked) return;
+    const { tab } = document.body.dataset, isSeen = tab === "canvas" || (tab === "course" && this.page.course.isDrawing);
+    if (!isSeen || this.isAsked) return;
     this.isAsked = true;
     requestAnimationFrame(() => {
       this.isAsked = false;
@@ -47,9 +49,9 @@ export class Canvas {
   }
 
   draw(first) {
-    const { none, picture, save } = this.parts;
+    const { none, picture, save, lines } = this.parts;
     none.hidden = first !== null;
-    picture.hidden = save.hidden = first === null;
+    picture.hidden = save.hidden = lines.hidden = first === null;
     if (first === null) return;
     const bytes = this.bytes(first), { data } = this.image;
     for (let at = 0; at < ROW * HIGH; at++) {
@@ -91,8 +93,8 @@ export class Canvas {
 
   // Opens the disk with the words for the canvas, and draws something.
   async try() {
-    if (this.session.disk.name !== "draw.blk" && !(await this.page.files.insertNamed("draw.blk"))) return;
-    this.page.enter("1 LOAD 8 LOAD ROSE");
+    if (this.session.disk.name !== "draw.blk" && !(await this.page.work.putIn("draw.blk"))) return;
+    this.page.send("1 LOAD 8 LOAD ROSE");
   }
 
   save() {

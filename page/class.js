@@ -1,12 +1,15 @@
 // A class list: the files of pupils are checked lesson by lesson, with the page's own checkers, each lesson on a machine of its own.
 
-import { decode, element, encode, fromBase64 } from "./bytes.js";
+import { decode, element, encode } from "./bytes.js";
 import { CHECKERS, COURSE, lessonsOf } from "./course.js";
 import { DATA } from "./data.js";
-import { linesOf } from "./disk.js";
+import { Disk, isScreens, linesOf, screensOf } from "./disk.js";
+import { builtIn } from "./editions.js";
 import { ASKS, Machine, PAGE_SIZE, STOP } from "./machine.js";
 import { helpOf, trialsOf, why } from "./trials.js";
+import { sessionOf } from "./work.js";
 
+const SAYS_NOTHING = "CHECK says nothing: the screen leaves the Forth, or ends its own check, as BYE, QUIT and ABORT do.";
 const TICKS = 1000000, MOST_SLICES = 30;
 const SIGNS = { right: "✓", wrong: "✗", missing: "?", endless: "∞", empty: "·" };
 
@@ -16,16 +19,17 @@ export class ClassList {
     parts.choose.addEventListener("click", () => parts.files.click());
     parts.files.addEventListener("change", () => this.check([...parts.files.files]));
     parts.csv.addEventListener("click", () => this.page.files.saveBlob("csv", new Blob([this.csv()])));
+    parts.rows.addEventListener("click", ({ target }) => this.show(target.closest("button")));
     this.learn();
-    const titles = ["file", ...this.taught.map(({ number }) => number), "right"], head = element("tr");
+    const titles = ["file", ...this.taught.map(({ number }) => number), "right", "written"], head = element("tr");
     head.append(...titles.map((title) => element("th", String(title), { scope: "col" })));
     parts.head.replaceChildren(head);
   }
 
   // Whose lessons are checked: those of the disk that the page was made with, or else the course's.
   learn() {
-    this.course = lessonsOf(this.page.files.builtIn(DATA.first)).length ? DATA.first : COURSE;
-    this.taught = lessonsOf(this.page.files.builtIn(this.course)).sort((a, b) => a.number - b.number);
+    this.course = lessonsOf(builtIn(DATA.first)).length ? DATA.first : COURSE;
+    this.taught = lessonsOf(builtIn(this.course)).sort((a, b) => a.number - b.number);
   }
 
   // Checks files, one after the other, and shows each as soon as it is done.
@@ -36,8 +40,8 @@ export class ClassList {
     table.hidden = false;
     for (const file of files) {
       said.textContent = `Checking ${file.name} …`;
-      const bytes = blocksOfFile(new Uint8Array(await file.arrayBuffer()));
-      const row = { name: file.name, results: bytes ? await this.lessons(bytes) : null };
+      const bytes = blocksOfFile(new Uint8Array(await file.arrayBuffer()), builtIn(this.course).count);
+      const row = { name: file.name, when: new Date().toISOString().slice(0, 16).replace("T", " "), results: bytes ? await this.lessons(bytes) : null };
       this.rows.push(row);
       rows.append(this.row(row));
     }
@@ -52,10 +56,12 @@ export class ClassList {
     return results;
   }
 
-  // The teacher's disk with a pupil's screen of a lesson, and nothing else of the pupil's.
+  // The teacher's disk with a pupil's screen of a lesson, and with the pupil's screens of which the teacher's disk has nothing: that screen
+  // may load these.
   diskWith({ screen }, bytes) {
-    const disk = this.page.files.builtIn(this.course);
-    disk.put(screen, bytes.subarray(screen * PAGE_SIZE, (screen + 1) * PAGE_SIZE));
+    const disk = builtIn(this.course), theirs = new Disk("", bytes);
+    for (let block = 0; block < Math.min(disk.count, theirs.count); block++)
+      if (block === screen || !linesOf(disk.page(block)).join("")) disk.put(block, theirs.page(block));
     return disk;
   }
 
@@ -64,16 +70,16 @@ export class ClassList {
     const { number, screen } = lesson, textOfScreen = (disk) => linesOf(disk.page(screen)).join("\n");
     if (bytes.length < (screen + 1) * PAGE_SIZE) return { mark: "empty", text: "the file ends before this screen" };
     const disk = this.diskWith(lesson, bytes);
-    if (textOfScreen(disk) === textOfScreen(this.page.files.builtIn(this.course))) return { mark: "empty", text: "nothing was written" };
+    if (textOfScreen(disk) === textOfScreen(builtIn(this.course))) return { mark: "empty", text: "nothing was written" };
     await this.begin(disk);
     await this.run(disk, "1 LOAD\n");
     const said = await this.run(disk, `${number} CHECK\n`);
     if (said === null) return { mark: "endless", text: "it doesn't end" };
     const isRight = said.trimEnd().replace(/\s*ok$/, "").split("\n").pop().startsWith(`Lesson ${number} is right.`);
-    const wrong = isRight && this.course === COURSE ? await this.tryIt(lesson, bytes) : null;
-    const trials = trialsOf(this.page.files.builtIn(this.course).page(screen + CHECKERS));
+    const wrong = isRight ? await this.tryIt(lesson, bytes) : null;
+    const trials = trialsOf(builtIn(this.course).page(screen + CHECKERS));
     if (wrong) return { mark: "wrong", word: subjectOf(wrong, trials), text: `The checker was deceived: ${wrong}.` };
-    const text = said.slice(`${number} CHECK`.length).trim().replace(/\s*ok$/, ""), last = text.split("\n").pop();
+    const text = said.slice(`${number} CHECK`.length).trim().replace(/\s*ok$/, "") || SAYS_NOTHING, last = text.split("\n").pop();
     return { mark: isRight ? "right" : markOf(last), word: isRight ? "" : subjectOf(last, trials), text };
   }
 
@@ -85,12 +91,13 @@ export class ClassList {
 
   // Makes the trials of a lesson of the course with the pupil's words alone; the first that is wrong, or null.
   async tryIt(lesson, bytes) {
-    const disk = this.diskWith(lesson, bytes), own = this.page.files.builtIn(this.course), type = (line) => this.run(disk, `${line}\n`);
+    const disk = this.diskWith(lesson, bytes), own = builtIn(this.course), type = (line) => this.run(disk, `${line}\n`);
     await this.begin(disk);
     for (const line of helpOf(own)) await type(line);
+    const trials = trialsOf(own.page(lesson.screen + CHECKERS)), load = `${lesson.screen} LOAD`;
     await type("7919 7919 7919 7919");
-    if (lesson.number > 1) await type(`${lesson.screen} LOAD`);
-    for (const trial of trialsOf(own.page(lesson.screen + CHECKERS))) {
+    if (trials.length && trials.every(({ line }) => line !== load)) await type(load);
+    for (const trial of trials) {
       const wrong = await why(this.machine, trial, (line) => this.run(disk, line));
       if (wrong) return wrong;
     }
@@ -104,7 +111,7 @@ export class ClassList {
       const ended = this.machine.run(typed, TICKS);
       typed = typed.subarray(ended.read);
       shown = (shown + decode(ended.shown)).slice(-PAGE_SIZE);
-      if (ended.stop === STOP.TYPED) return this.machine.asks === ASKS.LINE ? shown : null;
+      if (ended.stop === STOP.TYPED) return this.machine.asks === ASKS.LINE ? shown : null; // MS doesn't wait: no page is greeted here
       if (ended.stop === STOP.HALTED) return shown;
       if (ended.stop === STOP.BLOCK) this.serve(disk);
       else slices++;
@@ -124,17 +131,29 @@ export class ClassList {
     const row = element("tr");
     row.append(element("th", name, { scope: "row" }));
     if (!results) {
-      row.append(element("td", "neither blocks nor a whole session", { colspan: this.taught.length + 1 }));
+      row.append(element("td", "neither blocks, nor a text of screens, nor a whole session", { colspan: this.taught.length + 2 }));
       return row;
     }
-    row.append(...results.map(({ mark, text }) => element("td", SIGNS[mark], { class: mark, title: text, "aria-label": `${mark}: ${text}` })));
-    row.append(element("td", String(results.filter(({ mark }) => mark === "right").length)));
+    row.append(...results.map(({ mark, text }, at) => {
+      const cell = element("td", undefined, { class: mark, title: text });
+      cell.append(element("button", SIGNS[mark], { type: "button", "aria-label": `${name}, lesson ${this.taught[at].number}: ${mark}`, "data-message": `${name}, lesson ${this.taught[at].number}, ${mark}: ${text}` }));
+      return cell;
+    }));
+    const count = (wanted) => results.filter(({ mark }) => mark === wanted).length;
+    row.append(element("td", String(count("right"))), element("td", String(results.length - count("empty"))));
     return row;
   }
 
+  // Shows what the checker says of a lesson.
+  show(button) {
+    if (button) Object.assign(this.parts.message, { hidden: false, textContent: button.dataset.message });
+  }
+
   csv() {
-    const quoted = (text) => `"${text.replace(/"/g, '""')}"`, head = ["file", ...this.taught.map(({ number }) => `lesson ${number}`)];
-    const lines = this.rows.map(({ name, results }) => [name, ...(results || []).map(({ mark, word }) => (word ? `${mark} ${word}` : mark))]);
+    const quoted = (text) => `"${text.replace(/"/g, '""')}"`, head = ["file", ...this.taught.map(({ number }) => `lesson ${number}`), "right", "checked", "messages"];
+    const lines = this.rows.map(({ name, results, when }) => [name, ...(results || []).map(({ mark, word }) => (word ? `${mark} ${word}` : mark)),
+      String((results || []).filter(({ mark }) => mark === "right").length), when, (results || []).map(({ mark, text }, at) => `${this.taught[at].number} ${text}`)
+        .filter((_, at) => !["right", "empty"].includes(results[at].mark)).join(" / ")]);
     return [head, ...lines].map((line) => line.map(quoted).join(",") + "\r\n").join("");
   }
 }
@@ -157,13 +176,10 @@ function subjectOf(said, trials) {
   return found || (looping ? looping[1] : "");
 }
 
-// The blocks of a pupil's file, blocks or a whole session; null for another file.
-function blocksOfFile(bytes) {
+// The blocks of a pupil's file: blocks, a whole session or a text of screens; null for another file. COUNT is how many a text has.
+function blocksOfFile(bytes, count) {
+  const text = decode(bytes), kept = sessionOf(text);
+  if (isScreens(text) && !screensOf(text).wrong) return Disk.ofText("", count, text).bytes;
   if (bytes.length && bytes.length % PAGE_SIZE === 0) return bytes;
-  try {
-    const kept = JSON.parse(decode(bytes));
-    return kept.format === "forth83" ? fromBase64(kept.disk) : null;
-  } catch {
-    return null;
-  }
+  return kept && kept.disk;
 }

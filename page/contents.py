@@ -47,6 +47,8 @@ def typed(line: str) -> Optional[str]:
         return button("film", film[2] or film[1], f"▶ the steps of {film[2] or film[1]}")
     if line.startswith("$ ") or line in ("> BYE", "> 1 LOAD"):
         return None
+    if WRITING.match(line):
+        return f"<pre>{html.escape('line ' + line[2:].replace(' PUT', ':', 1))}</pre>" if " PUT " in line else None
     return button("line", line[2:], line[2:])
 
 
@@ -56,16 +58,30 @@ def session(lines: List[str]) -> str:
     for line in lines:
         if line.startswith(("> ", "$ ")):
             one = typed(line)
-            is_shown = one is not None and line.startswith("> ")
+            is_shown = one is not None and line.startswith("> ") and not WRITING.match(line)
             made += [one] if one else []
         elif is_shown and line.strip() != "ok":
             made.append(f"<pre>{html.escape(line)}</pre>")
     return f'<div class="typing">{"".join(made)}</div>' if made else ""
 
 
+# What only holds at a terminal, and what the page has for it.
+AT_TERMINAL = (
+    (r" \(`21 EDIT` shows it\s+in a frame[^)]*\)", ""),
+    (r"`21 SCR !` chooses it,\s+`4 PUT` writes the rest of your line into its line 4, and `21 LIST` shows it\.", "It is below, in the editor: what you write there is kept."),
+    (r"\^C", "Esc"),
+    (r"`\./forth print[^`]*`\s+makes\s+[^.]*\.", "*Print*, in the tab Disks, prints it."),
+    (r"(?s)(?:At a terminal, BYE or|The page of the Forth).*", ""),
+)  # fmt: skip
+# Lines of sessions that choose, write and show a screen: the page has an editor.
+WRITING = re.compile(r"> (?:\d+ SCR !|\d+ PUT .*|\d+ LIST)$")
+
+
 def for_page(paragraph: str) -> str:
     """A paragraph without what only holds at a terminal."""
-    return re.sub(r" \(`21 EDIT` shows it\s+in a frame[^)]*\)", " (`21 EDIT` shows it in the editor beside.)", paragraph)
+    for pattern, other in AT_TERMINAL:
+        paragraph = re.sub(pattern, other, paragraph)
+    return paragraph
 
 
 def disk_of_lesson(body: str) -> str:
@@ -86,15 +102,16 @@ def folded(lines: List[str]) -> str:
     return f"<details><summary>Hints</summary><ul>{rows}</ul></details>" if rows else ""
 
 
-def lessons(text: str, helping: Dict[int, List[str]]) -> List[Dict[str, object]]:
+def lessons(text: str, helping: Dict[int, List[str]], before: str = "") -> List[Dict[str, object]]:
     """The course's lessons: of each its number, title, HTML with its hints, and disk, and the pupil's screen, or None for one that
-    nothing checks."""
+    nothing checks. BEFORE comes before lesson 1."""
     made = []
-    for number, part in enumerate(re.split(r"^## ", text, flags=re.M)[1:], 1):
+    for part in re.split(r"^## ", text, flags=re.M)[1:]:
         title, _, body = part.partition("\n")
+        number = int(title.partition(".")[0])
         disk = disk_of_lesson(body)
         made.append({"number": number, "title": title, "disk": disk, "screen": FIRST + number if disk == COURSE else None,
-                     "html": f"<h2>{inline(title)}</h2>" + body_of_lesson(body) + folded(helping.get(number, []))})
+                     "html": (before if number == 1 else "") + f"<h2>{inline(title)}</h2>" + body_of_lesson(body) + folded(helping.get(number, []))})
     return made
 
 
@@ -106,7 +123,7 @@ def body_of_lesson(body: str) -> str:
             pieces.append(session(piece.rstrip("\n").split("\n")))
         else:
             paragraphs = (for_page(one) for one in re.split(r"\n\s*\n", piece) if one.strip())
-            pieces += [f"<p>{inline(' '.join(one.split()))}</p>" for one in paragraphs]
+            pieces += [f"<p>{inline(' '.join(one.split()))}</p>" for one in paragraphs if one.strip()]
     return "".join(pieces).replace("</pre><pre>", "\n")
 
 

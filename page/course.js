@@ -3,6 +3,8 @@
 import { escapeHtml } from "./bytes.js";
 import { DATA } from "./data.js";
 import { linesOf } from "./disk.js";
+import { builtIn } from "./editions.js";
+import { typeLine } from "./start.js";
 
 // The course's disk; a lesson's checker is so many screens after the pupil's.
 export const COURSE = "course.blk", CHECKERS = 20;
@@ -15,13 +17,16 @@ export class Course {
     parts.back.addEventListener("click", () => this.choose(this.at - 1));
     parts.on.addEventListener("click", () => this.choose(this.at + 1));
     parts.check.addEventListener("click", () => this.check());
-    parts.mine.addEventListener("click", () => this.showMine());
     parts.disk.addEventListener("click", () => this.insert());
     parts.text.addEventListener("click", (event) => this.press(event.target.closest("button")));
   }
 
   get lesson() { return this.lessons[this.at]; }
   get isIn() { return this.page.session.disk.name === this.lesson.disk; }
+  // Whether the pupil's screen of this lesson can be edited now.
+  get isOpen() { return Boolean(this.lesson && this.lesson.screen && this.isIn); }
+
+  get isDrawing() { return Boolean(this.lesson && this.lesson.disk === "draw.blk" && this.isIn); }
 
   // The lessons of the present disk come first, if it isn't one of the page's course.
   list() {
@@ -34,60 +39,77 @@ export class Course {
 
   // Opens the lesson's disk, and loads its words.
   async insert() {
-    if (!this.isIn && !(await this.page.files.insertNamed(this.lesson.disk))) return;
-    this.page.enter("1 LOAD");
-    this.parts.disk.hidden = this.isIn;
+    if (this.lesson.disk === COURSE) await this.askName();
+    if (!this.isIn && !(await this.page.work.putIn(this.lesson.disk))) return;
+    this.page.send("1 LOAD");
+    this.go(this.at);
   }
 
-  async type(line) {
+  // Asks once for a pupil's name, under which the work is kept and saved.
+  async askName() {
+    const { page } = this;
+    if (page.work.name || (await page.work.setting("named"))) return;
+    page.work.set("named", true);
+    const name = await page.files.askForName("Your name? Your work is kept under it, and files that you save begin with it. You may leave this empty.", "");
+    if (name) await page.changeWork(name);
+  }
+
+  async type(button, line) {
     if (!this.isIn) await this.insert();
-    this.page.enter(line);
+    await this.page.idle();
+    typeLine(this.page, button, line);
   }
 
   // Checks the lesson with the page's checkers; if those on the disk differ, they are restored first.
   async check() {
+    const { page, parts } = this;
     if (!this.isIn) await this.insert();
+    await page.idle();
+    this.sendCheck();
+    await page.idle();
+    parts.said.textContent = page.transcript.answer().replace(/\s*ok$/, "");
+  }
+
+  sendCheck() {
     if (this.restore()) {
       this.page.note("Screens with the checkers were changed on this disk. They have been put back.");
-      this.page.enter("1 LOAD", `${this.lesson.number} CHECK`);
-    } else this.page.enter(`${this.lesson.number} CHECK`);
+      this.page.send("1 LOAD", `${this.lesson.number} CHECK`);
+    } else this.page.send(`${this.lesson.number} CHECK`);
   }
 
   // Restores changed checkers, in the screens before the first lesson's and 20 after each lesson's; returns whether there were any.
   restore() {
-    const { session, files } = this.page, { disk } = session;
+    const { session } = this.page, { disk } = session;
     if (!DATA.disks[disk.name]) return false;
-    const own = files.builtIn(disk.name), pupils = lessonsOf(own).map((lesson) => lesson.screen), changed = [];
+    const own = builtIn(disk.name), pupils = lessonsOf(own).map((lesson) => lesson.screen), changed = [];
     for (let block = 1; block < Math.min(own.count, disk.count); block++) {
       const text = linesOf(own.page(block)).join("\n");
       const isChecker = block < Math.min(...pupils) || (pupils.includes(block - CHECKERS) && !pupils.includes(block));
       if (isChecker && text.trim() && text !== linesOf(session.page(block)).join("\n")) changed.push(block);
     }
+    if (changed.length) this.page.work.remember("checkers");
     for (const block of changed) session.put(block, own.page(block));
     return changed.length > 0;
   }
 
-  async showMine() {
-    if (!this.isIn) await this.insert();
-    this.page.edit(this.lesson.screen);
-  }
-
   press(button) {
     if (!button) return;
-    if (button.dataset.line) this.type(button.dataset.line);
+    if (button.dataset.line) this.type(button, button.dataset.line);
     if (button.dataset.film) this.page.showFilm(button.dataset.film);
   }
 
   // Shows a lesson by its place in the list.
   go(at) {
-    const { lesson, text, disk, mine, check } = this.parts;
+    const { lesson, text, disk, check, said } = this.parts, before = this.lesson;
     this.at = Math.max(0, Math.min(this.lessons.length - 1, Math.floor(at) || 0));
     lesson.value = this.at;
-    text.innerHTML = this.lesson.html;
-    text.scrollTop = 0;
+    if (before !== this.lesson || !text.innerHTML) Object.assign(text, { innerHTML: this.lesson.html, scrollTop: 0 });
+    if (before !== this.lesson) said.textContent = "";
     disk.hidden = this.isIn && !this.lesson.isOwn;
     disk.textContent = this.isIn ? "Load the lessons: 1 LOAD" : `Put in ${this.lesson.disk}`;
-    for (const part of [mine, check]) part.hidden = !this.lesson.screen;
+    check.hidden = !this.lesson.screen;
+    this.page.placeDesk();
+    if (this.isOpen && before !== this.lesson && document.body.dataset.tab === "course") this.page.editor.go(this.lesson.screen);
   }
 
   choose(at) {
@@ -103,8 +125,9 @@ export class Course {
 export function lessonsOf(disk) {
   const found = new Map();
   for (let screen = 0; screen < disk.count; screen++) {
-    const lines = linesOf(disk.page(screen)), head = TITLE.exec(lines[0]);
+    const head = TITLE.exec(disk.title(screen));
     if (!head || found.has(head[1])) continue;
+    const lines = linesOf(disk.page(screen));
     const end = lines.findIndex((line, at) => at > 0 && !TASK.test(line)), tasks = lines.slice(1, end < 0 ? lines.length : end);
     const title = `${head[1]}. ${head[2]}`, rows = tasks.map((line) => `<li>${escapeHtml(TASK.exec(line)[1])}</li>`).join("");
     const html = `<h2>${escapeHtml(title)}</h2><ul>${rows}</ul><p>Your screen is ${screen}. Write into it, and then choose CHECK.</p>`;

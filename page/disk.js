@@ -1,14 +1,20 @@
 // A file of blocks, and screens as text: a line `% screen 21` before the lines of each, as docs/SCREENS.md describes them.
 
-import { decode, encode } from "./bytes.js";
+import { encode, strictly } from "./bytes.js";
 import { PAGE_SIZE } from "./machine.js";
 
 export const LINES = 16, COLUMNS = 64, MOST_SCREENS = 65536;
 
+// The store keeps so many blocks together.
+export const PIECE = 64;
+// A byte that is no text is shown as dots: the character so many places after it.
+const DOTS = 0x2800, MOST_ODD = PAGE_SIZE / 4, TEXTUAL = /^[\p{L}\p{M}\p{N}\p{P}\p{S}\p{Zs}]$/u;
+
 export class Disk {
-  constructor(name, bytes) {
-    this.name = name;
-    this.bytes = bytes;
+  // The bytes are null until the store has given them. base: the sums of the blocks of the page's edition that this one was made of.
+  // isFresh: whether it is as the page brings it, and needs no place in the store.
+  constructor(name, bytes, count = bytes.length / PAGE_SIZE, base = null, isFresh = false) {
+    Object.assign(this, { name, bytes, base, isFresh, count: Math.floor(count), dirty: new Set(), titles: [] });
   }
 
   static blank(name, count) { return new Disk(name, new Uint8Array(count * PAGE_SIZE).fill(32)); }
@@ -17,16 +23,55 @@ export class Disk {
   static ofText(name, count, text) {
     const { screens } = screensOf(text), disk = Disk.blank(name, Math.max(count, ...screens.map((screen) => screen.block + 1)));
     for (const screen of screens) disk.put(screen.block, screen.page);
+    disk.dirty.clear();
     return disk;
   }
 
-  get count() { return Math.floor(this.bytes.length / PAGE_SIZE); }
   page(block) { return this.bytes.subarray(block * PAGE_SIZE, (block + 1) * PAGE_SIZE); }
-  put(block, page) { this.bytes.set(page, block * PAGE_SIZE); }
+
+  put(block, page) {
+    this.bytes.set(page, block * PAGE_SIZE);
+    this.dirty.add(Math.floor(block / PIECE));
+    this.isFresh = false;
+    delete this.titles[block];
+  }
+
+  get pieces() { return Array.from({ length: Math.ceil(this.count / PIECE) }, (_, piece) => piece); }
+  piece(number) { return this.bytes.slice(number * PIECE * PAGE_SIZE, (number + 1) * PIECE * PAGE_SIZE); }
+
+  // The first line of a block, read once.
+  title(block) {
+    const page = this.page(block), made = () => lineOf(page.subarray(0, COLUMNS));
+    return (this.titles[block] ??= [...made()].some(isDots) && isData(page) ? "(a picture or other data)" : made());
+  }
 }
 
-// A line, without the blanks at its end. A screen of old disks may have zeros for blanks.
-export const lineOf = (bytes) => decode(bytes.map((byte) => byte || 32)).trimEnd();
+// How many bytes a character has in UTF-8, by its first byte.
+const sizeOf = (byte) => (byte < 128 ? 1 : byte < 0xe0 ? 2 : byte < 0xf0 ? 3 : 4);
+const isDots = (letter) => letter.codePointAt(0) >> 8 === DOTS >> 8;
+
+// The characters of a line, each with its bytes: what is UTF-8, a blank for a zero, and dots for each byte that is no text.
+function charactersOf(bytes) {
+  const found = [];
+  for (let at = 0; at < bytes.length; at += found[found.length - 1].bytes.length) {
+    const own = bytes.subarray(at, at + sizeOf(bytes[at])), letter = own[0] ? strictly(own) : " ";
+    const isText = letter && [...letter].length === 1 && TEXTUAL.test(letter) && !isDots(letter);
+    found.push(isText ? { letter, bytes: own } : { letter: String.fromCharCode(DOTS + own[0]), bytes: own.subarray(0, 1) });
+  }
+  return found;
+}
+
+// The bytes of a text, in which dots are bytes that are no text.
+function bytesOf(letters) {
+  return letters.flatMap((letter) => (isDots(letter) ? [letter.charCodeAt(0) & 255] : [...encode(letter)]));
+}
+
+// A line, without the blanks at its end.
+export function lineOf(bytes) {
+  const isPlain = bytes.every((byte) => (byte >= 32 && byte < 127) || byte === 0);
+  const text = isPlain ? String.fromCharCode(...bytes).replace(/\0/g, " ") : charactersOf(bytes).map(({ letter }) => letter).join("");
+  return text.replace(/ +$/, "");
+}
 
 // The lines of a block.
 export function linesOf(page) {
@@ -35,15 +80,34 @@ export function linesOf(page) {
   return lines;
 }
 
-// The block that these lines make, each a text or bytes; or what is wrong with them, and in which line.
-export function pageOf(lines) {
-  const page = new Uint8Array(PAGE_SIZE).fill(32);
+// Whether a block has so many bytes that are no text that it is a picture or other data.
+export const isData = (page) => linesOf(page).join("").split("").filter(isDots).length > MOST_ODD;
+
+// The bytes of a line that has another text now: what was not edited keeps its bytes. They are too many if it doesn't fit.
+function edited(before, text) {
+  if (lineOf(before) === text) return before;
+  const old = charactersOf(before), now = [...text.replace(/\t/g, " ").replace(/ +$/, "")];
+  while (old.length && old[old.length - 1].letter === " ") old.pop();
+  let front = 0, rear = 0;
+  while (front < Math.min(old.length, now.length) && old[front].letter === now[front]) front++;
+  while (rear < Math.min(old.length, now.length) - front && old[old.length - 1 - rear].letter === now[now.length - 1 - rear]) rear++;
+  const own = (from, to) => old.slice(from, to).flatMap(({ bytes }) => [...bytes]);
+  const made = [...own(0, front), ...bytesOf(now.slice(front, now.length - rear)), ...own(old.length - rear, old.length)];
+  const end = own(0, old.length).length;
+  while (made.length < COLUMNS) made.push(made.length < end ? 32 : before[made.length]);
+  return Uint8Array.from(made);
+}
+
+// The block that these lines make, each a text or bytes; or what is wrong with them, and in which line. Of BEFORE, a block, the bytes
+// stay that were not edited.
+export function pageOf(lines, before = new Uint8Array(PAGE_SIZE).fill(32)) {
+  const page = before.slice();
   while (lines.length > LINES && lines[lines.length - 1].length === 0) lines = lines.slice(0, -1);
   if (lines.length > LINES) return { wrong: `a screen has 16 lines, and this one has ${lines.length}`, line: LINES };
-  for (const [line, content] of lines.entries()) {
-    const bytes = typeof content === "string" ? encode(content.trimEnd().replace(/\t/g, " ")) : content;
+  for (let line = 0; line < LINES; line++) {
+    const at = line * COLUMNS, content = lines[line] ?? "", bytes = typeof content === "string" ? edited(before.subarray(at, at + COLUMNS), content) : content;
     if (bytes.length > COLUMNS) return { wrong: `line ${line} has ${bytes.length} characters; 64 fit`, line };
-    page.set(bytes, line * COLUMNS);
+    page.set(bytes, at);
   }
   return { page };
 }
@@ -100,11 +164,24 @@ export function screensOf(text) {
 
 // Where a text is in the screens: of each place the screen, the line, its text and the column. Upper and lower case count the same.
 export function search(count, pageOfBlock, wanted, most = 200) {
-  const found = [], sought = wanted.toUpperCase();
-  for (let block = 0; block < count && found.length < most; block++)
-    for (const [line, text] of linesOf(pageOfBlock(block)).entries()) {
+  const found = [], sought = wanted.toUpperCase(), isPlain = /^[ -~]*$/.test(wanted);
+  for (let block = 0; block < count && found.length < most; block++) {
+    const page = pageOfBlock(block);
+    if (isPlain && !String.fromCharCode(...page).replace(/\0/g, " ").toUpperCase().includes(sought)) continue;
+    for (const [line, text] of linesOf(page).entries()) {
       const column = text.toUpperCase().indexOf(sought);
       if (column >= 0) found.push({ block, line, column, text });
     }
+  }
   return found;
+}
+
+// A sum of a block's bytes, which differs between editions.
+export function sumOf(page) {
+  let one = 0x811c9dc5, other = 0x9e3779b9;
+  for (const byte of page) {
+    one = Math.imul(one ^ byte, 0x01000193);
+    other = Math.imul(other ^ byte, 0x85ebca6b) + 1;
+  }
+  return `${(one >>> 0).toString(36)}.${(other >>> 0).toString(36)}`;
 }

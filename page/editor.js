@@ -1,16 +1,23 @@
 // The editor of screens: sixteen lines of 64 characters, kept as they are typed; the index of the screens, and a search.
 
 import { element } from "./bytes.js";
-import { COLUMNS, LINES, lineOf, linesOf, pageOf, search } from "./disk.js";
+import { piecesOf } from "./colors.js";
+import { COLUMNS, isData, LINES, lineOf, linesOf, pageOf, search } from "./disk.js";
+
+const MOST_LISTED = 1000;
+
+// A text as a screen has it, without blanks at the ends of its lines, and without blank lines at its end.
+const plainly = (text) => text.replace(/\t/g, " ").replace(/ +$/gm, "").replace(/\n+$/, "");
 
 export class Editor {
   constructor(session, parts) {
-    Object.assign(this, { session, parts, block: 0, written: null, fault: null });
+    Object.assign(this, { session, parts, block: 0, written: [], fault: null });
     const { text, number, gutter, mark, index } = parts;
     gutter.append(...Array.from({ length: LINES }, (_, line) => element("span", String(line))));
+    text.addEventListener("beforeinput", (event) => this.history(event));
     text.addEventListener("input", () => this.keep());
     text.addEventListener("keydown", (event) => this.press(event));
-    text.addEventListener("scroll", () => (mark.scrollLeft = text.scrollLeft));
+    text.addEventListener("scroll", () => (mark.scrollLeft = parts.colors.scrollLeft = text.scrollLeft));
     number.addEventListener("change", () => this.go(Number(number.value)));
     parts.back.addEventListener("click", () => this.go(this.block - 1));
     parts.on.addEventListener("click", () => this.go(this.block + 1));
@@ -23,7 +30,9 @@ export class Editor {
 
   press(event) {
     const keys = { PageUp: () => this.go(this.block - 1), PageDown: () => this.go(this.block + 1) };
+    const isUndo = (event.ctrlKey || event.metaKey) && event.key.toLowerCase() === "z", isRedo = event.ctrlKey && event.key === "y";
     if (event.ctrlKey && event.key === "Enter") this.load();
+    else if (isUndo || isRedo) this.back(isRedo || event.shiftKey);
     else if (keys[event.key]) keys[event.key]();
     else return;
     event.preventDefault();
@@ -35,54 +44,78 @@ export class Editor {
     return this.block < far ? this.block + far : this.block - far;
   }
 
+  // Undo and Redo of the browser, from its menu.
+  history(event) {
+    if (event.inputType !== "historyUndo" && event.inputType !== "historyRedo") return;
+    event.preventDefault();
+    this.back(event.inputType === "historyRedo");
+  }
+
+  // Takes back what was typed last into this screen, or brings it again.
+  back(isAgain) {
+    const { work } = this.session, list = isAgain ? work.redos : work.undos, last = list[list.length - 1];
+    if (!last || !last.what.startsWith(`screen ${this.block} `)) return this.say(`There is nothing more to ${isAgain ? "bring back" : "take back"} in this screen.`);
+    if (isAgain) work.redo();
+    else work.undo();
+  }
+
   go(block) {
-    const { number, text } = this.parts;
-    const last = this.session.disk.count - 1;
-    if (this.wrong) {
-      number.value = this.block;
-      return this.say(`Correct this screen first: ${this.wrong.wrong}.`);
-    }
+    const { number, text } = this.parts, last = this.session.disk.count - 1;
     this.block = Math.max(0, Math.min(last, Number.isFinite(block) ? Math.floor(block) : 0));
     number.value = this.block;
     number.max = last;
     this.parts.count.textContent = `of 0 to ${last}`;
-    this.written = null;
-    this.refresh();
+    this.refresh(true);
     text.setSelectionRange(0, 0);
     text.scrollLeft = 0;
-    this.say("");
+    this.report();
   }
 
-  // Shows the screen again if a word has changed it.
-  refresh() {
-    const { text } = this.parts;
-    if (this.block >= this.session.disk.count) return this.go(0);
-    const lines = linesOf(this.session.page(this.block)).join("\n");
-    if (lines !== this.written && !this.wrong) {
-      const at = text.selectionStart;
-      this.written = text.value = lines;
-      text.setSelectionRange(at, at);
-    }
+  // Shows the screen again if a word has changed it, or its draft.
+  refresh(isOther) {
+    const { text } = this.parts, { work, disk } = this.session;
+    if (this.block >= disk.count) return this.go(0);
+    const page = this.session.page(this.block), draft = work.draft(this.block), lines = linesOf(page), shown = draft ? draft.text : lines.join("\n");
+    this.written = draft ? draft.before : lines;
+    this.wrong = draft ? pageOf(draft.text.split("\n"), page) : null;
+    text.readOnly = !work.isOurs || isData(page);
+    if (isOther || plainly(shown) !== plainly(text.value)) this.put(shown);
     this.list();
     this.draw();
   }
 
-  // Keeps what is in the frame, if it fits a screen.
+  // Puts a text into the frame; the cursor goes where it differs from the one before.
+  put(shown) {
+    const { text } = this.parts, before = text.value, isIn = document.activeElement === text, end = text.selectionStart;
+    let front = 0, rear = 0;
+    while (front < shown.length && shown[front] === before[front]) front++;
+    while (rear < Math.min(shown.length, before.length) - front && shown[shown.length - 1 - rear] === before[before.length - 1 - rear]) rear++;
+    text.value = shown;
+    const at = isIn && Math.abs(before.length - shown.length) < 64 ? shown.length - rear : Math.min(end, shown.length);
+    text.setSelectionRange(at, at);
+    this.report();
+  }
+
+  // Keeps what is in the frame: on the disk if it fits, and else as a draft.
   keep() {
-    const made = pageOf(this.parts.text.value.split("\n"));
-    this.wrong = made.wrong ? made : null;
+    const { text } = this.parts, line = text.value.slice(0, text.selectionStart).split("\n").length;
     if (this.fault && this.fault.block === this.block) this.fault = null;
-    if (!made.wrong) {
-      this.session.put(this.block, made.page);
-      this.written = linesOf(made.page).join("\n");
-      this.session.view.changed();
-    }
-    this.say(made.wrong ? `Not kept: ${made.wrong}.` : "");
+    this.wrong = this.session.work.edit(this.block, text.value.split("\n"), this.written, line);
+    if (!this.wrong) this.written = linesOf(this.session.page(this.block));
+    this.session.view.persist();
+    this.report();
     this.draw();
   }
 
+  // Says what is wrong with the text in the frame.
+  report() {
+    const isPicture = isData(this.session.page(this.block));
+    this.say(this.wrong ? `Not on the disk yet, but kept as a draft: ${this.wrong.wrong}.` : isPicture ? "This block is a picture or other data, not text: it is only shown." : "");
+  }
+
   load() {
-    if (!this.wrong) this.session.view.load(this.block);
+    if (this.wrong) this.say(`LOAD needs a screen that fits: ${this.wrong.wrong}.`);
+    else this.session.view.load(this.block);
   }
 
   // Shows where a fault was, and goes there.
@@ -91,7 +124,7 @@ export class Editor {
     this.go(fault.block);
     const line = Math.floor(fault.byte / COLUMNS);
     this.select(line, fault.byte % COLUMNS);
-    this.say(`There was a fault in line ${line}.`);
+    this.say(`There was a fault in line ${line}: ${fault.text.trim()}`);
   }
 
   select(line, column) {
@@ -101,7 +134,7 @@ export class Editor {
   }
 
   draw() {
-    const { gutter, text, mark } = this.parts;
+    const { gutter, text, mark, colors } = this.parts;
     const fault = this.fault && this.fault.block === this.block ? this.fault : null;
     const at = fault ? Math.floor(fault.byte / COLUMNS) : this.wrong ? this.wrong.line : -1;
     for (const [line, span] of [...gutter.children].entries()) span.classList.toggle("at-fault", line === at);
@@ -109,14 +142,15 @@ export class Editor {
     const word = fault ? /^\S*/.exec((text.value.split("\n")[at] || "").slice(column))[0] : "";
     mark.replaceChildren("\n".repeat(Math.max(0, at)) + " ".repeat(column), element("mark", word || " "));
     mark.hidden = !fault;
+    if (colors.textContent !== text.value + "\n") colors.replaceChildren(...piecesOf(text.value).map(([kind, piece]) => (kind ? element("span", piece, { class: kind }) : piece)), "\n");
   }
 
-  // The first line of each screen that has one.
+  // The first line of each screen that has one; of a big disk only of those around this screen.
   list() {
-    const { index } = this.parts, { disk, machine } = this.session, titles = [];
+    const { index } = this.parts, { disk, machine } = this.session, titles = [], from = Math.max(0, this.block - MOST_LISTED), to = Math.min(disk.count, from + 2 * MOST_LISTED);
     const changed = new Map(machine.buffers.map((buffer) => [buffer.block, buffer.bytes])), width = String(disk.count - 1).length;
-    for (let block = 0; block < disk.count; block++) {
-      const title = lineOf((changed.get(block) || disk.page(block)).subarray(0, COLUMNS));
+    for (let block = from; block < to; block++) {
+      const title = changed.has(block) ? lineOf(changed.get(block).subarray(0, COLUMNS)) : disk.title(block);
       if (title || block === this.block) titles.push(`${String(block).padStart(width)}  ${title}`);
     }
     const all = titles.join("\n");

@@ -41,9 +41,9 @@ export class Film {
         began = performance.now();
       }
     film.finish();
-    const { steps } = film.calls, none = `This line runs no word of yours${film.why}. A film shows the steps of your own words, and of what they call.`;
+    const { steps, frames } = film.calls, none = `This line runs no word of yours${film.why}. A film shows the steps of your own words, and of what they call.`;
     this.data = steps.length ? new Book(film, this.session).data() : null;
-    this.say(steps.length ? `${steps.length} steps${film.why}.` : none);
+    this.say(steps.length ? `${steps.length} steps${film.why}, of ${frames.length} ${frames.length === 1 ? "call" : "calls"}; each call counts its own.` : none);
     this.show(line);
   }
 

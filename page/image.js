@@ -16,10 +16,11 @@ function setCell(bytes, at, x) {
 // The compilation address that an image starts with. Version 1 doesn't have the number of buffers before it.
 export const entryOf = (image) => cellAt(image, cellAt(image, PLACES.version) === 1 ? PLACES.buffers : PLACES.entry);
 
-// An image that starts like this one, with another memory in which some cells have other values.
-export function imageOf(image, memory, cells) {
+// An image that is like this one, with another entry and another memory in which some cells have other values.
+export function imageOf(image, entry, memory, cells) {
   const made = new Uint8Array(HEAD + memory.length);
   made.set(image.subarray(0, HEAD));
+  setCell(made, cellAt(image, PLACES.version) === 1 ? PLACES.buffers : PLACES.entry, entry);
   setCell(made, PLACES.size, memory.length);
   made.set(memory, HEAD);
   for (const [at, x] of Object.entries(cells)) setCell(made, HEAD + Number(at), x);

@@ -12,6 +12,7 @@ import { OldDisk } from "./olddisk.js";
 import { Page } from "./page.js";
 import { by, parts } from "./parts.js";
 import { Session } from "./session.js";
+import { Start } from "./start.js";
 import { Store } from "./store.js";
 import { Transcript } from "./transcript.js";
 
@@ -19,16 +20,18 @@ async function begin() {
   const { instance } = await WebAssembly.instantiate(DATA.wasm, {}), calls = instance.exports;
   const page = new Page(new Transcript(by("transcript")), await Store.open(DATA.place));
   page.session = new Session(calls, DATA.layout, DATA.image, page);
-  page.editor = new Editor(page.session, parts("screen-text", "screen-gutter", "screen-mark", "screen-number", "screen-count", "screen-back",
+  page.session.work = page.work;
+  page.editor = new Editor(page.session, parts("screen-text", "screen-gutter", "screen-mark", "screen-colors", "screen-number", "screen-count", "screen-back",
     "screen-on", "screen-shadow", "screen-load", "screen-index", "screen-said", "screen-find", "screen-found"));
   page.film = new Film(page.session, calls, parts("film-form", "film-line", "film-said", "film-full", "film-frame"), (event) => page.pressAnywhere(event));
-  page.map = new MemoryMap(page, parts("map-bar", "map-parts", "map-words", "map-none", "map-again", "map-said"));
-  page.canvas = new Canvas(page, parts("canvas-picture", "canvas-none", "canvas-save", "canvas-try"));
+  page.start = new Start(page, parts("door-rose", "door-lesson", "door-old", "start-lines"));
+  page.map = new MemoryMap(page, parts("map-bar", "map-parts", "map-words", "map-fold", "map-others", "map-none", "map-again", "map-said"));
+  page.canvas = new Canvas(page, parts("canvas-picture", "canvas-none", "canvas-save", "canvas-try", "canvas-lines"));
   page.oldDisk = new OldDisk(page, parts("old-choose", "old-file", "old-format", "old-clean", "old-half", "old-ebcdic", "old-offset", "old-sector", "old-skew", "old-first", "old-said", "old-screen", "old-preview",
     "old-insert", "old-dialect", "old-shown"));
-  page.course = new Course(page, parts("course-lesson", "course-text", "course-check", "course-back", "course-on", "course-mine", "course-disk"));
+  page.course = new Course(page, parts("course-lesson", "course-text", "course-check", "course-back", "course-on", "course-said", "course-disk"));
   page.classList = new ClassList(page, calls, parts("class-choose", "class-files", "class-said", "class-table", "class-head",
-    "class-rows", "class-csv"));
+    "class-rows", "class-message", "class-csv"));
   page.manual = new Manual(parts("words-sought", "words-table"), (word) => page.take(word));
   await page.begin();
   Object.assign(window, { page, ready: performance.now() }); // for those who look inside, and for tests

@@ -3,7 +3,7 @@
 import { element, hexadecimal } from "./bytes.js";
 import { MEMORY, PAGE_SIZE, SYSTEM } from "./machine.js";
 
-const TIB = 128, DICTIONARY = 256;
+const TIB = 128, DICTIONARY = 256, FIRST_LESSON = 21;
 const KINDS = { 1: "colon word", 2: "variable", 3: "constant", 4: "vocabulary" };
 
 export class MemoryMap {
@@ -58,9 +58,15 @@ export class MemoryMap {
   // Your words, the newest first.
   drawWords(fence) {
     const words = this.machine.words(), here = this.machine.cell(SYSTEM.here);
-    const rows = words.map((word, at) => this.row(word, words[at + 1] ? words[at + 1].header - 2 : here, fence)).filter((row) => row).reverse();
-    this.parts.words.replaceChildren(...rows);
-    this.parts.none.hidden = rows.length > 0;
+    const isOfCourse = words.some(({ name, view }) => name === "CHECK-ONE" && view), found = { own: [], others: [] };
+    for (const [at, word] of words.entries()) {
+      const row = this.row(word, words[at + 1] ? words[at + 1].header - 2 : here, fence);
+      if (row) found[isOfCourse && word.view && word.view < FIRST_LESSON ? "others" : "own"].unshift(row);
+    }
+    this.parts.words.replaceChildren(...found.own);
+    this.parts.others.replaceChildren(...found.others);
+    this.parts.fold.hidden = !found.others.length;
+    this.parts.none.hidden = found.own.length > 0;
   }
 
   row(word, end, fence) {

@@ -97,5 +97,5 @@ def module_of(wanted: Optional[str]) -> Module:
     if wanted == "proved":
         say("making the module of the proved library")
         return made(True, total)
-    say("making the machine's module without proofs, about half a minute")
+    say("making the machine's module without proofs, about half a minute; ./forth page --proved makes the proved one")
     return made(False, total)

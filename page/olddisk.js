@@ -1,11 +1,12 @@
 // Old disks: shows a file of another system in a format, adds its screens as a disk, and names its dialect.
 
 import { DATA } from "./data.js";
-import { Disk, linesOf } from "./disk.js";
+import { linesOf } from "./disk.js";
 import { PAGE_SIZE } from "./machine.js";
 import { Survey } from "./survey.js";
 import { guess, imported } from "./wild.js";
 
+const SURVEY = "./forth survey, where the program is, says from which system they come, and why.";
 const MOST_UNKNOWN = 12, MOST_OTHERS = 3;
 
 export class OldDisk {
@@ -82,14 +83,19 @@ export class OldDisk {
   // Which dialect knows most of their words.
   advice() {
     const pages = Array.from({ length: this.blocks.length / PAGE_SIZE }, (_, block) => this.pageAt(block));
-    const { alone, ranks } = new Survey(pages, new Set(DATA.known), DATA.dialects).ranks(), [{ dialect, unknown }, ...others] = ranks;
-    this.best = alone.length ? dialect : null;
+    const survey = new Survey(pages, new Set(DATA.known), DATA.dialects), { alone, ranks } = survey.ranks(), [{ unknown }, ...others] = ranks;
+    const equal = ranks.filter((one) => one.unknown.length === unknown.length).map((one) => one.dialect);
+    // A dialect that is loaded after another one of these knows its words, and adds none that are needed.
+    const ties = equal.filter((one) => !equal.some((other) => other.first === one.after)), names = ties.map((one) => one.name).join(" or ");
+    this.best = alone.length ? ties[0] : null;
     this.parts.dialect.disabled = !this.best;
-    if (!this.best) return "The Forth knows all words in these screens.";
+    if (!survey.sources.length) return "No screen here looks like source: try another format.";
+    if (!this.best) return `The Forth knows all names in these screens. Some may mean something else there, as */ and DO do in other Forths: ${SURVEY}`;
     const more = unknown.length > MOST_UNKNOWN ? " …" : "", words = unknown.length ? ` (${unknown.slice(0, MOST_UNKNOWN).join(" ")}${more})` : "";
-    const rest = others.slice(0, MOST_OTHERS).map((one) => `${one.dialect.name} ${one.unknown.length}`).join(", ");
-    return `The dialect ${dialect.name} leaves the fewest words unknown: ${unknown.length}${words}. Others leave more: ${rest}; without a ` +
-      `dialect ${alone.length} are unknown. Load the dialect, and then put this in as a disk.`;
+    const rest = others.filter((one) => one.unknown.length > unknown.length).slice(0, MOST_OTHERS).map((one) => `${one.dialect.name} ${one.unknown.length}`).join(", ");
+    const best = ties.length > 1 ? `${names} leave equally few words unknown` : `The dialect ${names} leaves the fewest words unknown`;
+    return `${best}: ${unknown.length}${words}. The next: ${rest}; without a dialect ${alone.length} are unknown. ${ties.length > 1 ? SURVEY : ""} ` +
+      "Load the dialect, and then put this in as a disk.";
   }
 
   // Loads the words of the dialect from its disk, after those of the dialect that it needs.
@@ -97,7 +103,7 @@ export class OldDisk {
     const base = DATA.dialects.find((one) => one.first === this.best.after);
     for (const dialect of base ? [base, this.best] : [this.best]) {
       const name = `dialect ${dialect.key}.blk`;
-      if (this.page.session.disk.name !== name && !(await this.page.files.insertNamed(name))) return;
+      if (this.page.session.disk.name !== name && !(await this.page.work.putIn(name))) return;
       this.page.enter(`${dialect.first} LOAD`);
       await this.page.idle();
     }
@@ -105,6 +111,6 @@ export class OldDisk {
 
   async insert() {
     const name = `${this.name.replace(/\.[^.]*$/, "")}.blk`;
-    if (await this.page.files.insert(new Disk(name, this.blocks.slice()))) this.page.tab("screens");
+    if (await this.page.work.insert(name, this.blocks.slice())) this.page.tab("screens");
   }
 }

@@ -1,84 +1,128 @@
 // The page: what is pressed and typed, its tabs, and what the browser keeps.
 
-import { decode, encode, signed } from "./bytes.js";
+import { decode, element, encode, signed } from "./bytes.js";
 import { DATA } from "./data.js";
-import { Disk, textOf } from "./disk.js";
+import { textOf } from "./disk.js";
+import { makingLines, nameVersion, versionOf } from "./editions.js";
 import { Files } from "./files.js";
-import { PAGE_SIZE } from "./machine.js";
 import { wordAt } from "./manual.js";
-import { by } from "./parts.js";
-import { withBytes, withTexts } from "./store.js";
+import { ask, by } from "./parts.js";
+import { Work } from "./work.js";
 
-const MOST_LINES = 200, KEEP_AFTER = 300;
-const NARROW = "(max-width: 60rem)";
+const MOST_LINES = 200, DAY = 86400000;
+const NARROW = "(max-width: 75.99rem)", SIGNS_OF_LINES = [":", ";", "@", "!", ".", '."', '"', "(", ")", "+", "-", "*", "/", "="];
 // Keys that a program gets as a terminal would send them.
 const ARROWS = { ArrowUp: "A", ArrowDown: "B", ArrowRight: "C", ArrowLeft: "D", Home: "H", End: "F" };
 const KEYS = { Backspace: [127], Escape: [27], Enter: [10], Tab: [9] };
 
 export class Page {
   constructor(transcript, store) {
-    Object.assign(this, { transcript, store, history: [], place: 0, work: "", mine: String(Math.random()), files: new Files(this) });
+    Object.assign(this, { transcript, history: [], place: 0, isOpen: false, ask, work: new Work(store, this), files: new Files(this) });
   }
 
   async begin() {
     this.listen();
-    this.size(Number(await this.store.get("size")) || 16);
-    this.work = (await this.store.get("work")) || "";
-    await this.beginWork();
-    this.editor.go((await this.store.get("screen")) ?? this.firstScreen());
-    this.course.list();
-    this.course.find(await this.store.get("lesson"));
-    this.tab((await this.store.get("tab")) || (matchMedia(NARROW).matches ? "forth" : "screens"));
-    this.isKeeping = true;
-    this.claim();
+    this.size(Number(await this.work.setting("size")) || 16);
+    await this.beginWork((await this.work.setting("work")) || "");
+    this.course.find(await this.work.setting("lesson"));
+    this.tab((await this.work.setting("tab")) || (DATA.start.length ? (matchMedia(NARROW).matches ? "forth" : "screens") : DATA.screen === null ? "start" : "course"));
     by("line").focus();
   }
 
-  // Continues with the work that was kept under the present name, or starts a new one.
-  async beginWork() {
-    const kept = this.newest(await this.store.get(`session/${this.work}`), this.store.last(this.work));
+  // Continues with the work that was kept under a name, or starts a new one.
+  async beginWork(name) {
+    this.news = [];
+    const kept = await this.work.open(name), { news } = this;
+    this.news = null;
     this.history = (kept && kept.history) || [];
     this.place = this.history.length;
-    this.transcript.back(kept ? kept.texts : []);
+    this.transcript.back(kept ? kept.texts || [] : []);
+    for (const text of news) this.note(text);
     if (!kept) this.startNew();
-    else if (!this.session.resume(kept)) this.startAgain(kept);
-    await this.files.listDisks();
+    else if (this.session.resume(kept)) this.goOn(kept);
+    else this.startAgain();
+    this.isOpen = true;
+    this.shown = this.work.disk;
+    this.opened(true);
+    this.editor.go(kept && kept.screen !== undefined ? kept.screen : this.firstScreen());
     await this.listWorks();
   }
 
-  // What was kept last: when the page was closed, or before.
-  newest(kept, last) {
-    if (!last || (kept && kept.when >= last.when)) return kept;
-    return withBytes(last);
-  }
+  // Whether this window keeps what is done.
+  get isKeeping() { return this.isOpen && this.work.isOurs; }
 
   startNew() {
-    this.note(`${DATA.title} Type 3 4 + . and press Enter. HELP says more. Your work is kept in this browser.`);
-    this.session.start(this.files.builtIn(DATA.first));
+    const keeps = this.work.store.database ? " Your work is kept in this browser." : " This browser keeps nothing: save your work as a file.";
+    this.note(`${DATA.title} Type 3 4 + . and press Enter. HELP says more.${keeps}`);
+    this.session.start();
     if (DATA.start.length) this.session.type(DATA.start);
   }
 
   // What was kept is not a machine of this version of the page; its screens can be used.
-  startAgain(kept) {
+  startAgain() {
     this.note("The words of your last session don't fit this version of the page, and are gone. The screens are here.");
-    const { name, disk } = kept, isDisk = disk && disk.length && disk.length % PAGE_SIZE === 0;
-    this.session.start(isDisk ? new Disk(String(name), disk) : this.files.builtIn(DATA.first));
+    this.work.version = DATA.version;
+    this.session.start();
+    this.work.goOn();
   }
 
-  firstScreen() { return DATA.screen ?? Math.min(21, this.session.disk.count - 1); }
+  // Goes on with a machine that was kept. One of an older page may be exchanged for this page's.
+  goOn(kept) {
+    const { memory } = this.session.machine, old = kept.version || { text: versionOf(memory).text };
+    const isOther = old.text !== DATA.version.text || kept.places.fence !== this.session.own.fence, isOld = old.image ? old.image !== DATA.version.image : isOther;
+    this.work.version = old;
+    nameVersion(memory, DATA.version.text);
+    this.work.goOn();
+    this.session.goOn();
+    if (isOld && !this.session.program && old.left !== DATA.version.image) this.offer(old, kept.texts || []);
+  }
+
+  async offer(old, texts) {
+    const lines = makingLines(texts), again = lines.length ? ` What made words is typed again: ${lines.length} ${lines.length === 1 ? "line" : "lines"}.` : "";
+    const question = `Your Forth is that of an older page (${old.text || "unknown"}); this page brings ${DATA.version.text}. With the new one, your disks stay.${again}`;
+    if (!(await this.ask(question, ["Take the new Forth"], { cancel: "Keep the old one" }))) return void (Object.assign(this.work.version, { left: DATA.version.image }), this.keeps());
+    await this.idle();
+    this.session.settle();
+    this.work.remember("update");
+    this.work.version = DATA.version;
+    this.session.start();
+    await this.idle();
+    this.note("This is the new Forth. Undo brings the old one back.");
+    if (lines.length) this.session.type(lines);
+  }
+
+  // Another disk is in, or its name is another; isBack: after Undo.
+  opened(isBack) {
+    const { disk, names } = this.work;
+    by("disks").replaceChildren(...names.map((name) => new Option(name, name, false, disk && name === disk.name)));
+    if (!this.isOpen) return;
+    if (!isBack && this.shown !== disk) this.note(`The disk is ${disk.name} now, with ${disk.count} screens.`);
+    this.course.list();
+    const isLesson = document.body.dataset.tab === "course" && this.course.isOpen, first = isLesson ? this.course.lesson.screen : this.firstScreen();
+    this.editor.go(this.shown === disk ? this.editor.block : first);
+    this.shown = disk;
+    this.changed();
+  }
+
+  firstScreen() { return Math.min(DATA.screen ?? 21, this.session.disk.count - 1); }
 
   // What the session asks of its view.
   show(bytes, isTyped) { this.transcript.show(bytes, isTyped); }
-  note(text) { this.transcript.note(text); }
+  note(text) {
+    if (this.news) this.news.push(text);
+    else this.transcript.note(text);
+  }
   started(isAnswer) { this.transcript.begin(isAnswer); }
   mark() { return this.transcript.mark(); }
   back(mark) { this.transcript.back(mark); }
 
   fault(notes) {
     this.transcript.fault();
+    const unknown = /(\S+) is unknown \(fault 13\)/.exec(this.transcript.answer());
+    this.advise(unknown ? unknown[1] : "");
     if (!notes.block) return;
-    this.editor.show(notes);
-    if (this.isFromEditor) this.tab("screens");
+    this.editor.show({ ...notes, text: this.transcript.answer().split("\n").find((line) => line.includes("(fault ")) || "" });
+    if (this.isFromEditor && document.body.dataset.tab !== "course") this.tab("screens");
   }
 
   // Loads a screen for the editor. A narrow page shows the Forth then, and the editor again for a fault.
@@ -88,7 +132,7 @@ export class Page {
   }
 
   edit(screen) {
-    this.tab("screens");
+    if (document.body.dataset.tab !== "course" || screen !== this.course.lesson.screen) this.tab("screens");
     this.editor.go(screen);
     by("screen-text").focus();
   }
@@ -106,21 +150,20 @@ export class Page {
     this.keeps();
   }
 
+  keeps() { this.work.keepSoon(); }
+
   // Called after each slice of time of a program that runs.
   looks() { this.canvas.look(); }
-
-  keeps() {
-    clearTimeout(this.timer);
-    this.timer = setTimeout(() => this.keep(), KEEP_AFTER);
-  }
 
   draw() {
     const { session } = this, isBusy = session.isRunning, cells = isBusy ? [] : session.machine.values;
     this.isDrawn = false;
     document.body.classList.toggle("busy", isBusy);
     by("stop").disabled = !isBusy && !session.waitsForKey && !session.waitsForAnswer;
-    by("undo").disabled = !session.undos.length;
-    by("stack").textContent = isBusy ? "running" : cells.slice(-16).map(signed).join(" ") || "empty";
+    by("undo").disabled = !this.work.undos.length;
+    by("redo").disabled = !this.work.redos.length;
+    const shown = cells.slice(-16).flatMap((cell, at) => [at ? " " : "", element("b", String(signed(cell)))]);
+    by("stack").replaceChildren(...(isBusy ? ["running"] : shown.length ? shown : ["empty"]));
     by("asks").textContent = isBusy ? "…" : session.waitsForKey ? "key" : session.waitsForAnswer ? "?" : "›";
     by("line").placeholder = session.waitsForKey ? "the program waits for a key" : "";
     by("program").textContent = session.program ? `${session.program} runs` : "";
@@ -133,11 +176,12 @@ export class Page {
   listen() {
     this.listenToLine();
     this.listenToButtons();
+    this.listenToKeys();
+    this.listenToDivider();
     document.addEventListener("keydown", (event) => this.pressAnywhere(event));
-    addEventListener("resize", () => this.transcript.toEnd());
-    addEventListener("pagehide", () => this.keepAtOnce());
-    document.addEventListener("visibilitychange", () => document.hidden && this.keepAtOnce());
-    addEventListener("storage", (event) => event.key === this.claimed && event.newValue !== this.mine && this.yield());
+    addEventListener("resize", () => this.transcript.fit());
+    addEventListener("pagehide", () => this.work.keepAtOnce());
+    document.addEventListener("visibilitychange", () => document.hidden && this.work.keepAtOnce());
     for (const kind of ["dragover", "drop"]) document.addEventListener(kind, (event) => this.files.dropFile(event));
   }
 
@@ -163,17 +207,43 @@ export class Page {
 
   listenToButtons() {
     const { files } = this;
-    const acts = { stop: () => this.stop(), undo: () => this.session.undo(), anew: () => this.anew(), larger: () => this.size(this.points + 2),
+    const acts = { stop: () => this.stop(), undo: () => this.work.undo(), redo: () => this.work.redo(), over: () => location.reload(), anew: () => this.anew(), larger: () => this.size(this.points + 2),
       smaller: () => this.size(this.points - 2), open: () => by("file").click(), "new-disk": () => files.newDisk(),
       "rename-disk": () => files.renameDisk(), "remove-disk": () => files.removeDisk(), "new-work": () => this.newWork(),
       "print-screens": () => files.print(), "save-blocks": () => files.save("blk", () => this.session.disk.bytes),
-      "save-text": () => files.save("txt", () => textOf(this.session.disk)), "save-all": () => files.save("forth", () => files.wholeSession()), "save-image": () => files.saveImage() };
+      "save-text": () => files.save("txt", () => textOf(this.session.disk)), "save-all": () => files.saveAll(), "save-transcript": () => files.saveBlob("txt", new Blob([this.transcript.text()]), "transcript"), "save-image": () => files.saveImage() };
     for (const [id, act] of Object.entries(acts)) by(id).addEventListener("click", act);
-    by("file").addEventListener("change", (event) => files.open(event.target.files[0]));
-    by("disks").addEventListener("change", (event) => files.insertNamed(event.target.value));
+    by("file").addEventListener("change", (event) => files.openAll([...event.target.files]));
+    by("disks").addEventListener("change", (event) => this.work.putIn(event.target.value));
     by("works").addEventListener("change", (event) => this.changeWork(event.target.value));
     for (const tab of document.querySelectorAll("[role=tab]")) tab.addEventListener("click", () => this.tab(tab.dataset.tab));
     by("tabs").addEventListener("keydown", (event) => this.turn(event));
+  }
+
+  // Signs that are far away on a telephone's keyboard.
+  listenToKeys() {
+    by("keys").append(...SIGNS_OF_LINES.map((sign) => element("button", sign, { type: "button", tabindex: -1 })));
+    by("keys").addEventListener("pointerdown", (event) => {
+      const place = [by("line"), by("screen-text")].find((one) => one === document.activeElement) || by("line");
+      event.preventDefault();
+      place.focus();
+      if (event.target.type !== "button") return;
+      place.setRangeText(`${event.target.textContent} `, place.selectionStart, place.selectionEnd, "end");
+      place.dispatchEvent(new Event("input"));
+    });
+  }
+
+  // The line between the Forth and the tabs, which can be moved.
+  listenToDivider() {
+    const divider = by("divider"), move = (x) => {
+      document.querySelector("main").style.setProperty("--forth", `${Math.max(20, Math.min(80, (100 * x) / innerWidth))}%`);
+      this.transcript.fit();
+    };
+    divider.addEventListener("pointerdown", (event) => divider.setPointerCapture(event.pointerId));
+    divider.addEventListener("pointermove", (event) => divider.hasPointerCapture(event.pointerId) && move(event.clientX));
+    divider.addEventListener("keydown", ({ key }) => {
+      if (key === "ArrowLeft" || key === "ArrowRight") move(divider.offsetLeft + (key === "ArrowLeft" ? -20 : 20));
+    });
   }
 
   pressAnywhere(event) {
@@ -242,16 +312,31 @@ export class Page {
     line.focus();
   }
 
-  // Types lines, as a person does.
+  // Types lines, as a person does, and shows the Forth.
   enter(...lines) {
+    this.tab("forth", true);
+    this.send(...lines);
+  }
+
+  send(...lines) {
     this.isFromEditor = false;
+    this.advise("");
     for (const line of lines) if (line.trim() && line !== this.history[this.history.length - 1]) this.history.push(line);
     this.history = this.history.slice(-MOST_LINES);
     this.place = this.history.length;
-    this.tab("forth", true);
     this.session.type(lines);
     const asked = /(?:^|\s)HELP\s+(\S+)\s*$/i.exec(lines[lines.length - 1] || "");
-    if (asked) this.showWord(asked[1]);
+    if (asked) this.idle().then(() => this.note(this.manual.entry(asked[1])));
+  }
+
+  // What may help after a word that the Forth doesn't know.
+  advise(word) {
+    const near = word ? this.manual.near(word, this.session.machine.words().map((one) => one.name)) : [];
+    const search = element("button", "Search in Words", { type: "button" }), words = near.map((name) => element("button", name, { type: "button", class: "word" }));
+    by("advice").hidden = !word;
+    by("advice").replaceChildren(element("span", `I don't know the word ${word}. ${near.length ? "Perhaps " : ""}`), ...words, search);
+    search.onclick = () => this.showWord(word);
+    for (const one of words) one.onclick = () => this.showWord(one.textContent);
   }
 
   // Waits until the Forth asks for something.
@@ -271,11 +356,14 @@ export class Page {
     by("line").focus();
   }
 
-  anew() {
-    if (!confirm("Start a new Forth? The words that you typed will be gone; the screens are kept.")) return;
+  async anew() {
+    const question = "Start a new Forth? The words that you typed will be gone; the screens are kept. Undo brings them back.";
+    if (!(await this.ask(question, ["Start a new Forth"]))) return;
     this.session.settle();
+    this.work.remember("new Forth");
     this.transcript.clear();
-    this.session.start(this.session.disk);
+    this.work.version = DATA.version;
+    this.session.start();
     by("line").focus();
   }
 
@@ -290,11 +378,23 @@ export class Page {
       tab.tabIndex = isIt ? 0 : -1;
     }
     document.body.dataset.tab = name;
+    by(`tab-${name}`).scrollIntoView({ block: "nearest", inline: "nearest" });
     this.remember("tab", name);
+    this.placeDesk();
     if (name === "screens") this.editor.refresh();
     if (name === "map") this.map.draw();
     if (name === "canvas") this.canvas.look();
-    if (name === "forth") this.transcript.toEnd();
+    this.transcript.fit();
+  }
+
+  // The editor is below the lesson whose screen it shows, and the canvas below one that draws; or each is in its own tab.
+  placeDesk() {
+    const { course } = this, isCourse = document.body.dataset.tab === "course", isLesson = isCourse && course.isOpen, desk = by("desk"), picture = by("canvas-picture");
+    const place = by(isLesson ? "course-desk" : "screens"), wall = by(isCourse && course.isDrawing ? "course-desk" : "canvas");
+    if (picture.parentElement !== wall) wall.prepend(picture);
+    if (desk.parentElement === place) return;
+    place.prepend(desk);
+    if (isLesson) this.editor.go(course.lesson.screen);
   }
 
   turn(event) {
@@ -311,18 +411,17 @@ export class Page {
     document.documentElement.style.fontSize = `${this.points}px`;
     this.film.size();
     this.remember("size", this.points);
-    this.transcript.toEnd();
+    this.transcript.fit();
   }
 
   // Several people at one computer keep their work under their names.
   async listWorks() {
-    const kept = await this.store.names("session/");
-    const names = [...new Set([this.work, "", ...kept])];
-    by("works").replaceChildren(...names.sort().map((name) => new Option(name || "(no name)", name, false, name === this.work)));
+    const names = await this.work.people();
+    by("works").replaceChildren(...names.map((name) => new Option(name || "(no name)", name, false, name === this.work.name)));
   }
 
-  newWork() {
-    const name = this.files.askForName("Your name, or a name for new work:", "");
+  async newWork() {
+    const name = await this.files.askForName("Your name, or a name for new work:", "");
     if (name) this.changeWork(name);
   }
 
@@ -331,53 +430,35 @@ export class Page {
       this.note("The Forth is busy: stop it first.");
       return this.listWorks();
     }
-    await this.keep();
-    // Until the other work is loaded, nothing is kept under its name.
-    this.isKeeping = false;
-    this.work = name;
-    await this.store.put("work", name);
+    await this.work.leave();
+    this.isOpen = false;
+    this.shown = null;
+    this.work.set("work", name);
     this.transcript.clear();
-    await this.beginWork();
-    this.isKeeping = true;
-    this.claim();
-    this.editor.go(this.firstScreen());
+    await this.beginWork(name);
     this.changed();
   }
 
-  // What is kept: the whole machine, its disk, and what is visible.
-  state() { return { ...this.session.kept(), texts: this.transcript.mark(), history: this.history, when: Date.now() }; }
+  // What is kept beside the machine and the disks.
+  seen() { return { texts: this.transcript.mark(), history: this.history, screen: this.editor.block, when: Date.now() }; }
 
-  // When the page is closed or hidden, keeps in a smaller place what the database may no longer accept.
-  keepAtOnce() {
-    if (!this.isKeeping) return;
-    this.store.putLast(this.work, withTexts(this.state()));
-    this.keep();
+  remember(name, value) { this.work.set(name, value); }
+
+  // Asks the browser, once there is work of a person's, not to drop it by itself.
+  persist() {
+    if (!this.isPersistent && navigator.storage && navigator.storage.persist) navigator.storage.persist().catch(() => false);
+    this.isPersistent = true;
   }
 
-  async keep() {
-    if (!this.isKeeping) return;
-    const isKept = await this.store.put(`session/${this.work}`, this.state());
-    await this.store.put("screen", this.editor.block);
-    by("kept").textContent = isKept ? "kept in this browser" : "NOT KEPT: this browser keeps nothing; save your work as a file";
-    by("kept").classList.toggle("at-fault", !isKept);
-  }
-
-  remember(name, value) { this.store.put(name, value); }
-
-  // Only the window that was opened last keeps its work; the others learn of it from the browser's storage.
-  claim() {
-    this.claimed = `forth83/${this.store.place}/${this.work}`;
-    try {
-      localStorage.setItem(this.claimed, this.mine);
-    } catch {
-      // Then other windows do not learn of it.
-    }
-  }
-
-  yield() {
-    if (!this.isKeeping) return;
-    this.isKeeping = false;
-    this.note("This page is open in another window, too, which keeps its own work now. This one keeps nothing more; reload it to take over.");
-    by("kept").textContent = "not kept: open in another window";
+  // Shows whether work is kept: "kept", "refused" by the browser, or "lost" to another window.
+  kept(answer) {
+    const days = Math.floor((Date.now() - this.work.saved) / DAY), ago = days ? `${days} ${days === 1 ? "day" : "days"} ago` : "today";
+    const isLost = answer === "lost", wasLost = !by("over").hidden;
+    by("kept").textContent = { kept: `kept in this browser; saved as a file: ${this.work.saved ? ago : "never"}`,
+      refused: "NOT KEPT: this browser keeps nothing; save your work as a file", lost: "only shown here: another window has this work now" }[answer];
+    by("kept").classList.toggle("at-fault", answer !== "kept");
+    by("over").hidden = !isLost;
+    by("line").disabled = by("screen-text").readOnly = isLost;
+    if (isLost && !wasLost) this.note("This page is open in another window, which has your work now. This window only shows it; Take over brings it back here.");
   }
 }

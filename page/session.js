@@ -1,14 +1,13 @@
 // A session: a machine with a disk. It runs in slices of time, so that the page still responds, and any program can be stopped.
 
 import { encode } from "./bytes.js";
-import { Disk } from "./disk.js";
 import { entryOf, imageOf } from "./image.js";
 import { ASKS, inLayout2, Machine, PAGE_SIZE, STOP, SYSTEM } from "./machine.js";
 
-const SLICE = 12, UNDOS = 100, LONG = 2000;
+const IN_PAGE = 0xffff, SLICE = 12, LONG = 2000, BEGINNING = "COLD-PAGE";
 // Places of the cells that screens/page/paged.txt notes for the page, and the words of its image that the page uses.
 const NOTES = { faults: 0, block: 2, byte: 4, edits: 6 };
-const OWN = { BREAK: ["break", 0], NOTES: ["notes", 2], SHADOW: ["shadow", 2], "RETYPE#": ["retyped", 2], "'BOOT": ["boot", 2] };
+const OWN = { BREAK: ["break", 0], NOTES: ["notes", 2], SHADOW: ["shadow", 2], "RETYPE#": ["retyped", 2], "'BOOT": ["boot", 2], WAITING: ["wait", 2] };
 
 const numbers = (places) => Object.fromEntries(Object.entries(places).map(([name, place]) => [name, Number(place)]));
 
@@ -19,7 +18,6 @@ export class Session {
     Object.assign(this, { image, view, layout, machine: new Machine(calls, layout) });
     this.lines = []; // typed lines that aren't read yet
     this.keys = []; // bytes for KEY that aren't read yet
-    this.undos = [];
     this.ticks = 200000;
     this.isStopped = false;
     this.isRunning = false;
@@ -28,11 +26,12 @@ export class Session {
     this.own = this.placesOf(OWN);
   }
 
+  // The disk that is in: the work has it.
+  get disk() { return this.work.disk; }
+
   // Starts a machine as the image has it.
-  start(disk) {
-    if (this.waits(() => this.start(disk))) return;
-    this.disk = disk;
-    this.undos = [];
+  start() {
+    if (this.waits(() => this.start())) return;
     this.load();
     this.go();
   }
@@ -40,21 +39,31 @@ export class Session {
   load() {
     Object.assign(this, { faults: 0, places: { ...this.own }, outer: null, program: "" });
     this.machine.load(this.image, this.disk.count);
+    this.greet();
+  }
+
+  // Lets MS know that a page answers it.
+  greet() { if (this.places.wait !== undefined) this.machine.setCell(this.places.wait, IN_PAGE); }
+
+  // For how many milliseconds MS wants to wait, or 0.
+  get pause() {
+    const wait = this.machine.asks === ASKS.KEY && this.places.wait !== undefined ? this.machine.cell(this.places.wait) : 0;
+    return wait === IN_PAGE ? 0 : wait;
   }
 
   // Runs an image in place of the Forth, which continues where it was when the image ends; returns whether it is an image.
   runImage(program, image) {
     this.settle();
-    this.remember();
-    const { record } = this.undos[this.undos.length - 1], outer = this.outer || { record, places: this.places };
+    const record = this.machine.copy(), outer = this.outer || { record, places: this.places }, before = this.work.snapshot(program);
     try {
       this.machine.load(image, this.disk.count);
     } catch {
       this.machine.restore(record);
-      this.undos.pop();
       return false;
     }
+    this.work.push(before);
     Object.assign(this, { faults: 0, outer, program, places: this.placesOfImage(image) });
+    this.greet();
     this.view.note(`${program} runs now. Stop interrupts it. When it ends, or after Undo, the Forth goes on where it was.`);
     this.go();
     return true;
@@ -77,9 +86,9 @@ export class Session {
     this.view.note(`${program} ${why}. The Forth goes on where it was.`);
   }
 
-  // Continues with a machine and a disk that were kept; returns whether they are valid. A record that isn't a machine's is refused by its first run.
+  // Continues with a machine that was kept; returns whether it is valid. A record that isn't a machine's is refused by its first run.
   resume(kept) {
-    const { disk, places, outer, program } = this, before = { disk, places, outer, program }, record = this.machine.copy();
+    const { places, outer, program } = this, before = { places, outer, program }, record = this.machine.copy();
     try {
       this.take(kept);
       this.machine.run(new Uint8Array(0), 0);
@@ -88,26 +97,29 @@ export class Session {
       Object.assign(this, before);
       return false;
     }
-    this.machine.blockCount = this.disk.count;
-    if (this.machine.asks === ASKS.NOTHING) this.interrupt();
     this.faults = this.notes.faults;
-    this.undos = [];
-    this.go();
     return true;
   }
 
+  // Goes on with it, on the disk that is in. A program that was running is interrupted.
+  goOn() {
+    this.machine.blockCount = this.disk.count;
+    if (this.machine.asks === ASKS.NOTHING) this.interrupt();
+    this.go();
+  }
+
   // Restores what was kept; throws if the sizes differ.
-  take({ name, disk, record, places, outer, program }) {
+  take({ record, places, outer, program }) {
     const { size } = this.layout, now = inLayout2(record, this.layout), before = outer ? inLayout2(outer.record, this.layout) : null;
-    if (now.length !== size || disk.length % PAGE_SIZE || (before && before.length !== size)) throw new Error("other sizes");
-    Object.assign(this, { disk: new Disk(String(name), disk), places: numbers(places), program: String(program || ""),
+    if (now.length !== size || (before && before.length !== size)) throw new Error("other sizes");
+    Object.assign(this, { places: numbers(places), program: String(program || ""),
       outer: before ? { record: before, places: numbers(outer.places) } : null });
     this.machine.restore(now);
   }
 
   kept() {
-    const { disk, machine, places, outer, program } = this;
-    return { name: disk.name, disk: disk.bytes.slice(), record: machine.copy(), places: { ...places }, outer, program };
+    const { machine, places, outer, program } = this;
+    return { record: machine.copy(), places: { ...places }, outer, program };
   }
 
   // The places of these words in the machine, of the newest of each name; and where its words end.
@@ -131,7 +143,9 @@ export class Session {
     if (machine.cell(SYSTEM.state)) return { wrong: "a definition is unfinished" };
     const word = name && machine.words().filter((one) => one.name.toUpperCase() === sought).pop();
     if (name && !word) return { wrong: `there is no word ${name}` };
-    return { image: imageOf(this.image, machine.memory.slice(0, machine.cell(SYSTEM.here)), { [places.boot]: word ? word.word : 0 }) };
+    // A Forth of an older page begins at another address than this page's.
+    const { word: entry } = machine.words().find((one) => one.name === BEGINNING) || { word: entryOf(this.image) };
+    return { image: imageOf(this.image, entry, machine.memory.slice(0, machine.cell(SYSTEM.here)), { [places.boot]: word ? word.word : 0, [places.wait ?? places.boot]: places.wait ? 0 : word ? word.word : 0 }) };
   }
 
   // Whether an image runs that knows nothing of the page. What it reads by KEY is typed in whole lines, as at a terminal.
@@ -150,7 +164,7 @@ export class Session {
 
   // Types lines, one after the other; a fault drops the lines after it.
   type(lines) {
-    if (this.waitsForLine) this.remember();
+    if (this.waitsForLine) this.work.remember("line");
     this.lines.push(...lines);
     this.go();
   }
@@ -223,6 +237,7 @@ export class Session {
     let since = performance.now(), typed = new Uint8Array(0), kept = since;
     while (typed) {
       typed = this.advance(typed);
+      if (!typed && this.pause) typed = await this.sleep(this.pause);
       if (performance.now() - since < SLICE) continue;
       await pause();
       since = performance.now();
@@ -238,6 +253,16 @@ export class Session {
       }
     }
     this.end();
+  }
+
+  // Waits for MS, unless it is stopped; the byte that answers it.
+  async sleep(wait) {
+    const until = performance.now() + wait;
+    this.view.looks();
+    while (performance.now() < until && !this.isStopped && !this.wish) await new Promise((resolve) => setTimeout(resolve, Math.min(20, Math.max(1, until - performance.now()))));
+    const isStopped = this.isStopped || this.wish;
+    this.isStopped = false;
+    return Uint8Array.of(isStopped ? 3 : 0);
   }
 
   // One call of the machine, and what it asks for; the bytes that come next, or null if a person is needed.
@@ -257,7 +282,7 @@ export class Session {
   feed() {
     this.places.depth ??= this.machine.returns.length;
     if (this.look()) this.drop("there was a fault");
-    const typed = this.next();
+    const typed = this.pause ? [] : this.next();
     return typed.length ? typed : null;
   }
 
@@ -304,12 +329,7 @@ export class Session {
     const block = this.machine.field("asked");
     if (block >= this.disk.count) this.machine.answerFailed();
     else if (this.machine.asks === ASKS.READ) this.machine.answerRead(this.disk.page(block));
-    else this.write(block, this.machine.answerWritten());
-  }
-
-  write(block, page) {
-    this.disk.put(block, page);
-    this.before = null;
+    else this.work.write(block, this.machine.answerWritten());
   }
 
   // Looks whether a fault was reported since the last look, and whether the Forth asks for the editor or for a line to be typed again.
@@ -346,47 +366,22 @@ export class Session {
 
   // Stores a block's bytes on the disk and in the machine.
   put(block, page) {
-    const what = `screen ${block}`;
-    if (this.undos.length === 0 || this.undos[this.undos.length - 1].what !== what) this.remember(what);
+    this.work.write(block, page);
     this.page(block).set(page);
-    this.write(block, page);
   }
 
   // Writes changed buffers to the disk.
   settle() {
     for (const buffer of this.machine.buffers) {
-      if (buffer.updated && buffer.block < this.disk.count) this.write(buffer.block, buffer.bytes);
+      if (buffer.updated && buffer.block < this.disk.count) this.work.write(buffer.block, buffer.bytes);
       if (buffer.updated) this.machine.settle(buffer);
     }
   }
 
-  // Opens another disk; the machine and its words stay.
-  change(disk) {
-    this.settle();
+  // Forgets the blocks of the disk that was in, and takes the one that is in now; the machine and its words stay.
+  change() {
     for (const buffer of this.machine.buffers) this.machine.release(buffer);
-    this.disk = disk;
-    this.before = null;
-    this.machine.blockCount = disk.count;
-    this.view.changed();
-  }
-
-  // Keeps all as it is, for Undo: before a line, and before a screen is edited. States with the same disk share one copy of it.
-  remember(what) {
-    this.before ??= this.disk.bytes.slice();
-    const { disk, places, outer, program, faults } = this;
-    this.undos.push({ what, record: this.machine.copy(), bytes: this.before, mark: this.view.mark(), own: { disk, places, outer, program, faults } });
-    if (this.undos.length > UNDOS) this.undos.shift();
-  }
-
-  // Restores everything from before the last line that was typed, or the last screen that was edited.
-  undo() {
-    if (!this.undos.length || this.waits(() => this.undo())) return;
-    const before = this.undos.pop();
-    this.machine.restore(before.record);
-    Object.assign(this, before.own);
-    this.disk.bytes = before.bytes.slice();
-    this.before = before.bytes;
-    this.view.back(before.mark);
+    this.machine.blockCount = this.disk.count;
     this.view.changed();
   }
 }

@@ -3,7 +3,7 @@
 import { element } from "./bytes.js";
 import { Terminal, needsScreen } from "./terminal.js";
 
-const MOST_SHOWN = 60000, MOST_LINES_SHOWN = 1500;
+const MOST_SHOWN = 60000, MOST_LINES_SHOWN = 1500, SMALLEST = 12, LISTED = 69, WIDTH_OF_LETTER = 0.605;
 
 // The end of a text: not so many characters, nor so many lines, that drawing them takes long.
 function tail(text) {
@@ -71,11 +71,26 @@ export class Transcript {
 
   toEnd() { this.place.scrollTop = this.place.scrollHeight; }
 
+  // Makes the letters so small that a line of LIST fits, if they are still readable then.
+  fit() {
+    const { place } = this, room = place.clientWidth - 20, { fontSize } = getComputedStyle(document.documentElement), most = 0.95 * parseFloat(fontSize);
+    if (room > 0) place.style.fontSize = `${Math.max(Math.min(most, SMALLEST), Math.min(most, room / (LISTED * WIDTH_OF_LETTER)))}px`;
+    this.toEnd();
+  }
+
   append(kind, text) {
     const last = this.texts[this.texts.length - 1];
-    if (last && last[0] === kind && kind !== "typed" && kind !== "screen") return this.replace(this.texts.length - 1, tail(last[1] + text));
+    if (last && last[0] === kind && kind !== "typed" && kind !== "screen") return this.lengthen(last, text);
     this.texts.push([kind, text]);
     this.place.append(element("span", text, { class: kind }));
+  }
+
+  // Adds to a text. What was shown before stays as it is, so that a screen reader doesn't read it again.
+  lengthen(last, text) {
+    const whole = last[1] + text;
+    if (tail(whole) !== whole) return this.replace(this.texts.length - 1, tail(whole));
+    last[1] = whole;
+    this.place.lastChild.append(text);
   }
 
   replace(at, text) {
@@ -113,6 +128,12 @@ export class Transcript {
         this.texts[at][0] = "fault";
         this.place.childNodes[at].className = "fault";
       }
+  }
+
+  // What was shown since the last line was typed, without that line.
+  answer() {
+    this.draw();
+    return this.texts.slice(Math.max(0, this.started)).filter(([kind]) => kind !== "typed" && kind !== "note").map(([, text]) => text).join("").trim();
   }
 
   text() {

@@ -9,8 +9,9 @@ const ITEM = /\((?:[^)]*)\)|NEEDS\s+(\S+)|T\{\s+([^]*?)\s->\s+([^]*?)\}(T|YES|NO
 
 const oneLine = (text) => text.replace(/\s*\n\s*/g, " ").trim();
 
-// What is shown, without blanks and new lines at both ends; a new line is a slash.
-const cut = (text) => text.replace(/\n/g, "/").replace(/^[ /]+|[ /]+$/g, "");
+// What is shown, or should be, without blanks at the ends of lines, and without new lines at both ends; a new line is a slash.
+const cut = (text) => text.replace(/ +\//g, "/").replace(/^[ /]+|[ /]+$/g, "");
+const cutShown = (text) => cut(text.replace(/\//g, "\\").replace(/\n/g, "/"));
 
 // What a checker's screen does: words that it needs, lines, and trials with the numbers that they must leave, and what they must show.
 export function trialsOf(page) {
@@ -22,7 +23,7 @@ export function trialsOf(page) {
     if (needs) found.push({ needs });
     else if (line) {
       const numbers = leaves.split(/\s+/).filter((one) => one).map(Number);
-      found.push({ line: oneLine(line), leaves: numbers, kind, shows: shows === undefined ? null : cut(shows) });
+      found.push({ line: oneLine(line), leaves: numbers, kind, shows: shows === undefined ? null : cut(oneLine(shows)) });
     }
     else if (other && other.trim()) found.push({ line: oneLine(other) });
   }
@@ -68,6 +69,6 @@ export async function why(machine, trial, run) {
   if (!leaves) return null;
   if (!isKept) return `${line} takes more from the stack than it is given`;
   if (!isLeft(trial, left)) return `${line} leaves ${left.join(" ") || "nothing"}, and ${wantedBy(trial)} is wanted`;
-  const output = cut(shown.slice(line.length).trimEnd().replace(/ok$/, ""));
+  const output = cutShown(shown.slice(line.length).trimEnd().replace(/ok$/, ""));
   return shows === null || output === shows ? null : `${line} shows ${output.slice(0, COLUMNS)}, and ${shows} is wanted`;
 }

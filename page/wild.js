@@ -1,5 +1,6 @@
 // Containers that `./forth83 import` reads in addition to the program's own formats, as commands/bring and commands/wild.py do.
 
+import { isSame } from "./bytes.js";
 import { ENDINGS, MOST_BLOCKS, blocksOf, changed, cleaned } from "./containers.js";
 import { COLUMNS, LINES } from "./disk.js";
 import { isListing, screensOfListing } from "./listing.js";
@@ -29,8 +30,6 @@ function joined(...pieces) {
   }
   return made;
 }
-
-const isSame = (a, b) => a.length === b.length && a.every((byte, at) => byte === b[at]);
 
 // The sectors of a disk that move by some places a track, one after the other. A file of 77 tracks has the unused one.
 function turned(container, { sector, sectors, interleave, move, unused }) {

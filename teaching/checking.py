@@ -82,12 +82,21 @@ class Desk:
         return results
 
 
+def blocks_with(course: bytes, screen: int, blocks: bytes) -> bytes:
+    """The course with a pupil's screen of a lesson, and with the pupil's screens of which the course has nothing: that screen may load these."""
+    made = bytearray(course)
+    for number in range(min(len(course), len(blocks)) // BYTES):
+        if number == screen or not screen_of(course, number).strip(b" \0"):
+            made[number * BYTES:(number + 1) * BYTES] = screen_of(blocks, number)
+    return bytes(made)
+
+
 class Check:
     """The check of one lesson of one pupil."""
 
     def __init__(self, desk: Desk, folder: pathlib.Path, lesson: Lesson, blocks: bytes, deadline: float, ticks: int) -> None:
         self.desk, self.folder, self.lesson, self.deadline, self.ticks = desk, folder, lesson, deadline, ticks
-        self.screen = screen_of(blocks, lesson.screen)
+        self.screen, self.blocks = screen_of(blocks, lesson.screen), blocks_with(desk.course, lesson.screen, blocks)
         self.trials = trials_of(lines_of(screen_of(desk.course, lesson.screen + CHECKERS)))
         self.mark = secrets.token_hex(8)  # no screen can know it
 
@@ -178,8 +187,8 @@ class Check:
 
     def run(self, verb: str, image: pathlib.Path, typed: List[str]) -> Ended:
         """Types lines at an image, over the course's blocks with this lesson's screen of the pupil's."""
-        at, blocks, lines = self.lesson.screen * BYTES, self.folder / "check.blk", self.folder / "typed"
-        blocks.write_bytes(self.desk.course[:at] + self.screen + self.desk.course[at + BYTES:])
+        blocks, lines = self.folder / "check.blk", self.folder / "typed"
+        blocks.write_bytes(self.blocks)
         lines.write_text("\n".join([*typed, ""]), encoding="utf-8")
         words = [self.desk.forth83.path, verb, image, *(["QUERY", self.folder / "trace"] if verb == "debug" else []), blocks,
                  "--limit", str(self.ticks)]

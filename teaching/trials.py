@@ -59,8 +59,13 @@ def lessons_of(blocks: bytes) -> List[Lesson]:
 
 
 def cut(shown: str) -> str:
-    """What is shown as CHECK compares it: `/` for a new line, and neither spaces nor new lines at both ends."""
-    return shown.replace("/", "\\").replace("\n", "/").strip(" /")
+    """What is shown as CHECK compares it: `/` for a new line, and neither spaces before these, nor spaces and new lines at both ends."""
+    return tidy(shown.replace("/", "\\").replace("\n", "/"))
+
+
+def tidy(text: str) -> str:
+    """What is shown, or should be, without the spaces at the ends of lines."""
+    return re.sub(" +/", "/", text).strip(" /")
 
 
 def trials_of(lines: List[str]) -> List[Trial]:
@@ -75,7 +80,7 @@ def trials_of(lines: List[str]) -> List[Trial]:
         if match["needs"]:
             word = match["needs"]
         elif match["line"]:
-            shows = None if match["shows"] is None else match["shows"].strip(" /")
+            shows = None if match["shows"] is None else tidy(match["shows"])
             typed = [line.strip() for line in match["line"].split("\n")]
             found.append(Trial(word, typed, match["kind"], [int(one) & 0xFFFF for one in match["wanted"].split()], shows))
         elif match["other"]:

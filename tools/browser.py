@@ -46,31 +46,51 @@ class Browser:
     """A browser with one page."""
 
     def __init__(self, width: int = 1280, height: int = 900) -> None:
-        self.room = tempfile.TemporaryDirectory()
+        self.room, self.shape = tempfile.TemporaryDirectory(), (width, height)
+        self.errors: List[str] = []
+        self.asked: List[str] = []
+        self.start()
+
+    def start(self) -> None:
+        """Starts the browser with the profile of this room."""
         to_read, self.out = os.pipe()
         self.back, to_write = os.pipe()
         os.set_inheritable(to_read, True)
         os.set_inheritable(to_write, True)
-        words = [chromium(), *OPTIONS, f"--user-data-dir={self.room.name}", f"--window-size={width},{height}", "about:blank"]
+        words = [chromium(), *OPTIONS, f"--user-data-dir={self.room.name}", f"--window-size={self.shape[0]},{self.shape[1]}", "about:blank"]
         command = ["bash", "-c", f'exec "$@" 3<&{to_read} 4>&{to_write}', "browser", *words]
         nowhere = {"stdin": subprocess.DEVNULL, "stdout": subprocess.DEVNULL, "stderr": subprocess.DEVNULL}
         self.running = subprocess.Popen(command, pass_fds=(to_read, to_write), **nowhere)
         os.close(to_read)
         os.close(to_write)
-        self.rest, self.number, self.session, self.errors, self.asked, self.events = b"", 0, None, [], [], []
-        target = next(one for one in self.call("Target.getTargets")["targetInfos"] if one["type"] == "page")
-        self.session = self.call("Target.attachToTarget", targetId=target["targetId"], flatten=True)["sessionId"]
+        self.rest, self.number, self.session, self.events = b"", 0, "", []
+        self.window(next(one for one in self.call("Target.getTargets")["targetInfos"] if one["type"] == "page")["targetId"])
+
+    def window(self, target: str = "") -> str:
+        """Goes to a window, or opens another one; its name."""
+        self.session = ""
+        self.target = target or self.call("Target.createTarget", url="about:blank")["targetId"]
+        self.session = self.call("Target.attachToTarget", targetId=self.target, flatten=True)["sessionId"]
         for domain in ("Page", "Runtime", "Network", "Log"):
             self.call(f"{domain}.enable")
+        return self.target
+
+    def close(self, target: str) -> None:
+        """Closes another window."""
+        self.call("Target.closeTarget", targetId=target)
+
+    def kill(self) -> None:
+        """Ends it as a crash does."""
+        self.running.kill()
+        self.running.wait()
+        os.close(self.out)
+        os.close(self.back)
 
     def __enter__(self) -> "Browser":
         return self
 
     def __exit__(self, *_: object) -> None:
-        self.running.kill()
-        self.running.wait()
-        os.close(self.out)
-        os.close(self.back)
+        self.kill()
         self.remove_room()
 
     def remove_room(self) -> None:
@@ -144,7 +164,7 @@ class Browser:
             self.call("Input.dispatchKeyEvent", type="keyUp", **one)
 
     def value(self, expression: str) -> Any:
-        done = self.call("Runtime.evaluate", expression=expression, returnByValue=True)
+        done = self.call("Runtime.evaluate", expression=expression, returnByValue=True, awaitPromise=True)
         if "exceptionDetails" in done:
             raise RuntimeError(str(done["exceptionDetails"]))
         return done["result"].get("value")

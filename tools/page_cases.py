@@ -98,7 +98,7 @@ def check_assembly(cases: Tally) -> None:
         names += re.findall(r"(?:^const |^let |, |\n *)(\w+) = ", line)
     cases.must(len(names) == len(set(names)), f"names twice: {sorted({it for it in names if names.count(it) > 1})}")
     cases.must(not re.search(r"^(import|export)\b", script, re.M), "imports or exports are left")
-    text = assembly.page({"text": "</script><!--"}, {}, {"TITLE": "A & B", "VERSION": "v", "SHA256": "s", "PROVED": "p"})
+    text = assembly.page({"text": "</script><!--"}, {}, {"TITLE": "A & B", "VERSION": "v", "SHA256": "s", "PROVED": "p", "CLAIM": "c", "ROSE": "r"})
     cases.must("</script><!--" not in text and "<title>A &amp; B</title>" in text, "the data end the script")
     cases.must("{{" not in re.sub(r"<script>.*</script>", "", text, flags=re.S), "a place of the template isn't filled")
 
@@ -254,13 +254,29 @@ def check_own_class(own: Trial) -> None:
     own.must(own.value("page.classList.course + ' ' + page.classList.taught.length") == "lesson.blk 1", "whose lessons a class list checks")
     files = []
     for name, line in (("ada", "2 3 +"), ("bob", "6"), ("eve", "5 CR .( Lesson 1 is right.)"), ("kim", "")):
-        own.value(f"window.{name} = page.files.builtIn('lesson.blk'); if ({json.dumps(line)}) {name}.put(21, pageOf([{json.dumps(line)}]).page); "
+        own.value(f"window.{name} = builtIn('lesson.blk'); if ({json.dumps(line)}) {name}.put(21, pageOf([{json.dumps(line)}]).page); "
                   f"{name}.put(2, pageOf([': CHECK .\" Lesson 1 is right.\" ;']).page); 0")
         files.append(f"new File([{name}.bytes], '{name}.blk')")
     own.value(f"window.checked = false; page.classList.check([{', '.join(files)}]).then(() => (window.checked = true)); 0")
     own.wait("window.checked", 30)
     marks = own.value("page.classList.rows.map((row) => row.results.map((one) => one.mark).join())")
     own.must(marks == ["right", "wrong", "right", "empty"], f"a class list of a page's own lessons: {marks}")
+
+
+def check_own_course(trial: Trial, program: pathlib.Path, room: pathlib.Path, make: Callable[..., None]) -> None:
+    """A page with a teacher's own edition of the course: a screen that only says that it is right isn't."""
+    text = (ROOT / "screens/course/course.txt").read_text(encoding="ascii").replace("( Lesson 3: the stack )", "( Lesson 3: a pile )")
+    (room / "pile.txt").write_text(text, encoding="ascii")
+    for words in (["new", room / "pile.blk", "64"], ["screens", room / "pile.txt", room / "pile.blk"]):
+        subprocess.run([program, *words], check=True, stdout=subprocess.DEVNULL)
+    make(room / "pile.html", room / "pile.blk")
+    own = Trial(trial.browser, room / "pile.html", trial.cases)
+    own.open()
+    own.value("window.eve = builtIn('pile.blk'); eve.put(23, pageOf(['CR .( Lesson 3 is right. ) QUIT']).page); "
+              "page.classList.check([new File([eve.bytes], 'eve.blk')])")
+    own.wait("page.classList.rows.length === 1 && page.classList.rows[0].results", 30)
+    result = own.value("page.classList.rows[0].results[2]")
+    own.must(result["mark"] == "wrong" and "deceived" in result["text"], f"a screen that says of itself that it is right: {result}")
 
 
 def check_handed_out(trial: Trial, program: pathlib.Path, room: pathlib.Path, make: Callable[..., None]) -> None:
@@ -283,5 +299,6 @@ def check_handed_out(trial: Trial, program: pathlib.Path, room: pathlib.Path, ma
     own.open()
     own.must("5  ok" in own.type("MINE ."), "its work is gone after a reload")
     own.must(own.shown().count("Good morning") == 1, "it starts anew after a reload")
+    check_own_course(trial, program, room, make)
     trial.open()
     trial.must("Good morning" not in trial.shown(), "two pages have one work")

@@ -45,7 +45,7 @@ def debugged(program: pathlib.Path, image: pathlib.Path, kernel: pathlib.Path, r
 
 def filmed(trial: Trial, word: str, source: str, line: str) -> List[str]:
     """The steps that the page shows."""
-    trial.value("page.session.start(page.files.builtIn('forth.blk')); 0")
+    trial.value("page.session.start(builtIn('forth.blk')); 0")
     trial.idle()
     trial.value(f"page.session.put({SCREEN}, pageOf([{json.dumps(source)}]).page); page.enter('{SCREEN} LOAD'); 0")
     trial.idle()

@@ -50,7 +50,8 @@ def opened(trial: Trial, name: str, content: bytes) -> None:
 
 def saved(trial: Trial, word: str) -> bytes:
     """The image that the page saves, which starts with that word."""
-    trial.value(f"window.image = null; window.prompt = () => {json.dumps(word)}; "
+    trial.answers(word)
+    trial.value("window.image = null; "
                 "page.files.saveBlob = (ending, blob) => blob.arrayBuffer().then((bytes) => (window.image = toBase64(new Uint8Array(bytes)))); "
                 "document.getElementById('save-image').click()")
     trial.wait("!!window.image", 5)
@@ -67,7 +68,7 @@ def check_foreign(trial: Trial, program: pathlib.Path, room: pathlib.Path) -> No
     opened(trial, "asking.img", image)
     trial.must(trial.wait("document.getElementById('program').textContent === 'asking.img runs'", 5), "the program's name isn't shown")
     trial.must(trial.shown().endswith("key "), f"an image doesn't start: {trial.shown()[-60:]!r}")
-    trial.value("page.keepAtOnce()")
+    trial.value("page.work.keepAtOnce()")
     trial.open()
     trial.must(trial.value("page.session.program") == "asking.img" and trial.value("page.session.waitsForLine"), "a reload ends an image")
     trial.type("Abc")
@@ -97,7 +98,7 @@ def check_loop(trial: Trial, program: pathlib.Path, room: pathlib.Path) -> None:
     trial.must(trial.idle(15) and "endless.img was stopped" in trial.shown() and "4711  ok" in trial.type("BEFORE ."), "Stop of an endless image")
     trial.value(start)
     trial.wait("page.session.isRunning", 10)
-    trial.value("page.keepAtOnce()")
+    trial.value("page.work.keepAtOnce()")
     trial.open()
     trial.must("endless.img was stopped" in trial.shown() and "4711  ok" in trial.type("BEFORE ."), "a reload in an endless image")
 

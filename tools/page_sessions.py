@@ -26,11 +26,14 @@ class Session:
         if made:
             text, count = (ROOT / made[1]).read_text(encoding="ascii"), 64 if line.startswith("./forth blocks") else 128
             disk = f"Disk.ofText({json.dumps(made[2])}, {count}, {json.dumps(text)})"
-            self.trial.value(f"window.in = false; page.files.insert({disk}).then(() => (window.in = true)); 0")
+            self.trial.answers("Replace")
+            self.trial.value(f"window.in = false; page.work.insert({json.dumps(made[2])}, {disk}.bytes).then(() => (window.in = true)); 0")
             self.trial.wait("window.in")
-        self.is_typed = bool(STARTS.fullmatch(line))
-        if self.is_typed:
-            self.trial.value("page.session.settle(); page.session.start(page.session.disk); 0")
+        started = STARTS.fullmatch(line)
+        self.is_typed = bool(started)
+        if started:
+            self.trial.value(f"page.work.putIn({json.dumps((started[1] or 'forth.blk').strip())})")
+            self.trial.value("page.session.settle(); page.session.start(); 0")
             self.trial.idle()
 
     def type(self, step: sessions.Step) -> None:

@@ -6,9 +6,10 @@ import re
 import subprocess
 import sys
 import time
-from typing import Any, List
+from typing import Any, List, Optional
 
 import browser as browsers
+import course_answers
 from tally import Tally
 
 PASTE = ("{ const data = new DataTransfer(); data.setData('text', %s); document.getElementById('line').dispatchEvent("
@@ -17,7 +18,7 @@ PASTE = ("{ const data = new DataTransfer(); data.setData('text', %s); document.
 OF_LAYOUT_1 = ("{ const kept = JSON.parse(window.whole), record = fromBase64(kept.record).slice(0, DATA.layout.memory + 65536 + 2); "
                "record[0] = 1; window.ofLayout1 = JSON.stringify({ ...kept, record: toBase64(record) }) } 0")
 NAMED = ("button", "textbox", "combobox", "listbox", "slider", "spinbutton", "tab", "tabpanel", "log", "checkbox", "searchbox")
-TABS = ("screens", "disk", "course", "film", "map", "canvas", "words", "help")
+TABS = ("start", "screens", "disk", "course", "film", "map", "canvas", "words", "help")
 CONTROL = 2
 
 
@@ -84,6 +85,12 @@ class Trial:
         self.wait("window.opened")
         self.idle()
 
+    def answers(self, *answers: Optional[str]) -> None:
+        """What a person answers to the page's next questions; after them she cancels. The questions are in `asked`."""
+        self.value(f"window.asked = []; window.answers = {json.dumps(answers)}; page.ask = async (question, choices, {{ given }} = {{}}) => {{ "
+                   "asked.push(question); const one = answers.shift() ?? null; "
+                   "return given === undefined && one !== null ? choices.find((choice) => choice.startsWith(one)) ?? `no answer ${one}` : one; }; 0")
+
     def screens(self) -> str:
         return self.value("textOf(page.session.disk)")
 
@@ -93,9 +100,10 @@ def lines(trial: Trial) -> None:
     trial.must("7  ok" in trial.type("3 4 + ."), "3 4 + .")
     trial.type(": squares 0 ?do i dup * . loop ;")
     trial.must("0 1 4 9 16  ok" in trial.type("5 squares"), "a definition in lower case")
+    before = trial.value("document.querySelectorAll('#transcript .fault').length")
     fault = trial.type("1 0 /")
     trial.must("division by zero" in fault and "(fault 5) at /" in fault, f"a fault: {fault!r}")
-    trial.must(trial.value("document.querySelectorAll('#transcript .fault').length") == 1, "a fault isn't colored")
+    trial.must(trial.value("document.querySelectorAll('#transcript .fault').length") == before + 1, "a fault isn't colored")
     trial.type("1 2 3")
     trial.must(trial.wait("document.getElementById('stack').textContent === '1 2 3'", 15), f"the stack: {trial.text('stack')!r}")
     trial.must(": squares" in trial.type("see squares"), "SEE")
@@ -110,15 +118,65 @@ def lines(trial: Trial) -> None:
     found = trial.value("document.body.dataset.tab + ' ' + document.querySelector('#words-table button').textContent")
     trial.must(found == "words SWAP", f"F1 explains {found!r}")
     trial.value("document.getElementById('line').value = ''; 0")
-    trial.must("The tab Words explains it.\n ok" in trial.type("help dup"), "HELP with a word")
-    found = trial.value("document.body.dataset.tab + ' ' + document.querySelector('#words-table button').textContent")
-    trial.must(found == "words DUP", f"HELP explains {found!r}")
+    trial.type("help dup")
+    trial.must(trial.wait("page.transcript.text().includes('DUP ( x -- x x )')", 5), f"HELP with a word: {trial.shown()[-200:]!r}")
     trial.value(PASTE % json.dumps(": P1 1 ;\n: P2 2 ;\nP1 P2 + .\n"))
     trial.idle()
     trial.must("P1 P2 + . 3  ok" in trial.shown(), "a paste of lines")
     trial.value(PASTE % json.dumps("1 .\nNOWORD\n2 .\n3 .\n"))
     trial.idle()
     trial.must("2 more lines were not interpreted" in trial.shown(), "a fault in a paste")
+
+
+def visitor(trial: Trial) -> None:
+    """The first visit: what this is, a rose by one click, lines to click, and help for what the Forth doesn't know."""
+    trial.must(trial.value("document.body.dataset.tab") == "start" and "proved" in trial.text("start"), "the first visit doesn't open the start page")
+    for at, wanted in enumerate(("7  ok", "ok", "49  ok", ": SQUARE DUP * ;")):
+        trial.value(f"document.querySelectorAll('#start-lines button')[{at}].click()")
+        trial.must(trial.wait("document.querySelectorAll('#start-lines .got').length > %d" % at) and wanted in trial.value(f"document.querySelectorAll('#start-lines .got')[{at}].textContent"),
+                   f"line {at} of the start page")
+    trial.click("door-rose")
+    trial.must(trial.wait("page.session.disk.name === 'draw.blk' && /ROSE[^]*ok/.test(page.transcript.text())", 20), "no rose is drawn by a click")
+    lit = "[...document.getElementById('canvas-picture').getContext('2d').getImageData(0, 0, 320, 200).data].filter((part, at) => at % 4 === 0 && part > 0).length"
+    trial.must(trial.wait(f"{lit} > 500", 10), f"a rose of {trial.value(lit)} points")
+    trial.value("page.work.putIn('forth.blk')")
+    for typed, near in (("print", "."), ("DUPP", "DUP"), ("SQAURE", "SQUARE")):
+        trial.type(typed)
+        trial.must(near in trial.value("[...document.querySelectorAll('#advice .word')].map((one) => one.textContent)"), f"advice for {typed}: {trial.text('advice')!r}")
+    trial.type("SCLEAR")
+    trial.must(trial.value("document.getElementById('advice').hidden"), "advice isn't taken away")
+    for sought, wanted in (("print a number", "."), ("if", "IF"), ("remainder", "MOD"), ("copy the top", "DUP"), ("repeat", "DO")):
+        trial.value(f"page.tab('words'); page.manual.explain({json.dumps(sought)})")
+        found = trial.value("[...document.querySelectorAll('#words-table button')].slice(0, 8).map((one) => one.textContent)")
+        trial.must(wanted in found, f"the search for {sought!r} finds {found}")
+    trial.value("page.manual.explain(''); document.getElementById('keys').firstChild.dispatchEvent(new Event('pointerdown', { bubbles: true, cancelable: true }))")
+    trial.must(trial.value("document.getElementById('line').value") == ": ", "the keys for signs")
+    trial.value("document.getElementById('line').value = ''; 0")
+
+
+def lesson_beside(trial: Trial) -> None:
+    """A lesson, the pupil's screen and the result of a line or of CHECK are visible together; a name is asked for once."""
+    trial.answers("Ida")
+    trial.value("page.tab('course'); page.course.choose(DATA.lessons.findIndex(({ number }) => number === 2)); page.course.insert()")
+    trial.must(trial.wait("page.work.name === 'Ida' && page.session.disk.name === 'course.blk' && page.isOpen", 20), f"a pupil's name: {trial.value('asked')}")
+    trial.idle()
+    seen = "['course-text', 'screen-text', 'transcript'].map((id) => document.getElementById(id)).every((one) => one.offsetParent && one.getBoundingClientRect().height > 100)"
+    trial.must(trial.value(seen) and trial.value("page.editor.block") == 22, "task, screen and result aren't visible together")
+    trial.value("[...document.querySelectorAll('#course-text [data-line]')].find((one) => one.dataset.line.startsWith('5 ')).click()")
+    trial.must(trial.wait("/FOURFOLD|20/.test((document.querySelector('#course-text .got') || {}).textContent || '')"), "the answer below a line of a lesson")
+    trial.value(FRAME_OF_PUPIL)
+    trial.click("course-check")
+    trial.must(trial.wait("/1 MINUTES leaves 1 60/.test(document.getElementById('course-said').textContent)"), f"what CHECK says: {trial.text('course-said')!r}")
+    text = " ".join(trial.value("DATA.lessons.map(({ html }) => html)"))
+    for only in ("./forth", "^C", "21 SCR", "4 PUT", "21 LIST"):
+        trial.must(only not in re.sub(r"<[^>]*>", "", text), f"{only} in the page's lessons")
+    trial.must("How the course works" in text, "the course's introduction")
+    trial.value("page.changeWork('')")
+    trial.wait("page.work.name === '' && page.isOpen")
+
+
+FRAME_OF_PUPIL = ("{ const t = document.getElementById('screen-text'), lines = t.value.split('\\n'); lines[4] = ': MINUTES 60 ;'; t.value = lines.join('\\n'); "
+                  "t.dispatchEvent(new Event('input')) } 0")
 
 
 def stops(trial: Trial) -> None:
@@ -233,9 +291,9 @@ def reloads(trial: Trial) -> None:
 
 def other_version(trial: Trial) -> None:
     """What another version of the page has kept: its words are gone, and its screens are here."""
-    trial.value("page.isKeeping = false; localStorage.removeItem('forth/last/'); window.put = false; "
-                "page.store.get('session/').then((one) => page.store.put('session/', { ...one, when: Date.now(), record: new Uint8Array(9) }))"
-                ".then(() => (window.put = true)); 0")
+    trial.value("window.put = false; page.work.keep().then(() => page.work.store.get('work/')).then((one) => "
+                "page.work.store.write([['work/', { ...one, step: one.step + 9, record: new Uint8Array(9) }]]))"
+                ".then(() => ((page.work.isOurs = false), (window.put = true))); 0")
     trial.wait("window.put")
     trial.open()
     trial.must("are gone. The screens are here" in trial.shown() and "( corrected )" in trial.screens(), "screens of another version are gone")
@@ -254,8 +312,10 @@ def files(trial: Trial, program: pathlib.Path, room: pathlib.Path) -> None:
     trial.file("lines.fs", "'1 2 + .\\n4 5 * .\\n'")
     trial.must("4 5 * . 20  ok" in trial.shown(), "other texts aren't typed")
     trial.type(": MINE 77 ; 1 2 3")
-    trial.value("window.whole = page.files.wholeSession(); 0")
+    trial.value("window.whole = null; page.work.whole().then((one) => (window.whole = JSON.stringify(one))); 0")
+    trial.wait("!!window.whole")
     trial.type("FORGET MINE SCLEAR")
+    trial.answers("Open it", "Open it", "Open it", "Open it")
     trial.file("home.forth", "window.whole")
     trial.must(trial.value("page.session.machine.values.join()") == "1,2,3", "a whole session has another stack")
     trial.must("77  ok" in trial.type("SCLEAR MINE ."), "a whole session has lost its words")
@@ -290,21 +350,24 @@ def saved(trial: Trial, folder: pathlib.Path) -> None:
 
 def disks(trial: Trial) -> None:
     """Several disks and several people's work under their names."""
-    trial.value("window.prompt = () => 'second.blk'; window.confirm = () => true; page.files.newDisk()")
+    trial.answers("second.blk")
+    trial.value("page.files.newDisk()")
     trial.must(trial.wait("page.session.disk.name === 'second.blk'", 15), "a new disk")
     trial.type("3 SCR ! 0 PUT ( of the second disk )")
-    trial.value("page.files.insertNamed('mine.blk')")
+    trial.value("page.work.putIn('mine.blk')")
     trial.must(trial.wait("page.session.disk.name === 'mine.blk'", 15) and "from a text" in trial.screens(), "a disk isn't as it was left")
-    trial.value("page.files.insertNamed('second.blk')")
+    trial.value("page.work.putIn('second.blk')")
     trial.must(trial.wait("page.session.disk.name === 'second.blk'", 15) and "of the second disk" in trial.screens(), "the second disk isn't as it was left")
-    trial.value("window.prompt = () => 'renamed.blk'; page.files.renameDisk()")
+    trial.answers("renamed.blk")
+    trial.value("page.files.renameDisk()")
     trial.must(trial.wait("[...document.getElementById('disks').options].some((one) => one.value === 'renamed.blk' && one.selected)", 15), "a new name")
-    trial.value("window.prompt = () => 'Ada'; page.newWork()")
-    trial.must(trial.wait("page.work === 'Ada' && page.isKeeping && page.session.waitsForLine", 15), "another person's work")
+    trial.answers("Ada")
+    trial.value("page.newWork()")
+    trial.must(trial.wait("page.work.name === 'Ada' && page.isKeeping && page.session.waitsForLine", 15), "another person's work")
     trial.must("unknown" in trial.type("MINE ."), "another person has the first one's words")
     trial.type(": ADAS 7 ;")
     trial.value("page.changeWork('')")
-    trial.must(trial.wait("page.work === '' && page.isKeeping && page.session.waitsForLine", 15) and "77  ok" in trial.type("MINE ."), "the first person's work is gone")
+    trial.must(trial.wait("page.work.name === '' && page.isKeeping && page.session.waitsForLine", 15) and "77  ok" in trial.type("MINE ."), "the first person's work is gone")
     trial.must("unknown" in trial.type("ADAS"), "the first person has the other one's words")
 
 
@@ -449,7 +512,7 @@ def class_list(trial: Trial) -> None:
     """A class list: the course's solutions are right, and files with trouble are what they are."""
     root = pathlib.Path(__file__).resolve().parent.parent
     solved = json.dumps((root / "screens/course/solutions.txt").read_text(encoding="ascii"))
-    course = "page.files.builtIn('course.blk')"
+    course = "builtIn('course.blk')"
     trial.value(f"window.solved = {course}; for (const one of screensOf({solved}).screens) solved.put(one.block, one.page); "
                 f"window.looping = {course}; looping.put(21, pageOf([': L BEGIN AGAIN ; L']).page); looping.put(22, pageOf(['KEY']).page); "
                 "looping.put(23, pageOf([': CUBE DUP * ;', ': TWIST SWAP ROT ;', ': SUMSQ DUP * SWAP DUP * + ;']).page); "
@@ -457,13 +520,32 @@ def class_list(trial: Trial) -> None:
                 "new File([looping.bytes], 'eve.blk'), new File(['x'], 'odd.txt')]).then(() => (window.checked = true)); 0")
     trial.must(trial.wait("window.checked", 60), "a class list isn't made")
     rows = trial.value("[...document.querySelectorAll('#class-rows tr')].map((row) => [...row.children].map((cell) => cell.textContent).join(' '))")
-    wanted = ["ada.blk ✓ ✓ ✓ ✓ ✓ ✓ ✓ ✓ ✓ ✓ ✓ ✓ ✓ ✓ 14", "bob.blk · · · · · · · · · · · · · · 0", "eve.blk ∞ ∞ ✗ · · · · · · · · · · · 0",
-              "odd.txt neither blocks nor a whole session"]
+    wanted = ["ada.blk ✓ ✓ ✓ ✓ ✓ ✓ ✓ ✓ ✓ ✓ ✓ ✓ ✓ ✓ 14 14", "bob.blk · · · · · · · · · · · · · · 0 0", "eve.blk ∞ ∞ ✗ · · · · · · · · · · · 0 3",
+              "odd.txt neither blocks, nor a text of screens, nor a whole session"]
     trial.must(rows == wanted, f"the class list: {rows}")
     title = trial.value("document.querySelectorAll('#class-rows tr')[2].children[3].title")
     trial.must("CUBE leaves" in title and "is wanted" in title, f"what is wrong in a pupil's lesson: {title!r}")
+    trial.value("document.querySelectorAll('#class-rows tr')[2].children[3].firstChild.click()")
+    trial.must(trial.text("class-message").startswith("eve.blk, lesson 3, wrong: ") and "CUBE leaves" in trial.text("class-message"), f"a sign that is chosen: {trial.text('class-message')!r}")
+    trial.must("3 3 CUBE leaves 9 but 27 is wanted." in trial.value("page.classList.csv().split('\\r\\n')[3]"), "the messages as CSV")
     trial.must(trial.value("page.classList.csv().split('\\r\\n')[3]").startswith('"eve.blk","endless L","endless","wrong CUBE","empty"'), "the list as CSV")
     cheats(trial)
+
+
+# What the class list says of a pupil's screen of a lesson, as a text of screens.
+JUDGED = """(async () => { const disk = builtIn("course.blk"); for (const one of screensOf(%s).screens) disk.put(one.block, one.page);
+  const { mark, text } = await page.classList.lesson(page.classList.taught.find(({ number }) => number === %d), disk.bytes); return [mark, text] })()"""
+
+
+def class_answers(trial: Trial) -> None:
+    """The class list judges all answers of tools/course_answers.txt rightly, and each wrong one with a sentence; so do screens that leave."""
+    solved = course_answers.solutions()
+    for answer in course_answers.answers():
+        mark, text = trial.value(JUDGED % (json.dumps(course_answers.screen(answer, solved)), answer.lesson))
+        trial.must((mark == "right") == answer.is_right and text, f"lesson {answer.lesson}, {answer.title}: {mark}, {text!r}")
+    for line in ("BYE", "QUIT", "ABORT"):
+        mark, text = trial.value(JUDGED % (json.dumps(f"% screen 22\n{line}\n"), 2))
+        trial.must(mark == "wrong" and "leaves the Forth" in text, f"a screen with {line}: {mark}, {text!r}")
 
 
 # Screens of pupils who want to deceive a checker: of each its lesson, and what is in the screen. None of them has the words that are asked for.
@@ -479,7 +561,7 @@ CHEATS = {
 
 def cheats(trial: Trial) -> None:
     """No screen that deceives the Forth's checker is right in a class list; and changed checkers of a pupil's disk aren't used."""
-    course = "page.files.builtIn('course.blk')"
+    course = "builtIn('course.blk')"
     for what, (lesson, lines_) in CHEATS.items():
         trial.value(f"window.tricky = {course}; tricky.put({20 + lesson}, pageOf({json.dumps(lines_)}).page); window.checked = false; "
                     "page.classList.check([new File([tricky.bytes], 'x.blk')]).then(() => (window.checked = true)); 0")
@@ -493,16 +575,17 @@ def cheats(trial: Trial) -> None:
                 "window.checked = false; page.classList.check([new File([tricky.bytes], 'x.blk')]).then(() => (window.checked = true)); 0")
     trial.wait("window.checked", 60)
     trial.must(trial.value("page.classList.rows[0].results.every((one) => one.mark !== 'right')"), "a pupil's own checkers are used in a class list")
-    trial.value("page.files.insertNamed('course.blk')")
+    trial.value("page.work.putIn('course.blk')")
     trial.must(trial.wait("page.session.disk.name === 'course.blk' && page.session.waitsForLine", 15), "the course's disk isn't put in")
     trial.type("1 LOAD")
     trial.value("page.session.put(43, pageOf(['CR .( Lesson 3 is right.)']).page); page.session.put(23, pageOf([': CUBE ;']).page); "
-                "page.course.find(DATA.lessons[2].title); document.getElementById('course-check').click()")
+                "page.course.find(DATA.lessons.find(({ number }) => number === 3).title); document.getElementById('course-check').click()")
     trial.wait("page.session.waitsForLine && /3 CHECK/.test(page.transcript.text())", 15)
     trial.idle()
     shown = trial.shown()
     shown = shown[shown.rfind("Screens with the checkers were changed"):]
     trial.must("CUBE leaves" in shown and "Lesson 3 is right" not in shown, f"CHECK in the page uses changed checkers: {shown[-200:]!r}")
+    trial.answers("Put it back")
     trial.value("page.files.removeDisk()")
     trial.wait("page.session.waitsForLine", 15)
 
@@ -522,7 +605,7 @@ def canvas(trial: Trial) -> None:
     wanted = ["255,255,255", "170,0,0", "0,0,0", "85,255,85", "85,85,255"]
     trial.must(trial.wait(f"JSON.stringify({POINTS}) === {json.dumps(json.dumps(wanted, separators=(',', ':')))}", 15), f"points: {trial.value(POINTS)}")
     trial.must(trial.wait("heard.length === 1", 15) and trial.value("heard[0]") == [440, 0.25], f"tones: {trial.value('heard')}")
-    trial.value("page.files.insertNamed('mine.blk')")
+    trial.value("page.work.putIn('mine.blk')")
     trial.wait("page.session.disk.name === 'mine.blk'")
     trial.must(trial.wait("!document.getElementById('canvas-none').hidden", 15), "a canvas on a disk without one")
 
@@ -535,12 +618,23 @@ def widths(trial: Trial) -> None:
             trial.value(f"page.tab('{tab}')")
             wide = trial.value("document.documentElement.scrollWidth")
             trial.must(wide <= width, f"{tab} has {wide} of {width} pixels")
+    trial.value("page.session.put(31, pageOf(['x'.repeat(64)]).page), 0")
+    for width, height in ((1216, 700), (1280, 900), (1366, 650), (2560, 1300)):
+        trial.browser.size(width, height)
+        trial.value("page.tab('screens')")
+        trial.type("31 LIST")
+        wide = trial.value("(({ scrollWidth, clientWidth }) => scrollWidth - clientWidth)(document.getElementById('transcript'))")
+        trial.must(wide <= 0, f"LIST is {wide} pixels too wide in a window of {width}")
     trial.browser.size(1280, 900)
 
 
 def names(trial: Trial) -> None:
-    """Each control has a name for screen readers, and can be reached with the keyboard alone."""
+    """Each control has a name for screen readers, and can be reached with the keyboard alone; also in a question."""
     trial.browser.call("Accessibility.enable")
+    trial.value("window.answer = 1; ask('A question?', ['Yes', 'Perhaps'], { given: '' }).then((one) => (window.answer = one)); 0")
+    trial.must(trial.value("document.activeElement.id") == "ask-text" and not trial.browser.nameless(NAMED), "a question's focus, or its names")
+    trial.press("Escape", 27)
+    trial.must(trial.wait("window.answer === null"), "Escape doesn't answer a question")
     trial.value("document.querySelectorAll('details').forEach((one) => (one.open = true))")
     for tab in TABS:
         trial.value(f"page.tab('{tab}')")
@@ -621,13 +715,13 @@ def all_of(trial: Trial, program: pathlib.Path, room: pathlib.Path) -> List[str]
     """All trials, in an order in which each uses what those before it left; measured numbers."""
     trial.browser.call("Network.emulateNetworkConditions", offline=True, latency=0, downloadThroughput=-1, uploadThroughput=-1)
     trial.open()
-    for part in (lines, stops, undo, questions, cursor, editor, reloads):
+    for part in (visitor, lines, stops, undo, questions, cursor, editor, reloads):
         part(trial)
     other_version(trial)
     files(trial, program, room)
     (room / "downloads").mkdir()
     saved(trial, room / "downloads")
-    for part in (disks, film, canvas, class_list, widths, names, contrast, prints, undo_of_edit):
+    for part in (disks, film, canvas, class_list, class_answers, lesson_beside, widths, names, contrast, prints, undo_of_edit):
         part(trial)
     measured = [speed(trial), first_prompt(trial)]
     trial.must(not trial.browser.errors, f"errors in the page: {trial.browser.errors[:3]}")

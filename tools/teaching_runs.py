@@ -517,7 +517,7 @@ WRONG = (
     (9, "% screen 29\nVARIABLE BANK : PAY DROP 5 0 ! ;", "0 BANK ! 50 PAY 30 PAY BANK @ stores at address 0, which isn't yours."),
     (6, "% screen 26\n7 16 C!", "Screen 26 stores at address 16, which isn't yours."),
     (99, "% screen 21\n1", "There is no lesson 99, only 1 to 14."),
-    (4, "% screen 24\n: PRICE DROP 0 0 DO 42 EMIT LOOP ;", "305 PRICE never ends: the loop in PRICE goes round more than 30000 times."),
+    (4, "% screen 24\n: PRICE DROP 0 0 DO 42 EMIT LOOP ;", "305 PRICE never ends: the loop in PRICE goes round more than 33000 times."),
     (3, "% screen 23\n: HALF BEGIN DUP WHILE REPEAT ; : CUBE HALF ;", "3 CUBE never ends: the loop in HALF goes round"),
     (6, "% screen 26\n: L BEGIN AGAIN ; L", "Screen 26 never ends: the loop in L goes round"),
     (6, "% screen 26\n: L BEGIN 1 0 UNTIL ; : SUM-TO L ;", "4 SUM-TO fails: the stack was full (fault 2)"),

@@ -1,0 +1,252 @@
+"""Ways in which work was once lost in the page, each by itself."""
+import base64
+import json
+import pathlib
+import subprocess
+import sys
+import time
+from typing import Any
+
+import page_keeping
+from page_trials import Trial
+
+ROOT = pathlib.Path(__file__).resolve().parent.parent
+CONTROL = 2
+FRAME = "{ const t = document.getElementById('screen-text'); t.value = %s; t.setSelectionRange(%d, %d); t.dispatchEvent(new Event('input')) } 0"
+BYTES = "toBase64(page.session.disk.bytes)"
+# Screens with bytes that are no text, and with zeros, as old disks have them.
+ODD = b"( caf\x82 \xe1\x01 )".ljust(64)
+
+
+def fresh(trial: Trial, page: pathlib.Path) -> None:
+    """The page with nothing kept."""
+    trial.page = page
+    trial.browser.open(page)
+    trial.wait("!!window.page && page.isOpen")
+    trial.value("page.work.isOurs = false; page.work.store.database.close(); localStorage.clear(); "
+                "new Promise((done) => { const one = indexedDB.deleteDatabase('forth83'); one.onsuccess = one.onerror = done })")
+    trial.open()
+
+
+def frame(trial: Trial, text: str, at: int = 0) -> None:
+    """Writes a text into the frame of the editor; a pause comes after it."""
+    trial.value(FRAME % (json.dumps(text), at, at))
+    trial.value("page.work.undos.forEach((one) => (one.when = 0))")
+
+
+def blocks(trial: Trial, name: str, text: str) -> None:
+    trial.file(name, f"Disk.ofText('d', 64, {json.dumps(text)}).bytes")
+
+
+def screen(trial: Trial, number: int) -> str:
+    return trial.value(f"linesOf(page.session.page({number}))[0]")
+
+
+def other_disks(trial: Trial) -> None:
+    """A whole session, a new disk and a file replace no disk by themselves, and Undo brings back what a person replaces."""
+    trial.answers("mine.blk")
+    trial.click("new-disk")
+    trial.wait("page.session.disk.name === 'mine.blk'")
+    trial.type("5 SCR ! 0 PUT ( work )")
+    trial.value("page.work.whole().then((one) => (window.whole = JSON.stringify(one)))")
+    trial.type(": MINE 5 ; 5 SCR ! 0 PUT ( more work )")
+    trial.answers("Open it, and replace")
+    trial.file("theirs.forth", "window.whole")
+    trial.must(screen(trial, 5) == "( work )" and "replace mine" not in trial.value("asked[0]") and "unknown" in trial.type("MINE"), "a whole session isn't opened")
+    trial.click("undo")
+    trial.click("undo")
+    trial.must(screen(trial, 5) == "( more work )" and "ok" in trial.type("MINE ."), "Undo of a whole session")
+    trial.answers(None)
+    trial.file("theirs.forth", "window.whole")
+    trial.must(screen(trial, 5) == "( more work )" and len(trial.value("asked")) == 1, "a whole session that isn't wanted")
+    for answer, wanted in ((None, "( more work )"), ("Keep both", ""), ("Replace", "")):
+        trial.value("page.work.putIn('mine.blk')")
+        trial.answers("mine.blk", answer)
+        trial.value("page.files.newDisk()")
+        trial.must(screen(trial, 5) == wanted, f"New with a name that exists, {answer}: {screen(trial, 5)!r}")
+    trial.click("undo")
+    trial.must(trial.wait("page.session.disk.name === 'mine.blk'") and screen(trial, 5) == "( more work )", "Undo of a disk that was replaced")
+    trial.answers(None)
+    blocks(trial, "mine.blk", "% screen 5\n( an old copy )\n")
+    trial.must(screen(trial, 5) == "( more work )" and "There is a disk mine.blk" in trial.value("asked[0]"), "a file with the name of a disk")
+    trial.answers("Keep both", "Keep both")
+    one = "new File([Disk.ofText('d', 64, '%% screen 5\\n( %s )\\n').bytes], 'mine.blk')"
+    trial.value(f"page.files.openAll([{one % 'one'}, {one % 'two'}])")
+    trial.must({"mine 3.blk", "mine 4.blk"} <= set(trial.value("page.work.names")), f"two files at once: {trial.value('page.work.names')}")
+
+
+def drafts(trial: Trial) -> None:
+    """A screen that doesn't fit is a draft of its own disk and screen: also after a change of disks, of people, and a reload."""
+    trial.value("page.work.putIn('forth.blk').then(() => { page.tab('screens'); page.editor.go(40) })")
+    frame(trial, "( good )\n" + "x" * 70 + "\n( third )")
+    trial.must("kept as a draft: line 1 has 70" in trial.text("screen-said"), f"a draft: {trial.text('screen-said')!r}")
+    trial.click("screen-load")
+    trial.must("LOAD needs a screen that fits" in trial.text("screen-said"), "LOAD of a draft")
+    trial.value("page.work.putIn('mine.blk').then(() => page.editor.go(40))")
+    trial.must(trial.value("document.getElementById('screen-text').value.trim()") == "", "a draft of another disk is in the frame")
+    frame(trial, "( of mine )")
+    trial.value("page.changeWork('Ben')")
+    trial.wait("page.work.name === 'Ben' && page.isOpen")
+    trial.value("page.work.putIn('forth.blk').then(() => page.editor.go(40))")
+    trial.must("good" not in trial.value("document.getElementById('screen-text').value"), "a draft of another person")
+    trial.value("page.changeWork('')")
+    trial.wait("page.work.name === '' && page.isOpen")
+    trial.open()
+    trial.value("page.work.putIn('forth.blk').then(() => page.editor.go(40))")
+    trial.must(trial.value("document.getElementById('screen-text').value").startswith("( good )\nxxx"), "a draft is gone after a reload")
+    frame(trial, "( good )\n" + "x" * 60 + "\n( third )")
+    trial.must(screen(trial, 40) == "( good )" and trial.value("page.work.drafts.size") == 0, "a draft that fits isn't on the disk")
+    trial.value("page.work.putIn('mine.blk')")
+    trial.must(screen(trial, 40) == "( of mine )", "a draft was written onto another disk")
+
+
+def typed_again(trial: Trial) -> None:
+    """Undo and Redo in a screen go by what was typed."""
+    trial.value("page.tab('screens'); page.editor.go(50); document.getElementById('screen-text').focus()")
+    for line in range(4):
+        trial.browser.call("Input.insertText", text=f"( line {line} )\n")
+        trial.value("page.work.undos.forEach((one) => (one.when = 0))")
+    text = "document.getElementById('screen-text').value.trim().split('\\n').length"
+    for act, wanted in ((lambda: trial.press("z", 90, CONTROL), 3), (lambda: trial.click("undo"), 2), (lambda: trial.press("y", 89, CONTROL), 3), (lambda: trial.click("redo"), 4)):
+        trial.value("document.getElementById('screen-text').focus()")
+        act()
+        trial.must(trial.value(text) == wanted and screen(trial, 50) == "( line 0 )", f"{trial.value(text)} lines in place of {wanted}")
+    for _ in range(9):
+        trial.press("z", 90, CONTROL)
+    trial.must(screen(trial, 50) == "" and "nothing more" in trial.text("screen-said"), "Ctrl+Z takes back more than what was typed into a screen")
+
+
+def old_bytes(trial: Trial) -> None:
+    """What isn't edited keeps its bytes; what is no text is shown, and kept; a picture is only shown."""
+    page = bytearray(b" " * 1024)
+    page[3 * 64:4 * 64], page[4 * 64:5 * 64], page[6 * 64:7 * 64] = ODD, bytes(64), b"\xe1" * 64
+    content = base64.b64encode(bytes(page) + bytes(range(256)) * 4).decode()
+    trial.file("odd.blk", f"fromBase64('{content}')")
+    trial.value("page.editor.go(0)")
+    lines = trial.value("document.getElementById('screen-text').value").split("\n")
+    frame(trial, "\n".join(["( new )", *lines[1:]]))
+    page[:64] = b"( new )".ljust(64)
+    trial.must(base64.b64decode(trial.value(BYTES))[:1024] == bytes(page), "editing a line changes other bytes")
+    frame(trial, "\n".join(["( new )", *lines[1:3], lines[3].replace("caf", "cafe"), *lines[4:]]))
+    page[3 * 64:4 * 64] = b"( cafe\x82 \xe1\x01 )".ljust(64)
+    trial.must(base64.b64decode(trial.value(BYTES))[:1024] == bytes(page), "editing a line changes its other bytes")
+    trial.value("page.editor.go(1)")
+    trial.must(trial.value("document.getElementById('screen-text').readOnly") and "only shown" in trial.text("screen-said"), "a block that is no text can be edited")
+
+
+def without_storage(trial: Trial) -> None:
+    """A browser that keeps nothing: disks stay as long as the window is open, and the page says so."""
+    trial.value("window.put = IDBObjectStore.prototype.put; IDBObjectStore.prototype.put = () => { throw new Error('refused') }; 0")
+    blocks(trial, "third.blk", "% screen 5\n( of the third )\n")
+    trial.type("6 SCR ! 0 PUT ( typed )")
+    trial.value("page.work.putIn('forth.blk').then(() => page.work.keep())")
+    trial.must(trial.text("kept").startswith("NOT KEPT"), f"a browser that keeps nothing says {trial.text('kept')!r}")
+    trial.value("page.work.putIn('third.blk')")
+    trial.must(screen(trial, 6) == "( typed )" and screen(trial, 5) == "( of the third )", "a disk is gone in a browser that keeps nothing")
+    trial.value("IDBObjectStore.prototype.put = window.put; page.work.keep()")
+    trial.must("kept in this browser; saved as a file: never" in trial.text("kept"), f"what is said of keeping: {trial.text('kept')!r}")
+    trial.browser.errors.clear()
+
+
+def big_disk(trial: Trial) -> None:
+    """64 MB: lines, and keys in a screen, are quick, and so is the next start."""
+    trial.value("page.work.insert('big.blk', Disk.blank('b', 65536).bytes)")
+    began = time.monotonic()
+    for number in range(12):
+        trial.type(f"{number + 20} SCR ! 0 PUT ( {number} ) FLUSH")
+    took, heap = time.monotonic() - began, trial.browser.call("Runtime.getHeapUsage")
+    used = (heap["usedSize"] + heap.get("backingStorageSize", 0)) / 1e6
+    trial.must(took < 12 and used < 400, f"12 lines on a disk of 64 MB took {took:.1f} s and {used:.0f} MB")
+    trial.value("page.tab('screens'); page.editor.go(60000); document.getElementById('screen-text').focus()")
+    began = time.monotonic()
+    trial.browser.call("Input.insertText", text="( end )")
+    trial.must(trial.value("page.draw(), linesOf(page.session.page(60000))[0]") == "( end )" and time.monotonic() - began < 0.5, f"a key took {time.monotonic() - began:.2f} s")
+    trial.value("page.work.keep()")
+    began = time.monotonic()
+    trial.open()
+    trial.must(screen(trial, 60000) == "( end )" and time.monotonic() - began < 10, f"the next start took {time.monotonic() - began:.1f} s")
+    trial.answers("Remove it")
+    trial.value("page.files.removeDisk()")
+
+
+# What a page of version 2.0.0 kept: a state with one disk, and other disks under their names.
+OF_2_0_0 = """(async () => {
+  const { work, session } = page, disk = Disk.ofText("course.blk", 64, DATA.disks["course.blk"].text), store = (name, value) => work.store.ask("readwrite", (kept) => kept.put(value, name));
+  disk.put(22, pageOf(["( Lesson 2: words of your own )", ": MINUTES 60 * ;"]).page);
+  disk.put(44, pageOf(["( an older checker )"]).page);
+  await store("forth/session/", { name: "course.blk", disk: disk.bytes, ...session.kept(), texts: [["note", "before"]], history: ["MYWORD"], when: Date.now() });
+  await store("forth/disk/old.blk", Disk.ofText("old.blk", 8, "% screen 3\\n( old )\\n").bytes);
+  work.isOurs = false;
+  await work.store.ask("readwrite", (kept) => kept.delete(IDBKeyRange.bound("forth/work/", "forth/work/z")));
+  await work.store.ask("readwrite", (kept) => kept.delete("forth/work/"));
+  localStorage.clear();
+})()"""
+
+
+def of_an_older_page(trial: Trial) -> None:
+    """What a page of version 2.0.0 kept is here, with the page's own screens where the person has none."""
+    fresh(trial, trial.page)
+    trial.type(": MYWORD 42 . ;")
+    trial.value(OF_2_0_0)
+    trial.open()
+    trial.must("42  ok" in trial.type("MYWORD") and trial.value("page.session.disk.name") == "course.blk", "words or the disk of version 2.0.0 are gone")
+    lines = trial.value("[22, 44].map((block) => linesOf(page.session.page(block)).slice(0, 2).join('|'))")
+    trial.must(lines[0].endswith(": MINUTES 60 * ;") and "Check of lesson 4" in lines[1], f"screens of version 2.0.0: {lines}")
+    trial.value("page.work.putIn('old.blk')")
+    trial.must(screen(trial, 3) == "( old )", "another disk of version 2.0.0 is gone")
+    trial.value("page.work.putIn('course 2.blk')")
+    trial.must(screen(trial, 44) == "( an older checker )", "the disk as it was is gone")
+
+
+def other_image(program: pathlib.Path, page: pathlib.Path, room: pathlib.Path, target: pathlib.Path) -> None:
+    """A newer page, whose Forth has one word more at its beginning."""
+    sys.path.insert(0, str(ROOT / "page"))
+    import assembly  # pylint: disable=import-outside-toplevel
+
+    text = (ROOT / "screens/page/paged.txt").read_text(encoding="ascii").replace('." in a page" ;', '." forth83 9.1.0 in a page, unproved" ;')
+    (room / "newer.txt").write_text(text.replace("( finds", "( finds").replace("% screen 191\n", "% screen 190\n: NEWER ( -- n ) 91 ;\n% screen 191\n", 1), encoding="ascii")
+    kernel, image = room / "newer.blk", room / "newer.img"
+    for words in ([program, "kernel", kernel], [ROOT / "build/images", "--with", room / "newer.txt", ROOT / "screens/page/order.txt", "COLD-PAGE", program, kernel, image]):
+        subprocess.run([str(word) for word in words], check=True, stdout=subprocess.DEVNULL)
+    page_keeping.other_edition(page, target, 1)
+    whole = target.read_text(encoding="utf-8")
+    start = whole.index('<script type="text/plain" id="image"')
+    end = whole.index("</script>", start) + len("</script>")
+    target.write_text(whole[:start] + assembly.packed("image", image.read_bytes()) + whole[end:], encoding="utf-8")
+
+
+def after_update(trial: Trial, program: pathlib.Path, room: pathlib.Path) -> None:
+    """A newer page: its Forth is offered; the old one stays as long as it is wanted, and its images run."""
+    path, first = room / "update.html", trial.page
+    path.write_bytes(first.read_bytes())
+    other_image(program, first, room, room / "newer.html")
+    fresh(trial, path)
+    trial.type(": MYWORD 42 . ;")
+    trial.value("page.work.keep()")
+    path.write_bytes((room / "newer.html").read_bytes())
+    for answer, wanted in (("Keep the old one", "unknown"), ("Take the new Forth", "91  ok")):
+        trial.browser.open(path)
+        trial.must(trial.wait("!!window.page && page.isOpen && document.getElementById('ask').open"), "no question after an update")
+        trial.must("2.0.0" in trial.text("ask-question") and "9.1.0" in trial.text("ask-question"), f"the question after an update: {trial.text('ask-question')!r}")
+        trial.value(f"[...document.querySelectorAll('#ask-answers button')].find((one) => one.textContent === '{answer}').click(); page.idle()")
+        trial.idle()
+        trial.must(wanted in trial.type("NEWER ."), f"{answer}: a new word")
+        trial.must("42" in trial.type("MYWORD"), f"{answer}: a word of one's own")
+        trial.must("9.1.0" in trial.type("VERSION"), f"{answer}: VERSION is {trial.type('VERSION')!r}")
+        trial.value("{ const { image } = page.session.saved('MYWORD'); window.saved = image; } 0")
+        trial.file("own.img", "window.saved")
+        trial.must("42 own.img ended" in " ".join(trial.shown()[-120:].split()), f"{answer}: a saved image shows {trial.shown()[-120:]!r}")
+        trial.value("page.work.version.left = null; page.work.keep()")
+    trial.must(screen(trial, 2) != "" and trial.value("document.getElementById('ask').open") is False, "after an update")
+    trial.page = first
+
+
+def check(trial: Trial, program: pathlib.Path, room: pathlib.Path) -> None:
+    """All of them."""
+    page: Any = trial.page
+    fresh(trial, page)
+    for part in (other_disks, drafts, typed_again, old_bytes, without_storage, big_disk):
+        part(trial)
+    after_update(trial, program, room)
+    of_an_older_page(trial)
+    fresh(trial, page)
