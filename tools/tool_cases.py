@@ -16,7 +16,10 @@ from unittest import mock
 
 import arithmetic_cases
 import command_lines
+import antt
 import declared
+import definitions
+import runnable
 import sessions
 import tally
 
@@ -34,6 +37,65 @@ def command(path: str) -> types.ModuleType:
     module = importlib.util.module_from_spec(spec)
     loader.exec_module(module)
     return module
+
+
+class RunDefinitions(unittest.TestCase):
+    """Definitions as Python functions."""
+
+    TEXT = """use Rattle.std.specs.Prelude.{ℕ, List, [], ◌∷◌, zero, suc, length, Bool}
+use Rattle.std.specs.Int.Digits.{digits_of}
+use Rattle.std.specs.Prelude.{unheard_of}
+
+abbrev pub total : List ℕ → ℕ
+total [] = 0
+total (x ∷ xs) = x + total xs
+
+unfoldable pub down : ℕ → List ℕ
+down zero = []
+down (suc n) = n ∷ down n
+
+abbrev pub guarded : Bool → ℕ → ℕ
+guarded b x = if b then x else 7
+
+abbrev pub digits_if : ℕ → ℕ
+digits_if base = guarded (base == 10) (length (digits_of base 123))
+
+pub record IsRising (xs : List ℕ) : Type 0 where
+  pub front : List ℕ
+  pub a : ℕ
+  pub b : ℕ
+  pub is : xs ≡ front ++ a ∷ b ∷ []
+  pub rises : a < b
+
+abbrev pub AllSmall : ℕ → Type 0
+AllSmall n = (k : ℕ) → k < n → k * k < 50
+
+abbrev pub strange : ℕ → ℕ
+strange n = unheard_of n
+"""
+
+    def setUp(self) -> None:
+        library = definitions.Library.__new__(definitions.Library)
+        library.modules, library.places = {}, {}
+        library.add("cells", "Tiny", self.TEXT)
+        self.defined = runnable.Runnable(library)
+
+    def value(self, name: str, *given: object) -> object:
+        return self.defined.function("cells.specs.Tiny", name)(*given)
+
+    def test_functions(self) -> None:
+        self.assertEqual([self.value("total", b"\1\2\3"), self.value("total", (300, 5)), self.value("down", 3)], [6, 305, b"\2\1\0"])
+
+    def test_what_is_not_needed_is_not_computed(self) -> None:
+        self.assertEqual([self.value("digits_if", 10), self.value("digits_if", 0)], [3, 7])
+
+    def test_statements(self) -> None:
+        self.assertEqual([self.value("IsRising", given) for given in (b"\x09\1\2", b"\2\1", b"\1")], [True, False, False])
+        self.assertEqual([self.value("AllSmall", n) for n in (8, 9)], [True, False])
+
+    def test_what_is_unknown_is_refused_by_its_place(self) -> None:
+        with self.assertRaisesRegex(antt.Unknown, r"^crates/cells/specs/Tiny.antt:1: strange: std.specs.Prelude.unheard_of is not in"):
+            self.value("strange", 1)
 
 
 class QuietEnds(unittest.TestCase):
@@ -234,21 +296,26 @@ impl Pair {
 
 
 class BareFunctions(unittest.TestCase):
-    def test_only_functions_without_a_clause_are_listed(self) -> None:
+    @staticmethod
+    def bare(text: str) -> List[object]:
+        return [(it.name, it.lines) for it in command("tools/bare-functions").functions_in("low", "a.rt", text) if it.is_bare]
+
+    def test_only_functions_without_a_clause_are_bare(self) -> None:
         text = "fn bare() {\n    one();\n}\n\nfn kept()\n    ensures { true }\n{\n}\n\nimpl Clone for X {\n    fn clone(&self) -> X {\n        X\n    }\n}\n"
-        with tempfile.TemporaryDirectory() as name:
-            file = pathlib.Path(name, "a.rt")
-            file.write_text(text)
-            found = list(command("tools/bare-functions").bare_in("low", file))
-        self.assertEqual([(it.crate, it.file, it.name, it.lines) for it in found], [("low", "a.rt", "bare", 3)])
+        self.assertEqual(self.bare(text), [("bare", 3)])
 
     def test_a_method_that_a_trait_declares_has_no_body(self) -> None:
         text = "pub trait T {\n    fn size(&self) -> u8;\n\n    fn kept(&self)\n        ensures { true };\n}\n\nfn last() {\n    one();\n}\n"
-        with tempfile.TemporaryDirectory() as room:
-            file = pathlib.Path(room, "a.rt")
-            file.write_text(text)
-            found = list(command("tools/bare-functions").bare_in("low", file))
-        self.assertEqual([(it.name, it.lines) for it in found], [("size", 1), ("last", 3)])
+        self.assertEqual(self.bare(text), [("size", 1), ("last", 3)])
+
+    def test_those_that_do_more_than_their_clause_says(self) -> None:
+        tool = command("tools/bare-functions")
+        kept = "    ensures { IfErr result (λ status. 0 < status) }\n{\n"
+        text = ("use std::fs;\n\nfn reads() -> u8\n    ensures { result ≡ 1 }\n{\n    fs::read(1)\n}\n\nfn above() -> u8\n    ensures { result ≡ 1 }\n{\n    reads()\n}\n\n"
+                f"fn silent() -> Result<u8, u8>\n{kept}    Ok(1)\n}}\n\nfn good() -> u8\n    ensures {{ result ≡ 1 }}\n{{\n    1\n}}\n")
+        functions = list(tool.functions_in("low", "a.rt", text))
+        self.assertEqual([it.name for it in functions if it.is_silent], ["silent"])
+        self.assertEqual([it.name for it in tool.calling(functions)], ["reads", "above"])
 
 
 class Sessions(unittest.TestCase):

@@ -186,6 +186,10 @@ words() {
   ends $'cannot open nothing\n[1]' debug choice.img Z untraced nothing
   ends $'cannot open folder\n[1]' debug choice.img Z folder
   ends $'image: BadMagic\n[1]' debug good GO traced
+  ends '[0]' serve choice.img
+  ends $'image: BadMagic\n[1]' serve good
+  ends $'cannot open nothing\n[1]' serve nothing
+  ends $'cannot open folder\n[1]' serve choice.img folder
   "$program" debug choice.img NOPE traced > /dev/full || status=$?
   differs "a refusal into a full output" 5 "$status"
   [ ! -e untraced ] || differs "a trace of what can't be opened" absent made
@@ -202,7 +206,7 @@ guarded() {
   ends $'error: some.blk already exists, and isn\'t a trace\n[2]' debug choice.img Z some.blk
   ends $'error: built already exists, and isn\'t a trace\n[2]' debug choice.img Z built
   differs "blocks that aren't written over" '' "$(cmp some.blk before.blk)"
-  for refused in 'run choice.img built' 'load choice.img built 1 1 x' 'debug choice.img Z x built' 'build built 1 1 x' 'text built 1 1'; do
+  for refused in 'run choice.img built' 'serve choice.img built' 'load choice.img built 1 1 x' 'debug choice.img Z x built' 'build built 1 1 x' 'text built 1 1'; do
     # shellcheck disable=SC2086
     ends $'error: built is an image, not a block file\n[2]' $refused
   done
@@ -226,7 +230,7 @@ held() {
   running=$!
   exec 6> typed
   for _ in {1..3000}; do [ ! -s greeted ] || break; sleep 0.1; done
-  for words in 'run choice.img some.blk' 'debug choice.img Z x some.blk' 'load choice.img some.blk 1 1 x' 'screens line.txt some.blk' 'kernel some.blk'; do
+  for words in 'run choice.img some.blk' 'serve choice.img some.blk' 'debug choice.img Z x some.blk' 'load choice.img some.blk 1 1 x' 'screens line.txt some.blk' 'kernel some.blk'; do
     # shellcheck disable=SC2086
     ends $'error: some.blk is in use by another run; end that first, or take a copy\n[2]' $words
   done

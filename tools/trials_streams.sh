@@ -110,6 +110,13 @@ closed_streams() {
   streams "$version"$'\n[0]' "$version"$'\n[0]' 5 --version
   timeout 10 "$program" run "$images/endless.img" >&- || status=$?
   differs "a run without end, output closed" 5 "$status"
+  streams $'cannot open nothing\n[1]' $'cannot open nothing\n[1]' 5 serve "$images/hi.img" nothing
+  status=0
+  printf 'V\0\0' | "$program" serve built >&- || status=$?
+  differs "a request, output closed" 5 "$status"
+  status=0
+  "$program" serve built <&- > printed || status=$?
+  differs "no request, input closed" '[5]' "$(cat printed && echo "[$status]")"
 }
 
 # With input closed and room for three open files, a file could only be opened as input: it isn't.

@@ -1,2 +1,3 @@
 mod Adding
 mod Rows
+mod Reporting

@@ -104,8 +104,11 @@ debug = sub (codes "debug") (word (codes "IMAGE") ∷ word (codes "NAME") ∷ wo
 abbrev pub view : Shape
 view = sub (codes "view") (word (codes "IMAGE") ∷ word (codes "NAME") ∷ [])
 
+abbrev pub serve : Shape
+serve = sub (codes "serve") (word (codes "IMAGE") ∷ new_rule (codes "BLOCKS") ∷ [])
+
 abbrev pub subcommands : List Shape
-subcommands = kernel ∷ build ∷ load ∷ upgrade ∷ text ∷ screens ∷ new ∷ import ∷ export ∷ run ∷ see ∷ debug ∷ view ∷ []
+subcommands = kernel ∷ build ∷ load ∷ upgrade ∷ text ∷ screens ∷ new ∷ import ∷ export ∷ run ∷ see ∷ debug ∷ view ∷ serve ∷ []
 
 abbrev pub forth83 : App
 forth83 = record {

@@ -83,6 +83,7 @@ Says rows (words.Debug image name trace blocks limit) =
     × IsTextIfGiven rows (codes "BLOCKS") blocks × (number_in (codes "limit") rows ≡ Some limit)
 Says rows (words.See image name) = IsText rows (codes "IMAGE") image × IsText rows (codes "NAME") name
 Says rows (words.View image name) = IsText rows (codes "IMAGE") image × IsText rows (codes "NAME") name
+Says rows (words.Serve image blocks) = IsText rows (codes "IMAGE") image × IsTextIfGiven rows (codes "BLOCKS") blocks
 
 -- the subcommand of this name
 abbrev pub name_of : Words → Text
@@ -99,6 +100,7 @@ name_of (words.Run w) = codes "run"
 name_of (words.Debug image name trace blocks limit) = codes "debug"
 name_of (words.See image name) = codes "see"
 name_of (words.View image name) = codes "view"
+name_of (words.Serve image blocks) = codes "serve"
 
 -- w is of the subcommand of this name, and says what was found for its arguments
 pub record AreOf (name : Text) (rows : List Row) (w : Words) : Type 0 where
@@ -165,7 +167,8 @@ parts =
     (codes "kernel", Word (codes "BLOCKS") ∷ []) ∷ (codes "build", build_parts) ∷ (codes "load", load_parts) ∷ (codes "upgrade", upgrade_parts)
     ∷ (codes "text", screens_parts) ∷ (codes "screens", Word (codes "TEXT") ∷ Word (codes "BLOCKS") ∷ [])
     ∷ (codes "new", Word (codes "BLOCKS") ∷ Number 32 (codes "N") ∷ []) ∷ (codes "import", container_parts) ∷ (codes "export", container_parts)
-    ∷ (codes "run", Word (codes "IMAGE") ∷ limit_part ∷ []) ∷ (codes "debug", debug_parts) ∷ (codes "see", seen_parts) ∷ (codes "view", seen_parts) ∷ []
+    ∷ (codes "run", Word (codes "IMAGE") ∷ limit_part ∷ []) ∷ (codes "debug", debug_parts) ∷ (codes "see", seen_parts) ∷ (codes "view", seen_parts)
+    ∷ (codes "serve", Word (codes "IMAGE") ∷ []) ∷ []
 
 -- of the subcommand of this name one part is lacking, or none has this name
 abbrev pub LacksIn : List (Text × List Part) → (name : Text) → List Row → Type 0

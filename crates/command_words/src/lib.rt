@@ -6,13 +6,10 @@ mod containers;
 mod reading;
 mod subcommands;
 
-ghost use Rattle.std.specs.Prelude.{◌≡◌, ◌⊎◌, map, true, if◌then◌else◌, IfOk, IfErr};
+ghost use Rattle.std.specs.Prelude.{◌≡◌, ◌⊎◌, map, IfOk, IfErr};
 ghost use Rattle.std.specs.String.{string_bytes};
-ghost use Rattle.clap.specs.Simple.{subcommand_of};
-ghost use Rattle.clap.specs.Takes.{takes};
 ghost use Rattle.clap.specs.Values.{kind_of};
-ghost use Rattle.command_words.specs.CommandLine as line;
-ghost use Rattle.command_words.specs.Typed.{IsTyped, LacksWords};
+ghost use Rattle.command_words.specs.Typed.{IsTyped};
 ghost use Rattle.command_words.specs.Refused as refused;
 
 use clap::error::ErrorKind;
@@ -65,6 +62,10 @@ pub enum Words {
     View {
         image: String,
         name: String,
+    },
+    Serve {
+        image: String,
+        blocks: Option<String>,
     },
 }
 
@@ -130,10 +131,7 @@ enum Refusal {
 /// Reads a command line, of which the first word is the program's name.
 fn read(alloc: Global, typed: &[String]) -> Result<Words, Refusal>
     ensures typed { IfOk result (IsTyped (map string_bytes typed.now)) }
-    // A command line that the program takes is no usage error. What clap lets through is read, unless clap found no value for a part
-    // that the words need, or memory runs out.
-    ensures taken { IfErr result (λ why. takes line.forth83 (map string_bytes typed.now) ≡ true → refused.IsNoUsage why) }
-    ensures lacks { IfErr result (λ why. why ≡ Refusal.Unread Unread.Missing → LacksWords (subcommand_of line.forth83 (map string_bytes typed.now))) }
+    ensures refused { IfErr result (refused.IsRefused (map string_bytes typed.now)) }
 {
     let Ok(command) = command(alloc) else {
         return Err(Refusal::Unread(Unread::OutOfMemory));
@@ -180,9 +178,9 @@ fn refuse<R: Print>(rt: &R, why: &Refusal) -> Parsed
     }
 }
 
-/// The words that the program was started with; an argument that is no text is a usage error.
-fn typed(rt: &HostRuntime) -> Result<Vec<String>, Parsed>
-    ensures { IfErr result refused.IsEnd }
+/// The command line that the program was started with; an argument that is no text is a usage error.
+pub fn typed(rt: &HostRuntime) -> Result<Vec<String>, Parsed>
+    ensures { IfErr result (λ parsed. (parsed ≡ Parsed.OutOfMemory) ⊎ refused.Ends 2 parsed) }
 {
     let arguments = match env::args(rt) {
         Ok(arguments) => arguments,
@@ -196,15 +194,13 @@ fn typed(rt: &HostRuntime) -> Result<Vec<String>, Parsed>
     }
 }
 
-/// Reads the words that the program was started with. Where there are none to obey, that is printed.
-pub fn parse(rt: &HostRuntime) -> Parsed
-    ensures { refused.IsParsed result }
+/// Reads a command line, of which the first word is the program's name. Where no words come of it, that is printed, and how the
+/// program ends is the answer.
+pub fn parse<R: Print>(rt: &R, alloc: Global, typed: &[String]) -> Parsed
+    ensures { refused.IsParsed (map string_bytes typed.now) result }
 {
-    match typed(rt) {
-        Ok(typed) => match read(rt.alloc(), typed.as_slice()) {
-            Ok(words) => Parsed::Words(words),
-            Err(why) => refuse(rt, &why),
-        },
-        Err(parsed) => parsed,
+    match read(alloc, typed) {
+        Ok(words) => Parsed::Words(words),
+        Err(why) => refuse(rt, &why),
     }
 }

@@ -259,6 +259,16 @@ fn view_words(alloc: Global, matches: &ArgMatches<'_>) -> Result<Words, Unread>
     })
 }
 
+fn serve_words(alloc: Global, matches: &ArgMatches<'_>) -> Result<Words, Unread>
+    ensures typed { IfOk result (typed.AreOf (codes "serve") (rows_of (found_of matches.now))) }
+    ensures lacks { IfErr result (λ why. why ≡ Unread.Missing → typed.LacksOne (rows_of (found_of matches.now)) (typed.Word (codes "IMAGE") ∷ [])) }
+{
+    Ok(Words::Serve {
+        image: text(alloc, matches, "IMAGE")?,
+        blocks: text_if_given(alloc, matches, "BLOCKS")?,
+    })
+}
+
 fn kernel_words(alloc: Global, matches: &ArgMatches<'_>) -> Result<Words, Unread>
     ensures typed { IfOk result (typed.AreOf (codes "kernel") (rows_of (found_of matches.now))) }
     ensures lacks { IfErr result (λ why. why ≡ Unread.Missing → typed.LacksOne (rows_of (found_of matches.now)) (typed.Word (codes "BLOCKS") ∷ [])) }
@@ -290,6 +300,7 @@ fn words_of(alloc: Global, name: &str, matches: &ArgMatches<'_>) -> Result<Words
         "debug" => debug_words(alloc, matches),
         "see" => see_words(alloc, matches),
         "view" => view_words(alloc, matches),
+        "serve" => serve_words(alloc, matches),
         _ => Err(Unread::Missing),
     }
 }

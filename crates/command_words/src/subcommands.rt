@@ -188,6 +188,15 @@ fn view_command<'a>(alloc: Global) -> Result<Command<'a>, AllocError>
         .arg(word(alloc, "NAME", "The word"))
 }
 
+fn serve_command<'a>(alloc: Global) -> Result<Command<'a>, AllocError>
+    ensures { IfOk result (line.IsSubcommand line.serve) }
+{
+    Command::new(alloc, "serve")
+        .about("Let a host drive an image, by frames on standard input and output")
+        .arg(word(alloc, "IMAGE", "The image file"))?
+        .arg(may_be(alloc, "BLOCKS", "A block file (blocks of 1,024 bytes)"))
+}
+
 /// The program's command line.
 pub fn command<'a>(alloc: Global) -> Result<Command<'a>, AllocError>
     ensures { IfOk result (λ c. app_of c ≡ line.forth83) }
@@ -209,5 +218,6 @@ pub fn command<'a>(alloc: Global) -> Result<Command<'a>, AllocError>
         .subcommand(run_command(alloc)?)?
         .subcommand(see_command(alloc)?)?
         .subcommand(debug_command(alloc)?)?
-        .subcommand(view_command(alloc)?)
+        .subcommand(view_command(alloc)?)?
+        .subcommand(serve_command(alloc)?)
 }

@@ -16,6 +16,7 @@ use Rattle.inner_interpreter.specs.declared.stop.Stop.{Stop}
 use Rattle.inner_interpreter.specs.declared.stop.Stop.TheVariants as stop
 use Rattle.machine.specs.declared.extent.Extent.{Extent}
 use Rattle.machine.specs.State.{State, start}
+use Rattle.subcommands.specs.Ends.{IsRefusal}
 use Rattle.subcommands.specs.Lines.{PrintsOutOfMemory, PrintsRefusal, memory_of}
 use Rattle.subcommands.specs.Statuses.{status_of}
 
@@ -160,6 +161,11 @@ status_apart stop.TraceFault a b c q = absurd (c refl)
 
 unfailed : {b : Bool} → b ≡ false → b ≡ true → ⊥
 unfailed {b} h k = cc
+
+-- of a run that was refused nothing was traced
+pub unrun_passes : {status : ℕ} {failed heard passed : Bool} → IsRefusal status failed → failed ≡ false → status ≢ 1 → heard ≡ false → passed ≡ true
+unrun_passes (inl one) fine other unread = absurd (other one)
+unrun_passes (inr five) fine other unread = absurd (unfailed fine five.1)
 
 -- where no end failed, the status is not 5
 pub told_of : (image : Contents) {s new : State} (count : ℕ) {status : ℕ} {name : List ℕ} {ends ends' : RunEnds} {trace trace' : WriterEnd} {limit : ℕ} (why : Stop)

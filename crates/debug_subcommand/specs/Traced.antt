@@ -95,8 +95,9 @@ pub record DebugsFile (bytes name : List ℕ) (limit status : ℕ) (ends ends' :
   pub told : ends.writer.failed ≡ false → ends'.writer.failed ≡ false → ends'.reader.failed ≡ false → trace.failed ≡ false → trace'.failed ≡ false
       → status ≢ 5
   pub one : ends.reader.failed ≡ false → ends'.reader.failed ≡ true → ends'.writer.failed ≡ ends.writer.failed
-  -- if no writer fails, all that was printed was passed on
-  pub passed : ends'.writer.failed ≡ false → trace'.failed ≡ false → ends'.writer.passed ≡ true
+  -- if no writer fails, all that was printed was passed on, and of a run whose reader does not fail all that was traced
+  pub passed : ends'.writer.failed ≡ false → trace'.failed ≡ false
+      → (ends'.writer.passed ≡ true) × (status ≢ 1 → ends'.reader.failed ≡ false → trace'.passed ≡ true)
   -- if the writer fails, some first rounds were made and traced, up to the first that shows more than was sent; or memory ran out, and
   -- nothing was run
   pub cut : ends.writer.failed ≡ false → ends'.writer.failed ≡ true → OfRun bytes ends limit

@@ -1,12 +1,12 @@
 //! `debug` over the files that the command line names.
 
 ghost use Rattle.std.specs.Prelude.{◌≡◌, false, true, IfErr, IfOk};
-ghost use Rattle.debug_subcommand.specs.Files.{Debugs, RefusesDebug, apart_from, removal};
-ghost use Rattle.named_files.specs.Asking.{AnswersAll, Asks, given};
-ghost use Rattle.named_files.specs.Done.{done, status_of};
+ghost use Rattle.debug_subcommand.specs.Files.{Debugs, RefusesDebug, apart_from};
+ghost use Rattle.named_files.specs.Asking.{AnswersAll, given};
+ghost use Rattle.named_files.specs.Done.{IsPassedOn, done, status_of};
 
 use crate::debug_command::do_debug;
-use inner_interpreter::{Output, Reading, Writing};
+use inner_interpreter::Output;
 use named_files::Files;
 
 /// Sees to it that the trace isn't written over the blocks, if the run has some.
@@ -18,17 +18,6 @@ fn keep_blocks_apart<F: Files>(files: &mut F, blocks: Option<&str>, trace: &str)
     match blocks {
         Some(file) => files.keep_apart(file, trace, "the blocks and the trace"),
         None => Ok(()),
-    }
-}
-
-/// Removes the new file of a trace of which nothing came.
-#[tactic(auto, unfolding(named_files::specs::Asking::Asks))]
-fn leave_trace<F: Files>(files: &mut F, trace: &str, is_unused: bool)
-    ensures asked { Asks (removal trace.now is_unused) 0 (F.log files.old).asked (F.log files.new).asked }
-    ensures files { (F.log files.new).files ≡ (F.log files.old).files }
-{
-    if is_unused {
-        files.remove_trace(trace);
     }
 }
 
@@ -48,15 +37,14 @@ pub fn debug_word<F: Files, W: Output>(
     ensures refused { IfErr result (λ status. RefusesDebug image.now trace.now (given blocks.entry) status
         (done (F.log files.old) (W.sent writer.old)) (done (F.log files.new) (W.sent writer.new))) }
     ensures cut { W.failed writer.old ≡ false → W.failed writer.new ≡ true → status_of result ≡ 5 }
+    ensures passed { IsPassedOn (status_of result) (W.failed writer.new) (W.passed writer.new) (W.sent writer.old) (W.sent writer.new) }
 {
     files.keep_apart(image, trace, "the image and the trace")?;
     keep_blocks_apart(files, blocks, trace)?;
     files.keep_trace(trace)?;
     let bytes = files.image_bytes(image)?;
-    let mut device = files.run_blocks(blocks)?;
-    let is_new = files.is_absent(trace);
-    let mut lines = Writing::new(files.trace(trace)?);
-    let mut reader = Reading::new(files.input()?);
+    let mut reader = files.input()?;
+    let (mut device, mut lines) = files.run_traced(blocks, trace)?;
     let ended = do_debug(
         files.alloc(),
         bytes.as_slice(),
@@ -67,6 +55,8 @@ pub fn debug_word<F: Files, W: Output>(
         writer,
         &mut lines,
     );
-    leave_trace(files, trace, is_new && ended.status == 1);
+    files.close_input(reader);
+    files.close_blocks(device);
+    files.close_trace(trace, lines, ended.status == 1);
     Ok(ended.status)
 }

@@ -8,3 +8,5 @@ mod word;
 
 pub use debugging::debug;
 pub use fault::DebugFault;
+pub use lines::send_line;
+pub use word::{Word, word_of};

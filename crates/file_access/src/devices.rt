@@ -35,6 +35,13 @@ impl FileDevice {
             log: PageLog::new(),
         }
     }
+
+    /// The calls that it was given.
+    pub fn log(&self) -> &PageLog
+        ensures { result.now.calls ≡ ⟦<FileDevice as Device>⟧.calls self.now }
+    {
+        &self.log
+    }
 }
 
 /// Opens a file of blocks for reading and writing, and holds it against other runs. `CannotOpen`: the system refuses it;

@@ -15,8 +15,10 @@ use Rattle.containers.specs.declared.cause.Cause.TheVariants.{TooLarge}
 use Rattle.containers.specs.declared.formats.Format.{Format}
 use Rattle.file_subcommands.specs.declared.disks.Disk.{Disk}
 use Rattle.memory.specs.Bytes.{IsCount}
-use Rattle.named_files.specs.Asking.{Answered, Asks, Refused, Step, opens, step}
+use Rattle.named_files.specs.Asking.{Answered, Asks, Refused, Step, step}
 use Rattle.named_files.specs.Done.{Done, Makes, Reads, ReadsBoth, Refuses}
+use Rattle.named_files.specs.Trying.{OnlyReads}
+use Rattle.named_files.specs.Uses.{with_all}
 use Rattle.named_files.specs.declared.step_log.Deed.TheVariants as deed
 use Rattle.image_builder.specs.Sources.{ForDisks, done_of}
 use Rattle.screen_text.specs.Reading.{read}
@@ -41,7 +43,7 @@ kernel_steps blocks = step deed.Hold (blocks ∷ []) ∷ []
 pub record MakesKernel (blocks : List ℕ) (status : ℕ) (failed : Bool) (old new : Done) : Type 0 where
   pub ended : ℕ
   pub reads : new.read ≡ old.read
-  pub prints : IsSilent failed ended old.printed new.printed
+  pub prints : IsSilent failed ended old.sent new.sent
   pub makes : Makes (kernel_steps blocks) blocks ended status old new (λ file. file.items ≡ filled 65536 (blocks_of TEXT.now))
 
 abbrev pub new_steps : (blocks : List ℕ) → List Step
@@ -56,7 +58,7 @@ RefusesNew blocks count status old new =
 pub record MakesNew (blocks : List ℕ) (count : ℕ) (status : ℕ) (failed : Bool) (old new : Done) : Type 0 where
   pub ended : ℕ
   pub reads : new.read ≡ old.read
-  pub prints : IsSilent failed ended old.printed new.printed
+  pub prints : IsSilent failed ended old.sent new.sent
   pub makes : Makes (new_steps blocks) blocks ended status old new (λ file. file.items ≡ blanks (1024 * count))
 
 -- `see` and `view` read the image's file
@@ -69,8 +71,8 @@ pub record Sees (image name : List ℕ) (status : ℕ) (failed : Bool) (old new 
   pub bytes : List ℕ
   pub reads : Reads image bytes old new
   pub unwritten : new.written ≡ old.written
-  pub seen : failed ≡ false → OfImageFile bytes (λ file. EndsSeen file name status old.printed new.printed)
-  pub refused : failed ≡ false → PrintsNoImage bytes status old.printed new.printed
+  pub seen : failed ≡ false → OfImageFile bytes (λ file. EndsSeen file name status old.sent new.sent)
+  pub refused : failed ≡ false → PrintsNoImage bytes status old.sent new.sent
 
 -- `view IMAGE NAME`
 pub record Views (image name : List ℕ) (status : ℕ) (failed : Bool) (old new : Done) : Type 0 where
@@ -78,8 +80,8 @@ pub record Views (image name : List ℕ) (status : ℕ) (failed : Bool) (old new
   pub bytes : List ℕ
   pub reads : Reads image bytes old new
   pub unwritten : new.written ≡ old.written
-  pub viewed : failed ≡ false → OfImageFile bytes (λ file. EndsViewed file name status old.printed new.printed)
-  pub refused : failed ≡ false → PrintsNoImage bytes status old.printed new.printed
+  pub viewed : failed ≡ false → OfImageFile bytes (λ file. EndsViewed file name status old.sent new.sent)
+  pub refused : failed ≡ false → PrintsNoImage bytes status old.sent new.sent
 
 abbrev pub upgrade_steps : (image out : List ℕ) → List Step
 upgrade_steps image out = step deed.KeepImage (out ∷ []) ∷ step deed.Read (image ∷ []) ∷ []
@@ -98,10 +100,10 @@ pub record Upgrades (image out : List ℕ) (buffers : Option ℕ) (status : ℕ)
   pub reads : Reads image bytes old new
   pub ended : ℕ
   pub makes : Makes (upgrade_steps image out) out ended status old new
-      (λ file. failed ≡ false → OfImageFile bytes (λ i. IsUpgraded file.items (upgraded i buffers) old.printed new.printed))
-  pub refused : failed ≡ false → PrintsNoImage bytes ended old.printed new.printed
-  pub too_large : failed ≡ false → OfImageFile bytes (λ i. IsTooLarge i buffers → PrintsTooLarge ended old.printed new.printed)
-  pub wanting : failed ≡ false → 0 < ended → OfImageFile bytes (λ i. HasRoom i buffers → PrintsOutOfMemory ended old.printed new.printed)
+      (λ file. failed ≡ false → OfImageFile bytes (λ i. IsUpgraded file.items (upgraded i buffers) old.sent new.sent))
+  pub refused : failed ≡ false → PrintsNoImage bytes ended old.sent new.sent
+  pub too_large : failed ≡ false → OfImageFile bytes (λ i. IsTooLarge i buffers → PrintsTooLarge ended old.sent new.sent)
+  pub wanting : failed ≡ false → 0 < ended → OfImageFile bytes (λ i. HasRoom i buffers → PrintsOutOfMemory ended old.sent new.sent)
 
 abbrev pub screens_steps : (text blocks : List ℕ) → List Step
 screens_steps text blocks =
@@ -115,41 +117,46 @@ pub record MakesScreens (text blocks : List ℕ) (status : ℕ) (failed : Bool) 
   pub reads : ReadsBoth text typed blocks before old new
   pub ended : ℕ
   pub makes : Makes (screens_steps text blocks) blocks ended status old new (λ file. HasScreens (read typed) before file.items)
-  pub silent : ended ≡ 0 → new.printed ≡ old.printed
-  pub refused : failed ≡ false → 0 < ended → EndsUnwritten (read typed) ended old.printed new.printed
+  pub silent : ended ≡ 0 → new.sent ≡ old.sent
+  pub refused : failed ≡ false → 0 < ended → EndsUnwritten (read typed) ended old.sent new.sent
 
 abbrev pub text_steps : (blocks : List ℕ) → List Step
-text_steps blocks = step deed.KeepBlocks (blocks ∷ []) ∷ opens (blocks ∷ [])
+text_steps blocks = step deed.KeepBlocks (blocks ∷ []) ∷ step deed.OpenToRead (blocks ∷ []) ∷ []
 
--- `text BLOCKS FROM TO`: with status 0 the text of the pages that were read was printed; and what was printed is that of each disk as
--- which the blocks did
+-- `text BLOCKS FROM TO`: with status 0 the text of the pages was printed that were read of the blocks before they were handed back; and what
+-- was printed is that of each disk as which the blocks did
 pub record Prints (blocks : List ℕ) (from to : ℕ) (status : ℕ) (failed : Bool) (old new : Done) : Type 0 where
   pub asks : Asks (text_steps blocks) 0 old.asked new.asked
   pub reads : new.read ≡ old.read
   pub unwritten : new.written ≡ old.written
   pub count : ℕ
   pub calls : List DeviceCall
-  pub printed : failed ≡ false → status ≡ 0 → HasPrinted from (to + 1 - from) count [] calls old.printed new.printed
-  pub ends : failed ≡ false → ForDisks count [] calls (λ d e. EndsText d from to status old.printed new.printed)
+  pub used : new.used ≡ with_all old.used count calls
+  pub printed : failed ≡ false → status ≡ 0 → HasPrinted from (to + 1 - from) count [] calls old.sent new.sent
+  pub ends : failed ≡ false → ForDisks count [] calls (λ d e. EndsText d from to status old.sent new.sent)
 
 abbrev pub build_steps : (blocks image : List ℕ) → List Step
 build_steps blocks image =
-    step deed.KeepApart (blocks ∷ image ∷ []) ∷ step deed.KeepImage (image ∷ []) ∷ step deed.KeepBlocks (blocks ∷ []) ∷ opens (blocks ∷ [])
+    step deed.KeepApart (blocks ∷ image ∷ []) ∷ step deed.KeepImage (image ∷ []) ∷ step deed.KeepBlocks (blocks ∷ []) ∷ step deed.OpenToRead (blocks ∷ []) ∷ []
 
 abbrev pub RefusesBuild : (blocks image : List ℕ) → (buffers : ℕ) → (status : ℕ) → (old new : Done) → Type 0
 RefusesBuild blocks image buffers status old new =
     RefusesBuffers (IsCount buffers) status old new ⊎ Refuses (build_steps blocks image) status old new
 
--- `build BLOCKS FROM TO IMAGE`: the image is that of the pages that were read
+-- `build BLOCKS FROM TO IMAGE`: the image is that of the pages that were read of the blocks. Before they were handed back, more may have been
+-- read, to show where the source is refused.
 pub record Builds (blocks : List ℕ) (from to : ℕ) (image : List ℕ) (buffers : ℕ) (status : ℕ) (failed : Bool) (old new : Done) : Type 0 where
   pub reads : new.read ≡ old.read
   pub count : ℕ
   pub calls : List DeviceCall
+  pub all : List DeviceCall
+  pub shown : OnlyReads calls all
+  pub used : new.used ≡ with_all old.used count all
   pub ended : ℕ
   pub makes : Makes (build_steps blocks image) image ended status old new
-      (λ file. IsFileOfRead buffers count from to file [] calls × (failed ≡ false → IsTold file.items old.printed new.printed))
+      (λ file. IsFileOfRead buffers count from to file [] calls × (failed ≡ false → IsTold file.items old.sent new.sent))
   pub refused : failed ≡ false → 0 < ended → (d e : Blocks) → DidAs d e count [] calls
-      → EndsUnbuilt buffers d from to (done_of (Some e) [] calls) ended old.printed new.printed
+      → EndsUnbuilt buffers d from to (done_of (Some e) [] calls) ended old.sent new.sent
 
 -- the numbers of a text that separates them with commas; none where there is no text
 abbrev pub numbers_in : Option (List ℕ) → List ℕ
@@ -186,7 +193,7 @@ pub record IsMisfit (w : Wanted) (status : ℕ) (failed : Bool) (old new : Done)
   pub named : name_of format ≡ w.format
   pub why : Cause
   pub is_why : IsWhy (misfit (changed (layout_of format) w.offset w.sector (numbers_in w.skew)).sector (changed (layout_of format) w.offset w.sector (numbers_in w.skew)).order) why
-  pub printed : failed ≡ false → PrintsCause why status old.printed new.printed
+  pub printed : failed ≡ false → PrintsCause why status old.sent new.sent
   pub status_is : IsRefusal status failed
   pub unasked : new.asked ≡ old.asked
   pub unwritten : new.written ≡ old.written
@@ -218,8 +225,8 @@ pub record Imports (w : Wanted) (cleans : Bool) (status : ℕ) (failed : Bool) (
   pub reads : Reads w.container bytes old new
   pub ended : ℕ
   pub makes : Makes (import_steps w) w.blocks ended status old new (λ file. IsImported layout bytes cleans file.items)
-  pub silent : ended ≡ 0 → new.printed ≡ old.printed
-  pub refused : failed ≡ false → 0 < ended → PrintsUnread (unread layout bytes) ended old.printed new.printed
+  pub silent : ended ≡ 0 → new.sent ≡ old.sent
+  pub refused : failed ≡ false → 0 < ended → PrintsUnread (unread layout bytes) ended old.sent new.sent
 
 abbrev pub export_steps : Wanted → List Step
 export_steps w =
@@ -266,8 +273,8 @@ pub record Exports (w : Wanted) (status : ℕ) (failed : Bool) (old new : Done) 
   pub reads : ReadsOld w screens before old new
   pub ended : ℕ
   pub makes : Makes (export_steps w) w.container ended status old new (λ file. IsExported layout screens before file.items)
-  pub silent : ended ≡ 0 → new.printed ≡ old.printed
-  pub refused : failed ≡ false → 0 < ended → PrintsUnexported layout screens before ended old.printed new.printed
+  pub silent : ended ≡ 0 → new.sent ≡ old.sent
+  pub refused : failed ≡ false → 0 < ended → PrintsUnexported layout screens before ended old.sent new.sent
 
 abbrev pub wanted_of : Disk → Wanted
 wanted_of disk = record {

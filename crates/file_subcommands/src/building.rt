@@ -3,13 +3,13 @@
 ghost use Rattle.std.specs.Prelude.{◌≡◌, ◌↔◌, false, true, IfErr, IfOk, IfSome};
 ghost use Rattle.memory.specs.Bytes.{IsCount};
 ghost use Rattle.file_subcommands.specs.Filed.{Builds, RefusesBuild, RefusesUpgrade, Upgrades};
-ghost use Rattle.named_files.specs.Done.{done, status_of};
+ghost use Rattle.named_files.specs.Done.{IsPassedOn, done, status_of};
 
 use crate::screens::Screens;
-use block_buffers::Device;
+use block_buffers::MemoryDevice;
 use image_builder::{Cause, build};
 use inner_interpreter::Output;
-use named_files::{Files, read_screen, write_made};
+use named_files::{Files, blocks_of, read_screen, write_made};
 use subcommands::{Ended, do_build, do_upgrade};
 
 /// A number of block buffers that an image may have. The command line has no other.
@@ -30,23 +30,23 @@ fn may_be_wanted(buffers: Option<u16>) -> bool
 }
 
 /// Says on standard error where and why the source in the screens from the first to the last is refused, with that line of
-/// the screen and a mark below the place. Where it can't be found out, or can't be said, nothing is.
-fn show_place<F: Files, D: Device>(
+/// the screen and a mark below the place: a copy of the blocks is built again. Where it can't be found out, or can't be said, nothing is.
+fn show_place<F: Files>(
     files: &F,
     name: &str,
-    device: &mut D,
+    blocks: &mut MemoryDevice,
     screens: (u16, u16),
     buffers: u16,
 )
     requires { IsCount buffers }
 {
     let (from, to) = screens;
-    if let Err(fault) = build(files.alloc(), device, from, to, buffers) {
+    if let Err(fault) = build(files.alloc(), blocks, from, to, buffers) {
         match fault.cause {
             Cause::OutOfMemory => {}
             Cause::Device => files.say_missing(name, fault.screen),
             cause => {
-                if let Some(bytes) = read_screen(files, name, device, fault.screen) {
+                if let Some(bytes) = read_screen(files, name, blocks, fault.screen) {
                     files.show_line(name, (fault.screen, &bytes), fault.offset, cause);
                 }
             }
@@ -69,6 +69,7 @@ pub fn build_image<F: Files, W: Output>(
     ensures refused { IfErr result (λ status. RefusesBuild screens.entry.blocks.now image.now buffers status
         (done (F.log files.old) (W.sent writer.old)) (done (F.log files.new) (W.sent writer.new))) }
     ensures cut { W.failed writer.old ≡ false → W.failed writer.new ≡ true → status_of result ≡ 5 }
+    ensures passed { IsPassedOn (status_of result) (W.failed writer.new) (W.passed writer.new) (W.sent writer.old) (W.sent writer.new) }
 {
     if !is_count(buffers) {
         return Err(files.refuse_use("--buffers", "takes a number from 2 to 16"));
@@ -79,8 +80,14 @@ pub fn build_image<F: Files, W: Output>(
     files.keep_blocks(blocks)?;
     let mut device = files.read_alone(blocks)?;
     let Ended { status, file } = do_build(files.alloc(), &mut device, from, to, buffers, writer);
-    if status == 1 && (shows_place || files.is_watched()) {
-        show_place(files, blocks, &mut device, (from, to), buffers);
+    let copy = if status == 1 && (shows_place || files.is_watched()) {
+        blocks_of(files.alloc(), &mut device)
+    } else {
+        None
+    };
+    files.close_blocks(device);
+    if let Some(mut copy) = copy {
+        show_place(files, blocks, &mut copy, (from, to), buffers);
     }
     Ok(write_made(files, status, file, image))
 }
@@ -99,6 +106,7 @@ pub fn upgrade_image<F: Files, W: Output>(
     ensures refused { IfErr result (λ status. RefusesUpgrade image.now out.now buffers status
         (done (F.log files.old) (W.sent writer.old)) (done (F.log files.new) (W.sent writer.new))) }
     ensures cut { W.failed writer.old ≡ false → W.failed writer.new ≡ true → status_of result ≡ 5 }
+    ensures passed { IsPassedOn (status_of result) (W.failed writer.new) (W.passed writer.new) (W.sent writer.old) (W.sent writer.new) }
 {
     if !may_be_wanted(buffers) {
         return Err(files.refuse_use("--buffers", "takes a number from 2 to 16"));

@@ -1,9 +1,9 @@
 //! `import` and `export`.
 
-ghost use Rattle.std.specs.Prelude.{◌≡◌, ◌<◌, false, true, Some, None, Err, option_map, IfErr, IfOk, IfSome, IsNone, IsSome, OnOk, MatchOption};
+ghost use Rattle.std.specs.Prelude.{◌≡◌, ◌⊎◌, ◌<◌, false, true, Some, None, Err, option_map, IfErr, IfOk, IfSome, IsNone, IsSome, OnOk, MatchOption};
 ghost use Rattle.containers.specs.Containers.{new_container};
 ghost use Rattle.file_subcommands.specs.Filed.{AreNumbers, Exports, Imports, IsExported, IsWantedLayout, PrintsNoContainer, PrintsUnexported, RefusesExport, RefusesImport, RefusesLayout, RefusesSkew, items_of, numbers_in, wanted_of};
-ghost use Rattle.named_files.specs.Done.{done, status_of};
+ghost use Rattle.named_files.specs.Done.{IsPassedOn, done, status_of};
 ghost use Rattle.subcommands.specs.Ends.{IsRefusal};
 
 use crate::screens::MOST_BLOCKS;
@@ -79,6 +79,7 @@ fn layout_of<F: Files, W: Output>(
     ensures refused { IfErr result (λ status. RefusesLayout (wanted_of disk.entry) status (W.failed writer.new)
         (done (F.log files.old) (W.sent writer.old)) (done (F.log files.new) (W.sent writer.new))) }
     ensures cut { W.failed writer.old ≡ false → W.failed writer.new ≡ true → IfErr result (λ status. status ≡ 5) }
+    ensures passed { IfErr result (λ _. W.failed writer.new ≡ false → (W.passed writer.new ≡ true) ⊎ (writer.new ≡ writer.old)) }
 {
     let Some(format) = named(disk.format) else {
         return Err(files.refuse_use(
@@ -107,6 +108,7 @@ pub fn import_screens<F: Files, W: Output>(
     ensures refused { IfErr result (λ status. RefusesImport (wanted_of disk.entry) status (W.failed writer.new)
         (done (F.log files.old) (W.sent writer.old)) (done (F.log files.new) (W.sent writer.new))) }
     ensures cut { W.failed writer.old ≡ false → W.failed writer.new ≡ true → status_of result ≡ 5 }
+    ensures passed { IsPassedOn (status_of result) (W.failed writer.new) (W.passed writer.new) (W.sent writer.old) (W.sent writer.new) }
 {
     let Disk {
         container,
@@ -141,6 +143,7 @@ fn container_for<W: Output>(
     ensures refused { IfErr result (λ ended. W.failed writer.new ≡ false →
         PrintsNoContainer bytes ended.status (W.sent writer.old) (W.sent writer.new)) }
     ensures cut { W.failed writer.old ≡ false → W.failed writer.new ≡ true → IfErr result (λ ended. ended.status ≡ 5) }
+    ensures passed { IfErr result (λ _. W.failed writer.new ≡ false → W.passed writer.new ≡ true) }
 {
     if let Some(before) = before {
         return Ok(before);
@@ -168,6 +171,7 @@ fn exported<W: Output>(
     ensures refused { W.failed writer.new ≡ false → IsNone result.file →
         PrintsUnexported layout.now screens.now (items_of before) result.status (W.sent writer.old) (W.sent writer.new) }
     ensures cut { W.failed writer.old ≡ false → W.failed writer.new ≡ true → (result.status ≡ 5) × IsNone result.file }
+    ensures passed { W.failed writer.new ≡ false → IsNone result.file → W.passed writer.new ≡ true }
 {
     match container_for(alloc, writer, layout, before, screens.len()) {
         Ok(container) => do_export(alloc, layout, screens, container, writer),
@@ -187,6 +191,7 @@ pub fn export_screens<F: Files, W: Output>(
     ensures refused { IfErr result (λ status. RefusesExport (wanted_of disk.entry) status (W.failed writer.new)
         (done (F.log files.old) (W.sent writer.old)) (done (F.log files.new) (W.sent writer.new))) }
     ensures cut { W.failed writer.old ≡ false → W.failed writer.new ≡ true → status_of result ≡ 5 }
+    ensures passed { IsPassedOn (status_of result) (W.failed writer.new) (W.passed writer.new) (W.sent writer.old) (W.sent writer.new) }
 {
     let Disk {
         container,
@@ -198,7 +203,7 @@ pub fn export_screens<F: Files, W: Output>(
     files.keep_blocks(blocks)?;
     files.keep_blocks(container)?;
     let screens = files.file_bytes(blocks)?;
-    let _held = files.held(container)?;
+    files.hold(container)?;
     let before = files.old_file(container)?;
     let Ended { status, file } = exported(
         files.alloc(),

@@ -2,7 +2,7 @@
 
 ghost use Rattle.std.specs.Prelude.{◌≡◌, true, false, IfErr, IfOk};
 ghost use Rattle.file_subcommands.specs.Filed.{MakesKernel, MakesNew, MakesScreens, Prints, RefusesNew, kernel_steps, screens_steps, text_steps};
-ghost use Rattle.named_files.specs.Done.{Refuses, done, status_of};
+ghost use Rattle.named_files.specs.Done.{IsPassedOn, Refuses, done, status_of};
 
 use inner_interpreter::Output;
 use named_files::{Files, write_made};
@@ -30,8 +30,9 @@ pub fn write_kernel<F: Files, W: Output>(
     ensures refused { IfErr result (λ status. Refuses (kernel_steps blocks.now) status
         (done (F.log files.old) (W.sent writer.old)) (done (F.log files.new) (W.sent writer.new))) }
     ensures cut { W.failed writer.old ≡ false → W.failed writer.new ≡ true → status_of result ≡ 5 }
+    ensures passed { IsPassedOn (status_of result) (W.failed writer.new) (W.passed writer.new) (W.sent writer.old) (W.sent writer.new) }
 {
-    let _held = files.held(blocks)?;
+    files.hold(blocks)?;
     let Ended { status, file } = do_kernel(files.alloc(), writer);
     Ok(write_made(files, status, file, blocks))
 }
@@ -47,11 +48,14 @@ pub fn print_text<F: Files, W: Output>(
     ensures refused { IfErr result (λ status. Refuses (text_steps screens.entry.blocks.now) status
         (done (F.log files.old) (W.sent writer.old)) (done (F.log files.new) (W.sent writer.new))) }
     ensures cut { W.failed writer.old ≡ false → W.failed writer.new ≡ true → status_of result ≡ 5 }
+    ensures passed { IsPassedOn (status_of result) (W.failed writer.new) (W.passed writer.new) (W.sent writer.old) (W.sent writer.new) }
 {
     let Screens { blocks, from, to } = screens;
     files.keep_blocks(blocks)?;
     let mut device = files.read_alone(blocks)?;
-    Ok(do_text(files.alloc(), &mut device, from, to, writer).status)
+    let ended = do_text(files.alloc(), &mut device, from, to, writer);
+    files.close_blocks(device);
+    Ok(ended.status)
 }
 
 /// Writes the screens of the text that `screens` names. A text isn't written over by its screens. If it cannot begin, that is
@@ -67,11 +71,12 @@ pub fn write_screens<F: Files, W: Output>(
     ensures refused { IfErr result (λ status. Refuses (screens_steps text.now blocks.now) status
         (done (F.log files.old) (W.sent writer.old)) (done (F.log files.new) (W.sent writer.new))) }
     ensures cut { W.failed writer.old ≡ false → W.failed writer.new ≡ true → status_of result ≡ 5 }
+    ensures passed { IsPassedOn (status_of result) (W.failed writer.new) (W.passed writer.new) (W.sent writer.old) (W.sent writer.new) }
 {
     files.keep_apart(text, blocks, "the text and the blocks")?;
     let bytes = files.file_bytes(text)?;
     files.keep_blocks(blocks)?;
-    let _held = files.held(blocks)?;
+    files.hold(blocks)?;
     let old = files.old_blocks(blocks)?;
     let Ended { status, file } = do_screens(files.alloc(), old, bytes.as_slice(), writer);
     Ok(write_made(files, status, file, blocks))
@@ -90,6 +95,7 @@ pub fn write_new<F: Files, W: Output>(
     ensures refused { IfErr result (λ status. RefusesNew blocks.now count status
         (done (F.log files.old) (W.sent writer.old)) (done (F.log files.new) (W.sent writer.new))) }
     ensures cut { W.failed writer.old ≡ false → W.failed writer.new ≡ true → status_of result ≡ 5 }
+    ensures passed { IsPassedOn (status_of result) (W.failed writer.new) (W.passed writer.new) (W.sent writer.old) (W.sent writer.new) }
 {
     if count > MOST_BLOCKS {
         return Err(files.refuse_use("a file", "has at most 65536 blocks"));

@@ -2,7 +2,7 @@
 
 ghost use Rattle.std.specs.Prelude.{◌≡◌, true, false, IfErr, IfOk};
 ghost use Rattle.file_subcommands.specs.Filed.{Sees, Views, image_steps};
-ghost use Rattle.named_files.specs.Done.{Refuses, done, status_of};
+ghost use Rattle.named_files.specs.Done.{IsPassedOn, Refuses, done, status_of};
 
 use inner_interpreter::Output;
 use named_files::Files;
@@ -20,6 +20,7 @@ pub fn view_word<F: Files, W: Output>(
     ensures refused { IfErr result (λ status. Refuses (image_steps image.now) status
         (done (F.log files.old) (W.sent writer.old)) (done (F.log files.new) (W.sent writer.new))) }
     ensures cut { W.failed writer.old ≡ false → W.failed writer.new ≡ true → status_of result ≡ 5 }
+    ensures passed { IsPassedOn (status_of result) (W.failed writer.new) (W.passed writer.new) (W.sent writer.old) (W.sent writer.new) }
 {
     let bytes = files.image_bytes(image)?;
     Ok(do_view(files.alloc(), bytes.as_slice(), name, writer).status)
@@ -37,6 +38,7 @@ pub fn see_word<F: Files, W: Output>(
     ensures refused { IfErr result (λ status. Refuses (image_steps image.now) status
         (done (F.log files.old) (W.sent writer.old)) (done (F.log files.new) (W.sent writer.new))) }
     ensures cut { W.failed writer.old ≡ false → W.failed writer.new ≡ true → status_of result ≡ 5 }
+    ensures passed { IsPassedOn (status_of result) (W.failed writer.new) (W.passed writer.new) (W.sent writer.old) (W.sent writer.new) }
 {
     let bytes = files.image_bytes(image)?;
     Ok(do_see(files.alloc(), bytes.as_slice(), name, writer).status)

@@ -1,14 +1,20 @@
--- What the program does: for each subcommand, with the words that were typed, what is promised of it.
-use Rattle.std.specs.Prelude.{◌≡◌, ◌⊎◌, ℕ, List, [], ◌∷◌, Bool, Option, Some, None, option_map, String, is_some}
+-- What the program does: for each command line, and for each subcommand with its words, what is promised of it.
+use Rattle.std.specs.Prelude.{◌≡◌, ◌⊎◌, ℕ, List, [], ◌∷◌, Bool, true, Option, Some, None, option_map, String, is_some}
 use Rattle.std.specs.declared.alloc.Global.{Global}
 use Rattle.std.specs.String.{string_bytes}
+use Rattle.command_words.specs.Refused.{IsUnread}
+use Rattle.command_words.specs.Typed.{IsTyped}
+use Rattle.command_words.specs.declared.Parsed.TheVariants as parsed
 use Rattle.command_words.specs.declared.Words.{Words}
 use Rattle.command_words.specs.declared.Words.TheVariants as words
 use Rattle.command_words.specs.declared.containers.ContainerWords.{ContainerWords}
 use Rattle.debug_subcommand.specs.Files.{Debugs, RefusesDebug}
 use Rattle.file_subcommands.specs.Filed.{Builds, Exports, Imports, MakesKernel, MakesNew, MakesScreens, Prints, RefusesBuild, RefusesExport, RefusesImport, RefusesNew, RefusesUpgrade, Sees, Upgrades, Views, Wanted, image_steps, kernel_steps, screens_steps, text_steps}
 use Rattle.load_subcommand.specs.Files.{Loads, load_steps}
+use Rattle.named_files.specs.Asking.{step}
 use Rattle.named_files.specs.Done.{Done, Refuses}
+use Rattle.named_files.specs.declared.step_log.Deed.TheVariants as deed
+use Rattle.serve_subcommand.specs.Files.{ServesFiles, serve_steps}
 use Rattle.session_runs.specs.Files.{RefusesRun, Runs}
 
 -- the name that was typed, if one was
@@ -45,6 +51,7 @@ Obeys (words.Debug image name trace blocks limit) status failed old new =
     Debugs (string_bytes image) (string_bytes name) (string_bytes trace) (typed blocks) limit status failed old new
 Obeys (words.See image name) status failed old new = Sees (string_bytes image) (string_bytes name) status failed old new
 Obeys (words.View image name) status failed old new = Views (string_bytes image) (string_bytes name) status failed old new
+Obeys (words.Serve image blocks) status failed old new = ServesFiles (string_bytes image) (typed blocks) status failed old new
 
 -- the subcommand could not begin: a step that it must take was refused, or what was typed can't be used
 abbrev pub RefusesWords : Words → (status : ℕ) → (failed : Bool) → (old new : Done) → Type 0
@@ -63,8 +70,17 @@ RefusesWords (words.Debug image name trace blocks limit) status failed old new =
     RefusesDebug (string_bytes image) (string_bytes trace) (typed blocks) status old new
 RefusesWords (words.See image name) status failed old new = Refuses (image_steps (string_bytes image)) status old new
 RefusesWords (words.View image name) status failed old new = Refuses (image_steps (string_bytes image)) status old new
+RefusesWords (words.Serve image blocks) status failed old new = Refuses (serve_steps (string_bytes image) (typed blocks)) status old new
 
 -- the status where a line could not be printed: of a session it may also be 1, where a changed block could not be written, or memory ran out
 abbrev pub IsCut : Words → (status : ℕ) → Type 0
 IsCut (words.Run w) status = (status ≡ 5) ⊎ (status ≡ 1)
 IsCut _ status = status ≡ 5
+
+-- what the program does with a command line. It obeys the words that were typed, or one of their steps is refused; if a line can't be printed
+-- meanwhile, the status says so. Or no words come of the command line: it is printed why, or memory ran out.
+abbrev pub RunsLine : (typed : List (List ℕ)) → (status : ℕ) → (failed : Bool) → (old new : Done) → Type 0
+RunsLine typed status failed old new =
+    ((w : Words) × IsTyped typed w × (Obeys w status failed old new ⊎ RefusesWords w status failed old new) × (failed ≡ true → IsCut w status))
+    ⊎ (IsUnread typed (parsed.Exit status) × (new ≡ old))
+    ⊎ Refuses (step deed.Allocate [] ∷ []) status old new

@@ -1,20 +1,23 @@
 //! A Forth-83 system with block storage.
 #![tactic(auto)]
 
-ghost use Rattle.std.specs.Prelude.{◌≡◌, false, true, IfErr, IfOk, option_map};
-ghost use Rattle.forth83.specs.Obeyed.{IsCut, Obeys, RefusesWords};
-ghost use Rattle.named_files.specs.Done.{done, status_of};
+ghost use Rattle.std.specs.Prelude.{◌≡◌, false, true, map, IfErr, IfOk, option_map};
+ghost use Rattle.forth83.specs.Obeyed.{IsCut, Obeys, RefusesWords, RunsLine};
+ghost use Rattle.named_files.specs.Done.{IsPassedOn, done, status_of};
 ghost use Rattle.std.specs.String.{string_bytes};
 
-use command_words::{ContainerWords, LoadWords, Parsed, RunWords, ScreenRange, Words};
+use command_words::{
+    ContainerWords, LoadWords, Parsed, RunWords, ScreenRange, Words, parse, typed,
+};
 use debug_subcommand::debug_word;
 use file_subcommands::{
     Disk, Screens, build_image, export_screens, import_screens, print_text, see_word,
     upgrade_image, view_word, write_kernel, write_new, write_screens,
 };
-use inner_interpreter::{Output, Writing};
+use inner_interpreter::Output;
 use load_subcommand::{Load, load_screens};
 use named_files::{SystemFiles, out_of_memory, standard_output};
+use serve_subcommand::serve_image;
 use session_runs::{Session, SessionFiles, run_image};
 use std::process::ExitCode;
 
@@ -83,6 +86,7 @@ fn obey<F: SessionFiles, W: Output>(files: &mut F, writer: &mut W, words: Words)
     ensures refused { IfErr result (λ status. RefusesWords words status (W.failed writer.new)
         (done (F.log files.old) (W.sent writer.old)) (done (F.log files.new) (W.sent writer.new))) }
     ensures cut { W.failed writer.old ≡ false → W.failed writer.new ≡ true → IsCut words (status_of result) }
+    ensures passed { IsPassedOn (status_of result) (W.failed writer.new) (W.passed writer.new) (W.sent writer.old) (W.sent writer.new) }
 {
     match words {
         Words::Kernel { blocks } => write_kernel(files, writer, blocks.as_str()),
@@ -135,23 +139,45 @@ fn obey<F: SessionFiles, W: Output>(files: &mut F, writer: &mut W, words: Words)
         ),
         Words::See { image, name } => see_word(files, writer, image.as_str(), name.as_str()),
         Words::View { image, name } => view_word(files, writer, image.as_str(), name.as_str()),
+        Words::Serve { image, blocks } => {
+            serve_image(files, writer, image.as_str(), blocks.as_deref())
+        }
+    }
+}
+
+/// Runs a command line, of which the first word is the program's name, and answers the status. Where no words come of it, that is printed.
+fn run_line<R: Print, F: SessionFiles, W: Output>(
+    rt: &R,
+    files: &mut F,
+    writer: &mut W,
+    typed: &[String],
+) -> u8
+    ensures ran { W.failed writer.old ≡ false → RunsLine (map string_bytes typed.now) result (W.failed writer.new)
+        (done (F.log files.old) (W.sent writer.old)) (done (F.log files.new) (W.sent writer.new)) }
+    ensures passed { IsPassedOn result (W.failed writer.new) (W.passed writer.new) (W.sent writer.old) (W.sent writer.new) }
+{
+    match parse(rt, files.alloc(), typed) {
+        Parsed::Words(words) => match obey(files, writer, words) {
+            Ok(status) | Err(status) => status,
+        },
+        Parsed::Exit(status) => status,
+        Parsed::OutOfMemory => files.out_of_memory(),
+    }
+}
+
+/// Runs the command line that the program was started with.
+fn start(rt: &HostRuntime) -> u8 {
+    let typed = match typed(rt) {
+        Ok(typed) => typed,
+        Err(Parsed::Exit(status)) => return status,
+        Err(_) => return out_of_memory(rt),
+    };
+    match standard_output(rt) {
+        Ok(mut writer) => run_line(rt, &mut SystemFiles::new(rt), &mut writer, typed.as_slice()),
+        Err(status) => status,
     }
 }
 
 fn main(rt: HostRuntime) -> ExitCode {
-    let status = match command_words::parse(&rt) {
-        Parsed::Exit(status) => status,
-        Parsed::OutOfMemory => out_of_memory(&rt),
-        Parsed::Words(words) => match standard_output(&rt) {
-            Ok(output) => {
-                let mut files = SystemFiles::new(&rt);
-                let mut writer = Writing::new(output);
-                match obey(&mut files, &mut writer, words) {
-                    Ok(status) | Err(status) => status,
-                }
-            }
-            Err(status) => status,
-        },
-    };
-    ExitCode::from(status)
+    ExitCode::from(start(&rt))
 }

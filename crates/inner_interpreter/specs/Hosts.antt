@@ -1,6 +1,5 @@
 -- Moves that a host made.
-use Rattle.std.specs.Prelude.{◌≡◌, ℕ, List, ◌++◌, Option}
-use Rattle.std.specs.Io.KnownBytes.{Appends}
+use Rattle.std.specs.Prelude.{◌≡◌, ℕ, List, ◌++◌}
 use Rattle.machine.specs.declared.act.Event.{Event}
 use Rattle.machine.specs.State.{State}
 use Rattle.machine.specs.Answer.{seen}
@@ -14,16 +13,16 @@ turn_of move.Tick = Tick
 turn_of (move.Answer answer) = Answer (seen answer)
 turn_of (move.Enter word) = Enter word
 
--- a host made what such moves leave: the state, the bytes that they show, and their events
-pub record IsMade (m : Made) (state : State) (sent sent' : Option (List ℕ)) (events events' : List Event) : Type 0 where
+-- a host made what such moves leave: the state, and in its logs the bytes that they show, and their events
+pub record IsMade (m : Made) (state : State) (shown shown' : List ℕ) (events events' : List Event) : Type 0 where
   pub state_is : state ≡ m.state
-  pub sent_is : Appends sent sent' m.shown
+  pub shown_is : shown' ≡ shown ++ m.shown
   pub events_are : events' ≡ events ++ m.events
 
 -- the same of the first of some moves: what is left of them are those that come then
-pub record HasMade (s : State) (ts : List Turn) (t : State) (us : List Turn) (sent sent' : Option (List ℕ)) (events events' : List Event) : Type 0 where
+pub record HasMade (s : State) (ts : List Turn) (t : State) (us : List Turn) (shown shown' : List ℕ) (events events' : List Event) : Type 0 where
   pub bytes : List ℕ
   pub told : List Event
   pub made_is : made s ts ≡ behind bytes told (made t us)
-  pub sent_is : Appends sent sent' bytes
+  pub shown_is : shown' ≡ shown ++ bytes
   pub events_are : events' ≡ events ++ told

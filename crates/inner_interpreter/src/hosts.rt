@@ -1,13 +1,15 @@
 //! A list of moves that a host makes.
 
-ghost use Rattle.std.specs.Prelude.{◌≡◌, ◌∷◌, ◌++◌, List, true, false, map, replicate, IfOk, OnErr, OnOk};
+ghost use Rattle.std.specs.Prelude.{◌≡◌, ◌∷◌, ◌++◌, List, true, false, map, replicate, IfOk, OnErr};
+ghost use Rattle.memory.specs.Bytes.{bytes};
 ghost use Rattle.inner_interpreter.specs.Histories.{acted, made, takes, told_event};
-ghost use Rattle.inner_interpreter.specs.Moves.{Turn, Tick, Enter};
+ghost use Rattle.inner_interpreter.specs.Moves.{Turn, Tick, Enter, shown_bytes};
 ghost use Rattle.inner_interpreter.specs.Hosts.{HasMade, IsMade, turn_of};
 
-use crate::ends::{EndFault, Output};
-use crate::sends::show;
+use crate::byte_log::ByteLog;
+use crate::event_log::EventLog;
 use machine::{Act, Answer, Event, Machine, Refused, Shown};
+use machine_parts::parts::Span;
 
 /// A move of a machine.
 #[derive(Clone, Copy)]
@@ -46,68 +48,71 @@ fn make_move(machine: &mut Machine, step: Move<'_>) -> Result<Act, Refused>
     }
 }
 
-/// A request, a fault or a halt is noted.
-fn note(events: &mut Vec<Event>, event: Event) -> Result<(), EndFault>
-    ensures { OnOk result (events.new.items ≡ events.old.items ++ told_event event) }
+/// Notes bytes of memory.
+#[tactic(auto, using(crate::proofs::Making::noted_both))]
+fn note_span(machine: &Machine, span: Span, shown: &mut ByteLog)
+    ensures { shown.new.bytes ≡ shown.old.bytes ++ bytes machine.now.parts.memory span.at span.len }
 {
-    if event == Event::Went {
-        return Ok(());
-    }
-    events.push(event).map_err(|_| EndFault)
+    let (front, back) = machine.shown(span);
+    let noted = ByteLog::grown(shown, front);
+    *shown = ByteLog::grown(&noted, back);
 }
 
-/// Makes a move; what it shows is sent, and its event is noted.
-fn host_move<W: Output>(
-    machine: &mut Machine,
-    step: Move<'_>,
-    writer: &mut W,
-    events: &mut Vec<Event>,
-) -> Result<(), EndFault>
-    ensures { OnOk result ((ts : List Turn) → HasMade machine.old (turn_of step.entry ∷ ts) machine.new ts
-        (W.sent writer.old) (W.sent writer.new) events.old.items events.new.items) }
+/// Notes the bytes that a move showed.
+#[tactic(auto, using(crate::proofs::Making::noted_both, crate::proofs::Making::noted_none), unfolding(crate::specs::Moves::shown_bytes))]
+fn note_shown(machine: &Machine, move_shown: Shown, shown: &mut ByteLog)
+    ensures { shown.new.bytes ≡ shown.old.bytes ++ shown_bytes machine.now.parts.memory move_shown }
 {
-    let Ok(act) = make_move(machine, step) else {
-        return Ok(());
-    };
-    show(machine, writer, act.shown)?;
-    note(events, act.event)
+    match move_shown {
+        Shown::Nothing => {}
+        Shown::Byte(byte) => *shown = ByteLog::grown(shown, &[byte]),
+        Shown::Span(span) => note_span(machine, span, shown),
+        Shown::Line(span) => {
+            note_span(machine, span, shown);
+            *shown = ByteLog::grown(shown, b" ");
+        }
+    }
+}
+
+/// Makes a move, if the machine takes it; what it shows is noted, and its event.
+fn host_move(machine: &mut Machine, step: Move<'_>, shown: &mut ByteLog, events: &mut EventLog)
+    ensures { (ts : List Turn) → HasMade machine.old (turn_of step.entry ∷ ts) machine.new ts
+        shown.old.bytes shown.new.bytes events.old.events events.new.events }
+{
+    if let Ok(act) = make_move(machine, step) {
+        note_shown(machine, act.shown, shown);
+        *events = events.then(&act.event);
+    }
 }
 
 /// Makes these moves, one after another. Those that the machine doesn't take change nothing; the bytes that the others show
-/// are sent, joined, and their requests, faults and halts are noted in order.
-pub fn make_moves<W: Output>(
+/// are noted, joined, and their requests, faults and halts in order.
+pub fn make_moves(
     machine: &mut Machine,
     moves: &[Move<'_>],
-    writer: &mut W,
-    events: &mut Vec<Event>,
-) -> Result<(), EndFault>
-    ensures { OnOk result (IsMade (made machine.old (map turn_of moves.now)) machine.new (W.sent writer.old)
-        (W.sent writer.new) events.old.items events.new.items) }
+    shown: &mut ByteLog,
+    events: &mut EventLog,
+)
+    ensures { IsMade (made machine.old (map turn_of moves.now)) machine.new shown.old.bytes shown.new.bytes
+        events.old.events events.new.events }
 {
     for step in moves {
-        host_move(machine, *step, writer, events)?;
+        host_move(machine, *step, shown, events);
     }
-    Ok(())
 }
 
 /// Makes so many ticks, by as few calls as there are ticks that aren't quiet.
-pub fn make_ticks<W: Output>(
-    machine: &mut Machine,
-    n: u64,
-    writer: &mut W,
-    events: &mut Vec<Event>,
-) -> Result<(), EndFault>
-    ensures { OnOk result (IsMade (made machine.old (replicate n Tick)) machine.new (W.sent writer.old)
-        (W.sent writer.new) events.old.items events.new.items) }
+pub fn make_ticks(machine: &mut Machine, n: u64, shown: &mut ByteLog, events: &mut EventLog)
+    ensures { IsMade (made machine.old (replicate n Tick)) machine.new shown.old.bytes shown.new.bytes
+        events.old.events events.new.events }
 {
     let mut left = n;
     while left > 0 {
         let Ok((count, act)) = machine.ticks(left) else {
-            return Ok(());
+            return;
         };
         left -= count;
-        show(machine, writer, act.shown)?;
-        note(events, act.event)?;
+        note_shown(machine, act.shown, shown);
+        *events = events.then(&act.event);
     }
-    Ok(())
 }

@@ -3,6 +3,7 @@
 
 mod byte_log;
 pub mod ends;
+mod event_log;
 mod hosts;
 pub mod laws;
 mod lines;
@@ -18,6 +19,7 @@ mod writing;
 
 pub use byte_log::ByteLog;
 pub use ends::{EndFault, Input, Output};
+pub use event_log::EventLog;
 pub use hosts::{Move, make_moves, make_ticks};
 pub use machine::{Act, Answer, Cause, Event, Extent, Machine, Refused, SaveRefused, Shown};
 pub use read_log::{Given, ReadLog};

@@ -29,6 +29,20 @@ impl<R: Read> Reading<R> {
             log: ReadLog::new(),
         }
     }
+
+    /// What its calls gave.
+    pub fn log(&self) -> &ReadLog
+        ensures { result.now.reads ≡ ⟦<Reading<R> as Input>⟧.reads self.now }
+    {
+        &self.log
+    }
+
+    /// Whether a call has failed.
+    pub fn has_failed(&self) -> bool
+        ensures { result ≡ ⟦<Reading<R> as Input>⟧.failed self.now }
+    {
+        self.has_failed
+    }
 }
 
 impl<R: Read> Input for Reading<R> {

@@ -44,6 +44,21 @@ impl<W: Write> Writing<W> {
         }
     }
 
+    /// What its calls took.
+    pub fn log(&self) -> &ByteLog
+        ensures bytes { ⟦<Writing<W> as Output>⟧.sent self.now ≡ Some result.now.bytes }
+        ensures passed { ⟦<Writing<W> as Output>⟧.passed self.now ≡ result.now.passed }
+    {
+        &self.log
+    }
+
+    /// Whether a call has failed.
+    pub fn has_failed(&self) -> bool
+        ensures { result ≡ ⟦<Writing<W> as Output>⟧.failed self.now }
+    {
+        self.has_failed
+    }
+
     /// The writer, with what it was sent.
     pub fn into_inner(self) -> W
         ensures { self.log.tells ≡ true → ⟦<Writing<W> as Output>⟧.sent self ≡ W.contents result }

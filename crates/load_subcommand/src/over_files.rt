@@ -2,7 +2,7 @@
 
 ghost use Rattle.std.specs.Prelude.{◌≡◌, false, true, IfErr, IfOk};
 ghost use Rattle.load_subcommand.specs.Files.{Loads, load_steps};
-ghost use Rattle.named_files.specs.Done.{Refuses, done, status_of};
+ghost use Rattle.named_files.specs.Done.{IsPassedOn, Refuses, done, status_of};
 
 use crate::load_command::do_load;
 use block_buffers::{BLOCK_SIZE, Device, MemoryDevice};
@@ -81,6 +81,7 @@ pub fn load_screens<F: Files, W: Output>(
     ensures refused { IfErr result (λ status. Refuses (load_steps load.entry.image.now load.entry.blocks.now load.entry.out.now) status
         (done (F.log files.old) (W.sent writer.old)) (done (F.log files.new) (W.sent writer.new))) }
     ensures cut { W.failed writer.old ≡ false → W.failed writer.new ≡ true → status_of result ≡ 5 }
+    ensures passed { IsPassedOn (status_of result) (W.failed writer.new) (W.passed writer.new) (W.sent writer.old) (W.sent writer.new) }
 {
     let Load {
         blocks,
@@ -109,6 +110,7 @@ pub fn load_screens<F: Files, W: Output>(
         limit,
         writer,
     );
+    files.close_blocks(device);
     if let (1, Some(before)) = (status, &mut before) {
         show_stop(files, blocks, bytes, before, (from, to), limit);
     }

@@ -1,9 +1,9 @@
 -- What a subcommand asks for, and what it makes: that is written, and nothing else.
-use Rattle.std.proofs.Common.{◌≡◌, ◌<◌, ℕ, List, ◌∷◌, ◌++◌, [], Option, Some, None, Vec, refl, sym, ap, subst, ◌∙◌, inl, inr, arith, MatchOption, IfSome, IsNone, IsSome, Bool, false, Result, Ok, Err, IfErr}
+use Rattle.std.proofs.Common.{◌≡◌, ◌<◌, ℕ, List, ◌∷◌, ◌++◌, [], Option, Some, None, Vec, refl, sym, ap, subst, ◌∙◌, inl, inr, arith, MatchOption, IfSome, IsNone, IsSome, Bool, true, false, Result, Ok, Err, IfErr}
 use Rattle.std.specs.Result.{IsErrAnd}
 use Rattle.std.specs.declared.alloc.Global.{Global}
 use Rattle.named_files.specs.Asking.{Answered, Asks, Refused, Step, answered, step}
-use Rattle.named_files.specs.Done.{IsWrittenOr, Makes, Refuses, SystemLog, done}
+use Rattle.named_files.specs.Done.{IsPassedOn, IsWrittenOr, Makes, Refuses, SystemLog, done}
 use Rattle.named_files.specs.declared.step_log.Deed.TheVariants.{Write}
 
 no_less : {B : Type 0} (n : ℕ) → n ≡ 0 → 0 < n → B
@@ -86,6 +86,15 @@ read_so (Some file) ended status name middle new none (inl w) = ap (λ f. f.read
 read_so (Some file) ended status name middle new none (inr w) = ap (λ f. f.read) w.2
 read_so None ended status name middle new none some = ap (λ n. n.files.read) (none refl).1
 
+-- and what was used
+pub used_so : (file : Option (Vec ℕ Global)) (ended status : ℕ) (name : List ℕ) (middle new : SystemLog)
+    → (IsNone file → (status ≡ ended) × (new ≡ middle))
+    → IfSome file (λ f. IsWrittenOr name f.items ended status middle new)
+    → new.files.used ≡ middle.files.used
+used_so (Some file) ended status name middle new none (inl w) = ap (λ f. f.used) w.2
+used_so (Some file) ended status name middle new none (inr w) = ap (λ f. f.used) w.2
+used_so None ended status name middle new none some = ap (λ n. n.files.used) (none refl).1
+
 -- what is said of a file beside the status
 pub both : (Of : Vec ℕ Global → Type 0) (file : Option (Vec ℕ Global)) (ended : ℕ) → MatchOption file (0 < ended) (λ f. ended ≡ 0)
     → IfSome file Of → MatchOption file (0 < ended) (λ f. (ended ≡ 0) × Of f)
@@ -113,6 +122,12 @@ pub beside : (A B : Vec ℕ Global → Type 0) (failed : Bool) (file : Option (V
     → IfSome file (λ f. A f × (failed ≡ false → B f))
 beside A B failed (Some file) a b = (a, b)
 beside A B failed None a b = tt
+
+-- all that was sent was passed on, and nothing was sent where there is a file
+pub passed_on : {W : Type 0} (sent : W → Option (List ℕ)) (status : ℕ) (failed passed : Bool) (w w' : W) (file : Option (Vec ℕ Global))
+    → (IsSome file → w' ≡ w) → (failed ≡ false → IsNone file → passed ≡ true) → IsPassedOn status failed passed (sent w) (sent w')
+passed_on sent status failed passed w w' (Some file) silent told = λ other fine. inr (ap sent (silent refl))
+passed_on sent status failed passed w w' None silent told = λ other fine. inl (told fine refl)
 
 pub any : (file : Option (Vec ℕ Global)) → IfSome file (λ f. f ≡ f)
 any (Some file) = refl

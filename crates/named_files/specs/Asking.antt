@@ -1,11 +1,11 @@
 -- What the system was asked to do with the files that the command line names, one step after another.
-use Rattle.std.specs.Prelude.{◌≡◌, ◌⊎◌, ◌<◌, ℕ, List, [], ◌∷◌, ◌++◌, map, Option, Some, None, Result, Ok, Err, refl}
+use Rattle.std.specs.Prelude.{◌≡◌, ◌⊎◌, ◌<◌, ℕ, List, [], ◌∷◌, ◌++◌, map, Bool, true, false, Option, Some, None, Result, Ok, Err, refl}
 use Rattle.std.specs.Borrow.{Bor}
 use Rattle.std.specs.Coded.{Coded, code_by, coded×, coded_ℕ, coded_list}
 use Rattle.named_files.specs.contracts.step_log.Deed as deed
 use Rattle.named_files.specs.declared.step_log.Asked as asked
 use Rattle.named_files.specs.declared.step_log.Deed.{Deed}
-use Rattle.named_files.specs.declared.step_log.Deed.TheVariants.{Open}
+use Rattle.named_files.specs.declared.step_log.Deed.TheVariants.{Discard}
 
 -- what was to be done, and the names of the files or options that it was about
 pub record Step : Type 0 where
@@ -14,10 +14,6 @@ pub record Step : Type 0 where
 
 abbrev pub step : Deed → List (List ℕ) → Step
 step deed names = record { deed = deed; names = names }
-
--- files are opened
-abbrev pub opens : List (List ℕ) → List Step
-opens names = map (λ name. step Open (name ∷ [])) names
 
 -- the name that is given, if one is
 abbrev pub given : Option (Bor (List ℕ)) → List (List ℕ)
@@ -51,6 +47,11 @@ Answers s (Err status) old new = Refused s status old new
 abbrev pub AnswersAll : {T : Type 0} → List Step → Result T ℕ → (old new : List Answered) → Type 0
 AnswersAll steps (Ok value) old new = Asks steps 0 old new
 AnswersAll steps (Err status) old new = (0 < status) × Asks steps status old new
+
+-- the file of a trace is removed, if it was made for a run of which nothing came
+abbrev pub discards : (trace : List ℕ) → (unused : Bool) → List Step
+discards trace true = step Discard (trace ∷ []) ∷ []
+discards trace false = []
 
 abbrev pub answer : {T : Type 0} → Result T ℕ → ℕ
 answer (Ok value) = 0

@@ -1,8 +1,9 @@
--- What a subcommand did with the files that it was given by name, and what it printed.
-use Rattle.std.specs.Prelude.{◌≡◌, ◌⊎◌, ◌<◌, ℕ, List, [], ◌∷◌, ◌++◌, Option, Result, Ok, Err, Vec}
+-- What a subcommand did with the files that it was given by name, and what it sent.
+use Rattle.std.specs.Prelude.{◌≡◌, ◌≢◌, ◌⊎◌, ◌<◌, ℕ, List, [], ◌∷◌, ◌++◌, Bool, true, false, Option, Result, Ok, Err, Vec}
 use Rattle.std.specs.declared.alloc.Global.{Global}
 use Rattle.named_files.specs.Asking.{Answered, Asks, Step, answered, step}
 use Rattle.named_files.specs.FileBytes.{FileBytes, FileLogs}
+use Rattle.named_files.specs.Uses.{Uses}
 use Rattle.named_files.specs.declared.step_log.Deed.TheVariants.{Write}
 
 -- what the system was asked, and the files that it read and wrote whole for that
@@ -13,29 +14,34 @@ pub record SystemLog : Type 0 where
 abbrev pub system_log : List Answered → FileLogs → SystemLog
 system_log asked files = record { asked = asked; files = files }
 
--- what was done so far: what the system was asked and answered, the files that were read whole, those that were written whole, and the
--- bytes that were printed
+-- what was done so far: what the system was asked and answered, the files that were read whole, those that were written whole, what was
+-- handed back of that which was opened, and the bytes that were sent to standard output
 pub record Done : Type 0 where
   pub asked : List Answered
   pub read : List FileBytes
   pub written : List FileBytes
-  pub printed : Option (List ℕ)
+  pub used : Uses
+  pub sent : Option (List ℕ)
 
-abbrev pub done : SystemLog → (printed : Option (List ℕ)) → Done
-done log printed = record { asked = log.asked; read = log.files.read; written = log.files.written; printed = printed }
+abbrev pub done : SystemLog → (sent : Option (List ℕ)) → Done
+done log sent = record { asked = log.asked; read = log.files.read; written = log.files.written; used = log.files.used; sent = sent }
 
 -- the status, whether the subcommand could begin or not
 abbrev pub status_of : Result ℕ ℕ → ℕ
 status_of (Ok status) = status
 status_of (Err status) = status
 
--- a subcommand that takes these steps could not begin: the system refused one of them, with this status. It printed nothing by itself,
--- and wrote no file.
+-- a subcommand that takes these steps could not begin: the system refused one of them, with this status, and printed why. The subcommand
+-- sent nothing, and wrote no file.
 pub record Refuses (steps : List Step) (status : ℕ) (old new : Done) : Type 0 where
   pub above_0 : 0 < status
   pub asks : Asks steps status old.asked new.asked
-  pub silent : new.printed ≡ old.printed
+  pub silent : new.sent ≡ old.sent
   pub unwritten : new.written ≡ old.written
+
+-- with every status but that of an end that failed, all that was sent was passed on, if the output did not fail
+abbrev pub IsPassedOn : (status : ℕ) → (failed passed : Bool) → (old new : Option (List ℕ)) → Type 0
+IsPassedOn status failed passed old new = status ≢ 5 → failed ≡ false → (passed ≡ true) ⊎ (new ≡ old)
 
 -- just this file was read
 abbrev pub Reads : (name bytes : List ℕ) → (old new : Done) → Type 0

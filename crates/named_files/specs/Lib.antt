@@ -2,3 +2,4 @@ pub mod FileBytes
 pub mod Done
 pub mod Asking
 pub mod Trying
+pub mod Uses

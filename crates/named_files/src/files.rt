@@ -4,37 +4,42 @@ ghost use Rattle.std.specs.Prelude.{◌≡◌, [], IfSome, IsNone};
 ghost use Rattle.named_files.specs.Asking as asking;
 ghost use Rattle.named_files.specs.FileBytes.{file_logs};
 ghost use Rattle.named_files.specs.Done.{IsWrittenOr, system_log};
+ghost use Rattle.named_files.specs.Uses.{unused};
 
 use crate::file_log::{FileLog, NamedBytes};
 use crate::step_log::{Asked, Deed, StepLog};
+use crate::use_log::{KeysUse, Opened, TraceUse, UseLog};
 use crate::{keeping, opening, places, refusals, streams};
 use block_buffers::{BLOCK_SIZE, Device};
 use file_access::{FileDevice, TraceFile};
+use inner_interpreter::{Input, Output, Reading, Writing};
 use std::alloc::Global;
 use std::fmt::Display;
 use std::fs;
 use std::fs::File;
-use std::io::{BufReader, BufWriter, IsTerminal, Read, Stdin, Write};
+use std::io::{BufReader, BufWriter, IsTerminal, Stdin};
 
 /// The files of the system, by the names that the command line has. Where one can't be used as it is named that is printed, and the
-/// program's status, which is not 0, is the error. Each thing that it is asked to do is noted with the answer.
+/// program's status, which is not 0, is the error. Each thing that it is asked to do is noted with the answer. What it opens is handed
+/// back in the end, and noted with all that became of it: whoever opened one file of blocks and hands back one has handed back that.
 pub trait Files {
-    ghost use Rattle.std.specs.Prelude.{◌≡◌, ◌++◌, ◌∷◌, [], IfOk};
-    ghost use Rattle.named_files.specs.Asking.{Answers, AnswersAll, Refused, answered, given, opens, step};
+    ghost use Rattle.std.specs.Prelude.{◌≡◌, ◌∷◌, [], Some, false, IfOk};
+    ghost use Rattle.named_files.specs.Asking.{Answers, Asks, Refused, discards, given, step};
     ghost use Rattle.named_files.specs.Done.{SystemLog};
-    ghost use Rattle.named_files.specs.FileBytes.{reading, reading_old, writing};
+    ghost use Rattle.named_files.specs.FileBytes.{opening, reading, reading_old, writing};
+    ghost use Rattle.named_files.specs.Uses.{with_blocks, with_keys, with_trace};
     ghost use Rattle.named_files.specs.declared.step_log.Deed.TheVariants as deed;
 
-    /// A file of blocks that is open.
+    /// Blocks that are open: those of a file, or none.
     type Blocks: Device + Drop;
 
     /// Where typed bytes come from.
-    type Keys: Read + Drop;
+    type Keys: Input + Drop;
 
     /// The file of a trace that is open.
-    type Trace: Write + Drop;
+    type Trace: Output + Drop;
 
-    /// What was asked so far, in order, with the answers, and the files that were read and written whole.
+    /// What was asked so far, in order, with the answers; the files that were read and written whole; and what was handed back.
     ghost log: { Self → SystemLog };
 
     /// Where memory comes from.
@@ -75,37 +80,58 @@ pub trait Files {
         ensures asked { Answers (step deed.KeepImage (image.now ∷ [])) result (log self.old).asked (log self.new).asked }
         ensures files { (log self.new).files ≡ (log self.old).files };
 
-    /// A file that is to be replaced, held against other runs for as long as it is open; none where it doesn't exist.
-    fn held(&mut self, name: &str) -> Result<Option<File>, u8>
+    /// Holds a file that is to be replaced against other runs, to the end of the program. One that doesn't exist isn't held.
+    fn hold(&mut self, name: &str) -> Result<(), u8>
         ensures asked { Answers (step deed.Hold (name.now ∷ [])) result (log self.old).asked (log self.new).asked }
         ensures files { (log self.new).files ≡ (log self.old).files };
 
     /// The blocks of a file that is only read.
     fn read_alone(&mut self, blocks: &str) -> Result<Self::Blocks, u8>
-        ensures asked { Answers (step deed.Open (blocks.now ∷ [])) result (log self.old).asked (log self.new).asked }
-        ensures files { (log self.new).files ≡ (log self.old).files }
-        ensures fresh { IfOk result (λ device. Self.Blocks.calls device ≡ []) };
+        ensures asked { Answers (step deed.OpenToRead (blocks.now ∷ [])) result (log self.old).asked (log self.new).asked }
+        ensures files { (log self.new).files ≡ opening Self.Blocks.block_count result (log self.old).files }
+        ensures fresh { IfOk result (λ blocks. Self.Blocks.calls blocks ≡ []) };
 
-    /// The blocks of a run: those of the file, or none where it has no file.
+    /// The blocks of a run: those of the file, which is held against other runs, or none where it has no file.
     fn run_blocks(&mut self, blocks: Option<&str>) -> Result<Self::Blocks, u8>
-        ensures asked { AnswersAll (opens (given blocks.entry)) result (log self.old).asked (log self.new).asked }
-        ensures files { (log self.new).files ≡ (log self.old).files }
-        ensures fresh { IfOk result (λ device. Self.Blocks.calls device ≡ []) };
+        ensures asked { Answers (step deed.Open (given blocks.entry)) result (log self.old).asked (log self.new).asked }
+        ensures files { (log self.new).files ≡ opening Self.Blocks.block_count result (log self.old).files }
+        ensures fresh { IfOk result (λ blocks. Self.Blocks.calls blocks ≡ []) };
+
+    /// The blocks of a run that is traced, and the file of its trace, which is emptied where the run begins.
+    fn run_traced(
+        &mut self,
+        blocks: Option<&str>,
+        trace: &str,
+    ) -> Result<(Self::Blocks, Self::Trace), u8>
+        ensures asked { Answers (step deed.OpenTraced (trace.now ∷ given blocks.entry)) result (log self.old).asked (log self.new).asked }
+        ensures files { (log self.new).files ≡ opening (λ ends. Self.Blocks.block_count ends.0) result (log self.old).files }
+        ensures fresh { IfOk result (λ ends. Self.Blocks.calls ends.0 ≡ []) }
+        ensures empty { IfOk result (λ ends. (Self.Trace.sent ends.1 ≡ Some []) × (Self.Trace.failed ends.1 ≡ false)) };
 
     /// Standard input.
     fn input(&mut self) -> Result<Self::Keys, u8>
         ensures asked { Answers (step deed.Listen []) result (log self.old).asked (log self.new).asked }
-        ensures files { (log self.new).files ≡ (log self.old).files };
+        ensures files { (log self.new).files ≡ (log self.old).files }
+        ensures fresh { IfOk result (λ keys. (Self.Keys.reads keys ≡ []) × (Self.Keys.failed keys ≡ false)) };
 
-    /// The file of a trace, which is emptied where the run begins.
-    fn trace(&mut self, name: &str) -> Result<Self::Trace, u8>
-        ensures asked { Answers (step deed.Open (name.now ∷ [])) result (log self.old).asked (log self.new).asked }
-        ensures files { (log self.new).files ≡ (log self.old).files };
+    /// Takes back blocks that it opened, and closes them.
+    fn close_blocks(&mut self, blocks: Self::Blocks)
+        ensures asked { (log self.new).asked ≡ (log self.old).asked }
+        ensures used { (log self.new).files ≡ record ((log self.old).files)
+            { used = with_blocks (log self.old).files.used (Self.Blocks.calls blocks) } };
 
-    /// Removes the new file of a trace of which nothing came.
-    fn remove_trace(&mut self, name: &str)
-        ensures asked { (log self.new).asked ≡ (log self.old).asked ++ answered (step deed.Remove (name.now ∷ [])) 0 ∷ [] }
-        ensures files { (log self.new).files ≡ (log self.old).files };
+    /// Takes back standard input.
+    fn close_input(&mut self, keys: Self::Keys)
+        ensures asked { (log self.new).asked ≡ (log self.old).asked }
+        ensures used { (log self.new).files ≡ record ((log self.old).files)
+            { used = with_keys (log self.old).files.used (Self.Keys.reads keys) (Self.Keys.failed keys) } };
+
+    /// Takes back the trace of this name, and closes it. If nothing came of the run, the file is removed that was made for it; one that
+    /// existed before stays.
+    fn close_trace(&mut self, name: &str, trace: Self::Trace, is_unused: bool)
+        ensures asked { Asks (discards name.now is_unused) 0 (log self.old).asked (log self.new).asked }
+        ensures used { (log self.new).files ≡ record ((log self.old).files)
+            { used = with_trace (log self.old).files.used (Self.Trace.sent trace) (Self.Trace.passed trace) (Self.Trace.failed trace) } };
 
     /// The bytes of an image's file.
     fn image_bytes(&mut self, image: &str) -> Result<Vec<u8>, u8>
@@ -126,9 +152,6 @@ pub trait Files {
     fn old_file(&mut self, name: &str) -> Result<Option<Vec<u8>>, u8>
         ensures asked { Answers (step deed.Read (name.now ∷ [])) result (log self.old).asked (log self.new).asked }
         ensures read { (log self.new).files ≡ reading_old name.now result (log self.old).files };
-
-    /// Whether it is known that no file of this name exists.
-    fn is_absent(&self, name: &str) -> bool;
 
     /// Writes a file whole, or makes it; where that fails, it is as it was.
     fn write(&mut self, name: &str, bytes: &[u8]) -> Result<(), u8>
@@ -158,6 +181,11 @@ pub struct SystemFiles<'a> {
     asked: StepLog,
     read: FileLog,
     written: FileLog,
+    used: UseLog,
+    /// A file that is to be replaced.
+    held: Option<File>,
+    /// Whether the file of the trace was made for the run.
+    is_trace_new: bool,
 }
 
 /// The status of an answer: 0 where what was asked was done.
@@ -181,20 +209,24 @@ impl<'a> SystemFiles<'a> {
 
     /// Nothing was asked yet.
     pub fn new(rt: &'a HostRuntime) -> SystemFiles<'a>
-        ensures { ⟦<SystemFiles<'a> as Files>⟧.log result ≡ system_log [] (file_logs [] []) }
+        ensures { ⟦<SystemFiles<'a> as Files>⟧.log result ≡ system_log [] (file_logs [] [] unused) }
     {
         SystemFiles {
             rt,
             asked: StepLog::new(),
             read: FileLog::new(),
             written: FileLog::new(),
+            used: UseLog::new(),
+            held: None,
+            is_trace_new: false,
         }
     }
 
     /// Notes what was asked, and the status of the answer.
     fn note(&mut self, deed: Deed, names: &[&str], status: u8)
         ensures asked { self.new.asked.asked ≡ self.old.asked.asked ++ answered (step deed (map (λ name. name.now) names.now)) status ∷ [] }
-        ensures rest { (self.new.read ≡ self.old.read) × (self.new.written ≡ self.old.written) × (self.new.rt ≡ self.old.rt) }
+        ensures rest { (self.new.read ≡ self.old.read) × (self.new.written ≡ self.old.written) × (self.new.used ≡ self.old.used)
+            × (self.new.rt ≡ self.old.rt) × (self.new.is_trace_new ≡ self.old.is_trace_new) }
     {
         self.asked = self.asked.then(&Asked {
             deed,
@@ -210,11 +242,12 @@ impl<'a> Files for SystemFiles<'a> {
 
     type Blocks = FileDevice;
 
-    type Keys = BufReader<Stdin>;
+    type Keys = Reading<BufReader<Stdin>>;
 
-    type Trace = BufWriter<TraceFile>;
+    type Trace = Writing<BufWriter<TraceFile>>;
 
-    ghost log = { λ s. system_log s.asked.asked (file_logs s.read.files s.written.files) };
+    ghost log = { λ s. system_log s.asked.asked (file_logs s.read.files s.written.files
+        (record { opened = s.used.opened; blocks = s.used.blocks; keys = s.used.keys; traces = s.used.traces })) };
 
     fn alloc(&self) -> Global {
         self.rt.alloc()
@@ -262,43 +295,84 @@ impl<'a> Files for SystemFiles<'a> {
         answer
     }
 
-    fn held(&mut self, name: &str) -> Result<Option<File>, u8> {
+    fn hold(&mut self, name: &str) -> Result<(), u8> {
         let answer = opening::held(self.rt, name);
         self.note(Deed::Hold, &[name], status_of(&answer));
-        answer
+        self.held = answer?;
+        Ok(())
     }
 
     fn read_alone(&mut self, blocks: &str) -> Result<FileDevice, u8> {
         let answer = opening::read_alone(self.rt, blocks);
-        self.note(Deed::Open, &[blocks], status_of(&answer));
-        answer
+        self.note(Deed::OpenToRead, &[blocks], status_of(&answer));
+        let device = answer?;
+        self.used = self.used.with_opened(&Opened {
+            count: device.count(),
+        });
+        Ok(device)
     }
 
-    #[tactic(auto, unfolding(crate::specs::Asking::Asks))]
     fn run_blocks(&mut self, blocks: Option<&str>) -> Result<FileDevice, u8> {
-        let Some(name) = blocks else {
-            return Ok(FileDevice::without_file());
-        };
-        let answer = opening::run_blocks(self.rt, name);
-        self.note(Deed::Open, &[name], status_of(&answer));
-        answer
+        let answer = opening::run_blocks(self.rt, blocks);
+        match blocks {
+            Some(name) => self.note(Deed::Open, &[name], status_of(&answer)),
+            None => self.note(Deed::Open, &[], status_of(&answer)),
+        }
+        let device = answer?;
+        self.used = self.used.with_opened(&Opened {
+            count: device.count(),
+        });
+        Ok(device)
     }
 
-    fn input(&mut self) -> Result<BufReader<Stdin>, u8> {
+    fn run_traced(
+        &mut self,
+        blocks: Option<&str>,
+        trace: &str,
+    ) -> Result<(FileDevice, Writing<BufWriter<TraceFile>>), u8> {
+        self.is_trace_new = matches!(fs::exists(self.rt, trace), Ok(false));
+        let answer = opening::run_traced(self.rt, blocks, trace);
+        match blocks {
+            Some(name) => self.note(Deed::OpenTraced, &[trace, name], status_of(&answer)),
+            None => self.note(Deed::OpenTraced, &[trace], status_of(&answer)),
+        }
+        let (device, lines) = answer?;
+        self.used = self.used.with_opened(&Opened {
+            count: device.count(),
+        });
+        Ok((device, lines))
+    }
+
+    fn input(&mut self) -> Result<Reading<BufReader<Stdin>>, u8> {
         let answer = streams::standard_input(self.rt);
         self.note(Deed::Listen, &[], status_of(&answer));
         answer
     }
 
-    fn trace(&mut self, name: &str) -> Result<BufWriter<TraceFile>, u8> {
-        let answer = streams::trace_file(self.rt, name);
-        self.note(Deed::Open, &[name], status_of(&answer));
-        answer
+    fn close_blocks(&mut self, blocks: FileDevice) {
+        self.used = self.used.with_blocks(blocks.log());
     }
 
-    fn remove_trace(&mut self, name: &str) {
-        let _gone = fs::remove_file(self.rt, name);
-        self.note(Deed::Remove, &[name], 0);
+    fn close_input(&mut self, keys: Reading<BufReader<Stdin>>) {
+        self.used = self.used.with_keys(&KeysUse {
+            reads: keys.log(),
+            failed: keys.has_failed(),
+        });
+    }
+
+    #[tactic(auto, unfolding(crate::specs::Asking::Asks))]
+    fn close_trace(&mut self, name: &str, trace: Writing<BufWriter<TraceFile>>, is_unused: bool) {
+        self.used = self.used.with_trace(&TraceUse {
+            lines: trace.log(),
+            failed: trace.has_failed(),
+        });
+        drop(trace);
+        if is_unused {
+            if self.is_trace_new {
+                let _gone = fs::remove_file(self.rt, name);
+            }
+            self.note(Deed::Discard, &[name], 0);
+        }
     }
 
     fn image_bytes(&mut self, image: &str) -> Result<Vec<u8>, u8> {
@@ -345,10 +419,6 @@ impl<'a> Files for SystemFiles<'a> {
             });
         }
         Ok(file)
-    }
-
-    fn is_absent(&self, name: &str) -> bool {
-        matches!(fs::exists(self.rt, name), Ok(false))
     }
 
     fn write(&mut self, name: &str, bytes: &[u8]) -> Result<(), u8> {

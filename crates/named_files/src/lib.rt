@@ -10,6 +10,7 @@ mod places;
 mod refusals;
 mod step_log;
 mod streams;
+mod use_log;
 
 pub use file_log::{FileLog, NamedBytes};
 pub use files::{Files, SystemFiles, write_made};
@@ -17,3 +18,4 @@ pub use places::{blocks_of, read_screen, word_before, word_behind};
 pub use refusals::out_of_memory;
 pub use step_log::Deed;
 pub use streams::standard_output;
+pub use use_log::UseLog;

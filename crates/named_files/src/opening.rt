@@ -1,15 +1,19 @@
 //! Files that are opened, read and written as they are named.
 
-ghost use Rattle.std.specs.Prelude.{◌≡◌, ◌<◌, [], IfErr, IfOk};
+ghost use Rattle.std.specs.Prelude.{◌≡◌, ◌<◌, [], Some, false, IfErr, IfOk};
 
 use crate::keeping::keep_blocks;
 use crate::refusals::{cannot_open, out_of_memory, refuse_blocks, refuse_file};
+use crate::streams::trace_file;
 use block_buffers::Device;
 use file_access::{
-    FileDevice, hold, open_device, open_to_read, read_blocks, read_file, read_image, write_file,
+    FileDevice, TraceFile, hold, open_device, open_to_read, read_blocks, read_file, read_image,
+    write_file,
 };
+use inner_interpreter::{Output, Writing};
+use std::fs;
 use std::fs::File;
-use std::{fs, io};
+use std::io::BufWriter;
 
 /// The bytes of an image's file. Where there are none it is printed why, and the status is the error.
 pub fn image_bytes(rt: &HostRuntime, image: &str) -> Result<Vec<u8>, u8>
@@ -22,16 +26,35 @@ pub fn image_bytes(rt: &HostRuntime, image: &str) -> Result<Vec<u8>, u8>
     }
 }
 
-/// The blocks of a run's file. Where it can't be opened that is printed, and the status is the error.
-pub fn run_blocks(rt: &HostRuntime, blocks: &str) -> Result<FileDevice, u8>
+/// The blocks of a run's file, or none where it has no file. Where it can't be opened that is printed, and the status is the error.
+pub fn run_blocks(rt: &HostRuntime, blocks: Option<&str>) -> Result<FileDevice, u8>
     ensures uncalled { IfOk result (λ device. ⟦<FileDevice as Device>⟧.calls device ≡ []) }
     ensures refused { IfErr result (λ status. 0 < status) }
 {
+    let Some(blocks) = blocks else {
+        return Ok(FileDevice::without_file());
+    };
     keep_blocks(rt, blocks)?;
     match open_device(rt, blocks) {
         Ok(device) => Ok(device),
         Err(why) => Err(refuse_blocks(rt, blocks, why)),
     }
+}
+
+/// The blocks of a run that is traced, and the file of its trace. Where one can't be opened that is printed, and the status is the error.
+pub fn run_traced(
+    rt: &HostRuntime,
+    blocks: Option<&str>,
+    trace: &str,
+) -> Result<(FileDevice, Writing<BufWriter<TraceFile>>), u8>
+    ensures uncalled { IfOk result (λ ends. ⟦<FileDevice as Device>⟧.calls ends.0 ≡ []) }
+    ensures empty { IfOk result (λ ends. (⟦<Writing<BufWriter<TraceFile>> as Output>⟧.sent ends.1 ≡ Some [])
+        × (⟦<Writing<BufWriter<TraceFile>> as Output>⟧.failed ends.1 ≡ false)) }
+    ensures refused { IfErr result (λ status. 0 < status) }
+{
+    let device = run_blocks(rt, blocks)?;
+    let lines = trace_file(rt, trace)?;
+    Ok((device, lines))
 }
 
 /// The file of blocks that is only read. Where it can't be opened that is printed, and the status is the error.
@@ -86,16 +109,6 @@ pub fn held(rt: &HostRuntime, name: &str) -> Result<Option<File>, u8>
     match hold(rt, name) {
         Ok(file) => Ok(file),
         Err(why) => Err(refuse_blocks(rt, name, why)),
-    }
-}
-
-/// Whether a file of this name exists. Where that can't be found out it is printed, and the status is the error.
-pub fn exists(rt: &HostRuntime, name: &str) -> Result<bool, u8>
-    ensures { IfErr result (λ status. 0 < status) }
-{
-    match fs::exists(rt, name) {
-        Ok(exists) => Ok(exists),
-        Err(error) => Err(refuse_file(rt, &error, name)),
     }
 }
 

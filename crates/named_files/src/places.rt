@@ -95,6 +95,7 @@ pub fn read_screen<F: Files, D: Device>(
 /// The blocks of a device, each of which is read once, to try a load on. `None`: one can't be read, or memory ran out.
 pub fn blocks_of<D: Device>(alloc: Global, device: &mut D) -> Option<MemoryDevice>
     ensures kept { KeepsBlocks (D.disk device.old) (D.disk device.new) }
+    ensures counted { D.block_count device.new ≡ D.block_count device.old }
     ensures read { IfSome result (λ _. AreReadFrom 0 (D.block_count device.old) (D.block_count device.old)
         (D.calls device.old) (D.calls device.new)) }
     ensures only_reads { OnlyReads (D.calls device.old) (D.calls device.new) }

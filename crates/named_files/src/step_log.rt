@@ -25,10 +25,14 @@ pub enum Deed {
     Read,
     /// To write a file whole.
     Write,
-    /// To open a file, to be read or written piece by piece.
+    /// To open the blocks of a run: those of a file, to be read and written, or none where no file is named.
     Open,
-    /// To remove a file.
-    Remove,
+    /// To open a file of blocks, to be read alone.
+    OpenToRead,
+    /// To open a trace, and the blocks of the run that is traced, if a file of them is named.
+    OpenTraced,
+    /// To remove the file of a trace, if it was made for the run.
+    Discard,
     /// To open standard input.
     Listen,
     /// To take something as it is given.

@@ -3,3 +3,4 @@ mod Working
 mod Storing
 mod Sitting
 mod Over
+mod Ran

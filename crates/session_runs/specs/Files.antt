@@ -2,8 +2,9 @@
 use Rattle.std.specs.Prelude.{◌≡◌, ◌⊎◌, ℕ, List, [], ◌∷◌, ◌++◌, Option, Bool, false, is_some}
 use Rattle.block_buffers.specs.DeviceCalls.{DeviceCall}
 use Rattle.inner_interpreter.specs.Moves.{logs}
-use Rattle.named_files.specs.Asking.{Asks, Step, opens, step}
+use Rattle.named_files.specs.Asking.{Asks, Step, step}
 use Rattle.named_files.specs.Done.{Done, Reads, Refuses}
+use Rattle.named_files.specs.Uses.{with_all, with_keys}
 use Rattle.named_files.specs.declared.step_log.Deed.TheVariants as deed
 use Rattle.session_runs.specs.Sitting.{HasSession, HostLog, Wanted, host_log}
 use Rattle.session_runs.specs.declared.runs.Session.{Session}
@@ -23,14 +24,15 @@ pub record IsWanting (status : ℕ) (failed : Bool) (keys : List (Option ℕ)) (
   pub printed : failed ≡ false → PrintsOutOfMemory status old new
 
 abbrev pub run_steps : (image : List ℕ) → (blocks : List (List ℕ)) → List Step
-run_steps image blocks = step deed.Read (image ∷ []) ∷ (opens blocks ++ step deed.Listen [] ∷ [])
+run_steps image blocks = step deed.Read (image ∷ []) ∷ step deed.Listen [] ∷ step deed.Open blocks ∷ []
 
--- `run` could not begin: a step was refused, or memory ran out after them
+-- `run` could not begin: a step was refused, or memory ran out after the image was read
 abbrev pub RefusesRun : (image : List ℕ) → (blocks : List (List ℕ)) → (status : ℕ) → (old new : Done) → Type 0
-RefusesRun image blocks status old new = Refuses (run_steps image blocks ++ step deed.Allocate [] ∷ []) status old new
+RefusesRun image blocks status old new =
+    Refuses (run_steps image blocks) status old new ⊎ Refuses (step deed.Read (image ∷ []) ∷ step deed.Allocate [] ∷ []) status old new
 
--- `run IMAGE BLOCKS`, once these steps were taken: the image is run as a session, over the keys that standard input gave and the calls that
--- the blocks were given
+-- `run IMAGE BLOCKS`, once these steps were taken: the image is run as a session, over the keys that standard input gave before it was handed
+-- back, and the calls that the blocks were given before they were
 pub record Runs (image : List ℕ) (blocks : List (List ℕ)) (wanted : Wanted) (status : ℕ) (failed : Bool) (old new : Done) : Type 0 where
   pub bytes : List ℕ
   pub asks : Asks (run_steps image blocks) 0 old.asked new.asked
@@ -40,8 +42,9 @@ pub record Runs (image : List ℕ) (blocks : List (List ℕ)) (wanted : Wanted) 
   pub keys : List (Option ℕ)
   pub unread : Bool
   pub calls : List DeviceCall
+  pub used : new.used ≡ with_keys (with_all old.used count calls) keys unread
   pub host : HostLog
   pub moved : OfImageFile bytes (λ file.
-      HasSession file count wanted (logs [] old.printed []) (logs calls new.printed keys) (host_log 0 false []) host unread failed status
-      ⊎ IsWanting status failed keys calls old.printed new.printed)
-  pub refused : failed ≡ false → PrintsNoImage bytes status old.printed new.printed
+      HasSession file count wanted (logs [] old.sent []) (logs calls new.sent keys) (host_log 0 false []) host unread failed status
+      ⊎ IsWanting status failed keys calls old.sent new.sent)
+  pub refused : failed ≡ false → PrintsNoImage bytes status old.sent new.sent

@@ -3,3 +3,4 @@ pub mod Interrupted
 pub mod Saving
 pub mod Sitting
 pub mod Files
+pub mod Running

@@ -3,6 +3,7 @@
 
 mod break_file;
 pub mod hosts;
+mod running;
 mod runs;
 mod saving;
 mod sessions;
@@ -10,6 +11,7 @@ mod slices;
 
 pub use break_file::BreakFile;
 pub use hosts::{SessionHost, Wish};
+pub use running::do_run;
 pub use runs::{Session, SessionFiles, run_image};
 pub use saving::{keep_blocks, save_blocks};
 pub use sessions::{Wanted, do_session};

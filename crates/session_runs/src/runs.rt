@@ -2,13 +2,13 @@
 
 ghost use Rattle.std.specs.Prelude.{◌≡◌, ◌⊎◌, [], false, true, IfErr, IfOk};
 ghost use Rattle.named_files.specs.Asking.{given};
-ghost use Rattle.named_files.specs.Done.{done, status_of};
+ghost use Rattle.named_files.specs.Done.{IsPassedOn, done, status_of};
 ghost use Rattle.session_runs.specs.Files.{RefusesRun, Runs, wanted_by};
 
 use crate::break_file::BreakFile;
 use crate::hosts::SessionHost;
 use crate::sessions::{Wanted, do_session};
-use inner_interpreter::{Output, Reading};
+use inner_interpreter::Output;
 use named_files::{Files, SystemFiles};
 
 /// How many ticks a slice has: less than a thousandth of a second of computing, and less than a second where each tick shows a byte at
@@ -68,14 +68,14 @@ pub fn run_image<F: SessionFiles, W: Output>(
     ensures ran { W.failed writer.old ≡ false → IfOk result (λ status. Runs image.now (given blocks.entry) (wanted_by limit session.entry) status (W.failed writer.new)
         (done (F.log files.old) (W.sent writer.old)) (done (F.log files.new) (W.sent writer.new))) }
     ensures cut { W.failed writer.old ≡ false → W.failed writer.new ≡ true → (status_of result ≡ 5) ⊎ (status_of result ≡ 1) }
-    ensures passed { IfOk result (λ _. W.failed writer.new ≡ false → W.passed writer.new ≡ true) }
+    ensures passed { IsPassedOn (status_of result) (W.failed writer.new) (W.passed writer.new) (W.sent writer.old) (W.sent writer.new) }
     ensures refused { IfErr result (λ status. RefusesRun image.now (given blocks.entry) status
         (done (F.log files.old) (W.sent writer.old)) (done (F.log files.new) (W.sent writer.new))) }
 {
     let bytes = files.image_bytes(image)?;
-    let mut device = files.run_blocks(blocks)?;
-    let mut reader = Reading::new(files.input()?);
     let mut host = files.host(session.break_file)?;
+    let mut reader = files.input()?;
+    let mut device = files.run_blocks(blocks)?;
     let wanted = Wanted {
         limit,
         slice: SLICE,
@@ -91,5 +91,7 @@ pub fn run_image<F: SessionFiles, W: Output>(
         writer,
         &mut host,
     );
+    files.close_input(reader);
+    files.close_blocks(device);
     Ok(ended.status)
 }

@@ -20,4 +20,5 @@ returns c =
     let s10 = joined _ line.run _ _ _ s9 c.in_ok-run_command.ensures c.in_ok-subcommand-10.ensures in
     let s11 = joined _ line.see _ _ _ s10 c.in_ok-see_command.ensures c.in_ok-subcommand-11.ensures in
     let s12 = joined _ line.debug _ _ _ s11 c.in_ok-debug_command.ensures c.in_ok-subcommand-12.ensures in
-    if_ok_then c.subcommand-13.result _ _ (λ d h. (joined _ line.view _ _ d s12 c.in_ok-view_command.ensures h).app) c.subcommand-13.ensures
+    let s13 = joined _ line.view _ _ _ s12 c.in_ok-view_command.ensures c.in_ok-subcommand-13.ensures in
+    if_ok_then c.subcommand-14.result _ _ (λ d h. (joined _ line.serve _ _ d s13 c.in_ok-serve_command.ensures h).app) c.subcommand-14.ensures

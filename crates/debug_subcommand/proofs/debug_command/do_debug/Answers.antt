@@ -1,5 +1,5 @@
 use Rattle.std.proofs.Common.{◌∙◌, inl, inr, rules, subst}
-use Rattle.debug_subcommand.proofs.Debugging.{cut_of, faulted_of, moved_of, of_file, ran_of, fault_of, printed_why, printed_want, told_of, unfinished_of}
+use Rattle.debug_subcommand.proofs.Debugging.{cut_of, faulted_of, moved_of, of_file, ran_of, fault_of, printed_why, printed_want, told_of, unfinished_of, unrun_passes}
 use Rattle.debug_subcommand.specs.Traced.{PrintsUntraced}
 use Rattle.debug_subcommand.proofs.debug_command.do_debug.Goals as goal
 
@@ -17,7 +17,7 @@ returns-in-Err-clause-debugged g c = record {
   lines = search rules;
   told = search rules;
   one = search rules;
-  passed = search rules;
+  passed = λ fine kept. (c.refuse_image.ensures.passed fine, λ other. unrun_passes c.refuse_image.ensures.status fine other);
   cut = search rules;
   faulted = search rules;
   unfinished = search rules;
@@ -38,7 +38,7 @@ returns-in_default-clause-debugged g c = record {
   lines = search rules;
   told = search rules;
   one = search rules;
-  passed = search rules;
+  passed = λ fine kept. (c.print_out_of_memory.ensures.passed fine, λ other. unrun_passes c.print_out_of_memory.ensures.status fine other);
   cut = search rules;
   faulted = search rules;
   unfinished = search rules;
@@ -61,7 +61,7 @@ returns-in-Ok-debug-clause-debugged g c =
       lines = search rules;
       told = told_of _ _ _ c.load-machine.ensures status c.in-Ok-debug.ensures.debugged;
       one = search rules;
-      passed = search rules;
+      passed = λ fine kept. let p = c.in-Ok-debug.ensures.debugged.run.passed fine kept in (p.0, λ other. p.1);
       cut = λ fine failed file f typed u disk k sent s. inl (cut_of file c.count.ensures.told (of_file c.load-machine.ensures (c.in-Ok.ensures.accepted file f) c.as_bytes-text.ensures.value c.in-Ok-debug.ensures.debugged) fine failed typed u disk k sent s);
       faulted = λ fine failed file f. faulted_of file c.count.ensures.told (of_file c.load-machine.ensures (c.in-Ok.ensures.accepted file f) c.as_bytes-text.ensures.value c.in-Ok-debug.ensures.debugged) fine failed;
       unfinished = λ fine failed file f. unfinished_of file c.count.ensures.told (of_file c.load-machine.ensures (c.in-Ok.ensures.accepted file f) c.as_bytes-text.ensures.value c.in-Ok-debug.ensures.debugged) fine failed;
@@ -86,7 +86,7 @@ returns-clause-debugged g c = record {
   lines = search rules;
   told = search rules;
   one = search rules;
-  passed = search rules;
+  passed = λ fine kept. (c.refuse_debug.ensures.passed fine, λ other. unrun_passes c.refuse_debug.ensures.status fine other);
   cut = search rules;
   faulted = search rules;
   unfinished = search rules;

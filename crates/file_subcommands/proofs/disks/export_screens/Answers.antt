@@ -1,5 +1,5 @@
 use Rattle.std.proofs.Common.{ap, rules, inr}
-use Rattle.named_files.proofs.Making.{a_file, made, no_file, of_err, read_so, refused, refuses, taken, takes}
+use Rattle.named_files.proofs.Making.{a_file, made, no_file, of_err, passed_on, read_so, refused, refuses, taken, takes}
 use Rattle.file_subcommands.specs.Filed.{wanted_of}
 use Rattle.file_subcommands.proofs.Making.{read_old}
 use Rattle.file_subcommands.proofs.disks.export_screens.Goals as goal
@@ -28,17 +28,17 @@ returns-in_err-screens-clause-refused g c =
     (inr (rw (← c.in_ok-layout.ensures.same, ← c.in_ok-layout.ensures.silent)
     (refuses _ _ _ _ _ c.in_err-screens.ensures.asked.0 (takes _ _ _ _ _ _ c.in_ok-keep_apart.ensures.asked (takes _ _ _ _ _ _ c.in_ok-keep_blocks.ensures.asked (takes _ _ _ _ _ _ c.in_ok-keep_blocks-2.ensures.asked (refused _ _ _ _ _ c.in_err-screens.ensures.asked)))) (search rules))))
 
-pub returns-in_err-_held-clause-refused : goal.returns-in_err-_held-clause-refused
-returns-in_err-_held-clause-refused g c =
-    of_err c.from_residual-in_err-_held.result _ _ c.from_residual-in_err-_held.ensures.1
+pub returns-in_err-hold-clause-refused : goal.returns-in_err-hold-clause-refused
+returns-in_err-hold-clause-refused g c =
+    of_err c.from_residual-in_err-hold.result _ _ c.from_residual-in_err-hold.ensures.1
     (inr (rw (← c.in_ok-layout.ensures.same, ← c.in_ok-layout.ensures.silent)
-    (refuses _ _ _ _ _ c.in_err-_held.ensures.asked.0 (takes _ _ _ _ _ _ c.in_ok-keep_apart.ensures.asked (takes _ _ _ _ _ _ c.in_ok-keep_blocks.ensures.asked (takes _ _ _ _ _ _ c.in_ok-keep_blocks-2.ensures.asked (takes _ _ _ _ _ _ c.in_ok-screens.ensures.asked (refused _ _ _ _ _ c.in_err-_held.ensures.asked))))) (search rules))))
+    (refuses _ _ _ _ _ c.in_err-hold.ensures.asked.0 (takes _ _ _ _ _ _ c.in_ok-keep_apart.ensures.asked (takes _ _ _ _ _ _ c.in_ok-keep_blocks.ensures.asked (takes _ _ _ _ _ _ c.in_ok-keep_blocks-2.ensures.asked (takes _ _ _ _ _ _ c.in_ok-screens.ensures.asked (refused _ _ _ _ _ c.in_err-hold.ensures.asked))))) (search rules))))
 
 pub returns-in_err-before-clause-refused : goal.returns-in_err-before-clause-refused
 returns-in_err-before-clause-refused g c =
     of_err c.from_residual-in_err-before.result _ _ c.from_residual-in_err-before.ensures.1
     (inr (rw (← c.in_ok-layout.ensures.same, ← c.in_ok-layout.ensures.silent)
-    (refuses _ _ _ _ _ c.in_err-before.ensures.asked.0 (takes _ _ _ _ _ _ c.in_ok-keep_apart.ensures.asked (takes _ _ _ _ _ _ c.in_ok-keep_blocks.ensures.asked (takes _ _ _ _ _ _ c.in_ok-keep_blocks-2.ensures.asked (takes _ _ _ _ _ _ c.in_ok-screens.ensures.asked (takes _ _ _ _ _ _ c.in_ok-_held.ensures.asked (refused _ _ _ _ _ c.in_err-before.ensures.asked)))))) (search rules))))
+    (refuses _ _ _ _ _ c.in_err-before.ensures.asked.0 (takes _ _ _ _ _ _ c.in_ok-keep_apart.ensures.asked (takes _ _ _ _ _ _ c.in_ok-keep_blocks.ensures.asked (takes _ _ _ _ _ _ c.in_ok-keep_blocks-2.ensures.asked (takes _ _ _ _ _ _ c.in_ok-screens.ensures.asked (takes _ _ _ _ _ _ c.in_ok-hold.ensures.asked (refused _ _ _ _ _ c.in_err-before.ensures.asked)))))) (search rules))))
 
 pub returns-clause-exported : goal.returns-clause-exported
 returns-clause-exported g c = rw (← c.in_ok-layout.ensures.same, ← c.in_ok-layout.ensures.silent) (record {
@@ -52,8 +52,12 @@ returns-clause-exported g c = rw (← c.in_ok-layout.ensures.same, ← c.in_ok-l
   makes = made _ _ c.exported-status.result.file _ _ _ _ _ _ _ _
       (takes _ _ _ _ _ _ c.in_ok-keep_apart.ensures.asked (takes _ _ _ _ _ _ c.in_ok-keep_blocks.ensures.asked
       (takes _ _ _ _ _ _ c.in_ok-keep_blocks-2.ensures.asked (takes _ _ _ _ _ _ c.in_ok-screens.ensures.asked
-      (takes _ _ _ _ _ _ c.in_ok-_held.ensures.asked (taken _ _ _ c.in_ok-before.ensures.asked))))))
+      (takes _ _ _ _ _ _ c.in_ok-hold.ensures.asked (taken _ _ _ c.in_ok-before.ensures.asked))))))
       (search rules) c.exported-status.ensures.file c.write_made.ensures.none c.write_made.ensures.made;
   silent = λ e. ap g.W.Output.sent (c.exported-status.ensures.silent (a_file _ _ _ c.exported-status.ensures.file e));
   refused = λ fine lt. c.exported-status.ensures.refused fine (no_file _ _ _ c.exported-status.ensures.file lt);
 })
+
+pub returns-clause-passed : goal.returns-clause-passed
+returns-clause-passed g c = rw (← c.in_ok-layout.ensures.silent)
+    (passed_on g.W.Output.sent _ _ _ _ _ c.exported-status.result.file c.exported-status.ensures.silent c.exported-status.ensures.passed)

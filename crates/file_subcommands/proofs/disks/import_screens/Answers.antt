@@ -1,5 +1,5 @@
 use Rattle.std.proofs.Common.{ap, rules, ◌∙◌, inr}
-use Rattle.named_files.proofs.Making.{a_file, made, no_file, of_err, read_so, refused, refuses, taken, takes}
+use Rattle.named_files.proofs.Making.{a_file, made, no_file, of_err, passed_on, read_so, refused, refuses, taken, takes}
 use Rattle.file_subcommands.proofs.disks.import_screens.Goals as goal
 
 pub returns-in_err-keep_absent-clause-refused : goal.returns-in_err-keep_absent-clause-refused
@@ -27,3 +27,7 @@ returns-clause-imported g c = rw (← c.in_ok-layout.ensures.same, ← c.in_ok-l
   silent = λ e. ap g.W.Output.sent (c.do_import-status.ensures.silent (a_file _ _ _ c.do_import-status.ensures.file e));
   refused = λ fine lt. c.do_import-status.ensures.refused fine (no_file _ _ _ c.do_import-status.ensures.file lt);
 })
+
+pub returns-clause-passed : goal.returns-clause-passed
+returns-clause-passed g c = rw (← c.in_ok-layout.ensures.silent)
+    (passed_on g.W.Output.sent _ _ _ _ _ c.do_import-status.result.file c.do_import-status.ensures.silent c.do_import-status.ensures.passed)

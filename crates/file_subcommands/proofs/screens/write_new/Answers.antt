@@ -1,5 +1,5 @@
 use Rattle.std.proofs.Common.{ap, arith, rules, ◌∙◌, inl, inr}
-use Rattle.named_files.proofs.Making.{a_file, made, no_file, of_err, read_so, refused, refuses, taken}
+use Rattle.named_files.proofs.Making.{a_file, made, no_file, of_err, passed_on, read_so, refused, refuses, taken}
 use Rattle.file_subcommands.proofs.screens.write_new.Goals as goal
 
 pub returns-then-count-gt-MOST_BLOCKS-clause-refused : goal.returns-then-count-gt-MOST_BLOCKS-clause-refused
@@ -21,3 +21,6 @@ returns-clause-made g c = record {
   makes = made _ _ c.do_new-status.result.file _ _ _ _ _ _ _ _ (taken _ _ _ c.in_ok-keep_absent.ensures.asked)
       (ap (λ f. f.written) c.keep_absent.ensures.files) c.do_new-status.ensures.file c.write_made.ensures.none c.write_made.ensures.made;
 }
+
+pub returns-clause-passed : goal.returns-clause-passed
+returns-clause-passed g c = passed_on g.W.Output.sent _ _ _ _ _ c.do_new-status.result.file c.do_new-status.ensures.silent c.do_new-status.ensures.passed

@@ -5,7 +5,7 @@ use Rattle.inner_interpreter.proofs.hosts.make_ticks.Given as goal
 
 -- the ticks so far were made
 abbrev pub invariant-loop-left : goal.invariant-loop-left
-invariant-loop-left g l = HasMade l.fn.machine (replicate l.fn.n Tick) l.machine (replicate l.left Tick) (g.W.Output.sent l.fn.writer) (g.W.Output.sent l.writer) l.fn.events.items l.events.items
+invariant-loop-left l = HasMade l.fn.machine (replicate l.fn.n Tick) l.machine (replicate l.left Tick) l.fn.shown.bytes l.shown.bytes l.fn.events.events l.events.events
 
 abbrev pub decreases-loop-left : goal.decreases-loop-left
-decreases-loop-left g l = l.left
+decreases-loop-left l = l.left

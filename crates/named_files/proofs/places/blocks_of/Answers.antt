@@ -17,3 +17,6 @@ loop-number-preserved g c =
 
 pub returns-in-Err-clause-only_reads : goal.returns-in-Err-clause-only_reads
 returns-in-Err-clause-only_reads g c = reads_more _ _ _ c.loop-number.invariant.only_reads c.block_in.ensures.only_reads
+
+pub returns-in-Err-clause-counted : goal.returns-in-Err-clause-counted
+returns-in-Err-clause-counted g c = c.block_in.ensures.counted ∙ c.loop-number.invariant.counted

@@ -1,0 +1,329 @@
+//! A request is obeyed.
+
+ghost use Rattle.std.specs.Prelude.{◌≡◌, ℕ, List, Option, true, false, OnOk, OnErr, IfOk};
+ghost use Rattle.block_buffers.specs.DeviceCalls.{DeviceCall};
+ghost use Rattle.std.specs.Io.KnownBytes.{Appends};
+ghost use Rattle.inner_interpreter.specs.Sent.{AppendsPart};
+ghost use Rattle.machine.specs.Answer.{seen};
+ghost use Rattle.inner_interpreter.specs.Ends.{Marks};
+ghost use Rattle.inner_interpreter.specs.Moves.{Answer as AnswerTurn, Enter as EnterTurn};
+ghost use Rattle.inner_interpreter.specs.Histories.{acted, takes};
+ghost use Rattle.serving.specs.Requests.{Extent, Find, Headers, Image, Look, Memory as MemoryWish, See, SetCell as SetCellWish, TraceLine, Unknown, Version, View, Words, wish_of};
+ghost use Rattle.serving.specs.Served.{HasObeyed, HasSaved, Looks, act_reply, move_refusal, moved, served};
+
+use crate::frames::{refuse, send_cell, send_memory, send_text, show};
+use crate::looking::{list_headers, refuse_headers, send_found, send_image, send_seen, send_view};
+use crate::replies::end;
+use crate::requests::{Command, VERSION};
+use crate::running::run;
+use crate::saving::save;
+use crate::state::send_state;
+use crate::tracing::{extent_of, refuse_extent, send_extent, trace_line, words};
+use block_buffers::Device;
+use inner_interpreter::{Act, Answer, EndFault, Event, Machine, Output, Refused, Shown};
+use see::see;
+use std::alloc::Global;
+
+/// Enters a word, which shows nothing.
+fn enter(machine: &mut Machine, word: u16) -> Result<Act, Refused>
+    ensures taken { IfOk result (λ act. (takes machine.old (EnterTurn word) ≡ true) ×
+        ((machine.new, act) ≡ acted machine.old (EnterTurn word))) }
+    ensures left { OnErr result ((takes machine.old (EnterTurn word) ≡ false) × (machine.new ≡ machine.old)) }
+{
+    match machine.enter(word) {
+        Ok(()) => Ok(Act {
+            shown: Shown::Nothing,
+            event: Event::Went,
+        }),
+        Err(refused) => Err(refused),
+    }
+}
+
+/// Answers the machine.
+fn answer(machine: &mut Machine, answer: Answer<'_>) -> Result<Act, Refused>
+    ensures taken { IfOk result (λ act. (takes machine.old (AnswerTurn (seen answer.entry)) ≡ true) ×
+        ((machine.new, act) ≡ acted machine.old (AnswerTurn (seen answer.entry)))) }
+    ensures left { OnErr result ((takes machine.old (AnswerTurn (seen answer.entry)) ≡ false) × (machine.new ≡ machine.old)) }
+{
+    machine.answer(answer)
+}
+
+/// Why a machine didn't take a move.
+#[tactic(auto, unfolding(crate::specs::Served::move_refusal))]
+fn refuse_move<W: Output>(machine: &Machine, writer: &mut W) -> Result<(), EndFault>
+    ensures ok { OnOk result (Appends (W.sent writer.old) (W.sent writer.new) (move_refusal machine.now)) }
+    ensures err { OnErr result (AppendsPart (W.sent writer.old) (W.sent writer.new) (move_refusal machine.now)) }
+    ensures mark { Marks (W.failed writer.old) (W.failed writer.new) result }
+{
+    match machine.halted() {
+        None => refuse(writer, 1),
+        Some(_) => refuse(writer, 2),
+    }
+}
+
+/// The reply to a move that was taken: what it showed, and what the machine does after it.
+#[tactic(auto, using(inner_interpreter::proofs::Sending::part_second, inner_interpreter::proofs::Sending::part_first, inner_interpreter::proofs::Sending::appends_both))]
+fn send_act<W: Output>(machine: &Machine, act: Act, writer: &mut W) -> Result<(), EndFault>
+    ensures ok { OnOk result (Appends (W.sent writer.old) (W.sent writer.new) (act_reply machine.now act)) }
+    ensures err { OnErr result (AppendsPart (W.sent writer.old) (W.sent writer.new) (act_reply machine.now act)) }
+    ensures mark { Marks (W.failed writer.old) (W.failed writer.new) result }
+{
+    match show(machine, writer, act.shown) {
+        Ok(()) => end(machine, writer, 0, act.event),
+        Err(fault) => Err(fault),
+    }
+}
+
+/// Enters a word.
+fn obey_entry<W: Output>(machine: &mut Machine, word: u16, writer: &mut W) -> Result<(), EndFault>
+    ensures ok { OnOk result (Looks (moved machine.old (EnterTurn word)) true machine.new (W.sent writer.old) (W.sent writer.new)) }
+    ensures err { OnErr result (Looks (moved machine.old (EnterTurn word)) false machine.new (W.sent writer.old) (W.sent writer.new)) }
+    ensures mark { Marks (W.failed writer.old) (W.failed writer.new) result }
+{
+    match enter(machine, word) {
+        Ok(act) => send_act(machine, act, writer),
+        Err(_) => refuse_move(machine, writer),
+    }
+}
+
+/// Answers what the machine asks.
+fn obey_answer<W: Output>(
+    machine: &mut Machine,
+    reply: Answer<'_>,
+    writer: &mut W,
+) -> Result<(), EndFault>
+    ensures ok { OnOk result (Looks (moved machine.old (AnswerTurn (seen reply.entry))) true machine.new (W.sent writer.old)
+        (W.sent writer.new)) }
+    ensures err { OnErr result (Looks (moved machine.old (AnswerTurn (seen reply.entry))) false machine.new (W.sent writer.old)
+        (W.sent writer.new)) }
+    ensures mark { Marks (W.failed writer.old) (W.failed writer.new) result }
+{
+    match answer(machine, reply) {
+        Ok(act) => send_act(machine, act, writer),
+        Err(_) => refuse_move(machine, writer),
+    }
+}
+
+/// Writes a cell.
+fn obey_cell<W: Output>(
+    machine: &mut Machine,
+    address: u16,
+    x: u16,
+    writer: &mut W,
+) -> Result<(), EndFault>
+    ensures ok { OnOk result (Looks (served machine.old (SetCellWish address x)) true machine.new (W.sent writer.old) (W.sent writer.new)) }
+    ensures err { OnErr result (Looks (served machine.old (SetCellWish address x)) false machine.new (W.sent writer.old) (W.sent writer.new)) }
+    ensures mark { Marks (W.failed writer.old) (W.failed writer.new) result }
+{
+    machine.set_cell(address, x);
+    end(machine, writer, 0, Event::Went)
+}
+
+/// What the machine has beside memory.
+fn obey_look<W: Output>(machine: &Machine, writer: &mut W) -> Result<(), EndFault>
+    ensures ok { OnOk result (Looks (served machine.now Look) true machine.now (W.sent writer.old) (W.sent writer.new)) }
+    ensures err { OnErr result (Looks (served machine.now Look) false machine.now (W.sent writer.old) (W.sent writer.new)) }
+    ensures mark { Marks (W.failed writer.old) (W.failed writer.new) result }
+{
+    send_state(machine, writer)
+}
+
+/// At most 2,048 bytes of memory.
+#[tactic(auto, unfolding(crate::specs::Replies::memory_reply))]
+fn obey_memory<W: Output>(
+    machine: &Machine,
+    at: u16,
+    n: u16,
+    writer: &mut W,
+) -> Result<(), EndFault>
+    ensures ok { OnOk result (Looks (served machine.now (MemoryWish at n)) true machine.now (W.sent writer.old) (W.sent writer.new)) }
+    ensures err { OnErr result (Looks (served machine.now (MemoryWish at n)) false machine.now (W.sent writer.old) (W.sent writer.new)) }
+    ensures mark { Marks (W.failed writer.old) (W.failed writer.new) result }
+{
+    if n > 2048 {
+        return refuse(writer, 3);
+    }
+    send_memory(machine, writer, b'm', at, n)
+}
+
+/// What a name means.
+fn obey_find<W: Output>(machine: &Machine, name: &[u8], writer: &mut W) -> Result<(), EndFault>
+    ensures ok { OnOk result (Looks (served machine.now (Find name.now)) true machine.now (W.sent writer.old) (W.sent writer.new)) }
+    ensures err { OnErr result (Looks (served machine.now (Find name.now)) false machine.now (W.sent writer.old) (W.sent writer.new)) }
+    ensures mark { Marks (W.failed writer.old) (W.failed writer.new) result }
+{
+    send_found(machine, name, writer)
+}
+
+/// Where a word was made.
+fn obey_view<W: Output>(machine: &Machine, name: &[u8], writer: &mut W) -> Result<(), EndFault>
+    ensures ok { OnOk result (Looks (served machine.now (View name.now)) true machine.now (W.sent writer.old) (W.sent writer.new)) }
+    ensures err { OnErr result (Looks (served machine.now (View name.now)) false machine.now (W.sent writer.old) (W.sent writer.new)) }
+    ensures mark { Marks (W.failed writer.old) (W.failed writer.new) result }
+{
+    send_view(machine, name, writer)
+}
+
+/// The image up to HERE.
+fn obey_image<W: Output>(machine: &Machine, entry: u16, writer: &mut W) -> Result<(), EndFault>
+    ensures ok { OnOk result (Looks (served machine.now (Image entry)) true machine.now (W.sent writer.old) (W.sent writer.new)) }
+    ensures err { OnErr result (Looks (served machine.now (Image entry)) false machine.now (W.sent writer.old) (W.sent writer.new)) }
+    ensures mark { Marks (W.failed writer.old) (W.failed writer.new) result }
+{
+    send_image(machine, entry, writer)
+}
+
+/// The version of the requests and their replies.
+fn obey_version<W: Output>(_machine: &Machine, writer: &mut W) -> Result<(), EndFault>
+    ensures ok { OnOk result (Looks (served _machine.now Version) true _machine.now (W.sent writer.old) (W.sent writer.new)) }
+    ensures err { OnErr result (Looks (served _machine.now Version) false _machine.now (W.sent writer.old) (W.sent writer.new)) }
+    ensures mark { Marks (W.failed writer.old) (W.failed writer.new) result }
+{
+    send_cell(writer, b'V', VERSION)
+}
+
+/// A frame that is no request.
+fn obey_unknown<W: Output>(_machine: &Machine, writer: &mut W) -> Result<(), EndFault>
+    ensures ok { OnOk result (Looks (served _machine.now Unknown) true _machine.now (W.sent writer.old) (W.sent writer.new)) }
+    ensures err { OnErr result (Looks (served _machine.now Unknown) false _machine.now (W.sent writer.old) (W.sent writer.new)) }
+    ensures mark { Marks (W.failed writer.old) (W.failed writer.new) result }
+{
+    refuse(writer, 3)
+}
+
+/// The colon word that a name means, as text.
+fn obey_see<W: Output>(
+    alloc: Global,
+    machine: &Machine,
+    name: &[u8],
+    writer: &mut W,
+) -> Result<(), EndFault>
+    ensures ok { (count : ℕ) (calls : List DeviceCall) → OnOk result (HasObeyed count (See name.now) true machine.now machine.now calls calls
+        (W.sent writer.old) (W.sent writer.new)) }
+    ensures err { (count : ℕ) (calls : List DeviceCall) → OnErr result (HasObeyed count (See name.now) false machine.now machine.now calls calls
+        (W.sent writer.old) (W.sent writer.new)) }
+    ensures mark { Marks (W.failed writer.old) (W.failed writer.new) result }
+{
+    let seen = see(alloc, machine.memory(), name);
+    send_seen(&seen, writer)
+}
+
+/// The link fields of all headers.
+#[tactic(auto, unfolding(crate::specs::Replies::headers_reply))]
+fn obey_headers<W: Output>(alloc: Global, machine: &Machine, writer: &mut W) -> Result<(), EndFault>
+    ensures ok { (count : ℕ) (calls : List DeviceCall) → OnOk result (HasObeyed count Headers true machine.now machine.now calls calls
+        (W.sent writer.old) (W.sent writer.new)) }
+    ensures err { (count : ℕ) (calls : List DeviceCall) → OnErr result (HasObeyed count Headers false machine.now machine.now calls calls
+        (W.sent writer.old) (W.sent writer.new)) }
+    ensures mark { Marks (W.failed writer.old) (W.failed writer.new) result }
+{
+    match list_headers(alloc, machine.memory()) {
+        Ok(bytes) => send_text(writer, b'h', &bytes[..]),
+        Err(fault) => refuse_headers(fault, writer),
+    }
+}
+
+/// All headers, with their names.
+#[tactic(auto, unfolding(crate::specs::Replies::words_reply))]
+fn obey_words<W: Output>(alloc: Global, machine: &Machine, writer: &mut W) -> Result<(), EndFault>
+    ensures ok { (count : ℕ) (calls : List DeviceCall) → OnOk result (HasObeyed count Words true machine.now machine.now calls calls
+        (W.sent writer.old) (W.sent writer.new)) }
+    ensures err { (count : ℕ) (calls : List DeviceCall) → OnErr result (HasObeyed count Words false machine.now machine.now calls calls
+        (W.sent writer.old) (W.sent writer.new)) }
+    ensures mark { Marks (W.failed writer.old) (W.failed writer.new) result }
+{
+    match words(alloc, machine.memory()) {
+        Ok(bytes) => send_text(writer, b'a', &bytes[..]),
+        Err(fault) => refuse_headers(fault, writer),
+    }
+}
+
+/// DEBUG's line of the state.
+#[tactic(auto, unfolding(crate::specs::Replies::line_reply))]
+fn obey_line<W: Output>(alloc: Global, machine: &Machine, writer: &mut W) -> Result<(), EndFault>
+    ensures ok { (count : ℕ) (calls : List DeviceCall) → OnOk result (HasObeyed count TraceLine true machine.now machine.now calls calls
+        (W.sent writer.old) (W.sent writer.new)) }
+    ensures err { (count : ℕ) (calls : List DeviceCall) → OnErr result (HasObeyed count TraceLine false machine.now machine.now calls calls
+        (W.sent writer.old) (W.sent writer.new)) }
+    ensures mark { Marks (W.failed writer.old) (W.failed writer.new) result }
+{
+    match trace_line(alloc, machine) {
+        Ok(text) => send_text(writer, b'd', &text[..]),
+        Err(fault) => refuse_headers(fault, writer),
+    }
+}
+
+/// Where the thread of the colon word is that a name means.
+#[tactic(auto, unfolding(crate::specs::Replies::extent_reply))]
+fn obey_extent<W: Output>(
+    alloc: Global,
+    machine: &Machine,
+    name: &[u8],
+    writer: &mut W,
+) -> Result<(), EndFault>
+    ensures ok { (count : ℕ) (calls : List DeviceCall) → OnOk result (HasObeyed count (Extent name.now) true machine.now machine.now calls calls
+        (W.sent writer.old) (W.sent writer.new)) }
+    ensures err { (count : ℕ) (calls : List DeviceCall) → OnErr result (HasObeyed count (Extent name.now) false machine.now machine.now calls calls
+        (W.sent writer.old) (W.sent writer.new)) }
+    ensures mark { Marks (W.failed writer.old) (W.failed writer.new) result }
+{
+    match extent_of(alloc, machine.memory(), name) {
+        Ok(extent) => send_extent(extent, writer),
+        Err(fault) => refuse_extent(fault, writer),
+    }
+}
+
+/// The updated buffers are written, and how many could not be is the reply.
+fn obey_save<W: Output, D: Device>(
+    machine: &Machine,
+    device: &mut D,
+    count: u32,
+    kind: u8,
+    writer: &mut W,
+) -> Result<(), EndFault>
+    ensures ok { OnOk result (HasSaved count kind true machine.now (D.calls device.old) (D.calls device.new)
+        (W.sent writer.old) (W.sent writer.new)) }
+    ensures err { OnErr result (HasSaved count kind false machine.now (D.calls device.old) (D.calls device.new)
+        (W.sent writer.old) (W.sent writer.new)) }
+    ensures mark { Marks (W.failed writer.old) (W.failed writer.new) result }
+{
+    let lost = save(machine, device, count);
+    send_cell(writer, kind, lost)
+}
+
+/// Does what a request asks over a device of `count` blocks, and replies. On a failed writer a front of the replies was sent: of a run, those of the moves that were made.
+pub fn obey<W: Output, D: Device>(
+    alloc: Global,
+    machine: &mut Machine,
+    device: &mut D,
+    count: u32,
+    command: Command<'_>,
+    writer: &mut W,
+) -> Result<(), EndFault>
+    ensures ok { OnOk result (HasObeyed count (wish_of command.entry) true machine.old machine.new
+        (D.calls device.old) (D.calls device.new) (W.sent writer.old) (W.sent writer.new)) }
+    ensures err { OnErr result (HasObeyed count (wish_of command.entry) false machine.old machine.new
+        (D.calls device.old) (D.calls device.new) (W.sent writer.old) (W.sent writer.new)) }
+    ensures mark { Marks (W.failed writer.old) (W.failed writer.new) result }
+{
+    match command {
+        Command::Run(limit) => run(machine, device, count, limit, writer),
+        Command::Answer(answer) => obey_answer(machine, answer, writer),
+        Command::Enter(word) => obey_entry(machine, word, writer),
+        Command::SetCell { address, x } => obey_cell(machine, address, x, writer),
+        Command::Look => obey_look(machine, writer),
+        Command::Memory { at, n } => obey_memory(machine, at, n, writer),
+        Command::Find(name) => obey_find(machine, name, writer),
+        Command::View(name) => obey_view(machine, name, writer),
+        Command::See(name) => obey_see(alloc, machine, name, writer),
+        Command::Headers => obey_headers(alloc, machine, writer),
+        Command::Words => obey_words(alloc, machine, writer),
+        Command::Extent(name) => obey_extent(alloc, machine, name, writer),
+        Command::TraceLine => obey_line(alloc, machine, writer),
+        Command::Image(entry) => obey_image(machine, entry, writer),
+        Command::Save => obey_save(machine, device, count, b'b', writer),
+        Command::Quit => obey_save(machine, device, count, b'q', writer),
+        Command::Version => obey_version(machine, writer),
+        Command::Unknown => obey_unknown(machine, writer),
+    }
+}

@@ -1,0 +1,16 @@
+use Rattle.std.proofs.Common.{◌∙◌, inl, inr, rules}
+use Rattle.session_runs.proofs.Ran.{run_as}
+use Rattle.session_runs.proofs.running.do_run.Goals as goal
+
+pub returns-in-Err-clause-ran : goal.returns-in-Err-clause-ran
+returns-in-Err-clause-ran g c = λ file f. inr (record { unrun = search rules; printed = λ kept. c.refuse_image.ensures.out_of_memory kept (c.in-Err.ensures.accepted file f) })
+
+pub returns-in-Ok-run_loaded-clause-ran : goal.returns-in-Ok-run_loaded-clause-ran
+returns-in-Ok-run_loaded-clause-ran g c = λ file f. inl (record {
+  stop = c.in-Ok-run_loaded.stop;
+  status_is = c.end_with.ensures.status ∙ c.status_of.ensures;
+  run = run_as _ _ _ _ _ _ (c.in-Ok.ensures.accepted file f) c.in-Ok-run_loaded.ensures.ran;
+})
+
+pub returns-in-Ok-run_loaded-clause-passed : goal.returns-in-Ok-run_loaded-clause-passed
+returns-in-Ok-run_loaded-clause-passed g c = c.in-Ok-run_loaded.ensures.ran.run.passed
