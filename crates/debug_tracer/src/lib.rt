@@ -9,4 +9,4 @@ mod word;
 pub use debugging::debug;
 pub use fault::DebugFault;
 pub use lines::send_line;
-pub use word::{Word, word_of};
+pub use word::{Word, extent_in, word_of};

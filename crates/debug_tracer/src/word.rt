@@ -10,7 +10,8 @@ use crate::fault::DebugFault;
 use crate::lines::send_line;
 use dictionary::code_fields::COLON;
 use dictionary::{
-    ChainTooLong, HeadersFault, compilation_address, extent_end, headers_in_order, search,
+    ChainTooLong, HeaderList, HeadersFault, compilation_address, extent_end, headers_in_order,
+    search,
 };
 use inner_interpreter::{EndFault, Extent, Machine, Output, Tracer};
 use memory::{Memory, OutOfMemory};
@@ -110,6 +111,32 @@ pub fn word_of(alloc: Global, memory: &Memory, name: &[u8]) -> Result<Word, Debu
 {
     match search(memory, name) {
         Ok(Some(l)) => colon_word(alloc, memory, l),
+        Ok(None) => Err(DebugFault::NotFound),
+        Err(ChainTooLong) => Err(DebugFault::ChainTooLong),
+    }
+}
+
+/// Where the thread is of the word whose header is at `l`, if it can be traced.
+fn extent_at(list: &mut HeaderList, memory: &Memory, l: u16) -> Result<Extent, DebugFault>
+    ensures { result ≡ thread_or_fault (stored memory.now) (Found l) }
+{
+    match list.fill(memory) {
+        Ok(()) => {}
+        Err(ChainTooLong) => return Err(DebugFault::ChainTooLong),
+    }
+    if memory.cell(compilation_address(memory, l)) != COLON {
+        return Err(DebugFault::NotColon);
+    }
+    Ok(thread_of(memory, list.as_slice(), l))
+}
+
+/// Where the thread is of the word that a name means, if it can be traced. `list` is room for the headers.
+#[tactic(auto, unfolding(crate::specs::Debugged::debugged))]
+pub fn extent_in(list: &mut HeaderList, memory: &Memory, name: &[u8]) -> Result<Extent, DebugFault>
+    ensures { result ≡ debugged (stored memory.now) name.now }
+{
+    match search(memory, name) {
+        Ok(Some(l)) => extent_at(list, memory, l),
         Ok(None) => Err(DebugFault::NotFound),
         Err(ChainTooLong) => Err(DebugFault::ChainTooLong),
     }

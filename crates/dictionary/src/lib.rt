@@ -27,7 +27,7 @@ pub use fault::{AddFault, ChainTooLong, ForgetFault, HeadersFault};
 pub use fields::Header;
 pub use forgetting::{cut_by, forget, forget_target};
 pub use laying::{fits, lay_at};
-pub use listing::headers_in_order;
+pub use listing::{HeaderList, headers_in_order};
 pub use lookups::{find, head_of, search, search_chain, search_from, search_hiding, search_in};
 pub use newest::{newest_count, reveal, revealed, set_immediate};
 pub use reading::{compilation_address, header, is_hidden, is_immediate, name_length};

@@ -17,7 +17,7 @@ pub use fault::ImageFault;
 pub use image::Image;
 pub use reader::{read, read_in_place};
 pub use upgrading::{UpgradeFault, upgrade};
-pub use writer::{ShortRoom, write, write_into};
+pub use writer::{ShortRoom, file_header, write, write_into};
 
 /// The law of files: bytes are the file of one image at most. So what `read` gives of what
 /// `write` made of an image is that image.

@@ -45,7 +45,7 @@ pub fn write_into(image: &BorrowedImage<'_>, room: &mut [u8]) -> Result<usize, S
     if room.len() < size {
         return Err(ShortRoom);
     }
-    let header = header(image);
+    let header = file_header(image);
     let (front, rest) = room.split_at_mut(HEADER);
     front.copy_from_slice(&header);
     rest[..bytes.len()].copy_from_slice(bytes);
@@ -58,14 +58,14 @@ fn write_all(alloc: Global, image: &BorrowedImage<'_>) -> Result<Vec<u8>, AllocE
 {
     let bytes = image.bytes();
     let mut all = Vec::with_capacity(alloc, HEADER + bytes.len())?;
-    all.extend_from_slice(&header(image))?;
+    all.extend_from_slice(&file_header(image))?;
     all.extend_from_slice(bytes)?;
     Ok(all)
 }
 
-/// What is before the bytes of memory.
+/// What is before the bytes of memory in the file of an image, in version 2.
 #[tactic(auto, using(crate::proofs::Tails::small))]
-fn header(image: &BorrowedImage<'_>) -> [u8; 16]
+pub fn file_header(image: &BorrowedImage<'_>) -> [u8; 16]
     ensures { result ≡ opening image.now.buffers ++ field image.now.entry ++ field (length image.now.bytes) }
 {
     let buffers = image.buffers();

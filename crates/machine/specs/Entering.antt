@@ -1,7 +1,7 @@
 -- What a host does with a machine beside its moves: a word is entered, a cell is written, memory is saved as an image.
-use Rattle.std.specs.Prelude.{ℕ, [], length, take, Some, Bool, nat_le, ◌&&◌}
+use Rattle.std.specs.Prelude.{ℕ, List, [], length, take, Some, Bool, nat_le, ◌&&◌}
 use Rattle.image_loader.specs.Files.{Contents}
-use Rattle.memory.specs.Bytes.{cell, put_cell, limit_of}
+use Rattle.memory.specs.Bytes.{cell, put_bytes, put_cell, limit_of}
 use Rattle.memory.specs.declared.system.TheConstants.{DP}
 use Rattle.machine_parts.specs.Whole.{Whole}
 use Rattle.machine.specs.State.{State}
@@ -16,6 +16,10 @@ with_parts s parts = record { parts = parts; wait = s.wait; halt = s.halt }
 -- a cell is written
 abbrev pub with_cell : State → (address x : ℕ) → State
 with_cell s address x = with_parts s (record s.parts { memory = put_cell s.parts.memory address x })
+
+-- bytes are written, from an address on
+abbrev pub with_bytes : State → (address : ℕ) → List ℕ → State
+with_bytes s address bytes = with_parts s (record s.parts { memory = put_bytes s.parts.memory address bytes })
 
 -- HERE is a size of an image with as many buffers
 unfoldable pub can_save : Whole → Bool

@@ -5,3 +5,4 @@ pub mod Answer
 pub mod Met
 pub mod Onward
 pub mod Entering
+pub mod Registers

@@ -13,7 +13,7 @@ use block_buffers::Device;
 use image_loader::Image;
 use inner_interpreter::{Input, Machine, Output};
 use memory::{Memory, OutOfMemory};
-use serving::{Ending, frame_room, save, serve};
+use serving::{Ending, Room, frame_room, save, serve};
 use std::alloc::Global;
 use subcommands::{Ended, end_with, print_out_of_memory, refuse_image};
 
@@ -60,10 +60,19 @@ fn sit<R: Input, W: Output, D: Device>(
 {
     let mut memory = Memory::with_front(alloc, image.bytes())?;
     let mut body = frame_room(alloc)?;
+    let mut room = Room::new(alloc)?;
     let memory: &mut Memory = &mut memory;
     let mut machine = Machine::load(alloc, memory, image, BLOCK_COUNT);
     let count = device.count();
-    let ending = serve(alloc, &mut machine, device, &mut body, reader, writer);
+    let ending = serve(
+        alloc,
+        &mut machine,
+        device,
+        &mut room,
+        &mut body,
+        reader,
+        writer,
+    );
     Ok(finish(&machine, device, count, ending))
 }
 

@@ -1,25 +1,19 @@
 -- Requests that look, and those that write the updated buffers.
-use Rattle.std.proofs.Common.{◌≡◌, ℕ, List, ◌++◌, Option, Bool, refl, sym, ap, subst, append-nil, Result, Ok, Err, Vec}
-use Rattle.std.specs.List.{flat_map}
+use Rattle.std.proofs.Common.{◌≡◌, ℕ, List, Option, Bool, inl, inr, refl, sym, subst, append-nil, Result, Vec}
 use Rattle.std.specs.Io.KnownBytes.{Appends}
 use Rattle.inner_interpreter.specs.Sent.{AppendsPart}
 use Rattle.std.specs.declared.alloc.Global.{Global}
 use Rattle.block_buffers.specs.DeviceCalls.{DeviceCall}
-use Rattle.debug_tracer.specs.Lines.{line}
-use Rattle.debug_tracer.specs.declared.fault.DebugFault.{DebugFault}
-use Rattle.dictionary.specs.Order.{AreHeaders}
-use Rattle.dictionary.specs.declared.fault.HeadersFault.{HeadersFault}
 use Rattle.machine.specs.State.{State}
-use Rattle.machine.specs.declared.extent.Extent.{Extent as ThreadExtent}
-use Rattle.memory.specs.Bytes.{cell_bytes}
 use Rattle.see.specs.Seeing.{IsSeen}
 use Rattle.see.specs.declared.refusal.SeeRefused.{SeeRefused}
 use Rattle.serving.proofs.Storing.{HaveSaved}
-use Rattle.serving.specs.Frames.{frame, long_reply}
-use Rattle.serving.specs.Replies.{cell_reply, cells_bytes, extent_refusal, extent_reply, header_bytes, headers_refusal, headers_reply, line_reply, see_reply, words_reply}
+use Rattle.serving.specs.Frames.{long_reply}
+use Rattle.serving.specs.Registers.{IsPutBack}
+use Rattle.serving.specs.Replies.{cell_reply, refusal, see_reply}
 use Rattle.serving.specs.declared.requests.Command.{Command}
-use Rattle.serving.specs.Requests.{wish_of, Wish, Extent, Headers, See, TraceLine, Words}
-use Rattle.serving.specs.Served.{HasObeyed, HasSaved, IsExtent, IsServed, Looks, Sends, Served, Serves, served_as, told}
+use Rattle.serving.specs.Requests.{wish_of, Wish, PutBack, See}
+use Rattle.serving.specs.Served.{HasObeyed, HasSaved, IsServed, Looks, Sends, Served, Serves, resumed, served_as, told}
 
 -- what only looks was served
 looked : (whole : Bool) (s : State) (c : List DeviceCall) (o o' : Option (List ℕ)) (bytes : List ℕ) → Sends whole o o' bytes → IsServed (told s bytes) whole s c c o o'
@@ -31,44 +25,12 @@ obeyed whole count w s c o o' bytes h k = record { one = told s bytes; serves = 
 pub see_obeyed : (whole : Bool) (count : ℕ) (s : State) (name : List ℕ) (v : Result (Vec ℕ Global) SeeRefused) (c : List DeviceCall) (o o' : Option (List ℕ)) → IsSeen s.parts.memory name v → Sends whole o o' (see_reply v) → HasObeyed count (See name) whole s s c c o o'
 see_obeyed whole count s name v c o o' h k = obeyed whole count (See name) s c o o' (see_reply v) (v, h, refl) k
 
--- bytes that were made of the list of all headers
-abbrev pub Listed : State → (List ℕ → List ℕ) → List ℕ → Type 0
-Listed s of bytes = (v : Vec ℕ Global) × AreHeaders s.parts.memory (Ok v) × (bytes ≡ of v.items)
+-- a machine was put back, or none was
+pub put_obeyed : (whole : Bool) (count : ℕ) (s t : State) (body : List ℕ) (c : List DeviceCall) (o o' : Option (List ℕ)) → IsPutBack s body t → Sends whole o o' (resumed t).replies → HasObeyed count (PutBack body) whole s t c c o o'
+put_obeyed whole count s t body c o o' h k = record { one = resumed t; serves = inl (t, h, refl); served_is = looked whole t c o o' (resumed t).replies k }
 
-same_reply : (kind : ℕ) (s : State) (a b : List ℕ) → a ≡ b → told s (long_reply kind a) ≡ told s (long_reply kind b)
-same_reply kind s a b e = ap (λ l. told s (long_reply kind l)) e
-
-pub headers_obeyed : (whole : Bool) (count : ℕ) (s : State) (bytes : List ℕ) (c : List DeviceCall) (o o' : Option (List ℕ)) → Listed s cells_bytes bytes → Sends whole o o' (long_reply 104 bytes) → HasObeyed count Headers whole s s c c o o'
-unfolding headers_reply
-headers_obeyed whole count s bytes c o o' h k = obeyed whole count Headers s c o o' (long_reply 104 bytes) (Ok h.0, h.1, same_reply 104 s bytes (cells_bytes h.0.items) h.2) k
-
-pub headers_refused : (whole : Bool) (count : ℕ) (s : State) (fault : HeadersFault) (c : List DeviceCall) (o o' : Option (List ℕ)) → AreHeaders s.parts.memory (Err fault) → Sends whole o o' (headers_refusal fault) → HasObeyed count Headers whole s s c c o o'
-unfolding headers_reply
-headers_refused whole count s fault c o o' h k = obeyed whole count Headers s c o o' (headers_refusal fault) (Err fault, h, refl) k
-
-pub words_obeyed : (whole : Bool) (count : ℕ) (s : State) (bytes : List ℕ) (c : List DeviceCall) (o o' : Option (List ℕ)) → Listed s (flat_map (header_bytes s.parts.memory)) bytes → Sends whole o o' (long_reply 97 bytes) → HasObeyed count Words whole s s c c o o'
-unfolding words_reply
-words_obeyed whole count s bytes c o o' h k = obeyed whole count Words s c o o' (long_reply 97 bytes) (Ok h.0, h.1, same_reply 97 s bytes (flat_map (header_bytes s.parts.memory) h.0.items) h.2) k
-
-pub words_refused : (whole : Bool) (count : ℕ) (s : State) (fault : HeadersFault) (c : List DeviceCall) (o o' : Option (List ℕ)) → AreHeaders s.parts.memory (Err fault) → Sends whole o o' (headers_refusal fault) → HasObeyed count Words whole s s c c o o'
-unfolding words_reply
-words_refused whole count s fault c o o' h k = obeyed whole count Words s c o o' (headers_refusal fault) (Err fault, h, refl) k
-
-pub line_obeyed : (whole : Bool) (count : ℕ) (s : State) (bytes : List ℕ) (c : List DeviceCall) (o o' : Option (List ℕ)) → Listed s (λ headers. line s.parts.memory headers s.parts) bytes → Sends whole o o' (long_reply 100 bytes) → HasObeyed count TraceLine whole s s c c o o'
-unfolding line_reply
-line_obeyed whole count s bytes c o o' h k = obeyed whole count TraceLine s c o o' (long_reply 100 bytes) (Ok h.0, h.1, same_reply 100 s bytes (line s.parts.memory h.0.items s.parts) h.2) k
-
-pub line_refused : (whole : Bool) (count : ℕ) (s : State) (fault : HeadersFault) (c : List DeviceCall) (o o' : Option (List ℕ)) → AreHeaders s.parts.memory (Err fault) → Sends whole o o' (headers_refusal fault) → HasObeyed count TraceLine whole s s c c o o'
-unfolding line_reply
-line_refused whole count s fault c o o' h k = obeyed whole count TraceLine s c o o' (headers_refusal fault) (Err fault, h, refl) k
-
-pub extent_obeyed : (whole : Bool) (count : ℕ) (s : State) (name : List ℕ) (e : ThreadExtent) (c : List DeviceCall) (o o' : Option (List ℕ)) → IsExtent s.parts.memory name (Ok e) → Sends whole o o' (frame 106 (cell_bytes e.from ++ cell_bytes e.end)) → HasObeyed count (Extent name) whole s s c c o o'
-unfolding extent_reply
-extent_obeyed whole count s name e c o o' h k = obeyed whole count (Extent name) s c o o' (frame 106 (cell_bytes e.from ++ cell_bytes e.end)) (Ok e, h, refl) k
-
-pub extent_refused : (whole : Bool) (count : ℕ) (s : State) (name : List ℕ) (fault : DebugFault) (c : List DeviceCall) (o o' : Option (List ℕ)) → IsExtent s.parts.memory name (Err fault) → Sends whole o o' (extent_refusal fault) → HasObeyed count (Extent name) whole s s c c o o'
-unfolding extent_reply
-extent_refused whole count s name fault c o o' h k = obeyed whole count (Extent name) s c o o' (extent_refusal fault) (Err fault, h, refl) k
+pub put_refused : (whole : Bool) (count : ℕ) (s t : State) (body : List ℕ) (c : List DeviceCall) (o o' : Option (List ℕ)) → t ≡ s → ((u : State) → IsPutBack s body u → ⊥) → Sends whole o o' (refusal 12) → HasObeyed count (PutBack body) whole s t c c o o'
+put_refused whole count s t body c o o' e h k = rw e (obeyed whole count (PutBack body) s c o o' (refusal 12) (inr (h, refl)) k)
 
 -- the updated buffers were written, and the reply was sent
 pub saved_obeyed : (whole : Bool) (count kind lost : ℕ) (s : State) (c c' : List DeviceCall) (o o' : Option (List ℕ)) → HaveSaved count s.parts s.parts.buffers c c' lost → Sends whole o o' (cell_reply kind lost) → HasSaved count kind whole s c c' o o'

@@ -52,12 +52,9 @@ alone a = append-nil a
 pub span_length : (a b d : List ℕ) (n : ℕ) → a ++ b ≡ d → length a + length b ≡ n → length d ≡ n
 span_length a b d n h k = ap length (sym h) ∙ length-append a b ∙ k
 
-pub whole_piece : (a : List ℕ) → take (length a) (drop 0 (a ++ ([] ++ []))) ≡ a
-whole_piece a = ap (take (length a)) (append-nil a) ∙ take_all (length a) a (omega arith)
-
-pub span_piece : (a b d : List ℕ) (n : ℕ) → a ++ b ≡ d → length a + length b ≡ n → take n (drop 0 (a ++ (b ++ []))) ≡ d
-span_piece a b d n h k =
-    ap (take n) (ap (λ l. a ++ l) (append-nil b) ∙ h) ∙ take_all n d (omega (arith, span_length a b d n h k))
+-- all bytes
+pub whole_part : (n : ℕ) (l : List ℕ) → length l ≡ n → take n (drop 0 l) ≡ l
+whole_part n l h = take_all n l (omega (arith, h))
 
 -- after k bytes, and then n
 pub drop_further : (k n : ℕ) (l : List ℕ) → drop n (drop k l) ≡ drop (k + n) l

@@ -1,5 +1,8 @@
 pub mod Joining
 pub mod States
+pub mod Restoring
+pub mod Kept
+pub mod Texts
 pub mod Spelling
 pub mod Storing
 pub mod Framing

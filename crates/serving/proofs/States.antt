@@ -1,80 +1,53 @@
--- What a machine has beside memory, as bytes.
-use Rattle.std.proofs.Common.{◌≡◌, ℕ, ◌+◌, ◌*◌, ◌<◌, ◌≤◌, List, [], ◌∷◌, ◌++◌, Option, Some, None, Bool, length, take, drop, arith, refl, sym, ap, ◌∙◌, append-nil, get_or, subst, if◌then◌else◌}
+-- What a machine has beside memory, as cells.
+use Rattle.std.proofs.Common.{◌≡◌, ℕ, zero, suc, ◌+◌, ◌*◌, ◌<◌, List, [], ◌∷◌, ◌++◌, Option, Some, length, take, drop, arith, refl, sym, ap, ◌∙◌, append-nil, append_assoc, get_or}
 use Rattle.std.specs.List.{flat_map}
-use Rattle.std.proofs.lemmas.List.{length-append, length-reverse, take_more, take_all, take-append-drop, drop_more}
+use Rattle.std.specs.Prelude.{slice_get}
+use Rattle.std.proofs.lemmas.List.{drop_more, length-append, take-append-drop, take_more}
 use Rattle.std.proofs.lemmas.List.Concat.{flat_map-append}
 use Rattle.std.specs.Io.KnownBytes.{Appends}
 use Rattle.memory.specs.Bytes.{cell_bytes}
+use Rattle.inner_interpreter.specs.Sent.{AppendsPart}
+use Rattle.inner_interpreter.proofs.Sending.{part_first, part_second}
 use Rattle.block_buffers.specs.declared.entry.Entry.{Entry}
 use Rattle.block_buffers.specs.Entries.{entry_at, unassigned_slot}
-use Rattle.machine_parts.specs.Whole.{Whole}
-use Rattle.inner_interpreter.specs.Sent.{AppendsPart}
-use Rattle.inner_interpreter.proofs.Sending.{appends_both, part_first, part_second}
-use Rattle.serving.specs.Replies.{cells_bytes, entry_bytes, option_bytes, state_bytes}
+use Rattle.serving.specs.Registers.{cells_bytes, entry_cells}
 
 two : (x : ℕ) → length (cell_bytes x) ≡ 2
 unfolding cell_bytes
 two x = refl
 
-pub two_cells : (x y : ℕ) → length (cell_bytes x ++ cell_bytes y) ≡ 4
-two_cells x y = length-append (cell_bytes x) (cell_bytes y) ∙ omega (arith, two x, two y)
-
-cells_length : (xs : List ℕ) → length (cells_bytes xs) ≡ 2 * length xs
+pub cells_length : (xs : List ℕ) → length (cells_bytes xs) ≡ 2 * length xs
 cells_length [] = refl
 cells_length (x ∷ xs) = length-append (cell_bytes x) (cells_bytes xs) ∙ omega (arith, two x, cells_length xs)
 
-option_length : (o : Option ℕ) → length (option_bytes o) ≡ 4
-option_length None = length-append (cell_bytes 0) (cell_bytes 0) ∙ omega (arith, two 0)
-option_length (Some x) = length-append (cell_bytes 1) (cell_bytes x) ∙ omega (arith, two 1, two x)
+-- the next one of a list
+next_taken : (i : ℕ) (xs : List ℕ) (x : ℕ) → slice_get xs i ≡ Some x → take (suc i) xs ≡ take i xs ++ x ∷ []
+next_taken i [] x h = cc
+next_taken zero (y ∷ ys) x h = let same : y ≡ x = cc in rw same refl
+next_taken (suc i) (y ∷ ys) x h = ap (λ l. y ∷ l) (next_taken i ys x h)
 
-updated_length : (b : Bool) → length (cell_bytes (if b then 1 else 0)) ≡ 2
-updated_length b = two (if b then 1 else 0)
+-- cells that were added, and then the next
+pub cells_more : (i : ℕ) (xs : List ℕ) (x : ℕ) (start cells : List ℕ) → slice_get xs i ≡ Some x → cells ≡ start ++ take i xs → cells ++ x ∷ [] ≡ start ++ take (i + 1) xs
+cells_more i xs x start cells h k =
+    let next : i + 1 ≡ suc i = omega arith in
+    ap (λ l. l ++ x ∷ []) k ∙ append_assoc start (take i xs) (x ∷ []) ∙ ap (λ l. start ++ l) (sym (rw next (next_taken i xs x h)))
 
-entry_length : (e : Entry) → length (entry_bytes e) ≡ 8
-entry_length e = grind (arith, length-append, two, option_length)
-
-entries_length : (es : List Entry) → length (flat_map entry_bytes es) ≡ 8 * length es
-entries_length [] = refl
-entries_length (e ∷ es) = length-append (entry_bytes e) (flat_map entry_bytes es) ∙ omega (arith, entry_length e, entries_length es)
-
-pub state_length : (s : Whole) → length (state_bytes s) ≡ 2 * (5 + length s.values + length s.returns) + 8 * length s.buffers
-unfolding state_bytes
-state_length s = grind (arith, length-append, two, option_length, cells_length, entries_length, length-reverse)
-
--- buffers that were sent, and then the next
-pub entries_more : (es : List Entry) (i : ℕ) (d : Entry) (a b c : Option (List ℕ)) → i < length es → Appends a b (flat_map entry_bytes (take i es)) → Appends b c (entry_bytes (get_or es i d)) → Appends a c (flat_map entry_bytes (take (i + 1) es))
-entries_more es i d a b c some h k =
-    let same : flat_map entry_bytes (take (i + 1) es) ≡ flat_map entry_bytes (take i es) ++ entry_bytes (get_or es i d) =
-    ap (flat_map entry_bytes) (take_more es i d some) ∙ flat_map-append entry_bytes (take i es) (get_or es i d ∷ []) ∙ ap (λ l. flat_map entry_bytes (take i es) ++ l) (append-nil (entry_bytes (get_or es i d))) in
-    rw same (appends_both a b c (flat_map entry_bytes (take i es)) (entry_bytes (get_or es i d)) h k)
-
--- or a part of it
-pub entries_cut : (es : List Entry) (i : ℕ) (d : Entry) (a b c : Option (List ℕ)) → i < length es → Appends a b (flat_map entry_bytes (take i es)) → AppendsPart b c (entry_bytes (get_or es i d)) → AppendsPart a c (flat_map entry_bytes es)
-entries_cut es i d a b c some h k =
-    let same : flat_map entry_bytes es ≡ flat_map entry_bytes (take i es) ++ (entry_bytes (get_or es i d) ++ flat_map entry_bytes (drop (i + 1) es)) =
-    ap (flat_map entry_bytes) (sym (take-append-drop i es)) ∙ flat_map-append entry_bytes (take i es) (drop i es) ∙ ap (λ l. flat_map entry_bytes (take i es) ++ flat_map entry_bytes l) (drop_more es i d some) in
-    rw same (part_second a b c (flat_map entry_bytes (take i es)) (entry_bytes (get_or es i d) ++ flat_map entry_bytes (drop (i + 1) es)) h (part_first b c (entry_bytes (get_or es i d)) (flat_map entry_bytes (drop (i + 1) es)) k))
-
--- cells, and then the next
-pub cells_more : (xs : List ℕ) (i d : ℕ) (bs : List ℕ) → i < length xs → bs ≡ cells_bytes (take i xs) → bs ++ cell_bytes (get_or xs i d) ≡ cells_bytes (take (i + 1) xs)
-cells_more xs i d bs some h =
-    ap (λ l. l ++ cell_bytes (get_or xs i d)) h
-    ∙ sym (ap cells_bytes (take_more xs i d some) ∙ flat_map-append cell_bytes (take i xs) (get_or xs i d ∷ []) ∙ ap (λ l. cells_bytes (take i xs) ++ l) (append-nil (cell_bytes (get_or xs i d))))
-
--- parts that were sent, and then the next
-pub pieces_more : (f : ℕ → List ℕ) (xs : List ℕ) (i d : ℕ) (a b c : Option (List ℕ)) → i < length xs → Appends a b (flat_map f (take i xs)) → Appends b c (f (get_or xs i d)) → Appends a c (flat_map f (take (i + 1) xs))
-pieces_more f xs i d a b c some h k =
-    let same : flat_map f (take (i + 1) xs) ≡ flat_map f (take i xs) ++ f (get_or xs i d) =
-    ap (flat_map f) (take_more xs i d some) ∙ flat_map-append f (take i xs) (get_or xs i d ∷ []) ∙ ap (λ l. flat_map f (take i xs) ++ l) (append-nil (f (get_or xs i d))) in
-    rw same (appends_both a b c (flat_map f (take i xs)) (f (get_or xs i d)) h k)
-
-pub pieces_all : (f : ℕ → List ℕ) (xs : List ℕ) (i : ℕ) (a b : Option (List ℕ)) → length xs ≤ i → Appends a b (flat_map f (take i xs)) → Appends a b (flat_map f xs)
-pieces_all f xs i a b most h = rw (take_all i xs most) at h
-
-pub entry_sent : (es : List Entry) (i : ℕ) (e : Entry) (a b c : Option (List ℕ)) → i < length es → e ≡ entry_at es i → Appends a b (flat_map entry_bytes (take i es)) → Appends b c (entry_bytes e) → Appends a c (flat_map entry_bytes (take (i + 1) es))
+-- buffers that were added, and then the next
+pub entries_more : (es : List Entry) (i : ℕ) (e : Entry) (start cells : List ℕ) → i < length es → e ≡ entry_at es i → cells ≡ start ++ flat_map entry_cells (take i es) → cells ++ entry_cells e ≡ start ++ flat_map entry_cells (take (i + 1) es)
 unfolding entry_at
-entry_sent es i e a b c some is h k = entries_more es i (unassigned_slot 0) a b c some h (subst (λ v. Appends b c (entry_bytes v)) is k)
+entries_more es i e start cells some is h =
+    let d : Entry = unassigned_slot 0 in
+    let same : flat_map entry_cells (take (i + 1) es) ≡ flat_map entry_cells (take i es) ++ entry_cells (get_or es i d) =
+    ap (flat_map entry_cells) (take_more es i d some) ∙ flat_map-append entry_cells (take i es) (get_or es i d ∷ []) ∙ ap (λ l. flat_map entry_cells (take i es) ++ l) (append-nil (entry_cells (get_or es i d))) in
+    ap (λ l. l ++ entry_cells e) h ∙ append_assoc start (flat_map entry_cells (take i es)) (entry_cells e) ∙ ap (λ v. start ++ (flat_map entry_cells (take i es) ++ entry_cells v)) is ∙ ap (λ l. start ++ l) (sym same)
 
-pub entry_cut : (es : List Entry) (i : ℕ) (e : Entry) (a b c : Option (List ℕ)) → i < length es → e ≡ entry_at es i → Appends a b (flat_map entry_bytes (take i es)) → AppendsPart b c (entry_bytes e) → AppendsPart a c (flat_map entry_bytes es)
-unfolding entry_at
-entry_cut es i e a b c some is h k = entries_cut es i (unassigned_slot 0) a b c some h (subst (λ v. AppendsPart b c (entry_bytes v)) is k)
+-- a part of one of the pieces that were sent
+pub piece_cut : (f : ℕ → List ℕ) (xs : List ℕ) (i d : ℕ) (a b c : Option (List ℕ)) → i < length xs → Appends a b (flat_map f (take i xs)) → AppendsPart b c (f (get_or xs i d)) → AppendsPart a c (flat_map f xs)
+piece_cut f xs i d a b c some h k =
+    let same : flat_map f xs ≡ flat_map f (take i xs) ++ (f (get_or xs i d) ++ flat_map f (drop (i + 1) xs)) =
+    ap (flat_map f) (sym (take-append-drop i xs)) ∙ flat_map-append f (take i xs) (drop i xs) ∙ ap (λ l. flat_map f (take i xs) ++ flat_map f l) (drop_more xs i d some) in
+    rw same (part_second a b c (flat_map f (take i xs)) (f (get_or xs i d) ++ flat_map f (drop (i + 1) xs)) h (part_first b c (f (get_or xs i d)) (flat_map f (drop (i + 1) xs)) k))
+
+pub three_parts : (a b c d xs ys zs : List ℕ) → b ≡ a ++ xs → c ≡ b ++ ys → d ≡ c ++ zs → d ≡ a ++ (xs ++ (ys ++ zs))
+three_parts a b c d xs ys zs h k l =
+    l ∙ ap (λ v. v ++ zs) (k ∙ ap (λ v. v ++ ys) h) ∙ append_assoc (a ++ xs) ys zs ∙ append_assoc a xs (ys ++ zs)

@@ -1,7 +1,9 @@
 pub mod Frames
+pub mod Registers
 pub mod Replies
 pub mod Requests
 pub mod Running
 pub mod Saving
 pub mod Served
 pub mod Taking
+pub mod Texts

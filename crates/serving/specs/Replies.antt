@@ -1,16 +1,14 @@
 -- Replies, as frames.
-use Rattle.std.specs.Prelude.{ℕ, ◌/◌, ◌%◌, ◌+◌, List, [], ◌∷◌, ◌++◌, reverse, Option, Some, None, length, nat_le, Result, Ok, Err, Vec, if◌then◌else◌}
+use Rattle.std.specs.Prelude.{ℕ, ◌/◌, ◌%◌, ◌+◌, List, [], ◌∷◌, ◌++◌, Option, Some, None, length, nat_le, Result, Ok, Err, Vec, if◌then◌else◌}
 use Rattle.std.specs.List.{flat_map}
 use Rattle.std.specs.declared.alloc.Global.{Global}
-use Rattle.block_buffers.specs.declared.entry.Entry.{Entry}
 use Rattle.dictionary.specs.Search.{Sought, Found, Nowhere, TooLong}
-use Rattle.dictionary.specs.declared.fault.HeadersFault.{HeadersFault}
-use Rattle.dictionary.specs.declared.fault.HeadersFault.TheVariants as hr
 use Rattle.cells.specs.Cell.{wrap}
 use Rattle.debug_tracer.specs.Lines.{line}
 use Rattle.debug_tracer.specs.declared.fault.DebugFault.{DebugFault}
 use Rattle.debug_tracer.specs.declared.fault.DebugFault.TheVariants as df
 use Rattle.dictionary.specs.Header.{compilation_address, name_of, view_of}
+use Rattle.dictionary.specs.Order.{headers, is_beyond_limit}
 use Rattle.image_loader.specs.Files.{file}
 use Rattle.machine.specs.declared.extent.Extent.{Extent}
 use Rattle.see.specs.declared.refusal.SeeRefused.{SeeRefused}
@@ -29,6 +27,10 @@ use Rattle.machine.specs.declared.act.Event.TheVariants as event
 use Rattle.machine.specs.State.{State}
 use Rattle.machine.specs.Answer.{asked_by}
 use Rattle.serving.specs.Frames.{frame, long_reply}
+use Rattle.serving.specs.Registers.{cells_bytes, register_cells, state_cells}
+use Rattle.serving.specs.declared.requests.Listing.{Listing}
+use Rattle.serving.specs.declared.requests.Listing.TheVariants as listing
+use Rattle.serving.specs.declared.text.TheConstants.{TEXT_ROOM}
 use Rattle.serving.specs.declared.replies.Standing.{Standing}
 
 abbrev pub standing : ℕ → ℕ → Standing
@@ -71,9 +73,12 @@ end_reply done s = frame 101 (long_bytes done ++ s.letter ∷ s.number % 256 ∷
 unfoldable pub refusal : ℕ → List ℕ
 refusal cause = frame 33 (cause ∷ [])
 
--- a cell as the bytes of a frame of its own
-unfoldable pub cell_reply : (kind : ℕ) → ℕ → List ℕ
-cell_reply kind x = frame kind (cell_bytes x)
+-- cells as the bytes of a frame
+unfoldable pub cells_reply : (kind : ℕ) → List ℕ → List ℕ
+cells_reply kind cells = frame kind (cells_bytes cells)
+
+abbrev pub cell_reply : (kind : ℕ) → ℕ → List ℕ
+cell_reply kind x = cells_reply kind (x ∷ [])
 
 -- what a name means: `y` and the compilation address, or why none
 unfoldable pub found_reply : Sought → List ℕ
@@ -103,38 +108,20 @@ unfoldable pub see_reply : Result (Vec ℕ Global) SeeRefused → List ℕ
 see_reply (Ok v) = long_reply 122 v.items
 see_reply (Err e) = frame 33 (see_cause e)
 
--- cells, each in two bytes
-abbrev pub cells_bytes : List ℕ → List ℕ
-cells_bytes cells = flat_map cell_bytes cells
-
-abbrev pub headers_refusal : HeadersFault → List ℕ
-headers_refusal hr.ChainTooLong = refusal 5
-headers_refusal hr.OutOfMemory = refusal 11
-
--- the link fields of all headers: `h`, or why none
-unfoldable pub headers_reply : Result (Vec ℕ Global) HeadersFault → List ℕ
-headers_reply (Ok v) = long_reply 104 (cells_bytes v.items)
-headers_reply (Err fault) = headers_refusal fault
-
 -- bytes of memory, at most 2,048 of them
 unfoldable pub memory_reply : List ℕ → (at n : ℕ) → List ℕ
 memory_reply m at n = if nat_le n 2048 then frame 109 (bytes m at n) else refusal 3
 
--- DEBUG's line of a state: `d`, or why none
-unfoldable pub line_reply : Whole → Result (Vec ℕ Global) HeadersFault → List ℕ
-line_reply s (Ok v) = long_reply 100 (line s.memory v.items s)
-line_reply s (Err fault) = headers_refusal fault
-
-abbrev pub extent_refusal : DebugFault → List ℕ
-extent_refusal df.NotFound = refusal 4
-extent_refusal df.ChainTooLong = refusal 5
-extent_refusal df.NotColon = refusal 6
-extent_refusal df.OutOfMemory = refusal 11
+abbrev pub extent_cause : DebugFault → ℕ
+extent_cause df.NotFound = 4
+extent_cause df.ChainTooLong = 5
+extent_cause df.NotColon = 6
+extent_cause df.OutOfMemory = 11
 
 -- where a colon word's thread is, as DEBUG takes it: `j`, from here and up to there, or why none
 unfoldable pub extent_reply : Result Extent DebugFault → List ℕ
-extent_reply (Ok e) = frame 106 (cell_bytes e.from ++ cell_bytes e.end)
-extent_reply (Err fault) = extent_refusal fault
+extent_reply (Ok e) = cells_reply 106 (e.from ∷ e.end ∷ [])
+extent_reply (Err fault) = refusal (extent_cause fault)
 
 -- of a header: its compilation address, its view cell, its code field, and the byte with its marks and the length of its name
 abbrev pub field_bytes : List ℕ → (link_field : ℕ) → List ℕ
@@ -145,32 +132,33 @@ field_bytes m l =
 unfoldable pub header_bytes : List ℕ → (link_field : ℕ) → List ℕ
 header_bytes m l = field_bytes m l ++ name_of m l
 
--- all headers, by ascending link fields: `a`, or why none
-unfoldable pub words_reply : List ℕ → Result (Vec ℕ Global) HeadersFault → List ℕ
-words_reply m (Ok v) = long_reply 97 (flat_map (header_bytes m) v.items)
-words_reply m (Err fault) = headers_refusal fault
+-- a text for which the server has room, or 11
+unfoldable pub text_reply : (kind : ℕ) → List ℕ → List ℕ
+text_reply kind bytes = if nat_le (length bytes) TEXT_ROOM then long_reply kind bytes else refusal 11
+
+-- by ascending link fields, these or all headers with their names; or DEBUG's line
+abbrev pub listing_bytes : Listing → Whole → List ℕ
+listing_bytes listing.Headers s = cells_bytes (headers s.memory)
+listing_bytes listing.Words s = flat_map (header_bytes s.memory) (headers s.memory)
+listing_bytes listing.TraceLine s = line s.memory (headers s.memory) s
+
+abbrev pub listing_kind : Listing → ℕ
+listing_kind listing.Headers = 104
+listing_kind listing.Words = 97
+listing_kind listing.TraceLine = 100
+
+-- what needs the list of all headers: `h`, `a` or `d`, or why none
+unfoldable pub listing_reply : Listing → Whole → List ℕ
+listing_reply l s = if is_beyond_limit s.memory then refusal 5 else text_reply (listing_kind l) (listing_bytes l s)
 
 -- the file of the image up to HERE: `t`, or 12 if HERE is no size of an image
 unfoldable pub image_reply : Whole → (entry : ℕ) → List ℕ
 image_reply s entry = if can_save s then long_reply 116 (file (saved s entry)) else refusal 12
 
--- a cell that may be there: whether it is, and the cell, or else 0
-abbrev pub option_bytes : Option ℕ → List ℕ
-option_bytes None = cell_bytes 0 ++ cell_bytes 0
-option_bytes (Some x) = cell_bytes 1 ++ cell_bytes x
-
--- a buffer: its slot, its block, and whether that was updated
-abbrev pub entry_bytes : Entry → List ℕ
-entry_bytes e = cell_bytes e.slot ++ (option_bytes e.block ++ cell_bytes (if e.updated then 1 else 0))
-
--- ip, what is pending, and the depths of both stacks
-abbrev pub front_bytes : Whole → List ℕ
-front_bytes s = cell_bytes s.ip ++ (option_bytes s.pending ++ (cell_bytes (length s.values) ++ cell_bytes (length s.returns)))
-
--- and then the data stack and the return stack from the bottom, and the buffers by recency
-unfoldable pub state_bytes : Whole → List ℕ
-state_bytes s =
-    front_bytes s ++ (cells_bytes (reverse s.values) ++ (cells_bytes (reverse s.returns) ++ flat_map entry_bytes s.buffers))
-
+-- what a machine has beside memory: `v`
 unfoldable pub state_reply : Whole → List ℕ
-state_reply s = frame 118 (state_bytes s)
+state_reply s = cells_reply 118 (state_cells s)
+
+-- all of it, to be put back: `G`
+unfoldable pub registers_reply : State → List ℕ
+registers_reply s = cells_reply 71 (register_cells s)

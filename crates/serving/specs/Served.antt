@@ -1,27 +1,24 @@
 -- What a request leaves, what the device is given for it, and what it replies; and a list of requests as a fold.
-use Rattle.std.specs.Prelude.{◌≡◌, ℕ, List, [], ◌∷◌, ◌++◌, Option, Bool, true, false, is_none, Result, Ok, Err, Vec, if◌then◌else◌}
+use Rattle.std.specs.Prelude.{◌≡◌, ◌⊎◌, ℕ, List, [], ◌∷◌, ◌++◌, Option, Bool, true, false, is_none, ◌&&◌, length, nat_le, Result, Vec, if◌then◌else◌}
 use Rattle.std.specs.Io.KnownBytes.{Appends}
 use Rattle.block_buffers.specs.DeviceCalls.{DeviceCall}
 use Rattle.machine.specs.declared.act.Act.{Act}
 use Rattle.machine.specs.declared.act.Event.TheVariants.{Went}
 use Rattle.machine.specs.State.{State}
-use Rattle.machine.specs.Entering.{with_cell}
+use Rattle.machine.specs.Entering.{with_bytes, with_cell}
 use Rattle.inner_interpreter.specs.Moves.{Turn, Answer as AnswerTurn, Enter as EnterTurn, shown_bytes}
 use Rattle.inner_interpreter.specs.Histories.{acted, takes}
 use Rattle.inner_interpreter.specs.Sent.{AppendsPart}
 use Rattle.std.specs.declared.alloc.Global.{Global}
-use Rattle.debug_tracer.specs.Debugged.{IsFault, debugged}
-use Rattle.debug_tracer.specs.declared.fault.DebugFault.{DebugFault}
-use Rattle.machine.specs.declared.extent.Extent.{Extent as ThreadExtent}
+use Rattle.debug_tracer.specs.Debugged.{debugged}
 use Rattle.dictionary.specs.Search.{by_address, sought}
-use Rattle.dictionary.specs.Order.{AreHeaders}
-use Rattle.dictionary.specs.declared.fault.HeadersFault.{HeadersFault}
 use Rattle.see.specs.declared.refusal.SeeRefused.{SeeRefused}
 use Rattle.see.specs.Seeing.{IsSeen}
 use Rattle.see.specs.View.{viewed}
 use Rattle.serving.specs.Frames.{shown_reply}
-use Rattle.serving.specs.Replies.{standing_after, end_reply, refusal, cell_reply, extent_reply, found_reply, view_reply, see_reply, headers_reply, image_reply, line_reply, words_reply, memory_reply, state_reply}
-use Rattle.serving.specs.Requests.{Wish, Run, Answer, Enter, SetCell, Look, Memory, Find, View, See, Headers, Words, Extent, TraceLine, Image, Save, Quit, Version}
+use Rattle.serving.specs.Replies.{standing_after, end_reply, refusal, cell_reply, extent_reply, found_reply, view_reply, see_reply, image_reply, listing_reply, memory_reply, registers_reply, state_reply}
+use Rattle.serving.specs.Registers.{IsPutBack}
+use Rattle.serving.specs.Requests.{Wish, Run, Answer, Enter, SetCell, SetBytes, Look, Registers, PutBack, Memory, Find, View, See, Listed, Extent, Image, Save, Quit, Version}
 use Rattle.serving.specs.Running.{Progress, HasRunTo}
 use Rattle.serving.specs.Saving.{AreSaved}
 use Rattle.serving.specs.declared.requests.TheConstants.{VERSION}
@@ -55,15 +52,27 @@ moved s t = let m = acted s t in if takes s t then told m.0 (act_reply m.0 m.1) 
 abbrev pub run_served : Progress → Served
 run_served p = served_as p.state p.calls (p.replies ++ end_reply p.done (standing_after p.state p.event))
 
+-- the machine goes on from this state
+abbrev pub resumed : State → Served
+resumed t = told t (end_reply 0 (standing_after t Went))
+
+-- 1 to 2,046 bytes are written at once
+abbrev pub is_stretch : (size : ℕ) → Bool
+is_stretch size = nat_le 1 size && nat_le size 2046
+
 -- a request that the machine and its memory decide
 abbrev pub served : State → Wish → Served
 served s (Answer reply) = moved s (AnswerTurn reply)
 served s (Enter word) = moved s (EnterTurn word)
-served s (SetCell address x) = let t = with_cell s address x in told t (end_reply 0 (standing_after t Went))
+served s (SetCell address x) = resumed (with_cell s address x)
+served s (SetBytes at bytes) = if is_stretch (length bytes) then resumed (with_bytes s at bytes) else told s (refusal 3)
 served s Look = told s (state_reply s.parts)
+served s Registers = told s (registers_reply s)
 served s (Memory at n) = told s (memory_reply s.parts.memory at n)
 served s (Find name) = told s (found_reply (by_address s.parts.memory (sought s.parts.memory name)))
 served s (View name) = told s (view_reply (viewed s.parts.memory (sought s.parts.memory name)))
+served s (Listed listing) = told s (listing_reply listing s.parts)
+served s (Extent name) = told s (extent_reply (debugged s.parts.memory name))
 served s (Image entry) = told s (image_reply s.parts entry)
 served s Version = told s (cell_reply 86 VERSION)
 served s _ = told s (refusal 3)
@@ -73,23 +82,16 @@ abbrev pub Saves : (count kind : ℕ) → State → Served → Type 0
 Saves count kind s r =
     (calls : List DeviceCall) × (lost : ℕ) × AreSaved count s.parts s.parts.buffers calls lost × (r ≡ served_as s calls (cell_reply kind lost))
 
--- a request that only looks, and needs the list of all headers
-abbrev pub ByHeaders : State → (Result (Vec ℕ Global) HeadersFault → List ℕ) → Served → Type 0
-ByHeaders s reply r = (v : Result (Vec ℕ Global) HeadersFault) × AreHeaders s.parts.memory v × (r ≡ told s (reply v))
-
--- where the thread of the colon word of a name is, or why that is not known; memory may run out
-abbrev pub IsExtent : List ℕ → List ℕ → Result ThreadExtent DebugFault → Type 0
-IsExtent m name (Ok e) = debugged m name ≡ Ok e
-IsExtent m name (Err fault) = IsFault (debugged m name) fault
+-- a machine has these bytes as its registers and is put back, or none has them
+abbrev pub PutsBack : State → (body : List ℕ) → Served → Type 0
+PutsBack s body r =
+    ((t : State) × IsPutBack s body t × (r ≡ resumed t)) ⊎ (((t : State) → IsPutBack s body t → ⊥) × (r ≡ told s (refusal 12)))
 
 -- what a request may leave over a device of so many blocks; of a run, if it is not whole, as far as it came
 abbrev pub Serves : (count : ℕ) → State → Wish → (whole : Bool) → Served → Type 0
 Serves count s (Run limit) whole r = (p : Progress) × HasRunTo count limit s whole p × (r ≡ run_served p)
 Serves count s (See name) whole r = (v : Result (Vec ℕ Global) SeeRefused) × IsSeen s.parts.memory name v × (r ≡ told s (see_reply v))
-Serves count s Headers whole r = ByHeaders s headers_reply r
-Serves count s Words whole r = ByHeaders s (words_reply s.parts.memory) r
-Serves count s TraceLine whole r = ByHeaders s (line_reply s.parts) r
-Serves count s (Extent name) whole r = (v : Result ThreadExtent DebugFault) × IsExtent s.parts.memory name v × (r ≡ told s (extent_reply v))
+Serves count s (PutBack body) whole r = PutsBack s body r
 Serves count s Save whole r = Saves count 98 s r
 Serves count s Quit whole r = Saves count 113 s r
 Serves count s w whole r = r ≡ served s w

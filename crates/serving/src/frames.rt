@@ -3,7 +3,8 @@
 ghost use Rattle.std.specs.Prelude.{◌≡◌, ◌<◌, ◌≤◌, ◌+◌, ◌*◌, ◌-◌, ◌^◌, ◌∷◌, ◌++◌, [], length, take, drop, OnErr, OnOk};
 ghost use Rattle.std.specs.Io.KnownBytes.{Appends};
 ghost use Rattle.memory.specs.Bytes.{bytes, cell_bytes};
-ghost use Rattle.serving.specs.Replies.{cell_reply, refusal};
+ghost use Rattle.serving.specs.Registers.{cells_bytes};
+ghost use Rattle.serving.specs.Replies.{cells_reply, refusal};
 ghost use Rattle.inner_interpreter.specs.Ends.{Marks};
 ghost use Rattle.inner_interpreter.specs.Moves.{shown_bytes};
 ghost use Rattle.inner_interpreter.specs.Sent.{AppendsPart};
@@ -24,9 +25,33 @@ pub struct Joined<'a> {
     pub back: &'a [u8],
 }
 
+/// Bytes in two places.
+#[tactic(auto, using(crate::proofs::Joining::file_joined), unfolding(crate::specs::Frames::joined))]
+fn pair<'a>(front: &'a [u8], middle: &'a [u8]) -> Joined<'a>
+    ensures { joined result ≡ front.now ++ middle.now }
+{
+    Joined {
+        front,
+        middle,
+        back: b"",
+    }
+}
+
+/// Bytes in one place.
+#[tactic(auto, using(crate::proofs::Joining::joined_alone), unfolding(crate::specs::Frames::joined))]
+fn alone(bytes: &[u8]) -> Joined<'_>
+    ensures { joined result ≡ bytes.now }
+{
+    Joined {
+        front: bytes,
+        middle: b"",
+        back: b"",
+    }
+}
+
 /// How many bytes there are.
 #[tactic(auto, unfolding(crate::specs::Frames::joined))]
-pub fn joined_len(bytes: Joined<'_>) -> usize
+fn joined_len(bytes: Joined<'_>) -> usize
     requires { length (joined bytes) < 2 ^ 63 }
     ensures { result ≡ length (joined bytes.entry) }
 {
@@ -157,7 +182,7 @@ fn send_pieces<W: Output>(
 
 /// A long reply.
 #[tactic(auto, unfolding(crate::specs::Frames::long_reply))]
-pub fn send_long<W: Output>(writer: &mut W, kind: u8, bytes: Joined<'_>) -> Result<(), EndFault>
+fn send_long<W: Output>(writer: &mut W, kind: u8, bytes: Joined<'_>) -> Result<(), EndFault>
     requires { length (joined bytes) < 2 ^ 63 }
     ensures ok { OnOk result (Appends (W.sent writer.old) (W.sent writer.new) (long_reply kind (joined bytes.entry))) }
     ensures err { OnErr result (AppendsPart (W.sent writer.old) (W.sent writer.new) (long_reply kind (joined bytes.entry))) }
@@ -208,20 +233,12 @@ fn send_span<W: Output>(
 }
 
 /// A byte that is shown.
-#[tactic(auto, unfolding(crate::specs::Frames::joined))]
 fn send_byte<W: Output>(writer: &mut W, byte: u8) -> Result<(), EndFault>
     ensures ok { OnOk result (Appends (W.sent writer.old) (W.sent writer.new) (shown_reply (byte ∷ []))) }
     ensures err { OnErr result (AppendsPart (W.sent writer.old) (W.sent writer.new) (shown_reply (byte ∷ []))) }
     ensures mark { Marks (W.failed writer.old) (W.failed writer.new) result }
 {
-    send_shown(
-        writer,
-        Joined {
-            front: &[byte],
-            middle: b"",
-            back: b"",
-        },
-    )
+    send_shown(writer, alone(&[byte]))
 }
 
 /// Nothing is shown.
@@ -275,28 +292,18 @@ fn span_len(machine: &Machine, span: Span) -> u32
 }
 
 /// A frame.
-#[tactic(auto, using(crate::proofs::Joining::whole_piece), unfolding(crate::specs::Frames::joined))]
+#[tactic(auto, using(crate::proofs::Joining::whole_part))]
 pub fn send_frame<W: Output>(writer: &mut W, kind: u8, body: &[u8]) -> Result<(), EndFault>
     requires { length body.now < 65536 }
     ensures ok { OnOk result (Appends (W.sent writer.old) (W.sent writer.new) (frame kind body.now)) }
     ensures err { OnErr result (AppendsPart (W.sent writer.old) (W.sent writer.new) (frame kind body.now)) }
     ensures mark { Marks (W.failed writer.old) (W.failed writer.new) result }
 {
-    send_piece(
-        writer,
-        kind,
-        Joined {
-            front: body,
-            middle: b"",
-            back: b"",
-        },
-        0,
-        body.len(),
-    )
+    send_piece(writer, kind, alone(body), 0, body.len())
 }
 
 /// Bytes of memory as a frame.
-#[tactic(auto, using(crate::proofs::Joining::span_piece, crate::proofs::Joining::span_length), unfolding(crate::specs::Frames::joined))]
+#[tactic(auto, using(crate::proofs::Joining::whole_part, crate::proofs::Joining::span_length))]
 pub fn send_memory<W: Output>(
     machine: &Machine,
     writer: &mut W,
@@ -311,51 +318,34 @@ pub fn send_memory<W: Output>(
     ensures mark { Marks (W.failed writer.old) (W.failed writer.new) result }
 {
     let (front, middle) = machine.memory().span(at, n);
-    send_piece(
-        writer,
-        kind,
-        Joined {
-            front,
-            middle,
-            back: b"",
-        },
-        0,
-        usize::from(n),
-    )
+    send_piece(writer, kind, pair(front, middle), 0, usize::from(n))
 }
 
-/// A cell as a frame of its own.
-#[tactic(auto, unfolding(crate::specs::Replies::cell_reply))]
-pub fn send_cell<W: Output>(writer: &mut W, kind: u8, x: u16) -> Result<(), EndFault>
-    ensures ok { OnOk result (Appends (W.sent writer.old) (W.sent writer.new) (cell_reply kind x)) }
-    ensures err { OnErr result (AppendsPart (W.sent writer.old) (W.sent writer.new) (cell_reply kind x)) }
+/// Cells, each in two bytes.
+pub fn send_list<W: Output>(writer: &mut W, cells: &[u16]) -> Result<(), EndFault>
+    ensures ok { OnOk result (Appends (W.sent writer.old) (W.sent writer.new) (cells_bytes cells.now)) }
+    ensures err { OnErr result (AppendsPart (W.sent writer.old) (W.sent writer.new) (cells_bytes cells.now)) }
     ensures mark { Marks (W.failed writer.old) (W.failed writer.new) result }
 {
-    send_frame(writer, kind, &cell_bytes(x))
-}
-
-/// Two cells.
-#[tactic(auto, using(inner_interpreter::proofs::Sending::part_second, inner_interpreter::proofs::Sending::part_first, inner_interpreter::proofs::Sending::appends_both))]
-fn send_both<W: Output>(writer: &mut W, x: u16, y: u16) -> Result<(), EndFault>
-    ensures ok { OnOk result (Appends (W.sent writer.old) (W.sent writer.new) (cell_bytes x ++ cell_bytes y)) }
-    ensures err { OnErr result (AppendsPart (W.sent writer.old) (W.sent writer.new) (cell_bytes x ++ cell_bytes y)) }
-    ensures mark { Marks (W.failed writer.old) (W.failed writer.new) result }
-{
-    match send_all(writer, &cell_bytes(x)) {
-        Ok(()) => send_all(writer, &cell_bytes(y)),
-        Err(fault) => Err(fault),
+    for cell in cells {
+        match send_all(writer, &cell_bytes(*cell)) {
+            Ok(()) => {}
+            Err(fault) => return Err(fault),
+        }
     }
+    Ok(())
 }
 
-/// Two cells as a frame of their own.
-#[tactic(auto, using(crate::proofs::States::two_cells, crate::proofs::Joining::frame_of, crate::proofs::Joining::part_of_frame, crate::proofs::Joining::part_in_frame))]
-pub fn send_cells<W: Output>(writer: &mut W, kind: u8, x: u16, y: u16) -> Result<(), EndFault>
-    ensures ok { OnOk result (Appends (W.sent writer.old) (W.sent writer.new) (frame kind (cell_bytes x ++ cell_bytes y))) }
-    ensures err { OnErr result (AppendsPart (W.sent writer.old) (W.sent writer.new) (frame kind (cell_bytes x ++ cell_bytes y))) }
+/// Cells as a frame of their own.
+#[tactic(auto, using(crate::proofs::States::cells_length, crate::proofs::Joining::frame_of, crate::proofs::Joining::part_of_frame, crate::proofs::Joining::part_in_frame), unfolding(crate::specs::Replies::cells_reply))]
+pub fn send_cells<W: Output>(writer: &mut W, kind: u8, cells: &[u16]) -> Result<(), EndFault>
+    requires { length cells.now < 32768 }
+    ensures ok { OnOk result (Appends (W.sent writer.old) (W.sent writer.new) (cells_reply kind cells.now)) }
+    ensures err { OnErr result (AppendsPart (W.sent writer.old) (W.sent writer.new) (cells_reply kind cells.now)) }
     ensures mark { Marks (W.failed writer.old) (W.failed writer.new) result }
 {
-    match send_head(writer, kind, 4) {
-        Ok(()) => send_both(writer, x, y),
+    match send_head(writer, kind, 2 * cells.len() as u16) {
+        Ok(()) => send_list(writer, cells),
         Err(fault) => Err(fault),
     }
 }
@@ -371,7 +361,6 @@ pub fn refuse<W: Output>(writer: &mut W, cause: u8) -> Result<(), EndFault>
 }
 
 /// A long reply of bytes that lie in two places.
-#[tactic(auto, using(crate::proofs::Joining::file_joined), unfolding(crate::specs::Frames::joined))]
 pub fn send_pair<W: Output>(
     writer: &mut W,
     kind: u8,
@@ -383,31 +372,14 @@ pub fn send_pair<W: Output>(
     ensures err { OnErr result (AppendsPart (W.sent writer.old) (W.sent writer.new) (long_reply kind (front.now ++ middle.now))) }
     ensures mark { Marks (W.failed writer.old) (W.failed writer.new) result }
 {
-    send_long(
-        writer,
-        kind,
-        Joined {
-            front,
-            middle,
-            back: b"",
-        },
-    )
+    send_long(writer, kind, pair(front, middle))
 }
 
 /// A long reply of bytes that lie in one place.
-#[tactic(auto, using(crate::proofs::Joining::alone, crate::proofs::Joining::joined_alone), unfolding(crate::specs::Frames::joined))]
 pub fn send_text<W: Output>(writer: &mut W, kind: u8, text: &[u8]) -> Result<(), EndFault>
     ensures ok { OnOk result (Appends (W.sent writer.old) (W.sent writer.new) (long_reply kind text.now)) }
     ensures err { OnErr result (AppendsPart (W.sent writer.old) (W.sent writer.new) (long_reply kind text.now)) }
     ensures mark { Marks (W.failed writer.old) (W.failed writer.new) result }
 {
-    send_long(
-        writer,
-        kind,
-        Joined {
-            front: text,
-            middle: b"",
-            back: b"",
-        },
-    )
+    send_long(writer, kind, alone(text))
 }

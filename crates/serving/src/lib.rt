@@ -3,10 +3,11 @@
 #![tactic(auto)]
 
 mod frames;
-mod gathered;
 pub mod laws;
+mod listing;
 mod looking;
 mod obeying;
+mod putting;
 mod replies;
 mod requests;
 mod running;
@@ -14,11 +15,12 @@ mod saving;
 mod serving;
 mod state;
 mod taking;
-mod tracing;
+mod text;
 
+pub use listing::Room;
 pub use obeying::obey;
 pub use replies::Standing;
-pub use requests::{Command, command_of, is_quit};
+pub use requests::{Command, Listing, command_of, is_quit};
 pub use running::{Next, run};
 pub use saving::save;
 pub use serving::{Ending, serve};

@@ -1,31 +1,21 @@
 //! Requests that look at the machine.
 
-ghost use Rattle.std.specs.Prelude.{◌≡◌, ◌<◌, ◌+◌, ◌*◌, ◌++◌, ℕ, List, Vec, Ok, Err, length, drop, take, reverse, IfOk, IfErr, OnErr, OnOk};
+ghost use Rattle.std.specs.Prelude.{◌≡◌, ◌++◌, length, OnErr, OnOk};
 ghost use Rattle.std.specs.Io.KnownBytes.{Appends};
-ghost use Rattle.std.specs.List.{flat_map};
-ghost use Rattle.std.specs.declared.alloc.Global.{Global};
-ghost use Rattle.memory.specs.Bytes.{cell_bytes};
-ghost use Rattle.memory.specs.Mirrored.{stored};
-ghost use Rattle.dictionary.specs.Order.{AreHeaders};
 ghost use Rattle.dictionary.specs.Search.{by_address, sought};
 ghost use Rattle.image_loader.specs.Files.{field, file, opening};
 ghost use Rattle.inner_interpreter.specs.Ends.{Marks};
 ghost use Rattle.inner_interpreter.specs.Sent.{AppendsPart};
 ghost use Rattle.see.specs.View.{viewed};
 ghost use Rattle.serving.specs.Frames.{frame, long_reply};
-ghost use Rattle.serving.specs.Replies.{cells_bytes, entry_bytes, found_reply, headers_refusal, image_reply, option_bytes, see_cause, see_reply, state_bytes, state_reply, view_reply};
+ghost use Rattle.serving.specs.Replies.{found_reply, image_reply, see_cause, see_reply, view_reply};
 
-use crate::frames::{refuse, send_cell, send_frame, send_pair, send_text};
-use block_buffers::Entry;
-use byteorder::{ByteOrder, LittleEndian};
-use dictionary::{ChainTooLong, HeadersFault, find, headers_in_order};
-use image_loader::BorrowedImage;
-use inner_interpreter::{EndFault, Machine, Output, send_all};
+use crate::frames::{refuse, send_cells, send_frame, send_pair, send_text};
+use dictionary::{ChainTooLong, find};
+use image_loader::{BorrowedImage, file_header};
+use inner_interpreter::{EndFault, Machine, Output};
 use machine::saved_in_place;
-use memory::{Memory, cell_bytes};
 use see::{SeeRefused, ViewRefused, view};
-use stacks::Stack;
-use std::alloc::{AllocError, Global};
 
 /// What a name means.
 #[tactic(auto, unfolding(crate::specs::Replies::found_reply))]
@@ -37,7 +27,7 @@ pub fn send_found<W: Output>(machine: &Machine, name: &[u8], writer: &mut W) -> 
     ensures mark { Marks (W.failed writer.old) (W.failed writer.new) result }
 {
     match find(machine.memory(), name) {
-        Ok(Some(word)) => send_cell(writer, b'y', word),
+        Ok(Some(word)) => send_cells(writer, b'y', &[word]),
         Ok(None) => refuse(writer, 4),
         Err(ChainTooLong) => refuse(writer, 5),
     }
@@ -53,7 +43,7 @@ pub fn send_view<W: Output>(machine: &Machine, name: &[u8], writer: &mut W) -> R
     ensures mark { Marks (W.failed writer.old) (W.failed writer.new) result }
 {
     match view(machine.memory(), name) {
-        Ok(block) => send_cell(writer, b'i', block),
+        Ok(block) => send_cells(writer, b'i', &[block]),
         Err(ViewRefused::NotFound) => refuse(writer, 4),
         Err(ViewRefused::ChainTooLong) => refuse(writer, 5),
     }
@@ -98,65 +88,13 @@ pub fn send_seen<W: Output>(
     }
 }
 
-/// Cells, each in two bytes.
-fn bytes_of(alloc: Global, cells: &[u16]) -> Result<Vec<u8>, AllocError>
-    ensures { IfOk result (λ v. v.items ≡ cells_bytes cells.now) }
-{
-    let mut bytes = Vec::new(alloc);
-    for cell in cells {
-        bytes.extend_from_slice(&cell_bytes(*cell))?;
-    }
-    Ok(bytes)
-}
-
-/// The link fields of all headers, each in two bytes.
-pub fn list_headers(alloc: Global, memory: &Memory) -> Result<Vec<u8>, HeadersFault>
-    ensures listed { IfOk result (λ b. (v : Vec ℕ Global) × AreHeaders (stored memory.now) (Ok v) × (b.items ≡ cells_bytes v.items)) }
-    ensures refused { IfErr result (λ fault. AreHeaders (stored memory.now) (Err fault)) }
-{
-    let headers = headers_in_order(alloc, memory)?;
-    match bytes_of(alloc, &headers[..]) {
-        Ok(bytes) => Ok(bytes),
-        Err(_) => Err(HeadersFault::OutOfMemory),
-    }
-}
-
-/// Why there is no list of headers.
-pub fn refuse_headers<W: Output>(fault: HeadersFault, writer: &mut W) -> Result<(), EndFault>
-    ensures ok { OnOk result (Appends (W.sent writer.old) (W.sent writer.new) (headers_refusal fault)) }
-    ensures err { OnErr result (AppendsPart (W.sent writer.old) (W.sent writer.new) (headers_refusal fault)) }
-    ensures mark { Marks (W.failed writer.old) (W.failed writer.new) result }
-{
-    match fault {
-        HeadersFault::ChainTooLong => refuse(writer, 5),
-        HeadersFault::OutOfMemory => refuse(writer, 11),
-    }
-}
-
-/// What is before the bytes of memory in the file of an image.
-#[tactic(auto, using(image_loader::proofs::Tails::small))]
-fn header(image: &BorrowedImage<'_>) -> [u8; 16]
-    ensures { result ≡ opening image.now.buffers ++ field image.now.entry ++ field (length image.now.bytes) }
-{
-    let buffers = image.buffers();
-    let entry = image.entry();
-    let size = image.bytes().len() as u16;
-    let mut header = [0u8; 16];
-    header[..10].copy_from_slice(b"FTH83IMG\x02\0");
-    LittleEndian::write_u16(&mut header[10..], buffers);
-    LittleEndian::write_u16(&mut header[12..], entry);
-    LittleEndian::write_u16(&mut header[14..], size);
-    header
-}
-
 /// The file of an image.
 fn send_file<W: Output>(image: &BorrowedImage<'_>, writer: &mut W) -> Result<(), EndFault>
     ensures ok { OnOk result (Appends (W.sent writer.old) (W.sent writer.new) (long_reply 116 (file image.now))) }
     ensures err { OnErr result (AppendsPart (W.sent writer.old) (W.sent writer.new) (long_reply 116 (file image.now))) }
     ensures mark { Marks (W.failed writer.old) (W.failed writer.new) result }
 {
-    let header = header(image);
-    send_pair(writer, b't', &header, image.bytes())
+    send_pair(writer, b't', &file_header(image), image.bytes())
 }
 
 /// The image up to HERE, or why there is none.

@@ -8,17 +8,18 @@ ghost use Rattle.machine.specs.Answer.{seen};
 ghost use Rattle.inner_interpreter.specs.Ends.{Marks};
 ghost use Rattle.inner_interpreter.specs.Moves.{Answer as AnswerTurn, Enter as EnterTurn};
 ghost use Rattle.inner_interpreter.specs.Histories.{acted, takes};
-ghost use Rattle.serving.specs.Requests.{Extent, Find, Headers, Image, Look, Memory as MemoryWish, See, SetCell as SetCellWish, TraceLine, Unknown, Version, View, Words, wish_of};
-ghost use Rattle.serving.specs.Served.{HasObeyed, HasSaved, Looks, act_reply, move_refusal, moved, served};
+ghost use Rattle.serving.specs.Requests.{Extent, Find, Image, Listed, Look, Memory as MemoryWish, PutBack as PutBackWish, Registers as RegistersWish, See, SetBytes as SetBytesWish, SetCell as SetCellWish, Unknown, Version, View, wish_of};
+ghost use Rattle.serving.specs.Served.{HasObeyed, HasSaved, Looks, act_reply, is_stretch, move_refusal, moved, served};
 
-use crate::frames::{refuse, send_cell, send_memory, send_text, show};
-use crate::looking::{list_headers, refuse_headers, send_found, send_image, send_seen, send_view};
+use crate::frames::{refuse, send_cells, send_memory, show};
+use crate::listing::{Room, send_extent, send_listing};
+use crate::looking::{send_found, send_image, send_seen, send_view};
+use crate::putting::put_back;
 use crate::replies::end;
-use crate::requests::{Command, VERSION};
+use crate::requests::{Command, Listing, VERSION};
 use crate::running::run;
 use crate::saving::save;
-use crate::state::send_state;
-use crate::tracing::{extent_of, refuse_extent, send_extent, trace_line, words};
+use crate::state::{send_registers, send_state};
 use block_buffers::Device;
 use inner_interpreter::{Act, Answer, EndFault, Event, Machine, Output, Refused, Shown};
 use see::see;
@@ -119,6 +120,51 @@ fn obey_cell<W: Output>(
     end(machine, writer, 0, Event::Went)
 }
 
+/// Writes 1 to 2,046 bytes.
+fn obey_bytes<W: Output>(
+    machine: &mut Machine,
+    at: u16,
+    bytes: &[u8],
+    writer: &mut W,
+) -> Result<(), EndFault>
+    ensures ok { OnOk result (Looks (served machine.old (SetBytesWish at bytes.now)) true machine.new (W.sent writer.old) (W.sent writer.new)) }
+    ensures err { OnErr result (Looks (served machine.old (SetBytesWish at bytes.now)) false machine.new (W.sent writer.old) (W.sent writer.new)) }
+    ensures mark { Marks (W.failed writer.old) (W.failed writer.new) result }
+{
+    if bytes.is_empty() || bytes.len() > 2046 {
+        return refuse(writer, 3);
+    }
+    machine.set_bytes(at, bytes);
+    end(machine, writer, 0, Event::Went)
+}
+
+/// All registers of the machine.
+fn obey_registers<W: Output>(machine: &Machine, writer: &mut W) -> Result<(), EndFault>
+    ensures ok { OnOk result (Looks (served machine.now RegistersWish) true machine.now (W.sent writer.old) (W.sent writer.new)) }
+    ensures err { OnErr result (Looks (served machine.now RegistersWish) false machine.now (W.sent writer.old) (W.sent writer.new)) }
+    ensures mark { Marks (W.failed writer.old) (W.failed writer.new) result }
+{
+    send_registers(machine, writer)
+}
+
+/// Puts registers back.
+fn obey_put_back<W: Output>(
+    machine: &mut Machine,
+    body: &[u8],
+    writer: &mut W,
+) -> Result<(), EndFault>
+    ensures ok { (count : ℕ) (calls : List DeviceCall) → OnOk result (HasObeyed count (PutBackWish body.now) true machine.old machine.new
+        calls calls (W.sent writer.old) (W.sent writer.new)) }
+    ensures err { (count : ℕ) (calls : List DeviceCall) → OnErr result (HasObeyed count (PutBackWish body.now) false machine.old machine.new
+        calls calls (W.sent writer.old) (W.sent writer.new)) }
+    ensures mark { Marks (W.failed writer.old) (W.failed writer.new) result }
+{
+    if put_back(machine, body) {
+        return end(machine, writer, 0, Event::Went);
+    }
+    refuse(writer, 12)
+}
+
 /// What the machine has beside memory.
 fn obey_look<W: Output>(machine: &Machine, writer: &mut W) -> Result<(), EndFault>
     ensures ok { OnOk result (Looks (served machine.now Look) true machine.now (W.sent writer.old) (W.sent writer.new)) }
@@ -179,7 +225,7 @@ fn obey_version<W: Output>(_machine: &Machine, writer: &mut W) -> Result<(), End
     ensures err { OnErr result (Looks (served _machine.now Version) false _machine.now (W.sent writer.old) (W.sent writer.new)) }
     ensures mark { Marks (W.failed writer.old) (W.failed writer.new) result }
 {
-    send_cell(writer, b'V', VERSION)
+    send_cells(writer, b'V', &[VERSION])
 }
 
 /// A frame that is no request.
@@ -208,69 +254,32 @@ fn obey_see<W: Output>(
     send_seen(&seen, writer)
 }
 
-/// The link fields of all headers.
-#[tactic(auto, unfolding(crate::specs::Replies::headers_reply))]
-fn obey_headers<W: Output>(alloc: Global, machine: &Machine, writer: &mut W) -> Result<(), EndFault>
-    ensures ok { (count : ℕ) (calls : List DeviceCall) → OnOk result (HasObeyed count Headers true machine.now machine.now calls calls
-        (W.sent writer.old) (W.sent writer.new)) }
-    ensures err { (count : ℕ) (calls : List DeviceCall) → OnErr result (HasObeyed count Headers false machine.now machine.now calls calls
-        (W.sent writer.old) (W.sent writer.new)) }
+/// What is made of the list of all headers.
+fn obey_listing<W: Output>(
+    machine: &Machine,
+    listing: Listing,
+    room: &mut Room,
+    writer: &mut W,
+) -> Result<(), EndFault>
+    ensures ok { OnOk result (Looks (served machine.now (Listed listing)) true machine.now (W.sent writer.old) (W.sent writer.new)) }
+    ensures err { OnErr result (Looks (served machine.now (Listed listing)) false machine.now (W.sent writer.old) (W.sent writer.new)) }
     ensures mark { Marks (W.failed writer.old) (W.failed writer.new) result }
 {
-    match list_headers(alloc, machine.memory()) {
-        Ok(bytes) => send_text(writer, b'h', &bytes[..]),
-        Err(fault) => refuse_headers(fault, writer),
-    }
-}
-
-/// All headers, with their names.
-#[tactic(auto, unfolding(crate::specs::Replies::words_reply))]
-fn obey_words<W: Output>(alloc: Global, machine: &Machine, writer: &mut W) -> Result<(), EndFault>
-    ensures ok { (count : ℕ) (calls : List DeviceCall) → OnOk result (HasObeyed count Words true machine.now machine.now calls calls
-        (W.sent writer.old) (W.sent writer.new)) }
-    ensures err { (count : ℕ) (calls : List DeviceCall) → OnErr result (HasObeyed count Words false machine.now machine.now calls calls
-        (W.sent writer.old) (W.sent writer.new)) }
-    ensures mark { Marks (W.failed writer.old) (W.failed writer.new) result }
-{
-    match words(alloc, machine.memory()) {
-        Ok(bytes) => send_text(writer, b'a', &bytes[..]),
-        Err(fault) => refuse_headers(fault, writer),
-    }
-}
-
-/// DEBUG's line of the state.
-#[tactic(auto, unfolding(crate::specs::Replies::line_reply))]
-fn obey_line<W: Output>(alloc: Global, machine: &Machine, writer: &mut W) -> Result<(), EndFault>
-    ensures ok { (count : ℕ) (calls : List DeviceCall) → OnOk result (HasObeyed count TraceLine true machine.now machine.now calls calls
-        (W.sent writer.old) (W.sent writer.new)) }
-    ensures err { (count : ℕ) (calls : List DeviceCall) → OnErr result (HasObeyed count TraceLine false machine.now machine.now calls calls
-        (W.sent writer.old) (W.sent writer.new)) }
-    ensures mark { Marks (W.failed writer.old) (W.failed writer.new) result }
-{
-    match trace_line(alloc, machine) {
-        Ok(text) => send_text(writer, b'd', &text[..]),
-        Err(fault) => refuse_headers(fault, writer),
-    }
+    send_listing(machine, listing, room, writer)
 }
 
 /// Where the thread of the colon word is that a name means.
-#[tactic(auto, unfolding(crate::specs::Replies::extent_reply))]
 fn obey_extent<W: Output>(
-    alloc: Global,
     machine: &Machine,
     name: &[u8],
+    room: &mut Room,
     writer: &mut W,
 ) -> Result<(), EndFault>
-    ensures ok { (count : ℕ) (calls : List DeviceCall) → OnOk result (HasObeyed count (Extent name.now) true machine.now machine.now calls calls
-        (W.sent writer.old) (W.sent writer.new)) }
-    ensures err { (count : ℕ) (calls : List DeviceCall) → OnErr result (HasObeyed count (Extent name.now) false machine.now machine.now calls calls
-        (W.sent writer.old) (W.sent writer.new)) }
+    ensures ok { OnOk result (Looks (served machine.now (Extent name.now)) true machine.now (W.sent writer.old) (W.sent writer.new)) }
+    ensures err { OnErr result (Looks (served machine.now (Extent name.now)) false machine.now (W.sent writer.old) (W.sent writer.new)) }
     ensures mark { Marks (W.failed writer.old) (W.failed writer.new) result }
 {
-    match extent_of(alloc, machine.memory(), name) {
-        Ok(extent) => send_extent(extent, writer),
-        Err(fault) => refuse_extent(fault, writer),
-    }
+    send_extent(machine, name, room, writer)
 }
 
 /// The updated buffers are written, and how many could not be is the reply.
@@ -288,7 +297,7 @@ fn obey_save<W: Output, D: Device>(
     ensures mark { Marks (W.failed writer.old) (W.failed writer.new) result }
 {
     let lost = save(machine, device, count);
-    send_cell(writer, kind, lost)
+    send_cells(writer, kind, &[lost])
 }
 
 /// Does what a request asks over a device of `count` blocks, and replies. On a failed writer a front of the replies was sent: of a run, those of the moves that were made.
@@ -297,6 +306,7 @@ pub fn obey<W: Output, D: Device>(
     machine: &mut Machine,
     device: &mut D,
     count: u32,
+    room: &mut Room,
     command: Command<'_>,
     writer: &mut W,
 ) -> Result<(), EndFault>
@@ -311,15 +321,16 @@ pub fn obey<W: Output, D: Device>(
         Command::Answer(answer) => obey_answer(machine, answer, writer),
         Command::Enter(word) => obey_entry(machine, word, writer),
         Command::SetCell { address, x } => obey_cell(machine, address, x, writer),
+        Command::SetBytes { at, bytes } => obey_bytes(machine, at, bytes, writer),
         Command::Look => obey_look(machine, writer),
+        Command::Registers => obey_registers(machine, writer),
+        Command::PutBack(body) => obey_put_back(machine, body, writer),
         Command::Memory { at, n } => obey_memory(machine, at, n, writer),
         Command::Find(name) => obey_find(machine, name, writer),
         Command::View(name) => obey_view(machine, name, writer),
         Command::See(name) => obey_see(alloc, machine, name, writer),
-        Command::Headers => obey_headers(alloc, machine, writer),
-        Command::Words => obey_words(alloc, machine, writer),
-        Command::Extent(name) => obey_extent(alloc, machine, name, writer),
-        Command::TraceLine => obey_line(alloc, machine, writer),
+        Command::Listed(listing) => obey_listing(machine, listing, room, writer),
+        Command::Extent(name) => obey_extent(machine, name, room, writer),
         Command::Image(entry) => obey_image(machine, entry, writer),
         Command::Save => obey_save(machine, device, count, b'b', writer),
         Command::Quit => obey_save(machine, device, count, b'q', writer),

@@ -1,12 +1,23 @@
 //! Requests of a host.
 
-ghost use Rattle.std.specs.Prelude.{◌≡◌, ◌<◌, ◌+◌, true, length};
-ghost use Rattle.serving.specs.Requests.{cell_in, cell_wish, empty_wish, entry_wish, image_wish, is_page, is_quit, key_wish, line_wish, memory_wish, page_in, page_wish, run_wish, wish_of, wished};
+ghost use Rattle.std.specs.Prelude.{◌≡◌, ◌<◌, ◌+◌, true, length, slice_index};
+ghost use Rattle.serving.specs.Requests.{bytes_wish, cell_in, is_page, is_quit, line_wish, long_in, page_in, page_wish, sized, wish_of, wished};
 
 use machine::Answer;
 
 /// The version of the requests and their replies.
 pub const VERSION: u16 = 1;
+
+/// What is made of the list of all headers.
+#[derive(Clone, Copy, Debug, PartialEq, Eq)]
+pub enum Listing {
+    /// Their link fields.
+    Headers,
+    /// Each with its name.
+    Words,
+    /// DEBUG's line of the state.
+    TraceLine,
+}
 
 /// A request.
 #[derive(Clone, Copy)]
@@ -19,8 +30,14 @@ pub enum Command<'a> {
     Enter(u16),
     /// A cell is written.
     SetCell { address: u16, x: u16 },
+    /// 1 to 2,046 bytes are written.
+    SetBytes { at: u16, bytes: &'a [u8] },
     /// What the machine has beside memory.
     Look,
+    /// All of that, to be put back.
+    Registers,
+    /// It is put back.
+    PutBack(&'a [u8]),
     /// At most 2,048 bytes of memory.
     Memory { at: u16, n: u16 },
     /// The compilation address that a name means.
@@ -29,14 +46,10 @@ pub enum Command<'a> {
     View(&'a [u8]),
     /// The colon word that a name means, as text.
     See(&'a [u8]),
-    /// The link fields of all headers.
-    Headers,
-    /// All headers, with their names.
-    Words,
+    /// What is made of the list of all headers.
+    Listed(Listing),
     /// Where the thread of the colon word is that a name means.
     Extent(&'a [u8]),
-    /// DEBUG's line of the state.
-    TraceLine,
     /// The image up to HERE, which starts with this word.
     Image(u16),
     /// The updated buffers are written.
@@ -49,44 +62,38 @@ pub enum Command<'a> {
     Unknown,
 }
 
-/// The cell at a place of a body.
-pub fn cell_in(body: &[u8], at: usize) -> u16
-    requires { at + 1 < length body.now }
-    ensures { result ≡ cell_in body.now at }
+/// The byte at a place of a body, 0 after its end.
+fn byte_in(body: &[u8], at: usize) -> u8
+    ensures { result ≡ slice_index body.now at }
 {
-    u16::from(body[at]) + 256 * u16::from(body[at + 1])
+    if at < body.len() { body[at] } else { 0 }
 }
 
-/// A request whose frame has no bytes.
-#[tactic(auto, unfolding(crate::specs::Requests::empty_wish))]
-fn empty_command<'a>(body: &[u8], command: Command<'a>) -> Command<'a>
-    ensures { wish_of result ≡ empty_wish body.now (wish_of command.entry) }
+/// The cell at a place of a body.
+pub fn cell_in(body: &[u8], at: usize) -> u16
+    requires { at < 65536 }
+    ensures { result ≡ cell_in body.now at }
 {
-    if body.is_empty() {
+    u16::from(byte_in(body, at)) + 256 * u16::from(byte_in(body, at + 1))
+}
+
+/// The number of four bytes at the front of a body.
+fn long_in(body: &[u8]) -> u32
+    ensures { result ≡ long_in body.now }
+{
+    u32::from(cell_in(body, 0)) + 65536 * u32::from(cell_in(body, 2))
+}
+
+/// A request whose frame has so many bytes.
+#[tactic(auto, unfolding(crate::specs::Requests::sized))]
+fn sized<'a>(body: &[u8], n: usize, command: Command<'a>) -> Command<'a>
+    ensures { wish_of result ≡ sized body.now n (wish_of command.entry) }
+{
+    if body.len() == n {
         command
     } else {
         Command::Unknown
     }
-}
-
-#[tactic(auto, unfolding(crate::specs::Requests::run_wish))]
-fn run_command<'a>(body: &'a [u8]) -> Command<'a>
-    ensures { wish_of result ≡ run_wish body.now }
-{
-    if body.len() != 4 {
-        return Command::Unknown;
-    }
-    Command::Run(u32::from(cell_in(body, 0)) + 65536 * u32::from(cell_in(body, 2)))
-}
-
-#[tactic(auto, unfolding(crate::specs::Requests::key_wish))]
-fn key_command<'a>(body: &'a [u8]) -> Command<'a>
-    ensures { wish_of result ≡ key_wish body.now }
-{
-    if body.len() != 1 {
-        return Command::Unknown;
-    }
-    Command::Answer(Answer::Key(body[0]))
 }
 
 /// A line, and whether a return ended it.
@@ -141,50 +148,16 @@ fn page_command<'a>(body: &'a [u8]) -> Command<'a>
     Command::Unknown
 }
 
-#[tactic(auto, unfolding(crate::specs::Requests::entry_wish))]
-fn entry_command<'a>(body: &'a [u8]) -> Command<'a>
-    ensures { wish_of result ≡ entry_wish body.now }
+/// Bytes, and where they are written.
+#[tactic(auto, unfolding(crate::specs::Requests::bytes_wish))]
+fn bytes_command<'a>(body: &'a [u8]) -> Command<'a>
+    ensures { wish_of result ≡ bytes_wish body.now }
 {
-    if body.len() != 2 {
+    let [low, high, bytes @ ..] = body else {
         return Command::Unknown;
-    }
-    Command::Enter(cell_in(body, 0))
-}
-
-#[tactic(auto, unfolding(crate::specs::Requests::image_wish))]
-fn image_command<'a>(body: &'a [u8]) -> Command<'a>
-    ensures { wish_of result ≡ image_wish body.now }
-{
-    if body.len() != 2 {
-        return Command::Unknown;
-    }
-    Command::Image(cell_in(body, 0))
-}
-
-#[tactic(auto, unfolding(crate::specs::Requests::cell_wish))]
-fn cell_command<'a>(body: &'a [u8]) -> Command<'a>
-    ensures { wish_of result ≡ cell_wish body.now }
-{
-    if body.len() != 4 {
-        return Command::Unknown;
-    }
-    Command::SetCell {
-        address: cell_in(body, 0),
-        x: cell_in(body, 2),
-    }
-}
-
-#[tactic(auto, unfolding(crate::specs::Requests::memory_wish))]
-fn memory_command<'a>(body: &'a [u8]) -> Command<'a>
-    ensures { wish_of result ≡ memory_wish body.now }
-{
-    if body.len() != 4 {
-        return Command::Unknown;
-    }
-    Command::Memory {
-        at: cell_in(body, 0),
-        n: cell_in(body, 2),
-    }
+    };
+    let at = u16::from(*low) + 256 * u16::from(*high);
+    Command::SetBytes { at, bytes }
 }
 
 /// The request that a frame spells.
@@ -193,30 +166,39 @@ pub fn command_of<'a>(kind: u8, body: &'a [u8]) -> Command<'a>
     ensures { wish_of result ≡ wished kind body.now }
 {
     match kind {
-        b'r' => run_command(body),
-        b'k' => key_command(body),
+        b'r' => sized(body, 4, Command::Run(long_in(body))),
+        b'k' => sized(body, 1, Command::Answer(Answer::Key(byte_in(body, 0)))),
         b'l' => line_command(body),
-        b'x' => empty_command(body, Command::Answer(Answer::InputEnd)),
-        b'u' => empty_command(body, Command::Answer(Answer::InputFault)),
+        b'x' => sized(body, 0, Command::Answer(Answer::InputEnd)),
+        b'u' => sized(body, 0, Command::Answer(Answer::InputFault)),
         b'p' => page_command(body),
-        b'f' => empty_command(body, Command::Answer(Answer::ReadFault)),
-        b'w' => empty_command(body, Command::Answer(Answer::WriteOk)),
-        b'g' => empty_command(body, Command::Answer(Answer::WriteFault)),
-        b'n' => entry_command(body),
-        b'c' => cell_command(body),
-        b'v' => empty_command(body, Command::Look),
-        b'm' => memory_command(body),
+        b'f' => sized(body, 0, Command::Answer(Answer::ReadFault)),
+        b'w' => sized(body, 0, Command::Answer(Answer::WriteOk)),
+        b'g' => sized(body, 0, Command::Answer(Answer::WriteFault)),
+        b'n' => sized(body, 2, Command::Enter(cell_in(body, 0))),
+        b'c' => {
+            let (address, x) = (cell_in(body, 0), cell_in(body, 2));
+            sized(body, 4, Command::SetCell { address, x })
+        }
+        b'M' => bytes_command(body),
+        b'v' => sized(body, 0, Command::Look),
+        b'G' => sized(body, 0, Command::Registers),
+        b'P' => Command::PutBack(body),
+        b'm' => {
+            let (at, n) = (cell_in(body, 0), cell_in(body, 2));
+            sized(body, 4, Command::Memory { at, n })
+        }
         b'y' => Command::Find(body),
         b'i' => Command::View(body),
         b'z' => Command::See(body),
-        b'h' => empty_command(body, Command::Headers),
-        b'a' => empty_command(body, Command::Words),
+        b'h' => sized(body, 0, Command::Listed(Listing::Headers)),
+        b'a' => sized(body, 0, Command::Listed(Listing::Words)),
         b'j' => Command::Extent(body),
-        b'd' => empty_command(body, Command::TraceLine),
-        b't' => image_command(body),
-        b'b' => empty_command(body, Command::Save),
-        b'q' => empty_command(body, Command::Quit),
-        b'V' => empty_command(body, Command::Version),
+        b'd' => sized(body, 0, Command::Listed(Listing::TraceLine)),
+        b't' => sized(body, 2, Command::Image(cell_in(body, 0))),
+        b'b' => sized(body, 0, Command::Save),
+        b'q' => sized(body, 0, Command::Quit),
+        b'V' => sized(body, 0, Command::Version),
         _ => Command::Unknown,
     }
 }

@@ -5,6 +5,7 @@ ghost use Rattle.inner_interpreter.specs.Reads.{as_given};
 ghost use Rattle.serving.specs.Frames.{frame};
 ghost use Rattle.serving.specs.Taking.{HasServed, HasServedNext, KeepsWriter, MarksReader, MarksWriter};
 
+use crate::listing::Room;
 use crate::obeying::obey;
 use crate::requests::{command_of, is_quit};
 use crate::taking::{Taken, take_frame};
@@ -33,6 +34,7 @@ fn serve_one<W: Output, D: Device>(
     machine: &mut Machine,
     device: &mut D,
     count: u32,
+    room: &mut Room,
     kind: u8,
     body: &[u8],
     writer: &mut W,
@@ -44,7 +46,7 @@ fn serve_one<W: Output, D: Device>(
     ensures reader { (failed : Bool) → MarksReader result failed failed }
 {
     let command = command_of(kind, body);
-    match obey(alloc, machine, device, count, command, writer) {
+    match obey(alloc, machine, device, count, room, command, writer) {
         Ok(()) => {}
         Err(_) => return Some(Ending::OutputFault),
     }
@@ -64,6 +66,7 @@ fn serve_next<R: Input, W: Output, D: Device>(
     machine: &mut Machine,
     device: &mut D,
     count: u32,
+    room: &mut Room,
     body: &mut Vec<u8>,
     reader: &mut R,
     writer: &mut W,
@@ -77,13 +80,15 @@ fn serve_next<R: Input, W: Output, D: Device>(
     ensures room { 65535 ≤ vec_capacity body.new }
 {
     match take_frame(body, reader) {
-        Taken::Frame(kind) => serve_one(alloc, machine, device, count, kind, &body[..], writer),
+        Taken::Frame(kind) => {
+            serve_one(alloc, machine, device, count, room, kind, &body[..], writer)
+        },
         Taken::End => Some(Ending::End),
         Taken::Failed => Some(Ending::InputFault),
     }
 }
 
-/// Serves requests until none comes any more, and answers why. `body` is room for a frame.
+/// Serves requests until none comes any more, and answers why. `body` is room for a frame, and `room` for what a reply is made of.
 ///
 /// The machine is what the requests leave, one after another; the device is given just the calls that the runs ask for, and those that write
 /// updated buffers; and just the replies are sent, each passed on before the next frame is awaited.
@@ -91,6 +96,7 @@ pub fn serve<R: Input, W: Output, D: Device>(
     alloc: Global,
     machine: &mut Machine,
     device: &mut D,
+    room: &mut Room,
     body: &mut Vec<u8>,
     reader: &mut R,
     writer: &mut W,
@@ -104,7 +110,7 @@ pub fn serve<R: Input, W: Output, D: Device>(
 {
     let count = device.count();
     for _ in 0..u64::MAX {
-        match serve_next(alloc, machine, device, count, body, reader, writer) {
+        match serve_next(alloc, machine, device, count, room, body, reader, writer) {
             None => {}
             Some(ending) => return ending,
         }

@@ -1,18 +1,21 @@
 //! What a host does with a machine beside its moves: a word is entered, a cell is written, memory is saved as an image.
 
-ghost use Rattle.std.specs.Prelude.{◌≡◌, None, IsSome, IsTrue, IsFalse, IfOk, IfErr, OnErr, IsErrOf};
+ghost use Rattle.std.specs.Prelude.{◌≡◌, ◌≤◌, length, None, IsSome, IsTrue, IsFalse, IfOk, IfErr, OnErr, IsErrOf};
 ghost use Rattle.memory.specs.Mirrored.{stored};
 ghost use Rattle.machine_parts.specs.Whole.{Whole};
 ghost use Rattle.machine.specs.Tick.{Runs, is_running};
-ghost use Rattle.machine.specs.Entering.{entered, with_parts, with_cell, can_save, saved};
+ghost use Rattle.machine.specs.Entering.{entered, with_parts, with_bytes, with_cell, can_save, saved};
+ghost use Rattle.machine.specs.Registers.{registers_of, with_registers};
 
 use super::Machine;
 use crate::act::Refused;
+use crate::registers::Registers;
 use block_buffers::buffers::Buffers;
 use image_loader::{BorrowedImage, Image};
 use memory::Memory;
 use memory::system::DP;
 use std::alloc::Global;
+use std::mem::replace;
 use thiserror::Error;
 
 /// Why memory can't be saved as an image.
@@ -58,6 +61,40 @@ impl<'m> Machine<'m> {
         ensures { self.new ≡ with_cell self.old address x }
     {
         self.parts.set_cell(address, x);
+    }
+
+    /// Writes bytes of memory from an address on, and nothing else. After address 65,535 comes 0.
+    pub fn set_bytes(&mut self, address: u16, bytes: &[u8])
+        requires { length bytes.now ≤ 65535 }
+        ensures { self.new ≡ with_bytes self.old address bytes.now }
+    {
+        self.parts.set_bytes(address, bytes);
+    }
+
+    /// Puts these registers in place of the machine's own, which are the result. Memory and device stay.
+    pub fn replace_registers(&mut self, registers: Registers) -> Registers
+        requires { length registers.buffers ≡ length self.old.parts.buffers }
+        ensures put { self.new ≡ with_registers self.old registers }
+        ensures own { result ≡ registers_of self.old }
+    {
+        let Registers {
+            values,
+            returns,
+            ip,
+            pending,
+            buffers,
+            wait,
+            halt,
+        } = registers;
+        Registers {
+            values: replace(&mut self.parts.values, values),
+            returns: replace(&mut self.parts.returns, returns),
+            ip: replace(&mut self.parts.ip, ip),
+            pending: replace(&mut self.parts.pending, pending),
+            buffers: replace(&mut self.parts.buffers, buffers),
+            wait: replace(&mut self.wait, wait),
+            halt: replace(&mut self.halt, halt),
+        }
     }
 
     /// Memory up to HERE as an image with as many block buffers, which starts with the word at `entry`. `BadSize` where

@@ -63,3 +63,27 @@ returns-in-Unknown-clause-ok g c = on_ok_then c.obey_unknown.result _ _ (λ sent
 
 pub returns-in-Unknown-clause-err : goal.returns-in-Unknown-clause-err
 returns-in-Unknown-clause-err g c = on_err_then c.obey_unknown.result _ _ (λ sent. looks_obeyed _ _ _ _ _ _ _ _ _ _ c.in-Unknown.is refl sent) c.obey_unknown.ensures.err
+
+pub returns-in-SetBytes-clause-ok : goal.returns-in-SetBytes-clause-ok
+returns-in-SetBytes-clause-ok g c = on_ok_then c.obey_bytes.result _ _ (λ sent. looks_obeyed _ _ _ _ _ _ _ _ _ _ c.in-SetBytes.is refl sent) c.obey_bytes.ensures.ok
+
+pub returns-in-SetBytes-clause-err : goal.returns-in-SetBytes-clause-err
+returns-in-SetBytes-clause-err g c = on_err_then c.obey_bytes.result _ _ (λ sent. looks_obeyed _ _ _ _ _ _ _ _ _ _ c.in-SetBytes.is refl sent) c.obey_bytes.ensures.err
+
+pub returns-in-Registers-clause-ok : goal.returns-in-Registers-clause-ok
+returns-in-Registers-clause-ok g c = on_ok_then c.obey_registers.result _ _ (λ sent. looks_obeyed _ _ _ _ _ _ _ _ _ _ c.in-Registers.is refl sent) c.obey_registers.ensures.ok
+
+pub returns-in-Registers-clause-err : goal.returns-in-Registers-clause-err
+returns-in-Registers-clause-err g c = on_err_then c.obey_registers.result _ _ (λ sent. looks_obeyed _ _ _ _ _ _ _ _ _ _ c.in-Registers.is refl sent) c.obey_registers.ensures.err
+
+pub returns-in-Listed-clause-ok : goal.returns-in-Listed-clause-ok
+returns-in-Listed-clause-ok g c = on_ok_then c.obey_listing.result _ _ (λ sent. looks_obeyed _ _ _ _ _ _ _ _ _ _ c.in-Listed.is refl sent) c.obey_listing.ensures.ok
+
+pub returns-in-Listed-clause-err : goal.returns-in-Listed-clause-err
+returns-in-Listed-clause-err g c = on_err_then c.obey_listing.result _ _ (λ sent. looks_obeyed _ _ _ _ _ _ _ _ _ _ c.in-Listed.is refl sent) c.obey_listing.ensures.err
+
+pub returns-in-Extent-clause-ok : goal.returns-in-Extent-clause-ok
+returns-in-Extent-clause-ok g c = on_ok_then c.obey_extent.result _ _ (λ sent. looks_obeyed _ _ _ _ _ _ _ _ _ _ c.in-Extent.is refl sent) c.obey_extent.ensures.ok
+
+pub returns-in-Extent-clause-err : goal.returns-in-Extent-clause-err
+returns-in-Extent-clause-err g c = on_err_then c.obey_extent.result _ _ (λ sent. looks_obeyed _ _ _ _ _ _ _ _ _ _ c.in-Extent.is refl sent) c.obey_extent.ensures.err

@@ -1,4 +1,4 @@
-use Rattle.std.proofs.Common.{◌≡◌, ◌≤◌, true, vec_capacity}
+use Rattle.std.proofs.Common.{◌≡◌, ◌≤◌, vec_capacity}
 use Rattle.serving.specs.Taking.{ArePassed, HasServedSome}
 use Rattle.serving.proofs.serving.serve.Given as goal
 
