@@ -1,6 +1,7 @@
 /* A host whose calls bench/call measures:
  *
  *   call IMAGE lines COUNT     types 12 SQUARE . so often, a call each time: nanoseconds a call, the least of thousands
+ *   call IMAGE calls COUNT     calls SQUARE so often: forth83_call, a push, a run, a pop and forth83_resume
  *   call IMAGE ticks COUNT     makes so many ticks of a loop in one call
  *   call IMAGE heap            the most bytes that each call has from malloc at one time
  *
@@ -15,7 +16,7 @@
 enum { HEAD = 16, SLICE = 1000 };
 
 static forth83 machine;
-static uint8_t image[70000], shown[2 * FORTH83_ROOM], page[FORTH83_PAGE];
+static uint8_t image[70000], shown[FORTH83_ROOM], page[FORTH83_PAGE];
 static size_t held, most;
 
 void *__real_malloc(size_t size);
@@ -83,6 +84,21 @@ static void time_lines(unsigned long count)
     printf("%.0f\n", (double)least / SLICE);
 }
 
+/* Calls the word at an address so often, each time with an argument that is pushed and a result that is popped. */
+static void make_calls(unsigned long count)
+{
+    uint16_t word, x;
+    types(": SQUARE DUP * ;\n", 1000000, FORTH83_STOP_TYPED);
+    must(forth83_find(&machine, (const uint8_t *)"SQUARE", 6, &word), "SQUARE");
+    for (unsigned long done = 0; done < count; done++) {
+        must(forth83_call(&machine, word), "call");
+        must(forth83_push(&machine, 12), "push");
+        types("", 1000, FORTH83_STOP_RETURNED);
+        must(forth83_pop(&machine, &x), "pop");
+        must(forth83_resume(&machine), "resume");
+    }
+}
+
 static void show_most(const char *what, uint32_t status)
 {
     must(status, what);
@@ -137,6 +153,8 @@ int main(int count, char **arguments)
     must(forth83_load(image, size, 8, &machine), "load");
     if (strcmp(arguments[2], "lines") == 0) {
         time_lines(strtoul(arguments[3], NULL, 10));
+    } else if (strcmp(arguments[2], "calls") == 0) {
+        make_calls(strtoul(arguments[3], NULL, 10));
     } else {
         types(": IN 1000 0 DO I DROP LOOP ; : T BEGIN IN 0 UNTIL ;\n", 1000000, FORTH83_STOP_TYPED);
         types("T\n", strtoull(arguments[3], NULL, 10), FORTH83_STOP_LIMIT);

@@ -140,10 +140,10 @@ static void refuse(const char *what, const char *name)
 
 static void must(uint32_t status, const char *what)
 {
-    char number[20];
+    char why[80];
     if (status != FORTH83_DONE) {
-        snprintf(number, sizeof number, ": status %u", (unsigned)status);
-        refuse(what, number);
+        snprintf(why, sizeof why, ": %s", forth83_status_text(status));
+        refuse(what, why);
     }
 }
 

@@ -19,10 +19,11 @@ extern "C" {
 #define FORTH83_VERSION "2.0.0"
 
 /* The layout of the records below; each record that was loaded has it as `abi`. */
-#define FORTH83_ABI 2
+#define FORTH83_ABI 3
 
-/* Room for anything that one act may show, in bytes. With less, the host shows long pieces from memory by itself. */
-#define FORTH83_ROOM 65536
+/* Room for what is shown in which everything fits, in bytes. Any less is enough, too (4,096 is good): the host then shows long pieces
+ * from memory by itself. */
+#define FORTH83_ROOM 131072
 
 /* How many bytes a block has. */
 #define FORTH83_PAGE 1024
@@ -40,23 +41,29 @@ enum forth83_status {
   FORTH83_BAD_BUFFERS = 8,    /* a number of buffers below 2 or above 16 */
   FORTH83_BAD_SIZE = 9,       /* a size that doesn't fit */
   FORTH83_HALTED = 10,        /* the machine is halted */
-  FORTH83_WAITING = 11,       /* the machine waits for an answer */
+  FORTH83_WAITING = 11,       /* the machine waits for an answer, or for a word that was called */
   FORTH83_NOT_ASKED = 12,     /* what was answered isn't asked */
   FORTH83_BAD_PAGE = 13,      /* the page isn't of FORTH83_PAGE bytes */
   FORTH83_STACK = 14,         /* the stack is full, or empty */
   FORTH83_NOT_FOUND = 15,     /* no word has that name */
-  FORTH83_CHAIN_TOO_LONG = 16 /* more than 32,768 headers in a chain, and the name isn't among these */
+  FORTH83_CHAIN_TOO_LONG = 16, /* more than 32,768 headers in a chain, and the name isn't among these; or in all, for a list of all */
+  FORTH83_NOT_COLON = 17,      /* the word is no colon definition */
+  FORTH83_NOT_STRUCTURED = 18, /* SEE: what the word compiled is the thread of no text */
+  FORTH83_NAMELESS = 19,       /* SEE: it uses a word without a name that can be read */
+  FORTH83_SHADOWED = 20,       /* SEE: a name in its text would mean another word, or a number is a name */
+  FORTH83_BAD_TEXT = 21        /* SEE: a text in it has a quote */
 };
 
 /* Why forth83_run ended. */
 enum forth83_stop {
   FORTH83_STOP_HALTED = 0, /* the machine is halted: `halts` says why */
   FORTH83_STOP_LIMIT = 1,  /* all ticks that were allowed are done */
-  FORTH83_STOP_ROOM = 2,   /* fewer than FORTH83_ROOM bytes of room are left; if there never were as many, none is */
+  FORTH83_STOP_ROOM = 2,   /* of FORTH83_ROOM bytes or more, fewer than 65,536 are left; of less room, none is */
   FORTH83_STOP_TYPED = 3,  /* a key is asked and no byte is left, or a line and no whole line is: call again with more */
   FORTH83_STOP_BLOCK = 4,  /* a block is asked: `asks` and `asked` say which */
   FORTH83_STOP_SPAN = 5,   /* `len` bytes of memory from `at` on are shown next, and do not fit: show them, and call again */
-  FORTH83_STOP_LINE = 6    /* the same bytes, and a blank after them */
+  FORTH83_STOP_LINE = 6,   /* the same bytes, and a blank after them */
+  FORTH83_STOP_RETURNED = 7 /* the word that forth83_call called has returned */
 };
 
 /* What a machine asks. */
@@ -85,6 +92,25 @@ typedef struct forth83_buffer {
   uint16_t updated;   /* 1 where the block was updated since it was read or written */
 } forth83_buffer;
 
+/* The faults that a machine met since it was loaded, whether its image handled them or not. */
+typedef struct forth83_faults {
+  uint16_t count; /* how many, modulo 65,536 */
+  uint16_t last;  /* the last of them; 0 where there is none */
+} forth83_faults;
+
+/* Where a machine was when a word was called: its fields of the same names. `line` has the two cells that a line needs. */
+typedef struct forth83_aside {
+  uint16_t ip;
+  uint16_t has_pending;
+  uint16_t pending;
+  uint16_t asks; /* no block */
+  uint16_t asked;
+  uint16_t token;
+  uint16_t line[2];
+  uint16_t returns_top;
+  uint16_t returns[257];
+} forth83_aside;
+
 /* A machine. A host may read each field; what it writes must be such as a machine has, else calls refuse it. */
 typedef struct forth83 {
   uint32_t abi;
@@ -105,6 +131,9 @@ typedef struct forth83 {
   uint16_t returns[257];
   uint8_t memory[65536];
   uint8_t spare[16]; /* for the calls, which work in memory as it lies here; no part of the machine */
+  forth83_faults faults;
+  uint16_t is_called; /* 1 while a word is called */
+  forth83_aside aside;
 } forth83;
 
 /* How a call of forth83_run ended. */
@@ -116,6 +145,22 @@ typedef struct forth83_end {
   uint16_t at;    /* where the bytes are that do not fit, which go on at address 0 after the end of memory */
   uint16_t len;   /* how many they are; 0 after any other stop */
 } forth83_end;
+
+/* A compiler with another layout of these records stops here. */
+#ifdef __cplusplus
+#define FORTH83_MUST(what) static_assert(what, #what)
+#else
+#define FORTH83_MUST(what) _Static_assert(what, #what)
+#endif
+FORTH83_MUST(sizeof(forth83) == 67276 && offsetof(forth83, buffers) == 30 && offsetof(forth83, memory) == 1186);
+FORTH83_MUST(offsetof(forth83, faults) == 66738 && offsetof(forth83, aside) == 66744);
+FORTH83_MUST(sizeof(forth83_end) == 32 && offsetof(forth83_end, stop) == 24);
+
+/* The layout of the library that is linked. */
+uint32_t forth83_abi(void);
+
+/* The name in the library has the layout in it, so that a host of another layout does not link. */
+#define forth83_load forth83_load_3
 
 /* Loads an image, of which these are the bytes of the file, for a device of block_count blocks. They are copied into the record, so
  * they may lie in flash, and need not be kept. */
@@ -140,8 +185,33 @@ uint32_t forth83_ended(forth83 *machine);
  * FORTH. The name is its bytes: lower case is not upper case. Nothing in the machine is changed, whatever it asks. */
 uint32_t forth83_find(const forth83 *machine, const uint8_t *name, uint64_t name_size, uint16_t *word);
 
+/* Puts the view cell of the word that a name means into block: the number of the block in which the word was made. */
+uint32_t forth83_view(const forth83 *machine, const uint8_t *name, uint64_t name_size, uint16_t *block);
+
+/* Puts the addresses of the link fields of all headers of all vocabularies into list, ascending, and how many they are into count; list_size
+ * is how many list has room for. Two bytes before a link field is the word's view cell, and after it are the byte with the length of
+ * the name (its low five bits), the name and the code field. */
+uint32_t forth83_headers(const forth83 *machine, uint16_t *list, uint64_t list_size, uint64_t *count);
+
+/* Puts where the thread of the colon word that a name means begins into from, and where it ends into end: what DEBUG traces. */
+uint32_t forth83_extent(const forth83 *machine, const uint8_t *name, uint64_t name_size, uint16_t *from, uint16_t *end);
+
+/* Puts SEE's text of the colon word that a name means into text, and its size into size: `: NAME .. ;` in one line. */
+uint32_t forth83_see(const forth83 *machine, const uint8_t *name, uint64_t name_size, uint8_t *text, uint64_t text_size, uint64_t *size);
+
+/* Puts DEBUG's line of the tick that comes next into text, and its size into size: where the token is, its name, and both stacks. With 4,096
+ * bytes of room each line fits. */
+uint32_t forth83_trace_line(const forth83 *machine, uint8_t *text, uint64_t text_size, uint64_t *size);
+
 /* Enters the word at a compilation address; the next forth83_run goes on with it. The return stack is emptied. */
 uint32_t forth83_enter(forth83 *machine, uint16_t word);
+
+/* Calls the word at a compilation address: the next forth83_run goes on with it, and ends by FORTH83_STOP_RETURNED when it has returned.
+ * What was running is kept aside: its place, its return stack, and the request for a key or a line that is open. The word finds the data stack
+ * without the two cells of a line, so push its arguments after this call, and pop its results before forth83_resume, which puts back
+ * what was kept aside. forth83_resume may come earlier: what is left of the word is then given up, with what it asks. */
+uint32_t forth83_call(forth83 *machine, uint16_t word);
+uint32_t forth83_resume(forth83 *machine);
 
 /* Pushes on the data stack, and pops its top into x. FORTH83_WAITING where the machine asks, since what a request needs lies
  * on top then: below a line's two cells lies what the lines before left. */
@@ -151,6 +221,19 @@ uint32_t forth83_pop(forth83 *machine, uint16_t *x);
 /* Saves memory up to HERE as an image that starts with the word at entry: puts its file into file, and its size into size. With 63,504
  * bytes of room each file fits. Bytes after the file stay as they were. */
 uint32_t forth83_save(const forth83 *machine, uint16_t entry, uint8_t *file, uint64_t file_size, uint64_t *size);
+
+/* What a status says, in words. */
+static inline const char *forth83_status_text(uint32_t status)
+{
+    static const char *const texts[] = {
+        "done", "the record keeps no machine", "out of memory", "too little room", "the image ends too soon",
+        "bytes follow the image", "not an image", "an image of another version", "the image has a wrong number of buffers",
+        "a size that does not fit", "the machine is halted", "the machine waits for an answer", "this answer was not asked for",
+        "a page must have 1,024 bytes", "the stack is full or empty", "no word has that name",
+        "a chain of more than 32,768 headers", "the word is no colon definition", "the word is the thread of no text",
+        "the word uses a word without a name", "a name in the word means another word", "a text in the word has a quote"};
+    return status < sizeof texts / sizeof texts[0] ? texts[status] : "unknown status";
+}
 
 /* A cell of memory is two bytes, the low one first, and memory goes on at address 0 after its end. These are the header's own
  * code, and write any address: so may a host. */
@@ -169,6 +252,21 @@ static inline void forth83_set_cell(forth83 *machine, uint16_t address, uint16_t
 static inline unsigned forth83_depth(const forth83 *machine)
 {
     return machine->values_top > 256 ? 0 : 256u - machine->values_top;
+}
+
+/* Lets the machine forget a block that it has read, so that the next BLOCK of it asks the host again: for blocks that are devices. A block
+ * that was updated stays, since it is still to be written. 1 if the machine has no such block then. */
+static inline int forth83_drop_block(forth83 *machine, uint16_t block)
+{
+    for (unsigned i = 0; i < machine->buffer_count && i < 16; i++) {
+        forth83_buffer *buffer = &machine->buffers[i];
+        if (buffer->has_block != 1 || buffer->block != block)
+            continue;
+        if (buffer->updated)
+            return 0;
+        buffer->has_block = 0;
+    }
+    return 1;
 }
 
 /* Gives the bytes that did not fit into the room to `take`, with `host`: in one piece, or in two where they go on at address 0; and a

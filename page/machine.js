@@ -9,13 +9,14 @@ const ROOM = 131072, TYPED_ROOM = 4096;
 // Cells of the system in the machine's memory.
 export const SYSTEM = { state: 16, base: 18, toIn: 20, blk: 22, here: 28, last: 30, scr: 38, vocLink: 52, fence: 54 };
 
-// A record as the calls want it. Pages of version 1.0.0 kept records of layout 1, which had no bytes for the calls after memory.
-export function inLayout2(record, { size, abi, memory }) {
-  const end = memory + MEMORY, isOld = record.length === end + 2 && new DataView(record.buffer, record.byteOffset).getUint32(abi, true) === 1;
+// A record as the calls want it. Pages of versions 1.0.0 and 2.0.0 kept records of layouts 1 and 2, which end soon after memory.
+export function inLayout3(record, { size, abi, memory }) {
+  const end = memory + MEMORY, sizes = { 1: end + 2, 2: end + 18 };
+  const isOld = record.length >= end && record.length === sizes[new DataView(record.buffer, record.byteOffset).getUint32(abi, true)];
   if (!isOld) return record;
   const made = new Uint8Array(size);
   made.set(record.subarray(0, end));
-  new DataView(made.buffer).setUint32(abi, 2, true);
+  new DataView(made.buffer).setUint32(abi, 3, true);
   return made;
 }
 
@@ -39,7 +40,7 @@ export class Machine {
   load(image, blockCount) {
     const at = this.calls.malloc(image.length);
     this.bytes(at, image.length).set(image);
-    this.must(this.calls.forth83_load(at, BigInt(image.length), blockCount, this.record), "load");
+    this.must(this.calls.forth83_load_3(at, BigInt(image.length), blockCount, this.record), "load");
     this.calls.free(at);
   }
 

@@ -2,7 +2,7 @@
 
 import { encode } from "./bytes.js";
 import { entryOf, imageOf } from "./image.js";
-import { ASKS, inLayout2, Machine, PAGE_SIZE, STOP, SYSTEM } from "./machine.js";
+import { ASKS, inLayout3, Machine, PAGE_SIZE, STOP, SYSTEM } from "./machine.js";
 
 const IN_PAGE = 0xffff, SLICE = 12, LONG = 2000, BEGINNING = "COLD-PAGE";
 // Places of the cells that screens/page/paged.txt notes for the page, and the words of its image that the page uses.
@@ -110,7 +110,7 @@ export class Session {
 
   // Restores what was kept; throws if the sizes differ.
   take({ record, places, outer, program }) {
-    const { size } = this.layout, now = inLayout2(record, this.layout), before = outer ? inLayout2(outer.record, this.layout) : null;
+    const { size } = this.layout, now = inLayout3(record, this.layout), before = outer ? inLayout3(outer.record, this.layout) : null;
     if (now.length !== size || (before && before.length !== size)) throw new Error("other sizes");
     Object.assign(this, { places: numbers(places), program: String(program || ""),
       outer: before ? { record: before, places: numbers(outer.places) } : null });

@@ -63,7 +63,7 @@ class Native:
     def run_plan(self, plan: Plan) -> Tuple[bytes, bytes, bytes]:
         """What is shown, the record and the blocks after a plan."""
         self.machine, self.blocks, self.shown, self.pending = self.bench.Machine(), bytearray(BLOCKS * PAGE), b"", b""
-        status = self.calls.forth83_load(self.image, ctypes.c_size_t(len(self.image)), BLOCKS, ctypes.byref(self.machine))
+        status = self.calls.forth83_load_3(self.image, ctypes.c_size_t(len(self.image)), BLOCKS, ctypes.byref(self.machine))
         assert status == 0, f"load: status {status}"
         for piece, limit in plan:
             self.pending += piece.encode("latin-1")

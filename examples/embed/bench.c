@@ -3,8 +3,8 @@
  *   bench IMAGE [WORD] < LINES
  *
  * The word, where one is named, comes in place of the image's own first one: a test plan that ends by QUIT, say. Each line is
- * typed at the Forth, and what it shows goes to standard output. Block 1 is the instrument: reading it takes a measurement,
- * writing it sets the outputs. Other blocks, up to 15, are kept in memory. A line may take a million ticks; one that takes more is
+ * typed at the Forth, and what it shows goes to standard output. Block 1 is the instrument: reading it takes a measurement, once in
+ * each line, and writing it sets the outputs. Other blocks, up to 15, are kept in memory. A line may take a million ticks; one that takes more is
  * interrupted, and all is as it was before that line. */
 #include "forth83.h"
 
@@ -33,7 +33,7 @@ static void measure(uint8_t *page)
 static void must(uint32_t status, const char *what)
 {
     if (status != FORTH83_DONE) {
-        fprintf(stderr, "bench: %s: status %u\n", what, status);
+        fprintf(stderr, "bench: %s: status %u: %s\n", what, (unsigned)status, forth83_status_text(status));
         exit(1);
     }
 }
@@ -65,9 +65,10 @@ static void serve(forth83 *machine)
 /* Types a line; what it shows goes to standard output. Whether the machine goes on. */
 static bool type(forth83 *machine, const uint8_t *line, size_t size)
 {
-    static uint8_t shown[2 * FORTH83_ROOM];
+    static uint8_t shown[FORTH83_ROOM];
     static forth83 before;
     uint64_t left = TICKS;
+    forth83_drop_block(machine, INSTRUMENT);
     memcpy(&before, machine, sizeof before);
     for (;;) {
         forth83_end end;

@@ -9,7 +9,7 @@ import os
 import sys
 from typing import Tuple
 
-BLOCKS, INSTRUMENT, TICKS, PAGE, ROOM = 16, 1, 1000000, 1024, 65536
+BLOCKS, INSTRUMENT, TICKS, PAGE, ROOM = 16, 1, 1000000, 1024, 131072
 READ = 3
 HALTED, LIMIT, SHORT, TYPED, BLOCK = range(5)
 
@@ -18,6 +18,21 @@ class Buffer(ctypes.Structure):
     """A block buffer, as forth83_buffer of forth83.h."""
 
     _fields_ = [(name, ctypes.c_uint16) for name in ("slot", "has_block", "block", "updated")]
+
+
+class Faults(ctypes.Structure):
+    """The faults of a machine, as forth83_faults of forth83.h."""
+
+    _fields_ = [(name, ctypes.c_uint16) for name in ("count", "last")]
+
+
+class Aside(ctypes.Structure):
+    """Where a machine was when a word was called, as forth83_aside of forth83.h."""
+
+    _fields_ = (
+        [(name, ctypes.c_uint16) for name in ("ip", "has_pending", "pending", "asks", "asked", "token")]
+        + [("line", ctypes.c_uint16 * 2), ("returns_top", ctypes.c_uint16), ("returns", ctypes.c_uint16 * 257)]
+    )
 
 
 class Machine(ctypes.Structure):
@@ -29,6 +44,7 @@ class Machine(ctypes.Structure):
         + [(name, ctypes.c_uint16) for name in ("values_top", "returns_top", "buffer_count")]
         + [("buffers", Buffer * 16), ("values", ctypes.c_uint16 * 257), ("returns", ctypes.c_uint16 * 257)]
         + [("memory", ctypes.c_uint8 * 65536), ("spare", ctypes.c_uint8 * 16)]
+        + [("faults", Faults), ("is_called", ctypes.c_uint16), ("aside", Aside)]
     )
 
 
@@ -36,8 +52,8 @@ class End(ctypes.Structure):
     """How a call ended, as forth83_end of forth83.h."""
 
     _fields_ = [
-        ("read", ctypes.c_size_t),
-        ("shown", ctypes.c_size_t),
+        ("read", ctypes.c_uint64),
+        ("shown", ctypes.c_uint64),
         ("left", ctypes.c_uint64),
         ("stop", ctypes.c_uint32),
         ("at", ctypes.c_uint16),
@@ -53,7 +69,7 @@ class Bench:
         self.machine = Machine()
         self.blocks = [bytearray(PAGE) for _ in range(BLOCKS)]
         self.measured = 0
-        self.must(self.calls.forth83_load(image, ctypes.c_size_t(len(image)), BLOCKS, ctypes.byref(self.machine)), "the image")
+        self.must(self.calls.forth83_load_3(image, ctypes.c_uint64(len(image)), BLOCKS, ctypes.byref(self.machine)), "the image")
 
     @staticmethod
     def must(status: int, what: str) -> None:
@@ -64,7 +80,7 @@ class Bench:
     def enter(self, name: str) -> None:
         """Enters the word of that name."""
         machine, word, spelled = ctypes.byref(self.machine), ctypes.c_uint16(), os.fsencode(name)
-        self.must(self.calls.forth83_find(machine, spelled, ctypes.c_size_t(len(spelled)), ctypes.byref(word)), name)
+        self.must(self.calls.forth83_find(machine, spelled, ctypes.c_uint64(len(spelled)), ctypes.byref(word)), name)
         self.must(self.calls.forth83_enter(machine, word), name)
 
     def measure(self, page: bytearray) -> None:
@@ -75,7 +91,7 @@ class Bench:
 
     def serve(self) -> None:
         """Serves the block that the machine asks for."""
-        machine, block, size = ctypes.byref(self.machine), self.machine.asked, ctypes.c_size_t(PAGE)
+        machine, block, size = ctypes.byref(self.machine), self.machine.asked, ctypes.c_uint64(PAGE)
         if block >= BLOCKS:
             self.must(self.calls.forth83_failed(machine), "a block that does not exist")
         elif self.machine.asks == READ:
@@ -88,14 +104,21 @@ class Bench:
             self.blocks[block][:] = page.raw
             self.must(self.calls.forth83_written(machine), "a block that is kept")
 
+    def drop(self, block: int) -> None:
+        """Lets the machine forget a block that was not updated, as forth83_drop_block."""
+        for buffer in self.machine.buffers[: self.machine.buffer_count]:
+            if buffer.has_block and buffer.block == block and not buffer.updated:
+                buffer.has_block = 0
+
     def type(self, line: bytes) -> Tuple[bytes, bool]:
         """Types a line: what it shows, and whether the machine continues."""
+        self.drop(INSTRUMENT)
         before = bytes(self.machine)
-        room = ctypes.create_string_buffer(2 * ROOM)
+        room = ctypes.create_string_buffer(ROOM)
         left, output = TICKS, b""
         while True:
             end = End()
-            sizes = ctypes.c_size_t(len(line)), ctypes.c_size_t(len(room))
+            sizes = ctypes.c_uint64(len(line)), ctypes.c_uint64(len(room))
             self.must(
                 self.calls.forth83_run(
                     ctypes.byref(self.machine), line, sizes[0], room, sizes[1], ctypes.c_uint64(left), ctypes.byref(end)

@@ -17,7 +17,7 @@
 #endif
 
 enum { BLOCKS = 16 };
-static uint8_t blocks[BLOCKS][FORTH83_PAGE], shown[2 * FORTH83_ROOM];
+static uint8_t blocks[BLOCKS][FORTH83_PAGE], shown[FORTH83_ROOM];
 static forth83 machine;
 static uint64_t digest;
 static uint32_t dice;

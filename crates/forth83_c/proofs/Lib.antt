@@ -2,5 +2,9 @@ pub mod Bytes
 pub mod Codes
 pub mod Same
 pub mod Taking
+pub mod Counting
 pub mod Turning
 pub mod Lending
+pub mod There
+pub mod Joined
+pub mod Aside

@@ -9,6 +9,7 @@ use Rattle.dictionary.proofs.Unnamed.{name_never}
 use Rattle.stacks.specs.Cells.{first_of}
 use Rattle.machine.specs.State.{State}
 use Rattle.forth83_c.specs.declared.record.Forth83.{Forth83}
+use Rattle.forth83_c.specs.declared.record.Forth83Faults.{Forth83Faults}
 use Rattle.forth83_c.specs.Called.{HasFound}
 use Rattle.forth83_c.specs.Kept.{marked, wait_of, halt_of, entries_of, IsRecord, IsKept}
 
@@ -19,7 +20,7 @@ none_first : (xs : List ℕ) → first_of xs ≡ None → xs ≡ []
 none_first xs e = search rules
 
 -- the state that a record says
-kept_state : Forth83 → State
+unfoldable pub kept_state : Forth83 → State
 kept_state k = record {
   parts = record {
     memory = stored k.memory;
@@ -35,7 +36,7 @@ kept_state k = record {
   halt = halt_of k.halts k.fault;
 }
 
-kept_kept : (k : Forth83) → IsRecord k → IsKept k (kept_state k)
+pub kept_kept : (k : Forth83) → IsRecord k → IsKept k (kept_state k)
 unfolding kept_state
 kept_kept k h = search rules
 
@@ -71,3 +72,19 @@ by_test m name l b e f = search (rules, name_never)
 
 pub is_named_found : (m name : List ℕ) (l : ℕ) → sought m name ≡ Found l → IsTrue (is_name name)
 is_named_found m name l f = by_test m name l (is_name name) refl f
+
+-- it keeps the same with other faults
+pub kept_faults : (k : Forth83) (f : Forth83Faults) (s : State) → IsKept k s → IsKept (record k { faults = f }) s
+kept_faults k f s h = record {
+  machine = record { numbers = record { abi = h.machine.numbers.abi; values = h.machine.numbers.values; returns = h.machine.numbers.returns; pending = h.machine.numbers.pending; asks = h.machine.numbers.asks; halts = h.machine.numbers.halts; count = h.machine.numbers.count; called = h.machine.numbers.called; aside = h.machine.numbers.aside }; marks = h.machine.marks; buffers = h.machine.buffers };
+  memory = h.memory;
+  values = h.values;
+  returns = h.returns;
+  ip = h.ip;
+  pending = h.pending;
+  buffers = h.buffers;
+  block_count = h.block_count;
+  place = h.place;
+  wait = h.wait;
+  halt = h.halt;
+}

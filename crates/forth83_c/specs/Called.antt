@@ -1,5 +1,5 @@
 -- What calls answer and leave.
-use Rattle.std.specs.Prelude.{◌≡◌, ◌≢◌, ◌≤◌, ◌-◌, ◌<◌, ℕ, List, [], ◌∷◌, length, take, drop, None, Some, IsSome, true, false}
+use Rattle.std.specs.Prelude.{◌≡◌, ◌≢◌, ◌≤◌, ◌-◌, ◌<◌, ◌==◌, ℕ, List, [], ◌∷◌, length, take, drop, None, Some, IsSome, true, false}
 use Rattle.dictionary.specs.Header.{compilation_address}
 use Rattle.dictionary.specs.Search.{Found, Nowhere, TooLong, sought}
 use Rattle.machine_parts.specs.declared.parts.Span.{Span}
@@ -14,8 +14,8 @@ use Rattle.forth83_c.specs.declared.status.Status.{Status}
 use Rattle.forth83_c.specs.declared.status.Status.TheVariants as status
 use Rattle.forth83_c.specs.declared.stop.Stop.{Stop}
 use Rattle.forth83_c.specs.declared.stop.Stop.TheVariants as stop
-use Rattle.forth83_c.specs.Driven.{IsDriven, HasStopped, told}
-use Rattle.forth83_c.specs.Kept.{IsKept, IsRecord}
+use Rattle.forth83_c.specs.Driven.{IsDriven, HasStopped, counted, told}
+use Rattle.forth83_c.specs.Kept.{IsKept, IsRecord, SameBeside, SameCall}
 
 -- the numbers of the header
 abbrev pub code_of : Status → ℕ
@@ -36,6 +36,11 @@ code_of status.BadPage = 13
 code_of status.Stack = 14
 code_of status.NotFound = 15
 code_of status.ChainTooLong = 16
+code_of status.NotColon = 17
+code_of status.NotStructured = 18
+code_of status.Nameless = 19
+code_of status.Shadowed = 20
+code_of status.BadText = 21
 
 abbrev pub stop_code : Stop → ℕ
 stop_code stop.Halted = 0
@@ -45,6 +50,7 @@ stop_code stop.Typed = 3
 stop_code stop.Block = 4
 stop_code (stop.Span span) = 5
 stop_code (stop.Line span) = 6
+stop_code stop.Returned = 7
 
 -- the bytes of memory that such a stop leaves to the host; none of other stops
 abbrev pub span_of : Stop → Span
@@ -106,17 +112,23 @@ Tells Why k other = (s : State) × IsKept k s × Why s other
 abbrev pub TellsByCode : (State → Status → Type 0) → Forth83 → (code : ℕ) → Type 0
 TellsByCode Why k code = (status : Status) × (code ≡ code_of status) × Tells Why k status
 
+-- no fault was met, and no word is called
+pub record HasBegun (kept : Forth83) : Type 0 where
+  pub faults : kept.faults ≡ record { count = 0; last = 0 }
+  pub no_call : kept.is_called ≡ 0
+
 -- the machine that the record kept was driven to that which it keeps now, by the typed bytes and for at most `limit` ticks;
 -- `end` says how many of them were read, how many bytes shown, how many ticks left, why it ended there, and which bytes of memory
--- are shown then
+-- are shown then; the record counts its faults
 pub record HasRun (old new : Forth83) (typed shown : List ℕ) (limit : ℕ) (end : Forth83End) : Type 0 where
   pub before : State
   pub after : State
   pub was_kept : IsKept old before
   pub is_kept : IsKept new after
   pub stop : Stop
-  pub driven : IsDriven before typed limit after (drop end.read typed) (told stop after.parts.memory (take end.shown shown)) end.left
-  pub stopped : HasStopped stop after (drop end.read typed) end.left (length shown) (length shown - end.shown)
+  pub driven : IsDriven (old.is_called == 1) old.faults before typed limit new.faults after (drop end.read typed) (told stop after.parts.memory (take end.shown shown)) end.left
+  pub call : SameCall old new
+  pub stopped : HasStopped (old.is_called == 1) stop after (drop end.read typed) end.left (length shown) (length shown - end.shown)
   pub why : end.stop ≡ stop_code stop
   pub at : end.at ≡ (span_of stop).at
   pub len : end.len ≡ (span_of stop).len
@@ -133,6 +145,8 @@ pub record HasAnswered (old new : Forth83) (reply : Reply) : Type 0 where
   pub goes : before.halt ≡ None
   pub fits : is_answer (asked_by before.wait) reply ≡ true
   pub is : after ≡ (answer_of before reply).0
+  pub faults : new.faults ≡ counted (answer_of before reply).1.event old.faults
+  pub call : SameCall old new
 
 -- the machine that the record kept ran, and keeps what it is where this word is entered
 pub record HasEntered (old new : Forth83) (word : ℕ) : Type 0 where
@@ -140,6 +154,7 @@ pub record HasEntered (old new : Forth83) (word : ℕ) : Type 0 where
   pub was_kept : IsKept old before
   pub runs : Runs before
   pub is_kept : IsKept new (with_parts before (entered before.parts word))
+  pub beside : SameBeside old new
 
 -- the machine that the record keeps asks that these bytes be kept
 pub record AsksPage (kept : Forth83) (page : List ℕ) : Type 0 where

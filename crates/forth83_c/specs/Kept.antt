@@ -11,6 +11,7 @@ use Rattle.machine.specs.declared.act.Cause.TheVariants.{Bye, InputEnded, InputF
 use Rattle.machine.specs.State.{State}
 use Rattle.forth83_c.specs.declared.kept.Rest.{Rest}
 use Rattle.forth83_c.specs.declared.record.Forth83.{Forth83}
+use Rattle.forth83_c.specs.declared.record.Forth83Aside.{Forth83Aside}
 use Rattle.forth83_c.specs.declared.record.Forth83Buffer.{Forth83Buffer}
 
 -- a number that exists where its mark is 1
@@ -47,15 +48,23 @@ entries_of kept count = map entry_of (take count kept)
 abbrev pub has_marks : Forth83Buffer → Bool
 has_marks b = nat_le b.has_block 1 && nat_le b.updated 1
 
+-- each number of what is kept aside is such as a machine's is; no block was asked
+pub record IsAside (a : Forth83Aside) : Type 0 where
+  pub pending : a.has_pending ≤ 1
+  pub asks : a.asks ≤ 2
+  pub returns : a.returns_top ≤ 256
+
 -- the layout is this one, and each number is such as a machine's is
 pub record HasNumbers (k : Forth83) : Type 0 where
-  pub abi : k.abi ≡ 2
+  pub abi : k.abi ≡ 3
   pub values : k.values_top ≤ 256
   pub returns : k.returns_top ≤ 256
   pub pending : k.has_pending ≤ 1
   pub asks : k.asks ≤ 4
   pub halts : k.halts ≤ 4
   pub count : k.buffer_count ≤ 16
+  pub called : k.is_called ≤ 1
+  pub aside : IsAside k.aside
 
 -- the record is a machine's: its numbers are, and its buffers are such as buffers are
 pub record IsRecord (k : Forth83) : Type 0 where
@@ -76,6 +85,16 @@ pub record IsKept (k : Forth83) (s : State) : Type 0 where
   pub place : s.parts.place ≡ None
   pub wait : s.wait ≡ wait_of k.asks k.asked k.token
   pub halt : s.halt ≡ halt_of k.halts k.fault
+
+-- a word is called as before, and the same is kept aside
+pub record SameCall (old new : Forth83) : Type 0 where
+  pub is_called : new.is_called ≡ old.is_called
+  pub aside : new.aside ≡ old.aside
+
+-- and no fault was met
+pub record SameBeside (old new : Forth83) : Type 0 where
+  pub faults : new.faults ≡ old.faults
+  pub call : SameCall old new
 
 -- the state of these bytes of memory and all else of a machine
 abbrev pub state_of : List ℕ → Rest → State

@@ -1,3 +1,5 @@
 pub mod Kept
 pub mod Driven
 pub mod Called
+pub mod Calls
+pub mod Looked

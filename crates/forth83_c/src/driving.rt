@@ -1,26 +1,80 @@
 //! Driving a machine up to where its host is needed.
 
-ghost use Rattle.std.specs.Prelude.{◌≡◌, ◌≤◌, ◌<◌, ◌+◌, ◌-◌, ℕ, List, length, take, drop, Some, None, true, IfSome, IsNone};
+ghost use Rattle.std.specs.Prelude.{◌≡◌, ◌≤◌, ◌<◌, ◌+◌, ◌-◌, ℕ, List, length, take, drop, Some, None, true, false, IfSome, IsNone, if◌then◌else◌};
 ghost use Rattle.std.specs.List.{list_all};
+ghost use Rattle.cells.specs.Cell.{wrap};
 ghost use Rattle.machine_parts.specs.declared.parts.Request.TheVariants as request;
 ghost use Rattle.machine.specs.Answer.{answer_of, asked_by, is_typed};
 ghost use Rattle.inner_interpreter.specs.Lines.{line_reply};
-ghost use Rattle.machine.specs.Tick.{Runs};
+ghost use Rattle.machine.specs.Met.{AreUnmet};
+ghost use Rattle.machine.specs.Tick.{Runs, ran, ticked};
 ghost use Rattle.inner_interpreter.specs.Worlds.{rounds_left};
-ghost use Rattle.forth83_c.specs.Driven.{IsDriven, DrivesOn, StepsOn, HasStopped, least_room, told, told_by};
+ghost use Rattle.forth83_c.specs.Driven.{IsDriven, DrivesOn, StepsOn, HasStopped, at_0, counted, is_returned, least_room, told, told_by};
 
 use crate::lines::whole_line;
+use crate::record::Forth83Faults;
 use crate::showing::{least_room, show};
 use crate::stop::Stop;
-use inner_interpreter::{Act, Answer, Machine};
+use inner_interpreter::{Act, Answer, Cause, Event, Extent, Machine};
 use machine_parts::parts::Request;
 
-/// How far a call is: how many typed bytes were read and how many bytes shown, and how many ticks are left.
+/// Where a word that was called comes to when it has returned.
+const AT_0: Extent = Extent { from: 0, end: 1 };
+
+/// How far a call is: how many typed bytes were read and how many bytes shown, how many ticks are left, and the faults so far.
 #[derive(Clone, Copy, Debug)]
 pub struct Course {
     pub read: usize,
     pub shown: usize,
     pub left: u64,
+    pub faults: Forth83Faults,
+}
+
+/// The faults with this one.
+fn with_fault(faults: Forth83Faults, fault: u16) -> Forth83Faults
+    ensures count { result.count ≡ wrap (faults.count + 1) }
+    ensures last { result.last ≡ fault }
+{
+    Forth83Faults {
+        count: faults.count.wrapping_add(1),
+        last: fault,
+    }
+}
+
+/// The faults with that of an act, if it comes to one.
+pub fn counted(event: Event, faults: Forth83Faults) -> Forth83Faults
+    ensures { result ≡ counted event faults }
+{
+    match event {
+        Event::Fault(fault) => with_fault(faults, fault),
+        Event::Halt(Cause::Fault(fault)) => with_fault(faults, fault),
+        _ => faults,
+    }
+}
+
+/// Whether a word that was called has returned.
+#[tactic(auto, unfolding(crate::specs::Driven::is_returned))]
+fn is_returned(machine: &Machine) -> bool
+    ensures { result ≡ is_returned machine.now }
+{
+    let goes = machine.halted().is_none() && machine.asked().is_none();
+    goes && machine.pending().is_none() && machine.ip() == 0 && machine.returns().depth() == 0
+}
+
+/// Ticks up to the first act that isn't quiet, and during a call up to where a token at address 0 comes next: how many, and the last
+/// one's act.
+fn ticks(machine: &mut Machine, left: u64, calling: bool) -> (u64, Act)
+    requires runs { Runs machine.old }
+    requires some { 0 < left }
+    ensures ran { (result.0, machine.new, result.1) ≡ ran 0 (if calling then result.0 else left) machine.old.parts }
+    ensures some { 0 < result.0 }
+    ensures most { result.0 ≤ left }
+    ensures unmet { calling ≡ true → AreUnmet at_0 (result.0 - 1) (ticked machine.old.parts).0.parts }
+{
+    if calling {
+        return machine.ticks_onward(left, AT_0);
+    }
+    machine.ticks(left).unwrap()
 }
 
 /// The bytes from a place on.
@@ -31,15 +85,21 @@ fn behind(bytes: &[u8], at: usize) -> &[u8]
     &bytes[at..]
 }
 
-/// Ticks up to the first act that isn't quiet; why the call ends there, if what that shows does not fit.
-fn tick_on(machine: &mut Machine, out: &mut [u8], course: &mut Course) -> Option<Stop>
+/// Ticks as `ticks` makes them; why the call ends there, if what the last one shows does not fit.
+fn tick_on(
+    machine: &mut Machine,
+    out: &mut [u8],
+    course: &mut Course,
+    calling: bool,
+) -> Option<Stop>
     requires runs { Runs machine.old }
+    requires called { calling ≡ true → is_returned machine.old ≡ false }
     requires some { 0 < course.old.left }
     requires inside { course.old.shown ≤ length out.old }
     requires room { least_room (length out.old) ≤ length out.old - course.old.shown }
-    ensures on { (unread : List ℕ) → DrivesOn machine.old unread (take course.old.shown out.old) course.old.left
-        machine.new unread (told_by result machine.new.parts.memory (take course.new.shown out.new)) course.new.left }
-    ensures stopped { (unread : List ℕ) → IfSome result (λ stop. HasStopped stop machine.new unread course.new.left
+    ensures on { (unread : List ℕ) → DrivesOn calling course.old.faults machine.old unread (take course.old.shown out.old)
+        course.old.left course.new.faults machine.new unread (told_by result machine.new.parts.memory (take course.new.shown out.new)) course.new.left }
+    ensures stopped { (unread : List ℕ) → IfSome result (λ stop. HasStopped calling stop machine.new unread course.new.left
         (length out.new) (length out.new - course.new.shown)) }
     ensures read { course.new.read ≡ course.old.read }
     ensures beyond { drop course.new.shown out.new ≡ drop course.new.shown out.old }
@@ -48,8 +108,9 @@ fn tick_on(machine: &mut Machine, out: &mut [u8], course: &mut Course) -> Option
     ensures fewer { course.new.left < course.old.left }
     ensures len { length out.new ≡ length out.old }
 {
-    let (count, act) = machine.ticks(course.left).unwrap();
+    let (count, act) = ticks(machine, course.left, calling);
     course.left -= count;
+    course.faults = counted(act.event, course.faults);
     let (place, stop) = show(machine, out, course.shown, act.shown);
     course.shown = place;
     stop
@@ -61,6 +122,7 @@ fn answer_key(
     typed: &[u8],
     out: &mut [u8],
     course: &mut Course,
+    calling: bool,
 ) -> Option<Stop>
     requires waits { asked_by machine.old.wait ≡ Some request.Key }
     requires goes { machine.old.halt ≡ None }
@@ -68,8 +130,8 @@ fn answer_key(
     requires read { course.old.read ≤ length typed.now }
     requires inside { course.old.shown ≤ length out.old }
     requires room { least_room (length out.old) ≤ length out.old - course.old.shown }
-    ensures on { StepsOn typed.now machine.old course.old out.old machine.new course.new out.new result }
-    ensures stopped { IfSome result (λ stop. HasStopped stop machine.new (drop course.new.read typed.now) course.new.left
+    ensures on { StepsOn calling typed.now machine.old course.old out.old machine.new course.new out.new result }
+    ensures stopped { IfSome result (λ stop. HasStopped calling stop machine.new (drop course.new.read typed.now) course.new.left
         (length out.new) (length out.new - course.new.shown)) }
     ensures settled { IsNone result → machine.new.wait ≡ None }
     ensures left { course.new.left ≡ course.old.left }
@@ -85,6 +147,7 @@ fn answer_key(
     let act = machine.answer(Answer::Key(typed[course.read])).unwrap();
     let (place, stop) = show(machine, out, course.shown, act.shown);
     course.shown = place;
+    course.faults = counted(act.event, course.faults);
     course.read += 1;
     stop
 }
@@ -124,6 +187,7 @@ fn answer_line(
     out: &mut [u8],
     course: &mut Course,
     n: u16,
+    calling: bool,
 ) -> Option<Stop>
     requires waits { asked_by machine.old.wait ≡ Some (request.Line n) }
     requires goes { machine.old.halt ≡ None }
@@ -131,8 +195,8 @@ fn answer_line(
     requires read { course.old.read ≤ length typed.now }
     requires inside { course.old.shown ≤ length out.old }
     requires room { least_room (length out.old) ≤ length out.old - course.old.shown }
-    ensures on { StepsOn typed.now machine.old course.old out.old machine.new course.new out.new result }
-    ensures stopped { IfSome result (λ stop. HasStopped stop machine.new (drop course.new.read typed.now) course.new.left
+    ensures on { StepsOn calling typed.now machine.old course.old out.old machine.new course.new out.new result }
+    ensures stopped { IfSome result (λ stop. HasStopped calling stop machine.new (drop course.new.read typed.now) course.new.left
         (length out.new) (length out.new - course.new.shown)) }
     ensures settled { IsNone result → machine.new.wait ≡ None }
     ensures left { course.new.left ≡ course.old.left }
@@ -149,6 +213,7 @@ fn answer_line(
     let act = give_line(machine, &unread[..line.count], line.returned, n);
     let (place, stop) = show(machine, out, course.shown, act.shown);
     course.shown = place;
+    course.faults = counted(act.event, course.faults);
     course.read += line.next;
     stop
 }
@@ -156,11 +221,17 @@ fn answer_line(
 /// A move: a request is answered from the typed bytes, else ticks are made up to the first act that isn't quiet. Or why there
 /// is none.
 #[tactic(auto, using(inner_interpreter::proofs::Running::asked_none))]
-fn step(machine: &mut Machine, typed: &[u8], out: &mut [u8], course: &mut Course) -> Option<Stop>
+fn step(
+    machine: &mut Machine,
+    typed: &[u8],
+    out: &mut [u8],
+    course: &mut Course,
+    calling: bool,
+) -> Option<Stop>
     requires read { course.old.read ≤ length typed.now }
     requires shown { course.old.shown ≤ length out.old }
-    ensures on { StepsOn typed.now machine.old course.old out.old machine.new course.new out.new result }
-    ensures stopped { IfSome result (λ stop. HasStopped stop machine.new (drop course.new.read typed.now) course.new.left
+    ensures on { StepsOn calling typed.now machine.old course.old out.old machine.new course.new out.new result }
+    ensures stopped { IfSome result (λ stop. HasStopped calling stop machine.new (drop course.new.read typed.now) course.new.left
         (length out.new) (length out.new - course.new.shown)) }
     ensures fewer { IsNone result →
         rounds_left course.new.left machine.new.wait < rounds_left course.old.left machine.old.wait }
@@ -174,6 +245,9 @@ fn step(machine: &mut Machine, typed: &[u8], out: &mut [u8], course: &mut Course
     if machine.halted().is_some() {
         return Some(Stop::Halted);
     }
+    if calling && is_returned(machine) {
+        return Some(Stop::Returned);
+    }
     if course.left == 0 {
         return Some(Stop::Limit);
     }
@@ -181,21 +255,28 @@ fn step(machine: &mut Machine, typed: &[u8], out: &mut [u8], course: &mut Course
         return Some(Stop::Room);
     }
     match machine.asked() {
-        None => tick_on(machine, out, course),
-        Some(Request::Key) => answer_key(machine, typed, out, course),
-        Some(Request::Line { n }) => answer_line(machine, typed, out, course, n),
+        None => tick_on(machine, out, course, calling),
+        Some(Request::Key) => answer_key(machine, typed, out, course, calling),
+        Some(Request::Line { n }) => answer_line(machine, typed, out, course, n, calling),
         Some(Request::Read { block: _ }) => Some(Stop::Block),
         Some(Request::Write { block: _ }) => Some(Stop::Block),
     }
 }
 
-/// Drives a machine by typed bytes, for at most `limit` ticks, up to where its host is needed: how far that is, and why it
-/// ended there.
+/// Drives a machine by typed bytes, for at most `limit` ticks, up to where its host is needed, or the word that was called has
+/// returned: how far that is, and why it ended there.
 #[tactic(auto, using(crate::proofs::Bytes::beyond_both))]
-pub fn drive(machine: &mut Machine, typed: &[u8], out: &mut [u8], limit: u64) -> (Course, Stop)
-    ensures driven { IsDriven machine.old typed.now limit machine.new (drop result.0.read typed.now)
+pub fn drive(
+    machine: &mut Machine,
+    typed: &[u8],
+    out: &mut [u8],
+    limit: u64,
+    calling: bool,
+    faults: Forth83Faults,
+) -> (Course, Stop)
+    ensures driven { IsDriven calling faults machine.old typed.now limit result.0.faults machine.new (drop result.0.read typed.now)
         (told result.1 machine.new.parts.memory (take result.0.shown out.new)) result.0.left }
-    ensures stopped { HasStopped result.1 machine.new (drop result.0.read typed.now) result.0.left
+    ensures stopped { HasStopped calling result.1 machine.new (drop result.0.read typed.now) result.0.left
         (length out.new) (length out.new - result.0.shown) }
     ensures left { result.0.left ≤ limit }
     ensures read { result.0.read ≤ length typed.now }
@@ -207,9 +288,10 @@ pub fn drive(machine: &mut Machine, typed: &[u8], out: &mut [u8], limit: u64) ->
         read: 0,
         shown: 0,
         left: limit,
+        faults,
     };
     loop {
-        if let Some(stop) = step(machine, typed, out, &mut course) {
+        if let Some(stop) = step(machine, typed, out, &mut course, calling) {
             return (course, stop);
         }
     }

@@ -4,9 +4,9 @@ ghost use Rattle.std.specs.Prelude.{◌≡◌, [], ◌≤◌, ◌↔◌, length,
 ghost use Rattle.std.specs.List.{list_all};
 ghost use Rattle.block_buffers.specs.Entries.{AreBuffers};
 ghost use Rattle.memory.specs.Mirrored.{stored};
-ghost use Rattle.forth83_c.specs.Kept.{marked, wait_of, halt_of, entry_of, entries_of, has_marks, HasNumbers, IsRecord, IsKept, state_of};
+ghost use Rattle.forth83_c.specs.Kept.{marked, wait_of, halt_of, entry_of, entries_of, has_marks, HasNumbers, IsAside, IsRecord, IsKept, SameBeside, state_of};
 
-use crate::record::{Forth83, Forth83Buffer};
+use crate::record::{Forth83, Forth83Aside, Forth83Buffer};
 use arrayvec::ArrayVec;
 use block_buffers::{Buffers, Entry};
 use inner_interpreter::Cause;
@@ -14,7 +14,7 @@ use machine_parts::parts::Request;
 use stacks::Stack;
 
 /// The layout of records.
-pub const ABI: u32 = 2;
+pub const ABI: u32 = 3;
 
 /// All of a machine but its memory, and but the table of names that its searches fill.
 #[derive(Drop)]
@@ -115,13 +115,21 @@ pub fn stack_of(cells: &[u16; 257], top: u16) -> Stack
     }
 }
 
+/// Whether each number of what is kept aside is such as a machine's is.
+fn is_aside(aside: &Forth83Aside) -> bool
+    ensures { IsTrue result ↔ IsAside aside.now }
+{
+    aside.has_pending <= 1 && aside.asks <= 2 && aside.returns_top <= 256
+}
+
 /// Whether each number of a record is such as a machine's is.
 fn has_numbers(kept: &Forth83) -> bool
     ensures { IsTrue result ↔ HasNumbers kept.now }
 {
     let tops = kept.values_top <= 256 && kept.returns_top <= 256;
     let marks = kept.has_pending <= 1 && kept.asks <= 4 && kept.halts <= 4;
-    kept.abi == ABI && tops && marks && kept.buffer_count <= 16
+    let call = kept.is_called <= 1 && is_aside(&kept.aside);
+    kept.abi == ABI && tops && marks && call && kept.buffer_count <= 16
 }
 
 /// Whether the marks of all these buffers are 0 or 1.
@@ -244,6 +252,9 @@ pub fn keep_stack(stack: Stack, cells: &mut [u16; 257]) -> u16
 
 /// Keeps all of a machine but its memory, which is left as it is.
 pub fn keep(rest: Rest, kept: &mut Forth83)
+    requires called { kept.old.is_called ≤ 1 }
+    requires aside { IsAside kept.old.aside }
+    ensures beside { SameBeside kept.old kept.new }
     ensures kept { IsKept kept.new (state_of (stored kept.old.memory) rest) }
     ensures memory { kept.new.memory ≡ kept.old.memory }
 {

@@ -10,8 +10,9 @@ ghost use Rattle.forth83_c.specs.Kept.{state_of};
 
 use crate::driving::{Course, drive};
 use crate::kept::Rest;
+use crate::record::Forth83Faults;
 use crate::stop::Stop;
-use inner_interpreter::{Answer, Machine};
+use inner_interpreter::{Answer, Event, Machine};
 use machine_parts::parts::Parts;
 use memory::Memory;
 use name_index::NameIndex;
@@ -26,7 +27,7 @@ struct Parted<'m> {
 
 /// The machine of lent memory and the rest, with a table of names that keeps nothing yet.
 #[tactic(auto, unfolding(machine_parts::specs::Whole::place_of))]
-fn over<'m>(memory: &'m mut Memory, rest: Rest, index: NameIndex) -> Machine<'m>
+pub fn over<'m>(memory: &'m mut Memory, rest: Rest, index: NameIndex) -> Machine<'m>
     requires { (limit : ℕ) (m : List ℕ) → Holds limit index m }
     ensures { result ≡ state_at (Some memory.entry.ghost_name) (state_of (stored memory.entry.now) rest) }
 {
@@ -105,13 +106,15 @@ pub fn drive_lent<'m>(
     typed: &[u8],
     shown: &mut [u8],
     limit: u64,
+    calling: bool,
+    faults: Forth83Faults,
 ) -> Driven<'m>
     requires { (limit : ℕ) (m : List ℕ) → Holds limit index m }
     ensures same { result.memory.ghost_name ≡ memory.entry.ghost_name }
-    ensures driven { IsDriven (state_of (stored memory.entry.now) rest.old) typed.now limit
-        (state_of (stored result.memory.now) rest.new) (drop result.course.read typed.now)
+    ensures driven { IsDriven calling faults (state_of (stored memory.entry.now) rest.old) typed.now limit
+        result.course.faults (state_of (stored result.memory.now) rest.new) (drop result.course.read typed.now)
         (told result.stop (stored result.memory.now) (take result.course.shown shown.new)) result.course.left }
-    ensures stopped { HasStopped result.stop (state_of (stored result.memory.now) rest.new)
+    ensures stopped { HasStopped calling result.stop (state_of (stored result.memory.now) rest.new)
         (drop result.course.read typed.now) result.course.left (length shown.new)
         (length shown.new - result.course.shown) }
     ensures left { result.course.left ≤ limit }
@@ -121,7 +124,7 @@ pub fn drive_lent<'m>(
     ensures len { length shown.new ≡ length shown.old }
 {
     let mut machine = over(memory, replace(rest, Rest::blank()), index);
-    let (course, stop) = drive(&mut machine, typed, shown, limit);
+    let (course, stop) = drive(&mut machine, typed, shown, limit, calling, faults);
     let Parted { memory, rest: left } = part(machine);
     *rest = left;
     Driven {
@@ -131,10 +134,11 @@ pub fn drive_lent<'m>(
     }
 }
 
-/// Memory that comes back.
+/// What an answer comes to: memory comes back.
 #[derive(Drop)]
-pub struct Returned<'m> {
+pub struct Answered<'m> {
     pub memory: &'m mut Memory,
+    pub event: Event,
 }
 
 /// Answers what the machine of lent memory and the rest asks, by an answer that it takes.
@@ -143,17 +147,22 @@ pub fn answer_lent<'m>(
     rest: &mut Rest,
     index: NameIndex,
     answer: Answer<'_>,
-) -> Returned<'m>
+) -> Answered<'m>
     requires holds { (limit : ℕ) (m : List ℕ) → Holds limit index m }
     requires goes { rest.old.halt ≡ None }
     requires fits { is_answer (asked_by rest.old.wait) (seen answer) ≡ true }
     ensures same { result.memory.ghost_name ≡ memory.entry.ghost_name }
     ensures answered { state_of (stored result.memory.now) rest.new
         ≡ (answer_of (state_of (stored memory.entry.now) rest.old) (seen answer.entry)).0 }
+    ensures event { result.event
+        ≡ (answer_of (state_of (stored memory.entry.now) rest.old) (seen answer.entry)).1.event }
 {
     let mut machine = over(memory, replace(rest, Rest::blank()), index);
-    let _ = machine.answer(answer);
+    let act = machine.answer(answer).unwrap();
     let Parted { memory, rest: left } = part(machine);
     *rest = left;
-    Returned { memory }
+    Answered {
+        memory,
+        event: act.event,
+    }
 }

@@ -1,25 +1,32 @@
 //! The machine for hosts in C: a record that the host owns, and functions of it.
 #![tactic(auto)]
 
+mod calling;
 mod driving;
 mod finding;
 mod kept;
 pub mod laws;
 mod lent;
 mod lines;
+mod looking;
 pub mod record;
 mod running;
 mod showing;
 mod status;
 mod stop;
+mod text;
+mod tracing;
 
 ghost use Rattle.std.specs.Prelude.{◌≡◌, ◌≢◌, ◌<◌, ◌≤◌, ◌⊎◌, length, take, drop, IsTrue};
 ghost use Rattle.dictionary.specs.Adding.{is_name};
 ghost use Rattle.image_loader.specs.Files.{Contents, IsFile, IsCutShort, IsFollowed, HasBadMagic, HasBadVersion, HasBadBuffers, HasBadSize};
 ghost use Rattle.machine.specs.State.{start};
 ghost use Rattle.machine.specs.Answer.{InputEnd, ReadFault, ReadOk, WriteFault, WriteOk};
-ghost use Rattle.forth83_c.specs.Called.{AsksPage, HasAnswered, HasEntered, HasFound, HasPopped, HasPushed, HasRun, HasSaved, TellsByCode, TellsMachine, WhyNotAnswered, WhyNotEntered, WhyNotFound, WhyNoPage, WhyNotPushed, WhyNotPopped, WhyNotSaved};
-ghost use Rattle.forth83_c.specs.Kept.{IsKept};
+ghost use Rattle.forth83_c.specs.Called.{AsksPage, HasAnswered, HasBegun, HasEntered, HasFound, HasPopped, HasPushed, HasRun, HasSaved, TellsByCode, TellsMachine, WhyNotAnswered, WhyNotEntered, WhyNotFound, WhyNoPage, WhyNotPushed, WhyNotPopped, WhyNotSaved};
+ghost use Rattle.forth83_c.specs.Kept.{IsKept, SameBeside};
+ghost use Rattle.forth83_c.specs.Calls.{ByCode, HasCalled, HasResumed, WhyNotCalled, WhyNotResumed};
+ghost use Rattle.forth83_c.specs.Looked.{HasExtent, HasListed, HasSeen, HasTraced, HasViewed, WhyNoExtent, WhyNotListed, WhyNotSeen, WhyNotTraced, WhyNotViewed};
+ghost use Rattle.forth83_c.specs.declared.kept.TheConstants.{ABI};
 
 use inner_interpreter::Answer;
 use record::{Forth83, Forth83End};
@@ -28,10 +35,11 @@ use std::alloc::Global;
 
 /// Loads an image, of which `image` are the bytes of the file, for a device of `block_count` blocks.
 #[unsafe(no_mangle)]
-pub extern "C" fn forth83_load(image: &[u8], block_count: u32, machine: &mut Forth83) -> u32
+pub extern "C" fn forth83_load_3(image: &[u8], block_count: u32, machine: &mut Forth83) -> u32
     // What is kept then is the machine that the file's image starts with.
     ensures loaded { (contents : Contents) → IsFile image.now contents → result ≡ 0 →
         IsKept machine.new (start contents block_count) }
+    ensures begun { result ≡ 0 → HasBegun machine.new }
     ensures found { result ≡ 0 → (contents : Contents) × IsFile image.now contents }
 
     // Each file is loaded: no memory is asked for.
@@ -53,7 +61,7 @@ pub extern "C" fn forth83_load(image: &[u8], block_count: u32, machine: &mut For
 }
 
 /// Goes on with the machine: by the typed bytes, for at most `limit` ticks, up to where the host is needed. What it shows is
-/// put into `shown`. With room for 65,536 bytes all of it is; with less, bytes of memory that do not fit are left to the host,
+/// put into `shown`. With room for 131,072 bytes all of it is; with less, bytes of memory that do not fit are left to the host,
 /// and `end` says which they are.
 #[unsafe(no_mangle)]
 pub extern "C" fn forth83_run(
@@ -169,6 +177,36 @@ pub extern "C" fn forth83_enter(machine: &mut Forth83, word: u16) -> u32
     running::enter(machine, word).code()
 }
 
+/// Calls the word at a compilation address: where the machine is is kept aside, and the word comes next. When it has returned, a run ends.
+#[unsafe(no_mangle)]
+#[tactic(auto, using(crate::proofs::Codes::code_zero))]
+pub extern "C" fn forth83_call(machine: &mut Forth83, word: u16) -> u32
+    ensures called { result ≡ 0 → HasCalled machine.old machine.new word }
+    ensures why { ByCode WhyNotCalled machine.old result }
+    ensures stays { result ≢ 0 → machine.new ≡ machine.old }
+{
+    calling::call(machine, word).code()
+}
+
+/// Puts the machine back where it was before the call, whether the word has returned or not.
+#[unsafe(no_mangle)]
+#[tactic(auto, using(crate::proofs::Codes::code_zero))]
+pub extern "C" fn forth83_resume(machine: &mut Forth83) -> u32
+    ensures resumed { result ≡ 0 → HasResumed machine.old machine.new }
+    ensures why { ByCode WhyNotResumed machine.old result }
+    ensures stays { result ≢ 0 → machine.new ≡ machine.old }
+{
+    calling::resume(machine).code()
+}
+
+/// The layout of the records of this library.
+#[unsafe(no_mangle)]
+pub extern "C" fn forth83_abi() -> u32
+    ensures { result ≡ ABI }
+{
+    kept::ABI
+}
+
 /// Puts the compilation address of the word that a name means into `word`, as FIND finds it: in CONTEXT's vocabulary, and then
 /// in FORTH.
 #[unsafe(no_mangle)]
@@ -188,11 +226,105 @@ pub extern "C" fn forth83_find(machine: &Forth83, name: &[u8], word: &mut u16) -
     finding::find(machine, name, word).code()
 }
 
+/// Puts the view cell of the word that a name means into `block`: the number of the block in which the word was made.
+#[unsafe(no_mangle)]
+#[tactic(auto, using(crate::proofs::Codes::code_zero))]
+pub extern "C" fn forth83_view(machine: &Forth83, name: &[u8], block: &mut u16) -> u32
+    ensures viewed { result ≡ 0 → HasViewed machine.now name.now block.new }
+    ensures no_machine { TellsMachine machine.now result }
+    ensures why { TellsByCode (WhyNotViewed name.now) machine.now result }
+    ensures untold { result ≢ 0 → block.new ≡ block.old }
+    ensures known { result ≢ 2 }
+{
+    looking::view(machine, name, block).code()
+}
+
+/// Puts the link fields of all headers of all vocabularies into `list`, ascending and each once, and how many they are into `count`.
+#[unsafe(no_mangle)]
+#[tactic(auto, using(crate::proofs::Codes::code_zero))]
+pub extern "C" fn forth83_headers(
+    alloc: Global,
+    machine: &Forth83,
+    list: &mut [u16],
+    count: &mut usize,
+) -> u32
+    ensures listed { result ≡ 0 → HasListed machine.now (take count.new list.new) }
+    ensures fits { result ≡ 0 → count.new ≤ length list.new }
+    ensures beyond { result ≡ 0 → drop count.new list.new ≡ drop count.new list.old }
+    ensures no_machine { TellsMachine machine.now result }
+    ensures why { TellsByCode (WhyNotListed (length list.old)) machine.now result }
+    ensures stays { result ≢ 0 → list.new ≡ list.old }
+    ensures untold { result ≢ 0 → count.new ≡ count.old }
+{
+    looking::headers(alloc, machine, list, count).code()
+}
+
+/// Puts where the thread of the colon word that a name means begins into `from`, and where it ends into `end`, as DEBUG takes it.
+#[unsafe(no_mangle)]
+#[tactic(auto, using(crate::proofs::Codes::code_zero))]
+pub extern "C" fn forth83_extent(
+    alloc: Global,
+    machine: &Forth83,
+    name: &[u8],
+    from: &mut u16,
+    end: &mut u16,
+) -> u32
+    ensures extent { result ≡ 0 → HasExtent machine.now name.now from.new end.new }
+    ensures no_machine { TellsMachine machine.now result }
+    ensures why { TellsByCode (WhyNoExtent name.now) machine.now result }
+    ensures untold_from { result ≢ 0 → from.new ≡ from.old }
+    ensures untold_end { result ≢ 0 → end.new ≡ end.old }
+{
+    looking::extent(alloc, machine, name, from, end).code()
+}
+
+/// Puts SEE's text of the colon word that a name means into `text`, and how many bytes it has into `size`.
+#[unsafe(no_mangle)]
+#[tactic(auto, using(crate::proofs::Codes::code_zero))]
+pub extern "C" fn forth83_see(
+    alloc: Global,
+    machine: &Forth83,
+    name: &[u8],
+    text: &mut [u8],
+    size: &mut usize,
+) -> u32
+    ensures seen { result ≡ 0 → HasSeen machine.now name.now (take size.new text.new) }
+    ensures fits { result ≡ 0 → size.new ≤ length text.new }
+    ensures beyond { result ≡ 0 → drop size.new text.new ≡ drop size.new text.old }
+    ensures no_machine { TellsMachine machine.now result }
+    ensures why { TellsByCode (WhyNotSeen name.now (length text.old)) machine.now result }
+    ensures stays { result ≢ 0 → text.new ≡ text.old }
+    ensures untold { result ≢ 0 → size.new ≡ size.old }
+{
+    looking::see(alloc, machine, name, text, size).code()
+}
+
+/// Puts DEBUG's line of the tick that comes next into `text`, and how many bytes it has into `size`.
+#[unsafe(no_mangle)]
+#[tactic(auto, using(crate::proofs::Codes::code_zero))]
+pub extern "C" fn forth83_trace_line(
+    alloc: Global,
+    machine: &Forth83,
+    text: &mut [u8],
+    size: &mut usize,
+) -> u32
+    ensures traced { result ≡ 0 → HasTraced machine.now (take size.new text.new) }
+    ensures fits { result ≡ 0 → size.new ≤ length text.new }
+    ensures beyond { result ≡ 0 → drop size.new text.new ≡ drop size.new text.old }
+    ensures no_machine { TellsMachine machine.now result }
+    ensures why { TellsByCode (WhyNotTraced (length text.old)) machine.now result }
+    ensures stays { result ≢ 0 → text.new ≡ text.old }
+    ensures untold { result ≢ 0 → size.new ≡ size.old }
+{
+    tracing::trace_line(alloc, machine, text, size).code()
+}
+
 /// Pushes a number on the data stack. `Waiting` while a request waits, since what it needs is on top.
 #[unsafe(no_mangle)]
 #[tactic(auto, using(crate::proofs::Codes::code_zero))]
 pub extern "C" fn forth83_push(machine: &mut Forth83, x: u16) -> u32
     ensures pushed { result ≡ 0 → HasPushed machine.old machine.new x }
+    ensures beside { result ≡ 0 → SameBeside machine.old machine.new }
     ensures waiting { machine.old.asks ≢ 0 → result ≡ 11 }
     ensures no_machine { machine.old.asks ≡ 0 → TellsMachine machine.old result }
     ensures why { machine.old.asks ≡ 0 → TellsByCode WhyNotPushed machine.old result }
@@ -207,6 +339,7 @@ pub extern "C" fn forth83_push(machine: &mut Forth83, x: u16) -> u32
 #[tactic(auto, using(crate::proofs::Codes::code_zero))]
 pub extern "C" fn forth83_pop(machine: &mut Forth83, x: &mut u16) -> u32
     ensures popped { result ≡ 0 → HasPopped machine.old machine.new x.new }
+    ensures beside { result ≡ 0 → SameBeside machine.old machine.new }
     ensures waiting { machine.old.asks ≢ 0 → result ≡ 11 }
     ensures no_machine { machine.old.asks ≡ 0 → TellsMachine machine.old result }
     ensures why { machine.old.asks ≡ 0 → TellsByCode WhyNotPopped machine.old result }

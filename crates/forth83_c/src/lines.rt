@@ -1,6 +1,6 @@
 //! A line of the typed bytes.
 
-ghost use Rattle.std.specs.Prelude.{◌≡◌, ◌≤◌, ◌<◌, length, take, drop, true, IfSome, IsNone};
+ghost use Rattle.std.specs.Prelude.{◌≡◌, ◌≤◌, ◌<◌, ◌++◌, ℕ, List, length, take, drop, true, IfSome, IsNone};
 ghost use Rattle.std.specs.List.{list_all};
 ghost use Rattle.machine.specs.Answer.{is_return, is_typed};
 ghost use Rattle.inner_interpreter.specs.Lines.{line_of};
@@ -25,8 +25,8 @@ fn is_return(byte: u8) -> bool
 
 /// The line of at most `n` bytes; none where neither a return ends it nor so many bytes exist.
 pub fn whole_line(typed: &[u8], n: u16) -> Option<Line>
-    ensures line { IfSome result (λ line. line_of n typed.now ≡
-        record { bytes = take line.count typed.now; returned = line.returned; rest = drop line.next typed.now }) }
+    ensures line { IfSome result (λ line. (more : List ℕ) → line_of n (typed.now ++ more) ≡
+        record { bytes = take line.count typed.now; returned = line.returned; rest = drop line.next typed.now ++ more }) }
     ensures typed { IfSome result (λ line. list_all is_typed (take line.count typed.now) ≡ true) }
     ensures few { IfSome result (λ line. line.count ≤ n) }
     ensures fewer { IfSome result (λ line. line.returned ≡ true → line.count < n) }

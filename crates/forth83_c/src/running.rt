@@ -5,14 +5,15 @@ ghost use Rattle.image_loader.specs.Files.{Contents, IsFile, IsCutShort, IsFollo
 ghost use Rattle.machine.specs.State.{start};
 ghost use Rattle.forth83_c.specs.declared.status.Status.TheVariants as status;
 ghost use Rattle.machine.specs.Answer.{seen};
-ghost use Rattle.forth83_c.specs.Called.{AsksPage, HasAnswered, HasEntered, HasPopped, HasPushed, HasRun, HasSaved, Tells, TellsMachine, WhyNotAnswered, WhyNotEntered, WhyNoPage, WhyNotPushed, WhyNotPopped, WhyNotSaved, code_of};
-ghost use Rattle.forth83_c.specs.Kept.{IsKept, state_of};
+ghost use Rattle.forth83_c.specs.Called.{AsksPage, HasAnswered, HasBegun, HasEntered, HasPopped, HasPushed, HasRun, HasSaved, Tells, TellsMachine, WhyNotAnswered, WhyNotEntered, WhyNoPage, WhyNotPushed, WhyNotPopped, WhyNotSaved, code_of};
+ghost use Rattle.forth83_c.specs.Kept.{IsAside, IsKept, SameBeside, state_of};
 ghost use Rattle.memory.specs.Bytes.{front_put, zeros};
 ghost use Rattle.memory.specs.Mirrored.{stored};
 
+use crate::driving::counted;
 use crate::kept::{Rest, is_record, keep, keep_stack, rest_of, stack_of};
 use crate::lent::{answer_lent, drive_lent};
-use crate::record::{Forth83, Forth83End};
+use crate::record::{Forth83, Forth83Aside, Forth83End, Forth83Faults};
 use crate::status::Status;
 use block_buffers::Buffers;
 use image_loader::{BorrowedImage, ImageFault, write_into};
@@ -67,10 +68,33 @@ fn rest_at_start(image: &BorrowedImage<'_>, block_count: u32) -> Rest
     }
 }
 
+/// No fault was met, and no word is called.
+fn begin(kept: &mut Forth83)
+    ensures faults { kept.new.faults ≡ record { count = 0; last = 0 } }
+    ensures called { kept.new.is_called ≡ 0 }
+    ensures aside { IsAside kept.new.aside }
+    ensures memory { kept.new.memory ≡ kept.old.memory }
+{
+    kept.faults = Forth83Faults { count: 0, last: 0 };
+    kept.is_called = 0;
+    kept.aside = Forth83Aside {
+        ip: 0,
+        has_pending: 0,
+        pending: 0,
+        asks: 0,
+        asked: 0,
+        token: 0,
+        line: [0; 2],
+        returns_top: 0,
+        returns: [0; 257],
+    };
+}
+
 /// Loads an image into a record.
 pub fn load(image: &[u8], block_count: u32, kept: &mut Forth83) -> Status
     ensures loaded { (contents : Contents) → IsFile image.now contents → result ≡ status.Done →
         IsKept kept.new (start contents block_count) }
+    ensures begun { result ≡ status.Done → HasBegun kept.new }
     ensures found { result ≡ status.Done → (contents : Contents) × IsFile image.now contents }
     ensures accepted { (contents : Contents) → IsFile image.now contents → result ≡ status.Done }
     ensures truncated { IsCutShort image.now → result ≡ status.Truncated }
@@ -85,6 +109,7 @@ pub fn load(image: &[u8], block_count: u32, kept: &mut Forth83) -> Status
     match image_loader::read_in_place(image) {
         Ok(image) => {
             hold(&mut kept.memory, image.bytes());
+            begin(kept);
             keep(rest_at_start(&image, block_count), kept);
             Status::Done
         }
@@ -124,10 +149,22 @@ pub fn run(
         return Status::NoMachine;
     };
     let index = NameIndex::new(alloc);
-    let driven = drive_lent(&mut kept.memory, &mut rest, index, typed, shown, limit);
+    let calling = kept.is_called == 1;
+    let faults = kept.faults;
+    let driven = drive_lent(
+        &mut kept.memory,
+        &mut rest,
+        index,
+        typed,
+        shown,
+        limit,
+        calling,
+        faults,
+    );
     let course = driven.course;
     let stop = driven.stop;
     keep(rest, kept);
+    kept.faults = course.faults;
     let span = stop.span();
     *end = Forth83End {
         read: course.read,
@@ -158,8 +195,10 @@ pub fn answer(alloc: Global, kept: &mut Forth83, answer: Answer<'_>) -> Status
         return Status::NotAsked;
     }
     let index = NameIndex::new(alloc);
-    let _returned = answer_lent(&mut kept.memory, &mut rest, index, answer);
+    let answered = answer_lent(&mut kept.memory, &mut rest, index, answer);
+    let event = answered.event;
     keep(rest, kept);
+    kept.faults = counted(event, kept.faults);
     Status::Done
 }
 
@@ -216,6 +255,7 @@ pub fn asked_page(kept: &Forth83, page: &mut [u8]) -> Status
 /// Pushes a number on the data stack of a record, where nothing is asked.
 pub fn push(kept: &mut Forth83, x: u16) -> Status
     ensures pushed { result ≡ status.Done → HasPushed kept.old kept.new x }
+    ensures beside { result ≡ status.Done → SameBeside kept.old kept.new }
     ensures waiting { kept.old.asks ≢ 0 → result ≡ status.Waiting }
     ensures no_machine { kept.old.asks ≡ 0 → TellsMachine kept.old (code_of result) }
     ensures why { kept.old.asks ≡ 0 → Tells WhyNotPushed kept.old result }
@@ -242,6 +282,7 @@ pub fn push(kept: &mut Forth83, x: u16) -> Status
 /// Pops the number on top of the data stack of a record, where nothing is asked.
 pub fn pop(kept: &mut Forth83, x: &mut u16) -> Status
     ensures popped { result ≡ status.Done → HasPopped kept.old kept.new x.new }
+    ensures beside { result ≡ status.Done → SameBeside kept.old kept.new }
     ensures waiting { kept.old.asks ≢ 0 → result ≡ status.Waiting }
     ensures no_machine { kept.old.asks ≡ 0 → TellsMachine kept.old (code_of result) }
     ensures why { kept.old.asks ≡ 0 → Tells WhyNotPopped kept.old result }

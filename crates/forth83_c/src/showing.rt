@@ -1,6 +1,6 @@
 //! What a machine shows, put into a host's bytes.
 
-ghost use Rattle.std.specs.Prelude.{◌≡◌, ◌+◌, ◌-◌, ◌++◌, ◌≤◌, ℕ, List, length, take, drop, IfSome};
+ghost use Rattle.std.specs.Prelude.{◌≡◌, ◌+◌, ◌-◌, ◌++◌, ◌≤◌, ℕ, Bool, List, length, take, drop, IfSome};
 ghost use Rattle.memory.specs.Bytes.{bytes};
 ghost use Rattle.inner_interpreter.specs.Moves.{shown_bytes};
 ghost use Rattle.machine.specs.State.{State};
@@ -10,20 +10,20 @@ use crate::stop::Stop;
 use inner_interpreter::{Machine, Shown};
 use machine_parts::parts::Span;
 
-/// Room for what any act shows.
-const ROOM: usize = 65536;
+/// Room for what any act shows, and as much for what was shown before it.
+const ROOM: usize = 131072;
 
-/// The least room that is left before each act, by the room for all: for any act, or a byte where all is less than that.
+/// The least room that is left before each act, by the room for all: for any act, or a byte where all is less than a large room.
 #[tactic(auto, unfolding(crate::specs::Driven::least_room))]
 pub fn least_room(size: usize) -> usize
     ensures { result ≡ least_room size }
 {
-    if ROOM <= size { ROOM } else { 1 }
+    if ROOM <= size { 65536 } else { 1 }
 }
 
 /// Puts bytes from a place on, and answers the place after them.
 #[tactic(auto, using(crate::proofs::Bytes::put_behind))]
-fn put(out: &mut [u8], at: usize, bytes: &[u8]) -> usize
+pub fn put(out: &mut [u8], at: usize, bytes: &[u8]) -> usize
     requires { at + length bytes.now ≤ length out.old }
     ensures front { take result out.new ≡ take at out.old ++ bytes.now }
     ensures beyond { drop result out.new ≡ drop result out.old }
@@ -56,8 +56,8 @@ pub fn show(machine: &Machine, out: &mut [u8], at: usize, shown: Shown) -> (usiz
     requires room { least_room (length out.old) ≤ length out.old - at }
     ensures front { told_by result.1 machine.now.parts.memory (take result.0 out.new)
         ≡ take at out.old ++ shown_bytes machine.now.parts.memory shown }
-    ensures stopped { (s : State) (unread : List ℕ) (left : ℕ) →
-        IfSome result.1 (λ stop. HasStopped stop s unread left (length out.new) (length out.new - result.0)) }
+    ensures stopped { (calling : Bool) (s : State) (unread : List ℕ) (left : ℕ) →
+        IfSome result.1 (λ stop. HasStopped calling stop s unread left (length out.new) (length out.new - result.0)) }
     ensures beyond { drop result.0 out.new ≡ drop result.0 out.old }
     ensures more { at ≤ result.0 }
     ensures end { result.0 ≤ length out.new }

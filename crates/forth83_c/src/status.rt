@@ -39,8 +39,18 @@ pub enum Status {
     Stack,
     /// No word has the name.
     NotFound,
-    /// The search for the name looks at no more headers of a chain.
+    /// The search for the name looks at no more headers of a chain, or memory has too many headers for a list of all.
     ChainTooLong,
+    /// The word is no colon definition.
+    NotColon,
+    /// The word's thread is that of no text.
+    NotStructured,
+    /// The word has a token without a name that can be read.
+    Nameless,
+    /// A name in the word means another word, or a number is a name.
+    Shadowed,
+    /// A text in the word has a quote.
+    BadText,
 }
 
 impl Status {
@@ -66,6 +76,11 @@ impl Status {
             Status::Stack => 14,
             Status::NotFound => 15,
             Status::ChainTooLong => 16,
+            Status::NotColon => 17,
+            Status::NotStructured => 18,
+            Status::Nameless => 19,
+            Status::Shadowed => 20,
+            Status::BadText => 21,
         }
     }
 }
@@ -83,6 +98,7 @@ impl Stop {
             Stop::Block => 4,
             Stop::Span(_) => 5,
             Stop::Line(_) => 6,
+            Stop::Returned => 7,
         }
     }
 }

@@ -22,6 +22,8 @@ pub enum Stop {
     Span(Span),
     /// These bytes and a blank are shown next, and do not fit into the room.
     Line(Span),
+    /// The word that was called has returned.
+    Returned,
 }
 
 impl Stop {

@@ -4,7 +4,7 @@ use Rattle.forth83_c.proofs.driving.drive.Goals as goal
 
 pub loop-stop-init : goal.loop-stop-init
 loop-stop-init c = record {
-  driven = none_driven c.args.machine.now c.args.typed.now c.args.limit;
+  driven = none_driven c.args.calling c.args.faults c.args.machine.now c.args.typed.now c.args.limit;
   left = omega arith;
   read = omega arith;
   beyond = refl;

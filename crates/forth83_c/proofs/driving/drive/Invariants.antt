@@ -6,7 +6,7 @@ use Rattle.forth83_c.proofs.driving.drive.Given as goal
 -- some rounds were made
 abbrev pub invariant-loop-stop : goal.invariant-loop-stop
 invariant-loop-stop l = record {
-  driven : IsDriven l.fn.machine l.typed l.fn.limit l.machine (drop l.course.read l.typed) (take l.course.shown l.out) l.course.left;
+  driven : IsDriven l.calling l.fn.faults l.fn.machine l.typed l.fn.limit l.course.faults l.machine (drop l.course.read l.typed) (take l.course.shown l.out) l.course.left;
   left : l.course.left ≤ l.fn.limit;
   read : l.course.read ≤ length l.typed;
   beyond : drop l.course.shown l.out ≡ drop l.course.shown l.fn.out;

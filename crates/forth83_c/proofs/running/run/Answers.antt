@@ -2,6 +2,7 @@ use Rattle.std.proofs.Common.{ap}
 use Rattle.machine_parts.specs.declared.parts.Span.{Span}
 use Rattle.memory.specs.Mirrored.{stored}
 use Rattle.forth83_c.specs.Kept.{state_of}
+use Rattle.forth83_c.proofs.Same.{kept_faults}
 use Rattle.forth83_c.proofs.running.run.Goals as goal
 
 pub returns-clause-ran : goal.returns-clause-ran
@@ -9,9 +10,10 @@ returns-clause-ran c = λ _. record {
   before = state_of (stored c.args.kept.now.memory) c.in-Some.rest;
   after = state_of (stored c.drive_lent-driven.result.memory.now) c.drive_lent-driven.new.rest;
   was_kept = c.in-Some.ensures;
-  is_kept = c.keep.ensures.kept;
+  is_kept = kept_faults _ _ _ c.keep.ensures.kept;
   stop = c.drive_lent-driven.result.stop;
   driven = c.drive_lent-driven.ensures.driven;
+  call = record { is_called = c.keep.ensures.beside.call.is_called; aside = c.keep.ensures.beside.call.aside };
   stopped = c.drive_lent-driven.ensures.stopped;
   why = c.code.ensures;
   at = ap (λ (s : Span). s.at) c.span-span.ensures;
