@@ -23,6 +23,8 @@ export class Editor {
     parts.on.addEventListener("click", () => this.go(this.block + 1));
     parts.shadow.addEventListener("click", () => this.go(this.shadowed()));
     parts.load.addEventListener("click", () => this.load());
+    parts.copy.addEventListener("click", () => this.copy());
+    parts.paste.addEventListener("click", () => this.paste());
     index.addEventListener("change", () => this.go(Number(index.value)));
     parts.find.addEventListener("input", () => this.seek());
     parts.found.addEventListener("click", (event) => this.goTo(event.target.closest("button")));
@@ -111,6 +113,20 @@ export class Editor {
   report() {
     const isPicture = isData(this.session.page(this.block));
     this.say(this.wrong ? `Not on the disk yet, but kept as a draft: ${this.wrong.wrong}.` : isPicture ? "This block is a picture or other data, not text: it is only shown." : "");
+  }
+
+  // Copies the screen, to be put onto another one, of this disk or of another.
+  copy() {
+    this.copied = this.parts.text.value;
+    this.parts.paste.disabled = false;
+    this.say(`Screen ${this.block} is copied.`);
+  }
+
+  // Puts the copied screen here; Undo takes it back.
+  paste() {
+    if (this.parts.text.readOnly) return;
+    this.put(this.copied);
+    this.keep();
   }
 
   load() {

@@ -15,9 +15,15 @@ export class MemoryMap {
 
   get machine() { return this.page.session.machine; }
 
+  // SEE of a word; the focus goes to the line if the tab goes away.
   see(button) {
-    if (button) this.page.enter(`SEE ${button.textContent}`);
+    if (!button) return;
+    this.page.enter(`SEE ${button.textContent}`);
+    if (!button.offsetParent) this.page.focusLine();
   }
+
+  // An address in the Forth's BASE, as the film and the Forth itself show it.
+  address(at) { return this.machine.cell(SYSTEM.base) === 16 ? hexadecimal(at) : String(at); }
 
   draw() {
     const { session } = this.page;
@@ -49,7 +55,7 @@ export class MemoryMap {
     }));
     this.parts.parts.replaceChildren(...regions.map(([what, from, to, kind]) => {
       const row = element("tr");
-      row.append(element("td", "", { class: `key ${kind}` }), element("td", what), element("td", hexadecimal(from)), element("td", hexadecimal(to - 1)),
+      row.append(element("td", "", { class: `key ${kind}` }), element("td", what), element("td", this.address(from)), element("td", this.address(to - 1)),
         element("td", String(to - from)));
       return row;
     }));
@@ -74,7 +80,7 @@ export class MemoryMap {
     const code = this.machine.cell(word.word), row = element("tr"), name = element("td");
     name.append(element("button", word.name, { type: "button", title: `SEE ${word.name}` }));
     const kind = KINDS[code] || (code < 256 ? `primitive ${code}` : "made by a word with DOES>");
-    row.append(name, element("td", hexadecimal(word.header)), element("td", String(end - word.header + 2)), element("td", kind),
+    row.append(name, element("td", this.address(word.header)), element("td", String(end - word.header + 2)), element("td", kind),
       element("td", word.view ? `screen ${word.view}` : "typed"));
     return row;
   }

@@ -1,4 +1,5 @@
-"""Makes the machine's WebAssembly module, as ./build-library makes it for the target wasm32, and keeps it in build/out/page."""
+"""Makes the machine's WebAssembly module, as ./build-library makes it for the target wasm32, and keeps it in build/out/page. As a program, it
+makes and keeps that of the proved library."""
 import hashlib
 import json
 import os
@@ -99,3 +100,11 @@ def module_of(wanted: Optional[str]) -> Module:
         return made(True, total)
     say("making the machine's module without proofs, about half a minute; ./forth page --proved makes the proved one")
     return made(False, total)
+
+
+if __name__ == "__main__":
+    try:
+        module_of("proved")
+    except Refused as why:
+        say(str(why))
+        sys.exit(1)

@@ -22,7 +22,7 @@ export class Page {
 
   async begin() {
     this.listen();
-    this.size(Number(await this.work.setting("size")) || 16);
+    this.size(Number(await this.work.setting("size")) || (innerWidth < 2080 ? 16 : 18));
     await this.beginWork((await this.work.setting("work")) || "");
     this.course.find(await this.work.setting("lesson"));
     this.tab((await this.work.setting("tab")) || (DATA.start.length ? (matchMedia(NARROW).matches ? "forth" : "screens") : DATA.screen === null ? "start" : "course"));
@@ -118,6 +118,7 @@ export class Page {
 
   fault(notes) {
     this.transcript.fault();
+    this.outcome = "failed";
     const unknown = /(\S+) is unknown \(fault 13\)/.exec(this.transcript.answer());
     this.advise(unknown ? unknown[1] : "");
     if (!notes.block) return;
@@ -165,6 +166,7 @@ export class Page {
     const shown = cells.slice(-16).flatMap((cell, at) => [at ? " " : "", element("b", String(signed(cell)))]);
     by("stack").replaceChildren(...(isBusy ? ["running"] : shown.length ? shown : ["empty"]));
     by("asks").textContent = isBusy ? "…" : session.waitsForKey ? "key" : session.waitsForAnswer ? "?" : "›";
+    if (session.waitsForLine && this.outcome) this.sign();
     by("line").placeholder = session.waitsForKey ? "the program waits for a key" : "";
     by("program").textContent = session.program ? `${session.program} runs` : "";
     by("disk-name").textContent = `${session.disk.name}, ${session.disk.count} screens`;
@@ -172,6 +174,21 @@ export class Page {
     if (!isBusy && document.body.dataset.tab === "map") this.map.draw();
     if (!isBusy) this.canvas.look();
   }
+
+  // How the line ended is seen for a second where the next one is typed.
+  sign() {
+    const asks = by("asks"), { outcome } = this;
+    this.outcome = "";
+    asks.className = outcome;
+    asks.textContent = outcome === "done" ? "✓" : "✗";
+    clearTimeout(this.signing);
+    this.signing = setTimeout(() => {
+      asks.className = "";
+      this.changed();
+    }, 1000);
+  }
+
+  focusLine() { by("line").focus({ preventScroll: true }); }
 
   listen() {
     this.listenToLine();
@@ -202,7 +219,7 @@ export class Page {
       line.value = "";
     });
     line.addEventListener("paste", (event) => this.paste(event));
-    by("transcript").addEventListener("mouseup", () => String(getSelection()) || line.focus({ preventScroll: true }));
+    by("transcript").addEventListener("mouseup", () => String(getSelection()) || this.focusLine());
   }
 
   listenToButtons() {
@@ -320,6 +337,7 @@ export class Page {
 
   send(...lines) {
     this.isFromEditor = false;
+    this.outcome = "done";
     this.advise("");
     for (const line of lines) if (line.trim() && line !== this.history[this.history.length - 1]) this.history.push(line);
     this.history = this.history.slice(-MOST_LINES);

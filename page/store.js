@@ -89,25 +89,26 @@ export class Store {
     });
   }
 
-  // Writes values all together, or none: "kept", "refused", or "lost" if another window has the work now. A value of undefined removes the
-  // name, and all names that begin so if * is at its end.
-  async write(entries) {
+  // Writes values all together, or none: "kept", "refused", or "lost" if another window has the work now: the one that is owned, or one that
+  // this window had before and nobody else since. A value of undefined removes the name, and all names that begin so if * is at its end.
+  async write(entries, earlier) {
+    const owner = earlier === undefined ? this.owned : `${this.place}/owner/${earlier}`, isClaimed = earlier === undefined ? this.isClaimed : !this.hasLast(owner);
     let isLost = false;
     const put = (kept, name, value) => {
       if (value !== undefined) kept.put(value, name);
       else kept.delete(name.endsWith("*") ? range(name.slice(0, -1)) : name);
     };
     const answer = await this.ask("readwrite", (kept) => {
-      const asking = kept.get(this.owned);
+      const asking = kept.get(owner);
       asking.onsuccess = () => {
-        isLost = this.isClaimed && asking.result !== this.mine;
-        if (!this.isClaimed) kept.put(this.mine, this.owned);
+        isLost = isClaimed && asking.result !== this.mine;
+        if (!isClaimed) kept.put(this.mine, owner);
         if (!isLost) for (const [name, value] of entries) put(kept, `${this.place}/${name}`, value);
       };
       return asking;
     });
     if (isLost) return "lost";
-    if (answer) this.isClaimed = true;
+    if (answer && earlier === undefined) this.isClaimed = true;
     return answer ? "kept" : "refused";
   }
 
@@ -131,11 +132,20 @@ export class Store {
   }
   async values(beginning) { return ((await this.ask("readonly", (kept) => kept.getAll(range(`${this.place}/${beginning}`)))) || { value: [] }).value; }
 
+  // Whether this window was the last one that wanted a work, also where the database refused to note it.
+  hasLast(owner) {
+    try {
+      return localStorage.getItem(owner) === this.mine;
+    } catch {
+      return false;
+    }
+  }
+
   // The last state of a work, as the page is closed: a small place, written at once by its owner. Returns whether it is kept there; a state
   // that is too big for it isn't.
   putLast(work, value) {
     try {
-      if (localStorage.getItem(this.owned) !== this.mine) return false;
+      if (!this.hasLast(this.owned)) return false;
       localStorage.setItem(`${this.place}/last of/${work}`, JSON.stringify(value));
       return true;
     } catch {

@@ -42,7 +42,9 @@ export class Work {
     this.name = name;
     this.empty();
     await this.store.claim(name, () => this.lose());
-    const left = this.left.get(name), kept = left ? Object.assign(this, left.own).left.get(name).kept : await this.found();
+    const left = this.left.get(name), kept = left ? left.kept : await this.found();
+    if (left) Object.assign(this, left.own);
+    this.left.delete(name);
     this.isOurs = true;
     if (kept) Object.assign(this, { step: kept.step || 0, saved: kept.saved || 0, version: kept.version || null, drafts: new Map(kept.drafts || []) });
     this.disk = this.disks.get(kept && kept.disk) || this.disks.get(DATA.first);
@@ -329,9 +331,9 @@ export class Work {
     this.page.opened(true);
   }
 
-  // What the store lacks, as entries, and as [disk, piece]; and which disks it has no more.
-  changes() {
-    const entries = [], pieces = [], { name: work, stored, disks, flying } = this;
+  // What the store lacks of a work, as entries, and as [disk, piece]; and which disks it has no more.
+  changes({ name: work, stored, disks, flying } = this) {
+    const entries = [], pieces = [];
     for (const [name, disk] of stored) if (disks.get(name) !== disk) entries.push([`disks/${work}/${name}`], [`blocks/${work}/${name}/*`]);
     for (const [name, disk] of disks) {
       const isStored = stored.get(name) === disk;
@@ -366,11 +368,22 @@ export class Work {
     if (answer === "kept") {
       this.stored = new Map([...disks].filter(([name, disk]) => has.has(disk) || this.stored.get(name) === disk));
       this.store.dropLast(this.name);
+      await this.keepLeft();
     } else for (const [disk, dirty] of this.flying) disk.dirty = new Set([...disk.dirty, ...dirty]);
     this.flying = new Map();
     if (answer === "lost") this.isOurs = false;
     this.page.kept(answer);
     return answer;
+  }
+
+  // Works of other people that the browser refused when they were left, and may keep now.
+  async keepLeft() {
+    for (const [name, { own, kept }] of this.left) {
+      const { entries } = this.changes({ name, ...own, flying: new Map() });
+      if ((await this.store.write([...entries, [`work/${name}`, kept]], name)) !== "kept") return;
+      this.left.delete(name);
+      this.store.dropLast(name);
+    }
   }
 
   // As the page is closed or hidden: keeps in a smaller place what the database may no longer accept; returns whether that has it.

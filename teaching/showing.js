@@ -186,7 +186,7 @@ function showMemory(number, before) {
 function showPath(frame) {
   const names = chain(frame).map(wordName), most = PATH_ENDS + 2;
   if (names.length > most) names.splice(1, names.length - PATH_ENDS - 1, `… ${names.length - PATH_ENDS - 1} calls …`);
-  part("path").textContent = names.join(" › ");
+  part("path").textContent = names.length > 1 || names[0] !== film.name ? names.join(" › ") : "";
 }
 
 // The line that was typed, or the screen's line that was loaded, with its word that the step is in; a film of the page knows these.

@@ -45,6 +45,8 @@ def chromium() -> str:
 class Browser:
     """A browser with one page."""
 
+    keeps_after_crash = True
+
     def __init__(self, width: int = 1280, height: int = 900) -> None:
         self.room, self.shape = tempfile.TemporaryDirectory(), (width, height)
         self.errors: List[str] = []

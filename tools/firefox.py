@@ -27,6 +27,8 @@ def free_port() -> int:
 class Firefox:
     """A browser, which may be killed and started again with what it has kept."""
 
+    keeps_after_crash = True
+
     def __init__(self) -> None:
         self.room = tempfile.TemporaryDirectory()
         self.errors: List[str] = []

@@ -191,14 +191,14 @@ def check_modules(cases: Tally) -> None:
         cases.must(got == TOLD, f"the modules in node: {got}")
 
 
-# Node takes a session that a page of version 1.0.0 kept, by calls that do nothing: whether each record is the one that is wanted.
+# Node takes sessions that pages of versions 1.0.0 and 2.0.0 kept, by calls that do nothing: whether each record is the one that is wanted.
 KEPT = """
 import { readFileSync } from "node:fs";
 import { Session } from "./session.js";
 const layout = JSON.parse(readFileSync(0)), memory = new WebAssembly.Memory({ initial: 8 });
 let free = 1024;
 const done = () => 0, malloc = (size) => (free += size) - size;
-const session = new Session({ memory, malloc, free: done, forth83_load: done }, layout, new Uint8Array(16), {});
+const session = new Session({ memory, malloc, free: done, forth83_load_3: done }, layout, new Uint8Array(16), {});
 const record = (size, abi) => {
   const made = Uint8Array.from({ length: size }, (_, at) => (7 * at + 3) % 251);
   new DataView(made.buffer).setUint32(0, abi, true);
@@ -212,22 +212,22 @@ const take = (now, before) => {
     return error.message;
   }
 };
-const old = record(66724, 1), wanted = new Uint8Array(66740);
+const old = record(66724, 1), later = record(66740, 2), wanted = new Uint8Array(67276);
 wanted.set(old.subarray(0, 66722));
-wanted[0] = 2;
+wanted[0] = 3;
 const isSame = (one, other) => Buffer.compare(one, other) === 0;
-const found = take(old, old).map((one) => isSame(one, wanted));
-const mine = record(66740, 2), kept = take(mine, null);
+const found = [...take(old, old), ...take(later, later)].map((one) => isSame(one, wanted));
+const mine = record(67276, 3), kept = take(mine, null);
 found.push(isSame(kept[0], mine), kept[1], isSame(take(mine, old)[1], wanted), isSame(old, record(66724, 1)));
-found.push(take(record(66724, 3), null), take(record(66723, 1), null), take(record(66722, 1), null), take(mine, record(66724, 2)));
+found.push(take(record(66724, 3), null), take(record(66723, 1), null), take(record(66740, 1), null), take(mine, record(66724, 2)));
 console.log(JSON.stringify(found));
 """
 
 
 def check_kept(cases: Tally) -> None:
-    """A session that a page of version 1.0.0 kept has records of layout 1, which become those of layout 2; other sizes are refused."""
+    """Sessions that pages of versions 1.0.0 and 2.0.0 kept have records of layouts 1 and 2, which become those of layout 3; other sizes are refused."""
     got = in_node(KEPT, json.dumps(records.layout()))
-    cases.must(got in (None, [True, True, True, None, True, True, *["other sizes"] * 4]), f"a session of version 1.0.0 in node: {got}")
+    cases.must(got in (None, [True, True, True, True, True, None, True, True, *["other sizes"] * 4]), f"sessions of earlier versions in node: {got}")
 
 
 def check(cases: Tally) -> None:

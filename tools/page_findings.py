@@ -241,11 +241,57 @@ def after_update(trial: Trial, program: pathlib.Path, room: pathlib.Path) -> Non
     trial.page = first
 
 
+def copied_screens(trial: Trial) -> None:
+    """A screen is copied onto another one, and Undo takes it back."""
+    trial.value("page.tab('screens'), page.editor.go(7), 0")
+    frame(trial, "( to be copied )\nline 1")
+    trial.click("screen-copy")
+    trial.value("page.editor.go(8), 0")
+    frame(trial, "( written over )")
+    trial.click("screen-paste")
+    same = "isSame(page.session.page(7), page.session.page(8))"
+    trial.must(trial.value(same) and screen(trial, 8) == "( to be copied )", "a copied screen")
+    trial.value("page.work.undos.forEach((one) => (one.when = 0))")
+    trial.click("undo")
+    trial.must(screen(trial, 8) == "( written over )", "Undo of a copied screen")
+
+
+def low_windows(trial: Trial) -> None:
+    """At 200 % on small laptops a film's word, its stacks and its buttons are in sight; letters can be made larger on a telephone."""
+    trial.type(": SQUARES ( n -- ) 1+ 1 DO I DUP * . LOOP ;")
+    for width, height in ((683, 325), (960, 470)):
+        trial.browser.size(width, height)
+        trial.value("page.showFilm('4 SQUARES'), 0")
+        trial.wait("page.film.isShown")
+        inner = "document.getElementById('film-frame').contentDocument.getElementById('%s').getBoundingClientRect().%s"
+        above = "document.getElementById('film-frame').getBoundingClientRect().top"
+        for part in ("source", "data", "returns", "buttons"):
+            lowest = trial.value(f"{above} + {inner % (part, 'bottom')}")
+            trial.must(lowest <= height, f"{part} of a film ends at {lowest} of {height}")
+        trial.must(trial.value(inner % ("data", "height")) > 60, f"no room for the stack in a window of {width} by {height}")
+    trial.browser.size(390, 844)
+    trial.must(trial.value("document.getElementById('larger').getBoundingClientRect().right") <= 390, "no button for larger letters on a telephone")
+    trial.browser.size(1280, 900)
+
+
+def signs(trial: Trial) -> None:
+    """How a line ended is seen beside the next one for a moment; addresses are in the Forth's BASE."""
+    for line, sign in (("1 DROP", "✓"), ("NOSUCHWORD", "✗")):
+        trial.enter(line)
+        trial.must(trial.wait(f"document.getElementById('asks').textContent === '{sign}'", 5), f"the sign after {line}")
+    trial.must(trial.wait("document.getElementById('asks').textContent === '›'", 5), "the sign goes away")
+    address = "document.querySelector('#map-parts tr:nth-child(3) td:nth-child(3)').textContent"
+    for base, wanted in (("HEX", "0100"), ("DECIMAL", "256")):
+        trial.type(base)
+        trial.value("page.tab('map'), 0")
+        trial.must(trial.value(address) == wanted, f"addresses in {base}")
+
+
 def check(trial: Trial, program: pathlib.Path, room: pathlib.Path) -> None:
     """All of them."""
     page: Any = trial.page
     fresh(trial, page)
-    for part in (other_disks, drafts, typed_again, old_bytes, without_storage, big_disk):
+    for part in (other_disks, drafts, typed_again, old_bytes, without_storage, big_disk, copied_screens, low_windows, signs):
         part(trial)
     after_update(trial, program, room)
     of_an_older_page(trial)

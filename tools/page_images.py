@@ -134,7 +134,7 @@ def check_saved(trial: Trial, program: pathlib.Path, room: pathlib.Path) -> None
 def check_tools(trial: Trial, program: pathlib.Path, room: pathlib.Path) -> None:
     """An image of `./forth --image`: its doors are those of a pipe."""
     (room / "own.txt").write_text("% screen 30\n: GREET ( -- ) .\" from an image \" KEY DROP KEY . ;\nBOOT GREET\n", encoding="ascii")
-    images = [room / f"{door}.img" for door in ("terminal", "pipe", "quiet", "debug")]
+    images = [room / f"{door}.img" for door in ("terminal", "pipe", "quiet")]
     command(program, "kernel", room / "tools.blk")
     command(ROOT / "build/images", "--doors", program, room / "tools.blk", *images)
     command(program, "new", room / "own.blk", 64)

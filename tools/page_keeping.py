@@ -1,4 +1,4 @@
-"""Nothing is lost: random acts at the page, in Chromium and Firefox, against a model of the disks that each must leave; of all disks the
+"""Nothing is lost: random acts at the page, in Chromium, Firefox and WebKit, against a model of the disks that each must leave; of all disks the
 bytes are compared after each act."""
 import base64
 import json
@@ -508,7 +508,8 @@ class Keeping:
             (self.update, 1), (self.person, 2)]  # fmt: skip
         acts, weights, done = [kind for kind, _ in kinds], [weight for _, weight in kinds], {}  # type: ignore
         for number in range(count):
-            act = self.crash if number % 250 == 249 else self.dice.choices(acts, weights)[0]
+            is_crash = number % 250 == 249 and self.browser.keeps_after_crash
+            act = self.crash if is_crash else self.dice.choices(acts, weights)[0]
             name = act.__name__
             done[name] = done.get(name, 0) + 1
             if not self.check(name, act()):
