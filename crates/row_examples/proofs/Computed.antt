@@ -390,4 +390,15 @@ unfolding start holds moved_front entry_at slot_of assigned front_marked has_upd
 hold_editor = record {
   line_1 = λ w s. refl;
   line_2 = λ w s. refl;
+  put_1 = λ w s. refl;
+  insert_1 = λ w s. refl;
+  delete_1 = λ w s. refl;
+  wipe_1 = λ w s. refl;
+  put_2 = λ w s. refl;
+  insert_2 = λ w s. refl;
+  delete_2 = λ w s. refl;
+  wipe_2 = λ w s. refl;
+  put_3 = λ w s. refl;
+  insert_3 = λ w s. refl;
+  delete_3 = λ w s. refl;
 }
