@@ -1,21 +1,13 @@
 #!/usr/bin/env bash
-# The Forth over a file of blocks; `./forth --help` says how. It runs the Forth with its tools, at a terminal or in a pipe,
-# and makes images of programs. If the program is not proved yet, it runs the same program without its proofs, and starts the proof in
-# the background.
+# The Forth over a file of blocks; `./forth --help` says how. A session is commands/session, which runs the program; if there is no
+# proved program yet, it has this launcher make the same one without its proofs, and start the proof in the background.
 set -uo pipefail
 here=$(cd "$(dirname "$(readlink -f "${BASH_SOURCE[0]}")")" && pwd)
 forth83=$here/crates/forth83/out/forth83
 kept=$here/build/out
-names=(plain tools piped quiet debug)
 building=
-feeder=
-door=
-texts=()
-lines=()
 wanted=
 unproved=
-size=
-is_new=
 
 say() {
   echo "forth: $1" >&2
@@ -33,6 +25,8 @@ usage: ./forth [TEXT..] [BLOCKS]             loads each TEXT, a file of Forth su
        ./forth --proved [BLOCKS]             waits for the proved program, if it is not there yet
        ./forth --unproved [BLOCKS]           runs the program without proofs, and starts no proof
        ./forth --on DEVICE [--speed N] [..]  uses a serial port, or another terminal, as its console, with the other arguments
+       ./forth .. -- ARGUMENT..              gives the program arguments, which the word ARGUMENT finds
+       ./forth --dap                         a debugger for editors, over standard input and output
        ./forth --status                      shows which program there is, and how far its proof is
        ./forth --version                     prints the version of the program, and whether it is proved
        ./forth where IMAGE [BLOCKS]          runs an image, and shows at which word of which screen its fault happens
@@ -53,7 +47,6 @@ usage: ./forth [TEXT..] [BLOCKS]             loads each TEXT, a file of Forth su
 Write a name that begins with - as ./-NAME, and a block file that is named like a command, such as film, as ./film.
 END
 }
-
 # misused WHAT: ends with status 2, since the command line is wrong.
 misused() {
   say "$1"
@@ -72,20 +65,43 @@ need_python() {
   command -v python3 > /dev/null || refuse "$1 needs python3, which is not installed"
 }
 
-# The other functions, by subject.
-# shellcheck source=commands/forth/program.sh
-. "$here/commands/forth/program.sh" || exit 1
-# shellcheck source=commands/forth/blocks.sh
-. "$here/commands/forth/blocks.sh" || exit 1
-# shellcheck source=commands/forth/runs.sh
-. "$here/commands/forth/runs.sh" || exit 1
-# shellcheck source=commands/forth/images.sh
-. "$here/commands/forth/images.sh" || exit 1
-# shellcheck source=commands/forth/course.sh
-. "$here/commands/forth/course.sh" || exit 1
+# need_program: the program that runs, in a folder of this run where it cannot be kept.
+need_program() {
+  # shellcheck source=commands/forth/program.sh
+  . "$here/commands/forth/program.sh" || exit 1
+  make_room
+  find_program
+}
 
-sources=
+# Becomes the session. The system's own Python is taken first: what PATH has may be a script that looks for another one, which takes longer.
+run_session() {
+  local python=/usr/bin/python3
+  [ -x "$python" ] || { python=python3 && need_python "the Forth"; }
+  # The host's compiled modules are kept beside the images, except in an installation, whose files ./install has listed.
+  [ ! -e "$here/sources.sum" ] || kept=${XDG_CACHE_HOME:-${HOME:-$here}/.cache}/jaurimet
+  exec "$python" -I -S -X "pycache_prefix=$kept/python" "$here/commands/session" "$@"
+}
+
 case ${1:-} in
+  -h | --help) usage ;;
+  --version)
+    # shellcheck source=commands/forth/program.sh
+    . "$here/commands/forth/program.sh" || exit 1
+    show_version
+    ;;
+  --status)
+    [ $# -eq 1 ] || misused '--status takes no other option and no file'
+    need_python --status
+    exec "$here/build/prove" --status
+    ;;
+  --program)
+    # For the session: the path of the program, which is made if it is not there; it is in a folder of its own if it cannot be kept.
+    wanted=${2:-}
+    need_program
+    [ -z "$unproved" ] || "$forth83" --version > /dev/null || exit 1
+    [ "$forth83" != "$room/unproved" ] || trap - EXIT
+    echo "$forth83"
+    ;;
   --on) exec "$here/commands/on" "${@:2}" ;;
   blocks) exec "$here/commands/blocks" "${@:2}" ;;
   film | map | print | class | survey | capitals | import | export)
@@ -105,12 +121,13 @@ case ${1:-} in
       *' --unproved '*) wanted=unproved ;;
     esac
     python3 -B "$here/page/make" --program - --look "${@:2}" || exit
-    make_room
-    find_program
+    need_program
     python3 -B "$here/page/make" --program "$forth83" "${@:2}"
     exit
     ;;
   course)
+    # shellcheck source=commands/forth/course.sh
+    . "$here/commands/forth/course.sh" || exit 1
     case ${2:-} in
       --hints | --solutions)
         [ $# -eq 3 ] || misused "course $2 needs the number of a lesson"
@@ -130,8 +147,13 @@ case ${1:-} in
     esac
     [ $# -le 2 ] || misused 'course takes no more than the name of its file of blocks'
     blocks=${2:-course.blk}
-    [ -e "$blocks" ] || make_course
-    exec "$here/forth" "$here/screens/course/course.fs" "$blocks"
+    [ -e "$blocks" ] || {
+      need_program
+      make_course
+      leave
+      trap - EXIT
+    }
+    run_session "$here/screens/course/course.fs" "$blocks"
     ;;
   where)
     case ${2:-} in
@@ -139,94 +161,9 @@ case ${1:-} in
       -*) misused "where has no option $2" ;;
     esac
     { [ $# -eq 2 ] || [ $# -eq 3 ]; } || misused 'where needs an IMAGE, and BLOCKS if the image uses a file of blocks'
-    make_room
-    find_program
+    need_program
     "$here/commands/where" "$forth83" "${@:2}"
     exit
     ;;
+  *) run_session "$@" ;;
 esac
-own=
-while [ $# -gt 0 ]; do
-  case $1 in
-    -h | --help) usage; exit ;;
-    --version) show_version; exit ;;
-    --status)
-      [ $# -eq 1 ] || misused '--status takes no other option and no file'
-      need_python --status
-      exec "$here/build/prove" --status
-      ;;
-    --proved | --unproved) wanted=${1#--}; shift ;;
-    --quiet | --kernel)
-      [ "${door:-${1#--}}" = "${1#--}" ] || misused '--quiet and --kernel cannot be used together'
-      door=${1#--}
-      shift
-      ;;
-    --image)
-      { [ $# -ge 4 ] && [ -n "$2" ]; } || misused '--image needs OWN, the name of an image, and the screens FROM TO'
-      own=$2 from=$3 to=$4
-      shift 4
-      ;;
-    --kernel-of) [ -n "${2:-}" ] || misused '--kernel-of needs the name of a file'; sources=$2; shift 2 ;;
-    -e)
-      [ $# -ge 2 ] || misused '-e needs some words of Forth'
-      [ "${door:-quiet}" = quiet ] || misused '-e and --kernel cannot be used together'
-      door=quiet
-      lines+=("$2")
-      shift 2
-      ;;
-    -*) misused "there is no option $1" ;;
-    *)
-      is_text "$1" || break
-      texts+=("$1")
-      shift
-      ;;
-  esac
-done
-[ $# -le 1 ] || misused "name one file of blocks, and no option after it: $*"
-case "$own $sources" in -* | *' -'*) misused 'write a name that begins with - as ./-NAME' ;; esac
-[ "${#texts[@]}" -eq 0 ] || { [ "$door" != kernel ] && [ -z "$own" ]; } || misused "a text cannot be used with --kernel or --image"
-if [ -n "$own" ]; then
-  [[ $from =~ ^[0-9]{1,5}$ && $to =~ ^[0-9]{1,5}$ && $((10#$from)) -le 65535 && $((10#$to)) -le 65535 ]] ||
-    misused "FROM and TO must be numbers of screens, 0 to 65535, not $from $to"
-  from=$((10#$from)) to=$((10#$to))
-fi
-[ $# -eq 0 ] || [ -n "$1" ] || misused 'the name of the file of blocks is empty'
-blocks=${1:-$sources}
-if [ -z "$blocks" ] && { [ "$door" != quiet ] || [ -n "$own" ]; }; then
-  blocks=forth.blk
-fi
-if [ -z "$door$own" ] && [ -t 0 ] && { [ -t 1 ] || [ -p /dev/stdout ]; }; then
-  run_at_terminal
-fi
-prepare
-if [ -n "$own" ]; then
-  make_own
-  exit
-fi
-status=0
-if [ "${#texts[@]}${#lines[@]}" != 00 ]; then
-  exec < <(input)
-fi
-if [ "$door" = kernel ]; then
-  run_in_pipe "$images/plain.img"
-elif [ "$door" = quiet ]; then
-  run_in_pipe "$images/quiet.img"
-elif [ -t 0 ]; then
-  door=terminal
-  run_in_pipe "$images/tools.img"
-else
-  door=pipe
-  run_in_pipe "$images/piped.img"
-fi
-case $door:$status in
-  pipe:3 | quiet:3) say "a fault stopped the script" ;;
-  *:3) say "a fault that no fault thread handles stopped the run" ;;
-  *:4) say "the limit of ticks stopped the run" ;;
-  *:5) say "standard input or output failed" ;;
-esac
-[ -n "$blocks" ] || exit "$status"
-keep_session
-case $door:$status in
-  kernel:3 | terminal:3 | *:4) say "screens changed since the last SAVE may not be in $blocks" ;;
-esac
-exit "$status"

@@ -11,7 +11,7 @@ import subprocess
 import tempfile
 import threading
 import time
-from typing import List, NamedTuple, Optional, Tuple
+from typing import List, NamedTuple, Optional
 
 import program
 from trials import BYTES, CHECKERS, Lesson, Trial, cut, is_left, lessons_of, lines_of, screen_of, trials_of
@@ -38,20 +38,6 @@ class Ended(NamedTuple):
     shown: str
 
 
-def door_images(forth83: program.Program, room: pathlib.Path) -> Tuple[pathlib.Path, pathlib.Path]:
-    """The images for a pipe and for a quiet pipe: the kept ones, or new ones in the room."""
-    kept = program.KEPT / "piped.img", program.KEPT / "quiet.img"
-    if forth83.is_proved and all(program.is_made(image, forth83) for image in kept):
-        return kept
-    forth83.text(["kernel", room / "kernel.blk"])
-    made = [room / f"{name}.img" for name in ("tools", "piped", "quiet", "debug")]
-    done = subprocess.run([program.ROOT / "build/images", "--doors", forth83.path, room / "kernel.blk", *made],
-                          stdout=subprocess.PIPE, stderr=subprocess.PIPE, check=False)
-    if done.returncode:
-        raise program.Refusal(f"the images of the tools cannot be made: {program.said_by(done)}")
-    return made[1], made[2]
-
-
 class Desk:
     """Where lessons are checked: the course's blocks, and two images that have loaded its checkers."""
 
@@ -62,7 +48,8 @@ class Desk:
             raise program.Refusal("no screen of the course has a title like ( Lesson 1: a line of Forth )")
         (room / "course.blk").write_bytes(course)
         self.images = []
-        for image in door_images(forth83, room):
+        images = program.tools_images(forth83)
+        for image in images / "piped.img", images / "quiet.img":
             out = room / f"course-{image.name}"
             forth83.text(["load", "--where", image, room / "course.blk", "1", "1", out])
             self.images.append(out)

@@ -10,6 +10,7 @@ KEPT = ROOT / "build/out"
 sys.path.append(str(ROOT / "commands"))
 
 import quiet_end  # noqa: E402
+from served import image  # noqa: E402
 
 
 class Refusal(Exception):
@@ -86,20 +87,9 @@ def said_by(done: "subprocess.CompletedProcess[bytes]") -> str:
     return said or f"the program ended with status {done.returncode}"
 
 
-def is_made(image: pathlib.Path, program: Program) -> bool:
-    """Whether an image of the tools exists, and nothing that it is made of is newer."""
-    sources = [program.path, ROOT / "build/images", *(ROOT / "screens/tools").glob("**/*.txt")]
-    return image.is_file() and all(source.stat().st_mtime <= image.stat().st_mtime for source in sources)
-
-
-def tools_image(program: Program, room: pathlib.Path) -> pathlib.Path:
-    """The image that ./forth starts with at a terminal: the kept one, or one that is made in the room."""
-    kept, made, blocks = KEPT / "tools.img", room / "tools.img", room / "kernel.blk"
-    if program.is_proved and is_made(kept, program):
-        return kept
-    program.text(["kernel", blocks])
-    done = subprocess.run([ROOT / "build/images", program.path, blocks, made], stdout=subprocess.PIPE,
-                          stderr=subprocess.PIPE, check=False)
-    if done.returncode:
-        raise Refusal(f"the image of the tools cannot be made: {said_by(done)}")
-    return made
+def tools_images(program: Program) -> pathlib.Path:
+    """The folder with the images of the tools that need no host: tools.img, piped.img and quiet.img."""
+    try:
+        return pathlib.Path(image.find_doors(str(program.path)))
+    except (image.NotMade, OSError) as error:
+        raise Refusal(f"the images of the tools cannot be made: {error}") from error

@@ -6,71 +6,17 @@
 FORTH and FORTH83 are the launchers, of the tree or installed, and SHARE is the folder with screens and examples.
 """
 import argparse
-import fcntl
 import os
 import pathlib
-import pty
 import re
-import select
 import shlex
-import struct
 import subprocess
 import sys
 import tempfile
-import termios
-import time
-from typing import Callable, Dict, List
+from typing import Dict, List
 
 import sessions
-
-ESCAPES = re.compile(rb"\x1b\[[0-9;?]*[ -/]*[@-~]|\x1b_[^\x1b]*\x1b\\|\x1b[@-Z78=>]|[\x07\x18]")
-DONE = (b" ok\r\n", b" compiled\r\n")
-GREETED = b"interrupts what is running.\r\n"
-QUIET, PATIENCE = 0.6, 60.0  # seconds of silence after a line that does not end with ok; and for a line
-
-
-class Terminal:
-    """The Forth at a terminal of 200 columns, so that no line is folded."""
-
-    def __init__(self, words: List[str], room: pathlib.Path) -> None:
-        self.process, self.screen = pty.fork()
-        if self.process == 0:
-            try:
-                os.chdir(room)
-                os.environ.update(TERM="xterm", HOME=str(room))
-                os.execvp(words[0], words)
-            finally:
-                os._exit(127)
-        fcntl.ioctl(self.screen, termios.TIOCSWINSZ, struct.pack("HHHH", 50, 200, 0, 0))
-        self.read(lambda shown: shown.endswith(GREETED))
-
-    def read(self, is_done: Callable[[bytes], bool]) -> bytes:
-        """What is shown until it is done, or has been silent for a while, or the Forth has ended."""
-        shown, until, silent_since = b"", time.monotonic() + PATIENCE, time.monotonic()
-        while time.monotonic() < until and not is_done(shown):
-            if select.select([self.screen], [], [], 0.05)[0]:
-                try:
-                    piece = os.read(self.screen, 65536)
-                except OSError:
-                    break
-                shown, silent_since = shown + piece, time.monotonic()
-            elif shown.endswith(b"\n") and time.monotonic() - silent_since > QUIET:
-                break
-        return shown
-
-    def type(self, line: str) -> List[str]:
-        """Types a line, and gives the lines that are shown after it."""
-        os.write(self.screen, line.encode() + b"\r")
-        shown = self.read(lambda so_far: so_far.endswith(DONE))
-        text = ESCAPES.sub(b"", shown).decode("utf-8", "replace").replace("\r\n", "\n").replace("\r", "")
-        return sessions.answer_in(text.partition(line)[2])
-
-    def leave(self) -> None:
-        """BYE."""
-        os.write(self.screen, b"BYE\r")
-        self.read(lambda so_far: False)
-        os.close(self.screen)
-        os.waitpid(self.process, 0)
+from session_terminals import Terminal, types
 
 
 class Replay:
@@ -98,12 +44,16 @@ class Replay:
             if not re.fullmatch(r"\./forth( \S+\.blk)?", step.typed):
                 self.compare(step, self.shell(step.typed))
                 continue
-            terminal = Terminal([self.commands["./forth"], *step.typed.split()[1:]], self.room)
+            words = [self.commands["./forth"], *step.typed.split()[1:]]
+            terminal = Terminal(words, self.room, {**os.environ, "TERM": "xterm", "HOME": str(self.room)})
+            terminal.until("interrupts what is running.\r\n")
             while steps and not steps[0].at_shell:
                 inside = steps.pop(0)
                 if inside.typed != "BYE":
-                    self.compare(inside, terminal.type(inside.typed))
-            terminal.leave()
+                    self.compare(inside, types(terminal, inside))
+            terminal.is_ready()
+            terminal.keys("BYE\r")
+            terminal.status()
 
 
 def check(forth: str, forth83: str, share: pathlib.Path, at_least: int = 100) -> int:

@@ -108,7 +108,7 @@ def shown_after(steps: List[Step], output: str) -> List[str]:
 
 
 class Runner:
-    """Runs cases in a folder, by its program itself: the launcher would take longer than most cases."""
+    """Runs cases in a folder."""
 
     def __init__(self, folder: Folder) -> None:
         self.folder = folder
@@ -138,6 +138,6 @@ class Runner:
             return [said]
         steps = [*(Step(f"{FIRST[name]} LOAD") for name in case.dialects()), *case.steps]
         typed = "".join(step.lines() for step in steps)
-        output = self.folder.run([self.program, "run", "--limit", "100000000", "tools", "case.blk"], typed)
+        output = self.folder.typed("case.blk", typed)
         output = re.sub(r"\x1b\[[0-9;]*[A-Za-z]", "", output)
         return [wrong for step, got in zip(steps, shown_after(steps, output)) if (wrong := step.fails(got)) is not None]

@@ -22,7 +22,7 @@ SESSION: List[Function] = [("session_runs", "sessions.rt", "do_session", "moved"
 BUILD: List[Function] = [("image_builder", "building.rt", "build", "read"), ("subcommands", "commands.rt", "do_build", "read")]
 REFUSED: List[Function] = [("image_builder", "building.rt", "build", "refused")]
 LOADS: List[Function] = [("image_loader", "reader.rt", "read", "accepted"), ("machine", "machine.rt", "load")]
-LIBRARY = ("load", "run", "read", "written", "ended", "failed", "page", "enter", "find", "push", "pop", "save")
+LIBRARY = ("load_3", "run", "read", "written", "ended", "failed", "page", "enter", "call", "resume", "abi", "find", "push", "pop", "save")
 HEADLINE = "The headline: the four after the table together"
 
 PROMISES: Dict[str, Promise] = {
@@ -55,7 +55,7 @@ PROMISES: Dict[str, Promise] = {
     "SEE": Promise(
         [("see", "seeing.rt", "see")], [], "The text of a word that SEE answers is a definition which compiles to just the word's thread; any other word is refused, and why."),
     "Requests of a host": Promise(
-        [("serving", "serving.rt", "serve"), ("serving", "laws.rt", "spelling_law"), ("serving", "laws.rt", "framing_law")], ENDS,
+        [("serving", "serving.rt", "serve"), ("serving", "laws.rt", "spelling_law"), ("serving", "laws.rt", "framing_law"), ("serving", "laws.rt", "kept_law")], ENDS,
         "What a host's frames ask is done, each request after the other, and nothing else; just the replies that the definitions say are sent."),
     "The resident compiler agrees": Promise(
         [("metacompiler", "load.rt", "load_on"), ("metacompiler", "load.rt", "load_by_machine"), ("metacompiler", "laws.rt", "agree_law")], ENDS,

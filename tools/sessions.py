@@ -9,6 +9,7 @@ makes of the program.
 - What is shown is below. If nothing is below a line after `>`, the Forth must answer ok, and nothing else; only BYE shows nothing.
   Control sequences of a terminal (`ESC [`) and blanks at line ends are left out.
 """
+import os
 import pathlib
 import re
 import shutil
@@ -16,6 +17,8 @@ import subprocess
 import sys
 import tempfile
 from typing import List
+
+import typed_sessions
 
 ROOT = pathlib.Path(__file__).resolve().parent.parent
 
@@ -69,19 +72,32 @@ class Folder:
     def __init__(self, room: str, program: pathlib.Path) -> None:
         self.room = room
         subprocess.run([ROOT / "tools/lay-built", program, room], check=True)
+        self.program = f"{room}/crates/forth83/out/forth83"
         self.run(["./forth83", "kernel", "kernel"])
-        self.run(["build/images", "./forth83", "kernel", "tools"])
+        shutil.copy(self.image(), f"{room}/tools")
 
     def run(self, words: List[str], typed: str = "") -> str:
         ends = {"stdout": subprocess.PIPE, "stderr": subprocess.STDOUT}
         return subprocess.run(words, cwd=self.room, input=typed, text=True, check=False, **ends).stdout
 
+    def image(self) -> pathlib.Path:
+        """The image that sessions start with."""
+        return pathlib.Path(typed_sessions.image.find(self.program), "served.img")
+
+    def typed(self, blocks: str, typed: str) -> str:
+        """What a session over a file of blocks shows, with what is typed in it."""
+        here = os.getcwd()
+        os.chdir(self.room)
+        try:
+            return typed_sessions.shown_by(self.program, blocks, typed)
+        finally:
+            os.chdir(here)
+
     def session(self, command: str, steps: List[Step]) -> List[List[str]]:
         blocks = (command.split() + ["forth.blk"])[1]
         if not pathlib.Path(self.room, blocks).exists():
             shutil.copy(f"{self.room}/kernel", f"{self.room}/{blocks}")
-        typed = "".join(f"{step.typed}\n{step.answers}" for step in steps)
-        output = self.run(["./forth83", "run", "tools", blocks], typed)
+        output = self.typed(blocks, "".join(f"{step.typed}\n{step.answers}" for step in steps))
         return parted(steps, re.sub(r"\x1b\[[0-9;]*[A-Za-z]", "", output))
 
 

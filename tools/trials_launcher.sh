@@ -1,9 +1,10 @@
 # shellcheck shell=bash
 # Trials of the launcher ./forth, over the program. `tools/trials` reads this file.
 
-# The launcher ./forth, over the program: its files, its refusals and, if it can be tried, a terminal.
+# The launcher ./forth, over the program: its files and its refusals. tools/check-served tries it at a terminal.
 forth() {
   local shown
+  export HOME=$room
   "$images/../tools/lay-built" "$program" tree
   mkdir home
   cd home
@@ -14,26 +15,24 @@ forth() {
   starts 'a line that the end of input keeps' $'23 SCR ! 0 PUT 2 3 * .  ok\n[0]' '' '23 SCR ! 0 PUT 2 3 * .\n'
   starts 'lines that were kept' $'22 LOAD 23 LOAD 25 6  ok\n[0]' '' '22 LOAD 23 LOAD\n'
   differs "./forth: its files" forth.blk "$(ls)"
-  differs "./forth: its images" $'debug.img\npiped.img\nplain.img\nquiet.img\ntools.img' "$(ls ../tree/build/out)"
-  touch -d '1 hour' ../tree/build/out/*.img
-  shown=$(stat -c %y ../tree/build/out/*.img)
-  starts 'images that exist' '[0]' '' ''
-  differs "./forth: images that exist" "$shown" "$(stat -c %y ../tree/build/out/*.img)"
-  starts 'a fault that halts' '0 FAULT ! DROP [3]' 'a fault stopped the script' '0 FAULT ! DROP\n'
-  touch -d '2 hours' ../tree/screens/tools/show.txt
-  starts 'tools that are newer' '[0]' '' ''
-  if [ "$shown" = "$(stat -c %y ../tree/build/out/*.img)" ]; then
-    differs "./forth: images of tools that are newer" made kept
-  fi
+  differs "./forth: its images" $'plain.img\nserved.img' "$(ls ../tree/build/out/served-*)"
+  touch -d '1 hour ago' ../tree/build/out/served-*/*.img
+  shown=$(stat -c %y ../tree/build/out/served-*/*.img)
   touch ../tree/screens/tools/show.txt
+  starts 'images that exist' '[0]' '' ''
+  differs "./forth: images that exist" "$shown" "$(stat -c %y ../tree/build/out/served-*/*.img)"
+  starts 'a fault that halts' $'0 FAULT ! DROP \n[3]' 'the Forth has stopped' '0 FAULT ! DROP\n'
+  sed -i 's/^( Showing/( SHOWING/' ../tree/screens/tools/show.txt
+  starts 'other tools' '[0]' '' ''
+  differs "./forth: images of other tools" 2 "$(find ../tree/build/out -name served.img | wc -l)"
   rm -r ../tree/build/out
   : > ../tree/build/out
   starts 'no place for images' $'5 . 5  ok\n[0]' '' '5 .\n'
-  rm ../tree/build/out
+  rm -r ../tree/build/out "$HOME/.cache/jaurimet"
   starts 'an unproved program and two files' '[2]' usage '' --unproved a b
   pretend_unproved
   starts 'an unproved program' $'5 . 5  ok\n[0]' 'UNPROVED: nothing is proved' '5 .\n' --unproved
-  differs "./forth: what an unproved program keeps" $'unproved\nunproved.sum' "$(ls ../tree/build/out)"
+  differs "./forth: what an unproved program keeps" $'python\nserved\nunproved\nunproved.sum' "$(find ../tree/build/out -maxdepth 1 -mindepth 1 -printf '%f\n' | sed 's/-.*//' | sort)"
   rm -r ../tree/build/out
   first_starts
   at_once
@@ -44,15 +43,6 @@ forth() {
   text_files
   own_kernels
   cd ..
-  if command -v python3 > /dev/null; then
-    steady "$images/../tools/check-terminal" tree/forth || wrong=1
-    for part in units lines held stopped texts debug history readme window speed memory; do
-      steady "$images/../tools/check-host" tree/forth "$part" || wrong=1
-    done
-    steady "$images/../tools/check-editor" tree/forth || wrong=1
-  else
-    echo "trials: python3 is not installed, so ./forth is not tried at a terminal" >&2
-  fi
 }
 
 # Puts the program where one without proofs, from the same sources, would be.
@@ -185,7 +175,7 @@ at_once() {
 # Which block files it takes, and which words it refuses.
 block_files() {
   head -c 2048 /dev/zero | tr '\0' ' ' > small.blk
-  starts 'a block file without a kernel' $'1 BLOCK C@ . 32  ok\n2 BLOCK \nthere is no such screen (fault 7) \nline 2 \n2 BLOCK\n  ^\n[3]' '' '1 BLOCK C@ .\n2 BLOCK\n' small.blk
+  starts 'a block file without a kernel' $'1 BLOCK C@ . 32  ok\n2 BLOCK \n[3]' $'there is no screen 2 in small.blk (fault 9) at BLOCK\nline 2\n2 BLOCK\n  ^'  '1 BLOCK C@ .\n2 BLOCK\n' small.blk
   starts 'a wiped screen 1' $'1 SCR ! WIPE FLUSH  ok\n[0]' '' '1 SCR ! WIPE FLUSH\n'
   starts 'a start after screen 1 was wiped' $'21 LOAD 42  ok\n[0]' '' '21 LOAD\n'
   differs "./forth: help" 'usage: ./forth' "$(../tree/forth --help 2> /dev/null | sed -n '1s/ \[.*//p')"
@@ -222,10 +212,10 @@ text_files() {
   printf '5 SQ .\n1 FOO\n' > foo.fs
   starts 'words' '3 7 [0]' '' '' -e '1 2 + .' -e '7 .'
   starts 'a text and words' '25 [0]' '' '' sq.fs -e '5 SQ .'
-  starts 'a text and a script' $'  ok\n: SQ DUP * ;  ok\n6 SQ . 36  ok\n[0]' '' '6 SQ .\n' sq.fs
+  starts 'a text and a script' $': SQ DUP * ;  ok\n6 SQ . 36  ok\n[0]' '' '6 SQ .\n' sq.fs
   starts 'a text without its input' '[0]' '' '6 SQ .\n' --quiet sq.fs
-  starts 'a fault in a text' $'25 \nFOO is unknown (fault 13) \nline 4 \n1 FOO\n  ^\n[3]' 'a fault stopped the script' '' --quiet sq.fs foo.fs
-  starts 'a text that there is not' '[1]' 'there is no file none.fs' '' none.fs
+  starts 'a fault in a text' $'25 \n[3]' $'FOO is unknown (fault 13)\nfoo.fs:2:3\n1 FOO\n  ^\nforth: a fault stopped the script' '' --quiet sq.fs foo.fs
+  starts 'a text that there is not' '[1]' 'cannot read none.fs: No such file or directory' '' none.fs
   starts 'no words' '[2]' 'needs some words' '' -e
   starts 'a text and an image' '[2]' 'a text cannot be used' '' --image own.img 1 1 sq.fs
   printf '1 .\n%.0s' {1..512} > exact

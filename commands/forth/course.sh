@@ -3,14 +3,10 @@
 
 # Makes the course's file of blocks, with its screens.
 make_course() {
-  make_room
-  find_program
   local said
   said=$("$forth83" new "$room/course.blk" 64 2>&1) || refuse "cannot make $blocks: $said"
   said=$("$forth83" screens "$here/screens/course/course.txt" "$room/course.blk" 2>&1) || refuse "cannot make $blocks: $said"
   said=$(cp -- "$room/course.blk" "$blocks" 2>&1) || refuse "cannot make $blocks: $said"
-  leave
-  trap - EXIT
 }
 
 # show_lesson FILE N: the hints or the solutions of lesson N, whose own screen is 20 screens further.

@@ -1,5 +1,5 @@
 # shellcheck shell=bash
-# Which program runs, and the images that it runs. `./forth` reads this file; its variables are named there.
+# Which program runs. `./forth` reads this file; its variables are named there.
 
 # The version of the program that would run now; one that isn't made yet has that of its sources.
 show_version() {
@@ -11,55 +11,6 @@ show_version() {
   else
     sed -n 's/^const VERSION: &str = "\(.*\)";$/forth83 \1, not built yet/p' "$here/crates/command_words/src/lib.rt"
   fi
-}
-
-# are_kept: the images exist, and nothing that they are made of is newer.
-are_kept() {
-  local name from
-  for name in "${names[@]}"; do
-    [ -f "$kept/$name.img" ] || return 1
-    for from in "$forth83" "$here"/build/images "$here"/screens/{tools/*.txt,tools/overlays/*.txt,dialects/{fig,f79,f83,poly}.txt}; do
-      if [ "$from" -nt "$kept/$name.img" ]; then
-        return 1
-      fi
-    done
-  done
-}
-
-# keep_images: those in ROOM are kept from now on.
-keep_images() {
-  local name
-  mkdir -p "$kept" 2> /dev/null && [ -w "$kept" ] || return 1
-  for name in "${names[@]}"; do
-    cp -- "$room/$name.img" "$kept/$name.$$" && mv -f -- "$kept/$name.$$" "$kept/$name.img" || return 1
-  done
-}
-
-# tell_kernel SOURCES: how the kernel's screens come back, where their build was refused.
-tell_kernel() {
-  say "nothing was changed; ./forth BLOCKS still starts with the program's own kernel"
-  say "to restore the kernel's screens, run: $here/forth83 kernel new.blk"
-  say "then: dd if=new.blk of=$1 bs=1024 skip=1 seek=1 count=20 conv=notrunc"
-}
-
-# make_images SOURCES FOLDER: the image of the screens 1 to 20 alone, and those with the tools.
-make_images() {
-  local said name
-  said=$("$forth83" build --where -- "$1" 1 20 "$2/plain.new" 9>&-) || {
-    case $said in
-      screen*) tell_kernel "$1" ;;
-      *) say "the image cannot be made: $said" ;;
-    esac
-    return 1
-  }
-  said=$("$here/build/images" --doors "$forth83" "$1" "$2"/{tools,piped,quiet,debug}.new 9>&- 2>&1) || {
-    say "the tools cannot be built on the kernel in screens 1 to 20 of $1:"
-    echo "$said" >&2
-    return 1
-  }
-  for name in "${names[@]}"; do
-    mv -f -- "$2/$name.new" "$2/$name.img" || return 1
-  done
 }
 
 # show_seconds PID: a line that moves until the process has ended, where standard error is a terminal.
@@ -130,17 +81,16 @@ find_program() {
   fi
 }
 
-# The images of the program's own kernel, kept beside the tools' texts, or in ROOM where nothing can be kept there. What an
-# unproved program makes isn't kept.
-find_images() {
-  images=$kept
-  if [ -z "$unproved" ] && are_kept; then
-    return
-  fi
-  local said
-  said=$("$forth83" kernel "$room/kernel.blk") || refuse "the program cannot make its kernel: $said; make room in ${TMPDIR:-/tmp}, or set TMPDIR to another folder"
-  make_images "$room/kernel.blk" "$room" || exit 1
-  if [ -n "$unproved" ] || ! keep_images; then
-    images=$room
-  fi
+# The folder of this run, which `leave` removes. Nothing ends this start while the folder exists and its name is not known yet.
+make_room() {
+  trap '' HUP INT TERM
+  room=$(mktemp -d 2> /dev/null) || refuse "cannot make a folder in ${TMPDIR:-/tmp}: make room there, or set TMPDIR to another folder"
+  trap leave EXIT
+  trap - HUP INT TERM
+}
+
+leave() {
+  trap '' HUP INT TERM
+  [ -z "$building" ] || kill -- "-$building" 2> /dev/null
+  rm -rf "$room"
 }

@@ -1,14 +1,16 @@
-"""What docs/WORDS.md, or screens/tools/INNER.md, says of a word, for HELP."""
+"""What docs/WORDS.md, docs/PROGRAM.md or screens/tools/INNER.md says of a word, for HELP."""
 from __future__ import annotations
 
 import os
 import re
 
+from served.image import TOOLS
+
 ROOT = os.path.dirname(os.path.dirname(os.path.dirname(os.path.realpath(__file__))))
-# The words that users type; then the inner words of the tools.
-PAGES = (os.path.join(ROOT, "docs", "WORDS.md"), os.path.join(ROOT, "screens", "tools", "INNER.md"))
-HEADING = re.compile(r"^### \d+\. (.+)$|^## (\S+\.txt): ")
-ROW = re.compile(r"^\| `([^ ]+)` \| `([^`]*)` \| (yes)? ?\| (.+) \|$")
+# The words that users type; those of sessions alone; then the inner words of the tools.
+PAGES = tuple(os.path.join(ROOT, *part) for part in (("docs", "WORDS.md"), ("docs", "PROGRAM.md"), ("screens", "tools", "INNER.md")))
+HEADING = re.compile(r"^### \d+\. (.+)$|^## (\S+\.txt): |^## (The session)$")
+ROW = re.compile(r"^\| `([^ ]+)(?: NAME)?` \| `([^`]*)` \|(?: (yes)? ?\|)? (.+) \|$")
 
 
 def plain(text: str) -> str:
@@ -22,9 +24,10 @@ def entries(page: str, name: str) -> list[str]:
     for line in page.splitlines():
         heading = HEADING.match(line)
         if heading:
-            section = heading.group(1) or f"the inner words of screens/tools/{heading.group(2)}"
+            inner = f"the inner words of screens/tools/{heading.group(2)}" if str(heading.group(2))[:-4] in TOOLS else ""
+            section = heading.group(1) or heading.group(3) or inner
         row = ROW.match(line)
-        if row and row.group(1) in (name, name.upper()):
+        if section and row and row.group(1) in (name, name.upper()):
             immediate = ", immediate" if row.group(3) else ""
             found.append(f"{row.group(1)}  {row.group(2)}{immediate}\n  {plain(row.group(4))}\n  in: {section}")
     return found

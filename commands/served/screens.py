@@ -5,8 +5,8 @@ import os
 import re
 import subprocess
 
-from host.files import read_file
-from host.keeping import SCREEN
+from served.target import BLOCK
+from served.texts import read_file
 
 HEADING = re.compile(rb"^% screen ([0-9]+)$", re.M)
 
@@ -44,7 +44,7 @@ def read_screens(forth83: str, name: str, count: int, room: str) -> tuple[list[t
     if not said:
         with open(made, "rb") as file:
             blocks = file.read()
-        pages = [(number, blocks[number * SCREEN : (number + 1) * SCREEN]) for number in numbers]
+        pages = [(number, blocks[number * BLOCK : (number + 1) * BLOCK]) for number in numbers]
     if os.path.exists(made):
         os.unlink(made)
     return pages, f"{name}: {said}" if said else ""

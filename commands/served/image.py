@@ -1,0 +1,160 @@
+"""The image that a session starts with: the kernel, the language as people type it, and the words that ask the host for services.
+
+It is kept in build/out, named by a sum of all that it is made of. `forth83` itself makes it, as it makes each image.
+"""
+from __future__ import annotations
+
+import glob
+import hashlib
+import os
+import re
+from typing import Callable
+
+from served.table import numbers
+
+ROOT = os.path.dirname(os.path.dirname(os.path.dirname(os.path.realpath(__file__))))
+TOOLS = ("show", "names", "structures", "later", "dialect", "start")
+TEXTS = [os.path.join(ROOT, "screens", "tools", f"{name}.txt") for name in TOOLS]
+SERVED = os.path.join(ROOT, "screens", "served", "served.txt")  # takes the place of screens of the same numbers
+ORDER = os.path.join(ROOT, "screens", "served", "order.txt")
+BLOCK = 1024
+KERNEL = "1", "20"  # its screens
+DOORS = "tools", "piped", "quiet"
+
+
+class NotMade(Exception):
+    """The image cannot be made, and why."""
+
+
+def with_numbers(text: str) -> str:
+    """The text with the number of each service in the place of its name between two @."""
+    return re.sub(r"@([A-Z?()-]+)@", lambda found: str(numbers()[found[1]]), text)
+
+
+def sum_of(paths: list[str]) -> str:
+    made = hashlib.sha256()
+    for path in [*paths, os.path.realpath(__file__)]:
+        with open(path, "rb") as file:
+            made.update(file.read())
+    made.update(repr(numbers()).encode())
+    return made.hexdigest()[:16]
+
+
+def folders() -> list[str]:
+    """Where images are kept: in the tree, or for a user who cannot write there among the user's own files."""
+    cache = os.environ.get("XDG_CACHE_HOME") or os.path.join(os.path.expanduser("~"), ".cache")
+    return [os.path.join(ROOT, "build", "out"), os.path.join(cache, "jaurimet")]
+
+
+def kept(kind: str, made_of: list[str], make: Callable[[str], None]) -> str:
+    """The folder of these images, which are made now if they are not there. What cannot be kept is in a folder that stays until the
+    system removes it."""
+    name = f"{kind}-{sum_of(made_of)}"
+    for folder in folders():
+        if os.path.isdir(os.path.join(folder, name)):
+            return os.path.join(folder, name)
+    import shutil  # images are seldom made
+
+    room, path = new_room(name)
+    try:
+        make(room)
+        os.chmod(room, 0o755)
+        if path != room:
+            os.rename(room, path)
+    except (NotMade, OSError):
+        shutil.rmtree(room, ignore_errors=True)
+        if not os.path.isdir(path):  # another session has made them meanwhile
+            raise
+    return path
+
+
+def new_room(name: str) -> tuple[str, str]:
+    """A new folder, and what it is called once its images are whole."""
+    import tempfile
+
+    for folder in folders():
+        try:
+            os.makedirs(folder, exist_ok=True)
+            return tempfile.mkdtemp(dir=folder), os.path.join(folder, name)
+        except OSError:
+            pass
+    room = tempfile.mkdtemp()
+    return room, room
+
+
+def find(program: str, kernel: str = "") -> str:
+    """The folder with `served.img`, what a session starts with, and `plain.img`, the kernel alone. The kernel is the program's own, or
+    that in screens 1 to 20 of a file."""
+    if kernel and not os.path.isfile(kernel):
+        raise NotMade(f"{kernel} does not exist, or cannot be read")
+    made_of = [program, *TEXTS, SERVED, ORDER, *([kernel] if kernel else [])]
+    return kept("served", made_of, lambda room: make(program, kernel, room))
+
+
+def find_doors(program: str) -> str:
+    """The folder with `tools.img`, `piped.img` and `quiet.img`: the tools as programs and checks without a host have them."""
+
+    def make_doors(room: str) -> None:
+        kernel = os.path.join(room, "kernel.blk")
+        run(program, "kernel", kernel)
+        run(os.path.join(ROOT, "build", "images"), "--doors", program, kernel, *(os.path.join(room, f"{name}.img") for name in DOORS))
+        os.unlink(kernel)
+
+    texts = sorted(glob.glob(os.path.join(ROOT, "screens", "tools", "**", "*.txt"), recursive=True))
+    dialects = sorted(glob.glob(os.path.join(ROOT, "screens", "dialects", "*.txt")))
+    return kept("doors", [program, os.path.join(ROOT, "build", "images"), *texts, *dialects], make_doors)
+
+
+def run(*words: str) -> None:
+    """Runs the program; NotMade if it refuses."""
+    import subprocess
+
+    done = subprocess.run(words, stdin=subprocess.DEVNULL, capture_output=True, check=False)
+    if done.returncode:
+        raise NotMade((done.stdout + done.stderr).decode(errors="replace").strip() or f"{words[1]} ended with {done.returncode}")
+
+
+def write(path: str, text: str) -> str:
+    with open(path, "w", encoding="utf-8") as file:
+        file.write(text)
+    return path
+
+
+def make_kernel(program: str, kernel: str, room: str, blocks: str) -> None:
+    """Makes `plain.img`, and the kernel's screens in a file of blocks."""
+    if not kernel:
+        run(program, "kernel", blocks)
+    else:
+        with open(kernel, "rb") as given, open(blocks, "wb") as file:
+            file.write(given.read())
+    try:
+        run(program, "build", "--where", "--", kernel or blocks, *KERNEL, os.path.join(room, "plain.img"))
+    except NotMade as error:
+        if not kernel:
+            raise
+        launcher = os.path.join(ROOT, "forth83")
+        raise NotMade(f"{error}\nforth: nothing was changed; ./forth BLOCKS still starts with the program's own kernel\n"
+                      f"forth: to restore the kernel's screens, run: {launcher} kernel new.blk\n"
+                      f"forth: then: dd if=new.blk of={kernel} bs=1024 skip=1 seek=1 count=20 conv=notrunc") from error
+
+
+def make(program: str, kernel: str, room: str) -> None:
+    """Makes the images of a session in a folder."""
+    blocks, order, made = (os.path.join(room, name) for name in ("all.blk", "order.blk", "made.img"))
+    make_kernel(program, kernel, room, blocks)
+    with open(blocks, "rb+") as file:
+        screens = file.read()
+        file.seek(0)
+        file.write(screens[:BLOCK] + re.sub(rb"BOOT COLD *", lambda found: b" " * len(found[0]), screens[BLOCK : 21 * BLOCK]))
+    with open(SERVED, encoding="utf-8") as file:
+        served = write(os.path.join(room, "served.txt"), with_numbers(file.read()))
+    boot = write(os.path.join(room, "boot.txt"), "% screen 199\nBOOT COLD\n")
+    for text in [*TEXTS, served, boot]:
+        run(program, "screens", text, blocks)
+    run(program, "build", blocks, "1", "199", made)
+    run(program, "screens", ORDER, order)
+    with open(ORDER, encoding="utf-8") as file:
+        last = re.findall(r"^% screen (\d+)$", file.read(), re.M)[-1]
+    run(program, "load", made, order, "1", last, os.path.join(room, "served.img"))
+    for path in blocks, order, made, served, boot:
+        os.unlink(path)

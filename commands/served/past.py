@@ -1,0 +1,120 @@
+"""Machines as they were before the last lines, for UNDO; and WHY, which runs a line again, unseen, up to its fault."""
+from __future__ import annotations
+
+from typing import NamedTuple, Optional
+
+from served.target import TOP, Target
+from served.wire import Header, Refused, State
+
+MOST = 100  # machines that are kept
+SLICE = 1_000_000
+INTERPRETERS = (b"BY-NAMES", b"BY-ROWS", b"BY-DIALECT", b"INTERPRET")  # what calls the words of a line
+
+
+class Kept(NamedTuple):
+    """A machine: its registers and its memory."""
+
+    registers: bytes
+    memory: bytes
+
+
+class Fault(NamedTuple):
+    """A fault that was taken: the machine before its line, the ticks since then, and what it was given in them."""
+
+    before: Kept
+    ticks: int
+    log: list[tuple[str, bytes]]
+
+
+def keep(target: Target) -> Kept:
+    return Kept(target.wire.registers(), target.wire.memory(0, TOP))
+
+
+def put_back(target: Target, kept: Kept) -> None:
+    target.wire.put_registers(kept.registers)
+    target.wire.put_memory(0, kept.memory)
+
+
+class Past:
+    """The machines before the last lines; none if the server cannot keep one."""
+
+    def __init__(self, target: Target) -> None:
+        self._target, self._kept, self.fault = target, [], None  # type: Target, list[Kept], Optional[Fault]
+        try:
+            target.wire.registers()
+            self.is_able = True
+        except Refused:
+            self.is_able = False
+
+    def line_begins(self) -> None:
+        """The machine asks for a line: it is kept as it is."""
+        if self.is_able:
+            self._kept = [*self._kept[1 - MOST :], keep(self._target)]
+
+    def fault_taken(self) -> None:
+        if self._kept:
+            self.fault = Fault(self._kept[-1], self._target.ticks, list(self._target.log))
+
+    def undo(self, lines: int) -> bool:
+        """Puts back the machine as it was before the last of so many lines; whether there was one."""
+        if len(self._kept) < lines:
+            return False
+        before = self._kept[-lines]
+        self._kept = self._kept[:-lines]
+        put_back(self._target, before)
+        return True
+
+    def at_fault(self) -> Optional[tuple[State, list[Header], bytes]]:
+        """The machine just before the last fault, its words and its memory. Afterwards the machine is what it was."""
+        if self.fault is None:
+            return None
+        now = keep(self._target)
+        try:
+            put_back(self._target, self.fault.before)
+            self._run_again(self.fault)
+            return self._target.wire.state(), self._target.wire.headers(), self._target.wire.memory(0, TOP)
+        finally:
+            put_back(self._target, now)
+
+    def _run_again(self, fault: Fault) -> None:
+        """Runs a line again, unseen, up to the tick before its fault."""
+        wire, left, log = self._target.wire, fault.ticks - 1, list(fault.log)
+        shown, wire.shown = wire.shown, lambda text: None
+        try:
+            while log and log[0][0] != "n" and left >= 0:
+                kind, body = log.pop(0)
+                wire.ask(kind, body)
+                if kind != "c":
+                    left -= self._run_to_stop(left)
+            self._run_to_stop(left)
+        finally:
+            wire.shown = shown
+
+    def _run_to_stop(self, ticks: int) -> int:
+        """Runs until something is asked, or for so many ticks; how many were done."""
+        done = 0
+        while done < ticks:
+            stop = self._target.wire.run(min(ticks - done, SLICE))
+            done += stop.ticks
+            if stop.how != "-":
+                break
+        return done
+
+
+def callers(state: State, headers: list[Header], memory: bytes) -> list[Header]:
+    """The words from the innermost one to that which the line has: a return address comes after a call, in a word's thread."""
+    threads = {header.token for header in headers if is_thread(header)}
+    found: list[Header] = []
+    for address in [state.ip, *reversed(state.returns)]:
+        inside = [header for header in headers if header.token < address]
+        called = int.from_bytes(memory[address - 2 : address], "little")
+        if inside and is_thread(inside[-1]) and (called in threads or address == state.ip):
+            if inside[-1].name in INTERPRETERS:
+                break
+            found.append(inside[-1])
+    return found
+
+
+def is_thread(header: Header) -> bool:
+    """Whether a word has a thread: `:` or DOES> made it."""
+    return header.code == 1 or header.code > 255

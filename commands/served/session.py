@@ -1,0 +1,297 @@
+"""A session: it runs the machine, answers what it asks, and reports its faults."""
+from __future__ import annotations
+
+from typing import Any, Optional, Union
+
+from served import faults, reports, services, words as words_of
+from served.keeping import Keeping
+from served.output import FAILED, Output
+from served.past import Past
+from served.prompt import Ended, Interrupted, Signals, Terminal
+from served.script import Script
+from served.steps import Steps
+from served.table import HOST, MARK, NAMES, PROMPT, SECOND, SERVICE
+from served.target import FAULT, SCR, Target
+from served.texts import Line, Texts, Unreadable
+from served.wire import Gone, Refused, Stop, Wire
+
+SLICE = 1_000_000  # ticks between two looks at what signals ask for
+TYPED = 127  # bytes of a line that TIB has room for
+FAULTED = 3  # the status after a fault
+
+
+class Session(Output):
+    """A machine with its console: a terminal, or a script."""
+
+    def __init__(self, words: list[str], blocks: Optional[str], signals: Signals, script: Optional[Script], arguments: list[str]) -> None:
+        self.program, self.signals, self.arguments = words[0], signals, arguments
+        super().__init__(script is not None)
+        self.wire = Wire(words, self.show)
+        self.target = Target(self.wire, Texts(), blocks)
+        self.console: Union[Terminal, Script] = script or self.terminal()
+        self.past = Past(self.target)
+        self.steps = Steps(self)
+        self.keeping = Keeping(self.target, script is not None)
+        self.refused = ""  # what the last service said that refused
+        self.faulty: Optional[tuple[int, int, int]] = None  # the screen of the last fault, its line and the byte in it
+        self.open_texts: list[str] = []  # those that are being included
+        self.edited: Any = None  # what the editor keeps from one call to the next
+        self._breaks = 0  # how often ^C gave up what runs since the last prompt
+        self.undoes = False  # UNDO was done in this line
+        self.first: list[bytes] = []  # lines that are done before those that are typed
+        self.status = 0
+        door = 0 if script is None else 1 if script.is_shown else 2
+        self.target.wire.set_cells({MARK: HOST, self.target.address("DOOR"): door})
+        self._tell = self.target.address("TELL")
+
+    def terminal(self) -> Terminal:
+        return Terminal(self.signals, lambda: words_of.names(self.target))
+
+    # The loop
+
+    def run(self) -> int:
+        """Runs until the session ends; its status."""
+        try:
+            while True:
+                self._turn()
+        except Ended as ended:
+            return self._leave(ended.status)
+        except Refused as error:
+            self.report(f"the machine cannot go on (cause {error.cause} of docs/FORMATS.md)\n")
+            return self._leave(FAULTED)
+        except Gone:
+            self.report("the program that runs the Forth has ended" + self.keeping.kept() + "\n")
+            return 1
+        finally:
+            self.console.close()
+
+    def _turn(self) -> None:
+        """A run of the machine, and what it asks for."""
+        stop: Optional[Stop] = None
+        try:
+            stop = self.steps.run() if self.steps.are_on else self.target.run(SLICE)
+            self.signals.look()
+            if self.signals.take_interrupt() and stop.how not in "lbxyh":
+                self.interrupt(stop)
+            else:
+                self.do(stop)
+        except Interrupted:
+            self.signals.take_interrupt()
+            if stop and stop.how == "l" and self.wire.cell(SERVICE) == PROMPT and stop.number == TYPED:
+                self.say("^C\n")
+            else:
+                self.interrupt(stop)
+
+    def do(self, stop: Stop) -> None:
+        """Does what the machine asks for, or reports its fault, after a run that ended so."""
+        if stop.how == "f":
+            self._fault(stop.number)
+        elif stop.how == "l":
+            self._line(stop.number)
+        elif stop.how == "k":
+            self._key()
+        elif stop.how in "rw":
+            self._block(stop)
+        elif stop.how in "bxyh":
+            self._halted(stop)
+
+    def _block(self, stop: Stop) -> None:
+        """The machine asks for a block that its file lacks: a line of a text, or no block at all."""
+        page = self.target.texts.page(stop.number) if stop.how == "r" else None
+        if page is not None:
+            self.target.give("p", page)
+            return
+        failed = self.target.give("f" if stop.how == "r" else "g")
+        self.refused = f"there is no screen {stop.number} in {self.keeping.named()}"
+        self._fault(failed.number)
+
+    def interrupt(self, stop: Optional[Stop] = None) -> None:
+        """^C: what runs is given up, by the word BREAK; if no prompt has come since the last time, the machine is put back."""
+        self.steps.end()
+        if self.console.is_script:
+            raise Ended(130)
+        if self._breaks:
+            self._put_back("the Forth does not come back to its prompt")
+            return
+        self._breaks += 1
+        if stop and stop.how == "k":
+            self.target.give("k", b"\0")
+        if stop and stop.how == "l":
+            self._give_line(b"")
+        self.wire.set_cell(SERVICE, 0)
+        self.wire.enter(self.target.address("BREAK") - 2)
+
+    def _halted(self, stop: Stop) -> None:
+        """The machine has ended."""
+        if stop.how == "h":
+            said = faults.message(stop.number, "the word", faults.Known(False, False, 0, False))
+            self._put_back(f"{said}: no fault thread handled it, so the Forth has stopped")
+        else:
+            raise Ended(FAILED if stop.how == "y" else self.status)
+
+    def _put_back(self, why: str) -> None:
+        """The machine cannot go on: it is put back as it was before the line, or the session ends."""
+        self.report(why + "\n")
+        if self.console.is_script or not self.past.is_able or not self.past.undo(1):
+            raise Ended(FAULTED)
+        self._breaks = 0
+        self.say_line("it is as it was before that line\n")
+
+    # Lines and keys
+
+    def _line(self, most: int) -> None:
+        """The machine asks for a line: the prompt, or a program."""
+        if self.wire.cell(SERVICE) != PROMPT or most != TYPED:
+            self._program_line(most)
+            return
+        self.open_texts, self.refused, self._breaks = [], "", 0
+        self.steps.end()
+        self.target.begin()
+        self.wire.set_cells({MARK: HOST})
+        self.keep_journal()
+        if self.console.is_script:
+            self._script_line()
+        else:
+            self._typed_line()
+
+    def _typed_line(self) -> None:
+        if not self.undoes:
+            self.past.line_begins()
+        self.undoes = False
+        if self.first:
+            line: Optional[bytes] = self.first.pop(0)
+        else:
+            line = self.console.line(self.column, bool(self.target.variable("HISTORY")))
+        self.column = self.console.row
+        if line is None:
+            self._end_of_input()
+            return
+        if len(line) > 1024:
+            self.say("a line may have 1024 bytes; nothing was done\n")
+            return
+        if len(line) > TYPED:  # TIB has no room for it: it is a block
+            self.target.set_cell(SECOND, self.target.texts.add([Line("", 0, line)]).start)
+            line = b""
+        self.wire.set_cell(SERVICE, 0)
+        self._give_line(line)
+
+    def _script_line(self) -> None:
+        assert isinstance(self.console, Script)
+        try:
+            line = self.console.next()
+        except Unreadable as error:
+            self.report(f"{error}\nforth: a fault stopped the script\n")
+            raise Ended(FAULTED) from error
+        if line is None:
+            raise Ended(self.status)
+        if self.console.is_shown:
+            self.show(line.text + b" ")
+        blocks = self.target.texts.add([line])
+        self.target.set_cell(SECOND, blocks.start)
+        self.wire.set_cell(SERVICE, 0)
+        self._give_line(b"")
+
+    def _give_line(self, line: bytes) -> None:
+        """Answers a line; what EXPECT shows of it is on the terminal already."""
+        self.is_dropping = True
+        self.target.give("l", b"\1" + line)
+        self.is_dropping = False
+        self.steps.set_breaks()
+
+    def _program_line(self, most: int) -> None:
+        line = self.console.line(self.column, False)
+        if line is None:
+            self.target.give("x")
+            return
+        if not self.console.is_script:
+            self.column = self.console.row
+        is_whole = len(line) < most
+        self.is_dropping = not (self.console.is_script and self.console.is_shown)  # type: ignore[union-attr]
+        self.target.give("l", bytes([is_whole]) + line[:most])
+        self.is_dropping = False
+
+    def _key(self) -> None:
+        """The machine asks for a key: a service, a program, or a place at which it is to stop."""
+        if self.steps.takes_key():
+            return
+        asked = self.wire.cell(SERVICE)
+        if PROMPT < asked <= len(NAMES):
+            self.target.set_cell(SERVICE, 0)
+            self.steps.lift()
+            fault = services.serve(self, asked)
+            if self.undoes:
+                self._undo()
+                return
+            self.target.give("k", bytes([fault]))
+            self.steps.set_breaks()
+            return
+        key = self.console.key()
+        if key is None:
+            self.target.give("x")
+        else:
+            self.target.give("k", bytes([key]))
+
+    def _undo(self) -> None:
+        """The machine as it was before the line that was done before this one."""
+        if self.past.undo(2):
+            self.say_line("as it was before the last line; screens that were written stay written\n")
+        else:
+            self.past.undo(1)
+            self.say_line("there is no line before this one\n")
+        self.undoes = False
+
+    def _end_of_input(self) -> None:
+        """^D: the session ends, if the screens can be written."""
+        left = self.wire.save()
+        if left:
+            self.report(self.keeping.why_unwritten(left) + "; the Forth stays\n")
+        else:
+            self.keeping.sync()
+            raise Ended(0)
+
+    # Faults
+
+    def _fault(self, number: int) -> None:
+        """A fault was taken: it is reported, unless a program handles it."""
+        refused, self.refused = self.refused, ""
+        if self.wire.cell(FAULT) != self._tell:
+            return
+        self.steps.end()
+        self.past.fault_taken()
+        self.wire.set_cell(MARK, HOST)
+        self.faulty = reports.place_on_screen(self.target, number)
+        if self.faulty:
+            self.wire.set_cell(SCR, self.faulty[0])
+        is_shown = number == faults.SAID and not refused and bool(self.column)
+        if self.console.is_script:
+            said = faults.plain(self.column).strip() if is_shown else refused
+            self.report(reports.report(self.target, number, said).lstrip(" ") + "forth: a fault stopped the script\n")
+            raise Ended(FAULTED)
+        text = reports.report(self.target, number, refused)
+        if is_shown:
+            self.say(text)
+        else:
+            self.report(text.lstrip(" "))
+
+    # Screens and the end
+
+    def keep_journal(self) -> None:
+        if not self.keeping.keep():
+            self.say_line("changed screens are in memory alone: no file can be written for them, not even in the temporary folder\n")
+
+    def _leave(self, status: int) -> int:
+        """Writes the changed screens, and ends the server; the status."""
+        try:
+            changed = self.target.changed() if self.target.blocks else {}
+            left = self.wire.close()
+        except Gone:
+            return 1
+        self.keeping.sync()
+        if left:
+            self.keeping.keep(changed)
+            self.report(self.keeping.why_unwritten(left) + self.keeping.kept() + "\n")
+            return status or FAULTED
+        said = self.keeping.end(status == FAULTED)
+        if said:
+            self.report(said)
+        return status

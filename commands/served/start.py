@@ -1,0 +1,237 @@
+"""The command line of a session: what is loaded, the file of blocks, and which program runs."""
+from __future__ import annotations
+
+import os
+from typing import NoReturn, Optional
+
+from served import blocks, image, journal
+from served.prompt import Ended, Signals
+from served.script import Script
+from served.session import Session
+from served.target import SCR
+from served.texts import Line, lines_of, read_file, Unreadable
+from served.wire import Gone
+
+ENDS = (".fs", ".fth", ".4th", ".frt", ".f")
+PROVED = os.path.join(image.ROOT, "crates", "forth83", "out")
+AWAITED = os.path.join(image.ROOT, "build", "out", "awaited")  # the proof of the program began in an earlier session
+TITLE = b"(  1  Control: threads and loops )"  # the first line of a kernel's sources
+USAGE, INTERRUPTED = 2, 130
+FLAGS = ("--quiet", "--kernel", "--proved", "--unproved", "--dap")
+VALUES = {"-e": ("some words of Forth", 1), "--kernel-of": ("the name of a file", 1), "--program": ("the name of a file", 1),
+          "--image": ("OWN, the name of an image, and the screens FROM TO", 3)}
+
+
+class Misused(Exception):
+    """The command line is wrong."""
+
+
+class Asked:
+    """What these words of a command line ask for."""
+
+    def __init__(self, words: list[str]) -> None:
+        self.texts: list[str] = []
+        self.lines: list[str] = []
+        self.arguments: list[str] = []
+        self.flags: set[str] = set()
+        self._names: list[str] = []
+        self._values: dict[str, list[str]] = {}
+        rest = list(words)
+        while rest:
+            self._take(rest.pop(0), rest)
+        self.is_quiet = "--quiet" in self.flags or bool(self.lines)
+        self.kernel = self._values.get("--kernel-of", [""])[0]
+        self.program = self._values.get("--program", [""])[0]
+        self._check()
+        self.own = self._own()
+
+    def _take(self, word: str, rest: list[str]) -> None:
+        """Takes a word, and those of the rest that belong to it."""
+        if word == "--":
+            self.arguments = rest[:]
+            rest.clear()
+        elif word in VALUES:
+            what, count = VALUES[word]
+            given = rest[:count]
+            del rest[:count]
+            if len(given) < count or word != "-e" and not given[0]:
+                raise Misused(f"{word} needs {what}")
+            if word == "-e":
+                self.lines += given
+            else:
+                self._values[word] = given
+        elif word in FLAGS:
+            self.flags.add(word)
+        elif word.startswith("-"):
+            raise Misused(f"there is no option {word}")
+        elif not word:
+            raise Misused("the name of the file of blocks is empty")
+        else:
+            (self.texts if is_text(word) else self._names).append(word)
+
+    def _check(self) -> None:
+        """Refuses what does not go together."""
+        if len(self._names) > 1:
+            raise Misused(f"name one file of blocks: {' '.join(self._names)}")
+        for one, other in (("--kernel", "--quiet"), ("--proved", "--unproved")):
+            if {one, other} <= self.flags or one == "--kernel" in self.flags and self.lines:
+                raise Misused(f"{'-e' if self.lines else other} and {one} cannot be used together")
+        if self.texts and ("--kernel" in self.flags or "--image" in self._values):
+            raise Misused("a text cannot be used with --kernel or --image")
+        if any(values[0].startswith("-") for values in self._values.values()):
+            raise Misused("write a name that begins with - as ./-NAME")
+
+    def _own(self) -> Optional[tuple[str, int, int]]:
+        """The image that is to be made, and its screens."""
+        if "--image" not in self._values:
+            return None
+        own, first, last = self._values["--image"]
+        if not all(text.isascii() and text.isdigit() and int(text) < 65536 for text in (first, last)):
+            raise Misused(f"FROM and TO must be numbers of screens, 0 to 65535, not {first} {last}")
+        return own, int(first), int(last)
+
+    @property
+    def blocks(self) -> Optional[str]:
+        if self._names:
+            return self._names[0]
+        return self.kernel or (None if self.is_quiet and not self.own else "forth.blk")
+
+    @property
+    def reads(self) -> bool:
+        """Whether the lines of standard input are a script's, too."""
+        return not self.is_quiet or not (self.texts or self.lines)
+
+
+def say(text: str) -> None:
+    os.write(2, os.fsencode(f"forth: {text}\n"))
+
+
+def is_text(name: str) -> bool:
+    """Whether a file is a text of Forth, by its name or by a first line that begins with #!."""
+    if name.endswith(ENDS):
+        return True
+    try:
+        return read_file(name).startswith(b"#!")
+    except OSError:
+        return False
+
+
+def find_program(wanted: Asked) -> str:
+    """The program that runs: the one that was proved here; if there is none, or another one is wanted, the launcher makes it."""
+    if wanted.program:
+        return wanted.program
+    found = os.path.join(PROVED, "forth83")
+    how = sorted(wanted.flags & {"--proved", "--unproved"})
+    if not how and os.access(found, os.X_OK) and os.path.exists(os.path.join(PROVED, "proved")) and not os.path.exists(AWAITED):
+        return found
+    import subprocess
+
+    words = [os.path.join(image.ROOT, "forth"), "--program", *(name[2:] for name in how)]
+    made = subprocess.run(words, stdin=subprocess.DEVNULL, stdout=subprocess.PIPE, check=False)
+    if made.returncode:
+        raise Ended(made.returncode)
+    return os.fsdecode(made.stdout).rstrip("\n")
+
+
+def script_lines(wanted: Asked) -> list[Line]:
+    """All lines of a script's texts, before any of them is done."""
+    found: list[Line] = []
+    for name in wanted.texts:
+        try:
+            found += lines_of(name, read_file(name))
+        except OSError as error:
+            raise Unreadable(f"cannot read {name}: {error.strerror}") from error
+    return found + [Line("-e", number, os.fsencode(line)) for number, line in enumerate(wanted.lines, 1)]
+
+
+def screens_first(session: Session) -> None:
+    """SCR is the screen that one would edit first: 21 after a kernel, otherwise 1."""
+    page = session.target.page(1) or b""
+    session.wire.set_cell(SCR, 21 if page.startswith(TITLE) else 1)
+
+
+def offer_journal(session: Session, blocks: str) -> None:
+    """Offers the screens that an earlier session could not write."""
+    for path in journal.places(blocks):
+        screens = journal.read(path)
+        if not screens:
+            continue
+        numbers = " ".join(map(str, sorted(screens)))
+        session.say_line(f"{path} has screens that an earlier session did not write: {numbers}\ntake them into this session? (y or n) ")
+        answer = session.console.line(b"", False)
+        if answer is not None and answer.strip().lower() in (b"y", b"yes"):
+            for number, page in screens.items():
+                session.target.put(number, page)
+            session.keep_journal()
+        os.replace(path, path + ".old")
+        session.say_line(f"the journal is {path}.old now\n")
+
+
+def run_kernel(wanted: Asked, program: str, images: str) -> NoReturn:
+    """Becomes the program with the kernel alone, whose output is exactly what the machine shows."""
+    names = [wanted.blocks] if wanted.blocks else []
+    os.execv(program, [program, "run", "--save", "--", os.path.join(images, "plain.img"), *names])
+
+
+def start(wanted: Asked) -> int:
+    """Does what the command line asks for; the status."""
+    program = find_program(wanted)
+    if "--dap" in wanted.flags:
+        from served import dap  # it needs modules that a session does not
+
+        return dap.main(program)
+    if wanted.own:
+        from served import own
+
+        return own.make_own(program, *wanted.own, wanted.blocks or "")
+    is_terminal = os.isatty(0) and os.isatty(1) and not wanted.is_quiet
+    lines = [] if is_terminal else script_lines(wanted)
+    images = image.find(program, wanted.kernel)
+    is_new = blocks.open_blocks(program, wanted.blocks) if wanted.blocks else False
+    if is_new and not is_terminal:
+        say(f"{wanted.blocks} is a new file")
+    if "--kernel" in wanted.flags:
+        run_kernel(wanted, program, images)
+    signals = Signals()
+    script = None if is_terminal else Script(signals, lines, wanted.reads, not wanted.is_quiet)
+    words = [program, "serve", os.path.join(images, "served.img"), *([wanted.blocks] if wanted.blocks else [])]
+    try:
+        session = Session(words, wanted.blocks, signals, script, wanted.arguments)
+    except Gone:  # another run has taken the file of blocks meanwhile
+        if wanted.blocks:
+            blocks.look_inside(wanted.blocks)
+        raise Unreadable(f"{program} ended as soon as it was started; try it again") from None
+    begin(session, wanted, is_new)
+    return session.run()
+
+
+def begin(session: Session, wanted: Asked, is_new: bool) -> None:
+    """What comes before the first line."""
+    if not wanted.blocks:
+        return
+    screens_first(session)
+    if session.console.is_script:
+        return
+    count = session.target.count()
+    session.say(f"{wanted.blocks}, {count} screens{', a new file' * is_new}. WORDS and HELP say more.\n")
+    session.say("BYE or ^D saves your screens and leaves; ^C interrupts what is running.\n")
+    session.first = [f'INCLUDE "{text}"'.encode(errors="surrogateescape") for text in wanted.texts]
+    offer_journal(session, wanted.blocks)
+
+
+def main(words: list[str]) -> int:
+    """Runs the session that a command line asks for; its status."""
+    if {"-h", "--help"} & set(words[: words.index("--")] if "--" in words else words):
+        os.execv(os.path.join(image.ROOT, "forth"), ["forth", "--help"])
+    try:
+        return start(Asked(words))
+    except Misused as error:
+        say(f"{error}\nforth: ./forth --help shows the usage")
+        return USAGE
+    except (Unreadable, image.NotMade) as error:
+        say(str(error))
+        return 1
+    except KeyboardInterrupt:
+        return INTERRUPTED
+    except Ended as ended:
+        return ended.status

@@ -1,0 +1,123 @@
+"""What is known of words and memory: lists of words, the kinds of those that SEE has no source for, and the system's sources."""
+from __future__ import annotations
+
+import os
+import re
+from typing import Iterable, Iterator, Sequence
+
+from served.faults import plain
+from served.image import SERVED, TEXTS
+from served.target import CONTEXT, FENCE, FORTH_VOCABULARY, TOP, Target, plain_name
+from served.wire import Header
+
+WIDTH = 64
+LONGEST_CHAIN = 32768
+PRIMITIVES = 5  # codes from here on to 255 are the kernel's own
+HELP = """docs/TUTORIAL.md is a first hour, ./forth course more.
+docs/WORDS.md describes each word.
+WORDS lists words, SEE NAME shows one, .S the stack.
+21 LIST shows screen 21, 0 PUT TEXT writes its line 0,
+0 RETYPE lets you change that line, 21 EDIT edits the screen,
+21 LOAD runs it, SAVE writes what you changed.
+INCLUDE FILE interprets a text file.
+Arrows up and down go through the lines you typed, ^R searches them.
+HELP DUP explains DUP, DEBUG NAME runs it in steps, WHY explains a fault.
+UNDO takes the last line back.
+BYE or ^D saves and leaves; ^C interrupts."""
+
+
+def visible(target: Target, vocabularies: Sequence[int] = ()) -> list[Header]:
+    """The words that a line finds, or those of these vocabularies, the newest first: of words of the same name only the newest one."""
+    memory = target.wire.memory(0, TOP)
+    by_link = {header.token - 3 - len(header.name): header for header in target.wire.headers()}
+    found: dict[bytes, tuple[int, Header]] = {}
+    for vocabulary in vocabularies or (cell_of(memory, CONTEXT), FORTH_VOCABULARY):
+        for link in links(memory, vocabulary):
+            header = by_link.get(link)
+            if header and not header.is_hidden and header.name not in found:
+                found[header.name] = (link, header)
+    return [header for _, header in sorted(found.values(), key=lambda pair: -pair[0])]
+
+
+def names(target: Target) -> list[str]:
+    """The names that a line finds, for completion."""
+    return [plain(header.name) for header in visible(target)]
+
+
+def cell_of(memory: bytes, address: int) -> int:
+    return int.from_bytes(memory[address : address + 2], "little")
+
+
+def links(memory: bytes, vocabulary: int) -> Iterator[int]:
+    """The link fields of a vocabulary's four chains, of each the newest first."""
+    for head in range(vocabulary, vocabulary + 8, 2):
+        link, left = cell_of(memory, head), LONGEST_CHAIN
+        while link and left:
+            yield link
+            link, left = cell_of(memory, link), left - 1
+
+
+def listed(headers: Iterable[Header], part: str) -> str:
+    """The names, or those with a part, in lines of no more than WIDTH columns."""
+    lines = [""]
+    for header in headers:
+        name = plain(header.name)
+        if part.upper() in name.upper():
+            if lines[-1] and len(lines[-1]) + len(name) >= WIDTH:
+                lines.append("")
+            lines[-1] += name + " "
+    return "\n".join(lines) + "\n"
+
+
+def kind(target: Target, name: bytes) -> str:
+    """What a word is that is no colon word."""
+    token = target.wire.token(name)
+    code, body = target.wire.cells_at(token, 2)
+    if code == 2:
+        return f"a variable at {token + 2}, holding {body}"
+    if code == 3:
+        return f"a constant, {body}"
+    if code == 4:
+        return f"a vocabulary at {token + 2}"
+    if PRIMITIVES <= code <= 255:
+        return f"primitive {code}"
+    maker = [header for header in target.wire.headers() if header.token < code]
+    return f"made by {plain_name(maker[-1].name)}, with {body} first" if maker else f"code {code}"
+
+
+def place_of(target: Target, view: int, token: int) -> str:
+    """Where a word was made."""
+    place = target.texts.place(view)
+    if place:
+        return f"{place.name}:{place.number}"
+    if token < target.wire.cell(FENCE):
+        return "a word of the system"
+    return f"screen {view}" if view else "typed"
+
+
+def system_screen(number: int) -> tuple[str, list[str]]:
+    """The text that has a screen of the system, and its lines."""
+    root = os.path.dirname(os.path.dirname(os.path.dirname(SERVED)))
+    for path in [SERVED, *TEXTS, os.path.join(root, "screens", "kernel.txt")]:
+        with open(path, encoding="utf-8") as file:
+            found = re.search(rf"^% screen {number}\n(.*?)(?=^% screen|\Z)", file.read(), re.M | re.S)
+        if found:
+            return os.path.relpath(path, root), found[1].splitlines()
+    return "", []
+
+
+def system_source(number: int, part: str = "") -> str:
+    """A screen of the system, or its lines that have a name."""
+    path, lines = system_screen(number)
+    shown = [line for line in lines if part in line] if part else lines
+    return "\n".join([f"{path}, screen {number}", *shown]) + "\n" if path else "a word of the system\n"
+
+
+def dump(memory: bytes, address: int) -> str:
+    """Memory in lines of 16 bytes, in hexadecimal and as characters."""
+    lines = []
+    for at in range(0, len(memory), 16):
+        row = memory[at : at + 16]
+        shown = "".join(chr(byte) if 32 <= byte <= 126 else "." for byte in row)
+        lines.append(f"{(address + at) & 0xFFFF:5X} " + "".join(f"{byte:02X} " for byte in row) + shown)
+    return "\n".join(lines) + "\n"
