@@ -15,10 +15,9 @@ class Promise(NamedTuple):
 
 DEVICE: Trait = ("block_buffers", "devices.rt", "Device")
 ENDS: List[Trait] = [DEVICE, ("inner_interpreter", "ends.rt", "Input"), ("inner_interpreter", "ends.rt", "Output")]
-HOST: List[Trait] = [*ENDS, ("session_runs", "hosts.rt", "SessionHost")]
-FILES: List[Trait] = [*HOST, ("named_files", "files.rt", "Files"), ("session_runs", "runs.rt", "SessionFiles")]
+FILES: List[Trait] = [*ENDS, ("named_files", "files.rt", "Files")]
 MAKE: List[Function] = [("inner_interpreter", "hosts.rt", "make_moves"), ("machine", "machine.rt", "load")]
-SESSION: List[Function] = [("session_runs", "sessions.rt", "do_session", "moved"), ("inner_interpreter", "laws.rt", "moves_law")]
+RUN: List[Function] = [("run_subcommand", "run_command.rt", "do_run", "moved"), ("inner_interpreter", "laws.rt", "moves_law")]
 BUILD: List[Function] = [("image_builder", "building.rt", "build", "read"), ("subcommands", "commands.rt", "do_build", "read")]
 REFUSED: List[Function] = [("image_builder", "building.rt", "build", "refused")]
 LOADS: List[Function] = [("image_loader", "reader.rt", "read", "accepted"), ("machine", "machine.rt", "load")]
@@ -34,10 +33,10 @@ PROMISES: Dict[str, Promise] = {
         MAKE, ENDS,
         "Whatever ticks, answers and entered words a host makes, in whatever order: the machine's state, the bytes that it shows, and its requests, faults and "
         "halts are those that `made` says of that list."),
-    "A session": Promise(
-        SESSION, HOST,
-        "A session moves the machine by ticks, answers and interruptions alone. It is given just the bytes that were typed and the blocks that were read, shows "
-        "just the bytes of these moves, and at the end writes the changed screens, those and no others."),
+    "A run": Promise(
+        RUN, ENDS,
+        "A run of an image moves the machine by ticks and answers alone. It is given just the bytes that were typed and the blocks that were read, and shows just "
+        "the bytes of these moves."),
     "What screens define": Promise(
         BUILD, ENDS,
         "The image that `build` makes of screens has just the items that the words of these screens spell, byte for byte, and each screen is read once, in order."),
@@ -45,7 +44,7 @@ PROMISES: Dict[str, Promise] = {
         LOADS, [],
         "A file of an image is read as that image, and the machine that is loaded of it has its bytes, zeros after them, and its entry pending."),
     HEADLINE: Promise(
-        MAKE + SESSION + BUILD + LOADS, HOST,
+        MAKE + RUN + BUILD + LOADS, ENDS,
         "For every image and every list of moves the machine is the written table, also where programs alter their own threads; and the image that `build` makes "
         "loads to exactly what its screens define."),
     "Why a source is refused": Promise(
@@ -93,7 +92,7 @@ GUIDE: List[Tuple[str, str, str]] = [
     ("the ends: what readers, writers and devices keep, and what their clauses say",
      "inner_interpreter/Ends inner_interpreter/Reads inner_interpreter/Reports block_buffers/DeviceCalls block_buffers/Disks block_buffers/Calls block_buffers/Likeness "
      "block_buffers/ReadPages block_buffers/devices.rt inner_interpreter/ends.rt", "PROMISES, the first two paragraphs"),
-    ("a session", "session_runs/* subcommands/Lines subcommands/Ends subcommands/Statuses", "PROGRAM.md, \"Running an image\"; MACHINE.md, \"Running an image\""),
+    ("a run", "run_subcommand/Running subcommands/Lines subcommands/Ends subcommands/Statuses", "PROGRAM.md, \"Running an image\"; MACHINE.md, \"Running an image\""),
     ("words of a source", "source_words/Words source_words/Modes image_builder/Places image_builder/Spelled image_builder/Names image_builder/Meanings", "SCREENS.md"),
     ("what words define, and the image", "colon_bodies/* image_builder/Grammar image_builder/Items image_builder/Faults image_builder/Stages image_builder/Sources",
      "MACHINE.md, \"The dictionary\", \"Image files\"; dump an image"),

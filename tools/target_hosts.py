@@ -91,11 +91,12 @@ def blocks_file(program: pathlib.Path, file: pathlib.Path) -> None:
 
 
 def check_pipes(must: Must, place: Place, program: pathlib.Path, image: pathlib.Path, terminal: pathlib.Path) -> None:
-    """The terminal in a pipe shows what the program shows, and leaves the same blocks."""
+    """The terminal in a pipe shows what the program shows, and leaves the blocks that the program leaves after FLUSH."""
     mine, others = place.room / "mine.blk", place.room / "others.blk"
     for file in (mine, others):
         blocks_file(program, file)
-    wanted = subprocess.run([program, "run", "--save", image, others], input=LINES, stdout=subprocess.PIPE, check=False).stdout
+    wanted = subprocess.run([program, "run", image, others], input=LINES, stdout=subprocess.PIPE, check=False).stdout
+    subprocess.run([program, "run", image, others], input=LINES + b"FLUSH\n", stdout=subprocess.DEVNULL, check=False)
     got = place.run(terminal, [image, mine.name], LINES)
     must(got == wanted, f"{place.target}: the terminal shows {got!r} in a pipe, and the program {wanted!r}")
     must(mine.read_bytes() == others.read_bytes(), f"{place.target}: the terminal leaves other blocks than the program")

@@ -1,29 +1,6 @@
 # shellcheck shell=bash
 # Trials of runs whose streams, files or memory fail or change, and of ^C. `tools/trials` reads this file.
 
-# A run is interrupted where the file exists: the machine goes on with the word BREAK. Without such a word it runs on.
-broken_runs() {
-  local running status=0
-  "$program" kernel k.blk > /dev/null
-  printf '%% screen 21\n: BREAK 66 EMIT BYE ;\n: FOREVER BEGIN AGAIN ;\nBOOT FOREVER\n' > x.txt
-  "$program" text k.blk 20 20 | sed 's/^BOOT COLD$//' > y.txt
-  "$program" screens x.txt k.blk > /dev/null
-  "$program" screens y.txt k.blk > /dev/null
-  rm -f x.img
-  "$program" build k.blk 1 21 x.img > /dev/null
-  "$program" run x.img --break asked > shown &
-  running=$!
-  sleep 0.3
-  : > asked
-  wait "$running" || status=$?
-  differs "a run that BREAK interrupts" 'B0' "$(cat shown)$status"
-  [ ! -e asked ] || differs "the file that asked" gone there
-  : > asked
-  ends $'a\n[4]' run "$images/endless.img" --limit 3000000 --break asked
-  [ -e asked ] || differs "the file of an image without BREAK" there gone
-  rm asked
-}
-
 # A block file that only may be read. (Root may write it all the same.)
 read_only() {
   two_blocks sealed

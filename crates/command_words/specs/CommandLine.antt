@@ -93,7 +93,7 @@ abbrev pub export : Shape
 export = sub (codes "export") (word (codes "BLOCKS") ∷ word (codes "CONTAINER") ∷ layout_rules)
 
 abbrev pub run : Shape
-run = sub (codes "run") (word (codes "IMAGE") ∷ new_rule (codes "BLOCKS") ∷ limit ∷ option (codes "break") ∷ flag (codes "save") ∷ [])
+run = sub (codes "run") (word (codes "IMAGE") ∷ new_rule (codes "BLOCKS") ∷ limit ∷ [])
 
 abbrev pub see : Shape
 see = sub (codes "see") (word (codes "IMAGE") ∷ word (codes "NAME") ∷ [])

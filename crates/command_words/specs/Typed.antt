@@ -8,7 +8,6 @@ use Rattle.clap.specs.Simple.{subcommand_of}
 use Rattle.command_words.specs.CommandLine.{forth83}
 use Rattle.command_words.specs.declared.BuildWords.{BuildWords}
 use Rattle.command_words.specs.declared.LoadWords.{LoadWords}
-use Rattle.command_words.specs.declared.RunWords.{RunWords}
 use Rattle.command_words.specs.declared.ScreenRange.{ScreenRange}
 use Rattle.command_words.specs.declared.containers.ContainerWords.{ContainerWords}
 use Rattle.command_words.specs.declared.Words.{Words}
@@ -50,13 +49,6 @@ pub record IsLoad (rows : List Row) (w : LoadWords) : Type 0 where
   pub limit : number_in (codes "limit") rows ≡ Some w.limit
   pub place : IsFlag rows (codes "where") w.shows_place
 
-pub record IsRun (rows : List Row) (w : RunWords) : Type 0 where
-  pub image : IsText rows (codes "IMAGE") w.image
-  pub blocks : IsTextIfGiven rows (codes "BLOCKS") w.blocks
-  pub limit : number_in (codes "limit") rows ≡ Some w.limit
-  pub break : IsTextIfGiven rows (codes "break") w.break_file
-  pub saves : IsFlag rows (codes "save") w.saves
-
 pub record IsContainer (rows : List Row) (w : ContainerWords) : Type 0 where
   pub container : IsText rows (codes "CONTAINER") w.container
   pub blocks : IsText rows (codes "BLOCKS") w.blocks
@@ -77,7 +69,8 @@ Says rows (words.Screens text blocks) = IsText rows (codes "TEXT") text × IsTex
 Says rows (words.New blocks count) = IsText rows (codes "BLOCKS") blocks × (number_in (codes "N") rows ≡ Some count)
 Says rows (words.Import w) = IsContainer rows w × IsFlag rows (codes "clean") w.cleans
 Says rows (words.Export w) = IsContainer rows w
-Says rows (words.Run w) = IsRun rows w
+Says rows (words.Run image blocks limit) =
+    IsText rows (codes "IMAGE") image × IsTextIfGiven rows (codes "BLOCKS") blocks × (number_in (codes "limit") rows ≡ Some limit)
 Says rows (words.Debug image name trace blocks limit) =
     IsText rows (codes "IMAGE") image × IsText rows (codes "NAME") name × IsText rows (codes "TRACE") trace
     × IsTextIfGiven rows (codes "BLOCKS") blocks × (number_in (codes "limit") rows ≡ Some limit)
@@ -96,7 +89,7 @@ name_of (words.Screens text blocks) = codes "screens"
 name_of (words.New blocks count) = codes "new"
 name_of (words.Import w) = codes "import"
 name_of (words.Export w) = codes "export"
-name_of (words.Run w) = codes "run"
+name_of (words.Run image blocks limit) = codes "run"
 name_of (words.Debug image name trace blocks limit) = codes "debug"
 name_of (words.See image name) = codes "see"
 name_of (words.View image name) = codes "view"

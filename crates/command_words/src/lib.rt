@@ -47,7 +47,11 @@ pub enum Words {
     },
     Import(ContainerWords),
     Export(ContainerWords),
-    Run(RunWords),
+    Run {
+        image: String,
+        blocks: Option<String>,
+        limit: u64,
+    },
     Debug {
         image: String,
         name: String,
@@ -97,18 +101,6 @@ pub struct LoadWords {
     pub limit: u64,
     /// Whether it is shown where the screens stopped, also if standard error is no terminal.
     pub shows_place: bool,
-}
-
-/// The words of `run`.
-#[derive(Drop)]
-pub struct RunWords {
-    pub image: String,
-    pub blocks: Option<String>,
-    pub limit: u64,
-    /// The file that asks for the run to be interrupted.
-    pub break_file: Option<String>,
-    /// Whether changed blocks are written where the run ends.
-    pub saves: bool,
 }
 
 /// What became of the command line.

@@ -7,7 +7,7 @@ ghost use Rattle.clap.specs.Matches.{found_of};
 ghost use Rattle.clap.specs.Simple.{subcommand_rows_of};
 ghost use Rattle.command_words.specs.Typed as typed;
 
-use crate::{BuildWords, ContainerWords, LoadWords, RunWords, ScreenRange, Words};
+use crate::{BuildWords, ContainerWords, LoadWords, ScreenRange, Words};
 use clap::ArgMatches;
 use std::alloc::Global;
 use thiserror::Error;
@@ -213,16 +213,14 @@ fn container_words(
     })
 }
 
-fn run_words(alloc: Global, matches: &ArgMatches<'_>) -> Result<RunWords, Unread>
-    ensures typed { IfOk result (typed.IsRun (rows_of (found_of matches.now))) }
+fn run_words(alloc: Global, matches: &ArgMatches<'_>) -> Result<Words, Unread>
+    ensures typed { IfOk result (typed.AreOf (codes "run") (rows_of (found_of matches.now))) }
     ensures lacks { IfErr result (λ why. why ≡ Unread.Missing → typed.LacksOne (rows_of (found_of matches.now)) (typed.Word (codes "IMAGE") ∷ typed.limit_part ∷ [])) }
 {
-    Ok(RunWords {
+    Ok(Words::Run {
         image: text(alloc, matches, "IMAGE")?,
         blocks: text_if_given(alloc, matches, "BLOCKS")?,
         limit: limit(matches)?,
-        break_file: text_if_given(alloc, matches, "break")?,
-        saves: is_given(matches, "save"),
     })
 }
 
@@ -296,7 +294,7 @@ fn words_of(alloc: Global, name: &str, matches: &ArgMatches<'_>) -> Result<Words
             Ok(Words::Import(container_words(alloc, matches, cleans)?))
         }
         "export" => Ok(Words::Export(container_words(alloc, matches, false)?)),
-        "run" => Ok(Words::Run(run_words(alloc, matches)?)),
+        "run" => run_words(alloc, matches),
         "debug" => debug_words(alloc, matches),
         "see" => see_words(alloc, matches),
         "view" => view_words(alloc, matches),

@@ -144,18 +144,7 @@ fn run_command<'a>(alloc: Global) -> Result<Command<'a>, AllocError>
         .about("Run an image with standard input and output")
         .arg(word(alloc, "IMAGE", "The image file"))?
         .arg(may_be(alloc, "BLOCKS", "A block file (blocks of 1,024 bytes)"))?
-        .arg(limit(alloc))?
-        .arg(option(
-            alloc,
-            "break",
-            "FILE",
-            "Remove FILE as soon as it exists, and continue with the word BREAK",
-        ))?
-        .arg(flag(
-            alloc,
-            "save",
-            "Write changed blocks at BYE and at the end of input",
-        ))
+        .arg(limit(alloc))
 }
 
 fn debug_command<'a>(alloc: Global) -> Result<Command<'a>, AllocError>

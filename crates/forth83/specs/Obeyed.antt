@@ -1,5 +1,5 @@
 -- What the program does: for each command line, and for each subcommand with its words, what is promised of it.
-use Rattle.std.specs.Prelude.{◌≡◌, ◌⊎◌, ℕ, List, [], ◌∷◌, Bool, true, Option, Some, None, option_map, String, is_some}
+use Rattle.std.specs.Prelude.{◌≡◌, ◌⊎◌, ℕ, List, [], ◌∷◌, Bool, true, Option, Some, None, option_map, String}
 use Rattle.std.specs.declared.alloc.Global.{Global}
 use Rattle.std.specs.String.{string_bytes}
 use Rattle.command_words.specs.Refused.{IsUnread}
@@ -14,8 +14,8 @@ use Rattle.load_subcommand.specs.Files.{Loads, load_steps}
 use Rattle.named_files.specs.Asking.{step}
 use Rattle.named_files.specs.Done.{Done, Refuses}
 use Rattle.named_files.specs.declared.step_log.Deed.TheVariants as deed
+use Rattle.run_subcommand.specs.Files.{Runs, run_steps}
 use Rattle.serve_subcommand.specs.Files.{ServesFiles, serve_steps}
-use Rattle.session_runs.specs.Files.{RefusesRun, Runs}
 
 -- the name that was typed, if one was
 abbrev pub typed : Option (String Global) → List (List ℕ)
@@ -45,8 +45,7 @@ Obeys (words.Screens text blocks) status failed old new = MakesScreens (string_b
 Obeys (words.New blocks count) status failed old new = MakesNew (string_bytes blocks) count status failed old new
 Obeys (words.Import w) status failed old new = Imports (wanted w) w.cleans status failed old new
 Obeys (words.Export w) status failed old new = Exports (wanted w) status failed old new
-Obeys (words.Run w) status failed old new =
-    Runs (string_bytes w.image) (typed w.blocks) (record { limit = w.limit; saves = w.saves; keeps = is_some w.break_file }) status failed old new
+Obeys (words.Run image blocks limit) status failed old new = Runs (string_bytes image) (typed blocks) limit status failed old new
 Obeys (words.Debug image name trace blocks limit) status failed old new =
     Debugs (string_bytes image) (string_bytes name) (string_bytes trace) (typed blocks) limit status failed old new
 Obeys (words.See image name) status failed old new = Sees (string_bytes image) (string_bytes name) status failed old new
@@ -65,22 +64,17 @@ RefusesWords (words.Screens text blocks) status failed old new = Refuses (screen
 RefusesWords (words.New blocks count) status failed old new = RefusesNew (string_bytes blocks) count status old new
 RefusesWords (words.Import w) status failed old new = RefusesImport (wanted w) status failed old new
 RefusesWords (words.Export w) status failed old new = RefusesExport (wanted w) status failed old new
-RefusesWords (words.Run w) status failed old new = RefusesRun (string_bytes w.image) (typed w.blocks) status old new
+RefusesWords (words.Run image blocks limit) status failed old new = Refuses (run_steps (string_bytes image) (typed blocks)) status old new
 RefusesWords (words.Debug image name trace blocks limit) status failed old new =
     RefusesDebug (string_bytes image) (string_bytes trace) (typed blocks) status old new
 RefusesWords (words.See image name) status failed old new = Refuses (image_steps (string_bytes image)) status old new
 RefusesWords (words.View image name) status failed old new = Refuses (image_steps (string_bytes image)) status old new
 RefusesWords (words.Serve image blocks) status failed old new = Refuses (serve_steps (string_bytes image) (typed blocks)) status old new
 
--- the status where a line could not be printed: of a session it may also be 1, where a changed block could not be written, or memory ran out
-abbrev pub IsCut : Words → (status : ℕ) → Type 0
-IsCut (words.Run w) status = (status ≡ 5) ⊎ (status ≡ 1)
-IsCut _ status = status ≡ 5
-
 -- what the program does with a command line. It obeys the words that were typed, or one of their steps is refused; if a line can't be printed
--- meanwhile, the status says so. Or no words come of the command line: it is printed why, or memory ran out.
+-- meanwhile, the status is 5. Or no words come of the command line: it is printed why, or memory ran out.
 abbrev pub RunsLine : (typed : List (List ℕ)) → (status : ℕ) → (failed : Bool) → (old new : Done) → Type 0
 RunsLine typed status failed old new =
-    ((w : Words) × IsTyped typed w × (Obeys w status failed old new ⊎ RefusesWords w status failed old new) × (failed ≡ true → IsCut w status))
+    ((w : Words) × IsTyped typed w × (Obeys w status failed old new ⊎ RefusesWords w status failed old new) × (failed ≡ true → status ≡ 5))
     ⊎ (IsUnread typed (parsed.Exit status) × (new ≡ old))
     ⊎ Refuses (step deed.Allocate [] ∷ []) status old new

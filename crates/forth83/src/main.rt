@@ -2,12 +2,12 @@
 #![tactic(auto)]
 
 ghost use Rattle.std.specs.Prelude.{◌≡◌, false, true, map, IfErr, IfOk, option_map};
-ghost use Rattle.forth83.specs.Obeyed.{IsCut, Obeys, RefusesWords, RunsLine};
+ghost use Rattle.forth83.specs.Obeyed.{Obeys, RefusesWords, RunsLine};
 ghost use Rattle.named_files.specs.Done.{IsPassedOn, done, status_of};
 ghost use Rattle.std.specs.String.{string_bytes};
 
 use command_words::{
-    ContainerWords, LoadWords, Parsed, RunWords, ScreenRange, Words, parse, typed,
+    ContainerWords, LoadWords, Parsed, ScreenRange, Words, parse, typed,
 };
 use debug_subcommand::debug_word;
 use file_subcommands::{
@@ -16,9 +16,9 @@ use file_subcommands::{
 };
 use inner_interpreter::Output;
 use load_subcommand::{Load, load_screens};
-use named_files::{SystemFiles, out_of_memory, standard_output};
+use named_files::{Files, SystemFiles, out_of_memory, standard_output};
+use run_subcommand::run_image;
 use serve_subcommand::serve_image;
-use session_runs::{Session, SessionFiles, run_image};
 use std::process::ExitCode;
 
 /// The screens that words name.
@@ -68,24 +68,13 @@ fn load_of(words: &LoadWords) -> Load<'_>
     }
 }
 
-/// What the words of `run` want beside the run.
-fn session_of(words: &RunWords) -> Session<'_>
-    ensures asked { option_map (λ text. text.now) result.break_file ≡ option_map string_bytes words.now.break_file }
-    ensures saves { result.saves ≡ words.now.saves }
-{
-    Session {
-        break_file: words.break_file.as_deref(),
-        saves: words.saves,
-    }
-}
-
 /// Runs what the words say, and answers the status. If a subcommand cannot start, the reason is printed, and the status is the error.
-fn obey<F: SessionFiles, W: Output>(files: &mut F, writer: &mut W, words: Words) -> Result<u8, u8>
+fn obey<F: Files, W: Output>(files: &mut F, writer: &mut W, words: Words) -> Result<u8, u8>
     ensures obeyed { W.failed writer.old ≡ false → IfOk result (λ status. Obeys words status (W.failed writer.new)
         (done (F.log files.old) (W.sent writer.old)) (done (F.log files.new) (W.sent writer.new))) }
     ensures refused { IfErr result (λ status. RefusesWords words status (W.failed writer.new)
         (done (F.log files.old) (W.sent writer.old)) (done (F.log files.new) (W.sent writer.new))) }
-    ensures cut { W.failed writer.old ≡ false → W.failed writer.new ≡ true → IsCut words (status_of result) }
+    ensures cut { W.failed writer.old ≡ false → W.failed writer.new ≡ true → status_of result ≡ 5 }
     ensures passed { IsPassedOn (status_of result) (W.failed writer.new) (W.passed writer.new) (W.sent writer.old) (W.sent writer.new) }
 {
     match words {
@@ -114,14 +103,11 @@ fn obey<F: SessionFiles, W: Output>(files: &mut F, writer: &mut W, words: Words)
         Words::New { blocks, count } => write_new(files, writer, blocks.as_str(), count),
         Words::Import(words) => import_screens(files, writer, disk_of(&words), words.cleans),
         Words::Export(words) => export_screens(files, writer, disk_of(&words)),
-        Words::Run(words) => run_image(
-            files,
-            writer,
-            words.image.as_str(),
-            words.blocks.as_deref(),
-            words.limit,
-            session_of(&words),
-        ),
+        Words::Run {
+            image,
+            blocks,
+            limit,
+        } => run_image(files, writer, image.as_str(), blocks.as_deref(), limit),
         Words::Debug {
             image,
             name,
@@ -146,7 +132,7 @@ fn obey<F: SessionFiles, W: Output>(files: &mut F, writer: &mut W, words: Words)
 }
 
 /// Runs a command line, of which the first word is the program's name, and answers the status. Where no words come of it, that is printed.
-fn run_line<R: Print, F: SessionFiles, W: Output>(
+fn run_line<R: Print, F: Files, W: Output>(
     rt: &R,
     files: &mut F,
     writer: &mut W,

@@ -202,11 +202,6 @@ impl<'a> SystemFiles<'a> {
     ghost use Rattle.std.specs.Prelude.{◌≡◌, ◌∷◌, ◌++◌, [], map};
     ghost use Rattle.named_files.specs.Asking.{answered, step};
 
-    /// The system.
-    pub fn rt(&self) -> &'a HostRuntime {
-        self.rt
-    }
-
     /// Nothing was asked yet.
     pub fn new(rt: &'a HostRuntime) -> SystemFiles<'a>
         ensures { ⟦<SystemFiles<'a> as Files>⟧.log result ≡ system_log [] (file_logs [] [] unused) }

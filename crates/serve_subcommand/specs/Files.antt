@@ -7,18 +7,11 @@ use Rattle.named_files.specs.Done.{Done, Reads}
 use Rattle.named_files.specs.Uses.{with_all, with_keys}
 use Rattle.named_files.specs.declared.step_log.Deed.TheVariants as deed
 use Rattle.serve_subcommand.specs.Serving.{ServesImage}
-use Rattle.subcommands.specs.Ends.{IsRefusal}
-use Rattle.subcommands.specs.Lines.{OfImageFile, PrintsNoImage, PrintsOutOfMemory}
+use Rattle.subcommands.specs.Ends.{IsWanting}
+use Rattle.subcommands.specs.Lines.{OfImageFile, PrintsNoImage}
 
 abbrev pub serve_steps : (image : List ℕ) → (blocks : List (List ℕ)) → List Step
 serve_steps image blocks = step deed.Read (image ∷ []) ∷ step deed.Listen [] ∷ step deed.Open blocks ∷ []
-
--- memory ran out before the first request: no frame was read and no block asked for, and that was printed
-pub record IsWanting (status : ℕ) (failed : Bool) (keys : List (Option ℕ)) (calls : List DeviceCall) (old new : Option (List ℕ)) : Type 0 where
-  pub untyped : keys ≡ []
-  pub uncalled : calls ≡ []
-  pub status_is : IsRefusal status failed
-  pub printed : failed ≡ false → PrintsOutOfMemory status old new
 
 -- `serve IMAGE BLOCKS`, once these steps were taken: the requests that standard input gave were served over the blocks, which were handed
 -- back after these calls; no other file was written

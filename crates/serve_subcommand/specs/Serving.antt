@@ -1,5 +1,5 @@
 -- An image that is served: what becomes of the machine, the blocks, the frames and the replies.
-use Rattle.std.specs.Prelude.{◌≡◌, ℕ, List, ◌++◌, Option, Bool, false, ◌==◌, if◌then◌else◌}
+use Rattle.std.specs.Prelude.{◌≡◌, ℕ, List, ◌++◌, ◌==◌, if◌then◌else◌}
 use Rattle.block_buffers.specs.DeviceCalls.{DeviceCall}
 use Rattle.image_loader.specs.Files.{Contents}
 use Rattle.inner_interpreter.specs.Moves.{Logs}
@@ -9,8 +9,6 @@ use Rattle.serving.specs.Saving.{AreSaved}
 use Rattle.serving.specs.Taking.{HasServed}
 use Rattle.serving.specs.declared.serving.Ending.{Ending}
 use Rattle.serving.specs.declared.serving.Ending.TheVariants as ending
-use Rattle.subcommands.specs.Ends.{IsUnrun}
-use Rattle.subcommands.specs.Lines.{PrintsOutOfMemory}
 
 -- the status: 5 if an end failed; otherwise 1 if a block could not be written, and 0
 abbrev pub status_by : Ending → (lost : ℕ) → ℕ
@@ -31,8 +29,3 @@ pub record ServesImage (image : Contents) (count : ℕ) (log log' : Logs) (statu
   pub calls : List DeviceCall
   pub served : HasServed how count (start image 65536) state log.calls calls log.reads log'.reads log.sent log'.sent
   pub saved : SavesAtEnd how count state.parts calls log'.calls status
-
--- memory ran out before the first request: reader and device are as they were, and that was printed
-pub record IsUnserved {R D : Type 0} (status : ℕ) (failed : Bool) (reader reader' : R) (device device' : D) (old new : Option (List ℕ)) : Type 0 where
-  pub unrun : IsUnrun status failed reader reader' device device'
-  pub printed : failed ≡ false → PrintsOutOfMemory status old new

@@ -4,7 +4,7 @@ ghost use Rattle.std.specs.Prelude.{◌≡◌, ◌⊎◌, ◌≤◌, ◌==◌, f
 ghost use Rattle.inner_interpreter.specs.Moves.{logs};
 ghost use Rattle.image_loader.specs.declared.fault.ImageFault.{ImageFault};
 ghost use Rattle.named_files.specs.Done.{IsPassedOn};
-ghost use Rattle.serve_subcommand.specs.Serving.{IsUnserved, SavesAtEnd, ServesImage, status_by};
+ghost use Rattle.serve_subcommand.specs.Serving.{SavesAtEnd, ServesImage, status_by};
 ghost use Rattle.subcommands.specs.Causes.{IsNoFile};
 ghost use Rattle.subcommands.specs.Ends.{IsRefusal, IsUnrun};
 ghost use Rattle.subcommands.specs.Lines.{OfImageFile, PrintsNoImage, PrintsOutOfMemory};
@@ -90,7 +90,7 @@ pub fn do_serve<R: Input, W: Output, D: Device>(
     ensures served { OfImageFile image.now (λ file. ServesImage file (D.block_count device.old)
         (logs (D.calls device.old) (W.sent writer.old) (R.reads reader.old))
         (logs (D.calls device.new) (W.sent writer.new) (R.reads reader.new)) result.status ⊎
-        IsUnserved result.status (W.failed writer.new) reader.old reader.new device.old device.new (W.sent writer.old) (W.sent writer.new)) }
+        IsUnrun result.status (W.failed writer.new) reader.old reader.new device.old device.new (W.sent writer.old) (W.sent writer.new)) }
     // If they are none, that is printed, and no other end is touched.
     ensures refused { W.failed writer.new ≡ false → PrintsNoImage image.now result.status (W.sent writer.old) (W.sent writer.new) }
     ensures unserved { (fault : ImageFault) → IsNoFile image.now fault → (reader.new ≡ reader.old) × (device.new ≡ device.old) }

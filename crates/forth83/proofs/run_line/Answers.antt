@@ -1,5 +1,4 @@
-use Rattle.std.proofs.Common.{ap, inl, inr, rules}
-use Rattle.forth83.specs.Obeyed.{IsCut}
+use Rattle.std.proofs.Common.{ap, inl, inr, rules, ◌≡◌}
 use Rattle.named_files.specs.Done.{status_of}
 use Rattle.named_files.proofs.Making.{refused, refuses}
 use Rattle.forth83.proofs.run_line.Goals as goal
@@ -9,7 +8,7 @@ returns-in-Ok-clause-ran g c = λ fine. inl (
   c.in-Words.words,
   c.in-Words.ensures,
   inl (c.in-Ok.ensures.obeyed fine),
-  λ broken. let h : IsCut c.in-Words.words (status_of c.obey.result) = c.obey.ensures.cut fine broken in search (rules, h),
+  λ broken. let h : status_of c.obey.result ≡ 5 = c.obey.ensures.cut fine broken in search (rules, h),
 )
 
 pub returns-in-Ok-2-clause-ran : goal.returns-in-Ok-2-clause-ran
@@ -17,7 +16,7 @@ returns-in-Ok-2-clause-ran g c = λ fine. inl (
   c.in-Words.words,
   c.in-Words.ensures,
   inr c.in-Ok.ensures.refused,
-  λ broken. let h : IsCut c.in-Words.words (status_of c.obey.result) = c.obey.ensures.cut fine broken in search (rules, h),
+  λ broken. let h : status_of c.obey.result ≡ 5 = c.obey.ensures.cut fine broken in search (rules, h),
 )
 
 pub returns-in-OutOfMemory-clause-ran : goal.returns-in-OutOfMemory-clause-ran

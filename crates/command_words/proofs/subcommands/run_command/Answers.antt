@@ -6,6 +6,4 @@ returns c =
     let s0 = about _ _ c.new.result c.about.result _ c.new.ensures.app c.new.ensures.local c.about.ensures in
     let s1 = grown _ _ c.about.result c.word.result _ _ s0 c.word.ensures.rule c.word.ensures.local c.in_ok-arg.ensures in
     let s2 = grown _ _ _ c.may_be.result _ _ s1 c.may_be.ensures.rule c.may_be.ensures.local c.in_ok-arg-2.ensures in
-    let s3 = grown _ _ _ c.limit.result _ _ s2 c.limit.ensures.rule c.limit.ensures.local c.in_ok-arg-3.ensures in
-    let s4 = grown _ _ _ c.option.result _ _ s3 c.option.ensures.rule c.option.ensures.local c.in_ok-arg-4.ensures in
-    if_ok_then c.arg-5.result _ _ (λ d h. grown _ _ _ c.flag.result _ d s4 c.flag.ensures.rule c.flag.ensures.local h) c.arg-5.ensures
+    if_ok_then c.arg-3.result _ _ (λ d h. grown _ _ _ c.limit.result _ d s2 c.limit.ensures.rule c.limit.ensures.local h) c.arg-3.ensures

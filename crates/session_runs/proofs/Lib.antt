@@ -1,6 +1,0 @@
-mod Breaking
-mod Working
-mod Storing
-mod Sitting
-mod Over
-mod Ran

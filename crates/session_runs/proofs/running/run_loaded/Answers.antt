@@ -1,5 +1,0 @@
-use Rattle.session_runs.proofs.Ran.{run_of}
-use Rattle.session_runs.proofs.running.run_loaded.Goals as goal
-
-pub returns-clause-ran : goal.returns-clause-ran
-returns-clause-ran g c = run_of _ _ _ _ _ _ _ _ c.load-machine.ensures c.count.ensures.value c.in_ok-stop.ensures.runs
