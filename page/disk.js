@@ -162,18 +162,34 @@ export function screensOf(text) {
   return { screens };
 }
 
-// Where a text is in the screens: of each place the screen, the line, its text and the column. Upper and lower case count the same.
-export function search(count, pageOfBlock, wanted, most = 200) {
-  const found = [], sought = wanted.toUpperCase(), isPlain = /^[ -~]*$/.test(wanted);
-  for (let block = 0; block < count && found.length < most; block++) {
-    const page = pageOfBlock(block);
-    if (isPlain && !String.fromCharCode(...page).replace(/\0/g, " ").toUpperCase().includes(sought)) continue;
-    for (const [line, text] of linesOf(page).entries()) {
-      const column = text.toUpperCase().indexOf(sought);
-      if (column >= 0) found.push({ block, line, column, text });
+// Where a text is in a line. Upper and lower case count the same; a whole word has blanks around it.
+function columnsOf(line, { text, isWhole }) {
+  const wanted = new RegExp(text.replace(/[\\^$.*+?()[\]{}|]/g, "\\$&"), "gi"), isEdge = (letter) => letter === undefined || letter === " ";
+  const columns = text ? [...line.matchAll(wanted)].map(({ index }) => index) : [];
+  return columns.filter((column) => !isWhole || (isEdge(line[column - 1]) && isEdge(line[column + text.length])));
+}
+
+// Where a text is in the screens, from one of them on and around the disk: of each line that has it the screen, the line, its text and the columns.
+export function* search(count, linesIn, wanted, from = 0) {
+  for (let step = 0; step < count; step++) {
+    const block = (from + step) % count;
+    for (const [line, text] of linesIn(block).entries()) {
+      const columns = columnsOf(text, wanted);
+      if (columns.length) yield { block, line, columns, text };
     }
   }
-  return found;
+}
+
+// A block with a text put in place of another: how often it was, and the lines that have no room for it and stay as they are.
+export function replaced(before, wanted, instead) {
+  const old = linesOf(before), columns = old.map((line) => columnsOf(line, wanted)), full = [];
+  const lines = old.map((line, at) => columns[at].reduceRight((text, column) => text.slice(0, column) + instead + text.slice(column + wanted.text.length), line));
+  let made = pageOf(lines, before);
+  for (; made.wrong; made = pageOf(lines, before)) {
+    full.push(made.line);
+    lines[made.line] = old[made.line];
+  }
+  return { page: made.page, full, count: columns.reduce((sum, own, line) => sum + (full.includes(line) ? 0 : own.length), 0) };
 }
 
 // A sum of a block's bytes, which differs between editions.

@@ -22,7 +22,8 @@ async function begin() {
   page.session = new Session(calls, DATA.layout, DATA.image, page);
   page.session.work = page.work;
   page.editor = new Editor(page.session, parts("screen-text", "screen-gutter", "screen-mark", "screen-colors", "screen-number", "screen-count", "screen-back",
-    "screen-on", "screen-shadow", "screen-load", "screen-copy", "screen-paste", "screen-index", "screen-said", "screen-find", "screen-found"));
+    "screen-on", "screen-shadow", "screen-load", "screen-copy", "screen-paste", "screen-insert", "screen-earlier", "screen-later", "screen-move", "screen-index", "screen-said", "screen-find", "screen-found",
+    "screen-whole", "screen-next", "screen-instead", "screen-replace", "screen-all"));
   page.film = new Film(page.session, calls, parts("film-form", "film-line", "film-said", "film-full", "film-frame"), (event) => page.pressAnywhere(event));
   page.start = new Start(page, parts("door-rose", "door-lesson", "door-old", "start-lines"));
   page.map = new MemoryMap(page, parts("map-bar", "map-parts", "map-words", "map-fold", "map-others", "map-none", "map-again", "map-said"));

@@ -3,11 +3,13 @@
 
 import { fromBase64, isSame, toBase64 } from "./bytes.js";
 import { DATA } from "./data.js";
-import { Disk, linesOf, pageOf, PIECE } from "./disk.js";
+import { Disk, linesOf, MOST_SCREENS, pageOf, PIECE } from "./disk.js";
 import { areStrangers, builtIn, merged } from "./editions.js";
 import { PAGE_SIZE } from "./machine.js";
 
 const MOST_UNDONE = 64 << 20, KEEP_AFTER = 300, PAUSE = 1000;
+// What Undo takes back after screens were put in, moved or replaced.
+export const PLACED = "placed";
 
 const keyOf = ({ block, disk }) => `${block} ${disk}`;
 const converted = (state, convert) => ({ ...state, record: convert(state.record),
@@ -149,10 +151,10 @@ export class Work {
   }
 
   // Puts a disk in: under its name, or the name that it gets.
-  change(disk, act = () => {}) {
+  change(disk, act = () => {}, what = `disk ${disk.name}`) {
     if (this.session.isRunning || !this.isOurs) return this.refuse();
     this.session.settle();
-    this.remember(`disk ${disk.name}`);
+    this.remember(what);
     act();
     this.disks.set(disk.name, disk);
     this.disk = disk;
@@ -186,18 +188,45 @@ export class Work {
 
   // Screens of a text go onto the disk that is in. Asks if others are replaced.
   async merge(name, screens) {
-    const { disk, session } = this, count = Math.max(disk.count, ...screens.map((one) => one.block + 1));
+    const { disk, session } = this;
     const others = screens.filter(({ block, page }) => block < disk.count && linesOf(session.page(block)).join("") && !isSame(session.page(block), page));
     const question = `${name} replaces ${others.length} of the screens of ${disk.name}: ${others.slice(0, 12).map(({ block }) => block).join(" ")}${others.length > 12 ? " …" : ""}.`;
     if (others.length && !(await this.page.ask(question, ["Replace them"]))) return false;
+    return this.place(new Map(screens.map(({ block, page }) => [block, page])));
+  }
+
+  // Puts pages at their blocks of the disk that is in, which grows if it must: one act for Undo.
+  place(pages, act = () => {}) {
+    const { disk, session } = this, count = [...pages.keys()].reduce((most, block) => Math.max(most, block + 1), disk.count);
     if (session.isRunning || !this.isOurs) return this.refuse();
     session.settle();
     const grown = count > disk.count ? Disk.blank(disk.name, count) : disk;
     if (grown !== disk) Object.assign(grown, { base: disk.base, dirty: new Set(grown.pieces) }).bytes.set(disk.bytes);
     return this.change(grown, () => {
       this.disk = grown;
-      for (const { block, page } of screens) this.write(block, page);
+      for (const [block, page] of pages) this.write(block, page);
+      act();
+    }, PLACED);
+  }
+
+  // Moves a screen to another number: those between make room, and drafts stay with their screens. One after the last screen is a new one.
+  move(from, to) {
+    const { disk, session } = this, pages = new Map(), blank = new Uint8Array(PAGE_SIZE).fill(32), step = Math.sign(from - to);
+    const target = (block) => (block === from ? to : block + step);
+    for (let block = Math.min(from, to); block <= Math.max(from, to); block++) pages.set(target(block), block < disk.count ? session.page(block).slice() : blank);
+    return this.place(pages, () => {
+      const own = [...this.drafts.values()].filter((draft) => draft.disk === disk.name && pages.has(draft.block));
+      for (const draft of own) this.drafts.delete(keyOf(draft));
+      for (const draft of own) this.drafts.set(keyOf({ ...draft, block: target(draft.block) }), { ...draft, block: target(draft.block) });
     });
+  }
+
+  // The next blank screen from one on, which may be after the last one; null if a disk can't have more. A disk that was replaced by a smaller one
+  // may have left drafts after its end.
+  blankFrom(block) {
+    const { disk, session } = this, isBlank = (one) => !this.draft(one) && (one >= disk.count || session.page(one).every((byte) => byte === 32 || byte === 0));
+    while (!isBlank(block)) block++;
+    return block < MOST_SCREENS ? block : null;
   }
 
   rename(name) {
@@ -272,6 +301,12 @@ export class Work {
   }
 
   draft(block) { return this.drafts.get(keyOf({ block, disk: this.disk.name })); }
+
+  // The lines of a screen as they are shown: those of its draft, if it has one.
+  lines(block) {
+    const draft = this.draft(block);
+    return draft ? draft.text.split("\n") : linesOf(this.session.page(block));
+  }
 
   // Edits a screen: LINES are what is in the frame now, and BEFORE what it showed; lines that nobody edited stay as they are on the disk. A
   // text that doesn't fit is a draft until it does. Returns what is wrong, or null.

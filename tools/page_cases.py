@@ -105,14 +105,20 @@ def check_assembly(cases: Tally) -> None:
 
 # Node runs the modules that need no browser.
 NODE = """
-import { linesOf, pageOf, screensOf, textOf, search, Disk } from "./disk.js";
+import { linesOf, pageOf, replaced, screensOf, textOf, search, Disk } from "./disk.js";
 import { Terminal } from "./terminal.js";
 const found = [];
 const disk = Disk.ofText("d", 2, "% screen 1\\n( T )\\n%~~C3~A4~7E\\n%%x\\n");
 found.push(linesOf(disk.page(1)).slice(0, 3), textOf(disk));
 found.push(pageOf(["x".repeat(65)]).wrong, pageOf(Array(17).fill("y")).wrong, screensOf("x\\n").wrong, screensOf("% screen 70000\\n").wrong,
   screensOf("% screen 1\\n%~~A\\n").wrong);
-found.push(search(2, (block) => disk.page(block), "t )"));
+found.push([...search(2, (block) => linesOf(disk.page(block)), { text: "t )" })]);
+const words = pageOf(["DUP dup ?DUP", `dup ${"x".repeat(60)}`, "DUP"]).page;
+for (const isWhole of [true, false]) {
+  const { page, count, full } = replaced(words, { text: "Dup", isWhole }, "OVER");
+  found.push([linesOf(page).slice(0, 3), count, full]);
+}
+found.push([...search(3, (block) => [["a.b", "aXb"], ["A.B a.b"], []][block], { text: "a.b", isWhole: true }, 1)].map(({ block, line, columns }) => [block, line, columns]));
 const terminal = new Terminal();
 terminal.take("lost\\x1b[2J\\x1b[2;3HAB\\x1b[1");
 terminal.take(";1HC\\n\\x1b[KD\\x1b[10CE");
@@ -122,7 +128,8 @@ console.log(JSON.stringify(found));
 TOLD = [["( T )", "\u00e4~", "%x"], "% screen 0\n% screen 1\n( T )\n%~~C3~A4~7E\n%%x\n", "line 0 has 65 characters; 64 fit",
         "a screen has 16 lines, and this one has 17", "line 1 of the file is no line of a screen: x",
         "line 1 of the file: screens have numbers from 0 to 65535",
-        "line 2 of the file has a ~ without two digits, 0 to 9 and A to F", [{"block": 1, "line": 0, "column": 2, "text": "( T )"}],
+        "line 2 of the file has a ~ without two digits, 0 to 9 and A to F", [{"block": 1, "line": 0, "columns": [2], "text": "( T )"}],
+        [["OVER OVER ?DUP", "dup " + "x" * 60, "OVER"], 3, [1]], [["OVER OVER ?OVER", "dup " + "x" * 60, "OVER"], 4, [1]], [[1, 0, [0, 4]], [0, 0, [0]]],
         "C\nD          E\n"]
 
 

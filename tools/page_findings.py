@@ -11,7 +11,7 @@ import page_keeping
 from page_trials import Trial
 
 ROOT = pathlib.Path(__file__).resolve().parent.parent
-CONTROL = 2
+CONTROL, SHIFT = 2, 8
 FRAME = "{ const t = document.getElementById('screen-text'); t.value = %s; t.setSelectionRange(%d, %d); t.dispatchEvent(new Event('input')) } 0"
 BYTES = "toBase64(page.session.disk.bytes)"
 # Screens with bytes that are no text, and with zeros, as old disks have them.
@@ -256,6 +256,80 @@ def copied_screens(trial: Trial) -> None:
     trial.must(screen(trial, 8) == "( written over )", "Undo of a copied screen")
 
 
+# Screens are put in and moved, one after the other: the screen that is shown, the button, the number that is given, and the order after it.
+ORDER = "ABCDE..."
+ACTS = ((1, "insert", None, "A.BCDE.."), (1, "insert", None, "A.BCDE.."), (4, "earlier", None, "A.BDCE.."), (4, "later", None, "A.BDEC.."), (0, "move", "5", ".BDECA.."),
+        (5, "move", "1", ".ABDEC.."), (1, "move", "8", ".ABDEC.."), (2, "insert", None, ".A.BDEC."), (3, "insert", None, ".A..BDEC"), (4, "insert", None, ".A...BDEC"))
+
+
+def order_of(trial: Trial) -> str:
+    return str(trial.value("Array.from({ length: page.session.disk.count }, (_, block) => linesOf(page.session.page(block))[0].charAt(0) || '.').join('')"))
+
+
+def arranged_screens(trial: Trial) -> None:
+    """Screens are put in and moved; changes and drafts go with them, and Undo brings back each order."""
+    trial.file("order.blk", "Disk.ofText('d', 8, 'ABCDE'.split('').map((one, at) => `% screen ${at}\\n${one}\\n`).join('')).bytes")
+    trial.type("3 SCR ! 1 PUT ( of D )")
+    trial.value("page.tab('screens'), page.editor.go(2), 0")
+    frame(trial, "C\n" + "x" * 70)
+    undone, found = [ORDER], "[page.session.page(%d)[64], ...[...page.work.drafts.values()].filter((one) => one.disk === 'order.blk').map((one) => one.block)]"
+    for block, button, given, wanted in ACTS:
+        trial.answers(given)
+        trial.value(f"page.editor.go({block}), document.getElementById('screen-{button}').click(), new Promise((done) => setTimeout(done, 20))")
+        order = order_of(trial)
+        trial.must(order == wanted, f"{button} of screen {block}: {order} in place of {wanted}")
+        trial.must(trial.value(found % order.index("D")) == [ord("("), order.index("C")], f"{button} of screen {block}: a change, or a draft, is elsewhere")
+        trial.must(order != undone[-1] or "already" in trial.text("screen-said") or "0 to 7" in trial.text("screen-said"), f"{button} of screen {block} says {trial.text('screen-said')!r}")
+        undone += [order] if order != undone[-1] else []
+    for number, wanted in enumerate(undone[-2::-1]):
+        trial.value("document.getElementById('screen-text').focus()")
+        trial.click("undo") if number % 2 else trial.press("z", 90, CONTROL)
+        trial.must(order_of(trial) == wanted, f"Undo: {order_of(trial)} in place of {wanted}")
+    trial.must(trial.value(found % 3) == [ord("("), 2], "Undo of an order: a change, or a draft, is elsewhere")
+
+
+def replaced_texts(trial: Trial) -> None:
+    """A text is found from the cursor on and around the disk, and replaced: one place, or all that have room for it."""
+    full = "dup " + "x" * 60
+    blocks(trial, "texts.blk", f"% screen 1\nDUP dup ?DUP\n% screen 2\n{full}\n% screen 7\n\n(Dup )dup dup\n")
+    trial.value("page.editor.go(0), document.getElementById('screen-find').value = 'dup', document.getElementById('screen-whole').checked = true, "
+                "document.getElementById('screen-instead').value = 'OVER', 0")
+    at = "[page.editor.block, document.getElementById('screen-text').selectionStart]"
+    for wanted in ([1, 0], [1, 4], [2, 0], [7, 11], [1, 0]):
+        trial.click("screen-next")
+        trial.must(trial.value(at) == wanted, f"Next goes to {trial.value(at)} in place of {wanted}")
+    trial.must(trial.value("document.querySelector('#screen-mark mark').textContent") == "DUP", "the place that was found isn't marked")
+    trial.click("screen-replace")
+    trial.must(screen(trial, 1) == "OVER dup ?DUP" and trial.value(at) == [1, 5], f"Replace: {screen(trial, 1)!r}, {trial.value(at)}")
+    lines = "[1, 2, 7].map((block) => linesOf(page.session.page(block)).slice(0, 2).join('|'))"
+    before = trial.value(lines)
+    for answer, wanted in ((None, before), ("Replace all", ["OVER OVER ?DUP|", full + "|", "|(Dup )dup OVER"])):
+        trial.answers(answer)
+        trial.click("screen-all")
+        trial.must(trial.value(lines) == wanted, f"Replace all, {answer}: {trial.value(lines)}")
+        trial.must("2 places in 2 screens" in trial.value("asked[0]") and "line 0 of screen 2 has no room" in trial.value("asked[0]"), f"Replace all asks {trial.value('asked')}")
+    trial.click("undo")
+    trial.must(trial.value(lines) == before, f"Undo of Replace all: {trial.value(lines)}")
+    trial.click("undo")
+    trial.must(screen(trial, 1) == "DUP dup ?DUP", "Undo of Replace")
+
+
+def line_keys(trial: Trial) -> None:
+    """Keys delete and duplicate the line at the cursor; a line that has no place any more is in a draft."""
+    shown = "document.getElementById('screen-text').value.split('\\n').slice(0, 4).map((one) => one.charAt(0)).join('')"
+    trial.value("page.editor.go(50), 0")
+    frame(trial, "\n".join("abcdefghijklmnop"), 2)
+    for key, code, wanted in (("D", 68, "abbc"), ("K", 75, "abcd"), ("K", 75, "acde")):
+        trial.value("document.getElementById('screen-text').focus()")
+        trial.press(key, code, CONTROL + SHIFT)
+        trial.must(trial.value(shown) == wanted, f"Ctrl+Shift+{key}: {trial.value(shown)!r}")
+        trial.must(trial.value("page.work.drafts.has('50 texts.blk')") == (wanted == "abbc"), f"Ctrl+Shift+{key}: a draft")
+        trial.value("page.work.undos.forEach((one) => (one.when = 0))")
+    trial.must(trial.value("linesOf(page.session.page(50)).join('')") == "acdefghijklmnop", "lines on the disk after the keys")
+    trial.click("undo")
+    trial.must(trial.value("linesOf(page.session.page(50)).join('')") == "abcdefghijklmnop", "Undo of a deleted line")
+
+
 def low_windows(trial: Trial) -> None:
     """At 200 % on small laptops a film's word, its stacks and its buttons are in sight; letters can be made larger on a telephone."""
     trial.type(": SQUARES ( n -- ) 1+ 1 DO I DUP * . LOOP ;")
@@ -291,7 +365,7 @@ def check(trial: Trial, program: pathlib.Path, room: pathlib.Path) -> None:
     """All of them."""
     page: Any = trial.page
     fresh(trial, page)
-    for part in (other_disks, drafts, typed_again, old_bytes, without_storage, big_disk, copied_screens, low_windows, signs):
+    for part in (other_disks, drafts, typed_again, old_bytes, without_storage, big_disk, copied_screens, arranged_screens, replaced_texts, line_keys, low_windows, signs):
         part(trial)
     after_update(trial, program, room)
     of_an_older_page(trial)

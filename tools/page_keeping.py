@@ -11,15 +11,16 @@ from typing import Any, Callable, Dict, List, NamedTuple, Optional, Tuple
 
 from tally import Tally
 
-BLOCK, LINES, WIDTH = 1024, 16, 64
+BLOCK, LINES, WIDTH, MOST_DISKS = 1024, 16, 64, 40
 DATA = re.compile(r'(<script type="text/plain" id="data" data-size=")(\d+)(">)([^<]*)')
 ANSWERS = ("both", "replace", "cancel")
 
 # What the trial does in the page. An act is one promise, so that a trip to the browser is enough; `answers` are those to the page's questions.
 DRIVER = """(() => {
   const table = Array.from({ length: 256 }, (_, n) => { for (let k = 0; k < 8; k++) n = n & 1 ? (n >>> 1) ^ 0xedb88320 : n >>> 1; return n >>> 0; });
-  const crc = (bytes) => { let c = 0xffffffff; for (const byte of bytes) c = table[(c ^ byte) & 255] ^ (c >>> 8); return (c ^ 0xffffffff) >>> 0; };
-  const page = window.page, { work, session } = page, text = document.getElementById("screen-text");
+  // Firefox runs this outside of the page's realm, where each look at a byte of the page's takes long: the bytes are copied first.
+  const crc = (bytes) => { const own = new Uint8Array(bytes); let c = 0xffffffff; for (let at = 0; at < own.length; at++) c = table[(c ^ own[at]) & 255] ^ (c >>> 8); return (c ^ 0xffffffff) >>> 0; };
+  const by = (id) => document.getElementById(id), page = window.page, { work, session } = page, text = by("screen-text");
   const idle = async () => { while (session.isRunning) await new Promise((done) => setTimeout(done, 1)); };
   const bytes = (value) => Uint8Array.from(atob(value), (letter) => letter.charCodeAt(0));
   const pause = () => work.undos.forEach((one) => (one.when = 0));
@@ -43,13 +44,38 @@ DRIVER = """(() => {
       return trial.sums();
     },
     async type(line) { page.enter(line); },
-    async edit(block, wanted, line, value) {
+    show(block, wanted) {
       page.editor.go(block);
       if (text.value.trimEnd() !== wanted.trimEnd()) throw new Error(`the frame shows ${JSON.stringify(text.value)} in place of ${JSON.stringify(wanted)}`);
+    },
+    async edit(block, wanted, line, value) {
+      trial.show(block, wanted);
       const lines = text.value.split("\\n");
       lines[line] = value;
       text.value = lines.join("\\n");
       text.dispatchEvent(new Event("input"));
+    },
+    async lineKey(block, wanted, line, key) {
+      trial.show(block, wanted);
+      page.editor.select(line, 0);
+      text.dispatchEvent(new KeyboardEvent("keydown", { key, ctrlKey: true, shiftKey: true, cancelable: true }));
+    },
+    async click(...ids) {
+      for (const id of ids) {
+        by(id).click();
+        await new Promise((done) => setTimeout(done));
+      }
+    },
+    async arrange(block, button) {
+      page.editor.go(block);
+      await trial.click(button);
+    },
+    async replace(block, wanted, instead, isWhole, ...buttons) {
+      page.editor.go(block);
+      Object.assign(by("screen-find"), { value: wanted });
+      Object.assign(by("screen-instead"), { value: instead });
+      Object.assign(by("screen-whole"), { checked: isWhole });
+      await trial.click(...buttons);
     },
     async fresh(name) { return btoa(Array.from((await work.load(work.disks.get(name))).bytes, (byte) => String.fromCharCode(byte)).join("")); },
     async open(...files) { await page.files.openAll(files.map(([name, value]) => new File([bytes(value)], name))); },
@@ -111,6 +137,10 @@ def page_of(disk: bytes, block: int) -> bytes:
 
 def with_page(disk: bytes, block: int, page: bytes) -> bytes:
     return disk[:block * BLOCK] + page + disk[(block + 1) * BLOCK:]
+
+
+def is_text(page: bytes) -> bool:
+    return all(byte == 0 or 32 <= byte < 127 for byte in page)
 
 
 def lines_of(page: bytes) -> List[str]:
@@ -187,19 +217,67 @@ class Model:
         draft = self.me.drafts.get((self.me.current, block))
         return draft[0] if draft else lines_of(page_of(self.disk(self.me.current), block))
 
-    def edit(self, block: int, line: int, text: str) -> None:
+    def edit(self, block: int, lines: List[str]) -> None:
+        """These lines are in the frame now."""
         self.remember()
         name, page = self.me.current, page_of(self.disk(self.me.current), block)
         draft = self.me.drafts.pop((name, block), None)
-        before, lines = draft[1] if draft else lines_of(page), list(self.shown(block) if draft is None else draft[0])
-        lines[line] = text
-        if any(len(one.rstrip()) > WIDTH for one in lines):
+        before, fitting = draft[1] if draft else lines_of(page), list(lines)
+        while len(fitting) > LINES and not fitting[-1]:
+            fitting.pop()
+        if len(fitting) > LINES or any(len(one.rstrip()) > WIDTH for one in fitting):
             self.me.drafts[name, block] = (lines, before)
             return
-        for at, one in enumerate(lines):
-            if one != before[at]:
-                page = with_line(page, at, one)
+        for at, one in enumerate(fitting + [""] * (LINES - len(fitting))):
+            if one.rstrip() != before[at]:
+                page = with_line(page, at, one.rstrip())
         self.me.disks[name] = with_page(self.disk(name), block, page)
+
+    def blank_from(self, block: int) -> int:
+        """The next blank screen of the disk that is in, or after its end."""
+        disk, name = self.disk(self.me.current), self.me.current
+        while (name, block) in self.me.drafts or page_of(disk, block).strip(b" \0"):
+            block += 1
+        return block
+
+    def move(self, old: int, new: int) -> None:
+        """A screen of the disk that is in gets another number."""
+        self.remember()
+        name, me = self.me.current, self.me
+        disk = self.disk(name).ljust((max(old, new) + 1) * BLOCK)
+        order = list(range(len(disk) // BLOCK))
+        order.insert(new, order.pop(old))
+        me.disks[name] = b"".join(page_of(disk, block) for block in order)
+        for place in [one for one in me.drafts if one[0] == name and one[1] < len(order)]:
+            me.drafts[name, -1 - order.index(place[1])] = me.drafts.pop(place)
+        for place in [one for one in me.drafts if one[1] < 0]:
+            me.drafts[name, -1 - place[1]] = me.drafts.pop(place)
+
+    def replace_all(self, wanted: "re.Pattern[str]", instead: str) -> None:
+        """A text in place of another, in all lines of the disk that is in where it fits."""
+        disk = old = self.disk(self.me.current)
+        for block in range(len(disk) // BLOCK):
+            page = page_of(disk, block)
+            for line, text in enumerate(lines_of(page) if is_text(page) and (self.me.current, block) not in self.me.drafts else []):
+                made = wanted.sub(lambda _: instead, text).rstrip()
+                if made != text and len(made) <= WIDTH:
+                    disk = with_page(disk, block, with_line(page_of(disk, block), line, made))
+        if disk != old:
+            self.remember()
+            self.me.disks[self.me.current] = disk
+
+    def replace(self, block: int, wanted: "re.Pattern[str]", instead: str) -> None:
+        """The next place of a text, from the beginning of a screen on."""
+        disk = self.disk(self.me.current)
+        count = len(disk) // BLOCK
+        for number in (at % count for at in range(block, block + count)):
+            if not is_text(page_of(disk, number)):
+                continue
+            lines = list(self.shown(number))
+            for line, text in enumerate(lines):
+                if wanted.search(text):
+                    lines[line] = wanted.sub(lambda _: instead, text, count=1)
+                    return self.edit(number, lines)
 
     def renewed(self) -> None:
         """The work is opened by a page with other editions of its disks."""
@@ -310,8 +388,37 @@ class Keeping:
         shown = self.model.shown(block)
         if text == shown[line]:
             text += "+"
-        self.model.edit(block, line, text)
+        self.model.edit(block, [*shown[:line], text, *shown[line + 1:]])
         return self.act("edit", block, "\n".join(shown), line, text)
+
+    def line_key(self) -> Any:
+        """The key that deletes a line, or duplicates it."""
+        block, line, key = self.dice.randrange(1, 4), self.dice.randrange(LINES), self.dice.choice("KD")
+        shown = self.model.shown(block)
+        self.model.edit(block, [*shown[:line], *([shown[line]] * 2 if key == "D" else []), *shown[line + 1:]])
+        return self.act("lineKey", block, "\n".join(shown), line, key)
+
+    def arrange(self) -> Any:
+        """A blank screen is put in, or a screen is moved; none goes beyond the ends of the disk."""
+        block, last = self.dice.randrange(4), len(self.model.disk(self.model.me.current)) // BLOCK - 1
+        button, target = self.dice.choice((("insert", block), ("earlier", block - 1), ("later", block + 1), ("move", self.dice.choice((0, 2, 30, last, last + 1)))))
+        old = self.model.blank_from(block) if button == "insert" else block
+        if old != target and (button == "insert" or 0 <= target <= last):
+            self.model.move(old, target)
+        return self.act("arrange", block, f"screen-{button}", answers=(str(target),) if button == "move" else ())
+
+    def replace(self) -> Any:
+        """The next place of a text is replaced, or all of them."""
+        block, text, instead = self.dice.randrange(4), self.dice.choice(("EDITED", "a line", "(", "W", "x")), self.dice.choice(("", "other", "a text as long as others"))
+        is_whole, is_all = self.dice.random() < 0.5, self.dice.random() < 0.5
+        wanted = re.compile(rf"(?:^|(?<= )){re.escape(text)}(?= |$)" if is_whole else re.escape(text), re.IGNORECASE)
+        if not is_all:
+            self.model.replace(block, wanted, instead)
+            return self.act("replace", block, text, instead, is_whole, "screen-next", "screen-replace")
+        answer = self.dice.choice(("replace", "cancel"))
+        if answer == "replace":
+            self.model.replace_all(wanted, instead)
+        return self.act("replace", block, text, instead, is_whole, "screen-all", answers=(answer,))
 
     def create(self) -> Any:
         name, answer = self.name(), self.dice.choice(ANSWERS)
@@ -385,8 +492,8 @@ class Keeping:
             model.move_drafts(old, new)
         return self.act("rename", answers=(new,))
 
-    def remove(self) -> Any:
-        name, answer, model = self.model.me.current, self.dice.choice(("it", "cancel")), self.model
+    def remove(self, answer: str = "") -> Any:
+        name, answer, model = self.model.me.current, answer or self.dice.choice(("it", "cancel")), self.model
         if answer == "it":
             model.remember()
             model.me.disks.pop(name, None)
@@ -394,8 +501,13 @@ class Keeping:
             model.me.current = name if name in model.built_in else "forth.blk"
         return self.act("remove", answers=(answer,))
 
-    def put_in(self) -> Any:
-        name = self.dice.choice([name for name in self.model.names() if not name.startswith("dialect")])
+    def tidy(self) -> Any:
+        """Puts in a disk that the page does not bring, and removes it: to look at all bytes takes longer with each disk."""
+        self.put_in(self.dice.choice([name for name in self.model.names() if name not in self.model.built_in]))
+        return self.remove("it")
+
+    def put_in(self, name: str = "") -> Any:
+        name = name or self.dice.choice([name for name in self.model.names() if not name.startswith("dialect")])
         if name != self.model.me.current:
             self.model.put(name, self.model.disk(name))
         return self.act("putIn", name)
@@ -436,7 +548,7 @@ class Keeping:
 
     def second(self) -> Any:
         """A second window: the first one is only shown then, and can't change anything."""
-        first, kind = self.browser.target, self.dice.choice(("open", "create", "undo", "edit", "type"))
+        first, kind = self.browser.target, self.dice.choice(("open", "create", "undo", "edit", "type", "arrange", "lineKey", "replace"))
         if self.refused:
             self.refuse()
         second, name = self.browser.window(), self.model.name
@@ -448,6 +560,7 @@ class Keeping:
             is_closed = "document.getElementById('line').disabled && document.getElementById('screen-text').readOnly"
             self.cases.must(self.browser.value(is_closed), "the older of two windows takes lines")
             words = {"open": (["mine.blk", base64.b64encode(self.content()).decode()],), "edit": (1, "\n".join(self.model.shown(1)), 0, "( of the older )"),
+                     "arrange": (1, "screen-later"), "lineKey": (1, "\n".join(self.model.shown(1)), 0, "K"), "replace": (1, "a", "b", False, "screen-all"),
                      "type": ("1 SCR ! 0 PUT ( of the older ) FLUSH",)}.get(kind, ())
             self.act(kind, *words, answers=("mine.blk", "replace"))
             self.act("keep")
@@ -503,13 +616,13 @@ class Keeping:
     def run(self, count: int) -> Dict[str, int]:
         """So many acts; how often each was done."""
         kinds: List[Tuple[Callable[[], Any], int]] = [
-            (self.type, 8), (self.define, 2), (self.edit, 14), (self.create, 4), (self.open, 7), (self.drop, 3), (self.merge, 3), (self.save, 1), (self.adopt, 2),
+            (self.type, 8), (self.define, 2), (self.edit, 14), (self.line_key, 4), (self.arrange, 5), (self.replace, 5), (self.create, 4), (self.open, 7), (self.drop, 3), (self.merge, 3), (self.save, 1), (self.adopt, 2),
             (self.rename, 3), (self.remove, 3), (self.put_in, 8), (self.undo, 12), (self.redo, 6), (self.reload, 3), (self.second, 1), (self.refuse, 2),
             (self.update, 1), (self.person, 2)]  # fmt: skip
         acts, weights, done = [kind for kind, _ in kinds], [weight for _, weight in kinds], {}  # type: ignore
         for number in range(count):
             is_crash = number % 250 == 249 and self.browser.keeps_after_crash
-            act = self.crash if is_crash else self.dice.choices(acts, weights)[0]
+            act = self.crash if is_crash else self.tidy if len(self.model.names()) > MOST_DISKS else self.dice.choices(acts, weights)[0]
             name = act.__name__
             done[name] = done.get(name, 0) + 1
             if not self.check(name, act()):
