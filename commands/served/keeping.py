@@ -2,11 +2,13 @@
 from __future__ import annotations
 
 import os
-from typing import Optional
+from typing import Callable, Optional
 
 from served.blocks import keep_lost
 from served.journal import Journal
+from served.output import FAULTED
 from served.target import Target
+from served.wire import Gone
 
 
 class Keeping:
@@ -43,7 +45,7 @@ class Keeping:
         path = self._journal.path if self._journal else None
         return f"; the screens that were not written are in {path}" if path else ""
 
-    def end(self, is_damaged: bool) -> str:
+    def _end(self, is_damaged: bool) -> str:
         """The session ends, and all screens are written: the journal goes, unless memory was damaged and it has other screens."""
         lost = keep_lost(self._file, self._blocks) if self._file is not None and self._blocks else ""
         if self._journal is None:
@@ -52,3 +54,20 @@ class Keeping:
             return f"what the screens were before the last line is in {self._journal.path}\n"
         self._journal.remove()
         return lost
+
+    def close(self, status: int, report: Callable[[str], None]) -> int:
+        """Writes the changed screens, and ends the server; the status."""
+        try:
+            changed = self._target.changed() if self._blocks else {}
+            left = self._target.wire.close()
+        except Gone:
+            return 1
+        self.sync()
+        if left:
+            self.keep(changed)
+            report(self.why_unwritten(left) + self.kept() + "\n")
+            return status or FAULTED
+        said = self._end(status == FAULTED)
+        if said:
+            report(said)
+        return status

@@ -5,7 +5,7 @@ import os
 
 from served.prompt import Ended
 
-FAILED = 5  # the status of a session whose streams failed
+FAULTED, FAILED = 3, 5  # the status after a fault, and of a session whose streams failed
 
 
 class Output:

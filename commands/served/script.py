@@ -44,6 +44,15 @@ class Pipe:
                 line, self._come = self._come.rstrip(b"\r"), b""
                 return line if line or at >= 0 else None
 
+    def expected(self, most: int) -> Optional[bytes]:
+        """What EXPECT of so many bytes takes, after 1 if a return ended it, which is taken, too, else after 0; None if nothing comes."""
+        while True:
+            line = self._come[:most].replace(b"\r", b"\n").partition(b"\n")[0]
+            has_return = len(line) < min(most, len(self._come))
+            if has_return or len(line) == most or not self._read():
+                self._come = self._come[len(line) + has_return :]
+                return bytes([has_return]) + line if has_return or line else None
+
     def has_byte(self) -> bool:
         return bool(self._come) or not self._has_ended and bool(select.select([0], [], [], 0)[0])
 

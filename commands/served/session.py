@@ -5,7 +5,7 @@ from typing import Any, Optional, Union
 
 from served import faults, reports, services, words as words_of
 from served.keeping import Keeping
-from served.output import FAILED, Output
+from served.output import FAILED, FAULTED, Output
 from served.past import Past
 from served.prompt import Ended, Interrupted, Signals, Terminal
 from served.script import Script
@@ -17,7 +17,6 @@ from served.wire import Gone, Refused, Stop, Wire
 
 SLICE = 1_000_000  # ticks between two looks at what signals ask for
 TYPED = 127  # bytes of a line that TIB has room for
-FAULTED = 3  # the status after a fault
 
 
 class Session(Output):
@@ -55,10 +54,10 @@ class Session(Output):
             while True:
                 self._turn()
         except Ended as ended:
-            return self._leave(ended.status)
+            return self.keeping.close(ended.status, self.report)
         except Refused as error:
             self.report(f"the machine cannot go on (cause {error.cause} of docs/FORMATS.md)\n")
-            return self._leave(FAULTED)
+            return self.keeping.close(FAULTED, self.report)
         except Gone:
             self.report("the program that runs the Forth has ended" + self.keeping.kept() + "\n")
             return 1
@@ -278,20 +277,3 @@ class Session(Output):
     def keep_journal(self) -> None:
         if not self.keeping.keep():
             self.say_line("changed screens are in memory alone: no file can be written for them, not even in the temporary folder\n")
-
-    def _leave(self, status: int) -> int:
-        """Writes the changed screens, and ends the server; the status."""
-        try:
-            changed = self.target.changed() if self.target.blocks else {}
-            left = self.wire.close()
-        except Gone:
-            return 1
-        self.keeping.sync()
-        if left:
-            self.keeping.keep(changed)
-            self.report(self.keeping.why_unwritten(left) + self.keeping.kept() + "\n")
-            return status or FAULTED
-        said = self.keeping.end(status == FAULTED)
-        if said:
-            self.report(said)
-        return status

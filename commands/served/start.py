@@ -2,7 +2,7 @@
 from __future__ import annotations
 
 import os
-from typing import NoReturn, Optional
+from typing import Optional
 
 from served import blocks, image, journal
 from served.prompt import Ended, Signals
@@ -167,12 +167,6 @@ def offer_journal(session: Session, blocks: str) -> None:
         session.say_line(f"the journal is {path}.old now\n")
 
 
-def run_kernel(wanted: Asked, program: str, images: str) -> NoReturn:
-    """Becomes the program with the kernel alone, whose output is exactly what the machine shows."""
-    names = [wanted.blocks] if wanted.blocks else []
-    os.execv(program, [program, "run", "--save", "--", os.path.join(images, "plain.img"), *names])
-
-
 def start(wanted: Asked) -> int:
     """Does what the command line asks for; the status."""
     program = find_program(wanted)
@@ -190,12 +184,14 @@ def start(wanted: Asked) -> int:
     is_new = blocks.open_blocks(program, wanted.blocks) if wanted.blocks else False
     if is_new and not is_terminal:
         say(f"{wanted.blocks} is a new file")
-    if "--kernel" in wanted.flags:
-        run_kernel(wanted, program, images)
-    signals = Signals()
-    script = None if is_terminal else Script(signals, lines, wanted.reads, not wanted.is_quiet)
-    words = [program, "serve", os.path.join(images, "served.img"), *([wanted.blocks] if wanted.blocks else [])]
+    is_kernel, signals = "--kernel" in wanted.flags, Signals()
+    words = [program, "serve", os.path.join(images, "plain.img" if is_kernel else "served.img"), *([wanted.blocks] if wanted.blocks else [])]
     try:
+        if is_kernel:
+            from served import kernel
+
+            return kernel.Kernel(words, wanted.blocks, signals).run()
+        script = None if is_terminal else Script(signals, lines, wanted.reads, not wanted.is_quiet)
         session = Session(words, wanted.blocks, signals, script, wanted.arguments)
     except Gone:  # another run has taken the file of blocks meanwhile
         if wanted.blocks:
