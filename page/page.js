@@ -347,12 +347,13 @@ export class Page {
     if (asked) this.idle().then(() => this.note(this.manual.entry(asked[1])));
   }
 
-  // What may help after a word that the Forth doesn't know.
+  // What may help after a word that the Forth doesn't know, or a number that no cell has room for.
   advise(word) {
-    const near = word ? this.manual.near(word, this.session.machine.words().map((one) => one.name)) : [];
+    const isNumber = /^-?\d+$/.test(word), near = word && !isNumber ? this.manual.near(word, this.session.machine.words().map((one) => one.name)) : [];
+    const said = isNumber ? `A number has 16 bits: -32768 to 65535. ${word}. is a double number. ` : `I don't know the word ${word}. ${near.length ? "Perhaps " : ""}`;
     const search = element("button", "Search in Words", { type: "button" }), words = near.map((name) => element("button", name, { type: "button", class: "word" }));
     by("advice").hidden = !word;
-    by("advice").replaceChildren(element("span", `I don't know the word ${word}. ${near.length ? "Perhaps " : ""}`), ...words, search);
+    by("advice").replaceChildren(element("span", said), ...words, search);
     search.onclick = () => this.showWord(word);
     for (const one of words) one.onclick = () => this.showWord(one.textContent);
   }

@@ -143,6 +143,8 @@ def visitor(trial: Trial) -> None:
     for typed, near in (("print", "."), ("DUPP", "DUP"), ("SQAURE", "SQUARE")):
         trial.type(typed)
         trial.must(near in trial.value("[...document.querySelectorAll('#advice .word')].map((one) => one.textContent)"), f"advice for {typed}: {trial.text('advice')!r}")
+    trial.type("70000")
+    trial.must("70000. is a double number" in trial.text("advice"), f"advice for 70000: {trial.text('advice')!r}")
     trial.type("SCLEAR")
     trial.must(trial.value("document.getElementById('advice').hidden"), "advice isn't taken away")
     for sought, wanted in (("print a number", "."), ("if", "IF"), ("remainder", "MOD"), ("copy the top", "DUP"), ("repeat", "DO")):

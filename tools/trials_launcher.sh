@@ -175,7 +175,7 @@ at_once() {
 # Which block files it takes, and which words it refuses.
 block_files() {
   head -c 2048 /dev/zero | tr '\0' ' ' > small.blk
-  starts 'a block file without a kernel' $'1 BLOCK C@ . 32  ok\n2 BLOCK \n[3]' $'there is no screen 2 in small.blk (fault 9) at BLOCK\nline 2\n2 BLOCK\n  ^'  '1 BLOCK C@ .\n2 BLOCK\n' small.blk
+  starts 'a block file without a kernel' $'1 BLOCK C@ . 32  ok\n2 BLOCK \n[3]' $'there is no screen 2 in small.blk; it has 0 to 1 (fault 9) at BLOCK\nline 2\n2 BLOCK\n  ^'  '1 BLOCK C@ .\n2 BLOCK\n' small.blk
   starts 'a wiped screen 1' $'1 SCR ! WIPE FLUSH  ok\n[0]' '' '1 SCR ! WIPE FLUSH\n'
   starts 'a start after screen 1 was wiped' $'21 LOAD 42  ok\n[0]' '' '21 LOAD\n'
   differs "./forth: help" 'usage: ./forth' "$(../tree/forth --help 2> /dev/null | sed -n '1s/ \[.*//p')"

@@ -1,12 +1,15 @@
 """Faults in words, with their place: the one table of messages, and where a word of the input is."""
 from __future__ import annotations
 
+import re
 from typing import NamedTuple
 
 from served.dialects import hint
 
 UNKNOWN, MISSING, FULL, SAID = 13, 15, 8, 17
 WIDTH = 100  # columns of a line that a message shows
+LONGEST_NAME = 31
+PREFIXES = {"$": 16, "#": 10, "%": 2}
 MESSAGES = {
     1: "the stack was empty",
     2: "the stack was full",
@@ -58,22 +61,40 @@ def plain(text: bytes) -> str:
 
 class Known(NamedTuple):
     """What the machine knows when a fault happens: whether some word has the name that is not found, whether a dialect hides a tool of
-    that name, the dictionary's room, and whether a dialect is loaded."""
+    that name, the dictionary's room, whether a dialect is loaded, the word that follows, and BASE."""
 
-    is_name: bool
-    is_hidden: bool
-    left: int
-    has_dialect: bool
+    is_name: bool = False
+    is_hidden: bool = False
+    left: int = 0
+    has_dialect: bool = False
+    follows: str = ""
+    base: int = 10
+
+
+def is_too_large(word: str, base: int) -> bool:
+    """Whether a text is a number that a cell has no room for."""
+    prefix, digits = re.fullmatch(r"([$#%]?)(.*)", word, re.S).groups()  # type: ignore[union-attr]
+    try:
+        number = int(digits, PREFIXES.get(prefix, base)) if re.fullmatch("-?[0-9A-Za-z]+", digits) else 0
+    except ValueError:  # not its digits, or a base that Python does not know
+        return False
+    return not -32768 <= number <= 65535
 
 
 def message(fault: int, word: str, known: Known) -> str:
     """What a fault means."""
     if fault == UNKNOWN and known.is_hidden:
         said = f"{word} is unknown in this dialect; screens do not find the tool of that name"
+    elif fault == UNKNOWN and not known.is_name and not known.has_dialect and is_too_large(word, known.base):
+        said = f"{word} does not fit in a cell of 16 bits; {word}. is a double number"
     elif fault == UNKNOWN:
         said = f"{word} is protected, or in another vocabulary" if known.is_name else f"{word} is unknown{hint(word)}"
     elif fault == FULL:
-        said = f"{MESSAGES[FULL]}; bytes left: {known.left}" + "; a dialect needs 2048" * known.has_dialect
+        said = f"{MESSAGES[FULL]}; bytes left: {known.left}" + "; a dialect needs 2048" * known.has_dialect + "; FORGET makes room"
+    elif fault == MISSING and max(len(word), len(known.follows)) > LONGEST_NAME:
+        said = f"a name has at most {LONGEST_NAME} characters"
+    elif fault == MISSING and not known.follows:
+        said = "a name or a text must follow"
     else:
         said = MESSAGES.get(fault, "")
     return f"{said} (fault {fault})"

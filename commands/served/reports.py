@@ -6,7 +6,7 @@ from typing import Optional
 
 from served import faults
 from served.script import STANDARD_INPUT
-from served.target import DP, Target
+from served.target import BASE, DP, Target
 from served.texts import FIRST as FIRST_TEXT, Line
 
 LINE = 64
@@ -19,7 +19,8 @@ def described(target: Target, number: int) -> str:
     name = given.text[word.start : word.stop]
     is_name = number == faults.UNKNOWN and target.look_up(os.fsdecode(name)) is not None
     is_hidden, has_dialect = (target.variable(cell) != 0 for cell in ("HIDDEN-TOOL", "DIALECT"))
-    known = faults.Known(is_name, is_hidden, target.variable("LIMIT") - target.wire.cell(DP), has_dialect)
+    left, follows = target.variable("LIMIT") - target.wire.cell(DP), given.text[given.offset :].lstrip(b" ").partition(b" ")[0]
+    known = faults.Known(is_name, is_hidden, left, has_dialect, faults.plain(follows), target.wire.cell(BASE))
     return faults.message(number, faults.plain(name), known)
 
 

@@ -325,8 +325,8 @@ def do_locate(session: Session) -> None:
 
 def do_words(session: Session) -> None:
     part = session.target.word()
-    session.say_line("")
-    session.say(words.listed(words.visible(session.target, [session.target.wire.cell(CONTEXT)]), part))
+    listed = words.listed(words.visible(session.target, [session.target.wire.cell(CONTEXT)]), part)
+    session.say_line(listed if listed.strip() else f"no word has {part} in its name\n")
 
 
 def do_help(session: Session) -> None:

@@ -101,7 +101,8 @@ class Session(Output):
             self.target.give("p", page)
             return
         failed = self.target.give("f" if stop.how == "r" else "g")
-        self.refused = f"there is no screen {stop.number} in {self.keeping.named()}"
+        count = self.target.count()
+        self.refused = f"there is no screen {stop.number} in {self.keeping.named()}" + f"; it has 0 to {count - 1}" * (count > 0)
         self._fault(failed.number)
 
     def interrupt(self, stop: Optional[Stop] = None) -> None:
@@ -123,7 +124,7 @@ class Session(Output):
     def _halted(self, stop: Stop) -> None:
         """The machine has ended."""
         if stop.how == "h":
-            said = faults.message(stop.number, "the word", faults.Known(False, False, 0, False))
+            said = faults.message(stop.number, "the word", faults.Known())
             self._put_back(f"{said}: no fault thread handled it, so the Forth has stopped")
         else:
             raise Ended(FAILED if stop.how == "y" else self.status)

@@ -9,7 +9,7 @@ from served.table import FIRST, SECOND
 from served.texts import FIRST as FIRST_TEXT, Texts
 from served.wire import Refused, Stop, Wire, cells, packed
 
-STATE, TO_IN, BLK, DP, CONTEXT, SCR, FAULT, FORTH_VOCABULARY, FENCE, TIB = 16, 20, 22, 28, 32, 38, 40, 42, 54, 128
+STATE, BASE, TO_IN, BLK, DP, CONTEXT, SCR, FAULT, FORTH_VOCABULARY, FENCE, TIB = 16, 18, 20, 22, 28, 32, 38, 40, 42, 54, 128
 TOP = 65536
 BLOCK = 1024
 
