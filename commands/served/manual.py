@@ -41,7 +41,7 @@ def help_for(name: str) -> str:
     for path in PAGES:
         try:
             with open(path, encoding="utf-8") as page:
-                found += entries(page.read(), name)
+                found += entries(page.read(), name)[::-1]  # the tools' word runs, and hides the kernel's
         except OSError as error:
             return f"cannot read {path}: {error.strerror}"
     if not found:
