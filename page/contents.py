@@ -21,6 +21,7 @@ ROW = re.compile(r"^\| `(\S+)` \| `([^`]*)` \| (?:yes)? ?\| (.+) \|$", re.M)
 # Chapters of docs/WORDS.md whose words the page doesn't need: it edits lines and screens itself, and has no host and no files.
 CHAPTERS_LEFT_OUT = (
     "Editing the line", "The screen editor", "Lines from a pipe", "Starting", "The line editor", "Text files", "Dialects",
+    "Numbers with their base",
 )  # fmt: skip
 SCREENS, PAGE, WIDTH = 64, 1024, 64
 EXAMPLES = ("kiln", "life", "gold", "sieve")

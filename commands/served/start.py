@@ -17,7 +17,8 @@ PROVED = os.path.join(image.ROOT, "crates", "forth83", "out")
 AWAITED = os.path.join(image.ROOT, "build", "out", "awaited")  # the proof of the program began in an earlier session
 TITLE = b"(  1  Control: threads and loops )"  # the first line of a kernel's sources
 USAGE, INTERRUPTED = 2, 130
-FLAGS = ("--quiet", "--kernel", "--proved", "--unproved", "--dap")
+FLAGS = ("--quiet", "--kernel", "--proved", "--unproved", "--dap", "--start", "--no-start")
+TOGETHER = ("--kernel", "--quiet"), ("--proved", "--unproved"), ("--start", "--no-start"), ("--kernel", "--start")  # not these
 VALUES = {"-e": ("some words of Forth", 1), "--kernel-of": ("the name of a file", 1), "--program": ("the name of a file", 1),
           "--image": ("OWN, the name of an image, and the screens FROM TO", 3)}
 
@@ -73,7 +74,7 @@ class Asked:
         """Refuses what does not go together."""
         if len(self._names) > 1:
             raise Misused(f"name one file of blocks: {' '.join(self._names)}")
-        for one, other in (("--kernel", "--quiet"), ("--proved", "--unproved")):
+        for one, other in TOGETHER:
             if {one, other} <= self.flags or one == "--kernel" in self.flags and self.lines:
                 raise Misused(f"{'-e' if self.lines else other} and {one} cannot be used together")
         if self.texts and ("--kernel" in self.flags or "--image" in self._values):
@@ -133,10 +134,19 @@ def find_program(wanted: Asked) -> str:
     return os.fsdecode(made.stdout).rstrip("\n")
 
 
+def texts_of(wanted: Asked, is_terminal: bool) -> list[str]:
+    """The texts of a session: one's own start file comes first, at a terminal if there is one, in a script if it is asked for. A folder's own
+    file is never included by itself: who unpacks files of others has not chosen to run them."""
+    folder = os.environ.get("XDG_CONFIG_HOME") or os.path.expanduser("~/.config")
+    own = os.path.join(folder, "jaurimet", "start.fs")
+    is_included = "--start" in wanted.flags or is_terminal and "--no-start" not in wanted.flags and os.path.exists(own)
+    return [own] * is_included + wanted.texts
+
+
 def script_lines(wanted: Asked) -> list[Line]:
     """All lines of a script's texts, before any of them is done."""
     found: list[Line] = []
-    for name in wanted.texts:
+    for name in texts_of(wanted, False):
         try:
             found += lines_of(name, read_file(name))
         except OSError as error:
@@ -211,7 +221,10 @@ def begin(session: Session, wanted: Asked, is_new: bool) -> None:
     count = session.target.count()
     session.say(f"{wanted.blocks}, {count} screens{', a new file' * is_new}. WORDS and HELP say more.\n")
     session.say("BYE or ^D saves your screens and leaves; ^C interrupts what is running.\n")
-    session.first = [f'INCLUDE "{text}"'.encode(errors="surrogateescape") for text in wanted.texts]
+    texts = texts_of(wanted, True)
+    if len(texts) > len(wanted.texts):
+        session.say(f"{texts[0]} is included first; --no-start leaves it out.\n")
+    session.first = [f'INCLUDE "{text}"'.encode(errors="surrogateescape") for text in texts]
     offer_journal(session, wanted.blocks)
 
 
