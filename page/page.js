@@ -353,7 +353,7 @@ export class Page {
     const said = isNumber ? `A number has 16 bits: -32768 to 65535. ${word}. is a double number. ` : `I don't know the word ${word}. ${near.length ? "Perhaps " : ""}`;
     const search = element("button", "Search in Words", { type: "button" }), words = near.map((name) => element("button", name, { type: "button", class: "word" }));
     by("advice").hidden = !word;
-    by("advice").replaceChildren(element("span", said), ...words, search);
+    by("advice").replaceChildren(element("span", said), ...words, ...(isNumber ? [] : [search]));
     search.onclick = () => this.showWord(word);
     for (const one of words) one.onclick = () => this.showWord(one.textContent);
   }

@@ -279,7 +279,8 @@ def arranged_screens(trial: Trial) -> None:
         order = order_of(trial)
         trial.must(order == wanted, f"{button} of screen {block}: {order} in place of {wanted}")
         trial.must(trial.value(found % order.index("D")) == [ord("("), order.index("C")], f"{button} of screen {block}: a change, or a draft, is elsewhere")
-        trial.must(order != undone[-1] or "already" in trial.text("screen-said") or "0 to 7" in trial.text("screen-said"), f"{button} of screen {block} says {trial.text('screen-said')!r}")
+        said = trial.text("screen-said")
+        trial.must(order != undone[-1] or "already" in said or "0 to 7" in said, f"{button} of screen {block} says {said!r}")
         undone += [order] if order != undone[-1] else []
     for number, wanted in enumerate(undone[-2::-1]):
         trial.value("document.getElementById('screen-text').focus()")

@@ -19,7 +19,12 @@ ANSWERS = ("both", "replace", "cancel")
 DRIVER = """(() => {
   const table = Array.from({ length: 256 }, (_, n) => { for (let k = 0; k < 8; k++) n = n & 1 ? (n >>> 1) ^ 0xedb88320 : n >>> 1; return n >>> 0; });
   // Firefox runs this outside of the page's realm, where each look at a byte of the page's takes long: the bytes are copied first.
-  const crc = (bytes) => { const own = new Uint8Array(bytes); let c = 0xffffffff; for (let at = 0; at < own.length; at++) c = table[(c ^ own[at]) & 255] ^ (c >>> 8); return (c ^ 0xffffffff) >>> 0; };
+  const crc = (bytes) => {
+    const own = new Uint8Array(bytes);
+    let c = 0xffffffff;
+    for (let at = 0; at < own.length; at++) c = table[(c ^ own[at]) & 255] ^ (c >>> 8);
+    return (c ^ 0xffffffff) >>> 0;
+  };
   const by = (id) => document.getElementById(id), page = window.page, { work, session } = page, text = by("screen-text");
   const idle = async () => { while (session.isRunning) await new Promise((done) => setTimeout(done, 1)); };
   const bytes = (value) => Uint8Array.from(atob(value), (letter) => letter.charCodeAt(0));
@@ -616,7 +621,8 @@ class Keeping:
     def run(self, count: int) -> Dict[str, int]:
         """So many acts; how often each was done."""
         kinds: List[Tuple[Callable[[], Any], int]] = [
-            (self.type, 8), (self.define, 2), (self.edit, 14), (self.line_key, 4), (self.arrange, 5), (self.replace, 5), (self.create, 4), (self.open, 7), (self.drop, 3), (self.merge, 3), (self.save, 1), (self.adopt, 2),
+            (self.type, 8), (self.define, 2), (self.edit, 14), (self.line_key, 4), (self.arrange, 5), (self.replace, 5),
+            (self.create, 4), (self.open, 7), (self.drop, 3), (self.merge, 3), (self.save, 1), (self.adopt, 2),
             (self.rename, 3), (self.remove, 3), (self.put_in, 8), (self.undo, 12), (self.redo, 6), (self.reload, 3), (self.second, 1), (self.refuse, 2),
             (self.update, 1), (self.person, 2)]  # fmt: skip
         acts, weights, done = [kind for kind, _ in kinds], [weight for _, weight in kinds], {}  # type: ignore

@@ -116,12 +116,12 @@ texts() {
   starts 'texts that are loaded' $'1 LOAD 22 LOAD 5 6  ok\n[0]' '' '1 LOAD 22 LOAD\n' ../x.blk
   printf x >> ../x.txt
   "$blocks" ../x.txt ../x.blk 2> ../said || status=$?
-  differs "./forth blocks over a file" "[1] blocks: ../x.blk already exists, and is left alone" "[$status] $(cat ../said)"
+  differs "./forth blocks over a file" "[1] forth: ../x.blk already exists, and is left alone" "[$status] $(cat ../said)"
   starts 'a text that was loaded' $'1 LOAD 5  ok\n[0]' '' '1 LOAD\n' ../x.blk
   printf '%065d\n' 0 > ../x.txt
   status=0
   "$blocks" ../y.txt ../x.txt ../y.blk 2> ../said || status=$?
-  differs "./forth blocks of a long line" "[1] blocks: ../x.txt: more than 64 bytes: line 1" "[$status] $(cat ../said)"
+  differs "./forth blocks of a long line" "[1] forth: ../x.txt: more than 64 bytes: line 1" "[$status] $(cat ../said)"
   [ ! -e ../y.blk ] || differs "./forth blocks of a long line" absent made
   mv ../tree/crates/forth83/out/forth83 ../away
   pretend_unproved
@@ -186,6 +186,20 @@ block_files() {
   starts 'no name' '[2]' usage '' ''
   starts 'a long name' '[1]' 'the name xxxxxxxxxxxxxxxx.. has 9999 bytes' '' "$(printf 'x%.0s' {1..9999})"
   starts 'a name that begins with a minus' $'5 . 5  ok\n[0]' '' '5 .\n' ./-own
+  starts 'a file that is named like a command' $'5 . 5  ok\n[0]' 'film is a new file' '5 .\n' ./film
+  rm film
+  starts 'a command after an option' '[2]' 'the following arguments are required: NAME' '5 .\n' --unproved film
+  starts 'a command after an option and its value' '[2]' 'a text cannot be used with --kernel' '' --kernel-of small.blk film.fs --kernel
+  starts 'options after a file' '5 [0]' '' '' small.blk -e '5 .' --no-start
+  starts 'an argument that is named like an option' '9 [0]' '' '' -e 'PAD 20 0 ARGUMENT DROP .' -- --version
+  starts '--version and a file' '[2]' '--version takes no other option and no file' '' small.blk --version
+  starts '--status and an option' '[2]' '--status takes no other option and no file' '' --unproved --status
+  starts 'a device that there isn'"'"'t' '[1]' 'there is no ./none' '' small.blk --speed 9600 --on ./none
+  starts '--on without a device' '[2]' '--on wants a device' '' --on
+  starts 'a command'"'"'s help, before it' $'       ./forth where IMAGE [BLOCKS]          runs an image, and shows at which word of which screen its fault happens\n[0]' '' '' --help where
+  starts 'hints that there are not' '[1]' 'there are no hints for lesson 99' '' course --hints 99
+  starts 'the course and two files' '[2]' 'course takes no more than' '' course a b
+  starts 'nothing to look at' '[2]' 'where needs an IMAGE' '' where
   starts 'a folder' '[1]' '.. is a folder' '' ..
   starts 'a folder that there isn'"'"'t' '[1]' 'there is no folder none' '' none/a.blk
   starts 'a device' '[1]' 'not a file of blocks' '' /dev/null

@@ -4,9 +4,10 @@ from __future__ import annotations
 from typing import Callable, Optional
 
 from served import reports
+from served.output import FAULTED
 from served.past import is_thread
 from served.prompt import Ended
-from served.session import FAULTED, Session
+from served.session import Session
 from served.table import SERVICE
 from served.target import DP, FAULT, TOP
 from served.texts import Line

@@ -4,6 +4,7 @@ from __future__ import annotations
 import os
 from typing import Optional
 
+from launcher.program import find, say
 from served import blocks, image, journal
 from served.prompt import Ended, Signals
 from served.script import Script
@@ -13,8 +14,6 @@ from served.texts import Line, lines_of, read_file, Unreadable
 from served.wire import Gone
 
 ENDS = (".fs", ".fth", ".4th", ".frt", ".f")
-PROVED = os.path.join(image.ROOT, "crates", "forth83", "out")
-AWAITED = os.path.join(image.ROOT, "build", "out", "awaited")  # the proof of the program began in an earlier session
 TITLE = b"(  1  Control: threads and loops )"  # the first line of a kernel's sources
 USAGE, INTERRUPTED = 2, 130
 FLAGS = ("--quiet", "--kernel", "--proved", "--unproved", "--dap", "--start", "--no-start")
@@ -103,10 +102,6 @@ class Asked:
         return not self.is_quiet or not (self.texts or self.lines)
 
 
-def say(text: str) -> None:
-    os.write(2, os.fsencode(f"forth: {text}\n"))
-
-
 def is_text(name: str) -> bool:
     """Whether a file is a text of Forth, by its name or by a first line that begins with #!."""
     if name.endswith(ENDS):
@@ -118,20 +113,8 @@ def is_text(name: str) -> bool:
 
 
 def find_program(wanted: Asked) -> str:
-    """The program that runs: the one that was proved here; if there is none, or another one is wanted, the launcher makes it."""
-    if wanted.program:
-        return wanted.program
-    found = os.path.join(PROVED, "forth83")
-    how = sorted(wanted.flags & {"--proved", "--unproved"})
-    if not how and os.access(found, os.X_OK) and os.path.exists(os.path.join(PROVED, "proved")) and not os.path.exists(AWAITED):
-        return found
-    import subprocess
-
-    words = [os.path.join(image.ROOT, "forth"), "--program", *(name[2:] for name in how)]
-    made = subprocess.run(words, stdin=subprocess.DEVNULL, stdout=subprocess.PIPE, check=False)
-    if made.returncode:
-        raise Ended(made.returncode)
-    return os.fsdecode(made.stdout).rstrip("\n")
+    """The program that runs; if there is none, or another one is wanted, it is made."""
+    return wanted.program or find("".join(flag[2:] for flag in wanted.flags & {"--proved", "--unproved"}))
 
 
 def texts_of(wanted: Asked, is_terminal: bool) -> list[str]:
@@ -230,13 +213,8 @@ def begin(session: Session, wanted: Asked, is_new: bool) -> None:
 
 def main(words: list[str]) -> int:
     """Runs the session that a command line asks for; its status."""
-    if {"-h", "--help"} & set(words[: words.index("--")] if "--" in words else words):
-        os.execv(os.path.join(image.ROOT, "forth"), ["forth", "--help"])
     try:
         return start(Asked(words))
-    except Misused as error:
-        say(f"{error}\nforth: ./forth --help shows the usage")
-        return USAGE
     except (Unreadable, image.NotMade) as error:
         say(str(error))
         return 1
