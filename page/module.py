@@ -62,7 +62,7 @@ def keep(module: Module, total: str) -> None:
 
 
 def say(text: str) -> None:
-    print(f"page: {text}", file=sys.stderr, flush=True)
+    print(f"forth: {text}", file=sys.stderr, flush=True)
 
 
 def made(is_proved: bool, total: str) -> Module:

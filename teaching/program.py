@@ -21,34 +21,34 @@ class Refusal(Exception):
         self.status = status
 
 
-def say(tool: str, text: str) -> None:
-    print(f"{tool}: {text}", file=sys.stderr)
+def say(text: str) -> None:
+    print(f"forth: {text}", file=sys.stderr)
 
 
-def guarded(tool: str, act: Callable[[], int]) -> int:
+def guarded(act: Callable[[], int]) -> int:
     """Runs a tool, or reports why it cannot be run; returns the status."""
     try:
         return quiet_end.status_of(act)
     except Refusal as refusal:
-        say(tool, str(refusal))
+        say(str(refusal))
         return refusal.status
     except OSError as error:
-        say(tool, f"{error.filename or 'a file'}: {error.strerror}")
+        say(f"{error.filename or 'a file'}: {error.strerror}")
         return 1
     except KeyboardInterrupt:
-        say(tool, "interrupted; nothing was made")
+        say("interrupted; nothing was made")
         return 130
 
 
 class Progress:
     """A line of progress on standard error, which replaces the one before, if that is a terminal."""
 
-    def __init__(self, tool: str) -> None:
-        self.tool, self.is_shown = tool, sys.stderr.isatty()
+    def __init__(self) -> None:
+        self.is_shown = sys.stderr.isatty()
 
     def tell(self, text: str) -> None:
         if self.is_shown:
-            print(f"\r{self.tool}: {text}\x1b[K", end="", file=sys.stderr, flush=True)
+            print(f"\rforth: {text}\x1b[K", end="", file=sys.stderr, flush=True)
 
     def end(self) -> None:
         if self.is_shown:

@@ -2,12 +2,10 @@
 from __future__ import annotations
 
 import os
-import subprocess
 import sys
 from typing import Callable, NoReturn, Optional
 
-from launcher import course, program
-from launcher.program import ROOT, say
+from launcher.program import find, Refused, ROOT, say
 from served.start import main as session, Misused, USAGE as MISUSED, VALUES
 
 SCRIPTS = {
@@ -59,17 +57,21 @@ def take_program(words: list[str]) -> tuple[str, list[str]]:
 
 def make_page(words: list[str]) -> int:
     """Makes the page: looks at the words first, since the program may have to be built."""
+    import subprocess
+
     if not words:
         become("page/make", "--program", "-", "--help")
     maker = [sys.executable, "-B", os.path.join(ROOT, "page", "make"), "--program"]
     looked = subprocess.call([*maker, "-", "--look", *words])
     if looked:
         return looked
-    return subprocess.call([*maker, program.find(take_program(words)[0]), *words])
+    return subprocess.call([*maker, find(take_program(words)[0]), *words])
 
 
 def go_through_course(words: list[str]) -> int:
     """Starts the course, or shows something of it."""
+    from launcher import course
+
     how, rest = take_program(words)
     first = rest[0] if rest else ""
     if first in course.KINDS:
@@ -91,7 +93,7 @@ def go_through_course(words: list[str]) -> int:
         raise Misused("course takes no more than the name of its file of blocks")
     blocks = first or "course.blk"
     if not os.path.exists(blocks):
-        course.make(program.find(how), blocks)
+        course.make(find(how), blocks)
     return session([*[f"--{how}"] * bool(how), "--no-start", course.START, blocks])
 
 
@@ -102,7 +104,7 @@ def where(words: list[str]) -> NoReturn:
         raise Misused(f"where has no option {rest[0]}")
     if len(rest) not in (1, 2):
         raise Misused("where needs an IMAGE, and BLOCKS if the image uses a file of blocks")
-    become("commands/where", program.find(how), *rest)
+    become("commands/where", find(how), *rest)
 
 
 OWN: dict[str, Callable[[list[str]], int]] = {"page": make_page, "course": go_through_course, "where": where}
@@ -138,7 +140,9 @@ def about_program(words: list[str]) -> Optional[int]:
         raise Misused(f"{asked[0]} takes no other option and no file")
     if asked == ["--status"]:
         become("build/prove", "--status")
-    print(program.version())
+    from launcher import building
+
+    print(building.version())
     return 0
 
 
@@ -164,8 +168,7 @@ def main(words: list[str]) -> int:
     except Misused as error:
         say(f"{error}\nforth: ./forth --help shows the usage")
         return MISUSED
-    except course.Refused as error:
-        say(str(error))
-        return 1
-    except program.NoProgram:
+    except Refused as error:
+        if str(error):
+            say(str(error))
         return 1

@@ -7,17 +7,13 @@ import shutil
 import subprocess
 import tempfile
 
-from launcher.program import ROOT
+from launcher.program import Refused, ROOT
 
 FOLDER = os.path.join(ROOT, "screens", "course")
 SCREENS = os.path.join(FOLDER, "course.txt")
 START = os.path.join(FOLDER, "course.fs")
 KINDS = "--hints", "--solutions"
 FIRST = 20  # the screen of lesson n is so many further
-
-
-class Refused(Exception):
-    """It cannot be done, and why."""
 
 
 def make(program: str, blocks: str) -> None:
