@@ -1,5 +1,5 @@
 -- A run of the machine that was loaded.
-use Rattle.std.proofs.Common.{◌≡◌, ◌⊎◌, ◌∙◌, ap, inl, inr, subst, ℕ, false}
+use Rattle.std.proofs.Common.{◌≡◌, ◌∙◌, ap, subst, ℕ, false}
 use Rattle.image_loader.specs.Files.{Contents}
 use Rattle.inner_interpreter.specs.Reports.{RunEnds, logs_of}
 use Rattle.inner_interpreter.specs.RunsTo.{RunsTo}

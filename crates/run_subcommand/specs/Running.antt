@@ -1,12 +1,12 @@
 -- A run of an image.
-use Rattle.std.specs.Prelude.{◌≡◌, ℕ, Bool, true, false, Some, Option, List}
+use Rattle.std.specs.Prelude.{◌≡◌, ℕ, Bool, true, false, Some}
 use Rattle.image_loader.specs.Files.{Contents}
 use Rattle.inner_interpreter.specs.Moves.{HasRun, Logs}
 use Rattle.inner_interpreter.specs.Reports.{RunEnds}
 use Rattle.inner_interpreter.specs.Runs.{stop_by}
 use Rattle.inner_interpreter.specs.RunsTo.{RunsTo}
 use Rattle.inner_interpreter.specs.declared.stop.Stop.{Stop}
-use Rattle.inner_interpreter.specs.declared.stop.Stop.TheVariants as stop
+use Rattle.inner_interpreter.specs.declared.stop.Stop.TheVariants.{InputFault, OutputFault}
 use Rattle.machine.specs.State.{State, start}
 use Rattle.subcommands.specs.Statuses.{status_of}
 
@@ -29,5 +29,5 @@ pub record HasRunImage (image : Contents) (count limit : ℕ) (log log' : Logs) 
   pub state : State
   pub run : HasRun (start image count) state log log' limit stop
   pub ended : reader ≡ false → writer ≡ false → stop_by state.halt 0 ≡ Some stop
-  pub output : writer ≡ true → stop ≡ stop.OutputFault
-  pub input : reader ≡ true → stop ≡ stop.InputFault
+  pub output : writer ≡ true → stop ≡ OutputFault
+  pub input : reader ≡ true → stop ≡ InputFault
