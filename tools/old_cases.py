@@ -11,7 +11,7 @@ from sessions import ROOT, Folder
 
 CASES = ROOT / "tools/old_cases.txt"
 # The first screen of each dialect, and of the preludes that are loaded after one: "f79+mms".
-FIRST = {"fig": 1001, "f79": 1021, "f83": 1041, "poly": 1061, "mms": 1088, "mvp": 1102, "volks": 1091, "hs": 1084, "rsc": 1093, "ports": 1086}
+FIRST = {"fig": 1001, "f79": 1021, "f83": 1041, "poly": 1061, "mms": 1088, "mvp": 1102, "volks": 1091, "hs": 1084, "rsc": 1093, "ports": 1086, "devices": 1108, "high-first": 1110}
 
 
 class Step:
@@ -82,7 +82,7 @@ def read_cases(text: str) -> List[Case]:
     cases: List[Case] = []
     for block in text.split("\n\n"):
         first, *lines = block.strip("\n").split("\n")
-        match = re.fullmatch(r"case ([\w+]+) (.+)", first)
+        match = re.fullmatch(r"case ([\w+-]+) (.+)", first)
         if match is None:
             if cases:
                 raise ValueError(f"{CASES.name}: {first}")

@@ -96,7 +96,7 @@ def message(fault: int, word: str, known: Known) -> str:
     elif fault == MISSING and not known.follows:
         said = "a name or a text must follow"
     else:
-        said = MESSAGES.get(fault, "")
+        said = MESSAGES.get(fault, "the program raised a fault of its own, or its words were overwritten")
     return f"{said} (fault {fault})"
 
 

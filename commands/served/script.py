@@ -77,6 +77,17 @@ class Script:
             raise Unreadable(f"{STANDARD_INPUT} {self._number}, column {LONGEST + 1}: a line may have {LONGEST} bytes; split it")
         return None if text is None else Line("", self._number, text.replace(b"\t", b" "))
 
+    def close_comment(self, begins: Line) -> bool:
+        """Takes the lines after this one out, up to the first `)`; whether there is one in the same text."""
+        while True:
+            line = self.next()
+            if line is None or line.name != begins.name:
+                return False
+            end = line.text.find(b")")
+            if end >= 0:
+                self._lines.insert(0, line._replace(text=b" " * (end + 1) + line.text[end + 1 :]))
+                return True
+
     def line(self, before: bytes, keeps: bool) -> Optional[bytes]:
         """A line that a program reads."""
         return self._pipe.line()

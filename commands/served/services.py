@@ -9,6 +9,7 @@ from served.manual import help_for
 from served import past, reports, words
 from served.faults import MISSING, SAID, UNKNOWN, plain
 from served.prompt import Ended, Interrupted
+from served.script import Script
 from served.table import function_name, numbers
 from served.target import BLK, BLOCK, CONTEXT, FENCE, SCR, STATE, TO_IN, signed
 from served.texts import Unreadable
@@ -92,11 +93,12 @@ def do_unclosed(session: Session) -> None:
     """A comment does not end in its line of a text, or in its screen; its place is on the stack."""
     target = session.target
     given = target.input()
-    if target.texts.close_comment(given.block):
+    place, console = target.texts.place(given.block), session.console
+    if target.texts.close_comment(given.block) or isinstance(console, Script) and place and console.close_comment(place):
         return
     begins = numbers_on_stack(session, 1)[0]
     target.set_cell(TO_IN, begins)
-    if target.texts.place(given.block):
+    if place:
         raise Refusal("this ( is not closed")
     raise Refusal(f"the ( of line {begins // LINE} is not closed")
 
