@@ -86,6 +86,9 @@ MEANINGS: Dict[str, Dict[str, str]] = {
     "M/": {**dict.fromkeys(("fig", "f79", "f83"), "leaves remainder and quotient"), "poly": "leaves the quotient", "none": "unknown"},
     "TIB": {**dict.fromkeys((*ALL, "none"), "is the input's address"), "fig": "holds the input's address"},
     "NUMBER": {**dict.fromkeys(("fig", "f79", "f83"), "leaves a double"), "poly": "leaves a single, or a double if it has a mark", "none": "unknown"},
+    "FORTH": {**dict.fromkeys(("fig", "f79"), "is immediate"), **dict.fromkeys(("f83", "poly", "none"), "is compiled in a definition")},
+    "J without loops": {**dict.fromkeys((*ALL, "none"), "is for two loops"), "poly": "is the third cell of the return stack"},
+    "13 for a key": {**dict.fromkeys(ALL, "KEY gives it for the return key"), "none": "KEY gives 10 for the return key"},
     "+LOOP downwards": {**dict.fromkeys((*ALL, "none"), "runs for the limit"), "fig": "stops before the limit"},
 }
 COMPARING = set("= < > 0= 0< 0> U< <> NOT D< D= D0=".split())
@@ -93,6 +96,12 @@ SUMMING = set("+ - * +! NEGATE MINUS".split())
 ACCESS = set("@ ! C@ C! +! 2@ 2!".split())
 # How a program looks for the high bit of a name's last letter.
 LAST_LETTER = {("128", "<"), ("127", ">"), ("80", "<"), ("7F", ">"), ("128", "AND"), ("80", "AND")}
+
+# What machines had at addresses that programs use for devices.
+MAPS = [(0x1700, 0x17FF, "KIM-1"), (0x3C00, 0x3FFF, "TRS-80"), (0xA000, 0xAFFF, "AIM-65 or SYM-1"), (0xB000, 0xB0FF, "68HC11"),
+        (0xC000, 0xC0FF, "Apple II"), (0xD000, 0xDFFF, "Commodore 64 or Atari"), (0xE800, 0xE8FF, "PET")]
+# The words with which a program computes an address from another one.
+COMPUTING = set("+ - * 2* OR SWAP DUP".split())
 
 # How a program's own structures compile the distance of a branch.
 DISTANCES = {("HERE", "-", ","), ("-", "SWAP", "!"), ("OVER", "-", "SWAP")}
@@ -108,7 +117,7 @@ ADVICE = {
     **dict.fromkeys("P@ P! PC@ PC! INP OUTP INPUT OUTPUT".split(), "there are no ports: load screens/dialects/ports.txt, or define it after the dialect"),
     "FROM": "one block file at a time: import that one, too",
     "OPEN": "one block file at a time: import that one, too",
-    **dict.fromkeys("ACTIVATE BACKGROUND TERMINAL TASK:".split(), "there is one task: call its word from the main loop"),
+    **dict.fromkeys("BACKGROUND: TERMINAL TASK:".split(), "there is one task: call its word from the main loop"),
     **dict.fromkeys("+ORIGIN LIMIT FIRST USE PREV R0 R/W +BUF".split(), "internal to fig-FORTH: there is no such place here"),
     **dict.fromkeys("@L !L C@L C!L".split(), "there are no segments: define a word of this name"),
     "AUTOSTART": "write BOOT NAME, and make an image by ./forth --image",
@@ -116,6 +125,9 @@ ADVICE = {
     "VAR": "screens/dialects/hs.txt has it",
     **dict.fromkeys("NCASE CASEND OTHERWISE ARRAY 2ARRAY RND PTC".split(), "screens/dialects/mms.txt has it"),
     **dict.fromkeys("\\NEEDS ALIAS ONLYFORTH CASE?".split(), "screens/dialects/volks.txt has it"),
+    "FOR": "a loop of cmFORTH, whose index runs from n down to 0: write 0 SWAP DO .. -1 +LOOP",
+    "NEXT": "the end of FOR in cmFORTH, or of a word in machine code: there is no assembler",
+    **dict.fromkeys(("DEFINER", "RUNS>"), "of the Jupiter Ace: write : NAME CREATE .. DOES> .. ;"),
     "DR1": "put the number of the second disk's first screen into OFFSET",
 }
 NUMBER = re.compile(r"-?[0-9][0-9A-F]*|-?\$[0-9A-F]+|0[0-9A-F]+H?")
@@ -142,12 +154,15 @@ def left_out(name: str) -> Dict[str, str]:
 
 
 class Place(NamedTuple):
-    """A word of the source, in capitals, and where it is; whether it is in a definition."""
+    """A word of the source, in capitals, and where it is; whether it is in a definition, the base that the source has set there, and the
+    name that the word defines."""
 
     word: str
     screen: int
     line: int
     inside: bool
+    base: int = 10
+    name: str = ""
 
 
 class Sign(NamedTuple):
@@ -163,9 +178,17 @@ def is_plain(word: str) -> bool:
     return NUMBER.fullmatch(word) is not None
 
 
-def is_far(word: str) -> bool:
-    """Whether a number is above 255, in whichever base it is written: no offset, but an address."""
-    return is_plain(word) and (int(word, 10) if word.isdigit() else int(re.sub(r"[$H-]", "", word), 16)) > 255
+def value(place: Place) -> Optional[int]:
+    """The number that a word spells, in the base of its place or with a sign or digits of base 16; None if it is no number."""
+    digits = re.fullmatch(r"(-?)(\$?)([0-9A-F]+)(H?)", place.word)
+    if not digits:
+        return None
+    sign, dollar, text, letter = digits.groups()
+    is_16 = bool(dollar or letter and is_plain(place.word)) or place.base == 16 or not text.isdigit() and is_plain(place.word)
+    try:
+        return int(sign + text, 16 if is_16 else place.base)
+    except ValueError:
+        return None
 
 
 def pairs(source: List[Place]) -> Iterable[Tuple[Place, Place]]:
@@ -391,8 +414,10 @@ def uses(source: List[Place], defined: Set[str]) -> Dict[str, List[Place]]:
     found: Dict[str, List[Place]] = {}
     for place, before in zip(source, [[], [], *([a, b] for a, b in pairs(source))]):
         fixed = place.word == "DO" and before and is_plain(before[0].word) and is_plain(before[1].word)
+        fixed = fixed or place.word == "FORTH" and not place.inside
         if place.word in MEANINGS and place.word not in defined and not fixed:
             found.setdefault(place.word, []).append(place)
+    found.update({what: places for what, places in (("J without loops", lonely_js(source)), ("13 for a key", returns(source))) if places})
     for a, b in pairs(source):
         if b.word == "+LOOP" and (a.word.startswith("-") and is_plain(a.word) or a.word in ("NEGATE", "MINUS")):
             found.setdefault("+LOOP downwards", []).append(b)
@@ -408,22 +433,70 @@ def differing(source: List[Place], defined: Set[str], dialects: Iterable[str]) -
     return {word: places for word, places in uses(source, defined).items() if len({MEANINGS[word][key] for key in among}) > 1}
 
 
-def constants(source: List[Place]) -> Set[str]:
-    """Constants that are used as addresses right away."""
-    made = {c.word for a, b, c in zip(source, source[1:], source[2:]) if b.word == "CONSTANT" and is_plain(a.word)}
-    return {a.word for a, b in pairs(source) if a.word in made and b.word in ACCESS}
+def lonely_js(source: List[Place]) -> List[Place]:
+    """Where J is in no loop of its definition."""
+    found: List[Place] = []
+    loops = 0
+    for place in source:
+        loops = 0 if place.word == ":" else loops + (place.word in ("DO", "?DO")) - (place.word in ("LOOP", "+LOOP", "/LOOP"))
+        if place.word == "J" and place.inside and loops < 1:
+            found.append(place)
+    return found
+
+
+def returns(source: List[Place]) -> List[Place]:
+    """Where a program that reads keys compares with 13 or 10."""
+    has_keys = any(place.word == "KEY" for place in source)
+    return [a for a, b in pairs(source) if has_keys and a.inside and value(a) in (10, 13) and b.word in ("=", "OF", "-", "XOR", "<>", "CASE?")]
+
+
+def halves(source: List[Place]) -> List[Place]:
+    """Where a program fetches one byte of a variable that it also uses as a cell: which one that is depends on the processor."""
+    made = {place.name for place in source if place.word == "VARIABLE"}
+    cells = {a.word for a, b in pairs(source) if b.word in ("@", "!", "+!")} & made
+    return [a for a, b, c in in_threes(source) if a.word in cells and (b.word in ("C@", "C!") or b.word == "1+" and c.word in ("C@", "C!"))]
+
+
+def address(place: Place, named: Dict[str, int]) -> Optional[int]:
+    """The address that a word stands for: a number, a constant, or a word that computes it."""
+    return named[place.word] if place.word in named else value(place)
+
+
+def named_addresses(source: List[Place]) -> Dict[str, int]:
+    """The constants, and the words that do no more than compute an address from a number: what they begin with."""
+    named: Dict[str, int] = {}
+    name = ""
+    body: List[Optional[int]] = []
+    for place in source:
+        if place.word == ":":
+            name, body = place.name, []
+        elif place.word == "CONSTANT" and body and body[-1]:
+            named[place.name] = body[-1]
+        elif place.word == ";" and len(body) < 8 and None not in body and max((number or 0 for number in body), default=0) > 255:
+            named[name] = max(number or 0 for number in body)
+        elif place.word != "(":
+            body.append(0 if place.word in COMPUTING else address(place, named))
+    return named
+
+
+def addresses(source: List[Place]) -> List[Tuple[Place, int]]:
+    """Where a program fetches or stores at an address of its machine, and which that is."""
+    named = named_addresses(source)
+    found: List[Tuple[Place, int]] = []
+    nothing = Place("", 0, 0, False)
+    for a, b, c, access in zip([nothing, nothing, *source], [nothing, *source], source, source[1:]):
+        if access.word in ACCESS and b.word not in ("'", "[']"):
+            places = [c] if c.word not in ("+", "-", "OR") else [p for p in (b, a) if p.word in named or (value(p) or 0) > 255]
+            found += [(place, at & 0xFFFF) for place in places[:1] if (at := address(place, named)) is not None]
+    return found
 
 
 def not_kept(source: List[Place], defined: Set[str]) -> List[Tuple[str, Place, str]]:
     """What no dialect can keep: what is written, where, and why."""
     found: List[Tuple[str, Place, str]] = []
-    named = constants(source)
     is_named = any(place.word in ("NFA", "LATEST", "ID.") for place in source)
     is_branching = any(a.word == "COMPILE" and b.word in ("BRANCH", "0BRANCH") for a, b in pairs(source))
     tests: List[Tuple[Callable[[str, str, str], bool], str]] = [
-        (lambda a, b, c: is_plain(a) and b in ACCESS, "an address of another machine: write a word for the device"),
-        (lambda a, b, c: is_far(a) and b == "+" and c in ACCESS, "an address of another machine: write a word for the device"),
-        (lambda a, b, c: a in named and b in ACCESS, "an address of another machine: write a word for the device"),
         (lambda a, b, c: a == "BLOCK" and (b == "2-" or b == "2" and c == "-"), "there is no block number before a buffer: keep it in a variable"),
         (lambda a, b, c: a == "LFA" and b == "!", "links can be read, not written"),
         (lambda a, b, c: a == "COMPILE" and b in ("(DO)", "(?DO)", "(LOOP)", "(+LOOP)"), "loops differ inside: write [COMPILE] DO and [COMPILE] LOOP"),
@@ -434,7 +507,7 @@ def not_kept(source: List[Place], defined: Set[str]) -> List[Tuple[str, Place, s
     for a, b, c in zip(source, source[1:], source[2:] + [Place("", 0, 0, False)]):
         for test, why in tests:
             if test(a.word, b.word, c.word):
-                found.append((f"{a.word} {b.word} {c.word}" if b.word in ("+", "2") or (b.word, c.word) in LAST_LETTER else
+                found.append((f"{a.word} {b.word} {c.word}" if b.word == "2" or (b.word, c.word) in LAST_LETTER else
                               f"{a.word} {b.word}", a, why))
     for a, b, c, d in zip(source, source[1:], source[2:], source[3:]):
         if a.word == "8" and b.word == "*" and "BLOCK" in (c.word, d.word) and "BLOCK" not in defined:

@@ -113,6 +113,19 @@ def narrowed(screens: bytes) -> bytes:
     return b"".join(lines)
 
 
+def carded(body: bytes, width: int, lines: int, columns: int) -> bytes:
+    """Screens of so many records of this width, of which these columns are text, as screens of 16 lines of 64."""
+    records = [body[at:at + width][:columns].rstrip(PADDING) for at in range(0, len(body), width)]
+    made = []
+    for first in range(0, len(records), lines):
+        for at, line in enumerate(records[first:first + lines]):
+            if len(line) > LINE or at > 15 and line:
+                why = f"has {len(line)} characters, but only 64 fit" if at < 16 else "is not blank, but a screen has lines 0 to 15"
+                raise Wild(f"screen {first // lines} line {at} {why}; a text may have longer lines, and INCLUDE loads it")
+        made.append(b"".join(line.ljust(LINE) for line in records[first:first + min(lines, 16)]).ljust(BLOCK))
+    return b"".join(made)
+
+
 def from_ebcdic(body: bytes) -> bytes:
     """The bytes of code page 37, which has each byte once, as those of Latin-1."""
     return body.decode("cp037").encode("latin-1")
@@ -179,6 +192,6 @@ def screens_of_listing(data: bytes) -> Tuple[int, bytes]:
             raise Wild(f"screen {number} has {len(placed)} lines, but only 16 fit")
         for at, line in enumerate(placed):
             if len(line) > LINE:
-                raise Wild(f"screen {number} line {at} has {len(line)} characters, but only 64 fit")
+                raise Wild(f"screen {number} line {at} has {len(line)} characters, but only 64 fit; as a text it may have them, and INCLUDE loads it")
         made.append(b"".join(line.encode("latin-1").ljust(LINE) for line in placed).ljust(BLOCK))
     return first, b"".join(made)
