@@ -8,3 +8,6 @@ pub mod Storing
 pub mod Framing
 pub mod Stretch
 pub mod Inspected
+pub mod Places
+pub mod Anywhere
+pub mod Blockless

@@ -122,6 +122,22 @@ pub record HasSaved (count kind : ℕ) (whole : Bool) (s : State) (calls calls' 
   pub saves : Saves count kind s one
   pub served_is : IsServed one whole s calls calls' sent sent'
 
+-- a request that needs room for a list of headers
+abbrev pub needs_room : Wish → Bool
+needs_room (Listed listing) = true
+needs_room (Extent name) = true
+needs_room _ = false
+
+-- it is refused, as there is no memory for that
+pub record LacksRoom (w : Wish) (whole : Bool) (old new : State) (calls calls' : List DeviceCall) (sent sent' : Option (List ℕ)) : Type 0 where
+  pub needs : needs_room w ≡ true
+  pub refused : IsServed (told old (refusal 11)) whole new calls calls' sent sent'
+
+-- a request was obeyed where no room was taken before
+abbrev pub MayObey : (count : ℕ) → Wish → (whole : Bool) → (old new : State) → (calls calls' : List DeviceCall) → (sent sent' : Option (List ℕ)) → Type 0
+MayObey count w whole old new calls calls' sent sent' =
+    HasObeyed count w whole old new calls calls' sent sent' ⊎ LacksRoom w whole old new calls calls' sent sent'
+
 -- one after the other
 abbrev pub then_served : Served → Served → Served
 then_served a b = served_as b.state (a.calls ++ b.calls) (a.replies ++ b.replies)

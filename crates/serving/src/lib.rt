@@ -18,7 +18,7 @@ mod taking;
 mod text;
 
 pub use listing::Room;
-pub use obeying::obey;
+pub use obeying::{obey, obey_in_place};
 pub use replies::Standing;
 pub use requests::{Command, Listing, command_of, is_quit};
 pub use running::{Next, run};

@@ -195,7 +195,7 @@ fn extent_cause(fault: DebugFault) -> u8
 pub fn send_extent<W: Output>(
     machine: &Machine,
     name: &[u8],
-    room: &mut Room,
+    headers: &mut HeaderList,
     writer: &mut W,
 ) -> Result<(), EndFault>
     ensures ok { OnOk result (Appends (W.sent writer.old) (W.sent writer.new) (extent_reply (debugged machine.now.parts.memory name.now))) }
@@ -203,7 +203,7 @@ pub fn send_extent<W: Output>(
         (extent_reply (debugged machine.now.parts.memory name.now))) }
     ensures mark { Marks (W.failed writer.old) (W.failed writer.new) result }
 {
-    match extent_in(&mut room.headers, machine.memory(), name) {
+    match extent_in(headers, machine.memory(), name) {
         Ok(extent) => send_cells(writer, b'j', &[extent.from, extent.end]),
         Err(fault) => refuse(writer, extent_cause(fault)),
     }

@@ -9,7 +9,7 @@ ghost use Rattle.inner_interpreter.specs.Ends.{Marks};
 ghost use Rattle.inner_interpreter.specs.Moves.{Answer as AnswerTurn, Enter as EnterTurn};
 ghost use Rattle.inner_interpreter.specs.Histories.{acted, takes};
 ghost use Rattle.serving.specs.Requests.{Extent, Find, Image, Listed, Look, Memory as MemoryWish, PutBack as PutBackWish, Registers as RegistersWish, See, SetBytes as SetBytesWish, SetCell as SetCellWish, Unknown, Version, View, wish_of};
-ghost use Rattle.serving.specs.Served.{HasObeyed, HasSaved, Looks, act_reply, is_stretch, move_refusal, moved, served};
+ghost use Rattle.serving.specs.Served.{HasObeyed, HasSaved, Looks, MayObey, act_reply, is_stretch, move_refusal, moved, needs_room, served};
 
 use crate::frames::{refuse, send_cells, send_memory, show};
 use crate::listing::{Room, send_extent, send_listing};
@@ -21,6 +21,7 @@ use crate::running::run;
 use crate::saving::save;
 use crate::state::{send_registers, send_state};
 use block_buffers::Device;
+use dictionary::HeaderList;
 use inner_interpreter::{Act, Answer, EndFault, Event, Machine, Output, Refused, Shown};
 use see::see;
 use std::alloc::Global;
@@ -272,14 +273,14 @@ fn obey_listing<W: Output>(
 fn obey_extent<W: Output>(
     machine: &Machine,
     name: &[u8],
-    room: &mut Room,
+    headers: &mut HeaderList,
     writer: &mut W,
 ) -> Result<(), EndFault>
     ensures ok { OnOk result (Looks (served machine.now (Extent name.now)) true machine.now (W.sent writer.old) (W.sent writer.new)) }
     ensures err { OnErr result (Looks (served machine.now (Extent name.now)) false machine.now (W.sent writer.old) (W.sent writer.new)) }
     ensures mark { Marks (W.failed writer.old) (W.failed writer.new) result }
 {
-    send_extent(machine, name, room, writer)
+    send_extent(machine, name, headers, writer)
 }
 
 /// The updated buffers are written, and how many could not be is the reply.
@@ -300,6 +301,44 @@ fn obey_save<W: Output, D: Device>(
     send_cells(writer, kind, &[lost])
 }
 
+/// Does what a request asks that needs no room for a list of headers. One that needs it is refused.
+fn obey_plainly<W: Output, D: Device>(
+    alloc: Global,
+    machine: &mut Machine,
+    device: &mut D,
+    count: u32,
+    command: Command<'_>,
+    writer: &mut W,
+) -> Result<(), EndFault>
+    ensures ok { needs_room (wish_of command.entry) ≡ false → OnOk result (HasObeyed count (wish_of command.entry) true machine.old
+        machine.new (D.calls device.old) (D.calls device.new) (W.sent writer.old) (W.sent writer.new)) }
+    ensures err { needs_room (wish_of command.entry) ≡ false → OnErr result (HasObeyed count (wish_of command.entry) false machine.old
+        machine.new (D.calls device.old) (D.calls device.new) (W.sent writer.old) (W.sent writer.new)) }
+    ensures mark { Marks (W.failed writer.old) (W.failed writer.new) result }
+{
+    match command {
+        Command::Run(limit) => run(machine, device, count, limit, writer),
+        Command::Answer(answer) => obey_answer(machine, answer, writer),
+        Command::Enter(word) => obey_entry(machine, word, writer),
+        Command::SetCell { address, x } => obey_cell(machine, address, x, writer),
+        Command::SetBytes { at, bytes } => obey_bytes(machine, at, bytes, writer),
+        Command::Look => obey_look(machine, writer),
+        Command::Registers => obey_registers(machine, writer),
+        Command::PutBack(body) => obey_put_back(machine, body, writer),
+        Command::Memory { at, n } => obey_memory(machine, at, n, writer),
+        Command::Find(name) => obey_find(machine, name, writer),
+        Command::View(name) => obey_view(machine, name, writer),
+        Command::See(name) => obey_see(alloc, machine, name, writer),
+        Command::Listed(_) => refuse(writer, 11),
+        Command::Extent(_) => refuse(writer, 11),
+        Command::Image(entry) => obey_image(machine, entry, writer),
+        Command::Save => obey_save(machine, device, count, b'b', writer),
+        Command::Quit => obey_save(machine, device, count, b'q', writer),
+        Command::Version => obey_version(machine, writer),
+        Command::Unknown => obey_unknown(machine, writer),
+    }
+}
+
 /// Does what a request asks over a device of `count` blocks, and replies. On a failed writer a front of the replies was sent: of a run, those of the moves that were made.
 pub fn obey<W: Output, D: Device>(
     alloc: Global,
@@ -317,24 +356,37 @@ pub fn obey<W: Output, D: Device>(
     ensures mark { Marks (W.failed writer.old) (W.failed writer.new) result }
 {
     match command {
-        Command::Run(limit) => run(machine, device, count, limit, writer),
-        Command::Answer(answer) => obey_answer(machine, answer, writer),
-        Command::Enter(word) => obey_entry(machine, word, writer),
-        Command::SetCell { address, x } => obey_cell(machine, address, x, writer),
-        Command::SetBytes { at, bytes } => obey_bytes(machine, at, bytes, writer),
-        Command::Look => obey_look(machine, writer),
-        Command::Registers => obey_registers(machine, writer),
-        Command::PutBack(body) => obey_put_back(machine, body, writer),
-        Command::Memory { at, n } => obey_memory(machine, at, n, writer),
-        Command::Find(name) => obey_find(machine, name, writer),
-        Command::View(name) => obey_view(machine, name, writer),
-        Command::See(name) => obey_see(alloc, machine, name, writer),
         Command::Listed(listing) => obey_listing(machine, listing, room, writer),
-        Command::Extent(name) => obey_extent(machine, name, room, writer),
-        Command::Image(entry) => obey_image(machine, entry, writer),
-        Command::Save => obey_save(machine, device, count, b'b', writer),
-        Command::Quit => obey_save(machine, device, count, b'q', writer),
-        Command::Version => obey_version(machine, writer),
-        Command::Unknown => obey_unknown(machine, writer),
+        Command::Extent(name) => obey_extent(machine, name, &mut room.headers, writer),
+        _ => obey_plainly(alloc, machine, device, count, command, writer),
+    }
+}
+
+/// The same, where no room was taken before the first request: a request that needs room for a list of headers asks for it, and is refused if there
+/// is none.
+pub fn obey_in_place<W: Output, D: Device>(
+    alloc: Global,
+    machine: &mut Machine,
+    device: &mut D,
+    count: u32,
+    command: Command<'_>,
+    writer: &mut W,
+) -> Result<(), EndFault>
+    ensures ok { OnOk result (MayObey count (wish_of command.entry) true machine.old machine.new
+        (D.calls device.old) (D.calls device.new) (W.sent writer.old) (W.sent writer.new)) }
+    ensures err { OnErr result (MayObey count (wish_of command.entry) false machine.old machine.new
+        (D.calls device.old) (D.calls device.new) (W.sent writer.old) (W.sent writer.new)) }
+    ensures mark { Marks (W.failed writer.old) (W.failed writer.new) result }
+{
+    match command {
+        Command::Listed(listing) => match Room::new(alloc) {
+            Ok(mut room) => obey_listing(machine, listing, &mut room, writer),
+            Err(_) => refuse(writer, 11),
+        },
+        Command::Extent(name) => match HeaderList::new(alloc) {
+            Ok(mut headers) => obey_extent(machine, name, &mut headers, writer),
+            Err(_) => refuse(writer, 11),
+        },
+        _ => obey_plainly(alloc, machine, device, count, command, writer),
     }
 }
