@@ -25,6 +25,10 @@ extern "C" {
  * from memory by itself. */
 #define FORTH83_ROOM 131072
 
+/* Room for the longest reply that forth83_serve gives to a request that moves the machine: at most 2,047 bytes in as many frames, 65,536
+ * bytes that the last tick shows, in 32 frames, and the frame at the end. */
+#define FORTH83_SERVE_ROOM 73830
+
 /* How many bytes a block has. */
 #define FORTH83_PAGE 1024
 
@@ -51,7 +55,8 @@ enum forth83_status {
   FORTH83_NOT_STRUCTURED = 18, /* SEE: what the word compiled is the thread of no text */
   FORTH83_NAMELESS = 19,       /* SEE: it uses a word without a name that can be read */
   FORTH83_SHADOWED = 20,       /* SEE: a name in its text would mean another word, or a number is a name */
-  FORTH83_BAD_TEXT = 21        /* SEE: a text in it has a quote */
+  FORTH83_BAD_TEXT = 21,       /* SEE: a text in it has a quote */
+  FORTH83_LONG_REPLY = 22      /* the reply is longer than the room, which has the front of it; the request was obeyed */
 };
 
 /* Why forth83_run ended. */
@@ -203,6 +208,13 @@ uint32_t forth83_see(const forth83 *machine, const uint8_t *name, uint64_t name_
  * bytes of room each line fits. */
 uint32_t forth83_trace_line(const forth83 *machine, uint8_t *text, uint64_t text_size, uint64_t *size);
 
+/* Obeys a request of a host, as a server does: the frame of this kind with these bytes (docs/FORMATS.md has the frames). Puts the frames of the reply
+ * into reply, and how many bytes they have into replied. A reply that is longer than reply_size is cut there (FORTH83_LONG_REPLY): the request was
+ * obeyed all the same, so give requests that move the machine FORTH83_SERVE_ROOM bytes, and ask again for what only looks. No block is
+ * answered here: load the image for 65,536 blocks, and each block is asked of the host, by `e` with `r` or `w`. */
+uint32_t forth83_serve(forth83 *machine, uint8_t kind, const uint8_t *body, uint64_t body_size, uint8_t *reply, uint64_t reply_size,
+                       uint64_t *replied);
+
 /* Enters the word at a compilation address; the next forth83_run goes on with it. The return stack is emptied. */
 uint32_t forth83_enter(forth83 *machine, uint16_t word);
 
@@ -231,7 +243,8 @@ static inline const char *forth83_status_text(uint32_t status)
         "a size that does not fit", "the machine is halted", "the machine waits for an answer", "this answer was not asked for",
         "a page must have 1,024 bytes", "the stack is full or empty", "no word has that name",
         "a chain of more than 32,768 headers", "the word is no colon definition", "the word is the thread of no text",
-        "the word uses a word without a name", "a name in the word means another word", "a text in the word has a quote"};
+        "the word uses a word without a name", "a name in the word means another word", "a text in the word has a quote",
+        "the reply is longer than the room"};
     return status < sizeof texts / sizeof texts[0] ? texts[status] : "unknown status";
 }
 

@@ -89,7 +89,7 @@ def main_that_calls_all(library: pathlib.Path = LIBRARY) -> str:
     known, needs = records(library), {"Global": "alloc", "&[u8]": 'b""', "&mut [u8]": "&mut bytes", "&mut [u16]": "&mut cells"}
     lines = ["let alloc = rt.alloc();", "let mut bytes = [0u8; 8];", "let mut cells = [0u16; 8];", "let mut size = 0usize;",
              "let mut word = 0u16;", "let mut second = 0u16;"]
-    needs.update({"u16": "0", "u32": "0", "u64": "0", "usize": "0", "&mut u16": "&mut word", "&mut usize": "&mut size"})
+    needs.update({"u8": "0", "u16": "0", "u32": "0", "u64": "0", "usize": "0", "&mut u16": "&mut word", "&mut usize": "&mut size"})
     for name in ("Forth83", "Forth83End"):
         lines.append(f"let mut {name.lower()} = {zero(name, known)};")
         needs.update({f"&{name}": f"&{name.lower()}", f"&mut {name}": f"&mut {name.lower()}"})

@@ -13,3 +13,6 @@ code_three s e = search rules
 pub run_codes : (s : Status) (n : ℕ) → n ≡ code_of s → (s ≡ status.Done) ⊎ ((s ≡ status.NoMachine) ⊎ (s ≡ status.ShortRoom))
     → (n ≡ 0) ⊎ ((n ≡ 1) ⊎ (n ≡ 3))
 run_codes s n e h = search rules
+
+pub code_one : (s : Status) → code_of s ≡ 1 → s ≡ status.NoMachine
+code_one s e = search rules

@@ -8,3 +8,4 @@ pub mod Lending
 pub mod There
 pub mod Joined
 pub mod Aside
+pub mod Replying

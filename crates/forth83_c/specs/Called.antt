@@ -41,6 +41,7 @@ code_of status.NotStructured = 18
 code_of status.Nameless = 19
 code_of status.Shadowed = 20
 code_of status.BadText = 21
+code_of status.LongReply = 22
 
 abbrev pub stop_code : Stop → ℕ
 stop_code stop.Halted = 0

@@ -3,3 +3,4 @@ pub mod Driven
 pub mod Called
 pub mod Calls
 pub mod Looked
+pub mod Replied

@@ -6,16 +6,22 @@ ghost use Rattle.machine.specs.Answer.{answer_of, asked_by, is_answer, seen};
 ghost use Rattle.machine.specs.State.{state_at};
 ghost use Rattle.name_index.specs.Index.{Holds};
 ghost use Rattle.forth83_c.specs.Driven.{HasStopped, IsDriven, told};
+ghost use Rattle.serving.specs.Requests.{wish_of};
 ghost use Rattle.forth83_c.specs.Kept.{state_of};
+ghost use Rattle.forth83_c.specs.Replied.{IsReplied};
 
 use crate::driving::{Course, drive};
 use crate::kept::Rest;
+use crate::obeying::obey;
 use crate::record::Forth83Faults;
+use crate::replies::Replies;
 use crate::stop::Stop;
 use inner_interpreter::{Answer, Event, Machine};
 use machine_parts::parts::Parts;
 use memory::Memory;
 use name_index::NameIndex;
+use serving::Command;
+use std::alloc::Global;
 use std::mem::replace;
 
 /// A machine that was taken apart: its memory, and the rest.
@@ -165,4 +171,34 @@ pub fn answer_lent<'m>(
         memory,
         event: act.event,
     }
+}
+
+/// What a request of a server's host comes to: memory comes back, and the size of the reply.
+#[derive(Drop)]
+pub struct Obeyed<'m> {
+    pub memory: &'m mut Memory,
+    pub size: usize,
+}
+
+/// Obeys a request by the machine of lent memory and the rest; the reply is put into the room.
+pub fn obey_lent<'m>(
+    alloc: Global,
+    memory: &'m mut Memory,
+    rest: &mut Rest,
+    index: NameIndex,
+    command: Command<'_>,
+    room: &mut [u8],
+) -> Obeyed<'m>
+    requires { (limit : ℕ) (m : List ℕ) → Holds limit index m }
+    ensures same { result.memory.ghost_name ≡ memory.entry.ghost_name }
+    ensures replied { IsReplied (wish_of command.entry) (state_of (stored memory.entry.now) rest.old)
+        (state_of (stored result.memory.now) rest.new) room.old room.new result.size }
+{
+    let mut machine = over(memory, replace(rest, Rest::blank()), index);
+    let mut replies = Replies::new(room);
+    obey(alloc, &mut machine, command, &mut replies);
+    let size = replies.size;
+    let Parted { memory, rest: left } = part(machine);
+    *rest = left;
+    Obeyed { memory, size }
 }

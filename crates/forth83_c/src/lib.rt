@@ -9,7 +9,10 @@ pub mod laws;
 mod lent;
 mod lines;
 mod looking;
+mod no_blocks;
+mod obeying;
 pub mod record;
+mod replies;
 mod running;
 mod showing;
 mod status;
@@ -25,6 +28,8 @@ ghost use Rattle.machine.specs.Answer.{InputEnd, ReadFault, ReadOk, WriteFault, 
 ghost use Rattle.forth83_c.specs.Called.{AsksPage, HasAnswered, HasBegun, HasEntered, HasFound, HasPopped, HasPushed, HasRun, HasSaved, TellsByCode, TellsMachine, WhyNotAnswered, WhyNotEntered, WhyNotFound, WhyNoPage, WhyNotPushed, WhyNotPopped, WhyNotSaved};
 ghost use Rattle.forth83_c.specs.Kept.{IsKept, SameBeside};
 ghost use Rattle.forth83_c.specs.Calls.{ByCode, HasCalled, HasResumed, WhyNotCalled, WhyNotResumed};
+ghost use Rattle.serving.specs.Requests.{wished};
+ghost use Rattle.forth83_c.specs.Replied.{HasReplied, TellsReplied};
 ghost use Rattle.forth83_c.specs.Looked.{HasExtent, HasListed, HasSeen, HasTraced, HasViewed, WhyNoExtent, WhyNotListed, WhyNotSeen, WhyNotTraced, WhyNotViewed};
 ghost use Rattle.forth83_c.specs.declared.kept.TheConstants.{ABI};
 
@@ -317,6 +322,30 @@ pub extern "C" fn forth83_trace_line(
     ensures untold { result ≢ 0 → size.new ≡ size.old }
 {
     tracing::trace_line(alloc, machine, text, size).code()
+}
+
+/// Obeys a request of a server's host: the frame of this kind and these bytes. The reply is put into `room`, and how many bytes it has into `size`;
+/// of one that is longer than the room, the room has the front.
+#[unsafe(no_mangle)]
+#[tactic(auto, using(crate::proofs::Codes::code_one))]
+pub extern "C" fn forth83_serve(
+    alloc: Global,
+    machine: &mut Forth83,
+    kind: u8,
+    body: &[u8],
+    room: &mut [u8],
+    size: &mut usize,
+) -> u32
+    // The request is obeyed, also where the room is too small for the reply.
+    ensures replied { result ≢ 1 → HasReplied machine.old machine.new (wished kind body.now) room.old room.new size.new }
+
+    // 0: the reply is in the room; 22: it is longer than the room; 1: the record keeps no machine, and all is as it was.
+    ensures told { ByCode (TellsReplied size.new (length room.new)) machine.old result }
+    ensures stays { result ≡ 1 → machine.new ≡ machine.old }
+    ensures silent { result ≡ 1 → room.new ≡ room.old }
+    ensures untold { result ≡ 1 → size.new ≡ size.old }
+{
+    obeying::serve(alloc, machine, kind, body, room, size).code()
 }
 
 /// Pushes a number on the data stack. `Waiting` while a request waits, since what it needs is on top.

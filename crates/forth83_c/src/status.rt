@@ -51,6 +51,8 @@ pub enum Status {
     Shadowed,
     /// A text in the word has a quote.
     BadText,
+    /// The reply is longer than the room, which has its front; the request was obeyed.
+    LongReply,
 }
 
 impl Status {
@@ -81,6 +83,7 @@ impl Status {
             Status::Nameless => 19,
             Status::Shadowed => 20,
             Status::BadText => 21,
+            Status::LongReply => 22,
         }
     }
 }
