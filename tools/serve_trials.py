@@ -4,7 +4,7 @@ import struct
 from pathlib import Path
 from typing import Iterator, List, NamedTuple, Optional, Tuple
 
-from serve_lists import by_program, frame, kernel_image, made, random_image, request
+from serve_lists import Server, frame, made, random_image, request
 
 PREFIX_LISTS = 36   # lists of which every prefix is sent
 PREFIX_BYTES = 300  # of no more bytes than these
@@ -46,9 +46,8 @@ def is_last(reply: Reply) -> bool:
     return reply.kind != "s" and not (reply.kind in LONG and len(reply.body) == FULL)
 
 
-def prefix_fault(program: str, image: bytes, sent: bytes, top: Path) -> Optional[str]:
+def prefix_fault(serve: Server, image: bytes, sent: bytes, top: Path) -> Optional[str]:
     """What is wrong with the replies to some prefix of a list: each whole frame has its replies, which are those to the whole list."""
-    serve = by_program([program, "serve", "--"])
     image_file, block_file = top / "image", top / "blocks"
     image_file.write_bytes(image)
     block_file.write_bytes(b"")
@@ -61,14 +60,14 @@ def prefix_fault(program: str, image: bytes, sent: bytes, top: Path) -> Optional
     return None
 
 
-def prefixes(program: str, top: Path) -> Iterator[Optional[str]]:
+def prefixes(serve: Server, kernel: bytes, top: Path) -> Iterator[Optional[str]]:
     """Lists of frames, each cut at every byte."""
-    kernel, tried = kernel_image(program, top), 0
+    tried = 0
     for seed in range(10000, 11000):
         image, _, sent = made(seed, kernel)
         if tried < PREFIX_LISTS and 0 < len(sent) <= PREFIX_BYTES:
             tried += 1
-            fault = prefix_fault(program, image, sent, top)
+            fault = prefix_fault(serve, image, sent, top)
             yield f"prefixes of list {seed}: {fault}" if fault else None
 
 
@@ -142,12 +141,12 @@ def altered(registers: bytes) -> Iterator[bytes]:
     yield registers[:-6] + cells((0, 5, 0))
 
 
-def asked_of(program: str, image: bytes, sent: bytes, top: Path) -> List[Reply]:
+def asked_of(serve: Server, image: bytes, sent: bytes, top: Path) -> List[Reply]:
     """The replies to frames that are sent to an image without blocks."""
     image_file, block_file = top / "image", top / "blocks"
     image_file.write_bytes(image)
     block_file.write_bytes(b"")
-    return replies_of(by_program([program, "serve", "--"])(image_file, block_file, sent)[0])
+    return replies_of(serve(image_file, block_file, sent)[0])
 
 
 def refusals(kept: Kept) -> bytes:
@@ -157,34 +156,33 @@ def refusals(kept: Kept) -> bytes:
     return odd + frame(ord("G")) + memory_requests()
 
 
-def keeping_fault(program: str, seed: int, kernel: bytes, top: Path) -> Optional[str]:
+def keeping_fault(serve: Server, seed: int, kernel: bytes, top: Path) -> Optional[str]:
     """What is wrong when a machine is kept, and put back into another: there it goes on as it went on here."""
     chance = random.Random(seed)
     image = kernel if seed % 2 == 0 else random_image(chance)
     before = b"".join(request(chance) for _ in range(chance.randrange(12)))
     after = b"".join(request(chance) for _ in range(chance.randrange(1, 12))) + frame(ord("q"))
     looks = frame(ord("r"), bytes(4)) + frame(ord("v")) + frame(ord("G")) + memory_requests()
-    first = asked_of(program, image, before + looks, top)
+    first = asked_of(serve, image, before + looks, top)
     kept = kept_of(first)
     if not agrees(kept):
         return "registers differ from what v and e say"
-    went_on = asked_of(program, image, before + looks + after, top)[len(first):]
+    went_on = asked_of(serve, image, before + looks + after, top)[len(first):]
     back = written(kept.memory, chance) + frame(ord("P"), kept.registers)
-    again = asked_of(program, image, b"".join(request(chance) for _ in range(5)) + back + looks + after, top)
+    again = asked_of(serve, image, b"".join(request(chance) for _ in range(5)) + back + looks + after, top)
     if kept_of(again[:len(again) - len(went_on)]) != kept:
         return "what was put back differs"
     if again[len(again) - len(went_on):] != went_on:
         return "it goes on in another way"
-    refused = asked_of(program, image, back + refusals(kept), top)[-33 - 3 - len(list(altered(kept.registers))):]
+    refused = asked_of(serve, image, back + refusals(kept), top)[-33 - 3 - len(list(altered(kept.registers))):]
     causes = [reply.body for reply in refused[:-33]]
     if causes != [b"\14"] * (len(causes) - 3) + [b"\3"] * 3 or b"".join(reply.body for reply in refused[-33:]) != kept.registers + kept.memory:
         return "what no machine has is not refused, or changes it"
     return None
 
 
-def keeping(program: str, top: Path) -> Iterator[Optional[str]]:
+def keeping(serve: Server, kernel: bytes, top: Path) -> Iterator[Optional[str]]:
     """Machines that are kept and put back."""
-    kernel = kernel_image(program, top)
     for seed in range(20000, 20000 + KEPT_LISTS):
-        fault = keeping_fault(program, seed, kernel, top)
+        fault = keeping_fault(serve, seed, kernel, top)
         yield f"list {seed}, kept and put back: {fault}" if fault else None

@@ -1,6 +1,5 @@
 -- What a writer into a room has taken, and which room it is.
 use Rattle.std.proofs.Common.{◌≡◌, ◌≤◌, ◌<◌, ◌+◌, ◌-◌, ◌^◌, ℕ, List, [], ◌∷◌, ◌++◌, Option, Some, None, Result, Ok, Err, OnOk, true, false, inl, inr, refl, sym, ap, subst, ◌∙◌, arith, length, take, drop, min, append_assoc}
-use Rattle.std.specs.Io.KnownBytes.{Appends}
 use Rattle.std.proofs.lemmas.List.{length-append, same_lists, places}
 use Rattle.std.proofs.lemmas.Grind.{common_steps}
 use Rattle.block_buffers.specs.DeviceCalls.{DeviceCall}
@@ -8,7 +7,7 @@ use Rattle.machine.specs.State.{State, state_at}
 use Rattle.inner_interpreter.specs.Ends.{Marks}
 use Rattle.inner_interpreter.specs.declared.ends.EndFault.{EndFault}
 use Rattle.serving.specs.Requests.{Wish}
-use Rattle.serving.specs.Served.{HasObeyed, IsServed, LacksRoom, MayObey, Served}
+use Rattle.serving.specs.Served.{IsServed, MayObey, Served}
 use Rattle.serving.proofs.Anywhere.{may_at}
 use Rattle.serving.proofs.Blockless.{may_call_none}
 use Rattle.serving.proofs.Places.{may_stay}

@@ -1,4 +1,4 @@
-use Rattle.std.proofs.Common.{rules, ◌≡◌, Some, refl, ap, ◌∙◌}
+use Rattle.std.proofs.Common.{rules, Some, refl, ap, ◌∙◌}
 use Rattle.memory.specs.Mirrored.{stored}
 use Rattle.machine.specs.State.{state_at}
 use Rattle.serving.specs.Requests.{wish_of}
