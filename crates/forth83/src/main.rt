@@ -6,9 +6,7 @@ ghost use Rattle.forth83.specs.Obeyed.{Obeys, RefusesWords, RunsLine};
 ghost use Rattle.named_files.specs.Done.{IsPassedOn, done, status_of};
 ghost use Rattle.std.specs.String.{string_bytes};
 
-use command_words::{
-    ContainerWords, LoadWords, Parsed, ScreenRange, Words, parse, typed,
-};
+use command_words::{ContainerWords, LoadWords, Parsed, ScreenRange, Words, parse, typed};
 use debug_subcommand::debug_word;
 use file_subcommands::{
     Disk, Screens, build_image, export_screens, import_screens, print_text, see_word,
