@@ -5,7 +5,7 @@ Titles are on the first line of a screen, each `:` has its `;`, and no word goes
 from __future__ import annotations
 
 import re
-from typing import Dict, Iterator, List, NamedTuple, Tuple
+from typing import Dict, Iterator, List, NamedTuple, Optional, Tuple
 
 import wild
 
@@ -98,6 +98,15 @@ def best(data: bytes, count: int = 3) -> List[Tuple[Order, bytes]]:
         seen.setdefault(screens[:8 * BLOCK], (options, screens))
     scored = [(Order(options, score(screens)), screens) for options, screens in seen.values()]
     return sorted(scored, key=lambda item: -item[0].score)[:count]
+
+
+def better(data: bytes) -> Optional[Order]:
+    """An order in which these sectors look clearly more like source than as they are, if the file is long enough to tell."""
+    had = score(data[:SAMPLE])
+    if had >= 1.5 or len(data) < 8 * BLOCK:
+        return None
+    order = best(data, 1)[0][0]
+    return order if order.score > had + 0.4 else None
 
 
 def sample(screens: bytes) -> List[str]:

@@ -311,6 +311,9 @@ def orders(folder: Folder, expect: Expect) -> None:
     (room / "known.dsk").write_bytes(bytes(2560) + disk)
     said = folder.run(["./forth83", "import", "--guess", "known.dsk"])
     expect("the order of a disk", "--format blocks --offset 2560 --sector 256 --skew 1,4,7,10,3,6,9,2,5,8", said.split("    (")[0])
+    for what, data, is_told in (("a disk", bytes(2560) + disk, True), ("screens", screens, False)):
+        said, _ = imported(folder, data)
+        expect(f"whether {what} has another order: {said}", is_told, "reads better in another order of its sectors" in said)
     wide = b"".join(KILN[at:at + 64].ljust(80) for at in range(0, 1024, 64)).ljust(1920) * 3
     expect("screens of 24 lines of 80", KILN, imported(folder, wide, "--width", "80", "--lines", "24")[1])
     cards = b"".join(KILN[at:at + 64].ljust(72) + b"00000010" for at in range(0, len(KILN), 64)).decode("latin-1").encode("cp037")
