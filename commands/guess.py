@@ -101,7 +101,7 @@ def best(data: bytes, count: int = 3) -> List[Tuple[Order, bytes]]:
 
 
 def better(data: bytes) -> Optional[Order]:
-    """An order in which these sectors look clearly more like source than as they are, if the file is long enough to tell."""
+    """An order in which these sectors look clearly more like source than as they are, if the file is long enough to judge that."""
     had = score(data[:SAMPLE])
     if had >= 1.5 or len(data) < 8 * BLOCK:
         return None
