@@ -36,7 +36,7 @@ extern "C" {
 enum forth83_status {
   FORTH83_DONE = 0,
   FORTH83_NO_MACHINE = 1,     /* the record keeps no machine */
-  FORTH83_OUT_OF_MEMORY = 2,  /* no call answers it any more; the number is kept */
+  FORTH83_OUT_OF_MEMORY = 2,  /* only forth83_see, _headers, _extent and _trace_line, which take memory */
   FORTH83_SHORT_ROOM = 3,     /* no room for what is shown, or too little for a file */
   FORTH83_TRUNCATED = 4,      /* an image's file that ends too soon */
   FORTH83_TRAILING_BYTES = 5, /* bytes after an image's file */
@@ -101,6 +101,7 @@ typedef struct forth83_buffer {
 typedef struct forth83_faults {
   uint16_t count; /* how many, modulo 65,536 */
   uint16_t last;  /* the last of them; 0 where there is none */
+  uint16_t ip;    /* the machine's `ip` when the tick or the answer that met it began: where the word is that met it */
 } forth83_faults;
 
 /* Where a machine was when a word was called: its fields of the same names. `line` has the two cells that a line needs. */
@@ -137,7 +138,7 @@ typedef struct forth83 {
   uint8_t memory[65536];
   uint8_t spare[16]; /* for the calls, which work in memory as it lies here; no part of the machine */
   forth83_faults faults;
-  uint16_t is_called; /* 1 while a word is called */
+  uint16_t is_called; /* 1 from forth83_call to forth83_resume, also if the word has returned or met a fault */
   forth83_aside aside;
 } forth83;
 
@@ -154,11 +155,13 @@ typedef struct forth83_end {
 /* A compiler with another layout of these records stops here. */
 #ifdef __cplusplus
 #define FORTH83_MUST(what) static_assert(what, #what)
+#define FORTH83_AS(type, x) static_cast<type>(x)
 #else
 #define FORTH83_MUST(what) _Static_assert(what, #what)
+#define FORTH83_AS(type, x) ((type)(x))
 #endif
-FORTH83_MUST(sizeof(forth83) == 67276 && offsetof(forth83, buffers) == 30 && offsetof(forth83, memory) == 1186);
-FORTH83_MUST(offsetof(forth83, faults) == 66738 && offsetof(forth83, aside) == 66744);
+FORTH83_MUST(sizeof(forth83) == 67280 && offsetof(forth83, buffers) == 30 && offsetof(forth83, memory) == 1186);
+FORTH83_MUST(offsetof(forth83, faults) == 66738 && offsetof(forth83, aside) == 66746);
 FORTH83_MUST(sizeof(forth83_end) == 32 && offsetof(forth83_end, stop) == 24);
 
 /* The layout of the library that is linked. */
@@ -221,7 +224,10 @@ uint32_t forth83_enter(forth83 *machine, uint16_t word);
 /* Calls the word at a compilation address: the next forth83_run goes on with it, and ends by FORTH83_STOP_RETURNED when it has returned.
  * What was running is kept aside: its place, its return stack, and the request for a key or a line that is open. The word finds the data stack
  * without the two cells of a line, so push its arguments after this call, and pop its results before forth83_resume, which puts back
- * what was kept aside. forth83_resume may come earlier: what is left of the word is then given up, with what it asks. */
+ * what was kept aside. forth83_resume may come earlier: what is left of the word is then given up, with what it asks.
+ * A word that meets a fault does not return: the image's fault handler asks for a line (FORTH83_STOP_TYPED, and faults.count is
+ * another number). The call is still open then, and another one answers FORTH83_WAITING. So call forth83_resume after each word
+ * that was called, however its run ended. A machine that halted meanwhile cannot be resumed (FORTH83_HALTED). */
 uint32_t forth83_call(forth83 *machine, uint16_t word);
 uint32_t forth83_resume(forth83 *machine);
 
@@ -252,13 +258,13 @@ static inline const char *forth83_status_text(uint32_t status)
  * code, and write any address: so may a host. */
 static inline uint16_t forth83_cell(const forth83 *machine, uint16_t address)
 {
-    return (uint16_t)(machine->memory[address] + 256u * machine->memory[(uint16_t)(address + 1u)]);
+    return FORTH83_AS(uint16_t, machine->memory[address] + 256u * machine->memory[FORTH83_AS(uint16_t, address + 1u)]);
 }
 
 static inline void forth83_set_cell(forth83 *machine, uint16_t address, uint16_t x)
 {
-    machine->memory[address] = (uint8_t)x;
-    machine->memory[(uint16_t)(address + 1u)] = (uint8_t)(x / 256u);
+    machine->memory[address] = FORTH83_AS(uint8_t, x);
+    machine->memory[FORTH83_AS(uint16_t, address + 1u)] = FORTH83_AS(uint8_t, x / 256u);
 }
 
 /* How many cells the data stack has. */

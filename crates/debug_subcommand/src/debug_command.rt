@@ -9,7 +9,6 @@ use crate::cause::NotTraced;
 use block_buffers::Device;
 use debug_tracer::{DebugFault, debug};
 use inner_interpreter::{Input, Machine, Output};
-use memory::Memory;
 use std::alloc::Global;
 use subcommands::{Ended, end_with, print_out_of_memory, refuse, refuse_image, status_of};
 
@@ -53,11 +52,9 @@ pub fn do_debug<R: Input, W: Output, D: Device, T: Output>(
         Ok(image) => image,
         Err(fault) => return refuse_image(fault, writer),
     };
-    let Ok(mut memory) = Memory::with_front(alloc, image.bytes()) else {
+    let Ok(mut machine) = Machine::load(alloc, &image, device.count()) else {
         return print_out_of_memory(writer);
     };
-    let memory: &mut Memory = &mut memory;
-    let mut machine = Machine::load(alloc, memory, &image, device.count());
     let text = name.as_bytes();
     match debug(
         alloc,

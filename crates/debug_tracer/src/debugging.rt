@@ -17,6 +17,7 @@ use std::alloc::Global;
 ///
 /// `NotFound` and `ChainTooLong`: the search of the name, then the list of all headers, end so; `NotColon`: the word is no
 /// colon definition; `OutOfMemory`. Then nothing was done.
+#[tactic(auto, using(crate::proofs::Words::placeless))]
 pub fn debug<R: Input, W: Output, D: Device, T: Output>(
     alloc: Global,
     machine: &mut Machine,

@@ -9,7 +9,7 @@ ghost use Rattle.inner_interpreter.specs.Sent.{AppendsPart};
 ghost use Rattle.debug_tracer.specs.Lines.{blank, bar, line_end, name_if, name_at, place_text, values_text, returns_text, line};
 
 use dictionary::{header, header_at};
-use inner_interpreter::{EndFault, Machine, Output, send_all};
+use inner_interpreter::{EndFault, LentMachine, Output, send_all};
 use itoa::{Buffer, Integer};
 use memory::Memory;
 use stacks::Stack;
@@ -141,7 +141,7 @@ fn send_name<T: Output>(
 fn send_place<T: Output>(
     memory: &Memory,
     headers: &[u16],
-    machine: &Machine,
+    machine: &LentMachine,
     trace: &mut T,
 ) -> Result<(), EndFault>
     ensures ok { OnOk result (Appends (T.sent trace.old) (T.sent trace.new)
@@ -167,7 +167,7 @@ fn send_place<T: Output>(
 pub fn send_line<T: Output>(
     memory: &Memory,
     headers: &[u16],
-    machine: &Machine,
+    machine: &LentMachine,
     trace: &mut T,
 ) -> Result<(), EndFault>
     ensures ok { OnOk result (Appends (T.sent trace.old) (T.sent trace.new) (line (stored memory.now) headers.now machine.now.parts)) }

@@ -13,7 +13,7 @@ use dictionary::{
     ChainTooLong, HeaderList, HeadersFault, compilation_address, extent_end, headers_in_order,
     search,
 };
-use inner_interpreter::{EndFault, Extent, Machine, Output, Tracer};
+use inner_interpreter::{EndFault, Extent, LentMachine, Output, Tracer};
 use memory::{Memory, OutOfMemory};
 use std::alloc::Global;
 
@@ -37,7 +37,7 @@ impl Tracer for Word {
         self.thread
     }
 
-    fn trace<T: Output>(&self, machine: &Machine, trace: &mut T) -> Result<(), EndFault> {
+    fn trace<T: Output>(&self, machine: &LentMachine, trace: &mut T) -> Result<(), EndFault> {
         send_line(&self.memory, self.headers.as_slice(), machine, trace)
     }
 }

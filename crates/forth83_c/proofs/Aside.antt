@@ -5,7 +5,8 @@ use Rattle.machine.specs.Answer.{asked_by}
 use Rattle.forth83_c.specs.declared.record.Forth83.{Forth83}
 use Rattle.forth83_c.specs.declared.record.Forth83Aside.{Forth83Aside}
 use Rattle.forth83_c.specs.Calls.{HasCalled, HasResumed, line_cells, needs}
-use Rattle.forth83_c.specs.Kept.{IsRecord, marked, wait_of}
+use Rattle.machine.specs.Registers.{marked, wait_of}
+use Rattle.forth83_c.specs.Kept.{IsRecord}
 use Rattle.forth83_c.proofs.Same.{kept_state, kept_kept}
 
 needs_are : (asks asked token : ℕ) → line_cells (asked_by (wait_of asks asked token)) ≡ needs asks

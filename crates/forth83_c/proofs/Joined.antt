@@ -39,7 +39,7 @@ rounds_lifted front (suc n) w = ap (λ (v : World). next_by v (stops v)) (rounds
 
 counted_lifted : (front : List ℕ) (w : World) (o : Option Stop) (f : Forth83Faults) → counted_by (lifted front w) o f ≡ counted_by w o f
 counted_lifted front w None f = by_request (asked_by w.state.wait) where
-  by_request : (r : Option Request) → counted (event_by (lifted front w) r) f ≡ counted (event_by w r) f
+  by_request : (r : Option Request) → counted w.state.parts.ip (event_by (lifted front w) r) f ≡ counted w.state.parts.ip (event_by w r) f
   by_request None = refl
   by_request (Some r) = refl
 counted_lifted front w (Some x) f = refl

@@ -1,7 +1,6 @@
 -- A machine over lent memory is the same that a record keeps, and its memory comes back.
 use Rattle.std.proofs.Common.{rules, ◌≡◌, ◌++◌, ℕ, zero, suc, List, [], Bool, Option, Some, None, refl, sym, ap, ◌∙◌, subst}
 use Rattle.block_buffers.specs.Disks.{Disk}
-use Rattle.machine_parts.specs.Whole.{place_of}
 use Rattle.machine.specs.declared.act.Act.{Act}
 use Rattle.machine_parts.specs.declared.parts.Request.{Request}
 use Rattle.machine.specs.Answer.{Reply, answer_of, asked_by}
@@ -16,11 +15,6 @@ use Rattle.forth83_c.specs.declared.record.Forth83Faults.{Forth83Faults}
 use Rattle.forth83_c.specs.declared.stop.Stop.{Stop}
 use Rattle.forth83_c.specs.Driven.{at_0, begun, counted, counted_by, event_by, faults_of, is_returned, mark, HasStopped, IsDriven}
 
--- whose memory a place is
-pub named : (is_lent : Bool) (n m : ℕ) → place_of is_lent n ≡ Some m → n ≡ m
-unfolding place_of
-named is_lent n m e = search rules
-
 no_disk : Disk
 no_disk = record { blocks = []; coming = [] }
 
@@ -32,9 +26,9 @@ driven_stays calling f f' s s' typed unread shown limit left d =
 -- a round comes to the same wherever that is
 counted_at : (p : Option ℕ) (w : World) (o : Option RunStop) (f : Forth83Faults) → counted_by (world_at p w) o f ≡ counted_by w o f
 counted_at p w None f = by_request (asked_by w.state.wait) where
-  by_request : (r : Option Request) → counted (event_by (world_at p w) r) f ≡ counted (event_by w r) f
-  by_request None = ap (λ (x : State × Act). counted x.1.event f) (ticked_at p w.state.parts)
-  by_request (Some r) = ap (λ (x : State × Act). counted x.1.event f) (answer_at p w.state (served w.state r w.typed w.disk).reply)
+  by_request : (r : Option Request) → counted w.state.parts.ip (event_by (world_at p w) r) f ≡ counted w.state.parts.ip (event_by w r) f
+  by_request None = ap (λ (x : State × Act). counted w.state.parts.ip x.1.event f) (ticked_at p w.state.parts)
+  by_request (Some r) = ap (λ (x : State × Act). counted w.state.parts.ip x.1.event f) (answer_at p w.state (served w.state r w.typed w.disk).reply)
 counted_at p w (Some x) f = refl
 
 faults_at : (p : Option ℕ) (n : ℕ) (w : World) (f : Forth83Faults) → faults_of n (world_at p w) f ≡ faults_of n w f
@@ -87,7 +81,3 @@ pub answered_lent : (name : ℕ) (m m' s s' : State) (reply : Reply) → s.parts
 answered_lent name m m' s s' reply none from to is =
     let back : state_at None m ≡ s = ap (state_at None) from ∙ ap (λ p. state_at p s) (sym none) in
     to ∙ ap (state_at None) is ∙ sym (ap (λ (x : State × Act). x.0) (answer_at None m reply)) ∙ ap (λ (t : State). (answer_of t reply).0) back
-
--- memory is lent again to whom it was lent by
-pub lent_stays : (name : ℕ) (m m' s : State) → m ≡ state_at (Some name) s → m'.parts.place ≡ m.parts.place → m'.parts.place ≡ Some name
-lent_stays name m m' s from stays = stays ∙ ap (λ (t : State). t.parts.place) from

@@ -9,3 +9,4 @@ pub mod There
 pub mod Joined
 pub mod Aside
 pub mod Replying
+pub mod Standing

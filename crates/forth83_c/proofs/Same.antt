@@ -1,6 +1,6 @@
 -- A record keeps one state.
-use Rattle.std.proofs.Common.{rules, ◌≡◌, ℕ, ◌≤◌, List, [], Bool, None, length, arith, ap, sym, refl, ◌∙◌}
-use Rattle.std.specs.Prelude.{IsTrue, slice_range}
+use Rattle.std.proofs.Common.{rules, ◌≡◌, ℕ, ◌≤◌, List, [], Bool, Option, Some, None, length, arith, ap, sym, subst, refl, ◌∙◌}
+use Rattle.std.specs.Prelude.{IfSome, IsTrue, slice_range}
 use Rattle.memory.specs.Mirrored.{stored}
 use Rattle.dictionary.specs.Adding.{is_name}
 use Rattle.dictionary.specs.Header.{compilation_address}
@@ -11,7 +11,12 @@ use Rattle.machine.specs.State.{State}
 use Rattle.forth83_c.specs.declared.record.Forth83.{Forth83}
 use Rattle.forth83_c.specs.declared.record.Forth83Faults.{Forth83Faults}
 use Rattle.forth83_c.specs.Called.{HasFound}
-use Rattle.forth83_c.specs.Kept.{marked, wait_of, halt_of, entries_of, IsRecord, IsKept}
+use Rattle.machine.specs.Registers.{marked, wait_of, halt_of}
+use Rattle.forth83_c.specs.Kept.{entries_of, IsRecord, IsKept}
+
+-- what is so of what there is
+pub some_of : {A : Type 0} (o : Option A) (x : A) (P : A → Type 0) → o ≡ Some x → IfSome o P → P x
+some_of {A = A} o x P e h = subst (λ (v : Option A). IfSome v P) e h
 
 pub same_state : (k : Forth83) (s t : State) → IsKept k s → IsKept k t → s ≡ t
 same_state k s t h g = grind arith

@@ -13,8 +13,9 @@ use Rattle.see.specs.View.{viewed}
 use Rattle.see.specs.declared.refusal.SeeRefused.{SeeRefused}
 use Rattle.see.specs.declared.refusal.SeeRefused.TheVariants as sr
 use Rattle.forth83_c.specs.declared.record.Forth83.{Forth83}
-use Rattle.forth83_c.specs.declared.kept.Rest.{Rest}
-use Rattle.forth83_c.specs.Kept.{IsRecord, IsKept, state_of}
+use Rattle.machine.specs.declared.rest.Rest.{Rest}
+use Rattle.machine.specs.Registers.{state_of}
+use Rattle.forth83_c.specs.Kept.{IsRecord, IsKept}
 use Rattle.forth83_c.specs.Called.{Tells}
 use Rattle.forth83_c.specs.Looked.{HasExtent, HasListed, HasSeen, HasViewed, WhyNotSeen, by_refusal}
 use Rattle.forth83_c.proofs.Same.{kept_state, kept_kept}

@@ -115,7 +115,7 @@ TellsByCode Why k code = (status : Status) × (code ≡ code_of status) × Tells
 
 -- no fault was met, and no word is called
 pub record HasBegun (kept : Forth83) : Type 0 where
-  pub faults : kept.faults ≡ record { count = 0; last = 0 }
+  pub faults : kept.faults ≡ record { count = 0; last = 0; ip = 0 }
   pub no_call : kept.is_called ≡ 0
 
 -- the machine that the record kept was driven to that which it keeps now, by the typed bytes and for at most `limit` ticks;
@@ -146,7 +146,7 @@ pub record HasAnswered (old new : Forth83) (reply : Reply) : Type 0 where
   pub goes : before.halt ≡ None
   pub fits : is_answer (asked_by before.wait) reply ≡ true
   pub is : after ≡ (answer_of before reply).0
-  pub faults : new.faults ≡ counted (answer_of before reply).1.event old.faults
+  pub faults : new.faults ≡ counted before.parts.ip (answer_of before reply).1.event old.faults
   pub call : SameCall old new
 
 -- the machine that the record kept ran, and keeps what it is where this word is entered

@@ -9,7 +9,8 @@ use Rattle.forth83_c.specs.declared.record.Forth83.{Forth83}
 use Rattle.forth83_c.specs.declared.status.Status.{Status}
 use Rattle.forth83_c.specs.declared.status.Status.TheVariants as status
 use Rattle.forth83_c.specs.Called.{code_of}
-use Rattle.forth83_c.specs.Kept.{IsKept, IsRecord, marked, wait_of}
+use Rattle.machine.specs.Registers.{marked, wait_of}
+use Rattle.forth83_c.specs.Kept.{IsKept, IsRecord}
 
 -- what is kept aside: the place in the thread, the request, the cells that it needs, and the return stack
 pub record Aside : Type 0 where

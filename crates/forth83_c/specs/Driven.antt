@@ -27,11 +27,11 @@ use Rattle.forth83_c.specs.declared.stop.Stop.TheVariants.{Halted, Limit, Room, 
 abbrev pub begun : State → List ℕ → Disk → ℕ → World
 begun s typed disk limit = record { state = s; typed = typed; disk = disk; shown = []; left = limit }
 
--- a fault is counted, modulo 65,536, whether a fault thread handles it or not
-abbrev pub counted : Event → Forth83Faults → Forth83Faults
-counted (event.Fault f) faults = record { count = wrap (faults.count + 1); last = f }
-counted (event.Halt (cause.Fault f)) faults = record { count = wrap (faults.count + 1); last = f }
-counted _ faults = faults
+-- a fault is counted, modulo 65,536, whether a fault thread handles it or not, with ip before the move that met it
+abbrev pub counted : (ip : ℕ) → Event → Forth83Faults → Forth83Faults
+counted ip (event.Fault f) faults = record { count = wrap (faults.count + 1); last = f; ip = ip }
+counted ip (event.Halt (cause.Fault f)) faults = record { count = wrap (faults.count + 1); last = f; ip = ip }
+counted ip _ faults = faults
 
 -- what a round comes to
 abbrev pub event_by : World → Option Request → Event
@@ -39,7 +39,7 @@ event_by w None = (ticked w.state.parts).1.event
 event_by w (Some r) = (answer_of w.state (served w.state r w.typed w.disk).reply).1.event
 
 abbrev pub counted_by : World → Option RunStop → Forth83Faults → Forth83Faults
-counted_by w None faults = counted (event_by w (asked_by w.state.wait)) faults
+counted_by w None faults = counted w.state.parts.ip (event_by w (asked_by w.state.wait)) faults
 counted_by w (Some _) faults = faults
 
 -- the faults of n rounds are counted

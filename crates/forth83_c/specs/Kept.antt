@@ -1,40 +1,14 @@
 -- A machine's state, as a record keeps it.
-use Rattle.std.specs.Prelude.{◌≡◌, ℕ, ◌≤◌, ◌==◌, nat_le, List, map, take, Bool, true, ◌&&◌, Option, Some, None, if◌then◌else◌, slice_range}
+use Rattle.std.specs.Prelude.{◌≡◌, ℕ, ◌≤◌, ◌==◌, nat_le, List, map, take, Bool, true, ◌&&◌, None, slice_range}
 use Rattle.std.specs.List.{list_all}
 use Rattle.block_buffers.specs.declared.entry.Entry.{Entry}
 use Rattle.block_buffers.specs.Entries.{AreBuffers}
 use Rattle.memory.specs.Mirrored.{stored}
-use Rattle.machine_parts.specs.declared.parts.Request.{Request}
-use Rattle.machine_parts.specs.declared.parts.Request.TheVariants.{Key, Line, Read, Write}
-use Rattle.machine.specs.declared.act.Cause.{Cause}
-use Rattle.machine.specs.declared.act.Cause.TheVariants.{Bye, InputEnded, InputFault, Fault}
 use Rattle.machine.specs.State.{State}
-use Rattle.forth83_c.specs.declared.kept.Rest.{Rest}
+use Rattle.machine.specs.Registers.{halt_of, marked, wait_of}
 use Rattle.forth83_c.specs.declared.record.Forth83.{Forth83}
 use Rattle.forth83_c.specs.declared.record.Forth83Aside.{Forth83Aside}
 use Rattle.forth83_c.specs.declared.record.Forth83Buffer.{Forth83Buffer}
-
--- a number that exists where its mark is 1
-abbrev pub marked : (has x : ℕ) → Option ℕ
-marked has x = if has == 1 then Some x else None
-
--- the request that waits, with its token, by what is asked
-abbrev pub wait_of : (asks asked token : ℕ) → Option (Request × ℕ)
-wait_of asks asked token =
-    if asks == 1 then Some (Key, token)
-    else if asks == 2 then Some (Line asked, token)
-    else if asks == 3 then Some (Read asked, token)
-    else if asks == 4 then Some (Write asked, token)
-    else None
-
--- why the machine halted
-abbrev pub halt_of : (halts fault : ℕ) → Option Cause
-halt_of halts fault =
-    if halts == 1 then Some Bye
-    else if halts == 2 then Some InputEnded
-    else if halts == 3 then Some InputFault
-    else if halts == 4 then Some (Fault fault)
-    else None
 
 -- the entry that a buffer's record says
 abbrev pub entry_of : Forth83Buffer → Entry
@@ -95,20 +69,3 @@ pub record SameCall (old new : Forth83) : Type 0 where
 pub record SameBeside (old new : Forth83) : Type 0 where
   pub faults : new.faults ≡ old.faults
   pub call : SameCall old new
-
--- the state of these bytes of memory and all else of a machine
-abbrev pub state_of : List ℕ → Rest → State
-state_of bytes r = record {
-  parts = record {
-    memory = bytes;
-    values = r.values;
-    returns = r.returns;
-    ip = r.ip;
-    pending = r.pending;
-    buffers = r.buffers;
-    block_count = r.block_count;
-    place = None;
-  };
-  wait = r.wait;
-  halt = r.halt;
-}

@@ -7,6 +7,7 @@ ghost use Rattle.machine_parts.specs.declared.parts.Request.TheVariants as reque
 ghost use Rattle.machine.specs.Answer.{answer_of, asked_by, is_typed};
 ghost use Rattle.inner_interpreter.specs.Lines.{line_reply};
 ghost use Rattle.machine.specs.Met.{AreUnmet};
+ghost use Rattle.machine.specs.Onward.{ran_from};
 ghost use Rattle.machine.specs.Tick.{Runs, ran, ticked};
 ghost use Rattle.inner_interpreter.specs.Worlds.{rounds_left};
 ghost use Rattle.forth83_c.specs.Driven.{IsDriven, DrivesOn, StepsOn, HasStopped, at_0, counted, is_returned, least_room, told, told_by};
@@ -15,11 +16,14 @@ use crate::lines::whole_line;
 use crate::record::Forth83Faults;
 use crate::showing::{least_room, show};
 use crate::stop::Stop;
-use inner_interpreter::{Act, Answer, Cause, Event, Extent, Machine};
+use inner_interpreter::{Act, Answer, Cause, Event, Extent, LentMachine, Stretch};
 use machine_parts::parts::Request;
 
 /// Where a word that was called comes to when it has returned.
 const AT_0: Extent = Extent { from: 0, end: 1 };
+
+/// No address.
+const NOWHERE: Extent = Extent { from: 0, end: 0 };
 
 /// How far a call is: how many typed bytes were read and how many bytes shown, how many ticks are left, and the faults so far.
 #[derive(Clone, Copy, Debug)]
@@ -30,51 +34,54 @@ pub struct Course {
     pub faults: Forth83Faults,
 }
 
-/// The faults with this one.
-fn with_fault(faults: Forth83Faults, fault: u16) -> Forth83Faults
+/// The faults with this one, which was met at `ip`.
+fn with_fault(faults: Forth83Faults, ip: u16, fault: u16) -> Forth83Faults
     ensures count { result.count ≡ wrap (faults.count + 1) }
     ensures last { result.last ≡ fault }
+    ensures ip { result.ip ≡ ip }
 {
     Forth83Faults {
         count: faults.count.wrapping_add(1),
         last: fault,
+        ip,
     }
 }
 
-/// The faults with that of an act, if it comes to one.
-pub fn counted(event: Event, faults: Forth83Faults) -> Forth83Faults
-    ensures { result ≡ counted event faults }
+/// The faults with that of a move that began at `ip`, if it comes to one.
+pub fn counted(ip: u16, event: Event, faults: Forth83Faults) -> Forth83Faults
+    ensures { result ≡ counted ip event faults }
 {
     match event {
-        Event::Fault(fault) => with_fault(faults, fault),
-        Event::Halt(Cause::Fault(fault)) => with_fault(faults, fault),
+        Event::Fault(fault) => with_fault(faults, ip, fault),
+        Event::Halt(Cause::Fault(fault)) => with_fault(faults, ip, fault),
         _ => faults,
     }
 }
 
 /// Whether a word that was called has returned.
 #[tactic(auto, unfolding(crate::specs::Driven::is_returned))]
-fn is_returned(machine: &Machine) -> bool
+fn is_returned(machine: &LentMachine) -> bool
     ensures { result ≡ is_returned machine.now }
 {
     let goes = machine.halted().is_none() && machine.asked().is_none();
     goes && machine.pending().is_none() && machine.ip() == 0 && machine.returns().depth() == 0
 }
 
-/// Ticks up to the first act that isn't quiet, and during a call up to where a token at address 0 comes next: how many, and the last
-/// one's act.
-fn ticks(machine: &mut Machine, left: u64, calling: bool) -> (u64, Act)
+/// Ticks up to the first act that isn't quiet, and during a call up to where a token at address 0 comes next: how many, the last one's
+/// act, and `ip` before it.
+fn ticks(machine: &mut LentMachine, left: u64, calling: bool) -> Stretch
     requires runs { Runs machine.old }
     requires some { 0 < left }
-    ensures ran { (result.0, machine.new, result.1) ≡ ran 0 (if calling then result.0 else left) machine.old.parts }
-    ensures some { 0 < result.0 }
-    ensures most { result.0 ≤ left }
-    ensures unmet { calling ≡ true → AreUnmet at_0 (result.0 - 1) (ticked machine.old.parts).0.parts }
+    ensures ran { (result.count, machine.new, result.act) ≡ ran 0 result.count machine.old.parts }
+    ensures from { result.from ≡ (ran_from 0 result.count machine.old.parts).0 }
+    ensures some { 0 < result.count }
+    ensures most { result.count ≤ left }
+    ensures unmet { calling ≡ true → AreUnmet at_0 (result.count - 1) (ticked machine.old.parts).0.parts }
 {
     if calling {
         return machine.ticks_onward(left, AT_0);
     }
-    machine.ticks(left).unwrap()
+    machine.ticks_onward(left, NOWHERE)
 }
 
 /// The bytes from a place on.
@@ -87,7 +94,7 @@ fn behind(bytes: &[u8], at: usize) -> &[u8]
 
 /// Ticks as `ticks` makes them; why the call ends there, if what the last one shows does not fit.
 fn tick_on(
-    machine: &mut Machine,
+    machine: &mut LentMachine,
     out: &mut [u8],
     course: &mut Course,
     calling: bool,
@@ -108,17 +115,17 @@ fn tick_on(
     ensures fewer { course.new.left < course.old.left }
     ensures len { length out.new ≡ length out.old }
 {
-    let (count, act) = ticks(machine, course.left, calling);
-    course.left -= count;
-    course.faults = counted(act.event, course.faults);
-    let (place, stop) = show(machine, out, course.shown, act.shown);
+    let made = ticks(machine, course.left, calling);
+    course.left -= made.count;
+    course.faults = counted(made.from, made.act.event, course.faults);
+    let (place, stop) = show(machine, out, course.shown, made.act.shown);
     course.shown = place;
     stop
 }
 
 /// A key from the typed bytes.
 fn answer_key(
-    machine: &mut Machine,
+    machine: &mut LentMachine,
     typed: &[u8],
     out: &mut [u8],
     course: &mut Course,
@@ -144,17 +151,18 @@ fn answer_key(
     if course.read >= typed.len() {
         return Some(Stop::Typed);
     }
+    let ip = machine.ip();
     let act = machine.answer(Answer::Key(typed[course.read])).unwrap();
     let (place, stop) = show(machine, out, course.shown, act.shown);
     course.shown = place;
-    course.faults = counted(act.event, course.faults);
+    course.faults = counted(ip, act.event, course.faults);
     course.read += 1;
     stop
 }
 
 /// Answers with a line; no byte and no return are the end of input.
 #[tactic(auto, using(inner_interpreter::proofs::Lining::line_fits, crate::proofs::Taking::reply_none, crate::proofs::Taking::reply_some, crate::proofs::Taking::reply_returned))]
-fn give_line(machine: &mut Machine, bytes: &[u8], returned: bool, _n: u16) -> Act
+fn give_line(machine: &mut LentMachine, bytes: &[u8], returned: bool, _n: u16) -> Act
     requires waits { asked_by machine.old.wait ≡ Some (request.Line _n) }
     requires goes { machine.old.halt ≡ None }
     requires typed { list_all is_typed bytes.now ≡ true }
@@ -182,7 +190,7 @@ fn give_line(machine: &mut Machine, bytes: &[u8], returned: bool, _n: u16) -> Ac
 
 /// A line from the typed bytes.
 fn answer_line(
-    machine: &mut Machine,
+    machine: &mut LentMachine,
     typed: &[u8],
     out: &mut [u8],
     course: &mut Course,
@@ -210,10 +218,11 @@ fn answer_line(
     let Some(line) = whole_line(unread, n) else {
         return Some(Stop::Typed);
     };
+    let ip = machine.ip();
     let act = give_line(machine, &unread[..line.count], line.returned, n);
     let (place, stop) = show(machine, out, course.shown, act.shown);
     course.shown = place;
-    course.faults = counted(act.event, course.faults);
+    course.faults = counted(ip, act.event, course.faults);
     course.read += line.next;
     stop
 }
@@ -222,7 +231,7 @@ fn answer_line(
 /// is none.
 #[tactic(auto, using(inner_interpreter::proofs::Running::asked_none))]
 fn step(
-    machine: &mut Machine,
+    machine: &mut LentMachine,
     typed: &[u8],
     out: &mut [u8],
     course: &mut Course,
@@ -267,7 +276,7 @@ fn step(
 /// returned: how far that is, and why it ended there.
 #[tactic(auto, using(crate::proofs::Bytes::beyond_both))]
 pub fn drive(
-    machine: &mut Machine,
+    machine: &mut LentMachine,
     typed: &[u8],
     out: &mut [u8],
     limit: u64,

@@ -1,81 +1,21 @@
 //! All of a machine but its memory out of its record, and back.
 
 ghost use Rattle.std.specs.Prelude.{◌≡◌, [], ◌≤◌, ◌↔◌, length, map, take, true, MatchOption, IsTrue, slice_range};
-ghost use Rattle.std.specs.List.{list_all};
-ghost use Rattle.block_buffers.specs.Entries.{AreBuffers};
+ghost use Rattle.std.specs.List.{list_all, list_any};
+ghost use Rattle.block_buffers.specs.Entries.{AreBuffers, is_in};
+ghost use Rattle.block_buffers.specs.Tests.{can_stand, slots_differ};
 ghost use Rattle.memory.specs.Mirrored.{stored};
-ghost use Rattle.forth83_c.specs.Kept.{marked, wait_of, halt_of, entry_of, entries_of, has_marks, HasNumbers, IsAside, IsRecord, IsKept, SameBeside, state_of};
+ghost use Rattle.machine.specs.Registers.{marked, wait_of, halt_of, state_of};
+ghost use Rattle.forth83_c.specs.Kept.{entry_of, entries_of, has_marks, HasNumbers, IsAside, IsRecord, IsKept, SameBeside};
 
 use crate::record::{Forth83, Forth83Aside, Forth83Buffer};
 use arrayvec::ArrayVec;
 use block_buffers::{Buffers, Entry};
-use inner_interpreter::Cause;
-use machine_parts::parts::Request;
+use machine::{Registers, Rest, halt_numbers, halt_of, mark, marked, wait_numbers, wait_of};
 use stacks::Stack;
 
 /// The layout of records.
 pub const ABI: u32 = 3;
-
-/// All of a machine but its memory, and but the table of names that its searches fill.
-#[derive(Drop)]
-pub struct Rest {
-    pub values: Stack,
-    pub returns: Stack,
-    pub ip: u16,
-    pub pending: Option<u16>,
-    pub buffers: Buffers,
-    pub block_count: u32,
-    pub wait: Option<(Request, u16)>,
-    pub halt: Option<Cause>,
-}
-
-impl Rest {
-    /// A rest with empty stacks, to leave in the place of one that is moved.
-    pub fn blank() -> Rest
-        ensures { (result.values ≡ []) × (result.returns ≡ []) }
-    {
-        Rest {
-            values: Stack::new(),
-            returns: Stack::new(),
-            ip: 0,
-            pending: None,
-            buffers: Buffers::new(2),
-            block_count: 0,
-            wait: None,
-            halt: None,
-        }
-    }
-}
-
-fn marked(has: u16, x: u16) -> Option<u16>
-    ensures { result ≡ marked has x }
-{
-    if has == 1 { Some(x) } else { None }
-}
-
-fn wait_of(asks: u16, asked: u16, token: u16) -> Option<(Request, u16)>
-    ensures { result ≡ wait_of asks asked token }
-{
-    match asks {
-        1 => Some((Request::Key, token)),
-        2 => Some((Request::Line { n: asked }, token)),
-        3 => Some((Request::Read { block: asked }, token)),
-        4 => Some((Request::Write { block: asked }, token)),
-        _ => None,
-    }
-}
-
-fn halt_of(halts: u16, fault: u16) -> Option<Cause>
-    ensures { result ≡ halt_of halts fault }
-{
-    match halts {
-        1 => Some(Cause::Bye),
-        2 => Some(Cause::InputEnded),
-        3 => Some(Cause::InputFault),
-        4 => Some(Cause::Fault(fault)),
-        _ => None,
-    }
-}
 
 fn entry_of(b: Forth83Buffer) -> Entry
     ensures { result ≡ entry_of b }
@@ -167,11 +107,62 @@ fn buffers_of(kept: &Forth83) -> Option<Buffers>
     Buffers::from_entries(entries.as_slice())
 }
 
+/// Whether a buffer's record can be one of so many.
+fn can_stand(buffer: &Forth83Buffer, count: usize) -> bool
+    ensures { result ≡ can_stand count (entry_of buffer.now) }
+{
+    usize::from(buffer.slot) < count && (buffer.updated != 1 || buffer.has_block == 1)
+}
+
+/// Whether each of these records can be one of so many buffers.
+fn can_all_stand(buffers: &[Forth83Buffer], count: usize) -> bool
+    ensures { result ≡ list_all (can_stand count) (map entry_of buffers.now) }
+{
+    match buffers {
+        [] => true,
+        [buffer, rest @ ..] => can_stand(buffer, count) && can_all_stand(rest, count),
+    }
+}
+
+/// Whether one of the records has the slot.
+fn has_slot(buffers: &[Forth83Buffer], slot: u16) -> bool
+    ensures { result ≡ list_any (is_in slot) (map entry_of buffers.now) }
+{
+    match buffers {
+        [] => false,
+        [buffer, rest @ ..] => buffer.slot == slot || has_slot(rest, slot),
+    }
+}
+
+/// Whether no slot occurs twice.
+#[tactic(auto, unfolding(block_buffers::specs::Tests::slots_differ))]
+fn slots_differ(buffers: &[Forth83Buffer]) -> bool
+    ensures { result ≡ slots_differ (map entry_of buffers.now) }
+{
+    match buffers {
+        [] => true,
+        [buffer, rest @ ..] => !has_slot(rest, buffer.slot) && slots_differ(rest),
+    }
+}
+
+/// Whether these records are such as buffers are.
+#[tactic(auto, using(crate::proofs::Standing::tested))]
+fn are_buffers(buffers: &[Forth83Buffer]) -> bool
+    ensures { IsTrue result ↔ AreBuffers (map entry_of buffers.now) }
+{
+    let count = buffers.len();
+    (2 <= count && count <= 16) && (can_all_stand(buffers, count) && slots_differ(buffers))
+}
+
 /// Whether a record is a machine's.
 pub fn is_record(kept: &Forth83) -> bool
     ensures { IsTrue result ↔ IsRecord kept.now }
 {
-    buffers_of(kept).is_some()
+    if !has_numbers(kept) {
+        return false;
+    }
+    let buffers = &kept.buffers[..usize::from(kept.buffer_count)];
+    have_marks(buffers) && are_buffers(buffers)
 }
 
 /// Keeps these buffers.
@@ -192,52 +183,19 @@ pub fn rest_of(kept: &Forth83) -> Option<Rest>
     ensures { MatchOption result (¬ IsRecord kept.now) (λ r. IsKept kept.now (state_of (stored kept.now.memory) r)) }
 {
     let buffers = buffers_of(kept)?;
-    Some(Rest {
+    let registers = Registers {
         values: stack_of(&kept.values, kept.values_top),
         returns: stack_of(&kept.returns, kept.returns_top),
         ip: kept.ip,
         pending: marked(kept.has_pending, kept.pending),
         buffers,
-        block_count: kept.block_count,
         wait: wait_of(kept.asks, kept.asked, kept.token),
         halt: halt_of(kept.halts, kept.fault),
+    };
+    Some(Rest {
+        registers,
+        block_count: kept.block_count,
     })
-}
-
-fn wait_told(wait: Option<(Request, u16)>) -> (u16, u16, u16)
-    ensures wait { wait_of result.0 result.1 result.2 ≡ wait }
-    ensures most { result.0 ≤ 4 }
-{
-    match wait {
-        None => (0, 0, 0),
-        Some((Request::Key, token)) => (1, 0, token),
-        Some((Request::Line { n }, token)) => (2, n, token),
-        Some((Request::Read { block }, token)) => (3, block, token),
-        Some((Request::Write { block }, token)) => (4, block, token),
-    }
-}
-
-fn halt_told(halt: Option<Cause>) -> (u16, u16)
-    ensures halt { halt_of result.0 result.1 ≡ halt }
-    ensures most { result.0 ≤ 4 }
-{
-    match halt {
-        None => (0, 0),
-        Some(Cause::Bye) => (1, 0),
-        Some(Cause::InputEnded) => (2, 0),
-        Some(Cause::InputFault) => (3, 0),
-        Some(Cause::Fault(fault)) => (4, fault),
-    }
-}
-
-fn marked_told(x: Option<u16>) -> (u16, u16)
-    ensures value { marked result.0 result.1 ≡ x }
-    ensures most { result.0 ≤ 1 }
-{
-    match x {
-        None => (0, 0),
-        Some(x) => (1, x),
-    }
 }
 
 /// Keeps a stack, and answers where its top is.
@@ -259,21 +217,24 @@ pub fn keep(rest: Rest, kept: &mut Forth83)
     ensures memory { kept.new.memory ≡ kept.old.memory }
 {
     let Rest {
+        registers,
+        block_count,
+    } = rest;
+    let Registers {
         values,
         returns,
         ip,
         pending,
         buffers,
-        block_count,
         wait,
         halt,
-    } = rest;
+    } = registers;
     keep_buffers(&buffers, &mut kept.buffers);
     let values_top = keep_stack(values, &mut kept.values);
     let returns_top = keep_stack(returns, &mut kept.returns);
-    let (has_pending, pending) = marked_told(pending);
-    let (asks, asked, token) = wait_told(wait);
-    let (halts, fault) = halt_told(halt);
+    let (has_pending, pending) = mark(pending);
+    let (asks, asked, token) = wait_numbers(wait);
+    let (halts, fault) = halt_numbers(halt);
     kept.abi = ABI;
     kept.block_count = block_count;
     kept.ip = ip;

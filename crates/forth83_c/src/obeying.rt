@@ -12,13 +12,18 @@ use crate::no_blocks::NoBlocks;
 use crate::record::Forth83;
 use crate::replies::Replies;
 use crate::status::Status;
-use inner_interpreter::Machine;
+use inner_interpreter::LentMachine;
 use name_index::NameIndex;
 use serving::{Command, command_of, obey_in_place};
 use std::alloc::Global;
 
 /// Obeys a request over no blocks.
-pub fn obey(alloc: Global, machine: &mut Machine, command: Command<'_>, replies: &mut Replies<'_>)
+pub fn obey(
+    alloc: Global,
+    machine: &mut LentMachine,
+    command: Command<'_>,
+    replies: &mut Replies<'_>,
+)
     requires { replies.old.taken.bytes ≡ [] }
     ensures stays { machine.new.parts.place ≡ machine.old.parts.place }
     ensures same { replies.new.room.ghost_name ≡ replies.old.room.ghost_name }
@@ -47,14 +52,23 @@ pub fn serve(
     ensures silent { result ≡ status.NoMachine → room.new ≡ room.old }
     ensures untold { result ≡ status.NoMachine → size.new ≡ size.old }
 {
-    let Some(mut rest) = rest_of(kept) else {
+    let Some(rest) = rest_of(kept) else {
         return Status::NoMachine;
     };
     let index = NameIndex::new(alloc);
     let command = command_of(kind, body);
-    let obeyed = obey_lent(alloc, &mut kept.memory, &mut rest, index, command, room);
+    let mut left = None;
+    let obeyed = obey_lent(
+        alloc,
+        &mut kept.memory,
+        rest,
+        &mut left,
+        index,
+        command,
+        room,
+    );
     let replied = obeyed.size;
-    keep(rest, kept);
+    keep(left.unwrap(), kept);
     *size = replied;
     if room.len() < replied {
         return Status::LongReply;

@@ -25,6 +25,8 @@ pub struct Forth83Faults {
     pub count: u16,
     /// The last of them; 0 where there is none.
     pub last: u16,
+    /// The address of the next token in the thread, before the tick or the answer that met it.
+    pub ip: u16,
 }
 
 /// Where a machine was when a word was called: what is kept of it while that word runs.

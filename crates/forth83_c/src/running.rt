@@ -6,23 +6,22 @@ ghost use Rattle.machine.specs.State.{start};
 ghost use Rattle.forth83_c.specs.declared.status.Status.TheVariants as status;
 ghost use Rattle.machine.specs.Answer.{seen};
 ghost use Rattle.forth83_c.specs.Called.{AsksPage, HasAnswered, HasBegun, HasEntered, HasPopped, HasPushed, HasRun, HasSaved, Tells, TellsMachine, WhyNotAnswered, WhyNotEntered, WhyNoPage, WhyNotPushed, WhyNotPopped, WhyNotSaved, code_of};
-ghost use Rattle.forth83_c.specs.Kept.{IsAside, IsKept, SameBeside, state_of};
+ghost use Rattle.machine.specs.Registers.{state_of};
+ghost use Rattle.forth83_c.specs.Kept.{IsAside, IsKept, SameBeside};
 ghost use Rattle.memory.specs.Bytes.{front_put, zeros};
 ghost use Rattle.memory.specs.Mirrored.{stored};
 
 use crate::driving::counted;
-use crate::kept::{Rest, is_record, keep, keep_stack, rest_of, stack_of};
+use crate::kept::{is_record, keep, keep_stack, rest_of, stack_of};
 use crate::lent::{answer_lent, drive_lent};
 use crate::record::{Forth83, Forth83Aside, Forth83End, Forth83Faults};
 use crate::status::Status;
-use block_buffers::Buffers;
 use image_loader::{BorrowedImage, ImageFault, write_into};
 use inner_interpreter::Answer;
-use machine::saved_in_place;
+use machine::{Rest, saved_in_place};
 use machine_parts::parts::Request;
 use memory::Memory;
 use name_index::NameIndex;
-use stacks::Stack;
 use std::alloc::Global;
 
 /// Makes memory zero.
@@ -56,26 +55,21 @@ fn hold(memory: &mut Memory, bytes: &[u8])
 fn rest_at_start(image: &BorrowedImage<'_>, block_count: u32) -> Rest
     ensures { state_of (front_put image.now.bytes zeros) result ≡ start image.now block_count }
 {
-    Rest {
-        values: Stack::new(),
-        returns: Stack::new(),
-        ip: 0,
-        pending: Some(image.entry()),
-        buffers: Buffers::new(image.buffers()),
-        block_count,
-        wait: None,
-        halt: None,
-    }
+    Rest::at_start(image.entry(), image.buffers(), block_count)
 }
 
 /// No fault was met, and no word is called.
 fn begin(kept: &mut Forth83)
-    ensures faults { kept.new.faults ≡ record { count = 0; last = 0 } }
+    ensures faults { kept.new.faults ≡ record { count = 0; last = 0; ip = 0 } }
     ensures called { kept.new.is_called ≡ 0 }
     ensures aside { IsAside kept.new.aside }
     ensures memory { kept.new.memory ≡ kept.old.memory }
 {
-    kept.faults = Forth83Faults { count: 0, last: 0 };
+    kept.faults = Forth83Faults {
+        count: 0,
+        last: 0,
+        ip: 0,
+    };
     kept.is_called = 0;
     kept.aside = Forth83Aside {
         ip: 0,
@@ -145,15 +139,17 @@ pub fn run(
     if shown.is_empty() {
         return Status::ShortRoom;
     }
-    let Some(mut rest) = rest_of(kept) else {
+    let Some(rest) = rest_of(kept) else {
         return Status::NoMachine;
     };
     let index = NameIndex::new(alloc);
     let calling = kept.is_called == 1;
     let faults = kept.faults;
+    let mut left = None;
     let driven = drive_lent(
         &mut kept.memory,
-        &mut rest,
+        rest,
+        &mut left,
         index,
         typed,
         shown,
@@ -163,7 +159,7 @@ pub fn run(
     );
     let course = driven.course;
     let stop = driven.stop;
-    keep(rest, kept);
+    keep(left.unwrap(), kept);
     kept.faults = course.faults;
     let span = stop.span();
     *end = Forth83End {
@@ -185,20 +181,22 @@ pub fn answer(alloc: Global, kept: &mut Forth83, answer: Answer<'_>) -> Status
     ensures known { result ≢ status.OutOfMemory }
     ensures stays { result ≢ status.Done → kept.new ≡ kept.old }
 {
-    let Some(mut rest) = rest_of(kept) else {
+    let Some(rest) = rest_of(kept) else {
         return Status::NoMachine;
     };
-    if rest.halt.is_some() {
+    if rest.registers.halt.is_some() {
         return Status::Halted;
     }
-    if !answer.fits(rest.wait) {
+    if !answer.fits(rest.registers.wait) {
         return Status::NotAsked;
     }
+    let ip = rest.registers.ip;
     let index = NameIndex::new(alloc);
-    let answered = answer_lent(&mut kept.memory, &mut rest, index, answer);
+    let mut left = None;
+    let answered = answer_lent(&mut kept.memory, rest, &mut left, index, answer);
     let event = answered.event;
-    keep(rest, kept);
-    kept.faults = counted(event, kept.faults);
+    keep(left.unwrap(), kept);
+    kept.faults = counted(ip, event, kept.faults);
     Status::Done
 }
 
@@ -213,15 +211,15 @@ pub fn enter(kept: &mut Forth83, word: u16) -> Status
     let Some(mut rest) = rest_of(kept) else {
         return Status::NoMachine;
     };
-    if rest.halt.is_some() {
+    if rest.registers.halt.is_some() {
         return Status::Halted;
     }
-    if rest.wait.is_some() {
+    if rest.registers.wait.is_some() {
         return Status::Waiting;
     }
-    rest.returns.clear();
-    rest.ip = 0;
-    rest.pending = Some(word);
+    rest.registers.returns.clear();
+    rest.registers.ip = 0;
+    rest.registers.pending = Some(word);
     keep(rest, kept);
     Status::Done
 }
@@ -241,10 +239,10 @@ pub fn asked_page(kept: &Forth83, page: &mut [u8]) -> Status
     let Some(rest) = rest_of(kept) else {
         return Status::NoMachine;
     };
-    match rest.wait {
+    match rest.registers.wait {
         Some((Request::Write { block }, _)) => {
-            let slot = rest.buffers.slot_of(block);
-            let at = rest.buffers.address_of(slot);
+            let slot = rest.registers.buffers.slot_of(block);
+            let at = rest.registers.buffers.address_of(slot);
             page.copy_from_slice(kept.memory.page(at));
             Status::Done
         }
@@ -322,7 +320,7 @@ pub fn save(kept: &Forth83, entry: u16, file: &mut [u8], size: &mut usize) -> St
     let Some(rest) = rest_of(kept) else {
         return Status::NoMachine;
     };
-    let Ok(image) = saved_in_place(&kept.memory, &rest.buffers, entry) else {
+    let Ok(image) = saved_in_place(&kept.memory, &rest.registers.buffers, entry) else {
         return Status::BadSize;
     };
     match write_into(&image, file) {

@@ -7,7 +7,7 @@ ghost use Rattle.machine.specs.State.{State};
 ghost use Rattle.forth83_c.specs.Driven.{HasStopped, least_room, told_by};
 
 use crate::stop::Stop;
-use inner_interpreter::{Machine, Shown};
+use inner_interpreter::{LentMachine, Shown};
 use machine_parts::parts::Span;
 
 /// Room for what any act shows, and as much for what was shown before it.
@@ -37,7 +37,7 @@ pub fn put(out: &mut [u8], at: usize, bytes: &[u8]) -> usize
 
 /// Puts bytes of memory.
 #[tactic(auto, using(crate::proofs::Bytes::append_both, crate::proofs::Bytes::beyond_both))]
-fn put_span(machine: &Machine, out: &mut [u8], at: usize, span: Span) -> usize
+fn put_span(machine: &LentMachine, out: &mut [u8], at: usize, span: Span) -> usize
     requires { at + span.len ≤ length out.old }
     ensures front { take result out.new ≡ take at out.old ++ bytes machine.now.parts.memory span.at span.len }
     ensures beyond { drop result out.new ≡ drop result out.old }
@@ -51,7 +51,7 @@ fn put_span(machine: &Machine, out: &mut [u8], at: usize, span: Span) -> usize
 
 /// Puts what a move showed, or answers the bytes that do not fit: the place after what is put.
 #[tactic(auto, using(crate::proofs::Bytes::append_both, crate::proofs::Bytes::beyond_both), unfolding(inner_interpreter::specs::Moves::shown_bytes, crate::specs::Driven::least_room))]
-pub fn show(machine: &Machine, out: &mut [u8], at: usize, shown: Shown) -> (usize, Option<Stop>)
+pub fn show(machine: &LentMachine, out: &mut [u8], at: usize, shown: Shown) -> (usize, Option<Stop>)
     requires inside { at ≤ length out.old }
     requires room { least_room (length out.old) ≤ length out.old - at }
     ensures front { told_by result.1 machine.now.parts.memory (take result.0 out.new)

@@ -21,3 +21,4 @@ mod Making
 mod Givens
 mod Tying
 pub mod Places
+pub mod Anywhere

@@ -2,7 +2,7 @@
 use Rattle.std.specs.Prelude.{◌≡◌, ◌⊎◌, true, ℕ, zero, suc, List, [], ◌∷◌, ◌++◌, Option, None, Bool, is_none, IsSome, ◌&&◌, if◌then◌else◌}
 use Rattle.std.specs.Io.KnownBytes.{Appends}
 use Rattle.block_buffers.specs.Disks.{Disk}
-use Rattle.machine_parts.specs.Whole.{Whole}
+use Rattle.machine_parts.specs.Whole.{Whole, at_place}
 use Rattle.inner_interpreter.specs.declared.stop.Stop.{Stop}
 use Rattle.inner_interpreter.specs.declared.stop.Stop.TheVariants as stop
 use Rattle.machine.specs.declared.extent.Extent.{Extent}
@@ -12,6 +12,10 @@ use Rattle.machine.specs.Met.{is_met}
 use Rattle.inner_interpreter.specs.Moves.{Turn, Tick, turned, AreAccepted, words_in, ticks_in, Logs, HasRun}
 use Rattle.inner_interpreter.specs.Runs.{World, rounds, stops}
 use Rattle.inner_interpreter.specs.Worlds.{IsAt, IsCut, Ends, EndsCut, EndsFaulted}
+
+-- the line of a tick says nothing of where memory lies
+abbrev pub IsPlaceless : (Whole → List ℕ) → Type 0
+IsPlaceless line = (p : Option ℕ) (s : Whole) → line (at_place p s) ≡ line s
 
 -- the line of a state in which no request waits and a token of the extent comes next
 abbrev pub line_next : Extent → (Whole → List ℕ) → State → List ℕ

@@ -8,7 +8,7 @@ ghost use Rattle.inner_interpreter.specs.Hosts.{HasMade, IsMade, turn_of};
 
 use crate::byte_log::ByteLog;
 use crate::event_log::EventLog;
-use machine::{Act, Answer, Event, Machine, Refused, Shown};
+use machine::{Act, Answer, Event, LentMachine, Refused, Shown};
 use machine_parts::parts::Span;
 
 /// A move of a machine.
@@ -21,7 +21,7 @@ pub enum Move<'a> {
 }
 
 /// Enters a word, which shows nothing.
-fn enter(machine: &mut Machine, word: u16) -> Result<Act, Refused>
+fn enter(machine: &mut LentMachine, word: u16) -> Result<Act, Refused>
     ensures taken { IfOk result (λ act. (takes machine.old (Enter word) ≡ true) ×
         ((machine.new, act) ≡ acted machine.old (Enter word))) }
     ensures left { OnErr result ((takes machine.old (Enter word) ≡ false) × (machine.new ≡ machine.old)) }
@@ -36,7 +36,7 @@ fn enter(machine: &mut Machine, word: u16) -> Result<Act, Refused>
 }
 
 /// Makes a move, and answers its act. A move that the machine doesn't take changes nothing.
-fn make_move(machine: &mut Machine, step: Move<'_>) -> Result<Act, Refused>
+fn make_move(machine: &mut LentMachine, step: Move<'_>) -> Result<Act, Refused>
     ensures taken { IfOk result (λ act. (takes machine.old (turn_of step.entry) ≡ true) ×
         ((machine.new, act) ≡ acted machine.old (turn_of step.entry))) }
     ensures left { OnErr result ((takes machine.old (turn_of step.entry) ≡ false) × (machine.new ≡ machine.old)) }
@@ -50,7 +50,7 @@ fn make_move(machine: &mut Machine, step: Move<'_>) -> Result<Act, Refused>
 
 /// Notes bytes of memory.
 #[tactic(auto, using(crate::proofs::Making::noted_both))]
-fn note_span(machine: &Machine, span: Span, shown: &mut ByteLog)
+fn note_span(machine: &LentMachine, span: Span, shown: &mut ByteLog)
     ensures { shown.new.bytes ≡ shown.old.bytes ++ bytes machine.now.parts.memory span.at span.len }
 {
     let (front, back) = machine.shown(span);
@@ -60,7 +60,7 @@ fn note_span(machine: &Machine, span: Span, shown: &mut ByteLog)
 
 /// Notes the bytes that a move showed.
 #[tactic(auto, using(crate::proofs::Making::noted_both, crate::proofs::Making::noted_none), unfolding(crate::specs::Moves::shown_bytes))]
-fn note_shown(machine: &Machine, move_shown: Shown, shown: &mut ByteLog)
+fn note_shown(machine: &LentMachine, move_shown: Shown, shown: &mut ByteLog)
     ensures { shown.new.bytes ≡ shown.old.bytes ++ shown_bytes machine.now.parts.memory move_shown }
 {
     match move_shown {
@@ -75,7 +75,7 @@ fn note_shown(machine: &Machine, move_shown: Shown, shown: &mut ByteLog)
 }
 
 /// Makes a move, if the machine takes it; what it shows is noted, and its event.
-fn host_move(machine: &mut Machine, step: Move<'_>, shown: &mut ByteLog, events: &mut EventLog)
+fn host_move(machine: &mut LentMachine, step: Move<'_>, shown: &mut ByteLog, events: &mut EventLog)
     ensures { (ts : List Turn) → HasMade machine.old (turn_of step.entry ∷ ts) machine.new ts
         shown.old.bytes shown.new.bytes events.old.events events.new.events }
 {
@@ -88,7 +88,7 @@ fn host_move(machine: &mut Machine, step: Move<'_>, shown: &mut ByteLog, events:
 /// Makes these moves, one after another. Those that the machine doesn't take change nothing; the bytes that the others show
 /// are noted, joined, and their requests, faults and halts in order.
 pub fn make_moves(
-    machine: &mut Machine,
+    machine: &mut LentMachine,
     moves: &[Move<'_>],
     shown: &mut ByteLog,
     events: &mut EventLog,
@@ -102,7 +102,7 @@ pub fn make_moves(
 }
 
 /// Makes so many ticks, by as few calls as there are ticks that aren't quiet.
-pub fn make_ticks(machine: &mut Machine, n: u64, shown: &mut ByteLog, events: &mut EventLog)
+pub fn make_ticks(machine: &mut LentMachine, n: u64, shown: &mut ByteLog, events: &mut EventLog)
     ensures { IsMade (made machine.old (replicate n Tick)) machine.new shown.old.bytes shown.new.bytes
         events.old.events events.new.events }
 {

@@ -7,6 +7,7 @@ mod event_log;
 mod hosts;
 pub mod laws;
 mod lines;
+mod machine_runs;
 mod read_log;
 mod reading;
 mod replies;
@@ -21,11 +22,14 @@ pub use byte_log::ByteLog;
 pub use ends::{EndFault, Input, Output};
 pub use event_log::EventLog;
 pub use hosts::{Move, make_moves, make_ticks};
-pub use machine::{Act, Answer, Cause, Event, Extent, Machine, Refused, SaveRefused, Shown};
+pub use machine::{
+    Act, Answer, Cause, Event, Extent, LentMachine, Machine, Refused, SaveRefused, Shown, Stretch,
+};
+pub use machine_runs::{run, run_traced};
 pub use read_log::{Given, ReadLog};
 pub use reading::Reading;
 pub use replies::{answer_read, answer_write};
-pub use runs::{line_room, run, run_traced, run_with};
+pub use runs::{line_room, run_with};
 pub use sends::send_all;
 pub use stop::Stop;
 pub use tracing::{Nowhere, Tracer, Untraced};

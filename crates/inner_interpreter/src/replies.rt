@@ -11,11 +11,11 @@ ghost use Rattle.inner_interpreter.specs.Served.{Serves, Faults, HasActed, HasSe
 use crate::ends::{EndFault, Input};
 use crate::lines::take_line;
 use block_buffers::Device;
-use machine::{Act, Answer, Machine};
+use machine::{Act, Answer, LentMachine};
 use machine_parts::parts::Request;
 
 /// Answers a `Key`. Where the reader fails, the machine learns of it.
-pub fn answer_key<R: Input>(machine: &mut Machine, reader: &mut R) -> Result<Act, EndFault>
+pub fn answer_key<R: Input>(machine: &mut LentMachine, reader: &mut R) -> Result<Act, EndFault>
     requires waits { asked_by machine.old.wait ≡ Some Request.Key }
     requires goes { machine.old.halt ≡ None }
     ensures told { (typed : List ℕ) → R.unread reader.old ≡ Some typed → (disk : Disk) →
@@ -44,7 +44,7 @@ pub fn answer_key<R: Input>(machine: &mut Machine, reader: &mut R) -> Result<Act
 #[tactic(auto, using(crate::proofs::Lining::line_fits))]
 pub fn answer_line<R: Input>(
     line: &mut Vec<u8>,
-    machine: &mut Machine,
+    machine: &mut LentMachine,
     reader: &mut R,
     n: u16,
 ) -> Result<Act, EndFault>
@@ -80,7 +80,7 @@ pub fn answer_line<R: Input>(
 }
 
 /// Answers a `Read`.
-pub fn answer_read<D: Device>(machine: &mut Machine, device: &mut D, block: u16) -> Act
+pub fn answer_read<D: Device>(machine: &mut LentMachine, device: &mut D, block: u16) -> Act
     requires waits { asked_by machine.old.wait ≡ Some (Request.Read block) }
     requires goes { machine.old.halt ≡ None }
     ensures told { (disk : Disk) → D.disk device.old ≡ Some disk → (typed : List ℕ) →
@@ -98,7 +98,7 @@ pub fn answer_read<D: Device>(machine: &mut Machine, device: &mut D, block: u16)
 }
 
 /// Answers a `Write`, with the bytes of the block's buffer.
-pub fn answer_write<D: Device>(machine: &mut Machine, device: &mut D, block: u16) -> Act
+pub fn answer_write<D: Device>(machine: &mut LentMachine, device: &mut D, block: u16) -> Act
     requires waits { asked_by machine.old.wait ≡ Some (Request.Write block) }
     requires goes { machine.old.halt ≡ None }
     ensures told { (disk : Disk) → D.disk device.old ≡ Some disk → (typed : List ℕ) →
@@ -120,7 +120,7 @@ pub fn answer_write<D: Device>(machine: &mut Machine, device: &mut D, block: u16
 /// Answers what was asked. Where the reader fails, the machine learns of it.
 pub fn settle<R: Input, D: Device>(
     line: &mut Vec<u8>,
-    machine: &mut Machine,
+    machine: &mut LentMachine,
     reader: &mut R,
     device: &mut D,
     request: Request,

@@ -17,7 +17,7 @@ use crate::ends::{EndFault, Input, Output};
 use crate::replies::settle;
 use crate::sends::show;
 use block_buffers::Device;
-use machine::{Extent, Machine};
+use machine::{Extent, LentMachine};
 use machine_parts::parts::Request;
 use thiserror::Error;
 
@@ -33,7 +33,7 @@ pub enum Failed {
 /// An answer, and what it shows.
 fn make_answer<R: Input, W: Output, D: Device>(
     line: &mut Vec<u8>,
-    machine: &mut Machine,
+    machine: &mut LentMachine,
     reader: &mut R,
     writer: &mut W,
     device: &mut D,
@@ -92,7 +92,7 @@ fn flush_before<W: Output>(writer: &mut W, request: Request) -> Result<(), EndFa
 #[tactic(auto, using(crate::proofs::Running::asked_none))]
 pub fn make_rounds<R: Input, W: Output, D: Device>(
     line: &mut Vec<u8>,
-    machine: &mut Machine,
+    machine: &mut LentMachine,
     reader: &mut R,
     writer: &mut W,
     device: &mut D,
@@ -127,9 +127,9 @@ pub fn make_rounds<R: Input, W: Output, D: Device>(
 {
     match machine.asked() {
         None => {
-            let (count, act) = machine.ticks_onward(*left, extent);
-            *left -= count;
-            match show(machine, writer, act.shown) {
+            let made = machine.ticks_onward(*left, extent);
+            *left -= made.count;
+            match show(machine, writer, made.act.shown) {
                 Ok(()) => Ok(()),
                 Err(_) => Err(Failed::Writer),
             }

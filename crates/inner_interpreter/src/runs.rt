@@ -1,20 +1,20 @@
-//! The run of a machine over a reader, a writer and a device.
+//! The run of a machine over memory that is lent, with its ends: a reader, a writer and a device.
 
 ghost use Rattle.std.specs.Prelude.{◌≡◌, ◌≤◌, false, true, vec_capacity, IfOk, OnOk, OnErr};
 ghost use Rattle.std.specs.Io.KnownBytes.{Appends, Keeps};
 ghost use Rattle.inner_interpreter.specs.Ends.{Marks};
 ghost use Rattle.inner_interpreter.specs.Reports.{run_ends, writer_end};
 ghost use Rattle.inner_interpreter.specs.Runs.{stop_of};
-ghost use Rattle.inner_interpreter.specs.RunsTo.{RunsTo, RunsTraced};
+ghost use Rattle.inner_interpreter.specs.RunsTo.{RunsTraced};
 ghost use Rattle.inner_interpreter.specs.Sent.{AppendsPart};
 ghost use Rattle.inner_interpreter.specs.Tracing.{line_next, IsDue, Finishes};
 
 use crate::ends::{EndFault, Input, Output};
 use crate::rounds::{Failed, make_rounds};
 use crate::stop::Stop;
-use crate::tracing::{Nowhere, Tracer, Untraced};
+use crate::tracing::Tracer;
 use block_buffers::Device;
-use machine::{Cause, Machine};
+use machine::{Cause, LentMachine};
 use memory::OutOfMemory;
 use std::alloc::Global;
 
@@ -52,7 +52,7 @@ fn finish<W: Output, T: Output>(writer: &mut W, trace: &mut T, stop: Stop) -> St
 
 /// Sends the line of the tick that comes next, where its token is one of those that are traced.
 fn send_line<N: Tracer, T: Output>(
-    machine: &Machine,
+    machine: &LentMachine,
     tracer: &N,
     trace: &mut T,
 ) -> Result<(), EndFault>
@@ -76,10 +76,10 @@ pub fn line_room(alloc: Global) -> Result<Vec<u8>, OutOfMemory>
     Vec::with_capacity(alloc, LINE_SIZE).map_err(|_| OutOfMemory)
 }
 
-/// A run with its trace, by room for a line.
+/// Runs the machine of a host as [`crate::run_traced`] does, by room for a line.
 pub fn run_with<R: Input, W: Output, D: Device, N: Tracer, T: Output>(
     line: &mut Vec<u8>,
-    machine: &mut Machine,
+    machine: &mut LentMachine,
     reader: &mut R,
     writer: &mut W,
     device: &mut D,
@@ -113,70 +113,4 @@ pub fn run_with<R: Input, W: Output, D: Device, N: Tracer, T: Output>(
             Err(Failed::Writer) => return Stop::OutputFault,
         }
     }
-}
-
-/// Runs the machine as `run` does. Before each tick whose token is taken through `ip` in the tracer's extent, its line is
-/// sent to `trace`, which is flushed at the end. A line that can't be sent stops the run before its tick.
-pub fn run_traced<R: Input, W: Output, D: Device, N: Tracer, T: Output>(
-    alloc: Global,
-    machine: &mut Machine,
-    reader: &mut R,
-    writer: &mut W,
-    device: &mut D,
-    tracer: &N,
-    trace: &mut T,
-    limit: u64,
-) -> Result<Stop, OutOfMemory>
-    ensures runs { IfOk result (λ stop.
-        RunsTraced (N.extent tracer.now) (N.line tracer.now) machine.old machine.new
-        (run_ends R.Input W.Output D.Device reader.old writer.old device.old)
-        (run_ends R.Input W.Output D.Device reader.new writer.new device.new)
-        (writer_end T.Output trace.old) (writer_end T.Output trace.new) limit stop) }
-
-    // On lack of memory nothing was done.
-    ensures machine { OnErr result (machine.new ≡ machine.old) }
-    ensures reader { OnErr result (reader.new ≡ reader.old) }
-    ensures writer { OnErr result (writer.new ≡ writer.old) }
-    ensures device { OnErr result (device.new ≡ device.old) }
-    ensures trace { OnErr result (trace.new ≡ trace.old) }
-{
-    let mut line = line_room(alloc)?;
-    Ok(run_with(
-        &mut line, machine, reader, writer, device, tracer, trace, limit,
-    ))
-}
-
-/// Runs the machine until it halts, `limit` ticks are done or an end fails, and answers why it stopped. All that the
-/// machine shows is sent; what it asks is answered by the reader and the device. The writer is flushed before each
-/// key or line is read, and at the end. A run may be made over an end that failed before. On lack of memory nothing was
-/// done: the machine is unchanged, and no end nor the device was called.
-pub fn run<R: Input, W: Output, D: Device>(
-    alloc: Global,
-    machine: &mut Machine,
-    reader: &mut R,
-    writer: &mut W,
-    device: &mut D,
-    limit: u64,
-) -> Result<Stop, OutOfMemory>
-    ensures runs { IfOk result (λ stop. RunsTo machine.old machine.new
-        (run_ends R.Input W.Output D.Device reader.old writer.old device.old)
-        (run_ends R.Input W.Output D.Device reader.new writer.new device.new) limit stop) }
-
-    // On lack of memory nothing was done.
-    ensures machine { OnErr result (machine.new ≡ machine.old) }
-    ensures reader { OnErr result (reader.new ≡ reader.old) }
-    ensures writer { OnErr result (writer.new ≡ writer.old) }
-    ensures device { OnErr result (device.new ≡ device.old) }
-{
-    let mut room = line_room(alloc)?;
-    Ok(run_with(
-        &mut room,
-        machine,
-        reader,
-        writer,
-        device,
-        &Untraced,
-        &mut Nowhere,
-        limit,
-    ))
 }

@@ -8,7 +8,7 @@ ghost use Rattle.inner_interpreter.specs.Moves.{shown_bytes};
 ghost use Rattle.inner_interpreter.specs.Sent.{AppendsPart};
 
 use crate::ends::{EndFault, Output};
-use machine::{Machine, Shown};
+use machine::{LentMachine, Shown};
 use machine_parts::parts::Span;
 
 /// Sends all of the bytes, or a front of them where the writer fails.
@@ -42,7 +42,7 @@ fn send_byte<W: Output>(writer: &mut W, byte: u8) -> Result<(), EndFault>
 
 /// Sends bytes of memory.
 #[tactic(auto, using(crate::proofs::Sending::part_second, crate::proofs::Sending::part_first, crate::proofs::Sending::appends_both))]
-fn send_span<W: Output>(machine: &Machine, writer: &mut W, span: Span) -> Result<(), EndFault>
+fn send_span<W: Output>(machine: &LentMachine, writer: &mut W, span: Span) -> Result<(), EndFault>
     ensures ok { OnOk result (Appends (W.sent writer.old) (W.sent writer.new)
         (bytes machine.now.parts.memory span.at span.len)) }
     ensures err { OnErr result (AppendsPart (W.sent writer.old) (W.sent writer.new)
@@ -58,7 +58,7 @@ fn send_span<W: Output>(machine: &Machine, writer: &mut W, span: Span) -> Result
 
 /// Sends what a move showed.
 #[tactic(auto, using(crate::proofs::Sending::part_second, crate::proofs::Sending::part_first, crate::proofs::Sending::appends_both), unfolding(crate::specs::Moves::shown_bytes))]
-pub fn show<W: Output>(machine: &Machine, writer: &mut W, shown: Shown) -> Result<(), EndFault>
+pub fn show<W: Output>(machine: &LentMachine, writer: &mut W, shown: Shown) -> Result<(), EndFault>
     ensures ok { OnOk result (Appends (W.sent writer.old) (W.sent writer.new) (shown_bytes machine.now.parts.memory shown)) }
     ensures err { OnErr result (AppendsPart (W.sent writer.old) (W.sent writer.new)
         (shown_bytes machine.now.parts.memory shown)) }

@@ -1,7 +1,7 @@
 //! What is traced of a run.
 
 use crate::ends::{EndFault, Output};
-use machine::{Extent, Machine};
+use machine::{Extent, LentMachine};
 
 /// Writes a line before each tick whose token is taken through `ip` in an extent.
 pub trait Tracer {
@@ -23,7 +23,7 @@ pub trait Tracer {
         ensures { result ≡ extent self.now };
 
     /// Sends the line of the tick that comes next.
-    fn trace<T: Output>(&self, machine: &Machine, trace: &mut T) -> Result<(), EndFault>
+    fn trace<T: Output>(&self, machine: &LentMachine, trace: &mut T) -> Result<(), EndFault>
         ensures ok { OnOk result (Appends (T.sent trace.old) (T.sent trace.new) (line self.now machine.now.parts)) }
         ensures err { OnErr result (AppendsPart (T.sent trace.old) (T.sent trace.new) (line self.now machine.now.parts)) }
         ensures mark { Marks (T.failed trace.old) (T.failed trace.new) result };
@@ -44,7 +44,7 @@ impl Tracer for Untraced {
         Extent { from: 0, end: 0 }
     }
 
-    fn trace<T: Output>(&self, _machine: &Machine, _trace: &mut T) -> Result<(), EndFault> {
+    fn trace<T: Output>(&self, _machine: &LentMachine, _trace: &mut T) -> Result<(), EndFault> {
         Ok(())
     }
 }

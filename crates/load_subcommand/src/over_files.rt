@@ -6,7 +6,7 @@ ghost use Rattle.named_files.specs.Done.{IsPassedOn, Refuses, done, status_of};
 
 use crate::load_command::do_load;
 use block_buffers::{BLOCK_SIZE, Device, MemoryDevice};
-use inner_interpreter::{Machine, Output};
+use inner_interpreter::{LentMachine, Output};
 use machine_parts::faults::{BAD_LENGTH, NOT_FOUND};
 use memory::Memory;
 use memory::system::{BLK, TO_IN};
@@ -41,7 +41,7 @@ fn show_stop<F: Files>(
         return;
     };
     let memory: &mut Memory = &mut memory;
-    let mut machine = Machine::load(alloc, memory, &image, blocks.count());
+    let mut machine = LentMachine::load(alloc, memory, &image, blocks.count());
     if let Err(cause) = load_on(&mut machine, alloc, blocks, image.entry(), from, to, limit) {
         let number = machine.memory().cell(BLK);
         if number == 0 {

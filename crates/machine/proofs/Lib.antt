@@ -3,3 +3,4 @@ pub mod Passing
 pub mod Kept
 pub mod Stepped
 pub mod Places
+pub mod Lending

@@ -43,6 +43,17 @@ pub struct Act {
     pub event: Event,
 }
 
+/// Ticks that were made in a row.
+#[derive(Clone, Copy, Debug, PartialEq, Eq)]
+pub struct Stretch {
+    /// How many.
+    pub count: u64,
+    /// The last one's act.
+    pub act: Act,
+    /// `ip` before the last one.
+    pub from: u16,
+}
+
 /// Why a move was refused. The machine is then as it was.
 #[derive(Clone, Copy, Debug, PartialEq, Eq, Error)]
 pub enum Refused {

@@ -9,7 +9,7 @@ pub mod mirrored;
 mod snapshot;
 pub mod system;
 
-ghost use Rattle.std.specs.Prelude.{◌≡◌, ◌+◌, ◌*◌, ◌<◌, ◌≤◌, ◌++◌, length, take, drop, slice_index, IfOk};
+ghost use Rattle.std.specs.Prelude.{◌≡◌, ◌+◌, ◌*◌, ◌<◌, ◌≤◌, ◌++◌, length, take, drop, slice_index, IfOk, IsOk};
 ghost use Rattle.memory.specs.Bytes.{byte, cell, put_byte, put_cell, bytes, zeros, front_put, page, with_page, filled, moved_up, moved_down, put_bytes};
 ghost use Rattle.memory.specs.Mirrored.{stored};
 
@@ -44,12 +44,20 @@ fn put_part(bytes: &mut [u8], start: usize, part: &[u8])
 }
 
 impl Memory {
-    /// Memory of zeros.
+    /// Memory of zeros, where the caller wants it: it takes nothing from `alloc`, and never fails. `boxed` is for the heap.
     #[tactic(auto, using(crate::proofs::Behind::zeros_are))]
-    pub fn new(alloc: Global) -> Result<Box<Memory>, OutOfMemory>
+    pub fn new(_alloc: Global) -> Result<Memory, OutOfMemory>
+        ensures zeros { IfOk result (λ m. stored m ≡ zeros) }
+        ensures never { IsOk result }
+    {
+        Ok(Memory { bytes: [0; 65552] })
+    }
+
+    /// Memory of zeros in a box.
+    pub fn boxed(alloc: Global) -> Result<Box<Memory>, OutOfMemory>
         ensures { IfOk result (λ m. stored m.value ≡ zeros) }
     {
-        match Box::new(alloc, Memory { bytes: [0; 65552] }) {
+        match Box::new(alloc, Memory::new(alloc)?) {
             Ok(memory) => Ok(memory),
             Err(_) => Err(OutOfMemory),
         }
@@ -60,7 +68,7 @@ impl Memory {
         requires { length bytes.now ≤ 65536 }
         ensures { IfOk result (λ m. stored m.value ≡ front_put bytes.now zeros) }
     {
-        let mut memory = Memory::new(alloc)?;
+        let mut memory = Memory::boxed(alloc)?;
         memory.put_front(bytes);
         Ok(memory)
     }

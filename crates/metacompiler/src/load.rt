@@ -14,7 +14,7 @@ use crate::rounds::{Stop, is_end, make_rounds};
 use block_buffers::Device;
 use dictionary::find;
 use image_loader::Image;
-use inner_interpreter::{Machine, SaveRefused};
+use inner_interpreter::{LentMachine, SaveRefused};
 use machine_parts::faults::BLOCK_ZERO;
 use memory::Memory;
 use memory::system::{BLK, STATE, TO_IN};
@@ -54,7 +54,7 @@ pub enum LoadFault {
 }
 
 /// INTERPRET's compilation address.
-fn interpret_in(machine: &Machine) -> Result<u16, LoadFault>
+fn interpret_in(machine: &LentMachine) -> Result<u16, LoadFault>
     ensures { result ≡ interpret_in machine.now.parts.memory }
 {
     match find(machine.memory(), b"INTERPRET") {
@@ -66,7 +66,7 @@ fn interpret_in(machine: &Machine) -> Result<u16, LoadFault>
 
 /// One screen is read from its beginning.
 fn load_screen<D: Device>(
-    machine: &mut Machine,
+    machine: &mut LentMachine,
     device: &mut D,
     interpret: u16,
     screen: u16,
@@ -89,7 +89,7 @@ fn load_screen<D: Device>(
 
 /// The screens from one to another in turn, up to the first that doesn't end.
 fn load_screens<D: Device>(
-    machine: &mut Machine,
+    machine: &mut LentMachine,
     device: &mut D,
     interpret: u16,
     from: u16,
@@ -126,7 +126,7 @@ fn fault_of(stop: Stop) -> LoadFault
 
 /// After all screens: BLK and >IN get these cells, words must be executed again, and memory is saved.
 fn save(
-    machine: &mut Machine,
+    machine: &mut LentMachine,
     alloc: Global,
     entry: u16,
     blk: u16,
@@ -153,7 +153,7 @@ fn save(
 /// `load_by_machine` does. Where a screen's rounds stop before its end, its BLK and >IN say where that was.
 #[tactic(auto, using(crate::proofs::Answering::refused_loaded, crate::proofs::Answering::stopped_loaded, crate::proofs::Answering::saved_loaded, crate::proofs::Answering::stopped_there, crate::proofs::Answering::saved_there))]
 pub fn load_on<D: Device>(
-    machine: &mut Machine,
+    machine: &mut LentMachine,
     alloc: Global,
     device: &mut D,
     entry: u16,
@@ -218,6 +218,6 @@ pub fn load_by_machine<D: Device>(
     };
     let memory: &mut Memory = &mut memory;
     let count = device.count();
-    let mut machine = Machine::load(alloc, memory, image, count);
+    let mut machine = LentMachine::load(alloc, memory, image, count);
     load_on(&mut machine, alloc, device, image.entry(), from, to, limit)
 }

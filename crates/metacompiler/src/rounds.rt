@@ -9,7 +9,7 @@ ghost use Rattle.metacompiler.specs.Moved.{stage};
 ghost use Rattle.metacompiler.specs.Making.{IsSettled, IsSettledBy, IsRound, IsLed, StopsAt};
 
 use block_buffers::Device;
-use inner_interpreter::{Cause, Event, Machine, answer_read, answer_write};
+use inner_interpreter::{Cause, Event, LentMachine, answer_read, answer_write};
 use machine_parts::parts::Request;
 
 /// Why the rounds of a screen stop.
@@ -33,7 +33,7 @@ pub fn is_end(stop: Stop) -> bool
 }
 
 /// Whether the screen's end is reached.
-fn is_ended(machine: &Machine) -> bool
+fn is_ended(machine: &LentMachine) -> bool
     ensures { result ≡ is_ended machine.now.parts }
 {
     machine.ip() == 0 && machine.pending().is_none() && machine.returns().depth() == 0
@@ -52,7 +52,7 @@ fn stopped(event: Event) -> Stop
 }
 
 /// Where the rounds stop after a move.
-fn stop_by(machine: &Machine, event: Event) -> Option<Stop>
+fn stop_by(machine: &LentMachine, event: Event) -> Option<Stop>
     ensures { result ≡ stop_by machine.now event }
 {
     match event {
@@ -68,7 +68,7 @@ fn stop_by(machine: &Machine, event: Event) -> Option<Stop>
 /// A request is answered where it is one of the device, and a tick is left.
 #[tactic(auto, using(crate::proofs::Making::read_settled, crate::proofs::Making::write_settled, crate::proofs::Making::unsettled, crate::proofs::Moving::none_left))]
 fn settle<D: Device>(
-    machine: &mut Machine,
+    machine: &mut LentMachine,
     device: &mut D,
     left: u64,
     request: Request,
@@ -101,7 +101,7 @@ fn settle<D: Device>(
 
 /// A tick, and the answer to what it asks of the device.
 #[tactic(auto, using(crate::proofs::Making::asked_waits, crate::proofs::Making::round_asked, crate::proofs::Making::round_made))]
-fn make_round<D: Device>(machine: &mut Machine, device: &mut D, left: u64) -> Option<Stop>
+fn make_round<D: Device>(machine: &mut LentMachine, device: &mut D, left: u64) -> Option<Stop>
     ensures told { (d : Disk) → D.disk device.old ≡ Some d → Runs machine.old →
         IsRound left machine.old.parts d machine.new (D.disk device.new) result }
     ensures moved { Runs machine.old → IsLed (stage machine.old (D.calls device.old) (left + 1))
@@ -120,7 +120,7 @@ fn make_round<D: Device>(machine: &mut Machine, device: &mut D, left: u64) -> Op
 
 /// Ticks up to the screen's end, with what is asked of the device between them.
 #[tactic(auto, using(crate::proofs::Making::none_so_far, crate::proofs::Making::more_so_far, crate::proofs::Making::stops_so_far, crate::proofs::Making::all_so_far))]
-pub fn make_rounds<D: Device>(machine: &mut Machine, device: &mut D, left: &mut u64) -> Stop
+pub fn make_rounds<D: Device>(machine: &mut LentMachine, device: &mut D, left: &mut u64) -> Stop
     ensures told { (d : Disk) → D.disk device.old ≡ Some d → Runs machine.old →
         StopsAt (rounds left.old machine.old.parts d) machine.new (D.disk device.new) left.new result }
     ensures moved { Runs machine.old → IsLed (stage machine.old (D.calls device.old) left.old)

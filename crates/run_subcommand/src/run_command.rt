@@ -12,7 +12,7 @@ ghost use Rattle.subcommands.specs.Lines.{OfImageFile, PrintsNoImage};
 use block_buffers::Device;
 use image_loader::Image;
 use inner_interpreter::{Input, Machine, Output, Stop, run};
-use memory::{Memory, OutOfMemory};
+use memory::OutOfMemory;
 use std::alloc::Global;
 use subcommands::{Ended, end_with, print_out_of_memory, refuse_image, status_of};
 
@@ -32,9 +32,7 @@ fn run_loaded<R: Input, W: Output, D: Device>(
     ensures writer { OnErr result (writer.new ≡ writer.old) }
     ensures device { OnErr result (device.new ≡ device.old) }
 {
-    let mut memory = Memory::with_front(alloc, image.bytes())?;
-    let memory: &mut Memory = &mut memory;
-    let mut machine = Machine::load(alloc, memory, image, device.count());
+    let mut machine = Machine::load(alloc, image, device.count())?;
     let stop = run(alloc, &mut machine, reader, writer, device, limit)?;
     Ok(stop)
 }

@@ -11,7 +11,7 @@ ghost use Rattle.subcommands.specs.Lines.{OfImageFile, PrintsNoImage, PrintsOutO
 
 use block_buffers::Device;
 use image_loader::Image;
-use inner_interpreter::{Input, Machine, Output};
+use inner_interpreter::{Input, LentMachine, Output};
 use memory::{Memory, OutOfMemory};
 use serving::{Ending, Room, frame_room, save, serve};
 use std::alloc::Global;
@@ -32,7 +32,7 @@ fn status_by(ending: Ending, lost: u16) -> u8
 }
 
 /// Writes the updated buffers, unless the last request has written them, and answers the status.
-fn finish<D: Device>(machine: &Machine, device: &mut D, count: u32, ending: Ending) -> u8
+fn finish<D: Device>(machine: &LentMachine, device: &mut D, count: u32, ending: Ending) -> u8
     ensures { SavesAtEnd ending count machine.now.parts (D.calls device.old) (D.calls device.new) result }
 {
     match ending {
@@ -62,7 +62,7 @@ fn sit<R: Input, W: Output, D: Device>(
     let mut body = frame_room(alloc)?;
     let mut room = Room::new(alloc)?;
     let memory: &mut Memory = &mut memory;
-    let mut machine = Machine::load(alloc, memory, image, BLOCK_COUNT);
+    let mut machine = LentMachine::load(alloc, memory, image, BLOCK_COUNT);
     let count = device.count();
     let ending = serve(
         alloc,

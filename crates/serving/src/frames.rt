@@ -10,7 +10,7 @@ ghost use Rattle.inner_interpreter.specs.Moves.{shown_bytes};
 ghost use Rattle.inner_interpreter.specs.Sent.{AppendsPart};
 ghost use Rattle.serving.specs.Frames.{frame, joined, long_reply, pieces, shown_reply};
 
-use inner_interpreter::{EndFault, Machine, Output, Shown, send_all};
+use inner_interpreter::{EndFault, LentMachine, Output, Shown, send_all};
 use machine_parts::parts::Span;
 use memory::cell_bytes;
 
@@ -209,7 +209,7 @@ fn send_shown<W: Output>(writer: &mut W, bytes: Joined<'_>) -> Result<(), EndFau
 /// The bytes of a span, and after them these.
 #[tactic(auto, using(crate::proofs::Joining::span_joined), unfolding(crate::specs::Frames::joined))]
 fn send_span<W: Output>(
-    machine: &Machine,
+    machine: &LentMachine,
     writer: &mut W,
     span: Span,
     back: &[u8],
@@ -249,7 +249,7 @@ fn send_nothing<W: Output>(_writer: &W)
 
 /// The bytes that an act showed.
 #[tactic(auto, using(crate::proofs::Joining::alone), unfolding(inner_interpreter::specs::Moves::shown_bytes))]
-pub fn show<W: Output>(machine: &Machine, writer: &mut W, shown: Shown) -> Result<(), EndFault>
+pub fn show<W: Output>(machine: &LentMachine, writer: &mut W, shown: Shown) -> Result<(), EndFault>
     ensures ok { OnOk result (Appends (W.sent writer.old) (W.sent writer.new)
         (shown_reply (shown_bytes machine.now.parts.memory shown))) }
     ensures err { OnErr result (AppendsPart (W.sent writer.old) (W.sent writer.new)
@@ -269,7 +269,7 @@ pub fn show<W: Output>(machine: &Machine, writer: &mut W, shown: Shown) -> Resul
 
 /// How many bytes an act showed.
 #[tactic(auto, unfolding(inner_interpreter::specs::Moves::shown_bytes))]
-pub fn shown_len(machine: &Machine, shown: Shown) -> u32
+pub fn shown_len(machine: &LentMachine, shown: Shown) -> u32
     ensures len { result ≡ length (shown_bytes machine.now.parts.memory shown) }
     ensures few { result ≤ 65536 }
 {
@@ -283,7 +283,7 @@ pub fn shown_len(machine: &Machine, shown: Shown) -> u32
 
 /// How many bytes a span has.
 #[tactic(auto, using(crate::proofs::Joining::span_length))]
-fn span_len(machine: &Machine, span: Span) -> u32
+fn span_len(machine: &LentMachine, span: Span) -> u32
     ensures len { result ≡ length (bytes machine.now.parts.memory span.at span.len) }
     ensures few { result ≤ 65535 }
 {
@@ -305,7 +305,7 @@ pub fn send_frame<W: Output>(writer: &mut W, kind: u8, body: &[u8]) -> Result<()
 /// Bytes of memory as a frame.
 #[tactic(auto, using(crate::proofs::Joining::whole_part, crate::proofs::Joining::span_length))]
 pub fn send_memory<W: Output>(
-    machine: &Machine,
+    machine: &LentMachine,
     writer: &mut W,
     kind: u8,
     at: u16,

@@ -19,7 +19,7 @@ use crate::requests::Listing;
 use crate::text::Text;
 use debug_tracer::{DebugFault, extent_in, send_line};
 use dictionary::{ChainTooLong, HeaderList, header};
-use inner_interpreter::{EndFault, Machine, Output, send_all};
+use inner_interpreter::{EndFault, LentMachine, Output, send_all};
 use memory::{Memory, OutOfMemory, cell_bytes};
 use std::alloc::Global;
 
@@ -99,7 +99,7 @@ fn send_words<W: Output>(memory: &Memory, headers: &[u16], writer: &mut W) -> Re
 
 /// What is made of all headers of a machine.
 fn send_made<W: Output>(
-    machine: &Machine,
+    machine: &LentMachine,
     listing: Listing,
     listed: &[u16],
     writer: &mut W,
@@ -118,7 +118,7 @@ fn send_made<W: Output>(
 
 /// The same in the room for a text: whether it fits.
 #[tactic(auto, using(crate::proofs::Texts::too_long))]
-fn gather(machine: &Machine, listing: Listing, listed: &[u16], text: &mut Text) -> bool
+fn gather(machine: &LentMachine, listing: Listing, listed: &[u16], text: &mut Text) -> bool
     requires { listed.now ≡ headers machine.now.parts.memory }
     ensures { Gathers result text.new.bytes (listing_bytes listing machine.now.parts) }
 {
@@ -161,7 +161,7 @@ fn send_if<W: Output>(writer: &mut W, kind: u8, fits: bool, text: &[u8]) -> Resu
 /// What is made of all headers, or why it is not.
 #[tactic(auto, unfolding(crate::specs::Replies::listing_reply))]
 pub fn send_listing<W: Output>(
-    machine: &Machine,
+    machine: &LentMachine,
     listing: Listing,
     room: &mut Room,
     writer: &mut W,
@@ -193,7 +193,7 @@ fn extent_cause(fault: DebugFault) -> u8
 /// Where the thread of the colon word of a name is, or why that is not known.
 #[tactic(auto, unfolding(crate::specs::Replies::extent_reply))]
 pub fn send_extent<W: Output>(
-    machine: &Machine,
+    machine: &LentMachine,
     name: &[u8],
     headers: &mut HeaderList,
     writer: &mut W,

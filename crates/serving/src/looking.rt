@@ -13,13 +13,17 @@ ghost use Rattle.serving.specs.Replies.{found_reply, image_reply, see_cause, see
 use crate::frames::{refuse, send_cells, send_frame, send_pair, send_text};
 use dictionary::{ChainTooLong, find};
 use image_loader::{BorrowedImage, file_header};
-use inner_interpreter::{EndFault, Machine, Output};
+use inner_interpreter::{EndFault, LentMachine, Output};
 use machine::saved_in_place;
 use see::{SeeRefused, ViewRefused, view};
 
 /// What a name means.
 #[tactic(auto, unfolding(crate::specs::Replies::found_reply))]
-pub fn send_found<W: Output>(machine: &Machine, name: &[u8], writer: &mut W) -> Result<(), EndFault>
+pub fn send_found<W: Output>(
+    machine: &LentMachine,
+    name: &[u8],
+    writer: &mut W,
+) -> Result<(), EndFault>
     ensures ok { OnOk result (Appends (W.sent writer.old) (W.sent writer.new)
         (found_reply (by_address machine.now.parts.memory (sought machine.now.parts.memory name.now)))) }
     ensures err { OnErr result (AppendsPart (W.sent writer.old) (W.sent writer.new)
@@ -35,7 +39,11 @@ pub fn send_found<W: Output>(machine: &Machine, name: &[u8], writer: &mut W) -> 
 
 /// Where a word was made.
 #[tactic(auto, unfolding(crate::specs::Replies::view_reply))]
-pub fn send_view<W: Output>(machine: &Machine, name: &[u8], writer: &mut W) -> Result<(), EndFault>
+pub fn send_view<W: Output>(
+    machine: &LentMachine,
+    name: &[u8],
+    writer: &mut W,
+) -> Result<(), EndFault>
     ensures ok { OnOk result (Appends (W.sent writer.old) (W.sent writer.new)
         (view_reply (viewed machine.now.parts.memory (sought machine.now.parts.memory name.now)))) }
     ensures err { OnErr result (AppendsPart (W.sent writer.old) (W.sent writer.new)
@@ -99,7 +107,11 @@ fn send_file<W: Output>(image: &BorrowedImage<'_>, writer: &mut W) -> Result<(),
 
 /// The image up to HERE, or why there is none.
 #[tactic(auto, unfolding(crate::specs::Replies::image_reply))]
-pub fn send_image<W: Output>(machine: &Machine, entry: u16, writer: &mut W) -> Result<(), EndFault>
+pub fn send_image<W: Output>(
+    machine: &LentMachine,
+    entry: u16,
+    writer: &mut W,
+) -> Result<(), EndFault>
     ensures ok { OnOk result (Appends (W.sent writer.old) (W.sent writer.new) (image_reply machine.now.parts entry)) }
     ensures err { OnErr result (AppendsPart (W.sent writer.old) (W.sent writer.new) (image_reply machine.now.parts entry)) }
     ensures mark { Marks (W.failed writer.old) (W.failed writer.new) result }

@@ -22,12 +22,12 @@ use crate::saving::save;
 use crate::state::{send_registers, send_state};
 use block_buffers::Device;
 use dictionary::HeaderList;
-use inner_interpreter::{Act, Answer, EndFault, Event, Machine, Output, Refused, Shown};
+use inner_interpreter::{Act, Answer, EndFault, Event, LentMachine, Output, Refused, Shown};
 use see::see;
 use std::alloc::Global;
 
 /// Enters a word, which shows nothing.
-fn enter(machine: &mut Machine, word: u16) -> Result<Act, Refused>
+fn enter(machine: &mut LentMachine, word: u16) -> Result<Act, Refused>
     ensures taken { IfOk result (λ act. (takes machine.old (EnterTurn word) ≡ true) ×
         ((machine.new, act) ≡ acted machine.old (EnterTurn word))) }
     ensures left { OnErr result ((takes machine.old (EnterTurn word) ≡ false) × (machine.new ≡ machine.old)) }
@@ -42,7 +42,7 @@ fn enter(machine: &mut Machine, word: u16) -> Result<Act, Refused>
 }
 
 /// Answers the machine.
-fn answer(machine: &mut Machine, answer: Answer<'_>) -> Result<Act, Refused>
+fn answer(machine: &mut LentMachine, answer: Answer<'_>) -> Result<Act, Refused>
     ensures taken { IfOk result (λ act. (takes machine.old (AnswerTurn (seen answer.entry)) ≡ true) ×
         ((machine.new, act) ≡ acted machine.old (AnswerTurn (seen answer.entry)))) }
     ensures left { OnErr result ((takes machine.old (AnswerTurn (seen answer.entry)) ≡ false) × (machine.new ≡ machine.old)) }
@@ -52,7 +52,7 @@ fn answer(machine: &mut Machine, answer: Answer<'_>) -> Result<Act, Refused>
 
 /// Why a machine didn't take a move.
 #[tactic(auto, unfolding(crate::specs::Served::move_refusal))]
-fn refuse_move<W: Output>(machine: &Machine, writer: &mut W) -> Result<(), EndFault>
+fn refuse_move<W: Output>(machine: &LentMachine, writer: &mut W) -> Result<(), EndFault>
     ensures ok { OnOk result (Appends (W.sent writer.old) (W.sent writer.new) (move_refusal machine.now)) }
     ensures err { OnErr result (AppendsPart (W.sent writer.old) (W.sent writer.new) (move_refusal machine.now)) }
     ensures mark { Marks (W.failed writer.old) (W.failed writer.new) result }
@@ -65,7 +65,7 @@ fn refuse_move<W: Output>(machine: &Machine, writer: &mut W) -> Result<(), EndFa
 
 /// The reply to a move that was taken: what it showed, and what the machine does after it.
 #[tactic(auto, using(inner_interpreter::proofs::Sending::part_second, inner_interpreter::proofs::Sending::part_first, inner_interpreter::proofs::Sending::appends_both))]
-fn send_act<W: Output>(machine: &Machine, act: Act, writer: &mut W) -> Result<(), EndFault>
+fn send_act<W: Output>(machine: &LentMachine, act: Act, writer: &mut W) -> Result<(), EndFault>
     ensures ok { OnOk result (Appends (W.sent writer.old) (W.sent writer.new) (act_reply machine.now act)) }
     ensures err { OnErr result (AppendsPart (W.sent writer.old) (W.sent writer.new) (act_reply machine.now act)) }
     ensures mark { Marks (W.failed writer.old) (W.failed writer.new) result }
@@ -77,7 +77,11 @@ fn send_act<W: Output>(machine: &Machine, act: Act, writer: &mut W) -> Result<()
 }
 
 /// Enters a word.
-fn obey_entry<W: Output>(machine: &mut Machine, word: u16, writer: &mut W) -> Result<(), EndFault>
+fn obey_entry<W: Output>(
+    machine: &mut LentMachine,
+    word: u16,
+    writer: &mut W,
+) -> Result<(), EndFault>
     ensures ok { OnOk result (Looks (moved machine.old (EnterTurn word)) true machine.new (W.sent writer.old) (W.sent writer.new)) }
     ensures err { OnErr result (Looks (moved machine.old (EnterTurn word)) false machine.new (W.sent writer.old) (W.sent writer.new)) }
     ensures mark { Marks (W.failed writer.old) (W.failed writer.new) result }
@@ -90,7 +94,7 @@ fn obey_entry<W: Output>(machine: &mut Machine, word: u16, writer: &mut W) -> Re
 
 /// Answers what the machine asks.
 fn obey_answer<W: Output>(
-    machine: &mut Machine,
+    machine: &mut LentMachine,
     reply: Answer<'_>,
     writer: &mut W,
 ) -> Result<(), EndFault>
@@ -108,7 +112,7 @@ fn obey_answer<W: Output>(
 
 /// Writes a cell.
 fn obey_cell<W: Output>(
-    machine: &mut Machine,
+    machine: &mut LentMachine,
     address: u16,
     x: u16,
     writer: &mut W,
@@ -123,7 +127,7 @@ fn obey_cell<W: Output>(
 
 /// Writes 1 to 2,046 bytes.
 fn obey_bytes<W: Output>(
-    machine: &mut Machine,
+    machine: &mut LentMachine,
     at: u16,
     bytes: &[u8],
     writer: &mut W,
@@ -140,7 +144,7 @@ fn obey_bytes<W: Output>(
 }
 
 /// All registers of the machine.
-fn obey_registers<W: Output>(machine: &Machine, writer: &mut W) -> Result<(), EndFault>
+fn obey_registers<W: Output>(machine: &LentMachine, writer: &mut W) -> Result<(), EndFault>
     ensures ok { OnOk result (Looks (served machine.now RegistersWish) true machine.now (W.sent writer.old) (W.sent writer.new)) }
     ensures err { OnErr result (Looks (served machine.now RegistersWish) false machine.now (W.sent writer.old) (W.sent writer.new)) }
     ensures mark { Marks (W.failed writer.old) (W.failed writer.new) result }
@@ -150,7 +154,7 @@ fn obey_registers<W: Output>(machine: &Machine, writer: &mut W) -> Result<(), En
 
 /// Puts registers back.
 fn obey_put_back<W: Output>(
-    machine: &mut Machine,
+    machine: &mut LentMachine,
     body: &[u8],
     writer: &mut W,
 ) -> Result<(), EndFault>
@@ -167,7 +171,7 @@ fn obey_put_back<W: Output>(
 }
 
 /// What the machine has beside memory.
-fn obey_look<W: Output>(machine: &Machine, writer: &mut W) -> Result<(), EndFault>
+fn obey_look<W: Output>(machine: &LentMachine, writer: &mut W) -> Result<(), EndFault>
     ensures ok { OnOk result (Looks (served machine.now Look) true machine.now (W.sent writer.old) (W.sent writer.new)) }
     ensures err { OnErr result (Looks (served machine.now Look) false machine.now (W.sent writer.old) (W.sent writer.new)) }
     ensures mark { Marks (W.failed writer.old) (W.failed writer.new) result }
@@ -178,7 +182,7 @@ fn obey_look<W: Output>(machine: &Machine, writer: &mut W) -> Result<(), EndFaul
 /// At most 2,048 bytes of memory.
 #[tactic(auto, unfolding(crate::specs::Replies::memory_reply))]
 fn obey_memory<W: Output>(
-    machine: &Machine,
+    machine: &LentMachine,
     at: u16,
     n: u16,
     writer: &mut W,
@@ -194,7 +198,7 @@ fn obey_memory<W: Output>(
 }
 
 /// What a name means.
-fn obey_find<W: Output>(machine: &Machine, name: &[u8], writer: &mut W) -> Result<(), EndFault>
+fn obey_find<W: Output>(machine: &LentMachine, name: &[u8], writer: &mut W) -> Result<(), EndFault>
     ensures ok { OnOk result (Looks (served machine.now (Find name.now)) true machine.now (W.sent writer.old) (W.sent writer.new)) }
     ensures err { OnErr result (Looks (served machine.now (Find name.now)) false machine.now (W.sent writer.old) (W.sent writer.new)) }
     ensures mark { Marks (W.failed writer.old) (W.failed writer.new) result }
@@ -203,7 +207,7 @@ fn obey_find<W: Output>(machine: &Machine, name: &[u8], writer: &mut W) -> Resul
 }
 
 /// Where a word was made.
-fn obey_view<W: Output>(machine: &Machine, name: &[u8], writer: &mut W) -> Result<(), EndFault>
+fn obey_view<W: Output>(machine: &LentMachine, name: &[u8], writer: &mut W) -> Result<(), EndFault>
     ensures ok { OnOk result (Looks (served machine.now (View name.now)) true machine.now (W.sent writer.old) (W.sent writer.new)) }
     ensures err { OnErr result (Looks (served machine.now (View name.now)) false machine.now (W.sent writer.old) (W.sent writer.new)) }
     ensures mark { Marks (W.failed writer.old) (W.failed writer.new) result }
@@ -212,7 +216,7 @@ fn obey_view<W: Output>(machine: &Machine, name: &[u8], writer: &mut W) -> Resul
 }
 
 /// The image up to HERE.
-fn obey_image<W: Output>(machine: &Machine, entry: u16, writer: &mut W) -> Result<(), EndFault>
+fn obey_image<W: Output>(machine: &LentMachine, entry: u16, writer: &mut W) -> Result<(), EndFault>
     ensures ok { OnOk result (Looks (served machine.now (Image entry)) true machine.now (W.sent writer.old) (W.sent writer.new)) }
     ensures err { OnErr result (Looks (served machine.now (Image entry)) false machine.now (W.sent writer.old) (W.sent writer.new)) }
     ensures mark { Marks (W.failed writer.old) (W.failed writer.new) result }
@@ -221,7 +225,7 @@ fn obey_image<W: Output>(machine: &Machine, entry: u16, writer: &mut W) -> Resul
 }
 
 /// The version of the requests and their replies.
-fn obey_version<W: Output>(_machine: &Machine, writer: &mut W) -> Result<(), EndFault>
+fn obey_version<W: Output>(_machine: &LentMachine, writer: &mut W) -> Result<(), EndFault>
     ensures ok { OnOk result (Looks (served _machine.now Version) true _machine.now (W.sent writer.old) (W.sent writer.new)) }
     ensures err { OnErr result (Looks (served _machine.now Version) false _machine.now (W.sent writer.old) (W.sent writer.new)) }
     ensures mark { Marks (W.failed writer.old) (W.failed writer.new) result }
@@ -230,7 +234,7 @@ fn obey_version<W: Output>(_machine: &Machine, writer: &mut W) -> Result<(), End
 }
 
 /// A frame that is no request.
-fn obey_unknown<W: Output>(_machine: &Machine, writer: &mut W) -> Result<(), EndFault>
+fn obey_unknown<W: Output>(_machine: &LentMachine, writer: &mut W) -> Result<(), EndFault>
     ensures ok { OnOk result (Looks (served _machine.now Unknown) true _machine.now (W.sent writer.old) (W.sent writer.new)) }
     ensures err { OnErr result (Looks (served _machine.now Unknown) false _machine.now (W.sent writer.old) (W.sent writer.new)) }
     ensures mark { Marks (W.failed writer.old) (W.failed writer.new) result }
@@ -241,7 +245,7 @@ fn obey_unknown<W: Output>(_machine: &Machine, writer: &mut W) -> Result<(), End
 /// The colon word that a name means, as text.
 fn obey_see<W: Output>(
     alloc: Global,
-    machine: &Machine,
+    machine: &LentMachine,
     name: &[u8],
     writer: &mut W,
 ) -> Result<(), EndFault>
@@ -257,7 +261,7 @@ fn obey_see<W: Output>(
 
 /// What is made of the list of all headers.
 fn obey_listing<W: Output>(
-    machine: &Machine,
+    machine: &LentMachine,
     listing: Listing,
     room: &mut Room,
     writer: &mut W,
@@ -271,7 +275,7 @@ fn obey_listing<W: Output>(
 
 /// Where the thread of the colon word is that a name means.
 fn obey_extent<W: Output>(
-    machine: &Machine,
+    machine: &LentMachine,
     name: &[u8],
     headers: &mut HeaderList,
     writer: &mut W,
@@ -285,7 +289,7 @@ fn obey_extent<W: Output>(
 
 /// The updated buffers are written, and how many could not be is the reply.
 fn obey_save<W: Output, D: Device>(
-    machine: &Machine,
+    machine: &LentMachine,
     device: &mut D,
     count: u32,
     kind: u8,
@@ -304,7 +308,7 @@ fn obey_save<W: Output, D: Device>(
 /// Does what a request asks that needs no room for a list of headers. One that needs it is refused.
 fn obey_plainly<W: Output, D: Device>(
     alloc: Global,
-    machine: &mut Machine,
+    machine: &mut LentMachine,
     device: &mut D,
     count: u32,
     command: Command<'_>,
@@ -342,7 +346,7 @@ fn obey_plainly<W: Output, D: Device>(
 /// Does what a request asks over a device of `count` blocks, and replies. On a failed writer a front of the replies was sent: of a run, those of the moves that were made.
 pub fn obey<W: Output, D: Device>(
     alloc: Global,
-    machine: &mut Machine,
+    machine: &mut LentMachine,
     device: &mut D,
     count: u32,
     room: &mut Room,
@@ -366,7 +370,7 @@ pub fn obey<W: Output, D: Device>(
 /// is none.
 pub fn obey_in_place<W: Output, D: Device>(
     alloc: Global,
-    machine: &mut Machine,
+    machine: &mut LentMachine,
     device: &mut D,
     count: u32,
     command: Command<'_>,

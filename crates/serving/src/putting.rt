@@ -14,7 +14,7 @@ use crate::state::{Front, MOST, register_cells};
 use arrayvec::ArrayVec;
 use block_buffers::Entry;
 use block_buffers::buffers::Buffers;
-use inner_interpreter::Machine;
+use inner_interpreter::LentMachine;
 use machine::{Registers, halt_of, marked, wait_of};
 use stacks::Stack;
 
@@ -184,7 +184,7 @@ fn registers_in(cells: &[u16], count: u16) -> Option<Registers>
 }
 
 /// Whether these cells are the registers of a machine.
-fn are_registers(machine: &Machine, cells: &[u16]) -> bool
+fn are_registers(machine: &LentMachine, cells: &[u16]) -> bool
     ensures yes { IsTrue result → cells.now ≡ register_cells machine.now }
     ensures no { IsFalse result → cells.now ≢ register_cells machine.now }
     ensures machine { IsMachine machine.now }
@@ -197,7 +197,7 @@ fn are_registers(machine: &Machine, cells: &[u16]) -> bool
 
 /// Puts the machine back whose registers these bytes are, over the same memory and device, and answers whether there is one. If there is none,
 /// nothing changes.
-pub fn put_back(machine: &mut Machine, body: &[u8]) -> bool
+pub fn put_back(machine: &mut LentMachine, body: &[u8]) -> bool
     ensures yes { IsTrue result → IsPutBack machine.old body.now machine.new }
     ensures no { IsFalse result → (t : State) → IsPutBack machine.old body.now t → ⊥ }
     ensures stays { IsFalse result → machine.new ≡ machine.old }

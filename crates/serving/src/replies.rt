@@ -7,7 +7,7 @@ ghost use Rattle.inner_interpreter.specs.Sent.{AppendsPart};
 ghost use Rattle.serving.specs.Replies.{by_cause, by_request, end_reply, standing_after};
 
 use crate::frames::send_frame;
-use inner_interpreter::{Cause, EndFault, Event, Machine, Output};
+use inner_interpreter::{Cause, EndFault, Event, LentMachine, Output};
 use machine_parts::parts::Request;
 
 /// What a machine does after an act: a letter, and a number.
@@ -46,7 +46,7 @@ fn by_cause(cause: Cause) -> Standing
 }
 
 /// What the machine does after an act of this event.
-fn standing_after(machine: &Machine, event: Event) -> Standing
+fn standing_after(machine: &LentMachine, event: Event) -> Standing
     ensures { result ≡ standing_after machine.now event }
 {
     if let Event::Fault(fault) = event {
@@ -64,7 +64,7 @@ fn standing_after(machine: &Machine, event: Event) -> Standing
 /// The end of a request that may move the machine.
 #[tactic(auto, unfolding(crate::specs::Replies::end_reply))]
 pub fn end<W: Output>(
-    machine: &Machine,
+    machine: &LentMachine,
     writer: &mut W,
     done: u32,
     event: Event,

@@ -10,7 +10,7 @@ ghost use Rattle.serving.specs.Requests.{Run};
 use crate::frames::{show, shown_len};
 use crate::replies::end;
 use block_buffers::Device;
-use inner_interpreter::{Act, EndFault, Event, Machine, Output, answer_read, answer_write};
+use inner_interpreter::{Act, EndFault, Event, LentMachine, Output, answer_read, answer_write};
 use machine_parts::parts::Request;
 
 /// What comes next in a run.
@@ -49,7 +49,14 @@ fn next_if_asked(count: u32, request: Request) -> Next
 /// What comes next in a run of at most `limit` ticks over a device of so many blocks, after an act of this event, so many ticks
 /// and so many shown bytes.
 #[tactic(auto, unfolding(crate::specs::Running::next_of))]
-fn next_of(machine: &Machine, count: u32, limit: u32, event: Event, done: u32, shown: u32) -> Next
+fn next_of(
+    machine: &LentMachine,
+    count: u32,
+    limit: u32,
+    event: Event,
+    done: u32,
+    shown: u32,
+) -> Next
     ensures { result ≡ next_of count limit machine.now event done shown }
 {
     if is_fault(event) || machine.halted().is_some() {
@@ -63,7 +70,7 @@ fn next_of(machine: &Machine, count: u32, limit: u32, event: Event, done: u32, s
 }
 
 /// Answers what is asked, by the device.
-fn answer_asked<D: Device>(machine: &mut Machine, device: &mut D, request: Request) -> Act
+fn answer_asked<D: Device>(machine: &mut LentMachine, device: &mut D, request: Request) -> Act
     requires { IsAsking machine.old request }
     ensures acted { (reads : List (Option ℕ)) → HasActed machine.old machine.new (D.calls device.old) (D.calls device.new) reads reads result }
     ensures settled { machine.new.wait ≡ None }
@@ -78,7 +85,7 @@ fn answer_asked<D: Device>(machine: &mut Machine, device: &mut D, request: Reque
 /// At most `limit` ticks, with the answers of a device of `count` blocks between them, up to what it cannot answer, a fault or a halt. It ends before
 /// a tick if 2,048 bytes or more were shown.
 pub fn run<W: Output, D: Device>(
-    machine: &mut Machine,
+    machine: &mut LentMachine,
     device: &mut D,
     count: u32,
     limit: u32,

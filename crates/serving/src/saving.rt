@@ -5,7 +5,7 @@ ghost use Rattle.block_buffers.specs.DeviceCalls.{DeviceCall};
 ghost use Rattle.serving.specs.Saving.{AreSaved, unsaved};
 
 use block_buffers::{Device, Entry};
-use inner_interpreter::Machine;
+use inner_interpreter::LentMachine;
 
 /// The block of a buffer that is to be written.
 #[tactic(auto, unfolding(crate::specs::Saving::unsaved))]
@@ -19,7 +19,7 @@ fn unsaved(entry: Entry, count: u32) -> Option<u16>
 }
 
 /// Writes the block of a buffer if it was updated and is one of the first `count`, and answers whether that failed.
-fn save_entry<D: Device>(machine: &Machine, device: &mut D, count: u32, entry: Entry) -> u16
+fn save_entry<D: Device>(machine: &LentMachine, device: &mut D, count: u32, entry: Entry) -> u16
     requires { entry.slot < length machine.now.parts.buffers }
     ensures saved { (calls : List DeviceCall) × (D.calls device.new ≡ D.calls device.old ++ calls)
         × AreSaved count machine.now.parts (entry ∷ []) calls result }
@@ -37,7 +37,7 @@ fn save_entry<D: Device>(machine: &Machine, device: &mut D, count: u32, entry: E
 
 /// Writes the updated buffers whose blocks are among the first `count`, the most recently referenced first, and answers how many of them could not be
 /// written. The machine keeps their marks.
-pub fn save<D: Device>(machine: &Machine, device: &mut D, count: u32) -> u16
+pub fn save<D: Device>(machine: &LentMachine, device: &mut D, count: u32) -> u16
     ensures saved { (calls : List DeviceCall) × (D.calls device.new ≡ D.calls device.old ++ calls)
         × AreSaved count machine.now.parts machine.now.parts.buffers calls result }
 {

@@ -10,7 +10,7 @@ use crate::obeying::obey;
 use crate::requests::{command_of, is_quit};
 use crate::taking::{Taken, take_frame};
 use block_buffers::Device;
-use inner_interpreter::{Input, Machine, Output};
+use inner_interpreter::{Input, LentMachine, Output};
 use std::alloc::Global;
 
 /// Why no request comes any more.
@@ -31,7 +31,7 @@ pub enum Ending {
 /// Serves a request, and passes its replies on. Answers why none comes after it, if that is so.
 fn serve_one<W: Output, D: Device>(
     alloc: Global,
-    machine: &mut Machine,
+    machine: &mut LentMachine,
     device: &mut D,
     count: u32,
     room: &mut Room,
@@ -63,7 +63,7 @@ fn serve_one<W: Output, D: Device>(
 /// Serves the next request, if there is one.
 fn serve_next<R: Input, W: Output, D: Device>(
     alloc: Global,
-    machine: &mut Machine,
+    machine: &mut LentMachine,
     device: &mut D,
     count: u32,
     room: &mut Room,
@@ -94,7 +94,7 @@ fn serve_next<R: Input, W: Output, D: Device>(
 /// updated buffers; and just the replies are sent, each passed on before the next frame is awaited.
 pub fn serve<R: Input, W: Output, D: Device>(
     alloc: Global,
-    machine: &mut Machine,
+    machine: &mut LentMachine,
     device: &mut D,
     room: &mut Room,
     body: &mut Vec<u8>,

@@ -13,7 +13,7 @@ use crate::frames::send_cells;
 use arrayvec::ArrayVec;
 use block_buffers::Entry;
 use block_buffers::buffers::Buffers;
-use inner_interpreter::{EndFault, Machine, Output};
+use inner_interpreter::{EndFault, LentMachine, Output};
 use machine::{halt_numbers, mark, wait_numbers};
 use stacks::Stack;
 
@@ -37,7 +37,7 @@ pub struct Front {
 }
 
 /// The numbers of a machine.
-fn front_of(machine: &Machine) -> Front
+fn front_of(machine: &LentMachine) -> Front
     ensures { result ≡ front_of machine.now }
 {
     let (has_pending, pending) = mark(machine.pending());
@@ -113,7 +113,7 @@ fn add_buffers(cells: &mut ArrayVec<u16, MOST>, buffers: &Buffers)
 
 /// Adds the stacks and the buffers of a machine.
 #[tactic(auto, using(crate::proofs::States::three_parts))]
-fn add_contents(cells: &mut ArrayVec<u16, MOST>, machine: &Machine)
+fn add_contents(cells: &mut ArrayVec<u16, MOST>, machine: &LentMachine)
     requires { array_vec_len cells.old ≤ 11 }
     ensures { cells.new.items ≡ cells.old.items ++ content_cells machine.now.parts }
 {
@@ -124,7 +124,7 @@ fn add_contents(cells: &mut ArrayVec<u16, MOST>, machine: &Machine)
 
 /// What a machine has beside memory, without what it asks and why it halted.
 #[tactic(auto, unfolding(crate::specs::Registers::state_cells))]
-fn state_cells(machine: &Machine) -> ArrayVec<u16, MOST>
+fn state_cells(machine: &LentMachine) -> ArrayVec<u16, MOST>
     ensures { result.items ≡ state_cells machine.now.parts }
 {
     let front = front_of(machine);
@@ -141,7 +141,7 @@ fn state_cells(machine: &Machine) -> ArrayVec<u16, MOST>
 
 /// All registers of a machine.
 #[tactic(auto, unfolding(crate::specs::Registers::register_cells))]
-pub fn register_cells(machine: &Machine) -> ArrayVec<u16, MOST>
+pub fn register_cells(machine: &LentMachine) -> ArrayVec<u16, MOST>
     ensures { result.items ≡ register_cells machine.now }
 {
     let front = front_of(machine);
@@ -164,7 +164,7 @@ pub fn register_cells(machine: &Machine) -> ArrayVec<u16, MOST>
 
 /// What a machine has beside memory.
 #[tactic(auto, unfolding(crate::specs::Replies::state_reply))]
-pub fn send_state<W: Output>(machine: &Machine, writer: &mut W) -> Result<(), EndFault>
+pub fn send_state<W: Output>(machine: &LentMachine, writer: &mut W) -> Result<(), EndFault>
     ensures ok { OnOk result (Appends (W.sent writer.old) (W.sent writer.new) (state_reply machine.now.parts)) }
     ensures err { OnErr result (AppendsPart (W.sent writer.old) (W.sent writer.new) (state_reply machine.now.parts)) }
     ensures mark { Marks (W.failed writer.old) (W.failed writer.new) result }
@@ -174,7 +174,7 @@ pub fn send_state<W: Output>(machine: &Machine, writer: &mut W) -> Result<(), En
 
 /// All registers of a machine.
 #[tactic(auto, unfolding(crate::specs::Replies::registers_reply))]
-pub fn send_registers<W: Output>(machine: &Machine, writer: &mut W) -> Result<(), EndFault>
+pub fn send_registers<W: Output>(machine: &LentMachine, writer: &mut W) -> Result<(), EndFault>
     ensures ok { OnOk result (Appends (W.sent writer.old) (W.sent writer.new) (registers_reply machine.now)) }
     ensures err { OnErr result (AppendsPart (W.sent writer.old) (W.sent writer.new) (registers_reply machine.now)) }
     ensures mark { Marks (W.failed writer.old) (W.failed writer.new) result }

@@ -49,7 +49,7 @@ pub returns-in-Ok-debug-clause-debugged : goal.returns-in-Ok-debug-clause-debugg
 returns-in-Ok-debug-clause-debugged g c =
     let status = c.end_with.ensures.status ∙ c.status_of.ensures in
     record {
-      ran = λ other fine good kept file f. ran_of file _ c.count.ensures.told status (of_file c.load-machine.ensures (c.in-Ok.ensures.accepted file f) c.as_bytes-text.ensures.value c.in-Ok-debug.ensures.debugged) fine good kept;
+      ran = λ other fine good kept file f. ran_of file _ c.count.ensures.told status (of_file c.in-Ok-load.ensures (c.in-Ok.ensures.accepted file f) c.as_bytes-text.ensures.value c.in-Ok-debug.ensures.debugged) fine good kept;
       untraced = search rules;
       unmarked = search rules;
       refused = search rules;
@@ -59,26 +59,26 @@ returns-in-Ok-debug-clause-debugged g c =
       output = search rules;
       input = search rules;
       lines = search rules;
-      told = told_of _ _ _ c.load-machine.ensures status c.in-Ok-debug.ensures.debugged;
+      told = told_of _ _ _ c.in-Ok-load.ensures status c.in-Ok-debug.ensures.debugged;
       one = search rules;
       passed = λ fine kept. let p = c.in-Ok-debug.ensures.debugged.run.passed fine kept in (p.0, λ other. p.1);
-      cut = λ fine failed file f typed u disk k sent s. inl (cut_of file c.count.ensures.told (of_file c.load-machine.ensures (c.in-Ok.ensures.accepted file f) c.as_bytes-text.ensures.value c.in-Ok-debug.ensures.debugged) fine failed typed u disk k sent s);
-      faulted = λ fine failed file f. faulted_of file c.count.ensures.told (of_file c.load-machine.ensures (c.in-Ok.ensures.accepted file f) c.as_bytes-text.ensures.value c.in-Ok-debug.ensures.debugged) fine failed;
-      unfinished = λ fine failed file f. unfinished_of file c.count.ensures.told (of_file c.load-machine.ensures (c.in-Ok.ensures.accepted file f) c.as_bytes-text.ensures.value c.in-Ok-debug.ensures.debugged) fine failed;
-      moved = λ file f traced. inl (moved_of _ c.count.ensures.value status (of_file c.load-machine.ensures (c.in-Ok.ensures.accepted file f) c.as_bytes-text.ensures.value c.in-Ok-debug.ensures.debugged));
+      cut = λ fine failed file f typed u disk k sent s. inl (cut_of file c.count.ensures.told (of_file c.in-Ok-load.ensures (c.in-Ok.ensures.accepted file f) c.as_bytes-text.ensures.value c.in-Ok-debug.ensures.debugged) fine failed typed u disk k sent s);
+      faulted = λ fine failed file f. faulted_of file c.count.ensures.told (of_file c.in-Ok-load.ensures (c.in-Ok.ensures.accepted file f) c.as_bytes-text.ensures.value c.in-Ok-debug.ensures.debugged) fine failed;
+      unfinished = λ fine failed file f. unfinished_of file c.count.ensures.told (of_file c.in-Ok-load.ensures (c.in-Ok.ensures.accepted file f) c.as_bytes-text.ensures.value c.in-Ok-debug.ensures.debugged) fine failed;
+      moved = λ file f traced. inl (moved_of _ c.count.ensures.value status (of_file c.in-Ok-load.ensures (c.in-Ok.ensures.accepted file f) c.as_bytes-text.ensures.value c.in-Ok-debug.ensures.debugged));
     }
 
 pub returns-clause-debugged : goal.returns-clause-debugged
 returns-clause-debugged g c = record {
   ran = search rules;
   untraced = λ fine file f why is. printed_why _ _ _ _ _ _ _ is
-      (fault_of c.load-machine.ensures (c.in-Ok.ensures.accepted file f) c.as_bytes-text.ensures.value c.in-Err-debug.ensures.refused)
+      (fault_of c.in-Ok-load.ensures (c.in-Ok.ensures.accepted file f) c.as_bytes-text.ensures.value c.in-Err-debug.ensures.refused)
       (subst (λ w. PrintsUntraced c.args.name.now c.in-Err-debug.fault c.refuse_debug.result.status (g.W.Output.sent w) (g.W.Output.sent c.refuse_debug.new.writer)) c.in-Err-debug.ensures.writer (c.refuse_debug.ensures.printed fine));
   unmarked = search rules;
   refused = search rules;
   unrun = search rules;
   wanting = λ fine file f ok one. printed_want _ _ _ _ _ _ ok
-      (fault_of c.load-machine.ensures (c.in-Ok.ensures.accepted file f) c.as_bytes-text.ensures.value c.in-Err-debug.ensures.refused)
+      (fault_of c.in-Ok-load.ensures (c.in-Ok.ensures.accepted file f) c.as_bytes-text.ensures.value c.in-Err-debug.ensures.refused)
       (subst (λ w. PrintsUntraced c.args.name.now c.in-Err-debug.fault c.refuse_debug.result.status (g.W.Output.sent w) (g.W.Output.sent c.refuse_debug.new.writer)) c.in-Err-debug.ensures.writer (c.refuse_debug.ensures.printed fine));
   untouched = search rules;
   output = search rules;

@@ -1,7 +1,7 @@
 use Rattle.std.proofs.Common.{refl, subst, take}
 use Rattle.image_loader.specs.Files.{Contents, IsWritten}
 use Rattle.memory.specs.Mirrored.{stored}
-use Rattle.forth83_c.specs.Kept.{state_of}
+use Rattle.machine.specs.Registers.{state_of}
 use Rattle.forth83_c.proofs.running.save.Goals as goal
 
 pub returns-in-Ok-write_into-clause-saved : goal.returns-in-Ok-write_into-clause-saved

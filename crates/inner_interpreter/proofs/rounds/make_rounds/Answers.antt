@@ -7,23 +7,23 @@ use Rattle.inner_interpreter.proofs.rounds.make_rounds.Goals as goal
 
 pub returns-in-Ok-clause-moved : goal.returns-in-Ok-clause-moved
 returns-in-Ok-clause-moved g c =
-    moved_went _ _ _ _ _ _ _ _ _ (runs_running _ c.requires.goes (asked_none _ (search rules))) c.ticks_onward-count.ensures.ran c.ticks_onward-count.ensures.most c.in-Ok.ensures.ok
+    moved_went _ _ _ _ _ _ _ _ _ (runs_running _ c.requires.goes (asked_none _ (search rules))) c.ticks_onward-made.ensures.ran c.ticks_onward-made.ensures.most c.in-Ok.ensures.ok
 
 pub returns-in-Err-clause-moved : goal.returns-in-Err-clause-moved
 returns-in-Err-clause-moved g c =
-    moved_went_part _ _ _ _ _ _ _ _ _ (runs_running _ c.requires.goes (asked_none _ (search rules))) c.ticks_onward-count.ensures.ran c.ticks_onward-count.ensures.most c.in-Err.ensures.err
+    moved_went_part _ _ _ _ _ _ _ _ _ (runs_running _ c.requires.goes (asked_none _ (search rules))) c.ticks_onward-made.ensures.ran c.ticks_onward-made.ensures.most c.in-Err.ensures.err
 
 pub returns-in-Ok-clause-read : goal.returns-in-Ok-clause-read
-returns-in-Ok-clause-read g c = went_read _ c.args.machine.now _ _ c.ticks_onward-count.ensures.ran
+returns-in-Ok-clause-read g c = went_read _ c.args.machine.now _ _ c.ticks_onward-made.ensures.ran
 
 pub returns-in-Ok-clause-ok : goal.returns-in-Ok-clause-ok
 returns-in-Ok-clause-ok g c = λ w at.
-    let on = c.ticks_onward-count.ensures in
+    let on = c.ticks_onward-made.ensures in
     went_at _ w c.args.machine.now _ _ _ _ _ _ _ _ c.requires.goes (asked_none _ (search rules)) on.ran on.some on.most on.unmet c.in-Ok.ensures.ok at
 
 pub returns-in-Err-clause-cut : goal.returns-in-Err-clause-cut
 returns-in-Err-clause-cut g c = λ failed w at.
-    let on = c.ticks_onward-count.ensures in
+    let on = c.ticks_onward-made.ensures in
     went_cut _ w c.args.machine.now _ _ _ _ _ _ _ _ c.requires.goes (asked_none _ (search rules)) on.ran on.some on.most on.unmet c.in-Err.ensures.err at
 
 pub returns-in-Ok-flush_before-clause-ok : goal.returns-in-Ok-flush_before-clause-ok
@@ -42,12 +42,12 @@ returns-in-Err-flush_before-clause-cut g c = λ failed w at. flush_cut _ w _ _ _
 
 pub returns-in-Ok-clause-lines : goal.returns-in-Ok-clause-lines
 returns-in-Ok-clause-lines g c =
-    let on = c.ticks_onward-count.ensures in
+    let on = c.ticks_onward-made.ensures in
     went_first _ _ _ _ _ _ (runs_running _ c.requires.goes (asked_none _ (search rules))) on.ran on.some on.most on.unmet
 
 pub returns-in-Err-clause-lines : goal.returns-in-Err-clause-lines
 returns-in-Err-clause-lines g c =
-    let on = c.ticks_onward-count.ensures in
+    let on = c.ticks_onward-made.ensures in
     went_first _ _ _ _ _ _ (runs_running _ c.requires.goes (asked_none _ (search rules))) on.ran on.some on.most on.unmet
 
 pub returns-in-Ok-flush_before-clause-lines : goal.returns-in-Ok-flush_before-clause-lines

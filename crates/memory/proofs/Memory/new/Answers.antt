@@ -1,7 +1,6 @@
-use Rattle.std.proofs.Common.{ap}
-use Rattle.memory.specs.declared.Memory.{Memory}
+use Rattle.std.proofs.Common.{refl}
 use Rattle.memory.proofs.Behind.{zeros_are}
 use Rattle.memory.proofs.Memory.new.Goals as goal
 
-pub returns-in-Ok : goal.returns-in-Ok
-returns-in-Ok c = zeros_are _ (ap (λ (m : Memory). m.bytes) c.in-Ok.ensures.ok)
+pub returns-clause-zeros : goal.returns-clause-zeros
+returns-clause-zeros c = zeros_are _ refl

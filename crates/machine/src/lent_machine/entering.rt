@@ -7,7 +7,7 @@ ghost use Rattle.machine.specs.Tick.{Runs, is_running};
 ghost use Rattle.machine.specs.Entering.{entered, with_parts, with_bytes, with_cell, can_save, saved};
 ghost use Rattle.machine.specs.Registers.{registers_of, with_registers};
 
-use super::Machine;
+use super::LentMachine;
 use crate::act::Refused;
 use crate::registers::Registers;
 use block_buffers::buffers::Buffers;
@@ -34,7 +34,7 @@ pub enum SaveRefused {
 #[error("HERE is below 256, or above where the block buffers begin")]
 pub struct BadSize;
 
-impl<'m> Machine<'m> {
+impl<'m> LentMachine<'m> {
     /// Enters a word: the return stack is emptied, `ip` is 0, and the word comes next. `Halted` where the machine is, else
     /// `Waiting` while a request waits; it is then unchanged.
     pub fn enter(&mut self, word: u16) -> Result<(), Refused>

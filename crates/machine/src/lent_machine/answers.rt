@@ -4,7 +4,7 @@ ghost use Rattle.std.specs.Prelude.{◌≡◌, None, Some, true, false, IsTrue, 
 ghost use Rattle.std.specs.List.{list_all};
 ghost use Rattle.machine.specs.Answer.{asked_by, fits_request, is_answer, seen, IsSpelled, answered, is_line, TakesFit, RefusesHalted, RefusesUnfit, line_shown, key_answered, line_answered, read_answered, write_answered, input_stopped, is_typed};
 
-use super::{Machine, quiet};
+use super::{LentMachine, quiet};
 use crate::act::{Act, Answer, Cause, Event, Refused, Shown};
 use machine_parts::faults::{DATA_OVERFLOW, DATA_UNDERFLOW, READ_FAILED, WRITE_FAILED};
 use machine_parts::parts::{Request, Span};
@@ -71,7 +71,7 @@ impl<'a> Answer<'a> {
     }
 }
 
-impl<'m> Machine<'m> {
+impl<'m> LentMachine<'m> {
     /// The answer to the request that waits. `Halted` where the machine is; else `NotAsked` where no request
     /// is, or the answer doesn't fit it. The machine is then unchanged.
     #[tactic(auto, unfolding(crate::specs::Answer::answer_of))]

@@ -1,9 +1,9 @@
 use Rattle.std.proofs.Common.{refl, rules}
-use Rattle.inner_interpreter.proofs.runs.run.Goals as goal
+use Rattle.inner_interpreter.proofs.machine_runs.run.Goals as goal
 
 pub returns-clause-runs : goal.returns-clause-runs
 returns-clause-runs g c =
-    let r = c.run_with.ensures.runs in
+    let r = c.in_ok-stop.ensures.runs in
     record {
       whole = λ fine good w at. (r.whole fine good refl w at).ends;
       ended = λ fine good. r.ended fine good refl;

@@ -1,8 +1,8 @@
 use Rattle.std.proofs.Common.{ap, sym, ◌∙◌}
 use Rattle.machine_parts.specs.Whole.{Whole}
 use Rattle.machine.specs.State.{State}
-use Rattle.forth83_c.proofs.Lending.{named}
-use Rattle.forth83_c.proofs.lent.part.Goals as goal
+use Rattle.machine.proofs.Lending.{named}
+use Rattle.machine.proofs.rest.part.Goals as goal
 
 pub returns-clause-same : goal.returns-clause-same
 returns-clause-same c = λ name here.
