@@ -7,8 +7,8 @@ import pathlib
 import re
 from typing import Callable, Dict, FrozenSet, Iterable, List, NamedTuple, Optional, Set, Tuple
 
-GLOSSARIES = pathlib.Path(__file__).resolve().parent / "glossaries"
-SCREENS = GLOSSARIES.parent.parent / "screens"
+ROOT = pathlib.Path(__file__).resolve().parent.parent
+GLOSSARIES, SCREENS = ROOT / "data/glossaries", ROOT / "screens"
 DIALECTS = SCREENS / "dialects"
 NAMES = {"fig": "fig-FORTH", "f79": "Forth-79", "f83": "F83", "poly": "polyFORTH"}
 ALL = tuple(NAMES)
@@ -136,7 +136,7 @@ DIGITS = r"-?[0-9A-F]*[0-9][0-9A-F]*"
 
 @functools.lru_cache(maxsize=None)
 def glossary(name: str) -> FrozenSet[str]:
-    """The words of a published glossary, as a file of commands/glossaries lists them below the lines that name it."""
+    """The words of a published glossary, as a file of data/glossaries lists them below the lines that name it."""
     text = (GLOSSARIES / name).read_text(encoding="ascii")
     return frozenset(re.sub(r"\A(# .*\n)+", "", text).split())
 

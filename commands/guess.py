@@ -14,6 +14,7 @@ SAMPLE = 32 * BLOCK  # bytes that are scored
 TITLE = re.compile(rb"\( |\\ ")
 DEFINITION = re.compile(rb"(?<![^ ])([:;])(?![^ ])")
 OFFSETS = (0, 2560, 4096, 6656, 8192)
+SIDES = (2304, 2560, 3328, 4096, 4608, 5120)  # bytes of a track
 TRACKS = {128: (26, 18), 256: (10, 13, 16, 18), 512: (8, 9, 10)}
 
 
@@ -76,6 +77,9 @@ def orders(data: bytes) -> Iterator[Tuple[str, bytes]]:
     for name, disk in wild.DISKS.items():
         if len(data) % (disk.sector * disk.sectors) == 0:
             yield f"--format {name}", wild.disk_read(disk, data)[:SAMPLE]
+    for track in SIDES:
+        if len(data) % (2 * track) == 0:
+            yield f"--format blocks --sides {track}", wild.sides_apart(data, track)[:SAMPLE]
     for lines in (24, 16):
         records = [data[at:at + 80][:LINE].ljust(LINE) for at in range(0, min(len(data), SAMPLE), 80)]
         screens = [b"".join(records[at:at + 16]).ljust(BLOCK) for at in range(0, len(records), lines)]

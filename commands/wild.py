@@ -51,6 +51,26 @@ def disk_order(disk: Disk, size: int) -> List[int]:
     return order
 
 
+def whole_tracks(data: bytes, track: int) -> List[bytes]:
+    """The tracks of a disk with two sides."""
+    if track < 1 or len(data) % (2 * track):
+        raise Wild(f"its {len(data)} bytes are not two sides of tracks of {track} bytes")
+    return [data[at:at + track] for at in range(0, len(data), track)]
+
+
+def sides_apart(data: bytes, track: int) -> bytes:
+    """All tracks of the first side, and then those of the second, of a disk that has them in turn."""
+    tracks = whole_tracks(data, track)
+    return b"".join(tracks[::2] + tracks[1::2])
+
+
+def sides_in_turn(data: bytes, track: int) -> bytes:
+    """What `sides_apart` makes apart."""
+    tracks = whole_tracks(data, track)
+    half = len(tracks) // 2
+    return b"".join(piece for pair in zip(tracks[:half], tracks[half:]) for piece in pair)
+
+
 def disk_read(disk: Disk, data: bytes) -> bytes:
     """The sectors of a disk, one after the other."""
     return b"".join(data[at:at + disk.sector] for at in disk_order(disk, len(data)))

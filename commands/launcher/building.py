@@ -130,7 +130,7 @@ class Unproved:
         """Says that it is built, and shows the seconds at a terminal. It makes a folder, of which it keeps the name, when it begins to build;
         before that it compares the sums of the sources, which takes a while on a busy machine."""
         while running.poll() is None and not os.path.exists(self.path + ".room"):
-            time.sleep(0.1)
+            time.sleep(0.01)
         if running.poll() is None:
             say(f"building the program without its proofs, which takes {duration()}")
         is_shown, seconds = os.isatty(2), 0

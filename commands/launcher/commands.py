@@ -97,22 +97,31 @@ def go_through_course(words: list[str]) -> int:
     return session([*[f"--{how}"] * bool(how), "--no-start", course.START, blocks])
 
 
-def where(words: list[str]) -> NoReturn:
+def where(words: list[str]) -> int:
     """Shows at which word of an image its fault happens."""
     how, rest = take_program(words)
     if rest and rest[0].startswith("-"):
         raise Misused(f"where has no option {rest[0]}")
     if len(rest) not in (1, 2):
         raise Misused("where needs an IMAGE, and BLOCKS if the image uses a file of blocks")
-    become("commands/where", find(how), *rest)
+    from served import way  # a session does not need it
+
+    return way.where(find(how), rest[0], rest[1] if rest[1:] else None)
 
 
-OWN: dict[str, Callable[[list[str]], int]] = {"page": make_page, "course": go_through_course, "where": where}
+def run_tests(words: list[str]) -> int:
+    """Runs files of tests."""
+    from launcher import tests
+
+    return tests.main(*take_program(words))
+
+
+OWN: dict[str, Callable[[list[str]], int]] = {"page": make_page, "course": go_through_course, "where": where, "test": run_tests}
 COMMANDS = {*SCRIPTS, *OWN}
 
 
 def do_command(command: str, words: list[str]) -> int:
-    if HELP & set(own(words)) and command in ("course", "where"):
+    if HELP & set(own(words)) and command in ("course", "where", "test"):
         sys.stdout.write(usage(command))
         return 0
     if command == "page" and HELP & set(own(words)):

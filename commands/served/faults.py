@@ -1,32 +1,25 @@
 """Faults in words, with their place: the one table of messages, and where a word of the input is."""
 from __future__ import annotations
 
+import os
 import re
 from typing import NamedTuple
-
-from served.dialects import hint
 
 UNKNOWN, MISSING, FULL, SAID = 13, 15, 8, 17
 WIDTH = 100  # columns of a line that a message shows
 LONGEST_NAME = 31
 PREFIXES = {"$": 16, "#": 10, "%": 2}
-MESSAGES = {
-    1: "the stack was empty",
-    2: "the stack was full",
-    3: "the return stack was empty",
-    4: "the return stack was full",
-    5: "division by zero, or a quotient too large",
-    6: "not the address of a word",
-    7: "there is no such screen",
-    8: "the dictionary is full",
-    9: "the screen cannot be read",
-    10: "the screen cannot be written: make room on the disk, then SAVE",
-    11: "a chain of the dictionary is broken",
-    12: "BASE was outside 2 to 72",
-    15: "a name or a text is missing or too long",
-    16: "screen 0 cannot be loaded",
-    17: "",
-}
+TEXTS = os.path.join(os.path.dirname(os.path.dirname(os.path.dirname(os.path.realpath(__file__)))), "data", "faults.txt")
+
+
+def section(name: str) -> list[tuple[str, str]]:
+    """The texts of a section of data/faults.txt, with their names."""
+    with open(TEXTS, encoding="utf-8") as file:
+        body = file.read().partition(f"\n% {name}\n")[2].partition("\n% ")[0]
+    return [(line.partition(" ")[0], line.partition(" ")[2]) for line in body.splitlines() if line]
+
+
+MESSAGES = dict(section("faults"))
 
 
 class Input(NamedTuple):
@@ -61,7 +54,8 @@ def plain(text: bytes) -> str:
 
 class Known(NamedTuple):
     """What the machine knows when a fault happens: whether some word has the name that is not found, whether a dialect hides a tool of
-    that name, the dictionary's room, whether a dialect is loaded, the word that follows, and BASE."""
+    that name, the dictionary's room, whether a dialect is loaded, the word that follows, BASE, advice for an unknown word, and whether a text
+    follows without its quote."""
 
     is_name: bool = False
     is_hidden: bool = False
@@ -69,6 +63,8 @@ class Known(NamedTuple):
     has_dialect: bool = False
     follows: str = ""
     base: int = 10
+    advice: str = ""
+    is_open_text: bool = False
 
 
 def is_too_large(word: str, base: int) -> bool:
@@ -84,20 +80,27 @@ def is_too_large(word: str, base: int) -> bool:
 def message(fault: int, word: str, known: Known) -> str:
     """What a fault means."""
     if fault == UNKNOWN and known.is_hidden:
-        said = f"{word} is unknown in this dialect; screens do not find the tool of that name"
+        said = MESSAGES["hidden"].format(word=word)
     elif fault == UNKNOWN and not known.is_name and not known.has_dialect and is_too_large(word, known.base):
-        said = f"{word} does not fit in a cell of 16 bits; {word}. is a double number"
+        said = MESSAGES["large"].format(word=word)
     elif fault == UNKNOWN:
-        said = f"{word} is protected, or in another vocabulary" if known.is_name else f"{word} is unknown{hint(word)}"
+        said = MESSAGES["elsewhere" if known.is_name else "unknown"].format(word=word) + ("" if known.is_name else known.advice)
     elif fault == FULL:
-        said = f"{MESSAGES[FULL]}; bytes left: {known.left}" + "; a dialect needs 2048" * known.has_dialect + "; FORGET makes room"
+        said = MESSAGES["full"].format(message=MESSAGES[str(FULL)], left=known.left, needs=MESSAGES["needs"] * known.has_dialect)
+    elif fault == MISSING and known.is_open_text:
+        said = MESSAGES["unquoted"]
     elif fault == MISSING and max(len(word), len(known.follows)) > LONGEST_NAME:
-        said = f"a name has at most {LONGEST_NAME} characters"
+        said = MESSAGES["long"].format(most=LONGEST_NAME)
     elif fault == MISSING and not known.follows:
-        said = "a name or a text must follow"
+        said = MESSAGES["follows"]
     else:
-        said = MESSAGES.get(fault, "the program raised a fault of its own, or its words were overwritten")
-    return f"{said} (fault {fault})"
+        said = MESSAGES.get(str(fault), MESSAGES["own"])
+    return MESSAGES["numbered"].format(said=said, fault=fault)
+
+
+def leaving(number: int, word: bytes) -> str:
+    """What is said to someone who wants to leave the Forth by EXIT, which is a word for definitions."""
+    return MESSAGES["leaving"] if number == SAID and word.upper() == b"EXIT" else ""
 
 
 def marked(text: bytes, at: int) -> list[str]:

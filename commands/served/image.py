@@ -13,13 +13,13 @@ from typing import Callable
 from served.table import numbers
 
 ROOT = os.path.dirname(os.path.dirname(os.path.dirname(os.path.realpath(__file__))))
-TOOLS = ("show", "names", "structures", "later", "dialect", "start")
-TEXTS = [os.path.join(ROOT, "screens", "tools", f"{name}.txt") for name in TOOLS]
-SERVED = os.path.join(ROOT, "screens", "served", "served.txt")  # takes the place of screens of the same numbers
-ORDER = os.path.join(ROOT, "screens", "served", "order.txt")
+TEXTS = sorted(glob.glob(os.path.join(ROOT, "screens", "tools", "*.txt")))
+ORDER = os.path.join(ROOT, "screens", "order.txt")  # is loaded over the image, puts its words into their order, and forgets itself
+LIBRARY = os.path.join(ROOT, "screens", "library")  # texts that INCLUDE finds from any folder
+DIALECT = os.path.join(ROOT, "screens", "tools", "dialect.txt")
+OF_DIALECTS = re.compile(r"^% screen \d+\n\( Order: what dialects need.*?(?=^% screen)", re.M | re.S)
 BLOCK = 1024
 KERNEL = "1", "20"  # its screens
-DOORS = "tools", "piped", "quiet"
 
 
 class NotMade(Exception):
@@ -83,26 +83,19 @@ def new_room(name: str) -> tuple[str, str]:
 
 
 def find(program: str, kernel: str = "") -> str:
-    """The folder with `served.img`, what a session starts with, and `plain.img`, the kernel alone. The kernel is the program's own, or
-    that in screens 1 to 20 of a file."""
+    """The folder with `served.img`, what a session starts with; `small.img`, the same without what dialects need, for programs; and
+    `plain.img`, the kernel alone. The kernel is the program's own, or that in screens 1 to 20 of a file."""
     if kernel and not os.path.isfile(kernel):
         raise NotMade(f"{kernel} does not exist, or cannot be read")
-    made_of = [program, *TEXTS, SERVED, ORDER, *([kernel] if kernel else [])]
+    if not kernel and os.path.isdir(beside(program)):
+        return beside(program)
+    made_of = [program, *TEXTS, ORDER, *([kernel] if kernel else [])]
     return kept("served", made_of, lambda room: make(program, kernel, room))
 
 
-def find_doors(program: str) -> str:
-    """The folder with `tools.img`, `piped.img` and `quiet.img`: the tools as programs and checks without a host have them."""
-
-    def make_doors(room: str) -> None:
-        kernel = os.path.join(room, "kernel.blk")
-        run(program, "kernel", kernel)
-        run(os.path.join(ROOT, "build", "images"), "--doors", program, kernel, *(os.path.join(room, f"{name}.img") for name in DOORS))
-        os.unlink(kernel)
-
-    texts = sorted(glob.glob(os.path.join(ROOT, "screens", "tools", "**", "*.txt"), recursive=True))
-    dialects = sorted(glob.glob(os.path.join(ROOT, "screens", "dialects", "*.txt")))
-    return kept("doors", [program, os.path.join(ROOT, "build", "images"), *texts, *dialects], make_doors)
+def beside(program: str) -> str:
+    """Where the same images are beside a program that cannot make them, as a server in C."""
+    return os.path.join(os.path.dirname(os.path.realpath(program)), "images", sum_of([*TEXTS, ORDER]))
 
 
 def run(*words: str) -> None:
@@ -112,6 +105,11 @@ def run(*words: str) -> None:
     done = subprocess.run(words, stdin=subprocess.DEVNULL, capture_output=True, check=False)
     if done.returncode:
         raise NotMade((done.stdout + done.stderr).decode(errors="replace").strip() or f"{words[1]} ended with {done.returncode}")
+
+
+def read(path: str) -> str:
+    with open(path, encoding="utf-8") as file:
+        return file.read()
 
 
 def write(path: str, text: str) -> str:
@@ -138,23 +136,37 @@ def make_kernel(program: str, kernel: str, room: str, blocks: str) -> None:
                       f"forth: then: dd if=new.blk of={kernel} bs=1024 skip=1 seek=1 count=20 conv=notrunc") from error
 
 
+def text_of(said: str) -> str:
+    """The text of the tools that has the screen with which this message begins."""
+    screen = re.match(r"screen \d+", said)
+    return next((os.path.relpath(path, ROOT) for path in TEXTS if screen and f"% {screen[0]}\n" in read(path)), "the tools")
+
+
+def make_served(program: str, kernel: bytes, texts: str, order: str, made: str) -> None:
+    """Makes an image of the kernel's screens and these texts, with its words in their order."""
+    import tempfile
+
+    with tempfile.TemporaryDirectory() as room:
+        text, blocks, orders, first = (os.path.join(room, name) for name in ("text", "all.blk", "order.blk", "made.img"))
+        with open(blocks, "wb") as file:
+            file.write(kernel[:BLOCK] + re.sub(rb"BOOT COLD *", lambda found: b" " * len(found[0]), kernel[BLOCK : 21 * BLOCK]))
+        run(program, "screens", write(text, with_numbers(texts) + "% screen 199\nBOOT COLD\n"), blocks)
+        try:
+            run(program, "build", "--where", blocks, "1", "199", first)
+        except NotMade as error:
+            raise NotMade(f"{text_of(str(error))}: {error}") from error
+        run(program, "screens", write(text, order), orders)
+        run(program, "load", first, orders, "1", re.findall(r"^% screen (\d+)$", order, re.M)[-1], made)
+
+
 def make(program: str, kernel: str, room: str) -> None:
     """Makes the images of a session in a folder."""
-    blocks, order, made = (os.path.join(room, name) for name in ("all.blk", "order.blk", "made.img"))
+    blocks, order = os.path.join(room, "all.blk"), read(ORDER)
     make_kernel(program, kernel, room, blocks)
-    with open(blocks, "rb+") as file:
+    with open(blocks, "rb") as file:
         screens = file.read()
-        file.seek(0)
-        file.write(screens[:BLOCK] + re.sub(rb"BOOT COLD *", lambda found: b" " * len(found[0]), screens[BLOCK : 21 * BLOCK]))
-    with open(SERVED, encoding="utf-8") as file:
-        served = write(os.path.join(room, "served.txt"), with_numbers(file.read()))
-    boot = write(os.path.join(room, "boot.txt"), "% screen 199\nBOOT COLD\n")
-    for text in [*TEXTS, served, boot]:
-        run(program, "screens", text, blocks)
-    run(program, "build", blocks, "1", "199", made)
-    run(program, "screens", ORDER, order)
-    with open(ORDER, encoding="utf-8") as file:
-        last = re.findall(r"^% screen (\d+)$", file.read(), re.M)[-1]
-    run(program, "load", made, order, "1", last, os.path.join(room, "served.img"))
-    for path in blocks, order, made, served, boot:
-        os.unlink(path)
+    os.unlink(blocks)
+    texts = [(path, read(path)) for path in TEXTS]
+    make_served(program, screens, "".join(text for _, text in texts), order, os.path.join(room, "served.img"))
+    small = "".join(text for path, text in texts if path != DIALECT)
+    make_served(program, screens, small, re.sub(OF_DIALECTS, "", order), os.path.join(room, "small.img"))

@@ -19,11 +19,13 @@ STATUSES = {"b": 0, "x": 0, "y": FAILED, "h": FAULTED}  # of a machine that has 
 class Kernel(Output):
     """A machine that runs the kernel, over standard input and output."""
 
+    is_logged = False  # whether what it is given is kept from the start
+
     def __init__(self, words: list[str], blocks: Optional[str], signals: Signals) -> None:
-        super().__init__(True)
-        self._signals, self._pipe = signals, Pipe(signals)
-        self._wire = Wire(words, self.show)
-        self._keeping = Keeping(Target(self._wire, Texts(), blocks), True)
+        super().__init__(True, signals)
+        self._pipe = Pipe(signals)
+        self.target = Target(Wire(words, self.show), Texts(), blocks)
+        self._keeping = Keeping(self.target, True)
 
     def run(self) -> int:
         """Runs until the machine halts, the input ends, or a signal comes; the status."""
@@ -43,24 +45,29 @@ class Kernel(Output):
 
     def _halted(self) -> int:
         """Runs the machine until it has halted; the status."""
-        stop = self._wire.run(0)
+        stop = self.target.run(0)
         while stop.how not in STATUSES:
             self._signals.look()
             if self._signals.take_interrupt():
                 raise Interrupted
             stop = self._answered(stop)
         if stop.how == "h":
-            self._report(f"fault {stop.number}, which no fault thread handled, has stopped the machine\n")
+            self._stopped(stop.number)
         return STATUSES[stop.how]
+
+    def _stopped(self, fault: int) -> None:
+        self._report(f"fault {fault}, which no fault thread handled, has stopped the machine\n")
 
     def _answered(self, stop: Stop) -> Stop:
         """Answers what the machine asks for, or lets it go on; a block is asked for only if its file lacks it."""
+        if not self.is_logged:
+            self.target.begin()
         if stop.how == "k":
             key = self._pipe.byte()
-            return self._wire.answer("x") if key is None else self._wire.answer("k", bytes([key]))
+            return self.target.give("x") if key is None else self.target.give("k", bytes([key]))
         if stop.how == "l":
             line = self._pipe.expected(stop.number)
-            return self._wire.answer("x") if line is None else self._wire.answer("l", line)
+            return self.target.give("x") if line is None else self.target.give("l", line)
         if stop.how in "rw":
-            return self._wire.answer("f" if stop.how == "r" else "g")
-        return self._wire.run(SLICE)
+            return self.target.give("f" if stop.how == "r" else "g")
+        return self.target.run(SLICE)

@@ -4,12 +4,10 @@ from __future__ import annotations
 import os
 import re
 
-from served.image import TOOLS
-
 ROOT = os.path.dirname(os.path.dirname(os.path.dirname(os.path.realpath(__file__))))
-# The words that users type; those of sessions alone; then the inner words of the tools.
+# The words that users type; then the inner words of the tools.
 PAGES = tuple(os.path.join(ROOT, *part) for part in (("docs", "WORDS.md"), ("docs", "PROGRAM.md"), ("screens", "tools", "INNER.md")))
-HEADING = re.compile(r"^### \d+\. (.+)$|^## (\S+\.txt): |^## (The session)$")
+HEADING = re.compile(r"^### \d+\. (.+)$|^## (\S+\.txt): ")
 ROW = re.compile(r"^\| `([^ ]+)(?: NAME)?` \| `([^`]*)` \|(?: (yes)? ?\|)? (.+) \|$")
 
 
@@ -24,12 +22,12 @@ def entries(page: str, name: str) -> list[str]:
     for line in page.splitlines():
         heading = HEADING.match(line)
         if heading:
-            inner = f"the inner words of screens/tools/{heading.group(2)}" if str(heading.group(2))[:-4] in TOOLS else ""
-            section = heading.group(1) or heading.group(3) or inner
+            section = heading.group(1) or f"the inner words of screens/tools/{heading.group(2)}"
         row = ROW.match(line)
         if section and row and row.group(1) in (name, name.upper()):
             immediate = ", immediate" if row.group(3) else ""
-            found.append(f"{row.group(1)}  {row.group(2)}{immediate}\n  {plain(row.group(4))}\n  in: {section}")
+            says = row.group(4).replace(" Example: ", "\n  example: ").replace(" shows `..", " shows .. `")
+            found.append(f"{row.group(1)}  {row.group(2)}{immediate}\n  {plain(says)}\n  in: {section}")
     return found
 
 
@@ -41,7 +39,8 @@ def help_for(name: str) -> str:
     for path in PAGES:
         try:
             with open(path, encoding="utf-8") as page:
-                found += entries(page.read(), name)[::-1]  # the tools' word runs, and hides the kernel's
+                loaded, _, texts = page.read().partition("\n## Texts that come with the Forth\n")
+                found += entries(loaded, name)[::-1] + entries(texts, name)  # the tools' word runs, and hides the kernel's
         except OSError as error:
             return f"cannot read {path}: {error.strerror}"
     if not found:

@@ -1,27 +1,102 @@
-"""An image of one's own program, for `./forth --image`: its screens, compiled over the tools that need no host."""
+"""An image of one's own program, for `./forth --image`: a session loads its screens and texts, and the image is taken from it."""
 from __future__ import annotations
 
 import os
-import re
-import shutil
-import subprocess
 import sys
-import tempfile
+from typing import Optional
 
 from served import image
 from served.blocks import look_at_name, open_blocks
-from served.texts import Unreadable
+from served.faults import plain
+from served.output import FAULTED
+from served.prompt import Ended, Signals
+from served.script import Script
+from served.session import Session
+from served.table import FIRST, MARK, SECOND, SERVICE
+from served.target import STATE, Target
+from served.texts import FIRST as FIRST_TEXT, Line, Unreadable
 
-REFUSED = {  # why `load` makes no image
-    "load: Unfinished": "a definition has no ;",
-    "load: Asked": "a screen asks for a key or a line",
-    "load: Halted": "a screen leaves the Forth",
-    "load: Limit": "the screens do not end",
-    "load: BadSize": "no image can end where HERE is",
-}
+SHOWN_LINES = 1  # what DOOR holds if an image that starts with the Forth reads a pipe and shows its lines
+HEADER = 5  # bytes of a header before its name: view, link and count
 
 
-def look_at_own(own: str) -> None:
+class Loaded(Exception):
+    """All lines are done."""
+
+
+class Lines(Script):
+    """The lines that load a program, which has no input of its own."""
+
+    def line(self, before: bytes, keeps: bool) -> Optional[bytes]:
+        raise Unreadable("what it loads asks for a line")
+
+    def key(self) -> Optional[int]:
+        raise Unreadable("what it loads asks for a key")
+
+    whole_key = key
+
+
+class Maker(Session):
+    """A session that shows nothing. When its lines are done, it has what the image is to have."""
+
+    ending = ""
+    is_silent = False  # whether it does not even report a fault
+
+    def write(self, stream: int, text: bytes) -> None:
+        if stream == 2 and not self.is_silent:
+            super().write(stream, text)
+
+    def _script_line(self) -> None:
+        if not self.lines:
+            raise Loaded
+        self.lines -= 1
+        super()._script_line()
+
+    def load(self, lines: int) -> None:
+        """Does its lines, which are so many; Unreadable or Ended says why that was not possible."""
+        self.lines = lines
+        try:
+            ended = Ended(self.run())
+        except Unreadable:
+            self.end()
+            raise
+        except Loaded:
+            if not self.wire.cell(STATE):
+                return
+            name = plain(self.wire.headers()[-1].name)
+            self.end()
+            raise Unreadable(f"the definition of {name} has no ;") from None
+        if ended.status == 0:
+            raise Unreadable("what it loads leaves the Forth")
+        raise ended
+
+    def end(self) -> int:
+        """Writes the screens that what it loaded has changed; the status."""
+        return self.keeping.close(0, self.report)
+
+    def start(self) -> str:
+        """The word that the image starts with; empty if it is the Forth."""
+        return start_of(self.target)
+
+    def image(self) -> bytes:
+        """The bytes of its file."""
+        return image_of(self.target)
+
+
+def start_of(target: Target) -> str:
+    """The word that an image of this machine starts with; empty if it is the Forth."""
+    token = target.variable("'BOOT")
+    return "".join(plain(header.name) for header in target.wire.headers() if token and header.token == token)
+
+
+def image_of(target: Target) -> bytes:
+    """The file of an image of this machine. Nobody is its host, and no line of a text is where one of its words was made: the texts are gone."""
+    places = {header.token - len(header.name) - HEADER: 0 for header in target.wire.headers() if header.view >= FIRST_TEXT}
+    target.wire.set_cells({**places, SERVICE: 0, FIRST: 0, SECOND: 0, MARK: 0, target.address("DOOR"): SHOWN_LINES})
+    return target.wire.image(target.address("COLD") - 2)
+
+
+def look_at_own(own: str, images: str) -> None:
     """Refuses an image's name that cannot be one, or that is in the way."""
     if os.path.isdir(own):
         raise Unreadable(f"{own} is a folder; name an image")
@@ -30,46 +105,69 @@ def look_at_own(own: str) -> None:
         with open(own, "rb") as file:
             if file.read(8) != b"FTH83IMG":
                 raise Unreadable(f"{own} exists already, and is not an image")
+    if os.path.exists(own) and any(os.path.samefile(own, entry.path) for entry in os.scandir(images)):
+        raise Unreadable(f"{own} is one of the launcher's own images; name another file")
 
 
-def tried(program: str, doors: str, blocks: str, first: int, last: int) -> str:
-    """What the screens show when they are loaded as by a script, from a copy of their blocks; Unreadable if there is a fault."""
-    with tempfile.TemporaryDirectory() as room:
-        copy = shutil.copy(blocks, os.path.join(room, "copy.blk"))
-        line = f"TOOLS 0 LINE-NO ! FORTH {first} {last} THRU [ CR TOOLS .BOOT\n"
-        done = subprocess.run([program, "run", "--", os.path.join(doors, "quiet.img"), copy], input=line.encode(), stdout=subprocess.PIPE,
-                              check=False)
-    shown = done.stdout.decode(errors="replace")
-    if done.returncode:
-        raise Unreadable(shown.strip("\n"))
-    return shown
+def write_own(own: str, made: bytes) -> None:
+    """Writes the image beside its place, and puts it there when it is whole."""
+    is_file = os.path.isfile(own) or not os.path.exists(own)
+    new = f"{own}.forth83-new" if is_file else own
+    try:
+        with open(new, "wb") as file:
+            file.write(made)
+        if is_file:
+            os.replace(new, own)
+    except OSError as error:
+        if is_file and os.path.isfile(new):
+            os.unlink(new)
+        raise Unreadable(f"it cannot be written: {error.strerror}") from error
 
 
-def make_own(program: str, own: str, first: int, last: int, blocks: str) -> int:
-    """Makes the image, and says with which word it starts; the status."""
+def lines_of(screens: list[int], blocks: str) -> list[Line]:
+    """The line that loads these screens."""
     if not os.path.exists(blocks):
         raise Unreadable(f"there is no {blocks} to make an image from")
-    look_at_own(own)
+    first, last = screens
     if first > last:
         raise Unreadable(f"there are no screens from {first} to {last}")
-    open_blocks(program, blocks)
-    doors = image.find_doors(program)
-    if os.path.exists(own) and any(os.path.samefile(own, entry.path) for entry in os.scandir(doors)):
-        raise Unreadable(f"{own} is one of the launcher's own images; name another file")
+    if last >= os.path.getsize(blocks) // 1024:
+        raise Unreadable(f"{blocks} has screens 0 to {os.path.getsize(blocks) // 1024 - 1}")
+    return [Line("", 0, f"{first} {last} THRU".encode())]
+
+
+def loaded(program: str, images: str, blocks: Optional[str], lines: list[Line]) -> Maker:
+    """A session that has done these lines: over the small image if that has all that they need, otherwise over that of all sessions."""
+    for base in "small.img", "served.img":
+        signals = Signals()
+        words = [program, "serve", os.path.join(images, base), *([blocks] if blocks else [])]
+        maker = Maker(words, blocks, signals, Lines(signals, lines[:], False, False), [])
+        maker.is_silent = base == "small.img"
+        try:
+            maker.load(len(lines))
+            break
+        except Ended as ended:
+            if ended.status != FAULTED or not maker.is_silent:
+                raise
+    return maker
+
+
+def make_own(program: str, own: str, screens: list[int], blocks: Optional[str], lines: list[Line]) -> int:
+    """Makes the image of these screens, if any, and then these lines; says with which word it starts. The status."""
+    lines, images = [*(lines_of(screens, blocks or "") if screens else []), *lines], image.find(program)
+    look_at_own(own, images)
+    if blocks:
+        open_blocks(program, blocks)
     try:
-        shown = tried(program, doors, blocks, first, last)
+        maker = loaded(program, images, blocks, lines)
+        starts, made = maker.start(), maker.image()
+        status = maker.end()
+        write_own(own, made)
     except Unreadable as error:
-        sys.stderr.write(f"forth: {own} was not made:\n{error}\n")
+        sys.stderr.write(f"forth: {own} was not made: {error}\n")
         return 1
-    words = [program, "load", "--where", "--", os.path.join(doors, "piped.img"), blocks, str(first), str(last), own]
-    done = subprocess.run(words, stdin=subprocess.DEVNULL, capture_output=True, check=False)
-    said = done.stdout.decode(errors="replace").strip()
-    if done.returncode:
-        is_closed = said.endswith(f"cannot open {own}")
-        why = "it cannot be written: is its disk full, or its folder read-only?" if is_closed else REFUSED.get(said, said.replace("error: ", "", 1))
-        sys.stderr.write(f"forth: {own} was not made: {why}\n{done.stderr.decode(errors='replace')}")
-        return 1
-    booted = re.match(r"in (.*) of screen ", shown.rstrip("\n").rpartition("\n")[2])
-    starts = booted[1] if booted else "the Forth; BOOT NAME in a screen has it start with NAME"
-    sys.stderr.write(f"forth: {own} starts with {starts}\n")
-    return 0
+    except Ended as ended:
+        sys.stderr.write(f"forth: {own} was not made\n")
+        return 1 if ended.status == FAULTED else ended.status
+    sys.stderr.write(f"forth: {own} starts with {starts or 'the Forth; BOOT NAME has it start with NAME'}\n")
+    return status

@@ -8,7 +8,9 @@ from served.wire import Header, Refused, State
 
 MOST = 100  # machines that are kept
 SLICE = 1_000_000
-INTERPRETERS = (b"BY-NAMES", b"BY-ROWS", b"BY-DIALECT", b"INTERPRET")  # what calls the words of a line
+NO_FAULT, TOO_MUCH = "there was no fault yet", "the line took too many keys, blocks and services to be run again, or used ports"
+# What calls the words of a line, or the word that an image starts with.
+INTERPRETERS = (b"BY-NAMES", b"BY-ROWS", b"BY-DIALECT", b"INTERPRET", b"DO-BOOT", b"COLD")
 
 
 class Kept(NamedTuple):
@@ -40,6 +42,7 @@ class Past:
 
     def __init__(self, target: Target) -> None:
         self._target, self._kept, self.fault = target, [], None  # type: Target, list[Kept], Optional[Fault]
+        self.why_none = NO_FAULT
         try:
             target.wire.registers()
             self.is_able = True
@@ -52,8 +55,10 @@ class Past:
             self._kept = [*self._kept[1 - MOST :], keep(self._target)]
 
     def fault_taken(self) -> None:
+        log = self._target.log if self._target.wire.acts() == self._target.acts else None
         if self._kept:
-            self.fault = Fault(self._kept[-1], self._target.ticks, list(self._target.log))
+            self.fault = None if log is None else Fault(self._kept[-1], self._target.ticks, list(log))
+            self.why_none = TOO_MUCH if log is None else NO_FAULT
 
     def undo(self, lines: int) -> bool:
         """Puts back the machine as it was before the last of so many lines; whether there was one."""
@@ -81,6 +86,7 @@ class Past:
         wire, left, log = self._target.wire, fault.ticks - 1, list(fault.log)
         shown, wire.shown = wire.shown, lambda text: None
         try:
+            left -= self._run_to_stop(left)
             while log and log[0][0] != "n" and left >= 0:
                 kind, body = log.pop(0)
                 wire.ask(kind, body)

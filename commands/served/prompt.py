@@ -1,14 +1,17 @@
 """The terminal of a session: lines by GNU readline, keys, and what signals ask for."""
 from __future__ import annotations
 
+import _thread
+import contextlib
 import io
 import os
 import select
 import signal
 import sys
 import termios
+import time
 import unicodedata
-from typing import Callable, Optional
+from typing import Callable, Iterator, Optional
 
 try:
     import readline
@@ -16,6 +19,7 @@ except ImportError:  # some builds of Python have none
     readline = None  # type: ignore[assignment]
 
 GLANCE = 0.3  # seconds after which a signal is seen at the latest
+PATIENCE = 1.0  # seconds that readline has to let a signal be seen
 KEPT = 10_000  # lines of the history
 ENDINGS = (signal.SIGTERM, signal.SIGHUP, signal.SIGQUIT)
 KEYS = {  # what EKEY leaves for a sequence
@@ -38,7 +42,12 @@ class Ended(Exception):
 
 
 class Signals:
-    """Notes ^C and the signals that end a session; where a line or a key is awaited, they end the wait."""
+    """Notes ^C and the signals that end a session; where a line or a key is awaited, they end the wait.
+
+    A signal can come where its exception ends nothing: in a function that readline or `input` calls, which drop it, or just before the
+    wait. And Python handles a signal that comes while readline does something else than wait when the next signal comes. So an alarm comes
+    every GLANCE seconds of a wait, and asks again.
+    """
 
     def __init__(self) -> None:
         self.is_waiting = False
@@ -47,19 +56,34 @@ class Signals:
         for number in ENDINGS:
             signal.signal(number, self._on_ending)
         signal.signal(signal.SIGPIPE, signal.SIG_IGN)
-        signal.signal(signal.SIGALRM, lambda number, frame: None)
+        signal.signal(signal.SIGALRM, self._ask)
+        come, comes = os.pipe()
+        os.set_blocking(comes, False)
+        signal.set_wakeup_fd(comes, warn_on_full_buffer=False)
+        _thread.start_new_thread(self._watch, (come,))
+
+    def _watch(self, come: int) -> None:
+        """Within a sequence of keys, as ^R, readline lets nobody see a signal: so its input ends if the session is to end."""
+        while True:
+            if set(os.read(come, 64)) & set(ENDINGS):
+                time.sleep(PATIENCE)
+                if not self._status:
+                    os.dup2(os.open(os.devnull, os.O_RDONLY), 0)
 
     def _on_interrupt(self, number: int, _: object) -> None:
         self._interrupted = True
-        if self.is_waiting:
-            self.is_waiting = False
-            raise Interrupted
+        self._ask()
 
     def _on_ending(self, number: int, _: object) -> None:
         self._status = 128 + number
+        self._ask()
+
+    def _ask(self, *_: object) -> None:
+        """Ends a wait, if a signal has come."""
         if self.is_waiting:
-            self.is_waiting = False
-            raise Ended(self._status)
+            self.look()
+            if self._interrupted:
+                raise Interrupted
 
     def take_interrupt(self) -> bool:
         """Whether ^C came since the last call."""
@@ -78,18 +102,26 @@ class Signals:
             raise Ended(self._status)
 
     def wait(self, awaited: Callable[[], bytes]) -> bytes:
-        """What is awaited; Interrupted or Ended if a signal comes before.
-
-        Python handles a signal that comes while readline does something else than wait when the next signal comes: so an alarm comes.
-        """
-        self.is_waiting = True
+        """What is awaited; Interrupted or Ended if a signal comes before."""
         signal.setitimer(signal.ITIMER_REAL, GLANCE, GLANCE)
         try:
-            self.look()
+            self.is_waiting = True
+            self._ask()
             return awaited()
+        except SystemError as error:  # input() returned a line, though a signal had raised something in it
+            raise (error.__cause__ or error) from None
         finally:
             self.is_waiting = False
             signal.setitimer(signal.ITIMER_REAL, 0)
+
+    @contextlib.contextmanager
+    def undisturbed(self) -> Iterator[None]:
+        """Within a wait: what is done here is done whole, as a talk with the program that runs the Forth."""
+        was_waiting, self.is_waiting = self.is_waiting, False
+        try:
+            yield
+        finally:
+            self.is_waiting = was_waiting
 
 
 def history_file() -> str:
@@ -104,7 +136,8 @@ class Terminal:
 
     def __init__(self, signals: Signals, names: Callable[[], list[str]]) -> None:
         self._signals, self._names, self._matches = signals, names, []  # type: Signals, Callable[[], list[str]], list[str]
-        self._cooked = termios.tcgetattr(0)
+        self._tty = os.dup(0)  # its settings, also after the input has ended
+        self._cooked = termios.tcgetattr(self._tty)
         self._is_raw = False
         self.draft = ""  # what the next line begins with
         self.row = b""  # what the row shows in which the session goes on after a line
@@ -136,6 +169,10 @@ class Terminal:
             self.draft = ""
 
     def _complete(self, part: str, at: int) -> Optional[str]:
+        with self._signals.undisturbed():
+            return self._match(part, at)
+
+    def _match(self, part: str, at: int) -> Optional[str]:
         if at == 0:
             before = readline.get_line_buffer()[: readline.get_begidx()].upper().split()
             if before and before[-1] in ("INCLUDE", "RELOAD"):
@@ -151,7 +188,7 @@ class Terminal:
         self._show_typing()
         prompt = self._prompt(before.decode(errors="replace"))
         if prompt:
-            os.write(1, b"\r")
+            self._put(b"\r")
 
         def typed() -> bytes:
             return input(prompt).encode(sys.stdin.encoding, "surrogateescape")
@@ -165,8 +202,16 @@ class Terminal:
         if keeps and line and readline:
             self._keep(os.fsdecode(line))
         row = prompt + line.decode(errors="replace")
-        self.row = (row + " ").encode(errors="replace") if join(row) else b""
+        joint = join(row)
+        self._put(joint)
+        self.row = (row + " ").encode(errors="replace") if joint else b""
         return line
+
+    def _put(self, text: bytes) -> None:
+        """Writes to the terminal; Ended if the session is to end while ^S holds the output."""
+        while not select.select([], [1], [], GLANCE)[1]:
+            self._signals.look()
+        os.write(1, text)
 
     @staticmethod
     def _prompt(shown: str) -> str:
@@ -225,9 +270,9 @@ class Terminal:
     def raw(self) -> None:
         """Keys come at once, and are not shown before they are read."""
         if not self._is_raw:
-            settings = termios.tcgetattr(0)
+            settings = termios.tcgetattr(self._tty)
             settings[3] &= ~(termios.ICANON | termios.ECHO)
-            termios.tcsetattr(0, termios.TCSADRAIN, settings)
+            termios.tcsetattr(self._tty, termios.TCSADRAIN, settings)
             self._is_raw = True
 
     def _show_typing(self) -> None:
@@ -235,19 +280,19 @@ class Terminal:
         if not readline:
             self.cook()
             return
-        settings = termios.tcgetattr(0)
+        settings = termios.tcgetattr(self._tty)
         settings[3] |= termios.ECHO
-        termios.tcsetattr(0, termios.TCSANOW, settings)
+        termios.tcsetattr(self._tty, termios.TCSANOW, settings)
         self._is_raw = False
 
     def cook(self) -> None:
-        termios.tcsetattr(0, termios.TCSANOW, self._cooked)
+        termios.tcsetattr(self._tty, termios.TCSANOW, self._cooked)
         self._is_raw = False
 
     def close(self) -> None:
         """The terminal as it was; the history's file has no more than its last lines."""
         try:
-            termios.tcsetattr(0, termios.TCSADRAIN, self._cooked)
+            termios.tcsetattr(self._tty, termios.TCSANOW, self._cooked)  # does not wait for output that the terminal holds
         except termios.error:
             return
         if readline and history_file() and readline.get_current_history_length() > KEPT:
@@ -258,19 +303,18 @@ class Terminal:
                 pass
 
 
-def join(typed: str) -> bool:
-    """Moves the cursor from the beginning of the next row back to the end of a line that was typed, as on a terminal of a Forth that
-    reads keys itself, and shows a blank; whether it did: not where the end of the line is not known for sure."""
+def join(typed: str) -> bytes:
+    """What moves the cursor from the beginning of the next row back to the end of a line that was typed, as on a terminal of a Forth that
+    reads keys itself, and shows a blank; nothing if the end of the line is not known for sure."""
     try:
         columns = os.get_terminal_size(1).columns
     except OSError:
-        return False
+        return b""
     width = sum(2 if unicodedata.east_asian_width(character) in "WF" else not unicodedata.combining(character) for character in typed)
     at = width % columns if columns > 1 else 0
     if os.environ.get("TERM", "dumb") == "dumb" or not (typed.isprintable() or not typed) or width and at in (0, columns - 1):
-        return False
-    os.write(1, b"\x1b[A" + (b"\x1b[%dC" % at if at else b"") + b" ")
-    return True
+        return b""
+    return b"\x1b[A" + (b"\x1b[%dC" % at if at else b"") + b" "
 
 
 def paths(part: str) -> list[str]:

@@ -1,13 +1,16 @@
 """Reports of faults: the message, the place, and from where the text or screen was loaded."""
 from __future__ import annotations
 
+import itertools
 import os
 from typing import Optional
 
-from served import faults
+from served import faults, past, structures, words
+from served.advice import advice
 from served.script import STANDARD_INPUT
-from served.target import BASE, DP, Target
+from served.target import BASE, DP, signed, Target
 from served.texts import FIRST as FIRST_TEXT, Line
+from served.wire import Header, State
 
 LINE = 64
 
@@ -20,8 +23,16 @@ def described(target: Target, number: int) -> str:
     is_name = number == faults.UNKNOWN and target.look_up(os.fsdecode(name)) is not None
     is_hidden, has_dialect = (target.variable(cell) != 0 for cell in ("HIDDEN-TOOL", "DIALECT"))
     left, follows = target.variable("LIMIT") - target.wire.cell(DP), given.text[given.offset :].lstrip(b" ").partition(b" ")[0]
-    known = faults.Known(is_name, is_hidden, left, has_dialect, faults.plain(follows), target.wire.cell(BASE))
+    advice = advice_for(target, faults.plain(name)) if number == faults.UNKNOWN and not is_name else ""
+    is_open = name.endswith(b'"') and b'"' not in given.text[word.stop :]
+    known = faults.Known(is_name, is_hidden, left, has_dialect, faults.plain(follows), target.wire.cell(BASE), advice, is_open)
     return faults.message(number, faults.plain(name), known)
+
+
+def advice_for(target: Target, word: str) -> str:
+    """What was probably meant by a word that is unknown."""
+    newest = target.wire.headers()[-1]
+    return advice(word, words.names(target), faults.plain(newest.name) if newest.is_hidden else None)
 
 
 def report(target: Target, number: int, said: str) -> str:
@@ -30,19 +41,40 @@ def report(target: Target, number: int, said: str) -> str:
     word = faults.word_at(number, given)
     name = given.text[word.start : word.stop]
     place = target.texts.place(given.block)
-    said = f"{said} (fault {number})" if said else described(target, number)
+    is_end = number == faults.SAID and name == b";"
+    hint = open_structure(target, given) if is_end else faults.leaving(number, name)
+    if number == faults.SAID and name.upper() == b"WHILE" and target.wire.headers()[-1].is_hidden:
+        hint = faults.MESSAGES["several"]
+    said = f"{said}{hint} (fault {number})" if said else hint + described(target, number)
     is_placed = place.name != "" if place else given.block != 0
     if number != faults.UNKNOWN and not is_placed and name:
         said += f" at {faults.plain(name)}"
     return "\n".join([said, *place_lines(given, place, word.start), *loader_lines(target, given.block)]) + "\n"
 
 
-def place_lines(given: faults.Input, place: Optional[Line], at: int) -> list[str]:
-    """Where a fault happened: the line, with a mark below byte `at` of the input."""
+def open_structure(target: Target, given: faults.Input) -> str:
+    """What to add to the message that a structure of the open definition is unfinished: which one, if its source says it."""
+    header = target.wire.headers()[-1]
+    place = target.texts.place(given.block)
+    if not header.is_hidden:
+        return ""
+    lines = [("this line", given.text[: given.offset])]
+    if place:
+        first = header.view if FIRST_TEXT <= header.view <= given.block else given.block
+        before = [target.texts.place(block) for block in range(first, given.block)]
+        lines = [(f"line {line.number}", line.text) for line in before if line] + [(f"line {place.number}", given.text[: given.offset])]
+    elif given.block:
+        lines = [(f"line {at // LINE}", given.text[at : min(at + LINE, given.offset)]) for at in range(0, given.offset, LINE)]
+    missing = structures.unfinished([(name, text.decode(errors="replace")) for name, text in lines])
+    return f": {missing}" if missing else ""
+
+
+def place_lines(given: faults.Input, place: Optional[Line], at: int, has_column: bool = True) -> list[str]:
+    """Where a fault happened: the place, and the line with a mark below byte `at` of the input."""
     if place:
         column = faults.columns(given.text[:at]) + 1
         where = f":{column}" if place.name else f", column {column}" if len(place.text) > faults.WIDTH else ""
-        return [named(place) + where, *faults.marked(place.text, at)]
+        return [named(place) + where * has_column, *faults.marked(place.text, at)]
     if not given.block:
         return []
     line = line_of(at)
@@ -75,6 +107,16 @@ def loader_lines(target: Target, block: int) -> list[str]:
             found.append(f"{how} by screen {loader} line {line_of(max(offset - 1, 0))}")
         block = loader
     return found
+
+
+def way(target: Target, state: State, headers: list[Header], memory: bytes) -> str:
+    """The words that led to a fault, from the one that had it on, each with its place; and the stack. The machine is one just before it."""
+    token = state.pending or int.from_bytes(memory[state.ip : state.ip + 2], "little")
+    found = [*(header for header in headers if header.token == token), *past.callers(state, headers, memory)]
+    lines = [f"{faults.plain(header.name):16} {words.place_of(target, header.view, header.token)}" for header in found]
+    counted = [(line, len(list(same))) for line, same in itertools.groupby(lines)]
+    shown = [line + f", {count} times" * (count > 1) for line, count in counted]
+    return "\n".join([*shown, f"stack: {' '.join(str(signed(cell)) for cell in state.stack) or 'empty'}"]) + "\n"
 
 
 def named(place: Line) -> str:

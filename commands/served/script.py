@@ -6,7 +6,7 @@ import select
 from typing import Optional
 
 from served.prompt import Signals
-from served.texts import Line, LONGEST, Unreadable
+from served.texts import EndOf, Line, LONGEST, Unreadable
 
 STANDARD_INPUT = "line"  # how a place in a script of standard input is named
 
@@ -77,15 +77,15 @@ class Script:
             raise Unreadable(f"{STANDARD_INPUT} {self._number}, column {LONGEST + 1}: a line may have {LONGEST} bytes; split it")
         return None if text is None else Line("", self._number, text.replace(b"\t", b" "))
 
-    def close_comment(self, begins: Line) -> bool:
-        """Takes the lines after this one out, up to the first `)`; whether there is one in the same text."""
+    def take_until(self, begins: Line, end_of: EndOf) -> bool:
+        """Takes the lines after this one out, up to an end in one of them; whether there is one in the same text."""
         while True:
             line = self.next()
             if line is None or line.name != begins.name:
                 return False
-            end = line.text.find(b")")
-            if end >= 0:
-                self._lines.insert(0, line._replace(text=b" " * (end + 1) + line.text[end + 1 :]))
+            end = end_of(line.text)
+            if end:
+                self._lines.insert(0, line._replace(text=b" " * end + line.text[end:]))
                 return True
 
     def line(self, before: bytes, keeps: bool) -> Optional[bytes]:

@@ -3,31 +3,38 @@ from __future__ import annotations
 
 import os
 import time
-from typing import TYPE_CHECKING, Optional
+from typing import Callable, TYPE_CHECKING, Optional
 
 from served.manual import help_for
 from served import past, reports, words
-from served.faults import MISSING, SAID, UNKNOWN, plain
+from served.faults import MISSING, SAID, UNKNOWN, plain, section
 from served.prompt import Ended, Interrupted
 from served.script import Script
-from served.table import function_name, numbers
-from served.target import BLK, BLOCK, CONTEXT, FENCE, SCR, STATE, TO_IN, signed
-from served.texts import Unreadable
+from served.profile import Profile
+from served.table import function_name, numbers, SECOND
+from served.target import BLK, BLOCK, CONTEXT, FENCE, SCR, STATE, Target, TO_IN, signed
+from served.texts import end_of_comment, EndOf, FIRST as FIRST_TEXT, LONGEST, Skipped, Unreadable
 from served.wire import Header, Refused
 
 if TYPE_CHECKING:
     from served.session import Session
 
 LINE = 64
-NO_STRUCTURE = {  # why the server cannot show a word
-    5: "a chain of the dictionary is broken",
-    7: "its thread has no structure that SEE knows",
-    8: "it uses a word without a name",
-    9: "it uses a word whose name means another one now",
-    10: "it has a text that cannot be typed",
-    11: "memory ran out",
-    12: "it cannot be shown",
-}
+NO_STRUCTURE = {int(cause): text for cause, text in section("see")}  # why the server cannot show a word
+
+
+# Services that the file of --services registers: each gets the machine, and answers with a fault or 0.
+REGISTERED: dict[int, Callable[[Target], int]] = {}
+
+
+def register(path: str) -> None:
+    """Takes the services of a file of Python."""
+    import runpy
+
+    try:
+        REGISTERED.update(runpy.run_path(path)["SERVICES"])
+    except (OSError, KeyError, SyntaxError) as error:
+        raise Unreadable(f"{path} has no services: {error}") from error
 
 
 class Refusal(Exception):
@@ -38,10 +45,18 @@ class Refusal(Exception):
         self.said, self.fault = said, fault
 
 
+class Moved(Exception):
+    """The machine goes on elsewhere, so that the service has no answer."""
+
+
 def serve(session: Session, number: int) -> int:
     """Does a service; the fault by which it refuses, or 0."""
     names = {number: name for name, number in numbers().items()}
     try:
+        if number in REGISTERED:
+            return REGISTERED[number](session.target)
+        if number not in names:
+            raise Refusal(f"nobody has registered service {number}")
         globals()[function_name(names[number])](session)
     except Refusal as refusal:
         session.refused = refusal.said
@@ -91,16 +106,31 @@ def found_word(session: Session) -> tuple[str, bytes]:
 
 def do_unclosed(session: Session) -> None:
     """A comment does not end in its line of a text, or in its screen; its place is on the stack."""
-    target = session.target
-    given = target.input()
-    place, console = target.texts.place(given.block), session.console
-    if target.texts.close_comment(given.block) or isinstance(console, Script) and place and console.close_comment(place):
+    block = session.target.wire.cell(BLK)
+    if take_until(session, block, end_of_comment):
         return
     begins = numbers_on_stack(session, 1)[0]
-    target.set_cell(TO_IN, begins)
-    if place:
+    session.target.set_cell(TO_IN, begins)
+    if session.target.texts.place(block):
         raise Refusal("this ( is not closed")
     raise Refusal(f"the ( of line {begins // LINE} is not closed")
+
+
+def take_until(session: Session, block: int, end_of: EndOf) -> bool:
+    """Leaves out the lines after this block of a text, up to an end in one of them; whether there is one."""
+    texts, console = session.target.texts, session.console
+    place = texts.place(block)
+    return texts.take_until(block, end_of) or isinstance(console, Script) and place is not None and console.take_until(place, end_of)
+
+
+def do_skip(session: Session) -> None:
+    """[IF] or [ELSE] leaves out what follows, up to its [ELSE] or [THEN]."""
+    target, skipped = session.target, Skipped()
+    given = target.input()
+    end = skipped.end_of(given.text[given.offset :])
+    if not end and not take_until(session, given.block, skipped.end_of):
+        raise Refusal("it has no [THEN]")
+    target.set_cell(TO_IN, given.offset + end if end else len(given.text))
 
 
 def do_include(session: Session) -> None:
@@ -110,7 +140,29 @@ def do_include(session: Session) -> None:
     name = target.word()
     blocks = target.texts.open(name, target.wire.cell(BLK))
     session.open_texts.append(target.texts.last if not name else target.texts.path(name, target.wire.cell(BLK)))
+    session.look_at([(reports.named(line), plain(line.text)) for line in map(target.texts.place, blocks) if line])
     target.set_results(blocks.start, blocks.stop)
+
+
+def do_require(session: Session) -> None:
+    """Does INCLUDE, but of a text that was included it leaves no lines."""
+    target = session.target
+    offset = target.wire.cell(TO_IN)
+    path = target.texts.path(target.word(), target.wire.cell(BLK))
+    if os.path.realpath(path) in target.texts.included:
+        session.open_texts.append(path)
+        target.set_results(0, 0)
+    else:
+        target.set_cell(TO_IN, offset)
+        do_include(session)
+
+
+def do_evaluate(session: Session) -> None:
+    address, size = numbers_on_stack(session, 2)
+    if size > LONGEST:
+        raise Refusal(f"EVALUATE takes at most {LONGEST} bytes")
+    block = session.target.texts.evaluated(session.target.wire.memory(address, size)) if size else 0
+    session.target.set_cell(SECOND, block)
 
 
 def do_included(session: Session) -> None:
@@ -170,6 +222,19 @@ def do_retype(session: Session) -> None:
     at = numbers_on_stack(session, 1)[0]
     line = lines_of(screen(session, session.target.wire.cell(SCR)))[at]
     session.console.draft = f"{at} PUT {line.decode(errors='replace')}"
+
+
+def do_no_line(session: Session) -> None:
+    raise Refusal(f"line {signed(numbers_on_stack(session, 1)[0])} does not exist, 0 to 15 do; nothing was done")
+
+
+def do_no_fit(session: Session) -> None:
+    given = session.target.input()
+    raise Refusal(f"the line has {len(given.text[given.offset :].rstrip(b' '))} characters, {LINE} fit; nothing was done")
+
+
+def do_line_lost(session: Session) -> None:
+    raise Refusal("line 15 is not blank; it would be lost")
 
 
 class Screens:
@@ -267,6 +332,14 @@ def do_save(session: Session) -> None:
     session.keep_journal()
 
 
+def do_update(session: Session) -> None:
+    """The block that was used last, which UPDATE marks: the line of a text that runs has a buffer, too, and it is not meant."""
+    used = next((block for _, block, _ in session.wire.state().buffers if block is not None and block < FIRST_TEXT), None)
+    if used is None:
+        raise Refusal("no block is in a buffer")
+    session.target.set_results(used, 0)
+
+
 def do_bye_with(session: Session) -> None:
     session.status = numbers_on_stack(session, 1)[0] & 255
     do_save(session)
@@ -348,7 +421,67 @@ def do_version(session: Session) -> None:
     session.say(said + ", proved" * (not said.endswith("unproved")) + " ")
 
 
+# Boards and ports
+
+
+def do_save_image(session: Session) -> None:
+    """The board has the machine in its flash as an image, and starts it at its next reset."""
+    from served.own import image_of, start_of
+
+    save = getattr(session.wire, "save_image", None)
+    if save is None:
+        raise Refusal("it needs a board, at the end of --target; ./forth --image OWN saves an image in a file")
+    before = past.keep(session.target)
+    made = image_of(session.target)
+    past.put_back(session.target, before)
+    try:
+        save(made)
+    except Refused as error:
+        raise Refusal("the board cannot write its flash; it keeps the image that it had", 10) from error
+    starts = start_of(session.target) or "the Forth; BOOT NAME before that has it start with NAME"
+    session.say(f"{len(made)} bytes; at its next reset the board starts with {starts} ")
+
+
+def do_port_fetch(session: Session) -> None:
+    raise Refusal(f"there is no port {numbers_on_stack(session, 1)[0]} here")
+
+
+def do_port_store(session: Session) -> None:
+    do_port_fetch(session)
+
+
 # Time, keys, arguments
+
+
+def do_ticks(session: Session) -> None:
+    ticks = session.target.all_ticks
+    session.target.set_results(ticks & 0xFFFF, ticks >> 16 & 0xFFFF)
+
+
+def do_date(session: Session) -> None:
+    """Puts the second, minute, hour, day, month and year into six cells at an address."""
+    now = time.localtime()
+    address = numbers_on_stack(session, 1)[0]
+    for at, number in enumerate((now.tm_sec, now.tm_min, now.tm_hour, now.tm_mday, now.tm_mon, now.tm_year)):
+        session.target.set_cell(address + 2 * at, number)
+
+
+def do_clock(session: Session) -> None:
+    """How many milliseconds a clock shows that only goes forward."""
+    clock = int(time.monotonic() * 1000)
+    session.target.set_results(clock & 0xFFFF, clock >> 16 & 0xFFFF)
+
+
+def do_profile(session: Session) -> None:
+    """The rest of the line is profiled."""
+    session.profile = Profile(session.target)
+
+
+def do_place(session: Session) -> None:
+    """Shows the line of the word that asks, after its place."""
+    given = session.target.input()
+    where, *line = reports.place_lines(given, session.target.texts.place(given.block), 0, False) or ["a line that was typed"]
+    session.say(": ".join([where, *line[:1]]) + "\n")
 
 
 def do_ms(session: Session) -> None:
@@ -392,7 +525,27 @@ def do_environment(session: Session) -> None:
     give_text(session, os.environ.get(session.target.word()), address, most)
 
 
-# Going back, steps
+# What is thrown, going back, steps
+
+
+def do_catch(session: Session) -> None:
+    state = session.target.wire.state()
+    if not state.stack or len(state.returns) < 2:
+        raise Refusal("", 3 if state.stack else 1)
+    session.catching.catch(state)
+
+
+def do_caught(session: Session) -> None:
+    session.catching.done()
+
+
+def do_throw(session: Session) -> None:
+    number = numbers_on_stack(session, 1)[0]
+    if session.catching.throw(number, session.target.wire.state().stack[:-1]):
+        raise Moved
+    if 0 < number < SAID:
+        raise Refusal("", number)
+    raise Refusal(f"{signed(number)} was thrown, and there is no CATCH")
 
 
 def do_undo(session: Session) -> None:
@@ -406,14 +559,8 @@ def do_why(session: Session) -> None:
         raise Refusal("this program cannot keep a machine; build a newer one")
     found = session.past.at_fault()
     if found is None:
-        raise Refusal("there was no fault yet")
-    state, headers, memory = found
-    token = state.pending or int.from_bytes(memory[state.ip : state.ip + 2], "little")
-    failed = [header for header in headers if header.token == token]
-    session.say_line("".join(f"{plain(header.name):16} {words.place_of(session.target, header.view, token)}\n" for header in failed))
-    for header in past.callers(state, headers, memory):
-        session.say(f"{plain(header.name):16} {words.place_of(session.target, header.view, header.token)}\n")
-    session.say(f"stack: {' '.join(str(signed(cell)) for cell in state.stack) or 'empty'}\n")
+        raise Refusal(session.past.why_none)
+    session.say_line(reports.way(session.target, *found))
 
 
 def do_fault_text(session: Session) -> None:

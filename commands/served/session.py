@@ -1,17 +1,19 @@
 """A session: it runs the machine, answers what it asks, and reports its faults."""
 from __future__ import annotations
 
-from typing import Any, Optional, Union
+from typing import Any, Callable, Optional, Union
 
-from served import faults, reports, services, words as words_of
+from served import faults, reports, services, structures, words as words_of
+from served.catching import Catching
 from served.keeping import Keeping
 from served.output import FAILED, FAULTED, Output
 from served.past import Past
+from served.profile import Profile
 from served.prompt import Ended, Interrupted, Signals, Terminal
 from served.script import Script
 from served.steps import Steps
-from served.table import HOST, MARK, NAMES, PROMPT, SECOND, SERVICE
-from served.target import FAULT, SCR, Target
+from served.table import HOST, MARK, NAMES, OWN, PROMPT, SECOND, SERVICE
+from served.target import DP, FAULT, FENCE, SCR, STATE, Target
 from served.texts import Line, Texts, Unreadable
 from served.wire import Gone, Refused, Stop, Wire
 
@@ -22,21 +24,29 @@ TYPED = 127  # bytes of a line that TIB has room for
 class Session(Output):
     """A machine with its console: a terminal, or a script."""
 
-    def __init__(self, words: list[str], blocks: Optional[str], signals: Signals, script: Optional[Script], arguments: list[str]) -> None:
+    ending = "forth: a fault stopped the script\n"  # what is said after a fault in a script
+
+    def __init__(self, words: list[str], blocks: Optional[str], signals: Signals, script: Optional[Script], arguments: list[str],
+                 wire: Callable[[list[str], Callable[[bytes], None]], Wire] = Wire) -> None:
+        """The machine is that of the server that these words start, or that of a board."""
         self.program, self.signals, self.arguments = words[0], signals, arguments
-        super().__init__(script is not None)
-        self.wire = Wire(words, self.show)
+        super().__init__(script is not None, signals)
+        self.wire = wire(words, self.show)
         self.target = Target(self.wire, Texts(), blocks)
         self.console: Union[Terminal, Script] = script or self.terminal()
         self.past = Past(self.target)
         self.steps = Steps(self)
+        self.catching = Catching(self.target)
+        self.profile: Optional[Profile] = None  # of the line that is done
         self.keeping = Keeping(self.target, script is not None)
         self.refused = ""  # what the last service said that refused
         self.faulty: Optional[tuple[int, int, int]] = None  # the screen of the last fault, its line and the byte in it
         self.open_texts: list[str] = []  # those that are being included
+        self.open_lines: list[tuple[str, str]] = []  # those of the open definition
         self.edited: Any = None  # what the editor keeps from one call to the next
         self._breaks = 0  # how often ^C gave up what runs since the last prompt
         self.undoes = False  # UNDO was done in this line
+        self._is_inside = False  # whether the dictionary ends within the Forth
         self.first: list[bytes] = []  # lines that are done before those that are typed
         self.status = 0
         door = 0 if script is None else 1 if script.is_shown else 2
@@ -58,8 +68,8 @@ class Session(Output):
         except Refused as error:
             self.report(f"the machine cannot go on (cause {error.cause} of docs/FORMATS.md)\n")
             return self.keeping.close(FAULTED, self.report)
-        except Gone:
-            self.report("the program that runs the Forth has ended" + self.keeping.kept() + "\n")
+        except Gone as error:
+            self.report((str(error) or "the program that runs the Forth has ended") + self.keeping.kept() + "\n")
             return 1
         finally:
             self.console.close()
@@ -68,7 +78,7 @@ class Session(Output):
         """A run of the machine, and what it asks for."""
         stop: Optional[Stop] = None
         try:
-            stop = self.steps.run() if self.steps.are_on else self.target.run(SLICE)
+            stop = self.steps.run() if self.steps.are_on else self.profile.run() if self.profile else self.target.run(SLICE)
             self.signals.look()
             if self.signals.take_interrupt() and stop.how not in "lbxyh":
                 self.interrupt(stop)
@@ -146,13 +156,27 @@ class Session(Output):
             return
         self.open_texts, self.refused, self._breaks = [], "", 0
         self.steps.end()
+        self.catching.begin()
+        if self.profile:
+            self.say_line(self.profile.table())
+            self.profile = None
         self.target.begin()
         self.wire.set_cells({MARK: HOST})
         self.keep_journal()
+        self._look_at_here()
         if self.console.is_script:
             self._script_line()
         else:
             self._typed_line()
+
+    def _look_at_here(self) -> None:
+        """Says once that the dictionary ends within the words of the Forth, as after -30000 ALLOT: what is compiled next overwrites these."""
+        was_inside, self._is_inside = self._is_inside, self.wire.cell(DP) < self.wire.cell(FENCE)
+        if self._is_inside and not was_inside:
+            self.report("HERE is inside the Forth, so what is compiled now overwrites it" + "; UNDO goes back" * (not self.console.is_script) + "\n")
+        if self._is_inside and self.console.is_script:
+            self.report(self.ending)
+            raise Ended(FAULTED)
 
     def _typed_line(self) -> None:
         if not self.undoes:
@@ -169,18 +193,21 @@ class Session(Output):
         if len(line) > 1024:
             self.say("a line may have 1024 bytes; nothing was done\n")
             return
-        if len(line) > TYPED:  # TIB has no room for it: it is a block
+        if len(line) >= TYPED:  # TIB has no room for it and its end: it is a block
             self.target.set_cell(SECOND, self.target.texts.add([Line("", 0, line)]).start)
             line = b""
         self.wire.set_cell(SERVICE, 0)
         self._give_line(line)
+        self._look_at_line("this line", line)
+        if line.strip().upper() == b"QUIT":
+            self.say_line(faults.MESSAGES["quit"] + "\n")
 
     def _script_line(self) -> None:
         assert isinstance(self.console, Script)
         try:
             line = self.console.next()
         except Unreadable as error:
-            self.report(f"{error}\nforth: a fault stopped the script\n")
+            self.report(f"{error}\n{self.ending}")
             raise Ended(FAULTED) from error
         if line is None:
             raise Ended(self.status)
@@ -190,6 +217,19 @@ class Session(Output):
         self.target.set_cell(SECOND, blocks.start)
         self.wire.set_cell(SERVICE, 0)
         self._give_line(b"")
+        self._look_at_line(reports.named(line), line.text)
+
+    def _look_at_line(self, name: str, line: bytes) -> None:
+        """Looks at a line after those of the open definition, if it belongs to one."""
+        before = [("", text) for _, text in self.open_lines] if self.wire.cell(STATE) else []
+        self.open_lines = [*before, (name, faults.plain(line))]
+        self.look_at(self.open_lines)
+
+    def look_at(self, lines: list[tuple[str, str]]) -> None:
+        """Says so if EXIT is in a counted loop of these lines, whose cells stay; a dialect refuses such a word."""
+        place = None if self.target.variable("DIALECT") else structures.exit_in_loop(lines)
+        if place:
+            self.report(faults.MESSAGES["looped"].format(where="" if place == "this line" else f", in {place}") + "\n")
 
     def _give_line(self, line: bytes) -> None:
         """Answers a line; what EXPECT shows of it is on the terminal already."""
@@ -215,10 +255,13 @@ class Session(Output):
         if self.steps.takes_key():
             return
         asked = self.wire.cell(SERVICE)
-        if PROMPT < asked <= len(NAMES):
+        if PROMPT < asked <= len(NAMES) or asked >= OWN:
             self.target.set_cell(SERVICE, 0)
             self.steps.lift()
-            fault = services.serve(self, asked)
+            try:
+                fault = services.serve(self, asked)
+            except services.Moved:
+                return
             if self.undoes:
                 self._undo()
                 return
@@ -256,6 +299,8 @@ class Session(Output):
         refused, self.refused = self.refused, ""
         if self.wire.cell(FAULT) != self._tell:
             return
+        if self.past.is_able and self.catching.throw(number):
+            return
         self.steps.end()
         self.past.fault_taken()
         self.wire.set_cell(MARK, HOST)
@@ -265,7 +310,7 @@ class Session(Output):
         is_shown = number == faults.SAID and not refused and bool(self.column)
         if self.console.is_script:
             said = faults.plain(self.column).strip() if is_shown else refused
-            self.report(reports.report(self.target, number, said).lstrip(" ") + "forth: a fault stopped the script\n")
+            self.report(reports.report(self.target, number, said).lstrip(" ") + self.ending)
             raise Ended(FAULTED)
         text = reports.report(self.target, number, refused)
         if is_shown:

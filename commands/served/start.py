@@ -2,7 +2,7 @@
 from __future__ import annotations
 
 import os
-from typing import Optional
+from typing import Callable, Optional
 
 from launcher.program import find, say
 from served import blocks, image, journal
@@ -11,7 +11,7 @@ from served.script import Script
 from served.session import Session
 from served.target import SCR
 from served.texts import Line, lines_of, read_file, Unreadable
-from served.wire import Gone
+from served.wire import Gone, Wire
 
 ENDS = (".fs", ".fth", ".4th", ".frt", ".f")
 TITLE = b"(  1  Control: threads and loops )"  # the first line of a kernel's sources
@@ -19,7 +19,9 @@ USAGE, INTERRUPTED = 2, 130
 FLAGS = ("--quiet", "--kernel", "--proved", "--unproved", "--dap", "--start", "--no-start")
 TOGETHER = ("--kernel", "--quiet"), ("--proved", "--unproved"), ("--start", "--no-start"), ("--kernel", "--start")  # not these
 VALUES = {"-e": ("some words of Forth", 1), "--kernel-of": ("the name of a file", 1), "--program": ("the name of a file", 1),
-          "--image": ("OWN, the name of an image, and the screens FROM TO", 3)}
+          "--services": ("a file of Python", 1), "--target": ("a board's serial line, as /dev/ttyACM0", 1),
+          "--speed": ("the bits a second of the line", 1),
+          "--image": ("OWN, the name of an image, and what it loads: the screens FROM TO, texts, or both", 1)}
 
 
 class Misused(Exception):
@@ -36,12 +38,14 @@ class Asked:
         self.flags: set[str] = set()
         self._names: list[str] = []
         self._values: dict[str, list[str]] = {}
+        self._screens: list[int] = []  # those of an image
         rest = list(words)
         while rest:
             self._take(rest.pop(0), rest)
         self.is_quiet = "--quiet" in self.flags or bool(self.lines)
         self.kernel = self._values.get("--kernel-of", [""])[0]
         self.program = self._values.get("--program", [""])[0]
+        self.services, self.target, self.speed = (self._values.get(option, [""])[0] for option in ("--services", "--target", "--speed"))
         self._check()
         self.own = self._own()
 
@@ -60,6 +64,8 @@ class Asked:
                 self.lines += given
             else:
                 self._values[word] = given
+            while word == "--image" and rest and len(self._screens) < 2 and rest[0].isascii() and rest[0].isdigit():
+                self._screens.append(int(rest.pop(0)))
         elif word in FLAGS:
             self.flags.add(word)
         elif word.startswith("-"):
@@ -76,25 +82,31 @@ class Asked:
         for one, other in TOGETHER:
             if {one, other} <= self.flags or one == "--kernel" in self.flags and self.lines:
                 raise Misused(f"{'-e' if self.lines else other} and {one} cannot be used together")
-        if self.texts and ("--kernel" in self.flags or "--image" in self._values):
-            raise Misused("a text cannot be used with --kernel or --image")
+        if self.texts and "--kernel" in self.flags:
+            raise Misused("a text cannot be used with --kernel")
+        if self.target and (self.flags & {"--kernel", "--dap"} or "--image" in self._values):
+            raise Misused("--target cannot be used with --kernel, --image or --dap")
+        if self.speed and not (self.target and self.speed.isascii() and self.speed.isdigit()):
+            raise Misused("--speed is for --target, and needs the bits a second of its line")
         if any(values[0].startswith("-") for values in self._values.values()):
             raise Misused("write a name that begins with - as ./-NAME")
 
-    def _own(self) -> Optional[tuple[str, int, int]]:
-        """The image that is to be made, and its screens."""
+    def _own(self) -> Optional[tuple[str, list[int]]]:
+        """The image that is to be made, and the screens that it is to load, if any."""
         if "--image" not in self._values:
             return None
-        own, first, last = self._values["--image"]
-        if not all(text.isascii() and text.isdigit() and int(text) < 65536 for text in (first, last)):
-            raise Misused(f"FROM and TO must be numbers of screens, 0 to 65535, not {first} {last}")
-        return own, int(first), int(last)
+        is_nothing = not self._screens and not self.texts and not self.lines
+        if is_nothing or len(self._screens) == 1 or any(number > 65535 for number in self._screens):
+            raise Misused(f"--image needs {VALUES['--image'][0]}; FROM and TO are numbers of screens, 0 to 65535")
+        return self._values["--image"][0], self._screens
 
     @property
     def blocks(self) -> Optional[str]:
         if self._names:
             return self._names[0]
-        return self.kernel or (None if self.is_quiet and not self.own else "forth.blk")
+        if self.own:
+            return "forth.blk" if self.own[1] else None
+        return self.kernel or (None if self.is_quiet else "forth.blk")
 
     @property
     def reads(self) -> bool:
@@ -145,6 +157,7 @@ def screens_first(session: Session) -> None:
 
 def offer_journal(session: Session, blocks: str) -> None:
     """Offers the screens that an earlier session could not write."""
+    taken: dict[int, bytes] = {}
     for path in journal.places(blocks):
         screens = journal.read(path)
         if not screens:
@@ -153,11 +166,12 @@ def offer_journal(session: Session, blocks: str) -> None:
         session.say_line(f"{path} has screens that an earlier session did not write: {numbers}\ntake them into this session? (y or n) ")
         answer = session.console.line(b"", False)
         if answer is not None and answer.strip().lower() in (b"y", b"yes"):
-            for number, page in screens.items():
-                session.target.put(number, page)
-            session.keep_journal()
+            taken.update(screens)
         os.replace(path, path + ".old")
         session.say_line(f"the journal is {path}.old now\n")
+    for number, page in taken.items():
+        session.target.put(number, page)
+    session.keep_journal()  # after the other ones are out of its way
 
 
 def start(wanted: Asked) -> int:
@@ -168,15 +182,19 @@ def start(wanted: Asked) -> int:
 
         return dap.main(program)
     if wanted.own:
-        from served import own
+        from served.own import make_own
 
-        return own.make_own(program, *wanted.own, wanted.blocks or "")
+        return make_own(program, *wanted.own, wanted.blocks, script_lines(wanted))
     is_terminal = os.isatty(0) and os.isatty(1) and not wanted.is_quiet
     lines = [] if is_terminal else script_lines(wanted)
     images = image.find(program, wanted.kernel)
     is_new = blocks.open_blocks(program, wanted.blocks) if wanted.blocks else False
     if is_new and not is_terminal:
         say(f"{wanted.blocks} is a new file")
+    if wanted.services:
+        from served.services import register
+
+        register(wanted.services)
     is_kernel, signals = "--kernel" in wanted.flags, Signals()
     words = [program, "serve", os.path.join(images, "plain.img" if is_kernel else "served.img"), *([wanted.blocks] if wanted.blocks else [])]
     try:
@@ -185,13 +203,28 @@ def start(wanted: Asked) -> int:
 
             return kernel.Kernel(words, wanted.blocks, signals).run()
         script = None if is_terminal else Script(signals, lines, wanted.reads, not wanted.is_quiet)
-        session = Session(words, wanted.blocks, signals, script, wanted.arguments)
-    except Gone:  # another run has taken the file of blocks meanwhile
+        session = Session(words, wanted.blocks, signals, script, wanted.arguments, wire_to(wanted, signals, not is_terminal))
+    except Gone as error:  # a board, or another run has taken the file of blocks meanwhile
+        if str(error):
+            raise Unreadable(str(error)) from None
         if wanted.blocks:
             blocks.look_inside(wanted.blocks)
         raise Unreadable(f"{program} ended as soon as it was started; try it again") from None
     begin(session, wanted, is_new)
     return session.run()
+
+
+def wire_to(wanted: Asked, signals: Signals, is_script: bool) -> Callable[[list[str], Callable[[bytes], None]], Wire]:
+    """How a session gets its machine: from the program, or from a board."""
+    if not wanted.target:
+        return Wire
+    from functools import partial
+
+    from served.board import Board
+    from served.line import Line
+
+    line = Line(wanted.target, int(wanted.speed or 115200), say, lambda: signals.is_interrupted() or signals.is_ending())
+    return partial(Board, line=line, blocks=wanted.blocks, is_script=is_script)
 
 
 def begin(session: Session, wanted: Asked, is_new: bool) -> None:
@@ -202,6 +235,8 @@ def begin(session: Session, wanted: Asked, is_new: bool) -> None:
     if session.console.is_script:
         return
     count = session.target.count()
+    if session.wire.board_name:
+        session.say(f"This is the board {session.wire.board_name}.\n")
     session.say(f"{wanted.blocks}, {count} screens{', a new file' * is_new}. WORDS and HELP say more.\n")
     session.say("BYE or ^D saves your screens and leaves; ^C interrupts what is running.\n")
     texts = texts_of(wanted, True)

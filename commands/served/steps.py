@@ -138,7 +138,7 @@ class Steps:
         if place != self._place:
             session.say_line(f"{plain(inside[-1].name)}  {place}  {plain(text.text) if text else ''}".rstrip() + "\n")
             self._place = place
-        head, stack, _ = session.target.wire.step_line().decode(errors="replace").rsplit("|", 2)
+        head, stack, _ = session.target.wire.ask("d").decode(errors="replace").rsplit("|", 2)
         word = head.split(" ", 1)[1].strip()
         if word == LITERAL:
             word = str(signed(session.target.wire.cell(state.ip + 2)))

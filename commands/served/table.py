@@ -1,8 +1,9 @@
 """The services that words of the machine ask their host for: the one table of their numbers.
 
-screens/served/served.txt names a service between two @, as in `@SEE@ SERVE`; `image` puts the number there. A word that asks stores the
+A text of screens/tools names a service between two @, as in `@SEE@ SERVE`; `image` puts the number there. A word that asks stores the
 number in the cell SERVICE and executes KEY; the host answers with 0, or with the fault that it refuses by, and may put two numbers into
-the cells FIRST and SECOND. `tools/check-served --sources` holds this table against the text and against the functions of `services`.
+the cells FIRST and SECOND. Images that were saved have these numbers: a new name comes last. `tools/check-served --sources` holds this table
+against the texts and against the functions of `services`.
 """
 from __future__ import annotations
 
@@ -13,9 +14,11 @@ HOST = 83  # what the cell MARK holds where there is a host
 NAMES = (
     "PROMPT", "UNCLOSED", "INCLUDE", "INCLUDED", "RELOAD", "LIST", "INDEX", "SEARCH", "RETYPE", "EDIT", "ED", "SAVE", "BYE-WITH", "EMPTY",
     "SEE", "VIEW", "LOCATE", "WORDS", "HELP", "DUMP", "VERSION", "MS", "KEY?", "EKEY", "ARGUMENT", "ENVIRONMENT", "UNDO", "WHY", "DEBUG",
-    "BREAK-AT", "FAULT-TEXT", "REPORT",
+    "BREAK-AT", "FAULT-TEXT", "REPORT", "REQUIRE", "SKIP", "EVALUATE", "CATCH", "CAUGHT", "THROW", "TICKS", "PROFILE", "PLACE",
+    "NO-LINE", "NO-FIT", "LINE-LOST", "DATE", "CLOCK", "SAVE-IMAGE", "PORT-FETCH", "PORT-STORE", "UPDATE",
 )
 PROMPT = 1
+OWN = 100  # numbers from here on are services that a host registers itself
 
 
 def numbers() -> dict[str, int]:

@@ -12,6 +12,7 @@ from served.wire import Refused, Stop, Wire, cells, packed
 STATE, BASE, TO_IN, BLK, DP, CONTEXT, SCR, FAULT, FORTH_VOCABULARY, FENCE, TIB = 16, 18, 20, 22, 28, 32, 38, 40, 42, 54, 128
 TOP = 65536
 BLOCK = 1024
+MOST_NOTED = 200_000  # answers of a line that are kept for WHY: a program that polls the keyboard for days takes no more memory
 
 
 class Target:
@@ -19,25 +20,34 @@ class Target:
 
     def __init__(self, wire: Wire, texts: Texts, blocks: Optional[str]) -> None:
         self.wire, self.texts, self.blocks = wire, texts, blocks
-        self.log: list[tuple[str, bytes]] = []  # what it was given since the line began
+        self.log: Optional[list[tuple[str, bytes]]] = []  # what it was given since the line began; None if that was very much
         self.ticks = 0  # what it did since then
+        self.all_ticks = 0  # what it did since the session began
+        self.acts = 0  # what a board did by itself before the line
         self._bodies = {header.name: header.token + 2 for header in wire.headers()}  # those of the system's words
 
     # What it does
 
     def begin(self) -> None:
         """A line begins."""
-        self.log, self.ticks = [], 0
+        self.log, self.ticks, self.acts = [], 0, self.wire.acts()
 
     def run(self, ticks: int) -> Stop:
         stop = self.wire.run(ticks)
         self.ticks += stop.ticks
+        self.all_ticks += stop.ticks
         return stop
 
     def give(self, kind: str, body: bytes = b"") -> Stop:
         """Gives it an answer, or changes a cell; what it does then."""
-        self.log.append((kind, body))
+        if self.log is not None:
+            self.log.append((kind, body))
+            self.log = self.log if len(self.log) <= MOST_NOTED else None
         return self.wire.answer(kind, body)
+
+    def put_registers(self, registers: bytes) -> None:
+        """Makes all of it except its memory what it was when these registers were taken."""
+        self.give("P", registers)
 
     def set_cell(self, address: int, number: int) -> None:
         self.give("c", packed(address, number))

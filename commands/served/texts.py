@@ -6,13 +6,17 @@ from __future__ import annotations
 
 import errno
 import os
+import re
 import stat
-from typing import NamedTuple, Optional
+from typing import Callable, NamedTuple, Optional
+
+from served.image import LIBRARY, with_numbers
 
 FIRST = 32768  # blocks from here on are lines of texts
 ROOM = 65536 - FIRST
 LONGEST = 1024  # bytes of a line
 LARGEST = 16 << 20  # bytes of a text
+EVALUATED = "EVALUATE"  # what stands for the file of a text that a program gives
 BYTE_ORDER = b"\xef\xbb\xbf"  # what may be before a text in UTF-8
 MARKS = {b"\xff\xfe": "UTF-16", b"\xfe\xff": "UTF-16"}
 
@@ -39,7 +43,7 @@ def read_file(name: str) -> bytes:
         content = file.read(LARGEST + 1)
     if len(content) > LARGEST:
         raise OSError(errno.EFBIG, f"it has more than {LARGEST >> 20} MB")
-    return content
+    return with_numbers(content.decode()).encode() if os.path.dirname(os.path.realpath(name)) == LIBRARY else content
 
 
 def lines_of(name: str, content: bytes) -> list[Line]:
@@ -57,6 +61,31 @@ def lines_of(name: str, content: bytes) -> list[Line]:
     return found
 
 
+EndOf = Callable[[bytes], int]  # where something that was left open ends in a line: the byte after it, 0 if it goes on
+
+
+def end_of_comment(text: bytes) -> int:
+    return text.find(b")") + 1
+
+
+class Skipped:
+    """The words that [IF] or [ELSE] leaves out: those up to the [ELSE] or [THEN] that belongs to it."""
+
+    def __init__(self) -> None:
+        self._depth = 1
+
+    def end_of(self, text: bytes) -> int:
+        for found in re.finditer(rb"[^ ]+", text):
+            word = found[0].upper()
+            if word == b"[IF]":
+                self._depth += 1
+            elif word == b"[THEN]" or word == b"[ELSE]" and self._depth == 1:
+                self._depth -= 1
+            if not self._depth:
+                return found.end()
+        return 0
+
+
 class Texts:
     """The lines of all texts that a session has read."""
 
@@ -65,6 +94,7 @@ class Texts:
         self._pages: dict[int, bytes] = {}  # lines of which a comment took a part
         self._ranges: dict[tuple[str, bytes], range] = {}
         self.last = ""  # the text that was read last, not by another one
+        self.included: set[str] = set()  # the files that were read
 
     def add(self, lines: list[Line]) -> range:
         """The blocks of these lines from now on."""
@@ -85,6 +115,7 @@ class Texts:
             raise Unreadable(f"cannot read {name or path}: {error.strerror}") from error
         if self.place(beside or 0) is None:
             self.last = path
+        self.included.add(os.path.realpath(path))
         key = (os.path.realpath(path), content)
         if key not in self._ranges:
             self._ranges[key] = self.add(lines_of(path, content))
@@ -93,9 +124,11 @@ class Texts:
         return self._ranges[key]
 
     def path(self, name: str, beside: Optional[int]) -> str:
+        """Where a text is: beside the text that names it, here, or among the texts that come with the Forth."""
         place = self.place(beside or 0)
         near = os.path.join(os.path.dirname(place.name), name) if place else name
-        return near if os.path.exists(near) else os.path.expanduser(name)
+        found = [path for path in (near, os.path.expanduser(name), os.path.join(LIBRARY, name)) if os.path.exists(path)]
+        return found[0] if found else name
 
     def place(self, block: int) -> Optional[Line]:
         return self._lines[block - FIRST] if 0 <= block - FIRST < len(self._lines) else None
@@ -105,8 +138,15 @@ class Texts:
         place = self.place(block)
         return self._pages.get(block, place.text).ljust(LONGEST) if place else None
 
-    def close_comment(self, block: int) -> bool:
-        """Takes the lines after this block out, up to the first `)`; whether there is one in the same text."""
+    def evaluated(self, text: bytes) -> int:
+        """The block of a text that a program gives to EVALUATE."""
+        key = ("", text)
+        if key not in self._ranges:
+            self._ranges[key] = self.add([Line(EVALUATED, 1, text)])
+        return self._ranges[key].start
+
+    def take_until(self, block: int, end_of: EndOf) -> bool:
+        """Takes the lines after this block out, up to an end in one of them; whether there is one in the same text."""
         begins = self.place(block)
         if begins is None:
             return False
@@ -115,9 +155,9 @@ class Texts:
             line = self._lines[later - FIRST]
             if line.name != begins.name or line.number <= begins.number:
                 return False
-            end = line.text.find(b")")
-            taken[later] = b" " * (end + 1) + line.text[end + 1 :] if end >= 0 else b""
-            if end >= 0:
+            end = end_of(line.text)
+            taken[later] = b" " * end + line.text[end:] if end else b""
+            if end:
                 self._pages.update(taken)
                 return True
         return False

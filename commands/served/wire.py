@@ -3,7 +3,7 @@ from __future__ import annotations
 
 import os
 import struct
-from typing import Callable, Iterable, NamedTuple, Optional
+from typing import Callable, Iterable, NamedTuple, Optional, Protocol
 
 LONG = "zhadt"  # replies that may need several frames
 MOST = 2048  # bytes in a frame of a reply
@@ -72,30 +72,56 @@ def started(words: list[str]) -> tuple[int, int, int]:
     return process, to_server, from_server
 
 
-class Frames:
-    """A server that this process started, and the frames that it is sent and that it sends."""
+class Server:
+    """A server that this process started: what is sent to it, and what it sends."""
 
-    def __init__(self, words: list[str], shown: Callable[[bytes], None]) -> None:
+    def __init__(self, words: list[str]) -> None:
         self.process, self._to, self._from = started(words)
-        self.shown = shown
-        self._come = bytearray()
 
-    def _take(self, size: int) -> bytes:
-        while len(self._come) < size:
-            piece = os.read(self._from, 65536)
-            if not piece:
-                raise Gone
-            self._come += piece
-        taken = bytes(self._come[:size])
-        del self._come[:size]
-        return taken
+    def come(self) -> bytes:
+        """What comes next; Gone if nothing can."""
+        piece = os.read(self._from, 65536)
+        if not piece:
+            raise Gone
+        return piece
 
-    def _send(self, frames: bytes) -> None:
+    def send(self, frames: bytes) -> None:
         try:
             while frames:
                 frames = frames[os.write(self._to, frames) :]
         except BrokenPipeError as error:
             raise Gone from error
+
+    def close(self) -> None:
+        """Waits for the server, which ends when nothing more can come."""
+        os.close(self._to)
+        os.close(self._from)
+        os.waitpid(self.process, 0)
+
+
+class Channel(Protocol):
+    """Where a server is: a pipe, or a serial line."""
+
+    def come(self) -> bytes: ...
+
+    def send(self, frames: bytes) -> None: ...
+
+    def close(self) -> None: ...
+
+
+class Frames:
+    """The frames that a server is sent and that it sends."""
+
+    def __init__(self, channel: Channel, shown: Callable[[bytes], None]) -> None:
+        self.channel, self.shown = channel, shown
+        self._come = bytearray()
+
+    def _take(self, size: int) -> bytes:
+        while len(self._come) < size:
+            self._come += self.channel.come()
+        taken = bytes(self._come[:size])
+        del self._come[:size]
+        return taken
 
     def _reply(self) -> bytes:
         whole = b""
@@ -113,13 +139,13 @@ class Frames:
 
     def ask(self, kind: str, body: bytes = b"") -> bytes:
         """The reply to a request; Refused if it is refused."""
-        self._send(kind.encode() + packed(len(body)) + body)
+        self.channel.send(kind.encode() + packed(len(body)) + body)
         return self._reply()
 
     def ask_all(self, requests: Iterable[tuple[str, bytes]]) -> list[bytes]:
         """The replies to short requests that are sent together."""
         asked = list(requests)
-        self._send(b"".join(kind.encode() + packed(len(body)) + body for kind, body in asked))
+        self.channel.send(b"".join(kind.encode() + packed(len(body)) + body for kind, body in asked))
         return [self._reply() for _ in asked]
 
     def asked_stop(self, kind: str, body: bytes = b"") -> Stop:
@@ -127,15 +153,14 @@ class Frames:
         ticks, how, number = struct.unpack("<IcH", self.ask(kind, body))
         return Stop(ticks, how.decode(), number)
 
-    def end(self) -> None:
-        """Waits for the server, which ends when nothing more can come."""
-        os.close(self._to)
-        os.close(self._from)
-        os.waitpid(self.process, 0)
-
 
 class Wire(Frames):
-    """The requests of a server."""
+    """The requests of a server that this process starts with these words."""
+
+    board_name = ""  # that of the board which has the machine
+
+    def __init__(self, words: list[str], shown: Callable[[bytes], None]) -> None:
+        super().__init__(Server(words), shown)
 
     # Running, and answers to what the machine asks
 
@@ -162,6 +187,10 @@ class Wire(Frames):
         """So many bytes of memory; after address 65,535 comes 0."""
         pieces = ((address + at, min(MOST, size - at)) for at in range(0, size, MOST))
         return b"".join(self.ask_all(("m", packed(*piece)) for piece in pieces))
+
+    def acts(self) -> int:
+        """How often the machine has done something outside by itself, by a service of a board: that cannot be done again unseen."""
+        return 0
 
     def cell(self, address: int) -> int:
         return cells(self.ask("m", packed(address, 2)))[0]
@@ -202,10 +231,6 @@ class Wire(Frames):
     def see(self, name: bytes) -> bytes:
         return self.ask("z", name)
 
-    def step_line(self) -> bytes:
-        """DEBUG's line of the state."""
-        return self.ask("d")
-
     def headers(self) -> list[Header]:
         """All words, in the order of their addresses."""
         body, found, at = self.ask("a"), [], 0
@@ -216,6 +241,10 @@ class Wire(Frames):
             at += 7 + size
         return found
 
+    def image(self, token: int) -> bytes:
+        """The file of an image of the memory up to HERE, which starts with this word."""
+        return self.ask("t", packed(token))
+
     # The end
 
     def save(self) -> int:
@@ -225,5 +254,5 @@ class Wire(Frames):
     def close(self) -> int:
         """The same, and the server ends."""
         left = cells(self.ask("q"))[0]
-        self.end()
+        self.channel.close()
         return left

@@ -5,25 +5,15 @@ import os
 import re
 from typing import Iterable, Iterator, Sequence
 
-from served.faults import plain
-from served.image import SERVED, TEXTS
+from served.faults import plain, section
+from served.image import ROOT, TEXTS
 from served.target import CONTEXT, FENCE, FORTH_VOCABULARY, TOP, Target, plain_name
 from served.wire import Header
 
 WIDTH = 64
 LONGEST_CHAIN = 32768
 PRIMITIVES = 5  # codes from here on to 255 are the kernel's own
-HELP = """docs/TUTORIAL.md is a first hour, ./forth course more.
-docs/WORDS.md describes each word.
-WORDS lists words, SEE NAME shows one, .S the stack.
-21 LIST shows screen 21, 0 PUT TEXT writes its line 0,
-0 RETYPE lets you change that line, 21 EDIT edits the screen,
-21 LOAD runs it, SAVE writes what you changed.
-INCLUDE FILE interprets a text file.
-Arrows up and down go through the lines you typed, ^R searches them.
-HELP DUP explains DUP, DEBUG NAME runs it in steps, WHY explains a fault.
-UNDO takes the last line back.
-BYE or ^D saves and leaves; ^C interrupts."""
+HELP = "\n".join(text for where, text in section("help") if where != "page")
 
 
 def visible(target: Target, vocabularies: Sequence[int] = ()) -> list[Header]:
@@ -97,12 +87,11 @@ def place_of(target: Target, view: int, token: int) -> str:
 
 def system_screen(number: int) -> tuple[str, list[str]]:
     """The text that has a screen of the system, and its lines."""
-    root = os.path.dirname(os.path.dirname(os.path.dirname(SERVED)))
-    for path in [SERVED, *TEXTS, os.path.join(root, "screens", "kernel.txt")]:
+    for path in [*TEXTS, os.path.join(ROOT, "screens", "kernel.txt")]:
         with open(path, encoding="utf-8") as file:
             found = re.search(rf"^% screen {number}\n(.*?)(?=^% screen|\Z)", file.read(), re.M | re.S)
         if found:
-            return os.path.relpath(path, root), found[1].splitlines()
+            return os.path.relpath(path, ROOT), found[1].splitlines()
     return "", []
 
 
