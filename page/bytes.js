@@ -24,6 +24,9 @@ export function toBase64(bytes) {
 
 export const fromBase64 = (text) => Uint8Array.from(atob(text), (letter) => letter.charCodeAt(0));
 
+// What a line shows, without the Forth's ok and how many cells are on the stack.
+export const withoutOk = (text) => text.trimEnd().replace(/\s*ok(?: \d+)?$/, "");
+
 export const signed = (cell) => (cell > 32767 ? cell - 65536 : cell);
 
 export const hexadecimal = (cell) => cell.toString(16).toUpperCase().padStart(4, "0");

@@ -1,5 +1,4 @@
-// The steps of calls of your words, and of what they call, among all steps of a line. `./forth film` finds them in the same way, in
-// teaching/calls.py.
+// The steps of calls of your words, and of what they call, among all steps of a line.
 
 import { DATA } from "./data.js";
 

@@ -20,8 +20,8 @@ export class Canvas {
   first() {
     const { machine, disk } = this.session, here = machine.cell(SYSTEM.here);
     if (here !== this.here) {
-      const found = machine.words().filter((one) => one.name === "CANVAS" && machine.cell(one.word) === VARIABLE).pop();
-      Object.assign(this, { here, place: found ? found.word + 2 : null });
+      const found = this.session.tokenOf("CANVAS");
+      Object.assign(this, { here, place: found !== null && machine.cell(found) === VARIABLE ? found + 2 : null });
     }
     const first = this.place === null ? null : machine.cell(this.place);
     return first !== null && first + BLOCKS <= disk.count ? first : null;

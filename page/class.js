@@ -1,21 +1,22 @@
 // A class list: the files of pupils are checked lesson by lesson, with the page's own checkers, each lesson on a machine of its own.
 
-import { decode, element, encode } from "./bytes.js";
+import { decode, element, withoutOk } from "./bytes.js";
 import { CHECKERS, COURSE, lessonsOf } from "./course.js";
 import { DATA } from "./data.js";
 import { Disk, isScreens, linesOf, screensOf } from "./disk.js";
 import { builtIn } from "./editions.js";
-import { ASKS, Machine, PAGE_SIZE, STOP } from "./machine.js";
+import { Host, Shown } from "./host.js";
+import { Machine, PAGE_SIZE } from "./machine.js";
 import { helpOf, trialsOf, why } from "./trials.js";
 import { sessionOf } from "./work.js";
 
 const SAYS_NOTHING = "CHECK says nothing: the screen leaves the Forth, or ends its own check, as BYE, QUIT and ABORT do.";
-const TICKS = 1000000, MOST_SLICES = 30;
+const TICKS = 1000000, MOST_TICKS_OF_LINE = 30 * TICKS;
 const SIGNS = { right: "✓", wrong: "✗", missing: "?", endless: "∞", empty: "·" };
 
 export class ClassList {
   constructor(page, calls, parts) {
-    Object.assign(this, { page, parts, rows: [], machine: new Machine(calls, page.session.layout) });
+    Object.assign(this, { page, parts, rows: [], host: new Host(new Machine(calls, page.session.layout), new Shown()) });
     parts.choose.addEventListener("click", () => parts.files.click());
     parts.files.addEventListener("change", () => this.check([...parts.files.files]));
     parts.csv.addEventListener("click", () => this.page.files.saveBlob("csv", new Blob([this.csv()])));
@@ -72,59 +73,45 @@ export class ClassList {
     const disk = this.diskWith(lesson, bytes);
     if (textOfScreen(disk) === textOfScreen(builtIn(this.course))) return { mark: "empty", text: "nothing was written" };
     await this.begin(disk);
-    await this.run(disk, "1 LOAD\n");
-    const said = await this.run(disk, `${number} CHECK\n`);
+    await this.run("1 LOAD");
+    const said = await this.run(`${number} CHECK`);
     if (said === null) return { mark: "endless", text: "it doesn't end" };
-    const isRight = said.trimEnd().replace(/\s*ok$/, "").split("\n").pop().startsWith(`Lesson ${number} is right.`);
+    const isRight = withoutOk(said).split("\n").pop().startsWith(`Lesson ${number} is right.`);
     const wrong = isRight ? await this.tryIt(lesson, bytes) : null;
     const trials = trialsOf(builtIn(this.course).page(screen + CHECKERS));
     if (wrong) return { mark: "wrong", word: subjectOf(wrong, trials), text: `The checker was deceived: ${wrong}.` };
-    const text = said.slice(`${number} CHECK`.length).trim().replace(/\s*ok$/, "") || SAYS_NOTHING, last = text.split("\n").pop();
+    const text = withoutOk(said.slice(`${number} CHECK`.length)).trim() || SAYS_NOTHING, last = text.split("\n").pop();
     return { mark: isRight ? "right" : markOf(last), word: isRight ? "" : subjectOf(last, trials), text };
   }
 
   // A new Forth with this disk.
   async begin(disk) {
-    this.machine.load(DATA.image, disk.count);
-    await this.run(disk, "");
+    this.host.disk = disk;
+    this.host.load(DATA.image, this.page.session.own);
+    await this.host.through(TICKS);
   }
 
   // Makes the trials of a lesson of the course with the pupil's words alone; the first that is wrong, or null.
   async tryIt(lesson, bytes) {
-    const disk = this.diskWith(lesson, bytes), own = builtIn(this.course), type = (line) => this.run(disk, `${line}\n`);
+    const disk = this.diskWith(lesson, bytes), own = builtIn(this.course), type = (line) => this.run(line);
     await this.begin(disk);
     for (const line of helpOf(own)) await type(line);
     const trials = trialsOf(own.page(lesson.screen + CHECKERS)), load = `${lesson.screen} LOAD`;
     await type("7919 7919 7919 7919");
     if (trials.length && trials.every(({ line }) => line !== load)) await type(load);
     for (const trial of trials) {
-      const wrong = await why(this.machine, trial, (line) => this.run(disk, line));
+      const wrong = await why(this.host.machine, trial, type);
       if (wrong) return wrong;
     }
     return null;
   }
 
   // What a line shows, or null if it does not end or asks for a key.
-  async run(disk, line) {
-    let typed = encode(line), shown = "";
-    for (let slices = 0; slices < MOST_SLICES; ) {
-      const ended = this.machine.run(typed, TICKS);
-      typed = typed.subarray(ended.read);
-      shown = (shown + decode(ended.shown)).slice(-PAGE_SIZE);
-      if (ended.stop === STOP.TYPED) return this.machine.asks === ASKS.LINE ? shown : null; // MS doesn't wait: no page is greeted here
-      if (ended.stop === STOP.HALTED) return shown;
-      if (ended.stop === STOP.BLOCK) this.serve(disk);
-      else slices++;
-      if (ended.stop === STOP.LIMIT) await new Promise((resolve) => setTimeout(resolve));
-    }
-    return null;
-  }
-
-  serve(disk) {
-    const block = this.machine.field("asked");
-    if (block >= disk.count) this.machine.answerFailed();
-    else if (this.machine.asks === ASKS.READ) this.machine.answerRead(disk.page(block));
-    else disk.put(block, this.machine.answerWritten());
+  async run(line) {
+    const { host } = this;
+    host.view.text = "";
+    const next = await host.line(line, MOST_TICKS_OF_LINE, TICKS);
+    return next === "h" || (next === "l" && host.isPrompt) ? host.view.text : null;
   }
 
   row({ name, results }) {

@@ -1,6 +1,8 @@
 """What the page carries besides the machine: the course's lessons, the manual, and its disks."""
 import base64
+import hashlib
 import html
+import os
 import pathlib
 import re
 import sys
@@ -9,23 +11,20 @@ from typing import Dict, List, Optional
 ROOT = pathlib.Path(__file__).resolve().parent.parent
 sys.path[:0] = [str(ROOT / "teaching"), str(ROOT / "commands")]
 
-import calls  # noqa: E402
 import canvas  # noqa: E402
-import cells  # noqa: E402
 import images  # noqa: E402
-import manual as manuals  # noqa: E402
-import threads  # noqa: E402
+import rows as numbers  # noqa: E402
 import wild  # noqa: E402
+from served import advice, dialects as dialect_hints, faults as messages, image, structures, table  # noqa: E402
 
 ROW = re.compile(r"^\| `(\S+)` \| `([^`]*)` \| (?:yes)? ?\| (.+) \|$", re.M)
 # Chapters of docs/WORDS.md whose words the page doesn't need: it edits lines and screens itself, and has no host and no files.
 CHAPTERS_LEFT_OUT = (
-    "Editing the line", "The screen editor", "Lines from a pipe", "Starting", "The line editor", "Text files", "Dialects",
-    "Numbers with their base",
+    "Editing the line", "The screen editor", "Starting", "Text files", "Numbers with their base",
 )  # fmt: skip
 SCREENS, PAGE, WIDTH = 64, 1024, 64
 EXAMPLES = ("kiln", "life", "gold", "sieve")
-COURSE, FIRST = "course.blk", 20
+KERNEL, COURSE, FIRST = "forth.blk", "course.blk", 20
 
 
 def inline(text: str) -> str:
@@ -81,7 +80,7 @@ WRITING = re.compile(r"> (?:\d+ SCR !|\d+ PUT .*|\d+ LIST)$")
 def for_page(paragraph: str) -> str:
     """A paragraph without what only holds at a terminal."""
     for pattern, other in AT_TERMINAL:
-        paragraph = re.sub(pattern, other, paragraph)
+        paragraph = re.sub(pattern.replace(" ", r"\s+"), other, paragraph)  # a line may end between any two words
     return paragraph
 
 
@@ -139,17 +138,49 @@ def manual(words: str) -> List[List[str]]:
 
 
 def rows() -> Dict[str, object]:
-    """The rows of the machine's table that films know: the same numbers as `./forth film` has."""
+    """The rows of the machine's table that films know."""
     return {
-        "colon": images.COLON, "variable": images.VARIABLE, "constant": images.CONSTANT, "exit": calls.EXIT, "execute": calls.EXECUTE,
-        "does": calls.DOES, "clear": calls.RCLEAR, "do": threads.DO, "literal": threads.LITERAL, "compile": threads.COMPILE,
-        "branches": threads.BRANCHES, "texts": [threads.TEXT, threads.REFUSAL], "bytes": sorted(cells.OF_BYTES),
+        "colon": numbers.COLON, "variable": numbers.VARIABLE, "constant": numbers.CONSTANT, "exit": numbers.EXIT, "execute": numbers.EXECUTE,
+        "does": numbers.DOES, "clear": numbers.RCLEAR, "do": numbers.DO, "literal": numbers.LITERAL, "compile": numbers.COMPILE,
+        "branches": [numbers.BRANCH, numbers.ZERO_BRANCH, numbers.DO, numbers.LOOP, numbers.PLUS_LOOP], "texts": [numbers.TEXT, numbers.REFUSAL],
+        "bytes": [numbers.BYTE_FETCH, numbers.BYTE_STORE, numbers.COUNT],
     }  # fmt: skip
 
 
-def faults() -> Dict[str, str]:
-    """What each fault is, as the tools print it."""
-    return {number: text for number in map(str, range(1, 32)) for text in [manuals.fault(int(number))] if text}
+def of_forth(layout: Dict[str, object], version: str, image: bytes, own: Dict[str, str]) -> Dict[str, object]:
+    """What a Forth in a page needs, with a person or without: OWN are texts by their names, beside those that come with the Forth."""
+    return {
+        "layout": layout, "version": {"text": version, "image": hashlib.sha256(image).hexdigest()}, "rows": rows(), "door": door(),
+        "manual": manual(text_of("docs/WORDS.md")), "system": system(), "disks": {KERNEL: kernel()}, **texts(own),
+    }  # fmt: skip
+
+
+def texts(own: Dict[str, str]) -> Dict[str, object]:
+    """What the terminal says, too: of faults, of words that SEE can't show, and for HELP; the names that the dialects have;
+    and the texts that INCLUDE finds: those that come with the Forth, and the page's own."""
+    files = dialect_hints.DIALECTS
+    names = [sorted(dialect_hints.names_of(text_of(f"screens/dialects/{name}"))) for name in files]
+    later = dialect_hints.MADE.findall(text_of(f"screens/library/{advice.LATER}"))
+    meant = {"files": files, "names": names, "begins": advice.BEFORE_BLANK, "library": advice.LATER, "later": later}
+    helps = [text for where, text in messages.section("help") if where != "terminal"]
+    tables = {"ends": structures.ENDS, "closed_by": structures.CLOSED_BY, "parsing": structures.PARSING, "one_word": structures.ONE_WORD, "drops": structures.DROPS}
+    return {"structures": tables, "faults": messages.MESSAGES, "see": dict(messages.section("see")), "help": helps, "advice": meant, "library": {**library(), **own}}
+
+
+def library() -> Dict[str, str]:
+    """The texts that come with the Forth, with the numbers of the services."""
+    return {path.name: image.with_numbers(path.read_text(encoding="utf-8")) for path in pathlib.Path(image.LIBRARY).iterdir()}
+
+
+def door() -> Dict[str, object]:
+    """The services that words ask their host for, and the cells by which they do."""
+    return {"names": table.NAMES, "service": table.SERVICE, "first": table.FIRST, "second": table.SECOND, "mark": table.MARK, "host": table.HOST}
+
+
+def system() -> Dict[str, str]:
+    """The texts of the system's own words, except the kernel's, which are a disk."""
+    names = (os.path.relpath(path, ROOT) for path in image.TEXTS)
+    return {name: text_of(name) for name in names}
 
 
 def text_of(name: str) -> str:
@@ -176,9 +207,14 @@ def lines_of(block: str) -> str:
     return re.sub("^%", "%%", "\n".join(lines).rstrip(), flags=re.M) + "\n"
 
 
-def disks(kernel: str) -> Dict[str, Dict[str, object]]:
-    """The disks of every page: the kernel's sources, the course, examples and dialects. KERNEL is the text of the kernel's screens."""
-    found = {"forth.blk": disk_of_text(kernel), COURSE: disk_of_text(text_of("screens/course/course.txt"))}
+def kernel() -> Dict[str, object]:
+    """The disk with the kernel's sources."""
+    return disk_of_text(text_of("screens/kernel.txt"))
+
+
+def disks() -> Dict[str, Dict[str, object]]:
+    """The disks of every page: the kernel's sources, the course, examples and dialects."""
+    found = {KERNEL: kernel(), COURSE: disk_of_text(text_of("screens/course/course.txt"))}
     found.update({f"{name}.blk": disk_of_text(text_of(f"examples/{name}.txt")) for name in EXAMPLES})
     found["draw.blk"] = disk_of_text(text_of("examples/draw.txt"), canvas.FIRST + canvas.BLOCKS)
     for file in sorted((ROOT / "screens/dialects").glob("*.txt")):
@@ -216,7 +252,6 @@ def ebcdic() -> str:
 # A dialect's first lines: its screen, and a title with its name, and perhaps which dialect is loaded before it.
 DIALECT = re.compile(r"% screen (\d+)\n\( ([^:\n]+): (?:.*?, (\d+) LOAD)?.*\n")
 DEFINED = re.compile(r"(?:^: |\b(?:VARIABLE|CONSTANT|CREATE) )(\S+)", re.M)
-FORTH_CHAINS = range(42, 50, 2)
 
 
 def dialects() -> List[Dict[str, object]]:
@@ -232,13 +267,6 @@ def dialects() -> List[Dict[str, object]]:
 
 
 def names_of_image(image: bytes) -> List[str]:
-    """The names of an image's vocabulary FORTH, read from its headers."""
-    memory = images.parse(image).memory
-    names = set()
-    for chain in FORTH_CHAINS:
-        link = memory.cell(chain)
-        while link:
-            size = memory.byte(link + 2) & 31
-            names.add(bytes(memory.byte(link + 3 + at) for at in range(size)).decode("latin-1"))
-            link = memory.cell(link)
-    return sorted(names)
+    """The names of an image's vocabulary FORTH."""
+    headers = images.Dictionary(images.parse(image).memory).headers
+    return sorted({one.name.decode("latin-1") for one in headers if one.vocabulary == images.FORTH_VOC})

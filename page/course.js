@@ -1,6 +1,6 @@
 // The course: its lessons, whose lines are typed by a click, and CHECK; and the lessons of a disk that has its own in the same form.
 
-import { escapeHtml } from "./bytes.js";
+import { escapeHtml, withoutOk } from "./bytes.js";
 import { DATA } from "./data.js";
 import { linesOf } from "./disk.js";
 import { builtIn } from "./editions.js";
@@ -67,7 +67,7 @@ export class Course {
     await page.idle();
     this.sendCheck();
     await page.idle();
-    parts.said.textContent = page.transcript.answer().replace(/\s*ok$/, "");
+    parts.said.textContent = withoutOk(page.transcript.answer());
   }
 
   sendCheck() {

@@ -1,4 +1,4 @@
-// A file of blocks, and screens as text: a line `% screen 21` before the lines of each, as docs/SCREENS.md describes them.
+// A file of blocks, and screens as text: a line `% screen 21` before the lines of each, as docs/PROGRAM.md describes them.
 
 import { encode, strictly } from "./bytes.js";
 import { PAGE_SIZE } from "./machine.js";

@@ -6,7 +6,7 @@ import { Disk, linesOf, sumOf } from "./disk.js";
 
 const LESSON = /^\( Lesson \d+: /, VERSION = /forth83 [\w.]+ (?:in a )?page,? (?:un)?proved */;
 // Lines that are typed again for a new Forth: those that begin so.
-const REMAKING = /^\s*(?::|2?VARIABLE|CREATE|DEFER|VOCABULARY|\S+\s+(?:CONSTANT|VALUE|LOAD)|\S+\s+\S+\s+(?:2CONSTANT|THRU))(?:\s|$)/i;
+const REMAKING = /^\s*(?::|INCLUDE|2?VARIABLE|CREATE|DEFER|VOCABULARY|\S+\s+(?:CONSTANT|VALUE|LOAD)|\S+\s+\S+\s+(?:2CONSTANT|THRU))(?:\s|$)/i;
 
 const sumsOf = (disk) => Array.from({ length: disk.count }, (_, block) => sumOf(disk.page(block)));
 const isEmpty = (page) => page.every((byte) => byte === 32 || byte === 0);

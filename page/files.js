@@ -3,23 +3,22 @@
 import { decode, element, encode } from "./bytes.js";
 import { DATA } from "./data.js";
 import { Disk, isScreens, screensOf } from "./disk.js";
-import { isImage } from "./image.js";
 import { PAGE_SIZE } from "./machine.js";
 import { by } from "./parts.js";
 import { guess } from "./wild.js";
 import { sessionOf } from "./work.js";
 
-const SESSION = '{"format":"forth83"', MOST_TEXT = 200000, MOST_LINE = 127;
+const IMAGE = "FTH83IMG", SESSION = '{"format":"forth83"', MOST_TEXT = 200000, MOST_LINE = 127, SOURCE = /\.(f|fs|fth|4th|fr)$/i;
 
 // Whether a file is blocks, and not the image of a disk of another system, which may have whole blocks too.
 const isBlocks = (name, bytes) => bytes.length > 0 && bytes.length % PAGE_SIZE === 0 && (/\.blk$/i.test(name) || guess(bytes) === "blocks");
 
 const linesOfText = (text) => text.replace(/\r\n?/g, "\n").replace(/\n$/, "").split("\n");
 
-// Whether a text is lines for the Forth, and not a listing or the like.
-function isTyped(bytes, text) {
+// Whether a text is lines for the Forth, and not a listing or the like, by the length of its lines, or by its name.
+function isTyped(name, bytes, text) {
   const isText = bytes.length > 0 && bytes.length < MOST_TEXT && !text.includes("\0") && guess(bytes) === "blocks";
-  return isText && linesOfText(text).every((line) => encode(line).length <= MOST_LINE);
+  return isText && (SOURCE.test(name) || linesOfText(text).every((line) => encode(line).length <= MOST_LINE));
 }
 
 const asFileName = (name) => name.replace(/[/\\]/g, "-").slice(0, 60);
@@ -64,16 +63,23 @@ export class Files {
     }
   }
 
-  // Files: blocks are another disk, images run, screens as text go onto this disk, other texts are typed.
+  // Files: blocks are another disk, images run, screens as text go onto this disk, other texts are included.
   async open(file) {
     const bytes = new Uint8Array(await file.arrayBuffer()), text = decode(bytes);
     if (this.session.isRunning || !this.work.isOurs) this.work.refuse();
     else if (text.startsWith(SESSION)) await this.resume(file.name, text);
-    else if (isImage(bytes)) this.runImage(file.name, bytes);
+    else if (decode(bytes.subarray(0, IMAGE.length)) === IMAGE) this.runImage(file.name, bytes);
     else if (isScreens(text)) await this.merge(file.name, text);
     else if (isBlocks(file.name, bytes)) await this.work.insert(asFileName(file.name), bytes);
-    else if (isTyped(bytes, text)) this.page.enter(...linesOfText(text));
+    else if (isTyped(file.name, bytes, text)) this.include(file.name, bytes);
     else this.openOldDisk(file.name, bytes);
+  }
+
+  // Interprets a text. Its name stays known to INCLUDE.
+  include(name, bytes) {
+    const known = asFileName(name).replace(/["\p{C}]/gu, "'");
+    this.session.texts.files.set(known, bytes);
+    this.page.enter(`INCLUDE ${/ /.test(known) ? `"${known}"` : known}`);
   }
 
   // Neither blocks nor a text for the Forth: it may be a disk of another system, or a listing.

@@ -1,27 +1,78 @@
-// A film while it is made: the line is typed at a copy of the machine and of the disk, one tick after the other, and each step of your
-// words, and of what they call, is read from the machine before it is done.
+// A film while it is made: lines are typed at a copy of the machine and of the disk, one tick after the other, and each step of your
+// words, or of one word, and of what they call, is read from the machine before it is done.
 
 import { decode, encode, signed } from "./bytes.js";
 import { Calls, TABLE_ROWS, effectOf } from "./calls.js";
-import { COLUMNS, linesOf } from "./disk.js";
-import { ASKS, PAGE_SIZE, STOP, SYSTEM } from "./machine.js";
+import { COLUMNS, Disk, linesOf } from "./disk.js";
+import { named } from "./faults.js";
+import { Host } from "./host.js";
+import { ASKS, SYSTEM } from "./machine.js";
 
-const MOST_TICKS = 400000, MOST_STEPS = 20000, MOST_BYTES = 4096, MOST_SEEING = 4000000;
+const MOST_TICKS = 400000, MOST_STEPS = 20000, MOST_OUTPUT = 1 << 20, MOST_BYTES = 4096, LONGEST_FILMED = 1024, WORKS_FOR = 30, RETURN = 10;
 
 export class Filming {
-  constructor(machine, session, line) {
-    Object.assign(this, { machine, line, disk: session.disk.bytes.slice(), ticks: 0, pieces: [], shown: 0, why: "", words: [], followed: [], lines: [] });
-    machine.restore(session.machine.copy());
-    this.base = machine.cell(SYSTEM.base);
+  // record: the machine before the lines. name: the word whose calls are filmed, or none for all of your words; ticks and steps: the most.
+  constructor(machine, session, line, record, { name = "", ticks = MOST_TICKS, steps = MOST_STEPS } = {}) {
+    Object.assign(this, { machine, line, most: { ticks, steps }, typed: encode(`${line}\n`), entered: "", ticks: 0, pieces: [], shown: 0, why: "", words: [], followed: [], lines: [] });
+    this.host = new Host(machine, this, new Disk(session.disk.name, session.disk.bytes.slice()));
+    Object.assign(this.host, { places: session.places, texts: session.texts });
+    machine.restore(record);
     this.fence = machine.cell(SYSTEM.fence);
+    this.subject = name ? [name, name.toUpperCase()].map((one) => this.host.tokenOf(one)).find((one) => one !== null) : null;
     this.calls = new Calls();
     this.learn();
-    this.start = machine.copy();
-    this.typed = this.bytesOf(line);
   }
 
-  // A line as it is typed: no longer than what the Forth asks for.
-  bytesOf(line) { return Uint8Array.from([...encode(line).subarray(0, Math.max(0, this.machine.field("asked") - 1)), 10]); }
+  // Makes all of it. From time to time the page draws, and `report` is called.
+  async make(report) {
+    for (let began = performance.now(); this.goesOn(); ) {
+      if (this.ticks % 100 !== 0 || performance.now() - began < WORKS_FOR) continue;
+      report();
+      await new Promise((resolve) => setTimeout(resolve));
+      began = performance.now();
+    }
+    this.calls.finish();
+    this.learn();
+  }
+
+  // Types what the machine asks for, a byte or a line or a part of one; whether there was any left.
+  types(asked) {
+    const { host, machine, typed } = this;
+    if (!typed.length || asked === "h" || (asked === "k" && host.service)) return false;
+    const isKey = asked === "k", end = typed.indexOf(RETURN), most = isKey ? 1 : host.isPrompt ? Infinity : machine.field("asked");
+    const isWhole = !isKey && end < most, bytes = typed.slice(0, isWhole ? end : most);
+    this.typed = typed.subarray(isWhole ? end + 1 : most);
+    if (isKey) host.give("k", bytes);
+    else this.enter(bytes, isWhole);
+    return true;
+  }
+
+  enter(bytes, isWhole) {
+    const { host } = this;
+    this.entered = decode(bytes);
+    if (host.isPrompt) host.begin(bytes.subarray(0, LONGEST_FILMED));
+    else host.answer(bytes, isWhole);
+  }
+
+  // All that was shown.
+  get output() {
+    const output = new Uint8Array(this.shown);
+    this.pieces.reduce((at, piece) => (output.set(piece, at), at + piece.length), 0);
+    return output;
+  }
+
+  show(bytes) {
+    this.pieces.push(bytes);
+    this.shown += bytes.length;
+  }
+  say(text) { this.show(encode(text)); }
+  fault(text) { this.say(text); }
+  isAtLineStart() {
+    const last = this.pieces.filter((one) => one.length).pop();
+    return !last || last[last.length - 1] === 10;
+  }
+  edit() {}
+  retype() {}
 
   // The words, also those that the line has made by now. Variables and arrays of yours are followed.
   learn() {
@@ -51,46 +102,35 @@ export class Filming {
   goesOn() {
     const { machine } = this;
     if (machine.asks === ASKS.NOTHING && !machine.field("has_pending")) this.look(machine.field("ip"));
-    const ended = machine.run(this.typed, 1);
-    this.typed = this.typed.subarray(ended.read);
-    this.pieces.push(ended.shown);
-    this.shown += ended.shown.length;
+    const next = this.host.act(1);
     this.ticks++;
-    if (ended.stop === STOP.BLOCK) this.serve(this.disk);
-    else if (ended.stop === STOP.TYPED || ended.stop === STOP.HALTED) return this.ends(ended.stop);
-    if (this.calls.steps.length < MOST_STEPS && this.ticks < MOST_TICKS) return true;
+    if (next !== "-") return this.types(next) || this.ends(next);
+    if (this.calls.steps.length < this.most.steps && this.ticks < this.most.ticks && this.shown < MOST_OUTPUT) return true;
     this.why = "; the line takes longer, and the film ends there";
     this.isCut = true;
     return false;
   }
 
-  // The film is over: the words end where they end now.
-  finish() {
-    this.calls.finish();
-    this.learn();
-  }
-
-  ends(stop) {
-    this.isWhole = stop === STOP.TYPED && this.machine.asks === ASKS.LINE;
-    if (this.machine.asks === ASKS.KEY) this.why = "; the film ends where the program asks for a key";
+  ends(next) {
+    this.asks = { k: "it asks for a key", l: "it asks for a line", h: "the machine has halted" }[next];
+    if (next === "k") this.why = "; the film ends where the program asks for a key";
     return false;
-  }
-
-  serve(disk) {
-    const { machine } = this, block = machine.field("asked"), at = block * PAGE_SIZE;
-    if (at >= disk.length) machine.answerFailed();
-    else if (machine.asks === ASKS.READ) machine.answerRead(disk.subarray(at, at + PAGE_SIZE));
-    else disk.set(machine.answerWritten(), at);
   }
 
   // Notes a step. Of steps outside your calls, only what they do to the calls is kept.
   look(ip) {
     const { machine, calls } = this, here = machine.cell(SYSTEM.here);
     if (machine.cell(SYSTEM.last) !== this.last || here < this.here) this.learn();
-    const isYours = ip >= this.fence && ip < here, isOpen = calls.open.length > 0;
     const codeField = this.executed(ip), effect = effectOf(machine, codeField);
-    if (isOpen || (isYours && calls.begins(ip))) this.take(ip, codeField, here);
+    if (calls.open.length || (calls.begins(ip) && this.isWanted(ip, here))) this.take(ip, codeField, here);
     calls.last = effect;
+  }
+
+  // Whether a call that begins here is filmed: one of the word that is wanted, or of a word that it made; or else one of your words.
+  isWanted(ip, here) {
+    const { subject, fence, calls } = this;
+    if (subject === null) return ip >= fence && ip < here;
+    return calls.last.codeField === subject || this.owner(ip)?.word === subject;
   }
 
   // The word that a step executes: its token's word or, for EXECUTE, the one on the stack.
@@ -108,6 +148,7 @@ export class Filming {
   take(ip, codeField, here) {
     const { machine, calls } = this, data = machine.values.map(signed), owner = this.owner(ip), number = calls.steps.length;
     this.here = here;
+    this.base ??= machine.cell(SYSTEM.base);
     const step = { ip, owner, data, returns: machine.returns, shown: this.shown, row: machine.cell(machine.cell(ip)), token: this.tokenAt(ip) };
     calls.take(step, (frame) => this.noteCall(frame));
     if (calls.steps.length > number) this.follow(codeField, data[data.length - 1] & 0xffff);
@@ -124,15 +165,11 @@ export class Filming {
 
   // The word that is interpreted, and the line or the screen's line in which it is.
   interpreted() {
-    const { machine } = this, blk = machine.cell(SYSTEM.blk), end = machine.cell(SYSTEM.toIn);
-    const number = blk ? Math.floor(Math.max(0, end - 1) / COLUMNS) : 0, to = end - COLUMNS * number;
-    const text = blk ? linesOf(this.pageOf(blk))[number] || "" : this.line, word = /(\S+)\s*$/.exec(text.slice(0, to));
-    return [blk ? `screen ${blk} line ${number}:` : "typed:", text, word ? word.index : 0, word ? word.index + word[1].length : 0];
-  }
-
-  pageOf(block) {
-    const buffer = this.machine.buffers.find((one) => one.block === block);
-    return buffer ? buffer.bytes : this.disk.subarray(block * PAGE_SIZE, (block + 1) * PAGE_SIZE);
+    const { machine, host } = this, blk = machine.cell(SYSTEM.blk), end = machine.cell(SYSTEM.toIn), line = host.textLine(blk);
+    const number = blk && !line ? Math.floor(Math.max(0, end - 1) / COLUMNS) : 0, to = end - COLUMNS * number;
+    const text = line ? decode(line.text) : blk ? linesOf(host.page(blk))[number] || "" : this.entered, word = /(\S+)\s*$/.exec(text.slice(0, to));
+    const where = line && line.name ? `${named(line)}:` : blk && !line ? `screen ${blk} line ${number}:` : "typed:";
+    return [where, text, word ? word.index : 0, word ? word.index + word[1].length : 0];
   }
 
   // What has changed in your variables and arrays since the step before, and which of them the step runs or takes a byte of.
@@ -177,29 +214,6 @@ export class Filming {
     return tokens;
   }
 
-  // What SEE shows of a word, on a copy of the Forth that nothing else uses.
-  seen(names) {
-    const { machine } = this, state = this.isWhole ? machine.copy() : this.start, disk = this.disk.slice(), found = new Map();
-    for (const name of names) {
-      machine.restore(state);
-      found.set(name, this.answer(`SEE ${name}`, disk));
-    }
-    machine.restore(state);
-    return found;
-  }
-
-  // What a line shows.
-  answer(line, disk) {
-    const { machine } = this;
-    let typed = this.bytesOf(line), text = "";
-    for (let left = MOST_SEEING; left > 0; ) {
-      const ended = machine.run(typed, left);
-      typed = typed.subarray(ended.read);
-      text += decode(ended.shown);
-      left = ended.left;
-      if (ended.stop === STOP.BLOCK) this.serve(disk);
-      else if (ended.stop === STOP.TYPED || ended.stop === STOP.HALTED) break;
-    }
-    return text;
-  }
+  // SEE's text of each word, or an empty one.
+  seen(names) { return new Map(names.map((name) => [name, this.host.seeOf(name) ?? ""])); }
 }

@@ -1,17 +1,29 @@
-// The machine: its record in the memory of the WebAssembly module, and the calls of include/forth83.h.
+// The machine: its record in the memory of the WebAssembly module, and what it is asked: the requests of docs/FORMATS.md (Frames), by the
+// calls of include/forth83.h.
 
-import { decode } from "./bytes.js";
+import { decode, encode } from "./bytes.js";
 
-export const STOP = { HALTED: 0, LIMIT: 1, ROOM: 2, TYPED: 3, BLOCK: 4 };
 export const ASKS = { NOTHING: 0, KEY: 1, LINE: 2, READ: 3, WRITE: 4 };
 export const PAGE_SIZE = 1024, MEMORY = 65536, STACK = 256;
-const ROOM = 131072, TYPED_ROOM = 4096;
+// How many blocks a machine has: those of its disk are answered, and lines of texts are the others.
+const ALL_BLOCKS = 65536, ROOM = 131072, BODY = 2048, LONG_REPLY = 22, REFUSED = "!".charCodeAt(0), SHOWN = "s".charCodeAt(0);
 // Cells of the system in the machine's memory.
-export const SYSTEM = { state: 16, base: 18, toIn: 20, blk: 22, here: 28, last: 30, scr: 38, vocLink: 52, fence: 54 };
+export const SYSTEM = { state: 16, base: 18, toIn: 20, blk: 22, tibCount: 24, here: 28, last: 30, context: 32, scr: 38, fault: 40, forth: 42, fence: 54 };
 
-// A record as the calls want it. Pages of versions 1.0.0 and 2.0.0 kept records of layouts 1 and 2, which end soon after memory.
+// A request that was refused, and why.
+export class Refused extends Error {
+  constructor(cause) { super(`cause ${cause} of docs/FORMATS.md`).cause = cause; }
+}
+
+export const cellsOf = (bytes) => Array.from({ length: bytes.length >> 1 }, (_, at) => bytes[2 * at] + 256 * bytes[2 * at + 1]);
+// Whether a word has a thread: `:` or DOES> made it.
+export const hasThread = ({ code }) => code === 1 || code > 255;
+export const cellBytes = (...cells) => Uint8Array.from(cells.flatMap((cell) => [cell & 255, (cell >> 8) & 255]));
+
+// A record as the calls want it. Pages of versions 1.0.0 and 2.0.0 kept records of layouts 1 and 2, which end soon after memory; later ones also of
+// layout 3 without the place of the last fault.
 export function inLayout3(record, { size, abi, memory }) {
-  const end = memory + MEMORY, sizes = { 1: end + 2, 2: end + 18 };
+  const end = memory + MEMORY, sizes = { 1: end + 2, 2: end + 18, 3: size - 4 };
   const isOld = record.length >= end && record.length === sizes[new DataView(record.buffer, record.byteOffset).getUint32(abi, true)];
   if (!isOld) return record;
   const made = new Uint8Array(size);
@@ -24,9 +36,14 @@ export class Machine {
   // calls: what the module exports. layout: where the fields of its records are.
   constructor(calls, layout) {
     Object.assign(this, { calls, layout });
-    [this.record, this.shown, this.typed, this.page, this.end] =
-      [layout.size, ROOM, TYPED_ROOM, PAGE_SIZE, layout.end.size].map((size) => calls.malloc(size));
+    [this.record, this.body, this.size] = [layout.size, BODY, 8].map((size) => calls.malloc(size));
     this.bytes(this.record, layout.size).fill(0);
+    this.makeRoom(ROOM);
+  }
+
+  makeRoom(size) {
+    if (this.reply) this.calls.free(this.reply);
+    Object.assign(this, { reply: this.calls.malloc(size), room: size });
   }
 
   // Memory may grow with each call, and then needs new views.
@@ -37,37 +54,53 @@ export class Machine {
     if (status !== 0) throw new Error(`${what}: status ${status}`);
   }
 
-  load(image, blockCount) {
+  load(image) {
     const at = this.calls.malloc(image.length);
     this.bytes(at, image.length).set(image);
-    this.must(this.calls.forth83_load_3(at, BigInt(image.length), blockCount, this.record), "load");
+    this.must(this.calls.forth83_load_3(at, BigInt(image.length), ALL_BLOCKS, this.record), "load");
     this.calls.free(at);
   }
 
-  // Runs the machine with these bytes for at most so many ticks.
-  run(typed, ticks) {
-    this.bytes(this.typed, typed.length).set(typed);
-    const words = [this.record, this.typed, BigInt(typed.length), this.shown, BigInt(ROOM), BigInt(ticks), this.end];
-    this.must(this.calls.forth83_run(...words), "run");
-    const view = this.view(), { end } = this.layout, number = (at) => Number(view.getBigUint64(this.end + at, true));
-    return { read: number(end.read), shown: this.bytes(this.shown, number(end.shown)).slice(), left: number(end.left),
-      stop: view.getUint32(this.end + end.stop, true) };
+  // Obeys a request: what is shown, and the bytes of the reply. Refused if it is refused.
+  ask(kind, body = new Uint8Array(0)) {
+    this.bytes(this.body, body.length).set(body);
+    const words = [this.record, kind.charCodeAt(0), this.body, BigInt(body.length), this.reply, BigInt(this.room), this.size];
+    const status = this.calls.forth83_serve(...words), size = Number(this.view().getBigUint64(this.size, true));
+    if (status === LONG_REPLY) {
+      this.makeRoom(size);
+      return this.ask(kind, body);
+    }
+    this.must(status, kind);
+    return this.replied(this.bytes(this.reply, size).slice());
   }
 
-  answerRead(page) {
-    this.bytes(this.page, PAGE_SIZE).set(page);
-    this.must(this.calls.forth83_read(this.record, this.page, BigInt(PAGE_SIZE)), "read");
+  // The frames of a reply.
+  replied(bytes) {
+    const shown = [], pieces = [];
+    for (let at = 0; at < bytes.length; ) {
+      const kind = bytes[at], end = at + 3 + bytes[at + 1] + 256 * bytes[at + 2];
+      if (kind === REFUSED) throw new Refused(bytes[at + 3]);
+      (kind === SHOWN ? shown : pieces).push(bytes.subarray(at + 3, end));
+      at = end;
+    }
+    return { shown: wholeOf(shown), bytes: wholeOf(pieces) };
   }
 
-  answerWritten() {
-    this.must(this.calls.forth83_page(this.record, this.page, BigInt(PAGE_SIZE)), "page");
-    this.must(this.calls.forth83_written(this.record), "written");
-    return this.bytes(this.page, PAGE_SIZE).slice();
+  // A request after which the machine may do something else: what is shown, the ticks that were done, and what it does now, as a letter with a number.
+  move(kind, body) {
+    const { shown, bytes } = this.ask(kind, body), view = new DataView(bytes.buffer, bytes.byteOffset);
+    return { shown, ticks: view.getUint32(0, true), how: String.fromCharCode(bytes[4]), number: view.getUint16(5, true) };
   }
 
-  answerFailed() { this.must(this.calls.forth83_failed(this.record), "failed"); }
+  run(ticks) { return this.move("r", cellBytes(ticks, ticks >>> 16)); }
+  enter(word) { return this.move("n", cellBytes(word)); }
 
-  enter(word) { this.must(this.calls.forth83_enter(this.record, word), "enter"); }
+  // What the machine knows of a word. Refused if there is no such word.
+  token(name) { return cellsOf(this.ask("y", encode(name)).bytes)[0]; }
+  viewOf(name) { return cellsOf(this.ask("i", encode(name)).bytes)[0]; }
+  see(name) { return decode(this.ask("z", encode(name)).bytes); }
+  // An image of memory up to HERE that starts with a word.
+  image(word) { return this.ask("t", cellBytes(word)).bytes; }
 
   // The whole machine, to be restored or kept. A record that isn't a machine's is refused by the next call.
   copy() { return this.bytes(this.record, this.layout.size).slice(); }
@@ -76,7 +109,8 @@ export class Machine {
   field(name) { return this.view().getUint16(this.record + this.layout[name], true); }
   get asks() { return this.field("asks"); }
   get halted() { return this.field("halts") !== 0; }
-  set blockCount(count) { this.view().setUint32(this.record + this.layout.block_count, count, true); }
+  // A record that an older page kept may have fewer blocks.
+  haveAllBlocks() { this.view().setUint32(this.record + this.layout.block_count, ALL_BLOCKS, true); }
 
   get memory() { return this.bytes(this.record + this.layout.memory, MEMORY); }
   byte(at) { return this.memory[at & 0xffff]; }
@@ -124,17 +158,27 @@ export class Machine {
   }
   settle(buffer) { this.view().setUint16(buffer.at + this.layout.buffer.updated, 0, true); }
 
-  // All words: of each its header, name and compilation address, in the order of their addresses. Links may have been written over.
+  // All words, in the order of their addresses: of each its header, name, compilation address, code field and view cell. None if a chain is broken.
   words() {
+    let bytes;
+    try {
+      ({ bytes } = this.ask("a"));
+    } catch (error) {
+      if (error instanceof Refused) return [];
+      throw error;
+    }
     const found = [];
-    for (let vocabulary = this.cell(SYSTEM.vocLink), most = 64; vocabulary && most; vocabulary = this.cell(vocabulary + 8), most--)
-      for (let chain = 0; chain < 4; chain++)
-        for (let at = this.cell(vocabulary + 2 * chain), left = 4096; at && left; at = this.cell(at), left--) found.push(this.header(at));
-    return found.sort((a, b) => a.header - b.header);
+    for (let at = 0; at < bytes.length; ) {
+      const [word, view, code] = cellsOf(bytes.subarray(at, at + 6)), size = bytes[at + 6] & 31, name = decode(bytes.subarray(at + 7, at + 7 + size));
+      found.push({ header: word - 3 - size, name, word, view, code, isImmediate: (bytes[at + 6] & 64) !== 0, isHidden: (bytes[at + 6] & 32) !== 0 });
+      at += 7 + size;
+    }
+    return found;
   }
+}
 
-  header(at) {
-    const size = this.byte(at + 2) & 31, letters = Uint8Array.from({ length: size }, (_, i) => this.byte(at + 3 + i));
-    return { header: at, name: decode(letters), word: at + 3 + size, view: this.cell(at - 2), isImmediate: (this.byte(at + 2) & 64) !== 0 };
-  }
+function wholeOf(pieces) {
+  const all = new Uint8Array(pieces.reduce((sum, piece) => sum + piece.length, 0));
+  pieces.reduce((at, piece) => (all.set(piece, at), at + piece.length), 0);
+  return all;
 }

@@ -55,12 +55,6 @@ export class Manual {
     this.list();
   }
 
-  // What a word is, as a text.
-  entry(name) {
-    const found = DATA.manual.find((one) => one[0] === name.toUpperCase());
-    return found ? `${found[0]} ${found[1]} ${plainOf(found[3])}` : `The manual has no word ${name}. The tab Words searches in what words do.`;
-  }
-
   // Words that may have been meant by one that nobody knows: those for its meaning, and those that are written nearly so.
   near(word, known) {
     const upper = word.toUpperCase(), names = [...new Set([...DATA.manual.map((one) => one[0]), ...known])], most = upper.length > 4 ? 2 : 1;

@@ -21,6 +21,13 @@ KEPT = ROOT / "build/out/page"
 MAKERS = [lowering.HERE / name for name in ("libraries.py", "retarget.py", "heap.c")]
 
 
+PROVED = ("The machine in this page is Jaurimet's: its primitives are rows of a written table, and it is proved, in Rattle, to do exactly what "
+          "that table says. What runs here was compiled from the proved library to WebAssembly, by a compiler that isn't proved. The page around it "
+          "is only tested.")
+UNPROVED = ("The machine in this page is not proved: it was made from the library without its proofs, with checks at run time. "
+            "./forth page --proved makes a page of the proved library.")
+
+
 class Module(NamedTuple):
     """A WebAssembly module, whether the library was proved that it was made from, and where the fields of its records are."""
 
@@ -30,6 +37,14 @@ class Module(NamedTuple):
 
     def sha256(self) -> str:
         return hashlib.sha256(self.code).hexdigest()
+
+    def version(self) -> str:
+        """What a page with it is called."""
+        return f"forth83 {(ROOT / 'VERSION').read_text(encoding='utf-8').strip()} in a page, {'proved' if self.is_proved else 'unproved'}"
+
+    def claim(self) -> str:
+        """What is proved of it, in sentences."""
+        return PROVED if self.is_proved else UNPROVED
 
 
 def file_of(is_proved: bool) -> pathlib.Path:
@@ -65,6 +80,14 @@ def say(text: str) -> None:
     print(f"forth: {text}", file=sys.stderr, flush=True)
 
 
+def copy_to(tree: pathlib.Path) -> None:
+    """Copies the module to a tree without sources."""
+    folder, file = tree / KEPT.relative_to(ROOT), file_of(module_of(None).is_proved)
+    folder.mkdir(parents=True, exist_ok=True)
+    for one in (file, file.with_suffix(".json")):
+        shutil.copy(one, folder / one.name)
+
+
 def made(is_proved: bool, total: str) -> Module:
     """A new module."""
     with tempfile.TemporaryDirectory(prefix="forth83-page-") as name:
@@ -75,20 +98,18 @@ def made(is_proved: bool, total: str) -> Module:
 
 
 def installed() -> Module:
-    """The module of a copy without sources."""
-    found = kept(True, None)
+    """The module that is kept, where none can be made: in a copy without sources, or without the toolchain."""
+    found = kept(True, None) or kept(False, None)
     if found is None:
-        raise Refused("this copy has no sources, and no module that was made of them; in the repository, run ./forth page --proved -o x.html "
-                      "and then ./install again")
+        raise Refused("no module was made here, and none can be made without the sources and the Rattle toolchain's rt: tools/use-release takes that of "
+                      "a release, and ./forth page --proved -o x.html makes one in the repository, before ./install")
     return found
 
 
 def module_of(wanted: Optional[str]) -> Module:
     """The module: the proved one if it is kept or wanted, else the one without proofs."""
-    if not records.LIBRARY.is_dir():
+    if not records.LIBRARY.is_dir() or not shutil.which("rt"):
         return installed()
-    if not shutil.which("rt"):
-        raise Refused("there is no command rt; install the Rattle toolchain, or put its rt on PATH")
     total = lowering.sum_of_sources(*MAKERS)
     found = kept(True, total) if wanted != "unproved" else None
     if found is None and wanted != "proved":

@@ -1,8 +1,8 @@
 // The page: what is pressed and typed, its tabs, and what the browser keeps.
 
-import { decode, element, encode, signed } from "./bytes.js";
+import { element, encode, signed } from "./bytes.js";
 import { DATA } from "./data.js";
-import { textOf } from "./disk.js";
+import { COLUMNS, textOf } from "./disk.js";
 import { makingLines, nameVersion, versionOf } from "./editions.js";
 import { Files } from "./files.js";
 import { wordAt } from "./manual.js";
@@ -54,6 +54,7 @@ export class Page {
   startNew() {
     const keeps = this.work.store.database ? " Your work is kept in this browser." : " This browser keeps nothing: save your work as a file.";
     this.note(`${DATA.title} Type 3 4 + . and press Enter. HELP says more.${keeps}`);
+    this.session.forget();
     this.session.start();
     if (DATA.start.length) this.session.type(DATA.start);
   }
@@ -62,6 +63,7 @@ export class Page {
   startAgain() {
     this.note("The words of your last session don't fit this version of the page, and are gone. The screens are here.");
     this.work.version = DATA.version;
+    this.session.forget();
     this.session.start();
     this.work.goOn();
   }
@@ -79,7 +81,8 @@ export class Page {
 
   async offer(old, texts) {
     const lines = makingLines(texts), again = lines.length ? ` What made words is typed again: ${lines.length} ${lines.length === 1 ? "line" : "lines"}.` : "";
-    const question = `Your Forth is that of an older page (${old.text || "unknown"}); this page brings ${DATA.version.text}. With the new one, your disks stay.${again}`;
+    const lacks = this.session.isForeign ? " The old one goes on, but EDIT, MS and the marks of faults do nothing in it." : "";
+    const question = `Your Forth is that of an older page (${old.text || "unknown"}); this page brings ${DATA.version.text}. With the new one, your disks stay.${again}${lacks}`;
     if (!(await this.ask(question, ["Take the new Forth"], { cancel: "Keep the old one" }))) return void (Object.assign(this.work.version, { left: DATA.version.image }), this.keeps());
     await this.idle();
     this.session.settle();
@@ -116,13 +119,18 @@ export class Page {
   mark() { return this.transcript.mark(); }
   back(mark) { this.transcript.back(mark); }
 
-  fault(notes) {
-    this.transcript.fault();
+  say(text) { this.transcript.add("shown", text); }
+  isAtLineStart() { return this.transcript.isAtLineStart(); }
+
+  // A fault, in words; its place, if it is on a screen.
+  fault(text, place) {
+    const unknown = /^(\S+) is unknown(?:;.*)? \(fault 13\)$/m.exec(text);
+    this.transcript.add("fault", text);
+    this.session.drop("there was a fault");
     this.outcome = "failed";
-    const unknown = /(\S+) is unknown \(fault 13\)/.exec(this.transcript.answer());
     this.advise(unknown ? unknown[1] : "");
-    if (!notes.block) return;
-    this.editor.show({ ...notes, text: this.transcript.answer().split("\n").find((line) => line.includes("(fault ")) || "" });
+    if (!place) return;
+    this.editor.show({ ...place, text: text.trim().split("\n")[0] });
     if (this.isFromEditor && document.body.dataset.tab !== "course") this.tab("screens");
   }
 
@@ -132,16 +140,21 @@ export class Page {
     this.isFromEditor = true;
   }
 
-  edit(screen) {
+  // Shows a screen in the editor, at a place of it if there is one.
+  edit(screen, place) {
     if (document.body.dataset.tab !== "course" || screen !== this.course.lesson.screen) this.tab("screens");
     this.editor.go(screen);
+    if (place) this.editor.select(Math.floor(place.byte / COLUMNS), place.byte % COLUMNS);
     by("screen-text").focus();
   }
 
-  // RETYPE: the line begins as n PUT and that line.
-  retype(screen, line) {
-    const page = this.session.page(screen), text = decode(page.subarray(line * 64, line * 64 + 64)).trimEnd();
-    by("line").value = `${line} PUT ${text}`;
+  // RETYPE: how the next line begins.
+  retype(text) { by("line").value = text; }
+
+  // DEBUG: the film of a line, from the machine before it.
+  async steps(line, record) {
+    await this.idle();
+    this.showFilm(line, record);
   }
 
   // Shows the session's state, and keeps it soon.
@@ -209,12 +222,12 @@ export class Page {
       event.preventDefault();
       const text = line.value;
       line.value = "";
-      if (this.session.waitsForKey) this.session.press(text ? encode(text) : [10]);
+      if (this.session.takesKeys) this.session.press(text ? encode(text) : [10]);
       else this.enter(text);
     });
-    line.addEventListener("keydown", (event) => (this.session.waitsForKey ? this.pressKey(event) : this.recall(event)));
+    line.addEventListener("keydown", (event) => (this.session.takesKeys ? this.pressKey(event) : this.recall(event)));
     line.addEventListener("input", () => {
-      if (!this.session.waitsForKey || !line.value) return;
+      if (!this.session.takesKeys || !line.value) return;
       this.session.press(encode(line.value));
       line.value = "";
     });
@@ -343,17 +356,14 @@ export class Page {
     this.history = this.history.slice(-MOST_LINES);
     this.place = this.history.length;
     this.session.type(lines);
-    const asked = /(?:^|\s)HELP\s+(\S+)\s*$/i.exec(lines[lines.length - 1] || "");
-    if (asked) this.idle().then(() => this.note(this.manual.entry(asked[1])));
   }
 
-  // What may help after a word that the Forth doesn't know, or a number that no cell has room for.
+  // What may help after a word that the Forth doesn't know.
   advise(word) {
-    const isNumber = /^-?\d+$/.test(word), near = word && !isNumber ? this.manual.near(word, this.session.machine.words().map((one) => one.name)) : [];
-    const said = isNumber ? `A number has 16 bits: -32768 to 65535. ${word}. is a double number. ` : `I don't know the word ${word}. ${near.length ? "Perhaps " : ""}`;
+    const near = word ? this.manual.near(word, this.session.machine.words().map((one) => one.name)) : [], said = `I don't know the word ${word}. ${near.length ? "Perhaps " : ""}`;
     const search = element("button", "Search in Words", { type: "button" }), words = near.map((name) => element("button", name, { type: "button", class: "word" }));
     by("advice").hidden = !word;
-    by("advice").replaceChildren(element("span", said), ...words, ...(isNumber ? [] : [search]));
+    by("advice").replaceChildren(element("span", said), ...words, search);
     search.onclick = () => this.showWord(word);
     for (const one of words) one.onclick = () => this.showWord(one.textContent);
   }
@@ -363,10 +373,10 @@ export class Page {
     while (this.session.isRunning) await new Promise((resolve) => setTimeout(resolve, 20));
   }
 
-  showFilm(line) {
+  showFilm(line, record) {
     this.tab("film");
     this.film.parts.line.value = line;
-    this.film.make(line);
+    this.film.make(line, record);
   }
 
   stop(event) {

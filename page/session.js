@@ -1,54 +1,46 @@
-// A session: a machine with a disk. It runs in slices of time, so that the page still responds, and any program can be stopped.
+// A session: a machine with the disk that is in. It runs in slices of time, so that the page still responds, and any program can be stopped.
 
 import { encode } from "./bytes.js";
-import { entryOf, imageOf } from "./image.js";
-import { ASKS, inLayout3, Machine, PAGE_SIZE, STOP, SYSTEM } from "./machine.js";
+import { DATA } from "./data.js";
+import { Host } from "./host.js";
+import { ASKS, inLayout3, Machine, SYSTEM } from "./machine.js";
+import { Texts } from "./texts.js";
 
-const IN_PAGE = 0xffff, SLICE = 12, LONG = 2000, BEGINNING = "COLD-PAGE";
-// Places of the cells that screens/page/paged.txt notes for the page, and the words of its image that the page uses.
-const NOTES = { faults: 0, block: 2, byte: 4, edits: 6 };
-const OWN = { BREAK: ["break", 0], NOTES: ["notes", 2], SHADOW: ["shadow", 2], "RETYPE#": ["retyped", 2], "'BOOT": ["boot", 2], WAITING: ["wait", 2] };
+const SLICE = 12, LONG = 2000, LONGEST_LINE = 1024, HALTED_BY_FAULT = 4;
 
 const numbers = (places) => Object.fromEntries(Object.entries(places).map(([name, place]) => [name, Number(place)]));
 
-export class Session {
-  // view: show(bytes, isTyped), note(text), started(), changed(), fault(notes), edit(screen), retype(screen, line), looks(), keeps(),
-  // mark() and back(mark)
+export class Session extends Host {
+  // view: the page. Besides what a host asks of its view: note(text), started(isAnswer), changed(), steps(line, record), looks() and keeps().
   constructor(calls, layout, image, view) {
-    Object.assign(this, { image, view, layout, machine: new Machine(calls, layout) });
+    super(new Machine(calls, layout), view);
+    Object.assign(this, { calls, layout, image, outer: null, program: "" });
     this.lines = []; // typed lines that aren't read yet
     this.keys = []; // bytes for KEY that aren't read yet
-    this.ticks = 200000;
+    this.slice = 200000;
     this.isStopped = false;
     this.isRunning = false;
-    // The addresses that the page reads, found before anyone can give these names to other words.
-    this.machine.load(image, 1);
-    this.own = this.placesOf(OWN);
+    this.machine.load(image);
+    this.own = this.placesOf();
   }
 
   // The disk that is in: the work has it.
   get disk() { return this.work.disk; }
 
+  // Another person's work begins.
+  forget() { this.texts = new Texts(); }
+
   // Starts a machine as the image has it.
   start() {
     if (this.waits(() => this.start())) return;
-    this.load();
+    this.anew();
     this.go();
   }
 
-  load() {
-    Object.assign(this, { faults: 0, places: { ...this.own }, outer: null, program: "" });
-    this.machine.load(this.image, this.disk.count);
-    this.greet();
-  }
-
-  // Lets MS know that a page answers it.
-  greet() { if (this.places.wait !== undefined) this.machine.setCell(this.places.wait, IN_PAGE); }
-
-  // For how many milliseconds MS wants to wait, or 0.
-  get pause() {
-    const wait = this.machine.asks === ASKS.KEY && this.places.wait !== undefined ? this.machine.cell(this.places.wait) : 0;
-    return wait === IN_PAGE ? 0 : wait;
+  // A new Forth, which knows the files that were opened, and has read none of them.
+  anew() {
+    Object.assign(this, { outer: null, program: "", texts: new Texts({ files: [...this.texts.files] }) });
+    this.load(this.image, this.own);
   }
 
   // Runs an image in place of the Forth, which continues where it was when the image ends; returns whether it is an image.
@@ -56,14 +48,13 @@ export class Session {
     this.settle();
     const record = this.machine.copy(), outer = this.outer || { record, places: this.places }, before = this.work.snapshot(program);
     try {
-      this.machine.load(image, this.disk.count);
+      this.load(image);
     } catch {
       this.machine.restore(record);
       return false;
     }
     this.work.push(before);
-    Object.assign(this, { faults: 0, outer, program, places: this.placesOfImage(image) });
-    this.greet();
+    Object.assign(this, { outer, program });
     this.view.note(`${program} runs now. Stop interrupts it. When it ends, or after Undo, the Forth goes on where it was.`);
     this.go();
     return true;
@@ -74,97 +65,84 @@ export class Session {
     const { program, outer } = this;
     this.settle();
     try {
-      this.machine.restore(outer.record);
-      this.machine.run(new Uint8Array(0), 0);
-      Object.assign(this, { places: outer.places, outer: null, program: "" });
-      this.faults = this.notes.faults;
-      for (const buffer of this.machine.buffers) this.machine.release(buffer);
-      this.machine.blockCount = this.disk.count;
+      this.restore(outer.record);
+      Object.assign(this, { places: outer.places, outer: null, program: "", ...this.fresh() });
+      this.change();
     } catch {
-      this.load();
+      this.anew();
     }
     this.view.note(`${program} ${why}. The Forth goes on where it was.`);
   }
 
-  // Continues with a machine that was kept; returns whether it is valid. A record that isn't a machine's is refused by its first run.
+  // Takes a record; throws if it isn't a machine's.
+  restore(record) {
+    this.machine.restore(record);
+    this.machine.haveAllBlocks();
+    this.machine.run(0);
+  }
+
+  // Continues with a machine that was kept; returns whether it is valid.
   resume(kept) {
-    const { places, outer, program } = this, before = { places, outer, program }, record = this.machine.copy();
+    const { places, outer, program, texts } = this, before = { places, outer, program, texts }, record = this.machine.copy();
     try {
       this.take(kept);
-      this.machine.run(new Uint8Array(0), 0);
+      this.machine.run(0);
     } catch {
       this.machine.restore(record);
       Object.assign(this, before);
       return false;
     }
-    this.faults = this.notes.faults;
     return true;
   }
 
   // Goes on with it, on the disk that is in. A program that was running is interrupted.
   goOn() {
-    this.machine.blockCount = this.disk.count;
-    if (this.machine.asks === ASKS.NOTHING) this.interrupt();
+    if (this.isForeign && this.places.wait) this.machine.setCell(this.places.wait, 0);
+    if (this.machine.asks === ASKS.NOTHING || this.service) this.interrupt() || this.leave("was stopped");
     this.go();
   }
 
   // Restores what was kept; throws if the sizes differ.
-  take({ record, places, outer, program }) {
+  take({ record, places, outer, program, sources }) {
     const { size } = this.layout, now = inLayout3(record, this.layout), before = outer ? inLayout3(outer.record, this.layout) : null;
     if (now.length !== size || (before && before.length !== size)) throw new Error("other sizes");
-    Object.assign(this, { places: numbers(places), program: String(program || ""),
+    Object.assign(this, { places: numbers(places), program: String(program || ""), texts: new Texts(sources), ...this.fresh(),
       outer: before ? { record: before, places: numbers(outer.places) } : null });
     this.machine.restore(now);
+    this.machine.haveAllBlocks();
   }
 
   kept() {
-    const { machine, places, outer, program } = this;
-    return { record: machine.copy(), places: { ...places }, outer, program };
-  }
-
-  // The places of these words in the machine, of the newest of each name; and where its words end.
-  placesOf(names) {
-    const found = new Map(this.machine.words().map((one) => [one.name, one.word])), places = { fence: this.machine.cell(SYSTEM.here) };
-    for (const [name, [place, offset]] of Object.entries(names)) if (found.has(name)) places[place] = found.get(name) + offset;
-    return places;
-  }
-
-  // The same for an image that was just loaded. One that this page has saved has the page's words where the page's image has them.
-  placesOfImage(image) {
-    const words = new Map(this.machine.words().map((one) => [one.word, one.name]));
-    const isOwn = entryOf(image) === entryOf(this.image) && Object.entries(OWN).every(([name, [place, offset]]) => words.get(this.own[place] - offset) === name);
-    return isOwn ? { ...this.own } : this.placesOf({ BREAK: OWN.BREAK });
+    const { machine, places, outer, program, texts } = this;
+    return { record: machine.copy(), places: { ...places }, outer, program, sources: texts.kept() };
   }
 
   // An image of the Forth with its words, which starts with a word or, if none is named, with the Forth itself: { image } or { wrong }.
   saved(name) {
     const { machine, places } = this, sought = name.toUpperCase();
-    if (!this.waitsForLine || this.waitsForAnswer || this.isForeign) return { wrong: "the Forth must wait for a line" };
+    if (!this.isPrompt || this.isRunning) return { wrong: this.isForeign && this.waitsForLine ? "the Forth of an older page makes none" : "the Forth must wait for a line" };
     if (machine.cell(SYSTEM.state)) return { wrong: "a definition is unfinished" };
-    const word = name && machine.words().filter((one) => one.name.toUpperCase() === sought).pop();
+    const word = name && machine.words().filter((one) => one.name.toUpperCase() === sought).pop(), record = machine.copy();
     if (name && !word) return { wrong: `there is no word ${name}` };
-    // A Forth of an older page begins at another address than this page's.
-    const { word: entry } = machine.words().find((one) => one.name === BEGINNING) || { word: entryOf(this.image) };
-    return { image: imageOf(this.image, entry, machine.memory.slice(0, machine.cell(SYSTEM.here)), { [places.boot]: word ? word.word : 0, [places.wait ?? places.boot]: places.wait ? 0 : word ? word.word : 0 }) };
+    machine.setCell(places.boot, word ? word.word : 0);
+    machine.setCell(DATA.door.mark, 0);
+    const image = machine.image(places.cold);
+    machine.restore(record);
+    return { image };
   }
 
-  // Whether an image runs that knows nothing of the page. What it reads by KEY is typed in whole lines, as at a terminal.
-  get isForeign() { return this.places.notes === undefined; }
-
-  // What the Forth notes for the page: how many faults it reported, where the last one was, and whether SCR is to be edited.
-  get notes() {
-    if (this.isForeign) return { faults: 0 };
-    return Object.fromEntries(Object.entries(NOTES).map(([name, place]) => [name, this.machine.cell(this.places.notes + place)]));
-  }
-
-  get waitsForLine() { return !this.isRunning && (this.machine.asks === ASKS.LINE || (this.isForeign && this.machine.asks === ASKS.KEY)); }
-  get waitsForKey() { return !this.isRunning && !this.isForeign && this.machine.asks === ASKS.KEY; }
-  // Whether a program asks for the line, and not the Forth itself, whose return stack always has the same depth then.
-  get waitsForAnswer() { return this.waitsForLine && (this.isForeign || this.machine.returns.length > this.places.depth); }
+  get waitsForLine() { return !this.isRunning && (this.machine.asks === ASKS.LINE || (this.takesLines && this.machine.asks === ASKS.KEY)); }
+  get waitsForKey() { return !this.isRunning && !this.takesLines && this.machine.asks === ASKS.KEY; }
+  // Whether a program asks for the line, and not the Forth itself. The Forth of an older page has the same depth of the return stack then.
+  get waitsForAnswer() { return this.waitsForLine && this.isAnswer; }
+  get isAnswer() { return !this.isPrompt && (this.places.depth === undefined || this.machine.returns.length > this.places.depth); }
+  // Whether keys are typed in whole lines, as at a terminal: for an image that knows nothing of a page.
+  get takesLines() { return this.isForeign && this.places.notes === undefined; }
+  // Whether a key that is pressed is for the program.
+  get takesKeys() { return this.waitsForKey || (this.isRunning && this.isPolled); }
 
   // Types lines, one after the other; a fault drops the lines after it.
   type(lines) {
-    if (this.waitsForLine) this.work.remember("line");
     this.lines.push(...lines);
     this.go();
   }
@@ -176,16 +154,26 @@ export class Session {
 
   stop() {
     this.drop("");
-    if (this.isRunning) this.isStopped = true;
-    else if (this.waitsForKey) this.answerAndInterrupt([3]);
-    else if (this.waitsForAnswer) this.answerAndInterrupt([10]);
+    if (this.isRunning) return void (this.isStopped = true);
+    if (!this.waitsForKey && !this.waitsForAnswer) return;
+    this.breakOff();
+    this.go();
   }
 
-  // Gives a program what it waits for, and interrupts it before it does anything with that.
-  answerAndInterrupt(bytes) {
-    if (this.canBreak) this.machine.run(Uint8Array.from(bytes), 1);
-    this.interrupt();
-    this.go();
+  // Gives up what runs. If no prompt has come since the last time, the machine is put back as it was before the line.
+  breakOff() {
+    this.isStopped = false;
+    if (this.breaks++ ? this.outer : !this.interrupt()) this.leave("was stopped");
+    else if (this.breaks > 1) this.wish = () => this.putBack("The Forth does not come back to its prompt");
+  }
+
+  // Takes the line back, with all that it did, and what was edited since then.
+  putBack(why) {
+    const { undos } = this.work, at = undos.map(({ what }) => what).lastIndexOf("line");
+    if (at < 0) this.anew();
+    while (at >= 0 && undos.length > at) this.work.undo();
+    this.view.note(`${why}. ${at < 0 ? "A new one starts; the screens are kept." : "All is as it was before that line."}`);
+    if (at < 0) this.go();
   }
 
   drop(why) {
@@ -195,95 +183,84 @@ export class Session {
     this.keys = [];
   }
 
-  // The next bytes for what is asked.
-  next() {
-    if (this.machine.asks === ASKS.KEY && this.isForeign) return this.nextOfTerminal();
-    if (this.machine.asks === ASKS.KEY) {
-      if (!this.keys.length && this.lines.length) this.keys.push(...encode(this.lines.shift() + "\n"));
-      return Uint8Array.from(this.keys.splice(0, 1));
-    }
-    this.keys = [];
-    if (this.machine.asks !== ASKS.LINE || !this.lines.length) return new Uint8Array(0);
-    return this.nextLine();
-  }
-
-  // A line for KEY, which is shown as a terminal shows it.
-  nextOfTerminal() {
-    if (!this.lines.length) return new Uint8Array(0);
-    const bytes = encode(this.lines.shift() + "\n");
-    this.view.started(true);
-    this.view.show(bytes, true);
-    return bytes;
-  }
-
-  nextLine() {
-    const bytes = encode(this.lines[0]), most = this.machine.field("asked");
-    if (bytes.length > most) {
-      this.drop(`a line here has at most ${most} characters, and this one has ${bytes.length}`);
-      return new Uint8Array(0);
-    }
-    this.lines.shift();
-    this.view.started(this.machine.returns.length > this.places.depth);
-    this.echo = bytes.length;
-    // A line as long as was asked for ends without a return.
-    return bytes.length < most ? Uint8Array.from([...bytes, 10]) : bytes;
-  }
-
   // Runs until a person is needed. After each slice of time the page draws and takes events.
   async go() {
     if (this.isRunning) return;
     this.isRunning = true;
     this.view.changed();
-    let since = performance.now(), typed = new Uint8Array(0), kept = since;
-    while (typed) {
-      typed = this.advance(typed);
-      if (!typed && this.pause) typed = await this.sleep(this.pause);
+    for (let since = performance.now(), kept = since, goesOn = true; goesOn && !this.wish; ) {
+      goesOn = this.step();
+      if (goesOn instanceof Promise) goesOn = await goesOn;
       if (performance.now() - since < SLICE) continue;
       await pause();
       since = performance.now();
       this.view.looks();
-      if (this.wish) break;
-      if (this.isStopped) {
-        typed = new Uint8Array(0);
-        this.interrupt();
-      }
-      if (since - kept > LONG) {
-        kept = since;
-        this.view.keeps();
-      }
+      if (this.isStopped && !this.wish) this.breakOff();
+      if (since - kept < LONG) continue;
+      kept = since;
+      this.view.keeps();
     }
     this.end();
   }
 
-  // Waits for MS, unless it is stopped; the byte that answers it.
-  async sleep(wait) {
-    const until = performance.now() + wait;
-    this.view.looks();
-    while (performance.now() < until && !this.isStopped && !this.wish) await new Promise((resolve) => setTimeout(resolve, Math.min(20, Math.max(1, until - performance.now()))));
-    const isStopped = this.isStopped || this.wish;
-    this.isStopped = false;
-    return Uint8Array.of(isStopped ? 3 : 0);
+  // An act of the machine, or what a person has typed for it; whether it goes on, or a promise of that.
+  step() {
+    const began = performance.now(), { ticks, slice } = this, next = this.act(slice);
+    if (this.ticks - ticks === slice) this.measure(performance.now() - began);
+    return next instanceof Promise ? next.then((one) => this.isFed(one)) : this.isFed(next);
   }
 
-  // One call of the machine, and what it asks for; the bytes that come next, or null if a person is needed.
-  advance(typed) {
-    const began = performance.now(), ended = this.machine.run(typed, this.ticks);
-    this.show(ended.shown);
-    if (ended.stop === STOP.HALTED) {
-      this.restart();
-      return new Uint8Array(0);
+  isFed(next) {
+    if (next === "h") this.ended();
+    return next === "l" ? this.feedLine() : next === "k" ? this.feedKey() : true;
+  }
+
+  // The next line that was typed; whether there was one.
+  feedLine() {
+    if (this.takesLines && this.keys.length) return this.feedRest();
+    if (this.isPrompt) this.lookAtHere();
+    this.keys = [];
+    if (!this.lines.length) return false;
+    const bytes = encode(this.lines[0]), { isPrompt } = this, most = isPrompt ? LONGEST_LINE : this.machine.field("asked");
+    if (bytes.length > most) {
+      this.drop(`a line here has at most ${most} bytes, and this one has ${bytes.length}`);
+      return false;
     }
-    if (ended.stop === STOP.BLOCK) this.serve();
-    else if (ended.stop === STOP.LIMIT) this.measure(performance.now() - began);
-    else if (ended.stop === STOP.TYPED) return this.feed();
-    return typed.subarray(ended.read);
+    this.work.remember("line");
+    this.typed = this.lines.shift();
+    this.view.started(this.isAnswer);
+    if (!isPrompt) this.answer(bytes, bytes.length < most);
+    else this.begin(bytes);
+    return true;
   }
 
-  feed() {
-    this.places.depth ??= this.machine.returns.length;
-    if (this.look()) this.drop("there was a fault");
-    const typed = this.pause ? [] : this.next();
-    return typed.length ? typed : null;
+  // Says once that the dictionary ends within the words of the Forth, as after -5000 ALLOT.
+  lookAtHere() {
+    const { machine, isInside } = this;
+    this.isInside = machine.cell(SYSTEM.here) < machine.cell(SYSTEM.fence);
+    if (this.isInside && !isInside) this.view.note("HERE is inside the Forth, so what is compiled now overwrites it; UNDO goes back.");
+  }
+
+  // What KEY has left of a line that was typed is the next line.
+  feedRest() {
+    const { keys } = this, most = this.machine.field("asked"), end = keys.indexOf(10), isWhole = end < most, bytes = Uint8Array.from(keys.splice(0, Math.min(end, most)));
+    if (isWhole) keys.shift();
+    this.answer(bytes, isWhole);
+    return true;
+  }
+
+  // The next byte that was typed; whether there was one.
+  feedKey() {
+    if (!this.keys.length && this.lines.length) {
+      this.work.remember("line");
+      this.keys.push(...encode(`${this.lines.shift()}\n`));
+      if (this.takesLines) this.view.started(true);
+      if (this.takesLines) this.view.show(Uint8Array.from(this.keys), true);
+    }
+    if (!this.keys.length) return false;
+    // A service takes it itself.
+    if (!this.service) this.give("k", Uint8Array.of(this.keys.shift()));
+    return true;
   }
 
   end() {
@@ -297,7 +274,7 @@ export class Session {
 
   // As many ticks in one call as take a slice of time.
   measure(took) {
-    this.ticks = Math.round(Math.min(20e6, Math.max(10000, this.ticks * Math.min(2, SLICE / Math.max(took, 0.5)))));
+    this.slice = Math.round(Math.min(20e6, Math.max(10000, this.slice * Math.min(2, SLICE / Math.max(took, 0.5)))));
   }
 
   // Whether something has to wait until the run has stopped. This does not need BREAK, which may be gone if memory was overwritten.
@@ -308,61 +285,47 @@ export class Session {
     return true;
   }
 
-  // What is shown begins with the line that was typed.
-  show(bytes) {
-    const echo = Math.min(this.echo || 0, bytes.length);
-    if (echo) this.view.show(bytes.subarray(0, echo), true);
-    this.echo -= echo;
-    if (bytes.length > echo) this.view.show(bytes.subarray(echo), false);
+  // What services ask of a session.
+
+  // Waits; whether all of the time has passed.
+  async sleep(wait) {
+    const until = performance.now() + wait;
+    this.view.looks();
+    while (performance.now() < until && !this.isStopped && !this.wish) await new Promise((resolve) => setTimeout(resolve, Math.min(20, Math.max(1, until - performance.now()))));
+    return !this.isStopped && !this.wish;
   }
 
-  get canBreak() { return this.places.break !== undefined; }
+  hasKey() { return this.keys.length + this.lines.length > 0; }
+  key() { return this.keys.shift() ?? null; }
 
-  // Continues with the word BREAK. A program without that word ends.
-  interrupt() {
-    this.isStopped = false;
-    if (!this.canBreak) this.leave("was stopped");
-    else if (this.machine.asks === ASKS.NOTHING && !this.machine.halted) this.machine.enter(this.places.break);
+  // The film of the line that was typed, without the word DEBUG.
+  debug() { this.view.steps(this.typed.replace(/(^|\s)DEBUG\s+/i, "$1"), this.before); }
+
+  // UNDO takes back the line before its own.
+  undo() {
+    const { before, work } = this;
+    this.drop("");
+    this.wish = () => {
+      work.undos.pop();
+      this.restore(before);
+      if (work.undos.length) work.undo();
+      else this.view.note("There is no line before this one.");
+    };
+    return Promise.resolve(false);
   }
 
-  serve() {
-    const block = this.machine.field("asked");
-    if (block >= this.disk.count) this.machine.answerFailed();
-    else if (this.machine.asks === ASKS.READ) this.machine.answerRead(this.disk.page(block));
-    else this.work.write(block, this.machine.answerWritten());
-  }
-
-  // Looks whether a fault was reported since the last look, and whether the Forth asks for the editor or for a line to be typed again.
-  look() {
-    if (this.isForeign) return false;
-    const notes = this.notes, isFault = notes.faults !== this.faults, retyped = this.machine.cell(this.places.retyped);
-    this.faults = notes.faults;
-    if (isFault) this.view.fault(notes);
-    if (notes.edits) {
-      this.machine.setCell(this.places.notes + NOTES.edits, 0);
-      this.view.edit(this.machine.cell(SYSTEM.scr));
-    }
-    if (retyped) {
-      this.machine.setCell(this.places.retyped, 0);
-      this.view.retype(this.machine.cell(SYSTEM.scr), retyped - 1);
-    }
-    return isFault;
-  }
-
-  // BYE, or a fault that nothing handles: changed screens are kept, and a new machine starts.
-  restart() {
+  // BYE, or a fault that nothing handles.
+  ended() {
+    const { machine } = this, isFault = machine.field("halts") === HALTED_BY_FAULT;
     this.drop("the Forth had ended");
     if (this.outer) return this.leave("ended");
+    if (isFault) return void (this.wish = () => this.putBack(`Fault ${machine.field("fault")}, which no fault thread handled, has stopped the Forth`));
     this.settle();
-    this.load();
+    this.anew();
     this.view.note("The Forth ended and started again: its words are gone, the screens are kept.");
   }
 
-  // The bytes of a block as they are shown and edited: those of its buffer, if it has one.
-  page(block) {
-    const buffer = this.machine.buffers.find((one) => one.block === block);
-    return buffer ? buffer.bytes : this.disk.page(block);
-  }
+  write(block, page) { this.work.write(block, page); }
 
   // Stores a block's bytes on the disk and in the machine.
   put(block, page) {
@@ -370,31 +333,22 @@ export class Session {
     this.page(block).set(page);
   }
 
-  // Writes changed buffers to the disk.
-  settle() {
-    for (const buffer of this.machine.buffers) {
-      if (buffer.updated && buffer.block < this.disk.count) this.work.write(buffer.block, buffer.bytes);
-      if (buffer.updated) this.machine.settle(buffer);
-    }
-  }
-
   // Forgets the blocks of the disk that was in, and takes the one that is in now; the machine and its words stay.
   change() {
     for (const buffer of this.machine.buffers) this.machine.release(buffer);
-    this.machine.blockCount = this.disk.count;
     this.view.changed();
   }
 }
 
 // Lets the page draw and take events; a timer would wait some milliseconds.
-let channel = null, goesOn = null;
+let channel = null, resume = null;
 function pause() {
   if (!channel) {
     channel = new MessageChannel();
-    channel.port1.onmessage = () => goesOn();
+    channel.port1.onmessage = () => resume();
   }
   return new Promise((resolve) => {
-    goesOn = resolve;
+    resume = resolve;
     channel.port2.postMessage(0);
   });
 }

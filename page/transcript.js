@@ -44,8 +44,8 @@ export class Transcript {
   // Adds the waiting pieces to the texts.
   draw() {
     for (const [kind, text] of this.waiting.splice(0)) {
-      if (kind === "note") this.terminal = null;
-      if (kind !== "note" && (this.terminal || needsScreen(text))) this.drawScreen(text);
+      if (kind === "note" || kind === "fault") this.terminal = null;
+      if (kind !== "note" && kind !== "fault" && (this.terminal || needsScreen(text))) this.drawScreen(text);
       else this.drawText(kind, text);
     }
     this.trim();
@@ -118,16 +118,6 @@ export class Transcript {
     this.draw();
     if (!isAnswer) this.terminal = null;
     this.started = this.texts.length;
-  }
-
-  // What was shown since then reports a fault.
-  fault() {
-    this.draw();
-    for (let at = Math.max(0, this.started); at < this.texts.length; at++)
-      if (this.texts[at][0] === "shown") {
-        this.texts[at][0] = "fault";
-        this.place.childNodes[at].className = "fault";
-      }
   }
 
   // What was shown since the last line was typed, without that line.

@@ -1,6 +1,7 @@
 // The trials of a lesson's checker, made by the page itself: what a pupil's words leave and show is read from the machine, so that words
 // and screens of the pupil's can't answer in the checker's place.
 
+import { withoutOk } from "./bytes.js";
 import { COLUMNS, linesOf } from "./disk.js";
 import { SYSTEM } from "./machine.js";
 import { definitionOf } from "./source.js";
@@ -63,12 +64,12 @@ export async function why(machine, trial, run) {
   machine.setCell(SYSTEM.base, 10);
   const { needs, line, leaves, shows } = trial, before = machine.values;
   if (needs) return machine.words().some((one) => one.name === needs) ? null : `${needs} is not defined`;
-  const shown = await run(`${line}\n`);
+  const shown = await run(line);
   if (shown === null) return `${line} doesn't end`;
   const now = machine.values, left = now.slice(before.length), isKept = before.every((cell, at) => now[at] === cell);
   if (!leaves) return null;
   if (!isKept) return `${line} takes more from the stack than it is given`;
   if (!isLeft(trial, left)) return `${line} leaves ${left.join(" ") || "nothing"}, and ${wantedBy(trial)} is wanted`;
-  const output = cutShown(shown.slice(line.length).trimEnd().replace(/ok$/, ""));
+  const output = cutShown(withoutOk(shown.slice(line.length)));
   return shows === null || output === shows ? null : `${line} shows ${output.slice(0, COLUMNS)}, and ${shows} is wanted`;
 }

@@ -12,8 +12,9 @@ const MOST_UNDONE = 64 << 20, KEEP_AFTER = 300, PAUSE = 1000;
 export const PLACED = "placed";
 
 const keyOf = ({ block, disk }) => `${block} ${disk}`;
-const converted = (state, convert) => ({ ...state, record: convert(state.record),
-  outer: state.outer ? { ...state.outer, record: convert(state.outer.record) } : null });
+const pairs = (list, convert) => (list || []).map(([name, bytes]) => [String(name), convert(bytes)]);
+const converted = (state, convert) => ({ ...state, record: convert(state.record), outer: state.outer ? { ...state.outer, record: convert(state.outer.record) } : null,
+  sources: state.sources && { ...state.sources, files: pairs(state.sources.files, convert), read: pairs(state.sources.read, convert) } });
 
 // A person's own disk; under a name of one of the page's disks it is all that the person changed in this edition.
 function ownDisk(name, bytes) {
@@ -325,8 +326,8 @@ export class Work {
 
   // All as it is now, for Undo; blocks that change later are noted with it.
   snapshot(what) {
-    const { session, disk, drafts, disks, version } = this, { machine, places, outer, program, faults } = session;
-    return { what, when: Date.now(), record: machine.copy(), machine: { places: { ...places }, outer, program, faults }, disk, version,
+    const { session, disk, drafts, disks, version } = this, { machine, places, outer, program, texts } = session;
+    return { what, when: Date.now(), record: machine.copy(), machine: { places: { ...places }, outer, program, texts }, disk, version,
       disks: [...disks], drafts: new Map(drafts), mark: this.page.mark(), blocks: new Map() };
   }
 
@@ -361,7 +362,7 @@ export class Work {
     Object.assign(this, { disks: new Map(entry.disks), disk: entry.disk, drafts: new Map(entry.drafts), version: entry.version });
     for (const [name, disk] of this.disks) Object.assign(disk, { name, base: disk.base || (DATA.disks[name] && disk.bytes ? builtIn(name).base : null) });
     session.machine.restore(entry.record);
-    Object.assign(session, entry.machine);
+    Object.assign(session, entry.machine, session.fresh());
     this.page.back(entry.mark);
     this.page.opened(true);
   }

@@ -5,22 +5,26 @@ leaves is read from a trace of the machine, so a screen that answers in CHECK's 
 """
 import pathlib
 import re
-import secrets
 import shutil
-import subprocess
 import tempfile
-import threading
 import time
-from typing import List, NamedTuple, Optional
+from typing import Callable, List, NamedTuple, Optional
 
 import program
+from served.output import FAULTED
+from served.prompt import Ended, Signals
+from served.script import Script
+from served.session import Session
+from served.texts import Line
 from trials import BYTES, CHECKERS, Lesson, Trial, cut, is_left, lessons_of, lines_of, screen_of, trials_of
 
 RIGHT, WRONG, MISSING, ENDLESS, EMPTY = "right", "wrong", "missing", "endless", "empty"
 TICKS = 5_000_000  # of one check; a right answer takes less than 200,000
 PATIENCE = 3  # after so many lessons of a pupil that a limit had to stop, the others get a tenth of the ticks
 MOST_SHOWN = 1_000_000  # bytes that a check may show
-STACK_LINE = re.compile(r"\d+ DOOR \|([ \d-]*)\|")
+SLICE = 1_000_000  # ticks between two looks at the clock
+TURN = 1_000  # the ticks that a turn counts at least: a machine that has nothing but faults ends soon, too
+TOO_LONG, TOO_MUCH = 4, 124  # the status of a check that a limit stopped: that of its ticks, another one
 
 
 class Result(NamedTuple):
@@ -31,15 +35,63 @@ class Result(NamedTuple):
     text: str
 
 
-class Ended(NamedTuple):
-    """A run: its status (None if it was stopped from outside) and what it showed."""
+class Limits(NamedTuple):
+    """The most ticks of a check, and when it must have ended."""
 
-    status: Optional[int]
-    shown: str
+    ticks: int
+    deadline: float
+
+
+class NoSignals(Signals):
+    """No signal is taken: the command as a whole is interrupted. What a check reads has ended."""
+
+    def __init__(self) -> None:
+        self.is_waiting, self._interrupted, self._status = False, False, 0
+
+    def wait(self, awaited: Callable[[], bytes]) -> bytes:
+        return b""
+
+
+class Typed(Session):
+    """A session in which lines are typed, within limits. It keeps what they show, and what is on the stack before each of them and at the end."""
+
+    ending = ""
+
+    def __init__(self, words: List[str], lines: List[str], limits: Limits) -> None:
+        self._left, self._deadline, self._shown = limits.ticks, limits.deadline, bytearray()
+        self._places: List[int] = []
+        self.stacks: List[List[int]] = []
+        typed = [Line("", 0, line.encode()) for line in lines]
+        super().__init__(words, words[-1], NoSignals(), Script(NoSignals(), typed, False, False), [])
+        self.status = self.run()
+        self.is_whole = len(self.stacks) == len(lines) + 1
+
+    def write(self, stream: int, text: bytes) -> None:
+        self._shown += text
+
+    def _turn(self) -> None:
+        stop = self.target.run(min(SLICE, self._left))
+        self._left -= max(stop.ticks, TURN)
+        if self._left <= 0:
+            raise Ended(TOO_LONG)
+        if len(self._shown) > MOST_SHOWN or time.monotonic() > self._deadline:
+            raise Ended(TOO_MUCH)
+        self.do(stop)
+
+    def _script_line(self) -> None:
+        self._places.append(len(self._shown))
+        self.stacks.append(self.wire.state().stack[:-2])  # EXPECT has an address and a count there
+        super()._script_line()
+
+    def shown(self, start: int = 0, end: Optional[int] = None) -> str:
+        """What the lines from one on, up to another one, have shown."""
+        places = [*self._places, len(self._shown)]
+        part = self._shown[places[start] : places[end] if end is not None else None]
+        return bytes(part).decode("utf-8", "replace").replace("\r", "")
 
 
 class Desk:
-    """Where lessons are checked: the course's blocks, and two images that have loaded its checkers."""
+    """Where lessons are checked: the course's blocks, and an image that has loaded its checkers."""
 
     def __init__(self, forth83: program.Program, room: pathlib.Path, course: bytes, ticks: int = TICKS, seconds: float = 20) -> None:
         self.forth83, self.room, self.course, self.ticks, self.seconds = forth83, room, course, ticks, seconds
@@ -47,12 +99,8 @@ class Desk:
         if not self.lessons:
             raise program.Refusal("no screen of the course has a title like ( Lesson 1: a line of Forth )")
         (room / "course.blk").write_bytes(course)
-        self.images = []
-        images = program.tools_images(forth83)
-        for image in images / "piped.img", images / "quiet.img":
-            out = room / f"course-{image.name}"
-            forth83.text(["load", "--where", image, room / "course.blk", "1", "1", out])
-            self.images.append(out)
+        self.image = room / "course.img"
+        forth83.text(["load", "--where", program.session_image(forth83), room / "course.blk", "1", "1", self.image])
 
     def check(self, blocks: bytes) -> List[Result]:
         """The results of a pupil's blocks, lesson by lesson."""
@@ -82,10 +130,9 @@ class Check:
     """The check of one lesson of one pupil."""
 
     def __init__(self, desk: Desk, folder: pathlib.Path, lesson: Lesson, blocks: bytes, deadline: float, ticks: int) -> None:
-        self.desk, self.folder, self.lesson, self.deadline, self.ticks = desk, folder, lesson, deadline, ticks
+        self.desk, self.folder, self.lesson, self.limits = desk, folder, lesson, Limits(ticks, deadline)
         self.screen, self.blocks = screen_of(blocks, lesson.screen), blocks_with(desk.course, lesson.screen, blocks)
         self.trials = trials_of(lines_of(screen_of(desk.course, lesson.screen + CHECKERS)))
-        self.mark = secrets.token_hex(8)  # no screen can know it
 
     def result(self) -> Result:
         """What CHECK says, and, if it says that the lesson is right, whether the trials made from outside agree."""
@@ -94,11 +141,11 @@ class Check:
         task = lines_of(screen_of(self.desk.course, self.lesson.screen))
         if not [line for line in lines_of(self.screen) if line.strip() and line not in task]:
             return Result(EMPTY, "", "nothing was written")
-        ended = self.run("run", self.desk.images[1], [f"{self.lesson.number} CHECK", f"CR .( {self.mark})"])
-        if ended.status in (4, None):
-            return Result(ENDLESS, "", "never ends" if ended.status == 4 else "never ends, or shows too much")
-        said = [line.rstrip() for line in ended.shown.split(self.mark)[0].split("\n") if line.strip()]
-        if self.mark not in ended.shown:
+        checked = self.typed([f"{self.lesson.number} CHECK"])
+        if checked.status in (TOO_LONG, TOO_MUCH):
+            return Result(ENDLESS, "", "never ends" if checked.status == TOO_LONG else "never ends, or shows too much")
+        said = [line.rstrip() for line in checked.shown().split("\n") if line.strip()]
+        if not checked.is_whole and checked.status != FAULTED:
             return Result(WRONG, "", " / ".join([*said[-1:], "leaves the Forth, or waits for a key"]))
         if said and said[-1].startswith(f"Lesson {self.lesson.number} is right."):
             return self.confirmed()
@@ -129,16 +176,16 @@ class Check:
         """The lesson is right if the trials are, too, with their lines typed from outside."""
         loads = f"{self.lesson.screen} LOAD"
         first = [] if any(trial.text() == loads for trial in self.trials) else [loads]
-        typed, ends = [f"7919 7919 7919 7919 ( {self.mark}_0 )", *first], []
-        for place, trial in enumerate(self.trials, 1):
-            typed.append(f"DECIMAL ( {self.mark}_{place} )")
-            typed += trial.lines
-            ends.append(len(typed))
-        ended = self.run("debug", self.desk.images[0], [*typed, f"( {self.mark}_{len(self.trials) + 1} )"])
-        stacks = self.stacks()
-        for place, trial in enumerate(self.trials, 1):
-            start = ends[place - 1] - len(trial.lines)
-            wrong = self.against(trial, stacks[start:start + len(trial.lines) + 1], self.shown(ended.shown, place, trial))
+        lines, starts = ["7919 7919 7919 7919", *first], []
+        for trial in self.trials:
+            lines.append("DECIMAL")
+            starts.append(len(lines))
+            lines += trial.lines
+        typed = self.typed(lines)
+        for start, trial in zip(starts, self.trials):
+            end = start + len(trial.lines)
+            shown = cut(typed.shown(start, end)) if len(typed.stacks) > end else None
+            wrong = self.against(trial, typed.stacks[start : end + 1], shown)
             if wrong:
                 return Result(WRONG, trial.word, f"CHECK was deceived: {trial.text()} {wrong}")
         return Result(RIGHT, "", f"Lesson {self.lesson.number} is right.")
@@ -155,51 +202,11 @@ class Check:
             return f"leaves {' '.join(str((cell ^ 0x8000) - 0x8000) for cell in after[len(before):]) or 'nothing'}"
         return f"shows {shown[:99]}" if shown != (trial.shows or "") else ""
 
-    def shown(self, output: str, place: int, trial: Trial) -> Optional[str]:
-        """What the lines of a trial showed, each of which is echoed first; nothing if the run did not come so far."""
-        parts = re.split(rf"\( {self.mark}_(\d+) \)", output)
-        if str(place) not in parts[1::2] or str(place + 1) not in parts[1::2]:
-            return None
-        found = parts[2 * parts[1::2].index(str(place)) + 2]
-        found = found.partition("ok\n")[2].rpartition("DECIMAL")[0] if place < len(self.trials) else found.partition("ok\n")[2]
-        for line in trial.lines:
-            found = found.replace(line + " ", "", 1)
-        return cut(re.sub(r" ok\n", "", found))
-
-    def stacks(self) -> List[List[int]]:
-        """The data stack whenever a line was read, from the machine itself."""
-        trace = self.folder / "trace"
-        text = trace.read_text(encoding="ascii", errors="replace") if trace.exists() else ""
-        return [[int(cell) & 0xFFFF for cell in match[1].split()] for match in map(STACK_LINE.match, text.split("\n")) if match]
-
-    def run(self, verb: str, image: pathlib.Path, typed: List[str]) -> Ended:
-        """Types lines at an image, over the course's blocks with this lesson's screen of the pupil's."""
-        blocks, lines = self.folder / "check.blk", self.folder / "typed"
+    def typed(self, lines: List[str]) -> Typed:
+        """Types lines at the course's image, over the course's blocks with this lesson's screen of the pupil's."""
+        blocks = self.folder / "check.blk"
         blocks.write_bytes(self.blocks)
-        lines.write_text("\n".join([*typed, ""]), encoding="utf-8")
-        words = [self.desk.forth83.path, verb, image, *(["QUERY", self.folder / "trace"] if verb == "debug" else []), blocks,
-                 "--limit", str(self.ticks)]
-        with open(lines, "rb") as keys:
-            with subprocess.Popen(words, stdin=keys, stdout=subprocess.PIPE, stderr=subprocess.DEVNULL) as running:
-                return self.watched(running)
-
-    def watched(self, running: "subprocess.Popen[bytes]") -> Ended:
-        """What a run shows. It is stopped if it shows too much, or if the pupil's time is over."""
-        timer = threading.Timer(max(0.1, self.deadline + 1 - time.monotonic()), running.kill)
-        timer.start()
-        shown, is_stopped = b"", False
-        while True:
-            piece = running.stdout.read1(65536) if running.stdout else b""
-            if not piece:
-                break
-            shown += piece
-            if len(shown) > MOST_SHOWN:
-                running.kill()
-                is_stopped = True
-                break
-        status = running.wait()
-        timer.cancel()
-        return Ended(None if is_stopped or status < 0 else status, shown.decode("utf-8", "replace").replace("\r", ""))
+        return Typed([str(self.desk.forth83.path), "serve", str(self.desk.image), str(blocks)], lines, self.limits)
 
 
 def place_of(said: List[str]) -> str:

@@ -107,12 +107,6 @@ def parse(data: bytes) -> Image:
     return Image(version, buffers, entry, content)
 
 
-def written(image: Image) -> bytes:
-    """The bytes of an image's file, of version 2."""
-    numbers = (2, image.buffers, image.entry, image.size)
-    return MAGIC + b"".join(number.to_bytes(2, "little") for number in numbers) + bytes(image.memory.bytes[:image.size])
-
-
 class Header:
     """A word's header, known by the address of its link field."""
 

@@ -21,6 +21,9 @@ class Refusal(Exception):
         self.status = status
 
 
+Parser = quiet_end.Parser
+
+
 def say(text: str) -> None:
     print(f"forth: {text}", file=sys.stderr)
 
@@ -65,10 +68,6 @@ class Program:
             raise Refusal("there is no program yet; run ./forth once, which builds one in about a minute")
         self.path = proved if self.is_proved else unproved
 
-    def version(self) -> str:
-        name = self.text(["--version"]).strip()
-        return f"{name}, proved" if self.is_proved else name
-
     def run(self, words: List[Union[pathlib.Path, str]], **ends: Any) -> "subprocess.CompletedProcess[bytes]":
         """Runs the program; its output is bytes."""
         return subprocess.run([self.path, *words], stdout=subprocess.PIPE, stderr=subprocess.PIPE, check=False, **ends)
@@ -87,9 +86,9 @@ def said_by(done: "subprocess.CompletedProcess[bytes]") -> str:
     return said or f"the program ended with status {done.returncode}"
 
 
-def tools_images(program: Program) -> pathlib.Path:
-    """The folder with the images of the tools that need no host: tools.img, piped.img and quiet.img."""
+def session_image(program: Program) -> pathlib.Path:
+    """The image that sessions start with. It also runs without a host."""
     try:
-        return pathlib.Path(image.find_doors(str(program.path)))
+        return pathlib.Path(image.find(str(program.path))) / "served.img"
     except (image.NotMade, OSError) as error:
-        raise Refusal(f"the images of the tools cannot be made: {error}") from error
+        raise Refusal(f"the image of the Forth cannot be made: {error}") from error

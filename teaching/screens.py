@@ -94,14 +94,3 @@ def screens_of(screens: Screens, name: str) -> List[int]:
     """The screens with a colon definition of that name, but the kernel's."""
     own = [number for number in sorted(screens.lines) if number >= screens.first()]
     return [number for number in own if any(defines(line, name) for line in screens.lines[number])]
-
-
-def definition(lines: List[str], name: str) -> List[str]:
-    """The lines of a colon definition, from `: NAME` to the line that has its `;`."""
-    found = []
-    for line in lines:
-        if found or defines(line, name):
-            found.append(line)
-            if ";" in line.split():
-                break
-    return found

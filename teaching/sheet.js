@@ -29,7 +29,7 @@ function printedReturns(step, returns) {
 
 // The output before a step; of a long one its end.
 function outputSoFar(step) {
-  const shown = film.is_laid ? text(film.begins, step[4]).replace(/^\n+/, "") : "";
+  const shown = text(film.begins, step[4]).replace(/^\n+/, "");
   return shown.length > MOST_LETTERS ? `… ${shown.slice(-MOST_LETTERS)}` : shown;
 }
 

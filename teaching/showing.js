@@ -131,12 +131,7 @@ function returnLabels(step) {
 function signed(value) { return value > 32767 ? value - 65536 : value; }
 
 function showOutput(number, before) {
-  const box = part("output");
-  if (!film.is_laid) {
-    box.textContent = bytes.length ? `of the whole run:\n${text(0, bytes.length)}` : "not known here";
-    return;
-  }
-  const old = Math.min(steps[before][4], steps[number][4]);
+  const box = part("output"), old = Math.min(steps[before][4], steps[number][4]);
   box.replaceChildren(text(film.begins, old), element("b", text(old, steps[number][4])));
   box.scrollTop = box.scrollHeight;
 }
@@ -202,7 +197,7 @@ function showLine(frame) {
 function say(number, data) {
   const step = steps[number], next = step[0] < 0 ? `The end. ${endings.get(step[1]) || ""}` : `Next: ${described(number).name}.`;
   const cells = data.length ? data.slice(-8).reverse().map(cell).join(", ") : "empty";
-  const shown = film.is_laid ? ` Output: ${text(film.begins, step[4]).trim().slice(-80) || "nothing yet"}.` : "";
+  const shown = ` Output: ${text(film.begins, step[4]).trim().slice(-80) || "nothing yet"}.`;
   part("said").textContent = `Step ${at + 1} of ${visible.length}. ${next} Data stack, top first: ${cells}.${shown}`;
 }
 
