@@ -1,6 +1,6 @@
 /* A server over the C library: a host drives an image by frames, as it drives `forth83 serve IMAGE [BLOCKS]`.
  *
- *   serve IMAGE [BLOCKS]
+ *   serve [serve] IMAGE [BLOCKS]
  *
  * Requests come on standard input, and replies go to standard output; docs/FORMATS.md has the frames. forth83_serve obeys each request. What
  * a server with a file of blocks adds is here: between two calls it answers for the blocks of its file, and it writes the updated buffers at `b`,
@@ -230,6 +230,10 @@ static void load(const char *name)
 
 int main(int count, char **words)
 {
+    if (count > 1 && strcmp(words[1], "serve") == 0) { /* as hosts of forth83 call it */
+        count--;
+        words++;
+    }
     if (count < 2 || count > 3) {
         fprintf(stderr, "usage: serve IMAGE [BLOCKS]\n");
         return 2;

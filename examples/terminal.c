@@ -2,10 +2,13 @@
  *
  *   terminal IMAGE [BLOCKS] [--save OUT]
  *
- * IMAGE is an image file, and BLOCKS a file of blocks of 1,024 bytes. Changed blocks are written when the Forth asks for it, and at the
- * end: at BYE, ^D in an empty line, the end of input, and when the terminal is closed. --save OUT also writes the dictionary as an image.
- * In a line, Backspace deletes a byte, and ^U and ^C the line. ^C interrupts what is running: the machine goes on with the image's BREAK,
- * or else with its ABORT. Programs that read keys get each key as it is, without echo. In a pipe nothing is edited.
+ * IMAGE is an image file, and BLOCKS a file of blocks of 1,024 bytes, which no other run has meanwhile. Changed blocks are written when the
+ * Forth asks for it, and at the end: at BYE, ^D in an empty line, the end of input, and when the terminal or the window is closed. After a
+ * fault that nothing handles, and where BLOCKS cannot be written, they go into BLOCKS.journal, which the next session offers (./forth offers
+ * it, too). --save OUT also writes the dictionary as an image. In a line, Backspace deletes a byte, and ^U and ^C the line. ^C interrupts
+ * what is running: the machine goes on with the image's BREAK, or else with its ABORT. Programs that read keys get each key as it is, without
+ * echo. In a pipe nothing is edited. The status is 0, 1 if something was refused or could not be written, 3 after a fault, 5 if the output
+ * could not be written.
  *
  *   cc -O2 -I library/include terminal.c library/lib/libforth83.a -o terminal */
 #include "forth83.h"
@@ -18,30 +21,37 @@
 #include <windows.h>
 #include <fcntl.h>
 #include <io.h>
+#include <share.h>
 #else
 #include <poll.h>
 #include <signal.h>
+#include <sys/file.h>
 #include <termios.h>
 #include <unistd.h>
 #endif
 
-enum { SLICE = 250000, MOST_BLOCKS = 65536, CTRL_C = 3, CTRL_D = 4, CTRL_U = 21, RUBOUT = 127 };
+enum { SLICE = 250000, MOST_BLOCKS = 65536, MOST_NAME = 4096, CTRL_C = 3, CTRL_D = 4, CTRL_U = 21, RUBOUT = 127 };
+
+static const char journal_head[] = "jaurimet journal 1\n"; /* then of each block its number, a new line, and its bytes */
 
 static forth83 machine;
 static uint8_t image[70000], shown[FORTH83_ROOM];
 static size_t image_size;
 static FILE *block_file;
+static const char *block_name;
 static bool is_terminal;           /* standard input is a terminal, whose keys come one by one */
 static uint16_t interrupting;      /* the word that ^C enters; 0 if there is none */
 static uint64_t echoed;            /* how many bytes the terminal shows already that the machine will show */
 static uint8_t ahead[4096];        /* bytes that were typed while the machine ran */
 static size_t ahead_size;
 static bool has_ended;             /* the terminal was closed, or input has ended, while the machine ran */
+static bool has_failed;            /* what the Forth shows cannot be written */
 
 /* The console of the system: start, end, whether a byte has come, and the next byte, or -1 at the end of input. */
 #ifdef _WIN32
-static HANDLE in_handle, out_handle;
+static HANDLE in_handle, out_handle, leaving, has_left;
 static DWORD in_mode, out_mode;
+static volatile LONG is_breaking;
 
 static void end_console(void)
 {
@@ -51,8 +61,33 @@ static void end_console(void)
     }
 }
 
+/* Ctrl+Break interrupts; a closed window ends the session. Windows ends the process when this returns, or after five seconds. */
+static BOOL WINAPI on_control(DWORD event)
+{
+    if (event == CTRL_BREAK_EVENT || (event == CTRL_C_EVENT && is_terminal)) {
+        is_breaking = 1;
+        return TRUE;
+    }
+    SetEvent(leaving);
+    WaitForSingleObject(has_left, 5000);
+    return TRUE;
+}
+
+static bool is_leaving(void)
+{
+    return WaitForSingleObject(leaving, 0) == WAIT_OBJECT_0;
+}
+
+static bool takes_break(void)
+{
+    return InterlockedExchange(&is_breaking, 0) != 0;
+}
+
 static void start_console(void)
 {
+    leaving = CreateEventA(NULL, TRUE, FALSE, NULL);
+    has_left = CreateEventA(NULL, TRUE, FALSE, NULL);
+    SetConsoleCtrlHandler(on_control, TRUE);
     in_handle = GetStdHandle(STD_INPUT_HANDLE);
     out_handle = GetStdHandle(STD_OUTPUT_HANDLE);
     _setmode(_fileno(stdin), _O_BINARY);
@@ -79,18 +114,47 @@ static bool has_byte(void)
 
 static int next_byte(void)
 {
+    HANDLE awaited[2] = {leaving, in_handle};
     uint8_t byte;
     DWORD count;
-    return ReadFile(in_handle, &byte, 1, &count, NULL) && count == 1 ? byte : -1;
+    while (is_terminal && !has_byte())
+        if (WaitForMultipleObjects(2, awaited, FALSE, INFINITE) == WAIT_OBJECT_0)
+            return -1;
+    return !is_leaving() && ReadFile(in_handle, &byte, 1, &count, NULL) && count == 1 ? byte : -1;
+}
+
+static FILE *open_alone(const char *name)
+{
+    return _fsopen(name, "r+b", _SH_DENYRW);
+}
+
+static bool take_place(const char *made, const char *name)
+{
+    return MoveFileExA(made, name, MOVEFILE_REPLACE_EXISTING) != 0;
+}
+
+static void console_is_done(void)
+{
+    SetEvent(has_left);
 }
 #else
 static struct termios before;
-static volatile sig_atomic_t is_leaving;
+static volatile sig_atomic_t was_asked_to_leave;
 
 static void leave(int number)
 {
     (void)number;
-    is_leaving = 1;
+    was_asked_to_leave = 1;
+}
+
+static bool is_leaving(void)
+{
+    return was_asked_to_leave != 0;
+}
+
+static bool takes_break(void)
+{
+    return false;
 }
 
 static void end_console(void)
@@ -103,13 +167,15 @@ static void start_console(void)
 {
     struct termios raw;
     struct sigaction action;
-    is_terminal = isatty(0) && isatty(1) && tcgetattr(0, &before) == 0;
-    if (!is_terminal)
-        return;
     memset(&action, 0, sizeof action);
     action.sa_handler = leave;
     sigaction(SIGHUP, &action, NULL);
     sigaction(SIGTERM, &action, NULL);
+    sigaction(SIGINT, &action, NULL);
+    signal(SIGPIPE, SIG_IGN);
+    is_terminal = isatty(0) && isatty(1) && tcgetattr(0, &before) == 0;
+    if (!is_terminal)
+        return;
     raw = before;
     raw.c_lflag &= ~(tcflag_t)(ICANON | ECHO | ISIG | IEXTEN);
     raw.c_iflag &= ~(tcflag_t)(IXON | ICRNL | INLCR);
@@ -121,13 +187,33 @@ static void start_console(void)
 static bool has_byte(void)
 {
     struct pollfd asked = {0, POLLIN, 0};
-    return is_leaving || poll(&asked, 1, 0) > 0;
+    return is_leaving() || poll(&asked, 1, 0) > 0;
 }
 
 static int next_byte(void)
 {
     uint8_t byte;
-    return !is_leaving && read(0, &byte, 1) == 1 ? byte : -1;
+    return !is_leaving() && read(0, &byte, 1) == 1 ? byte : -1;
+}
+
+/* The file of blocks, which no other run has meanwhile; NULL if it cannot be opened, or another one has it. */
+static FILE *open_alone(const char *name)
+{
+    FILE *file = fopen(name, "r+b");
+    if (file != NULL && flock(fileno(file), LOCK_EX | LOCK_NB) != 0) {
+        fclose(file);
+        return NULL;
+    }
+    return file;
+}
+
+static bool take_place(const char *made, const char *name)
+{
+    return rename(made, name) == 0;
+}
+
+static void console_is_done(void)
+{
 }
 #endif
 
@@ -151,7 +237,7 @@ static void must(uint32_t status, const char *what)
 static int typed_byte(void)
 {
     int byte;
-    fflush(stdout);
+    has_failed |= fflush(stdout) != 0;
     if (ahead_size == 0)
         return next_byte();
     byte = ahead[0];
@@ -183,27 +269,142 @@ static void serve(void)
         must(forth83_read(&machine, page, sizeof page), "a block that was read");
 }
 
-/* Writes the updated blocks, which halting does not. They are at the end of memory, by their slots. */
-static void save_blocks(void)
+/* The next updated buffer from this one on; as many as there are if there is none. */
+static unsigned next_updated(unsigned from)
 {
-    uint32_t limit = 65536u - 1024u * machine.buffer_count, i;
-    for (i = 0; i < machine.buffer_count; i++) {
-        const forth83_buffer *it = &machine.buffers[i];
-        if (it->has_block && it->updated && !move_block(it->block, &machine.memory[limit + 1024u * it->slot], true))
-            fprintf(stderr, "terminal: block %u cannot be written\n", it->block);
+    while (from < machine.buffer_count && !(machine.buffers[from].has_block && machine.buffers[from].updated))
+        from++;
+    return from;
+}
+
+/* The bytes of a buffer: they are at the end of memory, by their slots. */
+static uint8_t *page_of(const forth83_buffer *it)
+{
+    return &machine.memory[65536u - 1024u * machine.buffer_count + 1024u * it->slot];
+}
+
+/* Writes a file anew, by `put`: beside it first, so that the old one stays if this fails. */
+static bool write_anew(const char *name, bool (*put)(FILE *file))
+{
+    char made[MOST_NAME];
+    if (snprintf(made, sizeof made, "%s.new", name) >= (int)sizeof made)
+        return false;
+    FILE *file = fopen(made, "wb");
+    if (file == NULL)
+        return false;
+    bool is_put = put(file);
+    if (fclose(file) == 0 && is_put && take_place(made, name))
+        return true;
+    remove(made);
+    return false;
+}
+
+static bool put_journal(FILE *file)
+{
+    bool is_put = fputs(journal_head, file) >= 0;
+    for (unsigned at = next_updated(0); at < machine.buffer_count; at = next_updated(at + 1)) {
+        const forth83_buffer *it = &machine.buffers[at];
+        is_put = is_put && fprintf(file, "%u\n", it->block) > 0 && fwrite(page_of(it), 1, FORTH83_PAGE, file) == FORTH83_PAGE;
     }
+    return is_put;
+}
+
+/* Puts the updated blocks into the journal, and says so; at a terminal it is tried again as long as the person wants. */
+static void keep_journal(const char *why)
+{
+    char name[MOST_NAME];
+    snprintf(name, sizeof name, "%s.journal", block_name);
+    while (!write_anew(name, put_journal)) {
+        fprintf(stderr, "terminal: %s, and %s cannot be written: make room, then press a key; ^D gives up what was changed\n", why, name);
+        int byte = is_terminal ? next_byte() : -1;
+        if (byte < 0 || byte == CTRL_D)
+            return;
+    }
+    fprintf(stderr, "terminal: %s: the changed blocks are in %s, and the next session offers them\n", why, name);
+}
+
+/* Writes the updated blocks, which halting does not; those of a machine that a fault has halted go into the journal. */
+static bool save_blocks(void)
+{
+    bool is_ruined = machine.halts == FORTH83_FAULT, is_written = true;
+    char why[64] = "";
+    unsigned at = next_updated(0);
+    if (at == machine.buffer_count || block_file == NULL)
+        return true;
+    for (; !is_ruined && at < machine.buffer_count; at = next_updated(at + 1)) {
+        const forth83_buffer *it = &machine.buffers[at];
+        if (!move_block(it->block, page_of(it), true) && is_written) {
+            is_written = false;
+            snprintf(why, sizeof why, "block %u cannot be written", it->block);
+        }
+    }
+    if (is_ruined)
+        snprintf(why, sizeof why, "fault %u", machine.fault);
+    if (is_ruined || !is_written)
+        keep_journal(why);
+    return is_written;
+}
+
+/* Writes the blocks of a journal into the file. */
+static bool take_journal(FILE *journal)
+{
+    uint8_t page[FORTH83_PAGE];
+    unsigned block;
+    bool is_taken = true;
+    while (is_taken && fscanf(journal, "%u", &block) == 1 && fgetc(journal) == '\n' && fread(page, 1, sizeof page, journal) == sizeof page)
+        is_taken = block < MOST_BLOCKS && move_block((uint16_t)block, page, true);
+    return is_taken;
+}
+
+/* What an earlier session could not write is offered. */
+static void offer_journal(void)
+{
+    char name[MOST_NAME], old[MOST_NAME + 4], head[sizeof journal_head] = "";
+    snprintf(name, sizeof name, "%s.journal", block_name);
+    FILE *journal = fopen(name, "rb");
+    if (journal == NULL)
+        return;
+    if (!is_terminal)
+        refuse(name, " has blocks that an earlier session could not write; start one at a terminal, which offers them");
+    printf("%s has blocks that an earlier session could not write. Write them into %s? (y or n) ", name, block_name);
+    fflush(stdout);
+    int byte = next_byte();
+    if (byte != 'y' && byte != 'n')
+        refuse("nothing was written", "");
+    if (byte == 'y' && (fgets(head, sizeof head, journal) == NULL || strcmp(head, journal_head) != 0 || !take_journal(journal)))
+        refuse("cannot write all of ", name);
+    fclose(journal);
+    snprintf(old, sizeof old, "%s.old", name);
+    if (!take_place(name, old))
+        refuse("cannot rename ", name);
+    printf("%c\nit is %s now\n", byte, old);
+}
+
+static uint64_t saved_size;
+
+static bool put_image(FILE *file)
+{
+    return fwrite(image, 1, (size_t)saved_size, file) == (size_t)saved_size;
+}
+
+/* Refuses a name in whose folder nothing can be written, before anything is typed. */
+static void try_name(const char *name)
+{
+    char made[MOST_NAME];
+    FILE *file = snprintf(made, sizeof made, "%s.new", name) < (int)sizeof made ? fopen(made, "wb") : NULL;
+    if (file == NULL)
+        refuse("cannot write ", name);
+    fclose(file);
+    remove(made);
 }
 
 /* Writes the dictionary as an image that starts as the first one does. */
 static void save_image(const char *name)
 {
-    uint64_t size;
     unsigned at = image[8] == 1 ? 10 : 12;
     uint16_t entry = (uint16_t)(image[at] + 256u * image[at + 1]);
-    FILE *file;
-    must(forth83_save(&machine, entry, image, sizeof image, &size), "an image");
-    file = fopen(name, "wb");
-    if (file == NULL || fwrite(image, 1, (size_t)size, file) != (size_t)size || fclose(file) != 0)
+    must(forth83_save(&machine, entry, image, sizeof image, &saved_size), "an image");
+    if (!write_anew(name, put_image))
         refuse("cannot write ", name);
 }
 
@@ -236,9 +437,9 @@ static void show(const uint8_t *bytes, uint64_t size)
 {
     uint64_t known = size < echoed ? size : echoed;
     echoed -= known;
-    fwrite(bytes + known, 1, (size_t)(size - known), stdout);
+    has_failed |= fwrite(bytes + known, 1, (size_t)(size - known), stdout) != (size_t)(size - known);
     if (is_terminal)
-        fflush(stdout);
+        has_failed |= fflush(stdout) != 0;
 }
 
 /* Runs the machine with these bytes for at most LIMIT ticks; why it stopped. All bytes are read, as there are as many as were asked. */
@@ -264,6 +465,9 @@ static void interrupt(void)
 /* While the machine runs: bytes that are typed wait for it, and ^C interrupts it. */
 static void look_at_keys(void)
 {
+    has_ended |= is_leaving();
+    if (takes_break())
+        interrupt();
     while (is_terminal && !has_ended && ahead_size < sizeof ahead && has_byte()) {
         int byte = next_byte();
         has_ended = byte < 0;
@@ -296,22 +500,23 @@ static uint32_t give(void)
     return FORTH83_STOP_HALTED;
 }
 
-static void open_files(const char *image_name, const char *block_name)
+static uint32_t open_blocks(void)
 {
-    uint32_t count = 0;
+    block_file = open_alone(block_name);
+    if (block_file == NULL || setvbuf(block_file, NULL, _IONBF, 0) != 0 || fseek(block_file, 0, SEEK_END) != 0)
+        refuse(block_name, " cannot be opened, or another run has it: end that first, or take a copy");
+    long blocks = ftell(block_file) / FORTH83_PAGE;
+    return blocks > MOST_BLOCKS ? MOST_BLOCKS : (uint32_t)blocks;
+}
+
+static void open_files(const char *image_name)
+{
     FILE *file = fopen(image_name, "rb");
     if (file == NULL)
         refuse("cannot open ", image_name);
     image_size = fread(image, 1, sizeof image, file);
     fclose(file);
-    if (block_name != NULL) {
-        block_file = fopen(block_name, "r+b");
-        if (block_file == NULL || fseek(block_file, 0, SEEK_END) != 0)
-            refuse("cannot open ", block_name);
-        long blocks = ftell(block_file) / FORTH83_PAGE;
-        count = blocks > MOST_BLOCKS ? MOST_BLOCKS : (uint32_t)blocks;
-    }
-    must(forth83_load(image, image_size, count, &machine), image_name);
+    must(forth83_load(image, image_size, block_name == NULL ? 0 : open_blocks(), &machine), image_name);
     if (forth83_find(&machine, (const uint8_t *)"BREAK", 5, &interrupting) != FORTH83_DONE &&
         forth83_find(&machine, (const uint8_t *)"ABORT", 5, &interrupting) != FORTH83_DONE)
         interrupting = 0;
@@ -326,20 +531,30 @@ int main(int count, char **words)
         fprintf(stderr, "usage: terminal IMAGE [BLOCKS] [--save OUT]\n");
         return 2;
     }
-    open_files(words[1], names == 2 ? words[2] : NULL);
+    block_name = names == 2 ? words[2] : NULL;
+    open_files(words[1]);
+    if (out != NULL)
+        try_name(out);
     start_console();
-    while (stop != FORTH83_STOP_HALTED && !has_ended) {
+    if (block_name != NULL)
+        offer_journal();
+    while (stop != FORTH83_STOP_HALTED && !has_ended && !has_failed) {
         if (stop == FORTH83_STOP_BLOCK)
             serve();
         look_at_keys();
         stop = stop == FORTH83_STOP_TYPED ? give() : run((const uint8_t *)"", 0, SLICE);
     }
-    fflush(stdout);
+    if (is_terminal)
+        putchar('\n');
+    has_failed |= fflush(stdout) != 0;
+    bool is_saved = save_blocks();
     end_console();
-    save_blocks();
     if (out != NULL)
         save_image(out);
+    console_is_done();
+    if (has_failed)
+        fprintf(stderr, "terminal: what the Forth shows cannot be written\n");
     if (machine.halts == FORTH83_FAULT)
-        fprintf(stderr, "terminal: fault %u\n", machine.fault);
-    return machine.halts == FORTH83_FAULT ? 3 : 0;
+        fprintf(stderr, "terminal: fault %u ended the Forth\n", machine.fault);
+    return has_failed ? 5 : machine.halts == FORTH83_FAULT ? 3 : is_saved ? 0 : 1;
 }

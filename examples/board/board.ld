@@ -1,5 +1,5 @@
 /* A board: code and constants in flash at 0, and memory that is written in RAM. The linker gets with --defsym where the RAM begins
- * (RAM_BEGIN) and how many bytes it has (RAM_SIZE). The stack begins at its end, and the heap grows from `heap_begins` upwards. */
+ * (RAM_BEGIN), how many bytes it has (RAM_SIZE), and how many the stack needs (STACK_SIZE). The stack begins at its end, and the heap grows from `heap_begins` upwards. */
 MEMORY
 {
   flash (rx) : ORIGIN = 0, LENGTH = 4M
@@ -17,4 +17,5 @@ SECTIONS
   end = .;
   __end__ = .;
   stack_begins = RAM_BEGIN + RAM_SIZE;
+  ASSERT(bss_ends + (DEFINED(STACK_SIZE) ? STACK_SIZE : 0) <= stack_begins, "what is static and the stack need more RAM")
 }

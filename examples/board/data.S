@@ -1,8 +1,8 @@
-/* What is in flash besides the program: the image IMAGE, and the file of screens SCREENS. */
+/* What the board starts with if nothing is saved in its flash: the image IMAGE. */
   .section .rodata
-  .global image_begins, image_ends, screens_begin, screens_end
+  .global image_begins, image_ends
 image_begins: .incbin IMAGE
 image_ends:
-  .balign 4
-screens_begin: .incbin SCREENS
-screens_end:
+#if defined(__linux__)
+  .section .note.GNU-stack,"",%progbits
+#endif

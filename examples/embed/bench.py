@@ -23,7 +23,7 @@ class Buffer(ctypes.Structure):
 class Faults(ctypes.Structure):
     """The faults of a machine, as forth83_faults of forth83.h."""
 
-    _fields_ = [(name, ctypes.c_uint16) for name in ("count", "last")]
+    _fields_ = [(name, ctypes.c_uint16) for name in ("count", "last", "ip")]
 
 
 class Aside(ctypes.Structure):

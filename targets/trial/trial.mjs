@@ -3,7 +3,7 @@ import fs from "fs";
 
 const [wasm, imageName, ...rest] = process.argv.slice(2);
 const { exports: trial } = (await WebAssembly.instantiate(fs.readFileSync(wasm), {})).instance;
-const SIZE = 67276;
+const SIZE = 67280;
 
 function put(bytes) {
   const at = trial.malloc(bytes.length + 1);
