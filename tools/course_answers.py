@@ -6,7 +6,7 @@ from typing import Iterator, List, NamedTuple
 import teaching_runs
 
 ROOT = pathlib.Path(__file__).resolve().parent.parent
-LIMIT = "60000000"  # ticks: an answer that never ends is stopped, and isn't right
+LIMIT = "30"  # seconds: an answer that never ends is stopped, and isn't right
 
 
 class Answer(NamedTuple):
@@ -51,7 +51,7 @@ def check(tree: teaching_runs.Tree) -> int:
         tree.forth("screens", "answer.txt", "answer.blk")
         other = 3 if answer.lesson == 2 else 2
         typed = f"1 LOAD\n{answer.lesson} CHECK\n{other} CHECK\n".encode()
-        status, said = tree.run([tree.forth83, "run", "tools.img", "answer.blk", "--limit", LIMIT], typed)
+        status, said = tree.run(["timeout", LIMIT, "./forth", "answer.blk"], typed)
         name = f"lesson {answer.lesson}, {answer.title}"
         tree.cases.same(f"{name}: {said[-300:]}", answer.is_right, f"Lesson {answer.lesson} is right".encode() in said)
         if status == 0:

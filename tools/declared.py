@@ -1,4 +1,4 @@
-"""The enums, structs and constants of the code that definitions name, as their sources declare them, for the reading guide."""
+"""The enums, structs and constants of the code that definitions name, as their sources declare them, for the page of definitions."""
 import pathlib
 import re
 from typing import Dict, Iterable, List, NamedTuple, Tuple
@@ -15,9 +15,6 @@ class Item(NamedTuple):
     name: str
     says: str
     parts: Tuple[str, ...]
-
-    def row(self) -> str:
-        return f"| `{self.crate}`, `{self.name}` | {self.says} | {', '.join(f'`{part}`' for part in self.parts)} |"
 
 
 def first_sentence(comment: str) -> str:
@@ -58,14 +55,3 @@ def found(names: Iterable[str]) -> Tuple[List[Item], List[Tuple[str, str, str]]]
     items: Dict[Tuple[str, str], Item] = {(it.crate, it.name): it for crate, texts in sources.items() for text in texts for it in items_in(crate, text)}
     numbers = {(crate, name): value for crate, texts in sources.items() for text in texts for name, value in CONSTANT.findall(text)}
     return [items[it] for it in wanted if it in items and items[it].parts], [(*it, numbers[it]) for it in wanted if it in numbers]
-
-
-def table(names: Iterable[str]) -> List[str]:
-    """The lines of two tables: of the enums, and of the structs that have public fields; and of constants with their numbers."""
-    items, numbers = found(names)
-    shown: Dict[str, List[str]] = {}
-    for crate, name, value in numbers:
-        shown.setdefault(crate, []).append(f"`{name}` {value}")
-    constants = [f"| `{crate}` | {', '.join(them)} |" for crate, them in shown.items()]
-    rows = [it.row() for it in items]
-    return ["| type | what it is | its variants, or its fields |", "|---|---|---|", *rows, "", "| crate | constants |", "|---|---|", *constants]

@@ -13,7 +13,7 @@ ROWS: Tuple[Tuple[str, str], ...] = (
      "| `BLOCK` | `( u -- a )` |  | The address. Faults: 7. |"),
 )
 MALFORMED = ("DUP | ( x -- x x ) | | Copies the top.", "32 | DUP | ( x -- x x ) | | No full stop", "32 | DUP TWO | ( -- ) | | Two names.", "32 | DUP |  | | None.")
-PAGE = "## The kernel\n| `DUP` | `( -- )` |  | Old. |\n| `GONE` | `( -- )` |  | Gone. |\n### 13. Others\n| `DUP` | `( -- )` |  | Another. |"
+PAGE = "## The kernel\n| `DUP` | `( -- )` |  | Old. |\n| `GONE` | `( -- )` |  | Gone. |\n### 13. Others\n| `DUP` | `( -- )` |  | Another. |\n| `TOOL` | `( -- )` |  | Kept. |"
 
 
 def is_refused(line: str) -> bool:
@@ -30,7 +30,7 @@ def wrong() -> List[str]:
     found += [line for line in MALFORMED if not is_refused(line)]
     if [it.number for it in tables.primitives_of(f"# a remark\n\n{ROWS[0][0]}\n# Cells\n{ROWS[1][0]}\n")] != [32, 172]:
         found.append("a list with remarks and blank lines")
-    text, said = tables.replaced(PAGE, {"DUP": "| new |", "DROP": "| none |"})
+    text, said = tables.replaced(PAGE, {"DUP": "| new |", "DROP": "| none |", "TOOL": "| not here |"})
     if text != PAGE.replace("| `DUP` | `( -- )` |  | Old. |", "| new |") or len(said) != 2:
         found.append("a page with a row too few and one too many")
     listed = tables.primitives_of(f"{ROWS[0][0]}\n{ROWS[1][0]}\n")

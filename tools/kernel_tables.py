@@ -53,10 +53,12 @@ PAGE = "docs/WORDS.md"
 BEGINS = "## The kernel"
 ENDS = "### 13. "
 ROW = re.compile(r"\| `([^ `]+)` \| `")
+EXAMPLE = re.compile(r" Example: .* \|$")  # a row's example is the page's own
 
 
 def replaced(text: str, rows: Dict[str, str]) -> Tuple[str, List[str]]:
-    """The page with these rows in place of those that name the same primitives, and the rows that it lacks or has too many."""
+    """The page with these rows in place of those that name the same primitives, and the rows that it lacks or has too many. What the tools
+    define again may have its only row among theirs."""
     out: List[str] = []
     left = dict(rows)
     strange: List[str] = []
@@ -66,8 +68,11 @@ def replaced(text: str, rows: Dict[str, str]) -> Tuple[str, List[str]]:
         found = ROW.match(line) if inside else None
         if found and found[1] not in left:
             strange.append(f"{PAGE}: a row of {found[1]}, which the list does not have, or a second one")
-        out.append(left.pop(found[1], line) if found else line)
-    return "\n".join(out), strange + [f"{PAGE}: no row of {name}" for name in left]
+        example = EXAMPLE.search(line)
+        row = left.pop(found[1], line) if found else line
+        out.append(row[:-2] + example[0] if example and not EXAMPLE.search(row) else row)
+    elsewhere = {found[1] for found in map(ROW.match, text.split("\n")) if found}
+    return "\n".join(out), strange + [f"{PAGE}: no row of {name}" for name in left if name not in elsewhere]
 
 
 # The primitives that films and maps know, by the names that they have there.
@@ -75,9 +80,8 @@ FILE = "teaching/rows.py"
 NAMES: Dict[str, str] = {
     "COLON": "colon", "VARIABLE": "variable", "CONSTANT": "constant", "VOCABULARY": "vocabulary", "EXIT": "EXIT", "LITERAL": "(LIT)",
     "BRANCH": "BRANCH", "ZERO_BRANCH": "?BRANCH", "DO": "(DO)", "LOOP": "(LOOP)", "PLUS_LOOP": "(+LOOP)", "EXECUTE": "EXECUTE",
-    "TEXT": '(.")', "REFUSAL": '(ABORT")', "DOES": "(DOES>)", "COMPILE": "COMPILE", "RCLEAR": "RCLEAR", "FETCH": "@", "STORE": "!",
-    "BYTE_FETCH": "C@", "BYTE_STORE": "C!", "ADD": "+!", "FETCH2": "2@", "STORE2": "2!", "MOVE": "CMOVE", "MOVE_DOWN": "CMOVE>",
-    "FILL": "FILL", "COUNT": "COUNT", "KEY": "KEY", "EXPECT": "EXPECT", "EMIT": "EMIT", "TYPE": "TYPE", "PARSED": ".(",
+    "TEXT": '(.")', "REFUSAL": '(ABORT")', "DOES": "(DOES>)", "COMPILE": "COMPILE", "RCLEAR": "RCLEAR", "BYTE_FETCH": "C@", "BYTE_STORE": "C!",
+    "COUNT": "COUNT",
 }
 
 

@@ -23,6 +23,7 @@ sys.path[:0] = [str(PAGE), str(ROOT / "targets")]
 import assembly  # noqa: E402
 import contents  # noqa: E402
 import records  # noqa: E402
+from served import table  # noqa: E402
 
 LESSONS = """# A course
 
@@ -87,8 +88,8 @@ def check_canvas(cases: Tally) -> None:
 
 def check_assembly(cases: Tally) -> None:
     """The modules in one script: each after those that it imports, with no name twice; data that can't end the script."""
-    order = assembly.in_order("main.js", [])
-    cases.must(set(order) == {file.name for file in PAGE.glob("*.js")} | SHARED, f"modules that main.js doesn't use: {order}")
+    order, of_films = assembly.in_order("main.js", []), assembly.in_order("filmed.js", [])
+    cases.must({*order, *of_films} == {file.name for file in PAGE.glob("*.js")} | SHARED, f"modules that neither main.js nor filmed.js uses: {order}")
     for at, name in enumerate(order):
         later = [it for it in assembly.IMPORT.findall(assembly.text_of(name)) if it not in order[:at]]
         cases.must(not later, f"{name} comes before {later}")
@@ -157,6 +158,8 @@ def in_node(script: str, given: str = "") -> object:
     with tempfile.TemporaryDirectory() as name:
         for file in [*PAGE.glob("*.js"), *(assembly.SHARED / name for name in SHARED)]:
             shutil.copy(file, pathlib.Path(name) / file.name)
+        given_data = {"door": contents.door(), **contents.texts({})}
+        (pathlib.Path(name) / "data.js").write_text(f"export const DATA = {json.dumps(given_data)};\n", encoding="utf-8")
         (pathlib.Path(name) / "package.json").write_text('{"type": "module"}', encoding="utf-8")
         (pathlib.Path(name) / "case.mjs").write_text(script, encoding="utf-8")
         done = subprocess.run([node, pathlib.Path(name) / "case.mjs"], input=given, capture_output=True, text=True, check=False)
@@ -205,7 +208,7 @@ import { Session } from "./session.js";
 const layout = JSON.parse(readFileSync(0)), memory = new WebAssembly.Memory({ initial: 8 });
 let free = 1024;
 const done = () => 0, malloc = (size) => (free += size) - size;
-const session = new Session({ memory, malloc, free: done, forth83_load_3: done }, layout, new Uint8Array(16), {});
+const session = new Session({ memory, malloc, free: done, forth83_load_3: done, forth83_serve: done }, layout, new Uint8Array(16), {});
 const record = (size, abi) => {
   const made = Uint8Array.from({ length: size }, (_, at) => (7 * at + 3) % 251);
   new DataView(made.buffer).setUint32(0, abi, true);
@@ -219,13 +222,16 @@ const take = (now, before) => {
     return error.message;
   }
 };
-const old = record(66724, 1), later = record(66740, 2), wanted = new Uint8Array(67276);
+const old = record(66724, 1), later = record(66740, 2), wanted = new Uint8Array(67280);
 wanted.set(old.subarray(0, 66722));
 wanted[0] = 3;
+const withAllBlocks = (made) => (new DataView(made.buffer).setUint32(layout.block_count, 65536, true), made);
 const isSame = (one, other) => Buffer.compare(one, other) === 0;
-const found = [...take(old, old), ...take(later, later)].map((one) => isSame(one, wanted));
-const mine = record(67276, 3), kept = take(mine, null);
-found.push(isSame(kept[0], mine), kept[1], isSame(take(mine, old)[1], wanted), isSame(old, record(66724, 1)));
+const found = [...take(old, old), ...take(later, later)].map((one, at) => isSame(one, at % 2 ? wanted : withAllBlocks(wanted.slice())));
+const mine = record(67280, 3), kept = take(mine, null), placeless = record(67276, 3);
+const placed = new Uint8Array(67280);
+placed.set(placeless.subarray(0, 66722));
+found.push(isSame(take(placeless, null)[0], withAllBlocks(placed)), isSame(kept[0], withAllBlocks(mine.slice())), kept[1], isSame(take(mine, old)[1], wanted), isSame(old, record(66724, 1)));
 found.push(take(record(66724, 3), null), take(record(66723, 1), null), take(record(66740, 1), null), take(mine, record(66724, 2)));
 console.log(JSON.stringify(found));
 """
@@ -234,12 +240,18 @@ console.log(JSON.stringify(found));
 def check_kept(cases: Tally) -> None:
     """Sessions that pages of versions 1.0.0 and 2.0.0 kept have records of layouts 1 and 2, which become those of layout 3; other sizes are refused."""
     got = in_node(KEPT, json.dumps(records.layout()))
-    cases.must(got in (None, [True, True, True, True, True, None, True, True, *["other sizes"] * 4]), f"sessions of earlier versions in node: {got}")
+    cases.must(got in (None, [True, True, True, True, True, True, None, True, True, *["other sizes"] * 4]), f"sessions of earlier versions in node: {got}")
+
+
+def check_services(cases: Tally) -> None:
+    """Each service of the table has a function, and there is no other one."""
+    got = in_node('import { SERVICES } from "./services.js"; console.log(JSON.stringify(Object.keys(SERVICES).sort()));')
+    cases.must(got in (None, sorted(set(table.NAMES) - {"PROMPT"})), f"services of the page: {got}")
 
 
 def check(cases: Tally) -> None:
     """All that needs no program."""
-    for part in (check_contents, check_canvas, check_assembly, check_unpacking, check_modules, check_kept):
+    for part in (check_contents, check_canvas, check_assembly, check_unpacking, check_modules, check_kept, check_services):
         part(cases)
 
 

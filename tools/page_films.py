@@ -7,31 +7,20 @@ import subprocess
 from typing import List
 
 import page_modules
+import teaching_runs
 import teaching_views
-from page_trials import FILM, Trial, make_film, squeezed
+from page_trials import FILM, Trial, make_film
 
 SCREEN = 30
-# A word, its source, and a line with it: loops, recursion, DOES>, choices, a fault, blocks.
+# A word, its source, and a line with it: a loop, a fault, blocks. tools/check-teaching compares more.
 WORDS = [
     ("SQUARES", ": SQUARES ( n -- ) 0 ?DO I DUP * . LOOP ;", "5 SQUARES"),
-    ("GCD", ": GCD ( a b -- c ) BEGIN ?DUP WHILE SWAP OVER MOD REPEAT ;", "54 24 GCD ."),
-    ("DOUBLINGS", ": DOUBLINGS ( n -- ) 1 SWAP 0 ?DO DUP . 2* LOOP DROP ;", "6 DOUBLINGS"),
-    ("PARITY", ': PARITY ( n -- ) 2 MOD IF ." odd " ELSE ." even " THEN ;', "7 PARITY 10 PARITY"),
-    ("UNIT", ": UNIT ( n -- ) CREATE , DOES> @ * ;", "10 UNIT CM 5 CM ."),
-    ("FIB", ": FIB DUP 1 > IF DUP 1- RECURSE SWAP 2- RECURSE + THEN ;", "6 FIB ."),
     ("BAD", ": BAD ( -- ) 3 0 DO I 1- 10 SWAP / . LOOP ;", "BAD"),
     ("SHOW", ": SHOW ( n -- ) DUP BLOCK 16 TYPE DROP ;", "30 SHOW"),
 ]
-# The steps of a word, with the stacks that the film's own page makes of the changes.
-STEPS = """(() => {
-  const { places, words, steps } = page.film.data, { stacks } = document.getElementById("film-frame").contentWindow;
-  const found = steps.map(([place], at) => [places[place], at]).filter(([place]) => place && place[1] !== null && words[place[1]].name === %s);
-  return found.map(([place, at]) => [place[0], ...stacks(at).map((cells) => cells.join(" "))].join(" | "));
-})()"""
 
 
-def debugged(program: pathlib.Path, image: pathlib.Path, kernel: pathlib.Path, room: pathlib.Path, word: str, source: str,
-             line: str) -> List[str]:
+def debugged(program: pathlib.Path, image: pathlib.Path, kernel: pathlib.Path, room: pathlib.Path, word: str, source: str, line: str) -> List[teaching_runs.Line]:
     """The steps as the program writes them, over the page's own image."""
     blocks, text, own = room / "film.blk", room / "film.txt", room / "film.img"
     text.write_text(f"% screen {SCREEN}\n{source}\n", encoding="ascii")
@@ -39,18 +28,17 @@ def debugged(program: pathlib.Path, image: pathlib.Path, kernel: pathlib.Path, r
     for words in (["screens", text, blocks], ["load", image, blocks, SCREEN, SCREEN, own]):
         page_modules.run([program, *words])
     subprocess.run([program, "debug", own, word, room / "film.steps", blocks], input=(line + "\n").encode(), stdout=subprocess.DEVNULL, check=False)
-    steps = (room / "film.steps").read_text(encoding="ascii").splitlines()
-    return [squeezed(one.split(None, 1)[0] + " |" + one.split("|", 1)[1]) for one in steps]
+    return teaching_runs.lines_of(room / "film.steps")
 
 
-def filmed(trial: Trial, word: str, source: str, line: str) -> List[str]:
+def filmed(trial: Trial, word: str, source: str, line: str) -> List[teaching_runs.Line]:
     """The steps that the page shows."""
     trial.value("page.session.start(builtIn('forth.blk')); 0")
     trial.idle()
     trial.value(f"page.session.put({SCREEN}, pageOf([{json.dumps(source)}]).page); page.enter('{SCREEN} LOAD'); 0")
     trial.idle()
     make_film(trial, line)
-    return [squeezed(one) for one in trial.value(STEPS % json.dumps(word))]
+    return [step[:4] for step in teaching_runs.steps_of(trial.value("page.film.data"), word)]
 
 
 # Whether all of the film's frame is in the window.

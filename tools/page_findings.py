@@ -2,15 +2,20 @@
 import base64
 import json
 import pathlib
-import subprocess
 import sys
 import time
 from typing import Any
 
+import page_images
 import page_keeping
 from page_trials import Trial
 
 ROOT = pathlib.Path(__file__).resolve().parent.parent
+sys.path[:0] = [str(ROOT / "page"), str(ROOT / "commands")]
+
+import assembly  # noqa: E402
+from served import image as served  # noqa: E402
+
 CONTROL, SHIFT = 2, 8
 FRAME = "{ const t = document.getElementById('screen-text'); t.value = %s; t.setSelectionRange(%d, %d); t.dispatchEvent(new Event('input')) } 0"
 BYTES = "toBase64(page.session.disk.bytes)"
@@ -169,27 +174,44 @@ def big_disk(trial: Trial) -> None:
     trial.value("page.files.removeDisk()")
 
 
-# What a page of version 2.0.0 kept: a state with one disk, and other disks under their names.
+# What a page of version 2.0.0 kept: a state with one disk, and other disks under their names. Its Forth has its tools in it.
 OF_2_0_0 = """(async () => {
-  const { work, session } = page, disk = Disk.ofText("course.blk", 64, DATA.disks["course.blk"].text), store = (name, value) => work.store.ask("readwrite", (kept) => kept.put(value, name));
+  const kept = %s, { work } = page, disk = Disk.ofText("course.blk", 64, DATA.disks["course.blk"].text), store = (name, value) => work.store.ask("readwrite", (all) => all.put(value, name));
   disk.put(22, pageOf(["( Lesson 2: words of your own )", ": MINUTES 60 * ;"]).page);
   disk.put(44, pageOf(["( an older checker )"]).page);
-  await store("forth/session/", { name: "course.blk", disk: disk.bytes, ...session.kept(), texts: [["note", "before"]], history: ["MYWORD"], when: Date.now() });
-  await store("forth/disk/old.blk", Disk.ofText("old.blk", 8, "% screen 3\\n( old )\\n").bytes);
+  await store("forth/session/", { ...kept, name: "course.blk", disk: disk.bytes, record: inflate(fromBase64(kept.record), DATA.layout.size - 4), outer: null, program: "", history: ["MYWORD"], when: Date.now() });
+  await store("forth/disk/old.blk", Disk.ofText("old.blk", 8, "%% screen 3\\n( old )\\n").bytes);
   work.isOurs = false;
-  await work.store.ask("readwrite", (kept) => kept.delete(IDBKeyRange.bound("forth/work/", "forth/work/z")));
-  await work.store.ask("readwrite", (kept) => kept.delete("forth/work/"));
+  await work.store.ask("readwrite", (all) => all.delete(IDBKeyRange.bound("forth/work/", "forth/work/z")));
+  await work.store.ask("readwrite", (all) => all.delete("forth/work/"));
   localStorage.clear();
 })()"""
 
 
+def answer(trial: Trial, choice: str) -> None:
+    """Opens the page, and answers its question after an update."""
+    trial.browser.open(trial.page)
+    trial.must(trial.wait("!!window.page && page.isOpen && document.getElementById('ask').open"), "no question after an update")
+    trial.value(f"[...document.querySelectorAll('#ask-answers button')].find((one) => one.textContent === '{choice}').click(); page.idle()")
+    trial.idle()
+
+
 def of_an_older_page(trial: Trial) -> None:
-    """What a page of version 2.0.0 kept is here, with the page's own screens where the person has none."""
+    """What a page of version 2.0.0 kept is here, with the page's own screens where the person has none. Its Forth goes on; a new one gets its
+    words from the lines that made them."""
     fresh(trial, trial.page)
-    trial.type(": MYWORD 42 . ;")
-    trial.value(OF_2_0_0)
-    trial.open()
-    trial.must("42  ok" in trial.type("MYWORD") and trial.value("page.session.disk.name") == "course.blk", "words or the disk of version 2.0.0 are gone")
+    kept = json.loads((ROOT / "tools/page_of_2_0_0.json").read_text(encoding="ascii"))
+    kept["record"] = base64.b64encode(base64.b64decode("".join(kept["record"]))[2:-4]).decode()  # without zlib's own bytes around it
+    trial.value(OF_2_0_0 % json.dumps(kept))
+    answer(trial, "Keep the old one")
+    trial.must(trial.value("page.session.machine.values.join()") == "5,6,7" and "42  ok" in trial.type("MYWORD"), "words or the stack of version 2.0.0")
+    of_older_disks(trial)
+    of_older_forth(trial)
+
+
+def of_older_disks(trial: Trial) -> None:
+    """The disks of version 2.0.0."""
+    trial.must(trial.value("page.session.disk.name") == "course.blk", "the disk of version 2.0.0 isn't in")
     lines = trial.value("[22, 44].map((block) => linesOf(page.session.page(block)).slice(0, 2).join('|'))")
     trial.must(lines[0].endswith(": MINUTES 60 * ;") and "Check of lesson 4" in lines[1], f"screens of version 2.0.0: {lines}")
     trial.value("page.work.putIn('old.blk')")
@@ -198,21 +220,36 @@ def of_an_older_page(trial: Trial) -> None:
     trial.must(screen(trial, 44) == "( an older checker )", "the disk as it was is gone")
 
 
-def other_image(program: pathlib.Path, page: pathlib.Path, room: pathlib.Path, target: pathlib.Path) -> None:
-    """A newer page, whose Forth has one word more at its beginning."""
-    sys.path.insert(0, str(ROOT / "page"))
-    import assembly  # pylint: disable=import-outside-toplevel
+def of_older_forth(trial: Trial) -> None:
+    """The Forth of version 2.0.0: its faults, keys and Stop; a reload; and the new Forth in its place."""
+    trial.must("NOWORD is unknown (fault 13)" in trial.type("NOWORD") and "ok" in trial.type("100 MS 30 LIST"), "a fault, MS and LIST of an older Forth")
+    trial.enter("KEY .")
+    trial.wait("page.session.waitsForKey")
+    trial.keys("A")
+    trial.must(trial.idle() and "65  ok" in trial.shown(), f"KEY of an older Forth: {trial.shown()[-60:]!r}")
+    trial.type(": L BEGIN AGAIN ;")
+    trial.enter("L")
+    trial.wait("page.session.isRunning")
+    trial.click("stop")
+    trial.must(trial.idle() and "interrupted" in trial.shown() and "42  ok" in trial.type("MYWORD"), "Stop of an older Forth")
+    trial.open()
+    trial.must("42  ok" in trial.type("MYWORD"), "an older Forth after a reload")
+    trial.value("page.work.version.left = null; page.work.keep()")
+    answer(trial, "Take the new Forth")
+    trial.must("42  ok" in trial.type("MYWORD") and ": MYWORD 42 . ;" in trial.type("SEE MYWORD"), "words of an older Forth in the new one")
 
-    text = (ROOT / "screens/page/paged.txt").read_text(encoding="ascii").replace('." in a page" ;', '." forth83 9.1.0 in a page, unproved" ;')
-    (room / "newer.txt").write_text(text.replace("( finds", "( finds").replace("% screen 191\n", "% screen 190\n: NEWER ( -- n ) 91 ;\n% screen 191\n", 1), encoding="ascii")
-    kernel, image = room / "newer.blk", room / "newer.img"
-    for words in ([program, "kernel", kernel], [ROOT / "build/images", "--with", room / "newer.txt", ROOT / "screens/page/order.txt", "COLD-PAGE", program, kernel, image]):
-        subprocess.run([str(word) for word in words], check=True, stdout=subprocess.DEVNULL)
+
+def other_image(program: pathlib.Path, page: pathlib.Path, room: pathlib.Path, target: pathlib.Path) -> None:
+    """A newer page, whose Forth has one word more."""
+    (room / "newer.txt").write_text("% screen 1\n: NEWER ( -- n ) 91 ;\n", encoding="ascii")
+    own = pathlib.Path(served.find(str(program)), "served.img")
+    for words in (["new", room / "newer.blk", 4], ["screens", room / "newer.txt", room / "newer.blk"], ["load", own, room / "newer.blk", 1, 1, room / "newer.img"]):
+        page_images.command(program, *words)
     page_keeping.other_edition(page, target, 1)
     whole = target.read_text(encoding="utf-8")
-    start = whole.index('<script type="text/plain" id="image"')
+    start = whole.index('<script type="text/plain" id="packed-image"')
     end = whole.index("</script>", start) + len("</script>")
-    target.write_text(whole[:start] + assembly.packed("image", image.read_bytes()) + whole[end:], encoding="utf-8")
+    target.write_text(whole[:start] + assembly.packed("image", (room / "newer.img").read_bytes()) + whole[end:], encoding="utf-8")
 
 
 def after_update(trial: Trial, program: pathlib.Path, room: pathlib.Path) -> None:
@@ -224,18 +261,16 @@ def after_update(trial: Trial, program: pathlib.Path, room: pathlib.Path) -> Non
     trial.type(": MYWORD 42 . ;")
     trial.value("page.work.keep()")
     path.write_bytes((room / "newer.html").read_bytes())
-    for answer, wanted in (("Keep the old one", "unknown"), ("Take the new Forth", "91  ok")):
-        trial.browser.open(path)
-        trial.must(trial.wait("!!window.page && page.isOpen && document.getElementById('ask').open"), "no question after an update")
-        trial.must("2.0.0" in trial.text("ask-question") and "9.1.0" in trial.text("ask-question"), f"the question after an update: {trial.text('ask-question')!r}")
-        trial.value(f"[...document.querySelectorAll('#ask-answers button')].find((one) => one.textContent === '{answer}').click(); page.idle()")
-        trial.idle()
-        trial.must(wanted in trial.type("NEWER ."), f"{answer}: a new word")
-        trial.must("42" in trial.type("MYWORD"), f"{answer}: a word of one's own")
-        trial.must("9.1.0" in trial.type("VERSION"), f"{answer}: VERSION is {trial.type('VERSION')!r}")
+    for choice, wanted in (("Keep the old one", "unknown"), ("Take the new Forth", "91  ok")):
+        answer(trial, choice)
+        question = trial.text("ask-question")
+        trial.must("2.0.0" in question and "9.1.0" in question, f"the question after an update: {question!r}")
+        trial.must(wanted in trial.type("NEWER ."), f"{choice}: a new word")
+        trial.must("42" in trial.type("MYWORD"), f"{choice}: a word of one's own")
+        trial.must("9.1.0" in trial.type("VERSION"), f"{choice}: VERSION is {trial.type('VERSION')!r}")
         trial.value("{ const { image } = page.session.saved('MYWORD'); window.saved = image; } 0")
         trial.file("own.img", "window.saved")
-        trial.must("42 own.img ended" in " ".join(trial.shown()[-120:].split()), f"{answer}: a saved image shows {trial.shown()[-120:]!r}")
+        trial.must("42 own.img ended" in " ".join(trial.shown()[-120:].split()), f"{choice}: a saved image shows {trial.shown()[-120:]!r}")
         trial.value("page.work.version.left = null; page.work.keep()")
     trial.must(screen(trial, 2) != "" and trial.value("document.getElementById('ask').open") is False, "after an update")
     trial.page = first

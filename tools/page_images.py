@@ -3,10 +3,15 @@ import base64
 import json
 import pathlib
 import subprocess
+import sys
 
 from page_trials import Trial, squeezed
 
 ROOT = pathlib.Path(__file__).resolve().parent.parent
+sys.path.insert(0, str(ROOT / "commands"))
+
+from served import image as served  # noqa: E402
+
 # A program without words of the page: it asks for a key and a line, and reads a block.
 ASKING = """% screen 21
 : ASKING ( -- ) ." key " KEY . ." line " PAD 20 EXPECT
@@ -104,14 +109,14 @@ def check_loop(trial: Trial, program: pathlib.Path, room: pathlib.Path) -> None:
 
 
 def check_saved(trial: Trial, program: pathlib.Path, room: pathlib.Path) -> None:
-    """An image that the page saves runs in the page and in the program, with the same output."""
+    """An image that the page saves runs in the page and in the program, with the same output; without a host EXPECT shows nothing of a line."""
     for line in (": GREETED ( -- ) .\" hello \" 6 0 DO I DUP * . LOOP CR ;", ": ASKED ( -- ) .\" name? \" PAD 20 EXPECT CR .\" hi \" PAD SPAN @ TYPE ;"):
         trial.type(line)
     for word, typed, wanted in (("greeted", "", "hello 0 1 4 9 16 25"), ("ASKED", "Ada\n", "name? Ada hi Ada"), ("", "3 4 + . GREETED\n", "3 4 + . GREETED 7 hello 0 1 4 9 16 25 ok")):
         image = saved(trial, word)
         (room / "own.img").write_bytes(image)
         native = squeezed(run(program, room / "own.img", typed))
-        trial.must(native == wanted, f"the saved image of {word!r} shows {native!r} in the program")
+        trial.must(native == wanted.replace("? Ada", "?"), f"the saved image of {word!r} shows {native!r} in the program")
         trial.value("page.transcript.clear(); 0")
         opened(trial, "own.img", image)
         if typed:
@@ -132,19 +137,18 @@ def check_saved(trial: Trial, program: pathlib.Path, room: pathlib.Path) -> None
 
 
 def check_tools(trial: Trial, program: pathlib.Path, room: pathlib.Path) -> None:
-    """An image of `./forth --image`: its doors are those of a pipe."""
+    """An image of screens over the session's image, which the program and the page run."""
     (room / "own.txt").write_text("% screen 30\n: GREET ( -- ) .\" from an image \" KEY DROP KEY . ;\nBOOT GREET\n", encoding="ascii")
-    images = [room / f"{door}.img" for door in ("terminal", "pipe", "quiet")]
-    command(program, "kernel", room / "tools.blk")
-    command(ROOT / "build/images", "--doors", program, room / "tools.blk", *images)
     command(program, "new", room / "own.blk", 64)
     command(program, "screens", room / "own.txt", room / "own.blk")
-    command(program, "load", images[1], room / "own.blk", 30, 30, room / "greet.img")
+    command(program, "load", pathlib.Path(served.find(str(program)), "served.img"), room / "own.blk", 30, 30, room / "greet.img")
     wanted = squeezed(run(program, room / "greet.img", "xA\n"))
-    trial.must(wanted == "from an image 65", f"an image over the tools shows {wanted!r} in the program")
+    trial.must(wanted == "from an image 65", f"an image over the session's image shows {wanted!r} in the program")
     opened(trial, "greet.img", (room / "greet.img").read_bytes())
-    trial.type("xA")
-    trial.must("from an image xA 65 greet.img ended" in squeezed(trial.shown()) and trial.shown().endswith("was.\n"), f"an image over the tools: {trial.shown()[-80:]!r}")
+    trial.value("page.session.press([120, 65])")
+    trial.idle()
+    shown = squeezed(trial.shown())
+    trial.must("from an image 65 greet.img ended" in shown and shown.endswith("was."), f"an image over the session's image: {shown[-80:]!r}")
 
 
 def check(trial: Trial, program: pathlib.Path, room: pathlib.Path) -> None:

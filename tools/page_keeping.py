@@ -12,7 +12,7 @@ from typing import Any, Callable, Dict, List, NamedTuple, Optional, Tuple
 from tally import Tally
 
 BLOCK, LINES, WIDTH, MOST_DISKS = 1024, 16, 64, 40
-DATA = re.compile(r'(<script type="text/plain" id="data" data-size=")(\d+)(">)([^<]*)')
+DATA = re.compile(r'(<script type="text/plain" id="packed-data" data-size=")(\d+)(">)([^<]*)')
 ANSWERS = ("both", "replace", "cancel")
 
 # What the trial does in the page. An act is one promise, so that a trip to the browser is enough; `answers` are those to the page's questions.

@@ -19,33 +19,41 @@ import browser as browsers  # noqa: E402
 import random_scripts  # noqa: E402
 from tally import Tally  # noqa: E402
 
-BLOCKS, PAGE, ROOM, BATCH = 16, 1024, 131072, 25
-STOPS = {"halted": 0, "limit": 1, "room": 2, "typed": 3, "block": 4}
-READ = 3
+BLOCKS, ALL_BLOCKS, PAGE, ROOM, BATCH = 16, 65536, 1024, 131072, 25
 Plan = List[Tuple[str, int]]
 
 # What the page does with the same plans: the driver below, in JavaScript, over the page's own Machine.
 IN_PAGE = """
 function runPlan(plan) {
-  const blocks = new Uint8Array(%(blocks)d * 1024), shown = [];
-  let pending = [];
+  const blocks = new Uint8Array(%(blocks)d * 1024), shown = [], pending = [];
   window.tried ??= new Machine(page.session.machine.calls, DATA.layout);
   tried.bytes(tried.record, DATA.layout.size).fill(0);
-  tried.load(window.plain, %(blocks)d);
+  tried.load(window.plain);
+  let stop = { how: "-" };
+  const give = (kind, ...body) => { stop = tried.move(kind, Uint8Array.from(body)); shown.push(...stop.shown); };
+  const serve = ({ how, number }) => {
+    const at = number * 1024;
+    if (number >= %(blocks)d) give(how === "r" ? "f" : "g");
+    else if (how === "r") give("p", ...blocks.subarray(at, at + 1024));
+    else {
+      blocks.set(tried.buffers.find((one) => one.block === number).bytes, at);
+      give("w");
+    }
+  };
+  const line = (most) => {
+    const end = pending.indexOf(10), size = Math.min(end < 0 ? pending.length : end, most), isWhole = end === size && size < most;
+    give("l", isWhole ? 1 : 0, ...pending.splice(0, size));
+    if (isWhole) pending.shift();
+  };
   for (const [piece, limit] of plan) {
     pending.push(...piece.split("").map((letter) => letter.charCodeAt(0)));
-    for (let calls = 0; calls < 400; calls++) {
-      const ended = tried.run(Uint8Array.from(pending), limit);
-      pending = pending.slice(ended.read);
-      shown.push(...ended.shown);
-      if (ended.stop === STOP.HALTED || ended.stop === STOP.TYPED) break;
-      if (ended.stop !== STOP.BLOCK) continue;
-      const block = tried.field("asked"), at = block * 1024;
-      if (block >= %(blocks)d) tried.answerFailed();
-      else if (tried.asks === ASKS.READ) tried.answerRead(blocks.subarray(at, at + 1024));
-      else blocks.set(tried.answerWritten(), at);
+    for (let calls = 0; calls < 400 && !"bxyh".includes(stop.how); calls++) {
+      if (stop.how === "k" && !pending.length || stop.how === "l" && !pending.includes(10) && pending.length < stop.number) break;
+      if (stop.how === "k") give("k", pending.shift());
+      else if (stop.how === "l") line(stop.number);
+      else if ("rw".includes(stop.how)) serve(stop);
+      else give("r", limit & 255, (limit >> 8) & 255, limit >> 16, 0);
     }
-    if (tried.halted) break;
   }
   return [toBase64(Uint8Array.from(shown)), toBase64(tried.copy()), toBase64(blocks)];
 }
@@ -63,42 +71,65 @@ class Native:
     def run_plan(self, plan: Plan) -> Tuple[bytes, bytes, bytes]:
         """What is shown, the record and the blocks after a plan."""
         self.machine, self.blocks, self.shown, self.pending = self.bench.Machine(), bytearray(BLOCKS * PAGE), b"", b""
-        status = self.calls.forth83_load_3(self.image, ctypes.c_size_t(len(self.image)), BLOCKS, ctypes.byref(self.machine))
+        self.how, self.number = "-", 0
+        status = self.calls.forth83_load_3(self.image, ctypes.c_size_t(len(self.image)), ALL_BLOCKS, ctypes.byref(self.machine))
         assert status == 0, f"load: status {status}"
         for piece, limit in plan:
             self.pending += piece.encode("latin-1")
-            if self.drive(limit) == STOPS["halted"]:
-                break
+            self.drive(limit)
         return self.shown, bytes(self.machine), bytes(self.blocks)
 
-    def drive(self, limit: int) -> int:
-        """Goes on until more bytes are needed; why it ended."""
-        stop = -1
-        for _ in range(400):
-            end, room = self.bench.End(), ctypes.create_string_buffer(ROOM)
-            status = self.calls.forth83_run(ctypes.byref(self.machine), self.pending, ctypes.c_size_t(len(self.pending)), room,
-                                            ctypes.c_size_t(ROOM), ctypes.c_uint64(limit), ctypes.byref(end))
-            assert status == 0, f"run: status {status}"
-            self.pending, self.shown, stop = self.pending[end.read:], self.shown + room.raw[:end.shown], end.stop
-            if stop in (STOPS["halted"], STOPS["typed"]):
-                break
-            if stop == STOPS["block"]:
-                self.serve()
-        return stop
+    def give(self, kind: str, body: bytes = b"") -> None:
+        """A request, and what the machine does then."""
+        room, size = ctypes.create_string_buffer(ROOM), ctypes.c_uint64()
+        status = self.calls.forth83_serve(ctypes.byref(self.machine), ctypes.c_uint8(ord(kind)), body, ctypes.c_uint64(len(body)), room,
+                                          ctypes.c_uint64(ROOM), ctypes.byref(size))
+        assert status == 0, f"serve: status {status}"
+        reply = room.raw[:size.value]
+        while reply:
+            end = 3 + int.from_bytes(reply[1:3], "little")
+            if reply[:1] == b"s":
+                self.shown += reply[3:end]
+            else:
+                self.how, self.number = chr(reply[7]), int.from_bytes(reply[8:10], "little")
+            reply = reply[end:]
 
-    def serve(self) -> None:
+    def drive(self, limit: int) -> None:
+        """Goes on until more bytes are needed."""
+        for _ in range(400):
+            is_short = b"\n" not in self.pending and len(self.pending) < self.number
+            if self.how in "bxyh" or self.how == "k" and not self.pending or self.how == "l" and is_short:
+                break
+            if self.how == "k":
+                key, self.pending = self.pending[:1], self.pending[1:]
+                self.give("k", key)
+            elif self.how == "l":
+                self.line(self.number)
+            elif self.how in "rw":
+                self.serve(self.how == "r", self.number)
+            else:
+                self.give("r", limit.to_bytes(4, "little"))
+
+    def line(self, most: int) -> None:
+        """Answers a line."""
+        end = self.pending.find(b"\n")
+        size = min(len(self.pending) if end < 0 else end, most)
+        is_whole = end == size < most
+        line, self.pending = self.pending[:size], self.pending[size + is_whole:]
+        self.give("l", bytes([is_whole]) + line)
+
+    def serve(self, is_read: bool, block: int) -> None:
         """Answers a request for a block."""
-        block, machine = self.machine.asked, ctypes.byref(self.machine)
-        at, size = block * PAGE, ctypes.c_size_t(PAGE)
+        at = block * PAGE
         if block >= BLOCKS:
-            self.calls.forth83_failed(machine)
-        elif self.machine.asks == READ:
-            self.calls.forth83_read(machine, bytes(self.blocks[at:at + PAGE]), size)
+            self.give("f" if is_read else "g")
+        elif is_read:
+            self.give("p", bytes(self.blocks[at:at + PAGE]))
         else:
-            page = ctypes.create_string_buffer(PAGE)
-            self.calls.forth83_page(machine, page, size)
-            self.calls.forth83_written(machine)
-            self.blocks[at:at + PAGE] = page.raw
+            slots = [one.slot for one in self.machine.buffers[:self.machine.buffer_count] if one.has_block and one.block == block]
+            place = 65536 - PAGE * (self.machine.buffer_count - slots[0])
+            self.blocks[at:at + PAGE] = bytes(self.machine.memory[place:place + PAGE])
+            self.give("w")
 
 
 def plans(count: int) -> List[Plan]:

@@ -4,12 +4,12 @@ import json
 import pathlib
 import re
 import subprocess
-import sys
 import time
 from typing import Any, List, Optional
 
 import browser as browsers
 import course_answers
+import session_cases
 from tally import Tally
 
 PASTE = ("{ const data = new DataTransfer(); data.setData('text', %s); document.getElementById('line').dispatchEvent("
@@ -112,20 +112,37 @@ def lines(trial: Trial) -> None:
         trial.press(key, code)
         got = trial.value("document.getElementById('line').value")
         trial.must(got == wanted, f"{key}: {got!r} in place of {wanted!r}")
-    trial.must("at most 127 characters" in trial.type("1 " * 70), "a line that is too long")
+    trial.must("at most 1024 bytes" in trial.type("1 " * 600), "a line that is too long")
+    for size in (126, 127, 128, 1024):
+        trial.must("5  ok" in trial.type("5 .".rjust(size)), f"a line of {size} characters")
     trial.keys("5 swap")
     trial.press("F1", 112)
     found = trial.value("document.body.dataset.tab + ' ' + document.querySelector('#words-table button').textContent")
     trial.must(found == "words SWAP", f"F1 explains {found!r}")
     trial.value("document.getElementById('line').value = ''; 0")
     trial.type("help dup")
-    trial.must(trial.wait("page.transcript.text().includes('DUP ( x -- x x )')", 5), f"HELP with a word: {trial.shown()[-200:]!r}")
+    trial.must(trial.wait("page.transcript.text().includes('DUP  ( x -- x x )')", 5), f"HELP with a word: {trial.shown()[-200:]!r}")
     trial.value(PASTE % json.dumps(": P1 1 ;\n: P2 2 ;\nP1 P2 + .\n"))
     trial.idle()
     trial.must("P1 P2 + . 3  ok" in trial.shown(), "a paste of lines")
     trial.value(PASTE % json.dumps("1 .\nNOWORD\n2 .\n3 .\n"))
     trial.idle()
     trial.must("2 more lines were not interpreted" in trial.shown(), "a fault in a paste")
+
+
+def as_at_a_terminal(trial: Trial) -> None:
+    """Lines show what they show at a terminal."""
+    trial.value("page.work.insert('t.blk', builtIn('forth.blk').bytes)")
+    trial.value("page.session.start()")
+    trial.idle()
+    for case in session_cases.cases():
+        trial.type(case.line)
+        answer = trial.value("page.transcript.answer()")
+        shown = answer if case.is_fault else re.sub(r"\s*ok$", "", answer)
+        is_so = shown.startswith(case.shown.strip()) if case.is_fault else shown == case.shown.strip()
+        trial.must(is_so, f"{case.line}: wanted {case.shown!r}, got {shown!r}")
+    trial.value("page.work.putIn('forth.blk'), page.session.start()")
+    trial.idle()
 
 
 def visitor(trial: Trial) -> None:
@@ -143,8 +160,9 @@ def visitor(trial: Trial) -> None:
     for typed, near in (("print", "."), ("DUPP", "DUP"), ("SQAURE", "SQUARE")):
         trial.type(typed)
         trial.must(near in trial.value("[...document.querySelectorAll('#advice .word')].map((one) => one.textContent)"), f"advice for {typed}: {trial.text('advice')!r}")
-    trial.type("70000")
-    trial.must("70000. is a double number" in trial.text("advice"), f"advice for 70000: {trial.text('advice')!r}")
+    trial.must("70000. is a double number" in trial.type("70000") and trial.value("document.getElementById('advice').hidden"), "what is said of 70000")
+    trial.type("NOSUCHWORD")
+    trial.must(not trial.value("document.getElementById('advice').hidden"), "no advice for a word that is unknown")
     trial.type("SCLEAR")
     trial.must(trial.value("document.getElementById('advice').hidden"), "advice isn't taken away")
     for sought, wanted in (("print a number", "."), ("if", "IF"), ("remainder", "MOD"), ("copy the top", "DUP"), ("repeat", "DO")):
@@ -200,7 +218,7 @@ def undo(trial: Trial) -> None:
     trial.type("FORGET squares 99")
     trial.click("undo")
     trial.must("0 1 4  ok" in trial.type("3 squares"), "Undo of FORGET")
-    for spoils in ("256 65000 255 FILL", "0 65000 0 FILL", "40 0 OVER ! 16 30 65 FILL", "' OUTER 2 - 300 0 FILL 1 0 /"):
+    for spoils in ("256 65000 255 FILL", "0 65000 0 FILL", "40 0 OVER ! 16 30 65 FILL", "' QUIT 2 - 300 0 FILL 1 0 /"):
         trial.enter(spoils)
         time.sleep(0.3)
         trial.value("document.getElementById('stop').click()")
@@ -231,6 +249,82 @@ def questions(trial: Trial) -> None:
         trial.must(trial.shown().endswith("interrupted\n"), f"what Stop at {program} shows: {trial.shown()[-40:]!r}")
 
 
+def texts(trial: Trial) -> None:
+    """Text files: those that include others, places of faults, where words are from; and what Undo and a reload leave of them."""
+    trial.file("lib.fs", r"'\ufeff: TRIPLE ( over\n lines ) 3 * ;\n'")
+    trial.file("bad file.fs", r"'#! x\n\n: SIX 2 TRIPLE ;\n\tSIX . NOPE\n'")
+    trial.must(squeezed(trial.shown()).endswith("6 NOPE is unknown (fault 13) bad file.fs:4:8 SIX . NOPE ^"), f"a fault in a text: {trial.shown()[-120:]!r}")
+    trial.file("outer.fs", r"'1 DROP INCLUDE \"bad file.fs\"\n'")
+    trial.must("included by outer.fs:1" in trial.shown()[-60:], f"a text that another one includes: {trial.shown()[-120:]!r}")
+    trial.must("lib.fs:1\n: TRIPLE ( over\n ok" in trial.type("VIEW TRIPLE"), "VIEW of a word of a text")
+    trial.file("open.fs", r"'( a )\n: OPEN 1\n'")
+    trial.must("open.fs ended inside OPEN (fault 17)" in trial.shown()[-80:], f"a text that ends in a definition: {trial.shown()[-80:]!r}")
+    trial.file("cut.fs", r"'1 DROP\n ( never closed\n'")
+    trial.must("this ( is not closed (fault 17)\ncut.fs:2:2\n" in trial.shown()[-120:], f"a comment that is not closed: {trial.shown()[-120:]!r}")
+    for line, wanted in (("INCLUDE nothing.fs", "cannot read nothing.fs: open it in the tab Disks first"), ("RELOAD x.txt", "RELOAD reads no file in a page")):
+        trial.must(wanted in trial.type(line), line)
+    trial.type("INCLUDE lib.fs : LATER 1 ;")
+    trial.value("page.work.keepAtOnce()")
+    trial.open()
+    trial.must("lib.fs:1: : TRIPLE ( over\n ok" in trial.type("LOCATE TRIPLE") and "12  ok" in trial.type("INCLUDE lib.fs 4 TRIPLE ."), "texts after a reload")
+
+
+def libraries(trial: Trial) -> None:
+    """The texts that come with the Forth: the tests of later Forths' words, and what is thrown, skipped and evaluated."""
+    cases = (pathlib.Path(__file__).resolve().parent / "later-test.fs").read_text(encoding="utf-8")
+    trial.value("page.session.start()")
+    trial.idle()
+    trial.type("INCLUDE tester.fs")
+    trial.file("later-test.fs", json.dumps(cases))
+    count = len(re.findall(r"\}T", cases))
+    trial.must(f"{count} 0  ok" in trial.type("DECIMAL #TESTS @ . #WRONG @ ."), f"tests of later Forths' words: {trial.shown()[-300:]!r}")
+    trial.type("REQUIRE later-test.fs")
+    trial.must(f"{count} 0  ok" in trial.type("#TESTS @ . #WRONG @ ."), "REQUIRE of a text that was read")
+    trial.file("skip.fs", r"'0 [IF]\nNOSUCH\n[THEN] S\" 1 NOSUCH\" EVALUATE\n'")
+    trial.must("NOSUCH is unknown (fault 13)\nEVALUATE:1:3\n1 NOSUCH\n  ^\nincluded by skip.fs:3\n" in trial.shown()[-120:], f"a fault in a text that is evaluated: {trial.shown()[-120:]!r}")
+    trial.must("it has no [THEN]" in trial.type("0 [IF] 1 .") and "-5 was thrown, and there is no CATCH" in trial.type("-5 THROW"), "[IF] and THROW")
+    trial.must("PROFILE needs a terminal" in trial.type("PROFILE 1 ."), "PROFILE")
+    trial.value("page.session.start()")
+    trial.idle()
+
+
+def services(trial: Trial) -> None:
+    """UNDO, WHY, DEBUG; KEY?, EKEY and MS; a machine that doesn't come back is put back."""
+    trial.type("7 8 55 VALUE Q")
+    trial.type("UNDO")
+    trial.must("Q is unknown" in trial.type("Q") and "0  ok" in trial.type("DEPTH ."), "UNDO")
+    trial.type(": A1 0 / ; : B1 5 A1 ; : C1 2 0 DO B1 LOOP ;")
+    trial.type("1 2 C1")
+    words = [line.split()[0] for line in trial.type("WHY").split("\n")[1:] if line]
+    trial.must(words == ["/", "A1", "B1", "C1", "stack:", "ok"] and "stack: 1 2 5 0\n" in trial.shown()[-20:], f"WHY: {trial.shown()[-160:]!r}")
+    trial.type(": SQ2 DUP * ; 5 DEBUG SQ2")
+    trial.must(trial.wait("page.film.isShown", 15) and trial.value("document.getElementById('film-line').value") == ": SQ2 DUP * ; 5 SQ2", "DEBUG shows no steps")
+    trial.must(trial.value("page.session.machine.values.join()") == "25" and "DUP has no steps" in trial.type("DEBUG DUP"), "what DEBUG leaves")
+    trial.enter(": WAITS BEGIN KEY? UNTIL KEY . ; WAITS")
+    trial.wait("page.session.isPolled")
+    trial.keys("A")
+    trial.must(trial.idle() and "65  ok" in trial.shown(), "KEY? and KEY")
+    trial.enter("EKEY .")
+    trial.wait("page.session.waitsForKey")
+    trial.press("ArrowUp", 38)
+    trial.must(trial.idle() and "257  ok" in trial.shown(), f"EKEY: {trial.shown()[-30:]!r}")
+    before = time.time()
+    trial.must("ok" in trial.type("600 MS") and time.time() - before > 0.6, "MS doesn't wait")
+    trial.enter("30000 MS")
+    trial.click("stop")
+    trial.must(trial.idle(5) and trial.shown().endswith("interrupted\n"), "Stop of MS")
+    trial.must("HERE is inside the Forth" in trial.type("-5000 ALLOT"), "HERE within the Forth isn't said")
+    trial.type("UNDO")
+    trial.type("SCLEAR 7 8")
+    trial.must("All is as it was before that line" in trial.type("0 -1 ERASE") and "7 8  ok" in trial.type(".S"), f"a machine that has halted: {trial.shown()[-160:]!r}")
+    trial.enter("256 3000 ERASE")
+    trial.click("stop")
+    trial.wait("page.session.breaks === 1")
+    trial.click("stop")
+    trial.must(trial.idle(15) and "does not come back" in trial.shown() and "7 8  ok" in trial.type(".S"), f"a machine that doesn't come back: {trial.shown()[-160:]!r}")
+    trial.type("SCLEAR")
+
+
 def cursor(trial: Trial) -> None:
     """A program that moves the cursor has a screen of its own."""
     trial.type(': PLACES 27 EMIT ." [2J" 10 5 AT ." HERE" 2 1 AT ." UP" 0 7 AT ;')
@@ -248,7 +342,7 @@ def editor(trial: Trial) -> None:
     trial.browser.call("Input.insertText", text="( Stars )\n: STARS ( n -- ) 0 DO 42 EMIT LOOP ;\n: ROWS ( n -- ) 0 DO CR I 1+ STARS LOP ;\n")
     trial.press("Enter", 13, CONTROL)
     trial.wait("!!document.querySelector('#screen-gutter .at-fault')", 15)
-    trial.must("LOP is unknown (fault 13)" in trial.shown() and "screen 30 line 2" in trial.shown(), "a screen's fault isn't reported")
+    trial.must("LOP is unknown; is LOOP meant? (fault 13)" in trial.shown() and "screen 30 line 2" in trial.shown(), "a screen's fault isn't reported")
     trial.must(trial.value("(document.querySelector('#screen-gutter .at-fault') || {}).textContent") == "2", "its line isn't marked")
     trial.must(trial.value("document.querySelector('#screen-mark mark').textContent") == "LOP", "its word isn't marked")
     trial.value("{ const t = document.getElementById('screen-text'); t.value = t.value.replace('LOP', 'LOOP'); t.dispatchEvent(new Event('input')) }")
@@ -312,7 +406,7 @@ def files(trial: Trial, program: pathlib.Path, room: pathlib.Path) -> None:
     printed = subprocess.run([program, "text", room / "saved.blk", "0", str(len(blocks) // 1024 - 1)], stdout=subprocess.PIPE, check=True).stdout
     trial.must(printed.decode() == trial.screens(), "the page's text of screens isn't that of the program")
     trial.file("lines.fs", "'1 2 + .\\n4 5 * .\\n'")
-    trial.must("4 5 * . 20  ok" in trial.shown(), "other texts aren't typed")
+    trial.must("INCLUDE lines.fs 3 20  ok" in trial.shown(), "other texts aren't included")
     trial.type(": MINE 77 ; 1 2 3")
     trial.value("window.whole = null; page.work.whole().then((one) => (window.whole = JSON.stringify(one))); 0")
     trial.wait("!!window.whole")
@@ -449,7 +543,7 @@ def film_endings(trial: Trial) -> None:
 
 
 def film_controls(trial: Trial) -> None:
-    """A film's variables, a presenter's remote, the space bar, the second view, the black screen, the size of letters, paper."""
+    """A film's variables, its keys, and the size of its letters; tools/check-teaching tries its page."""
     trial.type("VARIABLE PURSE")
     trial.type(": PAYS PURSE +! ;")
     make_film(trial, "5 PURSE ! 3 PAYS")
@@ -457,17 +551,9 @@ def film_controls(trial: Trial) -> None:
         trial.value(f"{FILM}.go({at})")
         trial.must(trial.value(CELLS) == wanted, f"the variables at step {at}: {trial.value(CELLS)!r}")
     trial.value(f"{FILM}.focus()")
-    for key, code, wanted in (("Home", 36, "step 1 of 4"), ("PageDown", 34, "step 2 of 4"), ("PageDown", 34, "step 3 of 4"), ("PageUp", 33, "step 2 of 4")):
+    for key, code, wanted in (("Home", 36, "step 1 of 4"), ("PageDown", 34, "step 2 of 4")):
         trial.press(key, code)
         trial.must(in_film(trial, "count") == wanted, f"{key} in a film: {in_film(trial, 'count')!r} in place of {wanted!r}")
-    trial.press(" ", 32)
-    trial.must(in_film(trial, "play") == "pause", "the space bar doesn't play a film")
-    trial.press(" ", 32)
-    trial.must(in_film(trial, "play") == "play", "the space bar doesn't stop a film")
-    trial.press("t", 84)
-    trial.must(trial.value(f"{IN_FILM}.querySelectorAll('#columns button').length") == 4, "the stack over time")
-    trial.press("b", 66)
-    trial.must(not trial.value(f"{IN_FILM}.getElementById('black').hidden"), "the black screen")
     size = f"parseFloat({FILM}.getComputedStyle({IN_FILM}.documentElement).fontSize)"
     trial.value("page.size(26)")
     trial.must(trial.value(size) == 26, f"the size of letters in a film: {trial.value(size)}")
@@ -506,7 +592,7 @@ def film(trial: Trial) -> None:
     trial.value("document.querySelector('#words-table button').click()")
     trial.must(trial.value("document.getElementById('line').value") == "SWAP ", "a word of the manual isn't taken into the line")
     trial.value("document.getElementById('line').value = ''; " + seek % "")
-    unknown = trial.value("DATA.manual.map((one) => one[0]).filter((name) => !page.session.machine.words().some((one) => one.name === name))")
+    unknown = trial.value("DATA.manual.map((one) => one[0]).filter((name) => !DATA.advice.later.includes(name) && !page.session.machine.words().some((one) => one.name === name))")
     trial.must(not unknown, f"words of the manual that the Forth doesn't have: {unknown[:5]}")
 
 
@@ -717,7 +803,7 @@ def all_of(trial: Trial, program: pathlib.Path, room: pathlib.Path) -> List[str]
     """All trials, in an order in which each uses what those before it left; measured numbers."""
     trial.browser.call("Network.emulateNetworkConditions", offline=True, latency=0, downloadThroughput=-1, uploadThroughput=-1)
     trial.open()
-    for part in (visitor, lines, stops, undo, questions, cursor, editor, reloads):
+    for part in (visitor, as_at_a_terminal, lines, stops, undo, questions, texts, libraries, services, cursor, editor, reloads):
         part(trial)
     other_version(trial)
     files(trial, program, room)

@@ -16,7 +16,7 @@ class Promise(NamedTuple):
 DEVICE: Trait = ("block_buffers", "devices.rt", "Device")
 ENDS: List[Trait] = [DEVICE, ("inner_interpreter", "ends.rt", "Input"), ("inner_interpreter", "ends.rt", "Output")]
 FILES: List[Trait] = [*ENDS, ("named_files", "files.rt", "Files")]
-MAKE: List[Function] = [("inner_interpreter", "hosts.rt", "make_moves"), ("machine", "machine.rt", "load")]
+MAKE: List[Function] = [("inner_interpreter", "hosts.rt", "make_moves"), ("machine", "lent_machine.rt", "load")]
 RUN: List[Function] = [("run_subcommand", "run_command.rt", "do_run", "moved"), ("inner_interpreter", "laws.rt", "moves_law")]
 BUILD: List[Function] = [("image_builder", "building.rt", "build", "read"), ("subcommands", "commands.rt", "do_build", "read")]
 REFUSED: List[Function] = [("image_builder", "building.rt", "build", "refused")]
@@ -26,7 +26,7 @@ HEADLINE = "The headline: the four after the table together"
 
 PROMISES: Dict[str, Promise] = {
     "The table: one tick, one answer, many ticks": Promise(
-        [("machine", "machine.rt", "tick"), ("machine", "machine.rt", "ticks"), ("machine", "machine/answers.rt", "answer"), ("machine", "machine.rt", "load")], [],
+        [("machine", "machine.rt", "tick"), ("machine", "machine.rt", "ticks"), ("machine", "machine.rt", "answer"), ("machine", "machine.rt", "load")], [],
         "A tick fetches a token from memory as it is then and does just what its row says; an answer is taken if it fits what was asked, and does just what "
         "the definition of an answer says; many ticks are that many single ones."),
     "Every list of moves": Promise(
@@ -91,9 +91,9 @@ GUIDE: List[Tuple[str, str, str]] = [
      "MACHINE.md, \"Tokens\", \"Faults\", \"Blocks\", \"Keys and lines\""),
     ("the ends: what readers, writers and devices keep, and what their clauses say",
      "inner_interpreter/Ends inner_interpreter/Reads inner_interpreter/Reports block_buffers/DeviceCalls block_buffers/Disks block_buffers/Calls block_buffers/Likeness "
-     "block_buffers/ReadPages block_buffers/devices.rt inner_interpreter/ends.rt", "PROMISES, the first two paragraphs"),
+     "block_buffers/ReadPages block_buffers/devices.rt inner_interpreter/ends.rt", "PROMISES, \"Logs\""),
     ("a run", "run_subcommand/Running subcommands/Lines subcommands/Ends subcommands/Statuses", "PROGRAM.md, \"Running an image\"; MACHINE.md, \"Running an image\""),
-    ("words of a source", "source_words/Words source_words/Modes image_builder/Places image_builder/Spelled image_builder/Names image_builder/Meanings", "SCREENS.md"),
+    ("words of a source", "source_words/Words source_words/Modes image_builder/Places image_builder/Spelled image_builder/Names image_builder/Meanings", "PROGRAM.md, \"The language of `build`\""),
     ("what words define, and the image", "colon_bodies/* image_builder/Grammar image_builder/Items image_builder/Faults image_builder/Stages image_builder/Sources",
      "MACHINE.md, \"The dictionary\", \"Image files\"; dump an image"),
     ("image files", "image_loader/Files subcommands/Images", "MACHINE.md, \"Image files\""),

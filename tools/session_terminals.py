@@ -15,6 +15,7 @@ import sessions
 
 JOINED = re.compile(rb"\r\n\x1b\[A(\x1b\[\d+C)? ")  # a session goes on in the row of the line that was typed
 CONTROLS = re.compile(r"\x1b\[[0-9;?]*[A-Za-z]")
+OK = re.compile(rb" ok(?: \d+)?\r\n")  # what ends a line: the depth of the stack is shown if it is not empty
 PATIENCE = 30.0  # seconds for an answer
 
 
@@ -43,11 +44,20 @@ class Terminal:
 
     def until(self, text: str, limit: float = PATIENCE) -> str:
         """What is shown up to this text."""
-        wanted, until = text.encode(), time.monotonic() + limit
-        while wanted not in self.shown:
+        return self._until(re.compile(re.escape(text.encode())), limit)
+
+    def until_any(self, *texts: str) -> str:
+        """What is shown up to one of these texts."""
+        return self._until(re.compile(b"|".join(re.escape(text.encode()) for text in texts)), PATIENCE)
+
+    def _until(self, wanted: "re.Pattern[bytes]", limit: float) -> str:
+        until = time.monotonic() + limit
+        found = wanted.search(self.shown)
+        while found is None:
             if time.monotonic() > until or not self.goes_on():
-                raise Wrong(f"wanted {text!r}, got {self.shown[-400:]!r}")
-        before, _, self.shown = self.shown.partition(wanted)
+                raise Wrong(f"wanted {wanted.pattern!r}, got {self.shown[-400:]!r}")
+            found = wanted.search(self.shown)
+        before, self.shown = self.shown[: found.start()], self.shown[found.end() :]
         return before.decode(errors="replace")
 
     def goes_on(self) -> bool:
@@ -74,11 +84,11 @@ class Terminal:
             time.sleep(0.01)
         raise Wrong("no line is read")
 
-    def line(self, text: str, wanted: str = " ok\r\n") -> str:
-        """Types a line; what is shown after it, up to what is wanted."""
+    def line(self, text: str, wanted: str = "") -> str:
+        """Types a line; what is shown after it, up to what is wanted, or up to ok and the depth of the stack."""
         self.is_ready()
         self.keys(text + "\r")
-        shown = self.until(wanted).partition(text)[2].replace("\r", "")
+        shown = (self.until(wanted) if wanted else self._until(OK, PATIENCE)).partition(text)[2].replace("\r", "")
         return (shown[1:] if shown.startswith(" ") else shown).strip("\n")
 
     def status(self, limit: float = PATIENCE) -> int:

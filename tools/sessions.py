@@ -3,7 +3,8 @@
 Sessions are between lines of three backquotes. They run one after another in a folder of their own, which `tools/lay-built`
 makes of the program.
 
-- A line after `$` is run by the shell. `$ ./forth [BLOCKS]` starts the Forth with its tools.
+- Lines after three backquotes and the name of a file are that file, which is in the folder from the beginning.
+- A line after `$` is run by the shell. `$ ./forth [BLOCKS]` starts the Forth with its tools. A page that begins without one is a session.
 - A line after `>` is typed there. One after `>>` is typed, too, as the answer to a question; after `>>>` are keys
   without a return.
 - What is shown is below. If nothing is below a line after `>`, the Forth must answer ok, and nothing else; only BYE shows nothing.
@@ -21,6 +22,9 @@ from typing import List
 import typed_sessions
 
 ROOT = pathlib.Path(__file__).resolve().parent.parent
+sys.path.append(str(ROOT / "page"))
+
+import module  # noqa: E402
 
 
 class Step:
@@ -33,8 +37,8 @@ class Step:
 
 def steps_of(text: str) -> List[Step]:
     steps = []
-    for block in re.findall(r"^```\n(.*?)^```$", text, re.M | re.S):
-        for line in block.splitlines():
+    for block in re.findall(r"^```([\w.-]*\n.*?)^```$", text, re.M | re.S):
+        for line in block.splitlines()[1:] if block.startswith("\n") else []:
             sign, _, rest = line.partition(" ")
             if sign in ("$", ">"):
                 steps.append(Step(rest, sign == "$"))
@@ -60,6 +64,7 @@ def parted(steps: List[Step], output: str) -> List[List[str]]:
     for step, following in zip(steps, steps[1:] + [None]):
         at += len(step.typed)
         end = output.find(f"\n{following.typed} ", at) if following else len(output)
+        end = output.find(f"{following.typed} ", at) - 1 if following and end < 0 else end  # after QUIT no line begins
         end = len(output) if end < 0 else end
         shown.append(answer_in(output[at:end]))
         at = end + 1
@@ -72,6 +77,7 @@ class Folder:
     def __init__(self, room: str, program: pathlib.Path) -> None:
         self.room = room
         subprocess.run([ROOT / "tools/lay-built", program, room], check=True)
+        module.copy_to(pathlib.Path(room))
         self.program = f"{room}/crates/forth83/out/forth83"
         self.run(["./forth83", "kernel", "kernel"])
         shutil.copy(self.image(), f"{room}/tools")
@@ -82,7 +88,10 @@ class Folder:
 
     def image(self) -> pathlib.Path:
         """The image that sessions start with."""
-        return pathlib.Path(typed_sessions.image.find(self.program), "served.img")
+        try:
+            return pathlib.Path(typed_sessions.image.find(self.program), "served.img")
+        except typed_sessions.image.NotMade as error:
+            sys.exit(f"the tools cannot be built: {error}")
 
     def typed(self, blocks: str, typed: str) -> str:
         """What a session over a file of blocks shows, with what is typed in it."""
@@ -109,14 +118,46 @@ def differs(page: str, step: Step, got: List[str]) -> int:
     return 1
 
 
+EXAMPLE = re.compile(r"^\| `([^ ]+)` \| `[^`]*` \|.* Example: ((?:`[^`]+`, )*`[^`]+`)(?: shows `([^`]+)`)?\. \|$", re.M)
+# Words that leave the Forth, or take the terminal: check-served and check-screen-editor try them at one.
+AT_TERMINALS = {"BYE", "BYE-WITH", "COLD", "DEBUG", "ED", "EDIT", "RELOAD", "RETYPE", "TELL"}
+
+
+def check_examples(page: str, program: str) -> int:
+    """Returns 1 if an example in a table of words shows something else; `..` before what is shown stands for more that is shown."""
+    rows = [row for row in EXAMPLE.findall((ROOT / page).read_text(encoding="utf-8")) if row[0] not in AT_TERMINALS]
+    steps = [Step("WARNING OFF", False)]
+    for _, typed, _ in rows:
+        first, *rest = re.findall(r"`([^`]+)`", typed)
+        steps.append(Step(first, False))
+        steps[-1].answers = "".join(f"{line}\n" for line in rest)
+    wrong = 0
+    with tempfile.TemporaryDirectory() as room:
+        shown = Folder(room, pathlib.Path(program).resolve()).session("./forth", steps)[1:]
+    for (name, typed, wanted), lines in zip(rows, shown):
+        got = re.sub(r"( ok( \d+)?)+$", "", " " + " ".join(" ".join(lines).split()))
+        part = " ".join(wanted.lstrip(".").split())
+        if name not in re.split("[ `]+", typed):
+            got = f"no {name}"
+        if not (part in got if wanted.startswith("..") else got.endswith(f" {part}".rstrip()) if ", " in typed else got.strip() == part):
+            print(f"{page}: {name}: its example {typed}\n  wanted {wanted}\n  got    {got}", file=sys.stderr)
+            wrong = 1
+    return wrong
+
+
 def check(page: str, program: str, at_least: int) -> int:
     """Returns 1 if a session differs, or if the page has fewer lines to type than that."""
-    steps, wrong = steps_of((ROOT / page).read_text(encoding="utf-8")), 0
-    if len(steps) < at_least or not steps[0].at_shell:
-        print(f"{page}: {len(steps)} lines to type were found, and the first of them is not the shell's", file=sys.stderr)
+    text = (ROOT / page).read_text(encoding="utf-8")
+    steps, wrong = steps_of(text), 0
+    if len(steps) < at_least:
+        print(f"{page}: {len(steps)} lines to type were found", file=sys.stderr)
         return 1
+    if not steps[0].at_shell:
+        steps.insert(0, Step("./forth", True))
     with tempfile.TemporaryDirectory() as room:
         folder = Folder(room, pathlib.Path(program).resolve())
+        for name, content in re.findall(r"^```([\w-]+\.\w+)\n(.*?)^```$", text, re.M | re.S):
+            pathlib.Path(room, name).write_text(content, encoding="utf-8")
         while steps:
             step, inside = steps.pop(0), []
             while steps and not steps[0].at_shell:

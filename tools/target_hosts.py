@@ -1,23 +1,20 @@
-"""Tries the hosts of examples/ on targets: the test bench and the terminal in pipes, the terminal at a pseudo terminal, and the board."""
+"""Tries the hosts of examples/ on targets: the test bench and the terminal in pipes, and the terminal at a pseudo terminal."""
 import os
 import pathlib
 import pty
 import select
-import shutil
 import signal
 import subprocess
 import termios
 import time
 from typing import Callable, List, Optional
 
-from target_runs import ROOT, Place, build
+from target_runs import ROOT, Place
 from terminals import Glass
 
 Must = Callable[[bool, str], None]
 SCREENS = 8
-RP2040, STACK = 264 << 10, 96 << 10
 LINES = b": SQUARE DUP * ;\n12 SQUARE .\n3 BLOCK C@ . 5 BUFFER 1024 66 FILL UPDATE\nKEY A .\n1 0 /\n99 BLOCK\n5 .\n"
-BOARD_SCREENS = b"% screen 1\n( In flash )\n: CUBE ( n -- n*n*n ) DUP DUP * * ;\n"
 LIMIT = 20
 
 
@@ -129,6 +126,24 @@ def check_pty(must: Must, place: Place, program: pathlib.Path, image: pathlib.Pa
     os.close(session.terminal)
     so(session.ends() == 0, "a closed terminal")
     so((place.room / "pty.blk").read_bytes()[3072:4096] == b"C" * 1024, "the block after the terminal was closed")
+    session = check_fault(so, place, terminal, image)
+    so(session.is_ready() and session.types(b"y", b"pty.blk.journal.old now") and session.types(b"4 BLOCK C@ .\r", b"68"), "the journal")
+    os.write(session.terminal, b"\4")
+    so(session.ends() == 0 and (place.room / "pty.blk").read_bytes()[4096:5120] == b"D" * 1024, "the block after the journal was taken")
+
+
+def check_fault(so: Must, place: Place, terminal: pathlib.Path, image: pathlib.Path) -> Session:
+    """A fault that halts leaves the blocks to a journal, and meanwhile no other session has the file; the next session."""
+    command = place.command(terminal, [image, "pty.blk"])
+    session, before = Session(command, place.room), (place.room / "pty.blk").read_bytes()
+    so(session.is_ready() and session.types(b"4 BLOCK 1024 68 FILL UPDATE\r", b"ok"), "a block before a fault")
+    second = subprocess.run(command, cwd=place.room, stdin=subprocess.DEVNULL, stdout=subprocess.PIPE, stderr=subprocess.PIPE, check=False)
+    so(second.returncode == 1 and b"another run has it" in second.stderr, f"a second session: {second.stderr!r}")
+    os.write(session.terminal, b"0 40 ! 1 0 /\r")
+    so(os.WEXITSTATUS(session.ends()) == 3 and (place.room / "pty.blk").read_bytes() == before, "the blocks after a fault")
+    piped = subprocess.run(command, cwd=place.room, stdin=subprocess.DEVNULL, stdout=subprocess.PIPE, stderr=subprocess.PIPE, check=False)
+    so(piped.returncode == 1 and b"pty.blk.journal has blocks" in piped.stderr, f"a pipe beside a journal: {piped.stderr!r}")
+    return Session(command, place.room)
 
 
 def check_saved(so: Must, place: Place, terminal: pathlib.Path) -> None:
@@ -143,70 +158,3 @@ def check_bench(must: Must, place: Place, image: pathlib.Path, wanted: Optional[
     shown = place.run(bench, [image], LINES)
     must(wanted in (None, shown), f"{place.target}: the test bench shows {shown!r}, and natively {wanted!r}")
     return shown
-
-
-class Board:
-    """The Forth of examples/board, in the emulator."""
-
-    def __init__(self, place: Place, program: pathlib.Path, image: pathlib.Path) -> None:
-        self.room, self.library = place.room / "board", place.library
-        shutil.copytree(ROOT / "examples/board", self.room)
-        (self.room / "screens.txt").write_bytes(BOARD_SCREENS)
-        subprocess.run([program, "screens", self.room / "screens.txt", self.room / "screens.blk"], check=True)
-        shutil.copy(image, self.room / "kernel.img")
-        (self.room / "library/lib").mkdir(parents=True)
-        (self.room / "library/include").symlink_to(ROOT / "include")
-        shutil.copy(self.library, self.room / "library/lib/libforth83.a")
-
-    def make(self, ram: int, stack: int) -> None:
-        """Compiles it for so many bytes of RAM."""
-        (self.room / "board.elf").unlink(missing_ok=True)
-        build(["make", "-C", self.room, f"RAM={ram}", f"STACK={stack}"])
-
-    def session(self) -> Session:
-        return Session(["qemu-system-arm", "-M", "mps2-an385", "-display", "none", "-monitor", "none", "-chardev", "stdio,id=line,signal=off",
-                        "-serial", "chardev:line", "-semihosting-config", "enable=on,target=native", "-kernel", "board.elf"], self.room)
-
-
-def board_steps(session: Session, must: Must) -> None:
-    """Lines, a screen in flash, blocks in RAM, those that can't be written, ^C."""
-    must(session.is_ready() and session.types(b"3 4 + .\r", b"7  ok"), "a line")
-    must(session.types(b"1 LOAD 5 CUBEX\x7f .\r", b"125  ok"), "a screen in flash, and a deleted byte")
-    must(session.types(b"2 BLOCK 1024 67 FILL UPDATE FLUSH 2 BLOCK C@ .\r", b"67  ok"), "a block in RAM")
-    must(session.types(b"1 BLOCK DROP UPDATE FLUSH\r", b"fault 10"), "a block in flash that is written")
-    must(session.types(b"EMPTY-BUFFERS 6 BLOCK\r", b"fault 7"), "a block that does not exist")
-    must(session.types(b"PAD 300 65 FILL PAD 300 TYPE 7 .\r", b"A" * 300 + b"7  ok"), "a text that is longer than the board's room")
-    must(session.types(b": K KEY . ; K\r", b"; K ") and session.types(b"A", b"65  ok"), "a key")
-    must(session.types(b": L 42 EMIT BEGIN AGAIN ; L\r", b"; L *") and session.types(b"\x03", b"\n"), "^C in a loop")
-    must(session.types(b"FORGET L 8 .\r", b"8  ok"), "FORGET, after ^C")
-    must(session.types(b"4 65533 C! 65 65534 C! 65 65535 C! 65533 FIND . .\r", b"ok"), "a name that wraps around the end of memory")
-    os.write(session.terminal, b"BYE\r")
-    must(session.ends() == 0, "BYE")
-
-
-def check_board(must: Must, place: Place, program: pathlib.Path, image: pathlib.Path) -> None:
-    """The board does all that it must, with as much RAM as an RP2040 has."""
-    board = Board(place, program, image)
-    board.make(RP2040, STACK)
-    session = board.session()
-    board_steps(session, lambda is_so, what: must(is_so, f"the board: {what}: {session.rows() if not is_so else ''}"))
-
-
-def least_ram(place: Place, program: pathlib.Path, image: pathlib.Path, stack: int) -> int:
-    """The least RAM, in steps of 4 KB, with which the board does all that it must and keeps so many bytes for the stack."""
-    board, low, high = Board(place, program, image), 40, 512
-    while low < high:
-        middle = (low + high) // 2
-        low, high = (low, middle) if does_all(board, 4096 * middle, stack) else (middle + 1, high)
-    return 4096 * low
-
-
-def does_all(board: Board, ram: int, stack: int) -> bool:
-    """Whether the board does all that it must with so many bytes of RAM."""
-    right: List[bool] = []
-    try:
-        board.make(ram, stack)
-        board_steps(board.session(), lambda is_so, what: right.append(is_so))
-    except (SystemExit, OSError):
-        return False
-    return all(right)

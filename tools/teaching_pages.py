@@ -9,7 +9,6 @@ NEXT = 'document.getElementById("next").textContent'
 def check_keys(tree: teaching_runs.Tree, one: browser.Browser) -> None:
     """A film from step to step by keys; what is seen is what the film's data say."""
     tree.film("SQUARES", "5 SQUARES")
-    one.open(tree.room / "film.html")
     for keys, count, text in (
             ([], "1 of 39", "next: 0"),
             (["ArrowRight"], "2 of 39", "next: DO"),
@@ -43,27 +42,14 @@ def check_narrow(tree: teaching_runs.Tree, one: browser.Browser) -> None:
     for width, height in ((320, 568), (901, 700), (1300, 900)):
         one.size(width, height)
         for name in ("film.html", "hostile.html", "bytes.html", "long.html", "life.html"):
-            one.open(tree.room / name)
+            tree.opened(name) if name != "life.html" else one.open(tree.room / name)
             fits = one.value("document.documentElement.scrollWidth <= innerWidth")
             tree.cases.same(f"whether {name} fits in {width} columns of a window", True, fits)
-
-
-def check_telephone(tree: teaching_runs.Tree, one: browser.Browser) -> None:
-    """On a window of 400 by 800 the tops of both stacks, and the output, are seen at each step without scrolling."""
-    one.size(400, 800)
-    one.open(tree.room / "film.html")
-    hidden = ('["#data li", "#returns li", "#output"].filter((name) => document.querySelector(name).getBoundingClientRect().top '
-              '+ 20 > document.querySelector("footer").getBoundingClientRect().top).join()')
-    for step in range(39):
-        tree.cases.same(f"what is below the window at step {step + 1} on a telephone", "", one.value(hidden))
-        one.press("ArrowRight")
-    one.size(1300, 900)
 
 
 def check_fault(tree: teaching_runs.Tree, one: browser.Browser) -> None:
     """The last step names the fault, and its place in the word's own thread is marked."""
     tree.film("CALLS", "CALLS")
-    one.open(tree.room / "film.html")
     failed = 'Array.from(document.querySelectorAll("#thread .failed span"), (span) => span.textContent).join()'
     tree.cases.same("places that are marked before the fault", "", one.value(failed))
     one.press("End")
@@ -72,19 +58,19 @@ def check_fault(tree: teaching_runs.Tree, one: browser.Browser) -> None:
 
 
 def check_hostile(tree: teaching_runs.Tree, one: browser.Browser) -> None:
-    one.open(tree.room / "hostile.html")
+    tree.opened("hostile.html")
     tree.cases.same("the name as a text", "</script><img/src=x>", one.value('document.querySelector("h1").textContent'))
     made = one.value('document.querySelectorAll("img, i > *, h1 > *, #output i").length')
     tree.cases.same("elements of hostile texts", 0, made)
     one.press("a", "End")
     tree.cases.same("hostile output", "<i>", one.value('document.getElementById("output").textContent'))
-    one.open(tree.room / "bytes.html")
+    tree.opened("bytes.html")
     one.press("End")
     tree.cases.same("bytes that are shown", "··é<b>&\n", one.value('document.getElementById("output").textContent'))
 
 
 def check_long(tree: teaching_runs.Tree, one: browser.Browser) -> None:
-    one.open(tree.room / "long.html")
+    tree.opened("long.html")
     one.press("End")
     tree.cases.same("the end of a long film", "step 120004 of 120004", one.value(COUNT))
     one.press("ArrowLeft", "ArrowLeft")
@@ -95,7 +81,7 @@ def check_cut(tree: teaching_runs.Tree, one: browser.Browser) -> None:
     """The last step of a film that has the first of a word's steps doesn't say that the word is done; in one of 20 steps of
     SQUARES the cut is within the call of `.`, the eighth step, which is folded."""
     for name, count in (("cut.html", "500 of 500"), ("folded.html", "8 of 8")):
-        one.open(tree.room / name)
+        tree.opened(name)
         one.press("End")
         tree.cases.same(f"the end of {name}", f"step {count}", one.value(COUNT))
         tree.cases.holds(f"the text at the end of {name}", "The film ends here; the run continued.", one.value(NEXT))
@@ -105,7 +91,7 @@ def check_cut(tree: teaching_runs.Tree, one: browser.Browser) -> None:
 def check_paper(tree: teaching_runs.Tree, one: browser.Browser) -> None:
     """The page of exercises has the data stack and the output blank except at the first step, with room for a name, and the answers
     after it; each row has its address."""
-    one.open(tree.room / "film.html")
+    tree.opened("film.html")
     one.value('document.getElementById("blank").click()')
     rows = 'Array.from(document.querySelectorAll("#sheet table"), (table) => table.rows[{}].cells[3].textContent)'
     tree.cases.same("the data stack on paper at step 1", ["5", "5"], one.value(rows.format(1)))
@@ -165,7 +151,8 @@ def check_hostile_map(tree: teaching_runs.Tree, one: browser.Browser) -> None:
 
 def check(tree: teaching_runs.Tree) -> None:
     with browser.Browser() as one:
-        for act in (check_keys, check_narrow, check_telephone, check_hostile, check_long, check_cut, check_paper,
+        tree.browser = one
+        for act in (check_keys, check_narrow, check_hostile, check_long, check_cut, check_paper,
                     check_map, check_hostile_map, check_fault):
             act(tree, one)
         tree.cases.same("errors in the browser", [], one.errors)

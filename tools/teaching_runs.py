@@ -1,21 +1,28 @@
 """Films, maps, pages of screens and the course, made by the built program in a tree of their own."""
 import base64
 import html.parser
-import json
 import os
 import pathlib
 import re
 import subprocess
+import sys
 import tty
 import xml.etree.ElementTree
 from typing import Any, Dict, List, Optional, Tuple, Union
 
+import browser as browsers
 from tally import Tally
 
 ROOT = pathlib.Path(__file__).resolve().parent.parent
+sys.path.append(str(ROOT / "page"))
+
+import module  # noqa: E402
+
 SVG = "{http://www.w3.org/2000/svg}"
-# What the page of a film has about it, as JSON.
+# What the page of a film has about it.
 Film = Any
+# A line that `debug` wrote: the place, the word's name, and both stacks.
+Line = Tuple[int, str, Tuple[int, ...], Tuple[int, ...]]
 WORDS = r"""% screen 21
 ( Words for films )
 : SQUARE ( n -- n*n ) DUP * ;
@@ -48,21 +55,41 @@ VARIABLE BANK   CREATE ROW 6 ALLOT
   1 BANK +! ;
 : READS ( -- ) ROW 4 EXPECT ;
 : COPIES ( -- ) PAD ROW 2 CMOVE BANK @ DROP ;
+% screen 25
+( More of them, with structures )
+: GCD ( a b -- c ) BEGIN ?DUP WHILE SWAP OVER MOD REPEAT ;
+: DOUBLINGS ( n -- ) 1 SWAP 0 ?DO DUP . 2* LOOP DROP ;
+: PARITY ( n -- ) 2 MOD IF ." odd " ELSE ." even " THEN ;
+: FIB DUP 1 > IF DUP 1- RECURSE SWAP 2- RECURSE + THEN ;
+: BAD ( -- ) 3 0 DO I 1- 10 SWAP / . LOOP ;
+: SHOW ( n -- ) DUP BLOCK 16 TYPE DROP ;
 """
+# Films whose steps are compared with what `debug` writes: a word, and what is typed.
+FILMED = (
+    ("SQUARES", "5 SQUARES"), ("TICKED", "TICKED"), ("ASKS", "ASKS\nxhello there"), ("DOWN", "3 DOWN .( a text)"), ("BYTES", "1 . BYTES 2 . BYTES"),
+    ("LEAVES", "LEAVES"), ("CALLS", "CALLS"), ("UNIT", "10 UNIT MM 3 CM 4 MM"), ("PEEKS", "PEEKS"), ("TALL", "TALL"), ("FILLS", "FILLS"), ("GCD", "54 24 GCD ."),
+    ("DOUBLINGS", "6 DOUBLINGS"), ("PARITY", "7 PARITY 10 PARITY"), ("FIB", "6 FIB ."), ("BAD", "BAD"), ("SHOW", "25 SHOW"), ("DIVIDES", "DIVIDES"),
+    ("DROPS", "DROPS"), ("ROUND", "40000 ROUND"))
+LONG = ("--steps", "200000", "--limit", "1000000")
 
 
 class Tree:
-    """A tree with the built program, with a block file of words for films, and the images of the tools and of these words."""
+    """A tree with the built program, with a block file of words for films, the image of sessions, and that of these words."""
+
+    # Where films are opened.
+    browser: browsers.Browser
 
     def __init__(self, cases: Tally, room: pathlib.Path, program: pathlib.Path) -> None:
         self.cases, self.room, self.forth83 = cases, room, program
         subprocess.run([ROOT / "tools/lay-built", program, room], check=True)
+        module.copy_to(room)
         (room / "words.txt").write_text(WORDS, encoding="ascii")
         for words in (["kernel", "kernel.blk"], ["build", "kernel.blk", "1", "20", "kernel.img"], ["kernel", "forth.blk"],
                       ["screens", "words.txt", "forth.blk"]):
             self.forth(*words)
-        self.run(["build/images", self.forth83, "kernel.blk", "tools.img"])
-        self.forth("load", "tools.img", "forth.blk", "21", "22", "own.img")
+        self.run(["./forth", "-e", ""])
+        self.image = str(next((room / "build/out").glob("served-*/served.img")))
+        self.forth("load", self.image, "forth.blk", "21", "25", "own.img")
 
     def forth(self, *words: str) -> None:
         """A subcommand, which must not be refused."""
@@ -78,15 +105,21 @@ class Tree:
         status, said = self.run(["./forth", *words])
         return status, said.decode("utf-8", "replace")
 
-    def film(self, name: str, line: str, *more: str) -> Tuple[Film, str, str]:
-        """The film's data, its page, and what was said."""
-        out = self.room / "film.html"
-        status, said = self.tool("film", "--screens", "21", "22", "-o", "film.html", *more, "--", name, line)
+    def film(self, name: str, line: str, *more: str) -> Film:
+        """The film film.html, opened in the browser, and its data."""
+        status, said = self.tool("film", "--screens", "21", "25", "-o", "film.html", *more, "--", name, line)
         self.cases.same(f"the status of a film of {name}, which said {said}", 0, status)
-        if status:
-            return None, "", said
-        text = out.read_text(encoding="utf-8")
-        return json.loads(re.search(r'id="film">(.*?)</script>', text, re.S)[1]), text, said
+        return self.opened("film.html")
+
+    def opened(self, name: str, mark: str = "") -> Film:
+        """Opens a film, and waits until it is made: its data."""
+        self.browser.open(self.room / name, mark)
+        self.browser.wait("typeof visible !== 'undefined'", 60)
+        return self.browser.value("film")
+
+    def made(self) -> str:
+        """What the opened film says of how it was made."""
+        return self.browser.value("document.getElementById('made').textContent")
 
 
 def expanded(data: Film) -> List[Tuple[Optional[int], Optional[str], Tuple[int, ...], Tuple[int, ...], int, int]]:
@@ -107,27 +140,36 @@ def steps_of(data: Film, name: str) -> List[Tuple[int, str, Tuple[int, ...], Tup
     return [step for step in expanded(data) if step[0] in own]
 
 
-def trace_of(tree: Tree, name: str, line: str) -> List[Tuple[int, str, Tuple[int, ...], Tuple[int, ...]]]:
-    """The lines of `debug` of a word over the image as it is, as tuples."""
-    tree.run([tree.forth83, "debug", "own.img", name, "trace.txt", "forth.blk"], line.encode() + b"\n")
+def lines_of(path: pathlib.Path) -> List[Line]:
+    """The lines that `debug` wrote, as tuples."""
     found = []
-    for one in (tree.room / "trace.txt").read_text(encoding="utf-8").splitlines():
+    for one in path.read_text(encoding="utf-8").splitlines():
         place, data, returns = one.split(" |")
         address, token = place.split(" ")
         found.append((int(address), token, tuple(map(int, data.split())), tuple(map(int, returns.split()))))
     return found
 
 
+def trace_of(tree: Tree, name: str, line: str) -> List[Line]:
+    """The lines of `debug` of a word over the image as it is."""
+    tree.run([tree.forth83, "debug", "own.img", name, "trace.txt", "forth.blk"], line.encode() + b"\n")
+    return lines_of(tree.room / "trace.txt")
+
+
 def check_traces(tree: Tree) -> None:
-    """The steps of a film are those that `debug` writes for each of its words."""
-    data, _, _ = tree.film("SQUARES", "5 SQUARES")
-    steps = expanded(data)
-    for name in ("SQUARES", "SQUARE", ".", "SPACE"):
-        got = [step[:4] for step in steps_of(data, name)]
-        under = [line for line in trace_of(tree, name, "5 SQUARES") if line[3][:len(steps[0][3])] == steps[0][3]]
-        tree.cases.same(f"steps of {name}", under, got)
-    tree.cases.same("the end of a film", (None, None, (), steps[0][3][:-1]), steps[-1][:4])
-    tree.cases.same("what is shown then", b"0 1 4 9 16 ", base64.b64decode(data["output"])[data["begins"]:steps[-1][4]])
+    """The steps of a film are those that `debug` writes for each of its words, and what is shown before each is what a terminal has seen
+    by then."""
+    for name, line in FILMED:
+        data = tree.film(name, line, *LONG)
+        first, own = expanded(data)[0], [one["name"] for one in data["words"] if one["from"].startswith("screen")]
+        for word in own + ([".", "SPACE"] if name == "SQUARES" else []):
+            under = [step for step in trace_of(tree, word, line) if step[3][:len(first[3])] == first[3]]
+            tree.cases.same(f"steps of {word} in the film of {name}", under, [step[:4] for step in steps_of(data, word)])
+        tree.cases.must(name in own, f"{name} is not in its film")
+        if name not in ("ASKS", "ROUND"):
+            got = [step[4] for step in steps_of(data, name)]
+            seen = places_by_terminal(tree, name, line)
+            tree.cases.same(f"what {name} shows, step by step", [place - seen[0] for place in seen], [place - got[0] for place in got])
 
 
 def interleaved(tree: Tree, name: str, line: str) -> bytes:
@@ -163,52 +205,45 @@ def places_by_terminal(tree: Tree, name: str, line: str) -> List[int]:
     return found
 
 
-def check_output(tree: Tree) -> None:
-    """What is shown at each step is what a terminal has seen by then."""
-    for name, line in (
-            ("SQUARES", "5 SQUARES"), ("TICKED", "TICKED"), ("ASKS", "ASKS\nxhello there"), ("DOWN", "3 DOWN .( a text)"),
-            ("BYTES", "1 . BYTES 2 . BYTES"), ("LEAVES", "LEAVES"), ("CALLS", "CALLS")):
-        data, _, _ = tree.film(name, line)
-        got = [step[4] for step in steps_of(data, name)]
-        tree.cases.same(f"what {name} shows, step by step", places_by_terminal(tree, name, line), got)
-
-
 def check_ends(tree: Tree) -> None:
     """How words end, and what of them is a call."""
     for name, line, frames, ending in (
             ("ONE", "ONE", 1, "ONE is done."),
             ("CALLS", "CALLS", 3, "division by zero, or a quotient too large (fault 5) at WRECKED, within it at /. It ended CALLS"),
             ("DROPS", "DROPS", 1, "the stack was empty (fault 1) at DROP. It ended DROPS: both stacks were emptied"),
-            ("LEAVES", "LEAVES", None, "The program ended here, within LEAVES."), ("DOWN", "2 DOWN", None, "DOWN is done."),
+            ("LEAVES", "LEAVES", None, "The film ends here, within LEAVES: the machine has halted."), ("DOWN", "2 DOWN", None, "DOWN is done."),
             ("TALL", "TALL", None, "TALL is done."),
             ("DIVIDES", "DIVIDES", 1, "\"oh\" (fault 17) at (ABORT\"). It ended DIVIDES"),
-            ("FOREVER", "FOREVER", 1, "The run was cut at its limit, within FOREVER.")):
-        data, _, _ = tree.film(name, line, "--limit", "150000")
+            ("FOREVER", "FOREVER", 1, "The film was cut at its limit, within FOREVER.")):
+        data = tree.film(name, line)
         tree.cases.holds(f"how {name} ends", ending, data["ends"][-1][1])
         if frames:
             tree.cases.same(f"calls of {name}", frames, len(data["frames"]))
-    data, _, _ = tree.film("UNIT", "10 UNIT MM 3 CM 4 MM")
-    tree.cases.same("a defining word, and what the words do that it made", trace_of(tree, "UNIT", "10 UNIT MM 3 CM 4 MM"),
-                    [step[:4] for step in steps_of(data, "UNIT")])
-    tree.cases.same("its calls", 3, len([frame for frame in data["frames"] if frame[0] < 0]))
-    data, _, _ = tree.film("ONE", "ONE ONE")
+    data = tree.film("UNIT", "10 UNIT MM 3 CM 4 MM")
+    tree.cases.same("the calls of a defining word, and of what the words do that it made", 3, len([frame for frame in data["frames"] if frame[0] < 0]))
+    data = tree.film("ONE", "ONE ONE")
     tree.cases.same("two calls of a word of one step", [-1, -1], [frame[0] for frame in data["frames"]])
     tree.cases.same("their steps", 4, len(data["steps"]))
     status, said = tree.tool("film", "SPACES", "2 SPACES", "-o", "film.html")
     tree.cases.same("a film of a word of the kernel, no screen of which is loaded", (0, False), (status, "screens" in said))
-    data, _, _ = tree.film("squares", "2 squares")
-    tree.cases.same("a name in lower case", "SQUARES", data["name"])
+    tree.cases.same("a name in lower case", "SQUARES", tree.film("squares", "2 squares")["name"])
+    data = tree.film("ASKS", "ASKS\nxhello there")
+    tree.cases.same("what is shown, as at a terminal, of a word that asks for a key and for a line", b"xhellohello", base64.b64decode(data["output"])[data["begins"]:])
+    data = tree.film("SQUARES", "5 SQUARES")
+    last, first = expanded(data)[-1], expanded(data)[0]
+    tree.cases.same("the end of a film", (None, None, (), first[3][:-1]), last[:4])
+    tree.cases.same("what is shown then", b"0 1 4 9 16 ", base64.b64decode(data["output"])[data["begins"]:last[4]])
 
 
 def check_made(tree: Tree) -> None:
     """A word that DOES> made: only its own calls are filmed, not those of others of the same maker. CM multiplies by 10, MM by 3."""
-    data, _, _ = tree.film("CM", "3 UNIT MM 7 CM 5 MM 2 CM")
+    data = tree.film("CM", "3 UNIT MM 7 CM 5 MM 2 CM")
     tree.cases.same("the film's name", "CM", data["name"])
     tree.cases.same("the calls of CM", ["CM", "CM"], [frame[5] for frame in data["frames"]])
     wanted = [(7,), (7, 10), (70,), (70,), (70, 15, 2), (70, 15, 2, 10), (70, 15, 20), (70, 15, 20)]
     got = [step[2][:-1] if step[1] == "@" else step[2] for step in expanded(data)]
     tree.cases.same("its stacks, without the address that @ takes", wanted, got)
-    data, _, _ = tree.film("TALL", "TALL")
+    data = tree.film("TALL", "TALL")
     tree.cases.same("CM in another film", "CM", data["frames"][1][5])
 
 
@@ -223,82 +258,67 @@ def held(data: Film, name: str, number: int) -> List[int]:
 
 
 def check_memory(tree: Tree) -> None:
-    """What a variable and an array hold at each step; one into which unknown bytes are copied isn't shown."""
-    data, _, _ = tree.film("FILLS", "5 BANK ! 0 ROW ! 0 ROW 2+ ! 0 ROW 4 + ! FILLS")
+    """What a variable and an array hold at each step."""
+    data = tree.film("FILLS", "5 BANK ! 0 ROW ! 0 ROW 2+ ! 0 ROW 4 + ! FILLS")
     names = [step[1] for step in expanded(data)]
     states = [held(data, "ROW", names.index(name) + more) for name, more in (("FILL", 0), ("FILL", 1), ("!", 1), ("CMOVE", 0), ("CMOVE", 1))]
     tree.cases.same("the bytes of ROW", [[0, 0, 0, 0, 0, 0], [7, 7, 7, 7, 0, 0], [44, 1, 7, 7, 0, 0], [44, 1, 7, 7, 0, 0], [44, 1, 44, 1, 0, 0]], states)
     tree.cases.same("BANK before and after +!", [[5, 0], [6, 0]], [held(data, "BANK", names.index("+!") + more) for more in (0, 1)])
-    data, _, _ = tree.film("READS", "READS\nabcd")
+    data = tree.film("READS", "READS\nabcd")
     tree.cases.same("the bytes of a line that is read", list(b"abcd"), held(data, "ROW", len(data["steps"]) - 1)[:4])
-    data, page, _ = tree.film("COPIES", "7 BANK ! COPIES")
-    tree.cases.same("what is shown of a film that copies from PAD", [("BANK", [7, 0])], [(one["name"], one["bytes"]) for one in data["memory"]])
-    tree.cases.holds("what isn't shown", "What ROW has isn&#x27;t shown", page)
-    bases = [tree.film("ONE", line)[0]["base"] for line in ("ONE", "HEX ONE DECIMAL")]
+    data = tree.film("COPIES", "65 PAD C! 66 PAD 1+ C! 7 BANK ! COPIES")
+    tree.cases.same("bytes that are copied from PAD", [b"AB", b"\7\0"], [bytes(held(data, name, len(data["steps"]) - 1)[:2]) for name in ("ROW", "BANK")])
+    bases = [tree.film("ONE", line)["base"] for line in ("ONE", "HEX ONE DECIMAL")]
     tree.cases.same("BASE at the first step", [10, 16], bases)
 
 
-def check_doubts(tree: Tree) -> None:
-    """A program that sees the changed cell of the copy gets a film of only its own lines, and its output is not shown with the steps."""
-    data, page, _ = tree.film("PEEKS", "PEEKS")
-    tree.cases.same("steps of a word that sees it", trace_of(tree, "PEEKS", "PEEKS"), [step[:4] for step in expanded(data)])
-    tree.cases.same("its output", False, data["is_laid"])
-    tree.cases.holds("its page", "for the steps of all words, wrote other lines", page)
-    _, page, _ = tree.film("SQUARES", "5 SQUARES")
-    tree.cases.holds("a page of four words", "debug was asked for 4 of the 4 words, SQUARES first", page)
-
-
-def check_given(tree: Tree) -> None:
-    """Films of given traces: of one line, and of 120,003."""
-    for name, line, count, more in (("ONE", "ONE", 1, ()), ("ROUND", "40000 ROUND", 120_003, ("--steps", "200000"))):
-        trace = trace_of(tree, name, line)
-        status, said = tree.tool("film", name, "--image", "own.img", "--trace", "trace.txt", "-o", "given.html", *more)
-        tree.cases.same(f"a film of a trace, which said {said}", 0, status)
-        data = json.loads(re.search(r'id="film">(.*?)</script>', (tree.room / "given.html").read_text(encoding="utf-8"), re.S)[1])
-        tree.cases.same(f"the lines of a trace of {name}", count, len(trace))
-        tree.cases.same(f"the steps of a trace of {name}", True, trace == [step[:4] for step in expanded(data)])
-
-
 def check_cuts(tree: Tree) -> None:
-    """Long traces are cut, which is reported; 100,000 lines are used."""
-    data, page, said = tree.film("ROUND", "40000 ROUND", "--steps", "500")
+    """Long films are cut, which is said; one of 120,004 steps is whole."""
+    data = tree.film("ROUND", "40000 ROUND", "--steps", "500")
     tree.cases.same("steps that are kept", 500, len(data["steps"]))
+    tree.cases.holds("a film that is cut", "The film was cut after 500 steps; ./forth film with --steps N takes more.", tree.made())
     (tree.room / "film.html").rename(tree.room / "cut.html")
     tree.film("SQUARES", "5 SQUARES", "--steps", "20")
     (tree.room / "film.html").rename(tree.room / "folded.html")
-    for text in (page, said):
-        tree.cases.holds("a cut film", "it has the first 500 of 120,003 steps", text)
-    data, _, said = tree.film("ROUND", "40000 ROUND", "--steps", "200000")
+    tree.film("FOREVER", "FOREVER", "--limit", "5000")
+    tree.cases.holds("a word without an end", "The film was cut after 5,000 ticks; ./forth film with --limit TICKS takes more.", tree.made())
+    for name in ("MUCH", "SPEWS"):
+        data = tree.film(name, name)
+        tree.cases.holds("much that is shown", "The film was cut after 1 MB of output.", tree.made())
+    tree.cases.same("the status of a film of another line", 0, tree.tool("film", "SQUARES", "5 .", "-o", "none.html")[0])
+    tree.browser.open(tree.room / "none.html")
+    tree.browser.wait("document.getElementById('source').textContent.startsWith('This line did not run SQUARES')")
+    tree.cases.holds("a line that doesn't run the word", "It showed:\n\n5 . 5", tree.browser.value("document.getElementById('source').textContent"))
+    data = tree.film("ROUND", "40000 ROUND", *LONG)
     tree.cases.same("steps of a long film", 120004, len(data["steps"]))
     (tree.room / "film.html").rename(tree.room / "long.html")
-    _, page, said = tree.film("FOREVER", "FOREVER", "--limit", "150000")
-    for text in (page, said):
-        tree.cases.holds("a word without an end", "The run was cut at 150,000 ticks", text)
-    data, page, _ = tree.film("MUCH", "MUCH")
-    tree.cases.same("13 MB that are shown", (False, True), (data["is_laid"], len(page) < 300_000))
 
 
-def check_hostile(tree: Tree) -> None:
-    """Names and output that look like HTML: none of it becomes an element of the page."""
-    data, page, _ = tree.film("</script><img/src=x>", "</script><img/src=x>")
-    (tree.room / "film.html").rename(tree.room / "hostile.html")
-    tree.cases.same("the hostile name", "</script><img/src=x>", data["name"])
-    tree.cases.same("elements of a hostile page", (0, 2), (page.count("<img"), page.count("</script>")))
-    tree.film("BYTES", "BYTES")
-    (tree.room / "film.html").rename(tree.room / "bytes.html")
+def put_odd_screens(tree: Tree) -> None:
+    """Makes odd.blk: screens 23 and 24 have names with bytes that are no letters of ASCII."""
     screens = bytearray((tree.room / "forth.blk").read_bytes())
     line = b": \xff\x07\x80 ( -- ) 65 EMIT ; : RINGS ( -- ) \xff\x07\x80 ;"
     screens[23 * 1024:23 * 1024 + len(line)] = line
     accented = ": CAF\u00c9 ( -- n ) 7 ;".encode()
     screens[24 * 1024:24 * 1024 + len(accented)] = accented
     (tree.room / "odd.blk").write_bytes(screens)
+
+
+def check_hostile(tree: Tree) -> None:
+    """Names and output that look like HTML: none of it becomes an element of the page."""
+    name = "</script><img/src=x>"
+    tree.cases.same("the hostile name", name, tree.film(name, name)["name"])
+    (tree.room / "film.html").rename(tree.room / "hostile.html")
+    page = (tree.room / "hostile.html").read_text(encoding="utf-8")
+    tree.cases.same("elements of a hostile page", (0, page.count("<script")), (page.count("<img"), page.count("</script>")))
+    tree.film("BYTES", "BYTES")
+    (tree.room / "film.html").rename(tree.room / "bytes.html")
+    put_odd_screens(tree)
     status, said = tree.tool("film", "CAF\u00c9", "--blocks", "odd.blk", "-o", "accented.html")
     tree.cases.same(f"a film of a name with an accent: {said}", (0, True), (status, "screens 24 to 24" in said))
     status, said = tree.tool("film", "RINGS", "--blocks", "odd.blk", "--screens", "23", "23", "-o", "odd.html")
     tree.cases.same(f"a film with bytes that are no text: {said}", 0, status)
-    page = (tree.room / "odd.html").read_text(encoding="utf-8")
-    tree.cases.holds("a name that is no text", "\\\\xff\\\\x07\\\\x80", page)
-    tree.cases.holds("a word that isn't compared", "Not compared so", page)
+    tree.cases.holds("names that are no text", "\xff\x07\x80", "".join(one["name"] for one in tree.opened("odd.html")["words"]) + "".join(one[2] for one in tree.opened("odd.html")["places"]))
 
 
 # The status, a part of the message, and the words, with a bar between them if a word has spaces.
@@ -306,33 +326,28 @@ REFUSALS = (
     (1, "there is no word GONE in the screens of forth.blk, as they were saved; what was only typed is in none", "film GONE"),
     (1, "there is no word GONE in own.img", "film GONE --image own.img"),
     (1, "DUP has no thread", "film DUP"),
-    (1, "this line did not run SQUARES: 5 .", "film SQUARES|5 ."),
     (1, "gone.blk does not exist", "film SQUARES --blocks gone.blk"),
     (1, "not a whole number of blocks", "film SQUARES --blocks odd.bytes"),
     (1, "Fault 13: the word over the mark isn't known", "film TALL --screens 22 22"),
-    (1, "cut.img is not an image: it ends too soon (Truncated)", "film SQUARES --image cut.img"),
+    (1, "cut.img cannot be filmed: it ends too soon (Truncated)", "film SQUARES --image cut.img"),
     (1, "cannot read gone.img", "film SQUARES --image gone.img"),
-    (1, "cut.txt: line 2 is not a complete line of a trace", "film SQUARES --image own.img --trace cut.txt"),
-    (1, "cannot read gone.txt", "film SQUARES --image own.img --trace gone.txt"),
     (1, "notes.html already exists and is not a film", "film SQUARES|5 SQUARES|-o|notes.html"),
     (1, "folder is a folder", "film SQUARES -o folder"),
     (1, "there is no folder none", "film SQUARES -o none/x.html"),
-    (1, "as one that shows more than 128 MB", "film SPEWS --screens 21 22"),
     (1, "there is no word \\udcff", "film \udcff"),
     (1, "cannot write /proc/film.html", "film SQUARES|5 SQUARES|-o|/proc/film.html"),
     (1, "circle.img cannot be filmed: a chain of its words never ends (ChainTooLong)", "film SQUARES --image circle.img"),
-    (2, "usage", "film"),
+    (2, "are required: NAME", "film"),
     (1, "UNIT is defined in screen 21: try --screens 21 22", "film TALL"),
     (2, "put a LINE with spaces in quotes", "film SQUARES 5 SQUARES"),
     (2, "FROM must be 0 or more, and not above TO", "film SQUARES --screens 22 21"),
-    (2, "usage", "film SQUARES --trace x"),
     (2, "must be 1 or more", "film SQUARES --steps 0"),
     (1, "cut.img cannot be drawn: it ends too soon (Truncated)", "map cut.img"),
     (1, "forth.blk cannot be drawn: it does not begin like an image", "map forth.blk"),
     (1, "cannot read gone.img", "map gone.img"),
     (1, "notes.html already exists and is not a map", "map own.img -o notes.html"),
     (1, "cannot write /proc/map.svg", "map own.img -o /proc/map.svg"),
-    (2, "usage", "map"),
+    (2, "are required: IMAGE", "map"),
     (1, "gone.blk does not exist", "print gone.blk"),
     (1, "has screens 0 to 63", "print forth.blk 3 99"),
     (1, "notes.html already exists and is not a page of screens", "print forth.blk -o notes.html"),
@@ -359,7 +374,6 @@ def check_refusals(tree: Tree) -> None:
     (room / "notes.html").write_text("<p>mine</p>", encoding="utf-8")
     (room / "cut.img").write_bytes((room / "own.img").read_bytes()[:-1])
     (room / "circle.img").write_bytes(in_circle((room / "own.img").read_bytes()))
-    (room / "cut.txt").write_text("3068 DUP | 5 | 2954 2768\n3070 * | 5 5 | 2954", encoding="ascii")
     (room / "odd.bytes").write_bytes(b"x" * 1000)
     (room / "folder").mkdir()
     before = listing(room)
@@ -374,10 +388,9 @@ def check_refusals(tree: Tree) -> None:
 
 
 def kernel_words() -> List[str]:
-    """The names of the kernel's words, as docs/WORDS.md has them."""
-    page = (ROOT / "docs/WORDS.md").read_text(encoding="utf-8")
-    part = page[page.index("\n## The kernel\n"):page.index("\n## The tools\n")]
-    return sorted(re.findall(r"^\| `(\S+)` \| `", part, re.M))
+    """The names of the kernel's words, as screens/kernel.txt makes them."""
+    text = (ROOT / "screens/kernel.txt").read_text(encoding="ascii")
+    return sorted(one or other for one, other in re.findall(r"\d (?:PRIM|CONSTANT) (\S+)|^: (\S+)", text, re.M))
 
 
 def check_maps(tree: Tree) -> None:
@@ -393,7 +406,8 @@ def check_maps(tree: Tree) -> None:
     came = [line.split()[4] for line in text.splitlines() if line.startswith("+")]
     tree.cases.same("the words that came", ["FIRST", "SECOND"], came)
     tree.cases.holds("what changed", "HERE went from 3055 to 3092", text)
-    tree.forth("load", "tools.img", "odd.blk", "23", "23", "odd.img")
+    put_odd_screens(tree)
+    tree.forth("load", tree.image, "odd.blk", "23", "23", "odd.img")
     for words in (["kernel.img"], ["kernel.img", "two.img"], ["own.img"], ["odd.img"], [str(ROOT / "examples/hi.img")]):
         status, said = tree.tool("map", *words, "-o", "map.svg")
         tree.cases.same(f"a map of {words}, which said {said}", 0, status)
@@ -532,7 +546,7 @@ WRONG = (
 
 def checked(tree: Tree, blocks: str, number: int) -> str:
     """What CHECK says of a lesson."""
-    _, said = tree.run([tree.forth83, "run", "tools.img", blocks], f"1 LOAD\n{number} CHECK\n1 2 + .\n".encode())
+    _, said = tree.run(["./forth", blocks], f"1 LOAD\n{number} CHECK\n1 2 + .\n".encode())
     return re.sub(r"\x1b\[[0-9;?]*[A-Za-z]", "", said.decode("ascii", "replace"))
 
 
@@ -553,7 +567,7 @@ def check_chosen(tree: Tree) -> None:
     for words in (["new", "c.blk", "64"], ["screens", str(ROOT / "screens/course/course.txt"), "c.blk"]):
         tree.forth(*words)
     tree.cases.same("screen 20", b" " * 1024, (tree.room / "c.blk").read_bytes()[20 * 1024:21 * 1024])
-    _, said = tree.run([tree.forth83, "run", "tools.img", "c.blk"], b"1 LOAD\nSCR @ .\n3 CHECK\nSCR @ .\n1 LOAD\nSCR @ .\n")
+    _, said = tree.run(["./forth", "c.blk"], b"1 LOAD\nSCR @ .\n3 CHECK\nSCR @ .\n1 LOAD\nSCR @ .\n")
     shown = re.sub(r"\x1b\[[0-9;?]*[A-Za-z]", "", said.decode("ascii", "replace"))
     tree.cases.same("the screens that are chosen", ["20", "23", "23"], re.findall(r"SCR @ \. (\d+)", shown))
 
@@ -580,11 +594,15 @@ def check_all_lessons(tree: Tree) -> None:
     for wanted in ("division by zero", "1 MINUTES never ends", "3 CUBE takes more", "is the ; of PRICE missing?", "a structure is unfinished",
                    "NOBODY is unknown", *(f"screen {number} is for it" for number in range(27, 35))):
         tree.cases.holds("0 CHECK after faults", wanted, said)
-    _, said = tree.run([tree.forth83, "run", "tools.img", "c.blk"], b"1 LOAD\n0 CHECK\n1 CHECK\nNOBODY\n")
+    _, said = tree.run(["./forth", "c.blk"], b"1 LOAD\n0 CHECK\n1 CHECK\nNOBODY\n")
     tree.cases.holds("a fault after CHECK", "NOBODY is unknown (fault 13)", said.decode("ascii", "replace"))
 
 
+def check_films(tree: Tree) -> None:
+    for act in (check_traces, check_ends, check_made, check_memory, check_cuts, check_hostile):
+        act(tree)
+
+
 def check(tree: Tree) -> None:
-    for act in (check_traces, check_output, check_ends, check_made, check_memory, check_doubts, check_given, check_cuts, check_hostile, check_refusals,
-                check_maps, check_pages, check_chosen, check_course):
+    for act in (check_refusals, check_maps, check_pages, check_chosen, check_course):
         act(tree)

@@ -1,5 +1,4 @@
 """What is to be seen of films: at each step the word that comes next, in its source, the top of the data stack and the output."""
-import json
 from typing import Dict, List, NamedTuple
 
 import browser as browsers
@@ -128,7 +127,7 @@ def check_windows(tree: teaching_runs.Tree, one: browsers.Browser) -> Dict[str, 
     for window in WINDOWS:
         one.size(window.width, window.height, window.scale)
         for name, _ in FILMS:
-            one.open(tree.room / f"view-{name}.html")
+            tree.opened(f"view-{name}.html")
             for unfolds in ("", "foldAll();") if window.unfolds else ("",):
                 steps, lacks = one.value(f"{unfolds}{HIDDEN}(window)")
                 counts = found.setdefault(window.name, [0, 0])
@@ -145,7 +144,7 @@ def check_contrast(tree: teaching_runs.Tree, one: browsers.Browser) -> None:
         one.prefers(color_scheme=scheme, reduced_motion="reduce")
         for name, act in (("SPEND", "go(8)"), ("LENGTH", "part('system').click(); go(6)"), ("ROOT", "go(visible.length - 1)"),
                           ("TABLE", "changeView(); go(20)"), ("FACT", "part('help').open = true; rebase()")):
-            one.open(tree.room / f"view-{name}.html")
+            tree.opened(f"view-{name}.html")
             one.value(act)
             tree.cases.same(f"contrast of {name}, {scheme}", [], one.value(browsers.CONTRAST))
             nameless = one.nameless(("button", "slider", "combobox", "checkbox", "list", "region", "group"))
@@ -160,7 +159,7 @@ TOPS = "[...document.querySelectorAll('#data li[data-cell]')].map((one) => one.f
 
 def check_remote(tree: teaching_runs.Tree, one: browsers.Browser) -> None:
     """A presenter's remote, the space bar, and what a screen reader hears."""
-    one.open(tree.room / "view-GCD.html")
+    tree.opened("view-GCD.html")
     one.press("PageDown", "PageDown", "PageUp")
     tree.cases.same("the step after Page Down twice and Page Up", "step 2 of 16", one.value(COUNT))
     tree.cases.same("what is said", "Step 2 of 16. Next: WHILE. Data stack, top first: 24, 24, 54. Output: nothing yet.", one.value(SAID))
@@ -183,7 +182,7 @@ def check_remote(tree: teaching_runs.Tree, one: browsers.Browser) -> None:
 def check_scrolled(tree: teaching_runs.Tree, one: browsers.Browser) -> None:
     """Keys scroll a box that has the focus and doesn't fit, and leave the step."""
     one.size(1366, 650)
-    one.open(tree.room / "view-NUMERAL.html")
+    tree.opened("view-NUMERAL.html")
     one.value("part('thread').focus(); part('thread').scrollTop = 0")
     one.press("PageDown")
     one.wait("part('thread').scrollTop > 0")
@@ -196,7 +195,7 @@ def check_scrolled(tree: teaching_runs.Tree, one: browsers.Browser) -> None:
 def check_motion(tree: teaching_runs.Tree, one: browsers.Browser) -> None:
     """SWAP's cells move, each from the other's place; who prefers reduced motion sees none of it."""
     moving = "[...document.querySelectorAll('#data li')].map((one) => one.getAnimations().map((it) => it.effect.getKeyframes()[0].transform).join())"
-    one.open(tree.room / "view-GCD.html")
+    tree.opened("view-GCD.html")
     one.value("go(visible.findIndex((number) => spelled(steps[number][0]) === 'SWAP'))")
     before = one.value(TOPS)
     one.press("ArrowRight")
@@ -211,7 +210,7 @@ def check_motion(tree: teaching_runs.Tree, one: browsers.Browser) -> None:
 
 def check_time(tree: teaching_runs.Tree, one: browsers.Browser) -> None:
     """A click on a column of the stack over time goes to its step; the column has that step's stack and the next word."""
-    one.open(tree.room / "view-FACT.html")
+    tree.opened("view-FACT.html")
     one.press("t")
     one.value("document.querySelectorAll('#columns button')[20].click()")
     tree.cases.same("the step after a click on the 21st column", "step 21 of 48", one.value(COUNT))
@@ -225,7 +224,7 @@ def check_time(tree: teaching_runs.Tree, one: browsers.Browser) -> None:
     for window in WINDOWS:
         one.size(window.width, window.height, window.scale)
         for name, step in (("FACT", 22), ("MUCH", 60)):
-            one.open(tree.room / f"view-{name}.html", f"#{step}")
+            tree.opened(f"view-{name}.html", f"#{step}")
             one.press("t")
             tree.cases.same(f"what is cut off of step {step} of {name} over time on {window.name}", [], one.value(CUT_OFF))
     one.size(1366, 650)
@@ -256,7 +255,7 @@ def check_paper(tree: teaching_runs.Tree, one: browsers.Browser) -> None:
     one.call("Emulation.setEmulatedMedia", media="print")
     one.size(695, 1000)
     for name, _ in FILMS:
-        one.open(tree.room / f"view-{name}.html")
+        tree.opened(f"view-{name}.html")
         rows, count, wrong = one.value(ON_PAPER)
         tree.cases.same(f"the steps of {name} on paper, and those that lack something", (min(count, ON_PAPER_AT_MOST), []), (rows, wrong))
     one.call("Emulation.setEmulatedMedia", media="")
@@ -264,8 +263,9 @@ def check_paper(tree: teaching_runs.Tree, one: browsers.Browser) -> None:
 
 def check(tree: teaching_runs.Tree) -> None:
     """All of it, in a browser."""
-    prepare(tree)
     with browsers.Browser() as one:
+        tree.browser = one
+        prepare(tree)
         measured = check_windows(tree, one)
         for act in (check_contrast, check_remote, check_scrolled, check_motion, check_time, check_paper):
             act(tree, one)

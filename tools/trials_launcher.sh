@@ -15,7 +15,7 @@ forth() {
   starts 'a line that the end of input keeps' $'23 SCR ! 0 PUT 2 3 * .  ok\n[0]' '' '23 SCR ! 0 PUT 2 3 * .\n'
   starts 'lines that were kept' $'22 LOAD 23 LOAD 25 6  ok\n[0]' '' '22 LOAD 23 LOAD\n'
   differs "./forth: its files" forth.blk "$(ls)"
-  differs "./forth: its images" $'plain.img\nserved.img' "$(ls ../tree/build/out/served-*)"
+  differs "./forth: its images" $'plain.img\nserved.img\nsmall.img' "$(ls ../tree/build/out/served-*)"
   touch -d '1 hour ago' ../tree/build/out/served-*/*.img
   shown=$(stat -c %y ../tree/build/out/served-*/*.img)
   touch ../tree/screens/tools/show.txt
@@ -37,10 +37,10 @@ forth() {
   first_starts
   at_once
   taken_place
-  loaded_tools
   texts
   block_files
   text_files
+  unwritable_output
   own_kernels
   cd ..
 }
@@ -95,16 +95,6 @@ starts() {
   esac
 }
 
-# The tools' screens are such as LOAD takes, too.
-loaded_tools() {
-  local last
-  "$program" kernel ../plain.blk
-  ../tree/build/images "$program" ../plain.blk ../tools.img ../tools.blk > ../said
-  last=$(($(stat -c %s ../tools.blk) / 1024 - 2))
-  starts 'tools that are loaded' "21 $last THRU  ok"$'\n1 2 .S 1 2  ok\n: X 0 ?DO I . LOOP ; 3 X 0 X 0 1 2  ok\n[0]' '' \
-    "21 $last THRU\n1 2 .S\n: X 0 ?DO I . LOOP ; 3 X 0 X\n" --kernel ../tools.blk
-}
-
 # Texts become a block file; one that exists is left alone, and a line that doesn't fit is reported. Where the program isn't
 # built, the one without proofs does it.
 texts() {
@@ -116,7 +106,7 @@ texts() {
   starts 'texts that are loaded' $'1 LOAD 22 LOAD 5 6  ok\n[0]' '' '1 LOAD 22 LOAD\n' ../x.blk
   printf x >> ../x.txt
   "$blocks" ../x.txt ../x.blk 2> ../said || status=$?
-  differs "./forth blocks over a file" "[1] forth: ../x.blk already exists, and is left alone" "[$status] $(cat ../said)"
+  differs "./forth blocks over a file" "[1] forth: ../x.blk already exists, and is left alone; name another file" "[$status] $(cat ../said)"
   starts 'a text that was loaded' $'1 LOAD 5  ok\n[0]' '' '1 LOAD\n' ../x.blk
   printf '%065d\n' 0 > ../x.txt
   status=0
@@ -196,7 +186,7 @@ block_files() {
   starts '--status and an option' '[2]' '--status takes no other option and no file' '' --unproved --status
   starts 'a device that there isn'"'"'t' '[1]' 'there is no ./none' '' small.blk --speed 9600 --on ./none
   starts '--on without a device' '[2]' '--on wants a device' '' --on
-  starts 'a command'"'"'s help, before it' $'       ./forth where IMAGE [BLOCKS]          runs an image, and shows at which word of which screen its fault happens\n[0]' '' '' --help where
+  starts 'a command'"'"'s help, before it' $'       ./forth where IMAGE [BLOCKS]          runs an image, and shows which words led to its fault\n[0]' '' '' --help where
   starts 'hints that there are not' '[1]' 'there are no hints for lesson 99' '' course --hints 99
   starts 'the course and two files' '[2]' 'course takes no more than' '' course a b
   starts 'nothing to look at' '[2]' 'where needs an IMAGE' '' where
@@ -231,10 +221,24 @@ text_files() {
   starts 'a fault in a text' $'25 \n[3]' $'FOO is unknown (fault 13)\nfoo.fs:2:3\n1 FOO\n  ^\nforth: a fault stopped the script' '' --quiet sq.fs foo.fs
   starts 'a text that there is not' '[1]' 'cannot read none.fs: No such file or directory' '' none.fs
   starts 'no words' '[2]' 'needs some words' '' -e
-  starts 'a text and an image' '[2]' 'a text cannot be used' '' --image own.img 1 1 sq.fs
+  starts 'a text and an image' '[0]' 'own.img starts with the Forth' '' --image own.img sq.fs
+  rm own.img
   printf '1 .\n%.0s' {1..512} > exact
   starts 'a text of whole blocks' '[1]' 'has line ends, as a text' '' exact
   rm sq.fs foo.fs exact
+}
+
+# Output that cannot be written ends the session with status 5 and one sentence; a reader that leaves needs none.
+unwritable_output() {
+  local status=0
+  ../tree/forth -e '1 .' -e '2 .' > /dev/full 2> ../said || status=$?
+  differs './forth: a full disk' $'forth: cannot write the output: No space left on device\n[5]' "$(cat ../said)"$'\n'"[$status]"
+  status=0
+  ../tree/forth -e '1 .' >&- 2> ../said || status=$?
+  differs './forth: a closed output' $'forth: cannot write the output: Bad file descriptor\n[5]' "$(cat ../said)"$'\n'"[$status]"
+  status=0
+  ../tree/forth -e ': MANY 30000 0 DO I . LOOP ; MANY' 2> ../said | head -c 5 > /dev/null || status=$?
+  differs './forth: a reader that leaves' '[5]' "$(cat ../said)[$status]"
 }
 
 # A kernel of one's own, built or refused.

@@ -112,7 +112,7 @@ def texts(folder: Folder, expect: Expect) -> None:
     (room / "wild.txt").write_text("x" * 65)
     (room / "wild.blk").unlink(missing_ok=True)
     said = folder.run(["./forth83", "import", "wild.txt", "wild.blk", "--format", "text"])
-    expect(f"a long line: {said}", True, said.startswith("container: wild.txt: screen 0 line 0 has 65 characters, but only 64 fit; as a text"))
+    expect(f"a long line: {said}", True, said.startswith("forth: wild.txt: screen 0 line 0 has 65 characters, but only 64 fit; as a text"))
 
 
 def volumes(folder: Folder, expect: Expect) -> None:
@@ -125,7 +125,7 @@ def volumes(folder: Folder, expect: Expect) -> None:
     (room / "b.dsk").write_bytes(b)
     folder.run(["./forth83", "import", "a.dsk", "wild.blk"])
     said = folder.run(["./forth83", "import", "b.dsk", "wild.blk", "--append"])
-    expect("two volumes in one", (a + b, "forth83: wild.blk has them as screens 2 to 4\n"), ((room / "wild.blk").read_bytes(), said))
+    expect("two volumes in one", (a + b, "forth: wild.blk has them as screens 2 to 4\n"), ((room / "wild.blk").read_bytes(), said))
     folder.run(["./forth83", "export", "wild.blk", "b.dsk", "--first", "2"])
     expect("the second one back", b, (room / "b.dsk").read_bytes())
     folder.run(["./forth83", "import", "a.dsk", "wild2.blk"])
@@ -314,6 +314,14 @@ def orders(folder: Folder, expect: Expect) -> None:
     for what, data, is_told in (("a disk", bytes(2560) + disk, True), ("screens", screens, False)):
         said, _ = imported(folder, data)
         expect(f"whether {what} has another order: {said}", is_told, "reads better in another order of its sectors" in said)
+    two = tracks_of(screens[:20480], 2560)
+    disk = b"".join(piece for pair in zip(two[:4], two[4:8]) for piece in pair)
+    (room / "sides.dsk").write_bytes(disk)
+    said = folder.run(["./forth83", "import", "--guess", "sides.dsk"])
+    expect("the sides of a disk", "--format blocks --sides 2560", said.split("    (")[0])
+    round_trip(folder, expect, "two sides", disk, ["--sides", "2560"], screens[:20480])
+    said, made = imported(folder, disk, "--sides", "2561")
+    expect(f"no sides: {said}", (True, None), ("are not two sides of tracks of 2561 bytes" in said, made))
     wide = b"".join(KILN[at:at + 64].ljust(80) for at in range(0, 1024, 64)).ljust(1920) * 3
     expect("screens of 24 lines of 80", KILN, imported(folder, wide, "--width", "80", "--lines", "24")[1])
     cards = b"".join(KILN[at:at + 64].ljust(72) + b"00000010" for at in range(0, len(KILN), 64)).decode("latin-1").encode("cp037")
