@@ -40,6 +40,10 @@ limit = record (option (codes "limit")) {
 abbrev pub show_place : Rule
 show_place = flag (codes "where")
 
+-- of `survey`
+abbrev pub all_places : Rule
+all_places = flag (codes "all")
+
 abbrev pub sub : Text → List Rule → Shape
 sub name rules = record (new_shape name) { rules = rules }
 
@@ -107,8 +111,11 @@ view = sub (codes "view") (word (codes "IMAGE") ∷ word (codes "NAME") ∷ [])
 abbrev pub serve : Shape
 serve = sub (codes "serve") (word (codes "IMAGE") ∷ new_rule (codes "BLOCKS") ∷ [])
 
+abbrev pub survey : Shape
+survey = sub (codes "survey") (word (codes "IMAGE") ∷ (screens_rules ++ all_places ∷ []))
+
 abbrev pub subcommands : List Shape
-subcommands = kernel ∷ build ∷ load ∷ upgrade ∷ text ∷ screens ∷ new ∷ import ∷ export ∷ run ∷ see ∷ debug ∷ view ∷ serve ∷ []
+subcommands = kernel ∷ build ∷ load ∷ upgrade ∷ text ∷ screens ∷ new ∷ import ∷ export ∷ run ∷ see ∷ debug ∷ view ∷ serve ∷ survey ∷ []
 
 abbrev pub forth83 : App
 forth83 = record {

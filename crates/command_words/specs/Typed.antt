@@ -9,6 +9,7 @@ use Rattle.command_words.specs.CommandLine.{forth83}
 use Rattle.command_words.specs.declared.BuildWords.{BuildWords}
 use Rattle.command_words.specs.declared.LoadWords.{LoadWords}
 use Rattle.command_words.specs.declared.ScreenRange.{ScreenRange}
+use Rattle.command_words.specs.declared.SurveyWords.{SurveyWords}
 use Rattle.command_words.specs.declared.containers.ContainerWords.{ContainerWords}
 use Rattle.command_words.specs.declared.Words.{Words}
 use Rattle.command_words.specs.declared.Words.TheVariants as words
@@ -49,6 +50,11 @@ pub record IsLoad (rows : List Row) (w : LoadWords) : Type 0 where
   pub limit : number_in (codes "limit") rows ≡ Some w.limit
   pub place : IsFlag rows (codes "where") w.shows_place
 
+pub record IsSurvey (rows : List Row) (w : SurveyWords) : Type 0 where
+  pub image : IsText rows (codes "IMAGE") w.image
+  pub screens : AreScreens rows w.screens
+  pub all : IsFlag rows (codes "all") w.lists_all
+
 pub record IsContainer (rows : List Row) (w : ContainerWords) : Type 0 where
   pub container : IsText rows (codes "CONTAINER") w.container
   pub blocks : IsText rows (codes "BLOCKS") w.blocks
@@ -77,6 +83,7 @@ Says rows (words.Debug image name trace blocks limit) =
 Says rows (words.See image name) = IsText rows (codes "IMAGE") image × IsText rows (codes "NAME") name
 Says rows (words.View image name) = IsText rows (codes "IMAGE") image × IsText rows (codes "NAME") name
 Says rows (words.Serve image blocks) = IsText rows (codes "IMAGE") image × IsTextIfGiven rows (codes "BLOCKS") blocks
+Says rows (words.Survey w) = IsSurvey rows w
 
 -- the subcommand of this name
 abbrev pub name_of : Words → Text
@@ -94,6 +101,7 @@ name_of (words.Debug image name trace blocks limit) = codes "debug"
 name_of (words.See image name) = codes "see"
 name_of (words.View image name) = codes "view"
 name_of (words.Serve image blocks) = codes "serve"
+name_of (words.Survey w) = codes "survey"
 
 -- w is of the subcommand of this name, and says what was found for its arguments
 pub record AreOf (name : Text) (rows : List Row) (w : Words) : Type 0 where
@@ -142,6 +150,9 @@ build_parts = screens_parts ++ Word (codes "IMAGE") ∷ Number 16 (codes "buffer
 abbrev pub load_parts : List Part
 load_parts = Word (codes "IMAGE") ∷ (screens_parts ++ Word (codes "OUT") ∷ limit_part ∷ [])
 
+abbrev pub survey_parts : List Part
+survey_parts = Word (codes "IMAGE") ∷ screens_parts
+
 abbrev pub upgrade_parts : List Part
 upgrade_parts = Word (codes "IMAGE") ∷ Word (codes "OUT") ∷ NumberIfGiven 16 (codes "buffers") ∷ []
 
@@ -161,7 +172,7 @@ parts =
     ∷ (codes "text", screens_parts) ∷ (codes "screens", Word (codes "TEXT") ∷ Word (codes "BLOCKS") ∷ [])
     ∷ (codes "new", Word (codes "BLOCKS") ∷ Number 32 (codes "N") ∷ []) ∷ (codes "import", container_parts) ∷ (codes "export", container_parts)
     ∷ (codes "run", Word (codes "IMAGE") ∷ limit_part ∷ []) ∷ (codes "debug", debug_parts) ∷ (codes "see", seen_parts) ∷ (codes "view", seen_parts)
-    ∷ (codes "serve", Word (codes "IMAGE") ∷ []) ∷ []
+    ∷ (codes "serve", Word (codes "IMAGE") ∷ []) ∷ (codes "survey", survey_parts) ∷ []
 
 -- of the subcommand of this name one part is lacking, or none has this name
 abbrev pub LacksIn : List (Text × List Part) → (name : Text) → List Row → Type 0

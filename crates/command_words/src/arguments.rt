@@ -99,6 +99,15 @@ pub fn show_place<'a>(alloc: Global) -> Arg<'a>
     )
 }
 
+/// Whether all places of a word are listed.
+pub fn all_places<'a>(alloc: Global) -> Arg<'a>
+    ensures rule { rule_of result ≡ line.all_places }
+    ensures local { result.global ≡ false }
+{
+    let help = "List every place of a word, and not only the first eight";
+    flag(alloc, "all", help)
+}
+
 /// The name of a container's format.
 pub fn format<'a>(alloc: Global) -> Arg<'a>
     ensures rule { rule_of result ≡ line.format }

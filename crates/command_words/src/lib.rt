@@ -71,6 +71,7 @@ pub enum Words {
         image: String,
         blocks: Option<String>,
     },
+    Survey(SurveyWords),
 }
 
 /// Screens of a file of blocks, one after another.
@@ -101,6 +102,15 @@ pub struct LoadWords {
     pub limit: u64,
     /// Whether it is shown where the screens stopped, also if standard error is no terminal.
     pub shows_place: bool,
+}
+
+/// The words of `survey`.
+#[derive(Drop)]
+pub struct SurveyWords {
+    pub image: String,
+    pub screens: ScreenRange,
+    /// Whether all places of a word are listed.
+    pub lists_all: bool,
 }
 
 /// What became of the command line.

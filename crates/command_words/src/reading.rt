@@ -7,7 +7,7 @@ ghost use Rattle.clap.specs.Matches.{found_of};
 ghost use Rattle.clap.specs.Simple.{subcommand_rows_of};
 ghost use Rattle.command_words.specs.Typed as typed;
 
-use crate::{BuildWords, ContainerWords, LoadWords, ScreenRange, Words};
+use crate::{BuildWords, ContainerWords, LoadWords, ScreenRange, SurveyWords, Words};
 use clap::ArgMatches;
 use std::alloc::Global;
 use thiserror::Error;
@@ -267,6 +267,17 @@ fn serve_words(alloc: Global, matches: &ArgMatches<'_>) -> Result<Words, Unread>
     })
 }
 
+fn survey_words(alloc: Global, matches: &ArgMatches<'_>) -> Result<SurveyWords, Unread>
+    ensures typed { IfOk result (typed.IsSurvey (rows_of (found_of matches.now))) }
+    ensures lacks { IfErr result (λ why. why ≡ Unread.Missing → typed.LacksOne (rows_of (found_of matches.now)) typed.survey_parts) }
+{
+    Ok(SurveyWords {
+        image: text(alloc, matches, "IMAGE")?,
+        screens: screens(alloc, matches)?,
+        lists_all: is_given(matches, "all"),
+    })
+}
+
 fn kernel_words(alloc: Global, matches: &ArgMatches<'_>) -> Result<Words, Unread>
     ensures typed { IfOk result (typed.AreOf (codes "kernel") (rows_of (found_of matches.now))) }
     ensures lacks { IfErr result (λ why. why ≡ Unread.Missing → typed.LacksOne (rows_of (found_of matches.now)) (typed.Word (codes "BLOCKS") ∷ [])) }
@@ -299,6 +310,7 @@ fn words_of(alloc: Global, name: &str, matches: &ArgMatches<'_>) -> Result<Words
         "see" => see_words(alloc, matches),
         "view" => view_words(alloc, matches),
         "serve" => serve_words(alloc, matches),
+        "survey" => Ok(Words::Survey(survey_words(alloc, matches)?)),
         _ => Err(Unread::Missing),
     }
 }

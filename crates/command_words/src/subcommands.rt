@@ -6,8 +6,8 @@ ghost use Rattle.command_words.specs.CommandLine as line;
 
 use crate::VERSION;
 use crate::arguments::{
-    buffers, count, flag, format, four_buffers, limit, may_be, offset, option, screen, sector,
-    show_place, word,
+    all_places, buffers, count, flag, format, four_buffers, limit, may_be, offset, option, screen,
+    sector, show_place, word,
 };
 use clap::Command;
 use std::alloc::{AllocError, Global};
@@ -186,6 +186,19 @@ fn serve_command<'a>(alloc: Global) -> Result<Command<'a>, AllocError>
         .arg(may_be(alloc, "BLOCKS", "A block file (blocks of 1,024 bytes)"))
 }
 
+fn survey_command<'a>(alloc: Global) -> Result<Command<'a>, AllocError>
+    ensures { IfOk result (line.IsSubcommand line.survey) }
+{
+    let command = Command::new(alloc, "survey")
+        .about("Report what old screens are, and which dialect fits them")
+        .arg(word(
+            alloc,
+            "IMAGE",
+            "The image of the Forth that is to load them",
+        ))?;
+    with_screens(alloc, command)?.arg(all_places(alloc))
+}
+
 /// The program's command line.
 pub fn command<'a>(alloc: Global) -> Result<Command<'a>, AllocError>
     ensures { IfOk result (λ c. app_of c ≡ line.forth83) }
@@ -208,5 +221,6 @@ pub fn command<'a>(alloc: Global) -> Result<Command<'a>, AllocError>
         .subcommand(see_command(alloc)?)?
         .subcommand(debug_command(alloc)?)?
         .subcommand(view_command(alloc)?)?
-        .subcommand(serve_command(alloc)?)
+        .subcommand(serve_command(alloc)?)?
+        .subcommand(survey_command(alloc)?)
 }

@@ -43,15 +43,15 @@ pub fn read_blocks(rt: &HostRuntime, name: &str) -> io::Result<Vec<u8>> {
     }
 }
 
-/// Writes a new file, which has the permissions of another, if that exists. An error: it can't be written whole.
+/// Writes a new file, which has the permissions of another, if that exists, before it has a byte. An error: it can't be written whole.
 fn write_like(rt: &HostRuntime, file: File, bytes: &[u8], other: &str) -> io::Result<()>
     requires apart { IsApart file }
 {
     let mut file = file;
-    file.write_all(bytes)?;
     if let Ok(metadata) = fs::metadata(rt, other) {
         file.set_permissions(metadata.permissions())?;
     }
+    file.write_all(bytes)?;
     file.sync_all()
 }
 

@@ -16,6 +16,7 @@ use Rattle.named_files.specs.Done.{Done, Refuses}
 use Rattle.named_files.specs.declared.step_log.Deed.TheVariants as deed
 use Rattle.run_subcommand.specs.Files.{Runs, run_steps}
 use Rattle.serve_subcommand.specs.Files.{ServesFiles, serve_steps}
+use Rattle.survey_subcommand.specs.Surveyed.{Surveys, survey_steps}
 
 -- the name that was typed, if one was
 abbrev pub typed : Option (String Global) → List (List ℕ)
@@ -51,6 +52,7 @@ Obeys (words.Debug image name trace blocks limit) status failed old new =
 Obeys (words.See image name) status failed old new = Sees (string_bytes image) (string_bytes name) status failed old new
 Obeys (words.View image name) status failed old new = Views (string_bytes image) (string_bytes name) status failed old new
 Obeys (words.Serve image blocks) status failed old new = ServesFiles (string_bytes image) (typed blocks) status failed old new
+Obeys (words.Survey w) status failed old new = Surveys (string_bytes w.image) (string_bytes w.screens.blocks) status failed old new
 
 -- the subcommand could not begin: a step that it must take was refused, or what was typed can't be used
 abbrev pub RefusesWords : Words → (status : ℕ) → (failed : Bool) → (old new : Done) → Type 0
@@ -70,6 +72,7 @@ RefusesWords (words.Debug image name trace blocks limit) status failed old new =
 RefusesWords (words.See image name) status failed old new = Refuses (image_steps (string_bytes image)) status old new
 RefusesWords (words.View image name) status failed old new = Refuses (image_steps (string_bytes image)) status old new
 RefusesWords (words.Serve image blocks) status failed old new = Refuses (serve_steps (string_bytes image) (typed blocks)) status old new
+RefusesWords (words.Survey w) status failed old new = Refuses (survey_steps (string_bytes w.image) (string_bytes w.screens.blocks)) status old new
 
 -- what the program does with a command line. It obeys the words that were typed, or one of their steps is refused; if a line can't be printed
 -- meanwhile, the status is 5. Or no words come of the command line: it is printed why, or memory ran out.

@@ -6,7 +6,9 @@ ghost use Rattle.forth83.specs.Obeyed.{Obeys, RefusesWords, RunsLine};
 ghost use Rattle.named_files.specs.Done.{IsPassedOn, done, status_of};
 ghost use Rattle.std.specs.String.{string_bytes};
 
-use command_words::{ContainerWords, LoadWords, Parsed, ScreenRange, Words, parse, typed};
+use command_words::{
+    ContainerWords, LoadWords, Parsed, ScreenRange, SurveyWords, Words, parse, typed,
+};
 use debug_subcommand::debug_word;
 use file_subcommands::{
     Disk, Screens, build_image, export_screens, import_screens, print_text, see_word,
@@ -18,6 +20,7 @@ use named_files::{Files, SystemFiles, out_of_memory, standard_output};
 use run_subcommand::run_image;
 use serve_subcommand::serve_image;
 use std::process::ExitCode;
+use survey_subcommand::{Surveyed, survey_screens};
 
 /// The screens that words name.
 fn screens_of(words: &ScreenRange) -> Screens<'_>
@@ -63,6 +66,21 @@ fn load_of(words: &LoadWords) -> Load<'_>
         out: words.out.as_str(),
         limit: words.limit,
         shows_place: words.shows_place,
+    }
+}
+
+/// What the words of `survey` name.
+fn surveyed_of(words: &SurveyWords) -> Surveyed<'_>
+    ensures files { (result.image.now ≡ string_bytes words.now.image) × (result.blocks.now ≡ string_bytes words.now.screens.blocks) }
+    ensures range { (result.from ≡ words.now.screens.from) × (result.to ≡ words.now.screens.to) }
+    ensures places { result.lists_all ≡ words.now.lists_all }
+{
+    Surveyed {
+        image: words.image.as_str(),
+        blocks: words.screens.blocks.as_str(),
+        from: words.screens.from,
+        to: words.screens.to,
+        lists_all: words.lists_all,
     }
 }
 
@@ -126,6 +144,7 @@ fn obey<F: Files, W: Output>(files: &mut F, writer: &mut W, words: Words) -> Res
         Words::Serve { image, blocks } => {
             serve_image(files, writer, image.as_str(), blocks.as_deref())
         }
+        Words::Survey(words) => survey_screens(files, writer, surveyed_of(&words)),
     }
 }
 

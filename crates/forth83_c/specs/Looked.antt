@@ -95,3 +95,9 @@ WhyNotTraced room s status.ShortRoom =
     (is_beyond_limit s.parts.memory ≡ false) × (room < length (line s.parts.memory (headers s.parts.memory) s.parts))
 WhyNotTraced room s status.OutOfMemory = is_beyond_limit s.parts.memory ≡ false
 WhyNotTraced room s _ = ⊥
+
+-- the report has more bytes than the room has, or memory for it ran out; no definition says what the report is
+abbrev pub WhyNotSurveyed : State → Status → Type 0
+WhyNotSurveyed s status.ShortRoom = Unit {0}
+WhyNotSurveyed s status.OutOfMemory = Unit {0}
+WhyNotSurveyed s _ = ⊥

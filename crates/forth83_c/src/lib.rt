@@ -17,6 +17,7 @@ mod running;
 mod showing;
 mod status;
 mod stop;
+mod surveying;
 mod text;
 mod tracing;
 
@@ -30,13 +31,14 @@ ghost use Rattle.forth83_c.specs.Kept.{IsKept, SameBeside};
 ghost use Rattle.forth83_c.specs.Calls.{ByCode, HasCalled, HasResumed, WhyNotCalled, WhyNotResumed};
 ghost use Rattle.serving.specs.Requests.{wished};
 ghost use Rattle.forth83_c.specs.Replied.{HasReplied, TellsReplied};
-ghost use Rattle.forth83_c.specs.Looked.{HasExtent, HasListed, HasSeen, HasTraced, HasViewed, WhyNoExtent, WhyNotListed, WhyNotSeen, WhyNotTraced, WhyNotViewed};
+ghost use Rattle.forth83_c.specs.Looked.{HasExtent, HasListed, HasSeen, HasTraced, HasViewed, WhyNoExtent, WhyNotListed, WhyNotSeen, WhyNotSurveyed, WhyNotTraced, WhyNotViewed};
 ghost use Rattle.forth83_c.specs.declared.kept.TheConstants.{ABI};
 
 use inner_interpreter::Answer;
 use record::{Forth83, Forth83End};
 use status::Status;
 use std::alloc::Global;
+use surveying::NamedBlocks;
 
 /// Loads an image, of which `image` are the bytes of the file, for a device of `block_count` blocks.
 #[unsafe(no_mangle)]
@@ -322,6 +324,35 @@ pub extern "C" fn forth83_trace_line(
     ensures untold { result ≢ 0 → size.new ≡ size.old }
 {
     tracing::trace_line(alloc, machine, text, size).code()
+}
+
+/// Puts a report on old screens into `text`, how many bytes it has into `size`, and the dialect that is to be loaded before them into
+/// `dialect`: 1 fig-FORTH, 2 Forth-79, 3 F83, 4 polyFORTH, 0 none. The screens are those of a file of blocks of this name; their words are
+/// compared with those of the machine's Forth.
+#[unsafe(no_mangle)]
+#[tactic(auto, using(crate::proofs::Codes::code_zero))]
+pub extern "C" fn forth83_survey(
+    alloc: Global,
+    machine: &Forth83,
+    name: &[u8],
+    blocks: &[u8],
+    text: &mut [u8],
+    size: &mut usize,
+    dialect: &mut u16,
+) -> u32
+    ensures fits { result ≡ 0 → size.new ≤ length text.new }
+    ensures beyond { result ≡ 0 → drop size.new text.new ≡ drop size.new text.old }
+    ensures no_machine { TellsMachine machine.now result }
+    ensures why { TellsByCode WhyNotSurveyed machine.now result }
+    ensures stays { result ≢ 0 → text.new ≡ text.old }
+    ensures untold { result ≢ 0 → size.new ≡ size.old }
+    ensures unnamed { result ≢ 0 → dialect.new ≡ dialect.old }
+{
+    let blocks = NamedBlocks {
+        name,
+        bytes: blocks,
+    };
+    surveying::survey(alloc, machine, blocks, text, size, dialect).code()
 }
 
 /// Obeys a request of a server's host: the frame of this kind and these bytes. The reply is put into `room`, and how many bytes it has into `size`;

@@ -100,6 +100,37 @@ hold_control = record {
   raise_1 = λ w s. refl;
   raise_2 = λ w s. refl;
   noop_1 = λ w s. refl;
+  colon_code_3 = λ w s. refl;
+  variable_code_3 = λ w s. refl;
+  constant_code_3 = λ w s. refl;
+  vocabulary_code_2 = λ w s. refl;
+  vocabulary_code_3 = λ w s. refl;
+  exit_3 = λ w s. refl;
+  lit_3 = λ w s. refl;
+  branch_2 = λ w s. refl;
+  branch_3 = λ w s. refl;
+  leave_loop_3 = λ w s. refl;
+  index_3 = λ w s. refl;
+  outer_index_3 = λ w s. refl;
+  execute_3 = λ w s. refl;
+  show_inline_3 = λ w s. refl;
+  abort_inline_3 = λ w s. refl;
+  run_does_2 = λ w s. refl;
+  run_does_3 = λ w s. refl;
+  compile_2 = λ w s. refl;
+  compile_3 = λ w s. refl;
+  to_r_3 = λ w s. refl;
+  from_r_3 = λ w s. refl;
+  r_fetch_3 = λ w s. refl;
+  bye_2 = λ w s. refl;
+  bye_3 = λ w s. refl;
+  r_clear_2 = λ w s. refl;
+  r_clear_3 = λ w s. refl;
+  s_clear_2 = λ w s. refl;
+  s_clear_3 = λ w s. refl;
+  raise_3 = λ w s. refl;
+  noop_2 = λ w s. refl;
+  noop_3 = λ w s. refl;
 }
 
 pub hold_stack : StackExamples
@@ -139,6 +170,14 @@ hold_stack = record {
   two_rot_2 = λ w s. refl;
   two_swap_1 = λ w s. refl;
   two_swap_2 = λ w s. refl;
+  drop_cell_3 = λ w s. refl;
+  over_3 = λ w s. refl;
+  depth_3 = λ w s. refl;
+  two_drop_3 = λ w s. refl;
+  two_dup_3 = λ w s. refl;
+  two_over_3 = λ w s. refl;
+  two_rot_3 = λ w s. refl;
+  two_swap_3 = λ w s. refl;
 }
 
 pub hold_cell : CellExamples
@@ -219,6 +258,27 @@ hold_cell = record {
   um_slash_mod_1 = λ w s. refl;
   um_slash_mod_2 = λ w s. refl;
   um_slash_mod_3 = λ w s. refl;
+  minus_3 = λ w s. refl;
+  times_3 = λ w s. refl;
+  one_plus_3 = λ w s. refl;
+  one_minus_3 = λ w s. refl;
+  two_plus_3 = λ w s. refl;
+  two_minus_3 = λ w s. refl;
+  two_times_3 = λ w s. refl;
+  negate_3 = λ w s. refl;
+  min_3 = λ w s. refl;
+  max_3 = λ w s. refl;
+  and_3 = λ w s. refl;
+  or_3 = λ w s. refl;
+  xor_3 = λ w s. refl;
+  turned_3 = λ w s. refl;
+  equals_3 = λ w s. refl;
+  differs_3 = λ w s. refl;
+  greater_3 = λ w s. refl;
+  u_less_3 = λ w s. refl;
+  zero_equals_3 = λ w s. refl;
+  zero_less_3 = λ w s. refl;
+  um_times_3 = λ w s. refl;
 }
 
 pub hold_double : DoubleExamples
@@ -249,6 +309,14 @@ hold_double = record {
   d_less_3 = λ w s. refl;
   du_less_1 = λ w s. refl;
   du_less_2 = λ w s. refl;
+  d_minus_3 = λ w s. refl;
+  d_negate_3 = λ w s. refl;
+  d_absolute_3 = λ w s. refl;
+  d_min_3 = λ w s. refl;
+  d_max_3 = λ w s. refl;
+  d_equals_3 = λ w s. refl;
+  d_zero_equals_3 = λ w s. refl;
+  du_less_3 = λ w s. refl;
 }
 
 pub hold_memoryrows : MemoryRowsExamples
@@ -280,6 +348,16 @@ hold_memoryrows = record {
   dash_trailing_1 = λ w s. refl;
   dash_trailing_2 = λ w s. refl;
   dash_trailing_3 = λ w s. refl;
+  store_3 = λ w s. refl;
+  c_fetch_3 = λ w s. refl;
+  c_store_3 = λ w s. refl;
+  plus_store_3 = λ w s. refl;
+  two_fetch_3 = λ w s. refl;
+  two_store_3 = λ w s. refl;
+  cmove_3 = λ w s. refl;
+  cmove_down_3 = λ w s. refl;
+  fill_3 = λ w s. refl;
+  count_3 = λ w s. refl;
 }
 
 pub hold_devices : DevicesExamples
@@ -301,6 +379,20 @@ hold_devices = record {
   emit_2 = λ w s. refl;
   type_out_1 = λ w s. refl;
   type_out_2 = λ w s. refl;
+  buffer_3 = λ w s. refl;
+  update_2 = λ w s. refl;
+  update_3 = λ w s. refl;
+  save_buffers_2 = λ w s. refl;
+  save_buffers_3 = λ w s. refl;
+  flush_2 = λ w s. refl;
+  flush_3 = λ w s. refl;
+  empty_buffers_2 = λ w s. refl;
+  empty_buffers_3 = λ w s. refl;
+  key_2 = λ w s. refl;
+  key_3 = λ w s. refl;
+  expect_3 = λ w s. refl;
+  emit_3 = λ w s. refl;
+  type_out_3 = λ w s. refl;
 }
 
 pub hold_numbers : NumbersExamples
@@ -318,6 +410,15 @@ hold_numbers = record {
   sign_2 = λ w s. refl;
   convert_1 = λ w s. refl;
   convert_2 = λ w s. refl;
+  open_picture_2 = λ w s. refl;
+  open_picture_3 = λ w s. refl;
+  picture_digits_3 = λ w s. refl;
+  close_picture_2 = λ w s. refl;
+  close_picture_3 = λ w s. refl;
+  hold_2 = λ w s. refl;
+  hold_3 = λ w s. refl;
+  sign_3 = λ w s. refl;
+  convert_3 = λ w s. refl;
 }
 
 pub hold_input : InputExamples
@@ -347,6 +448,24 @@ hold_input = record {
   interpret_2 = λ w s. refl;
   tick_2 = λ w s. refl;
   interpret_3 = λ w s. refl;
+  word_3 = λ w s. refl;
+  paren_3 = λ w s. refl;
+  dot_paren_2 = λ w s. refl;
+  dot_paren_3 = λ w s. refl;
+  forget_3 = λ w s. refl;
+  tick_3 = λ w s. refl;
+  create_3 = λ w s. refl;
+  vocabulary_2 = λ w s. refl;
+  vocabulary_3 = λ w s. refl;
+  immediate_2 = λ w s. refl;
+  immediate_3 = λ w s. refl;
+  to_body_3 = λ w s. refl;
+  here_2 = λ w s. refl;
+  pad_row_2 = λ w s. refl;
+  here_3 = λ w s. refl;
+  pad_row_3 = λ w s. refl;
+  definitions_2 = λ w s. refl;
+  definitions_3 = λ w s. refl;
 }
 
 pub hold_compiling : CompilingExamples
@@ -383,6 +502,65 @@ hold_compiling = record {
   abort_quote_1 = λ w s. refl;
   constant_1 = λ w s. refl;
   variable_1 = λ w s. refl;
+  bracket_tick_2 = λ w s. refl;
+  bracket_compile_2 = λ w s. refl;
+  bracket_tick_3 = λ w s. refl;
+  bracket_compile_3 = λ w s. refl;
+  colon_2 = λ w s. refl;
+  constant_2 = λ w s. refl;
+  variable_2 = λ w s. refl;
+  colon_3 = λ w s. refl;
+  constant_3 = λ w s. refl;
+  variable_3 = λ w s. refl;
+  semicolon_2 = λ w s. refl;
+  left_bracket_2 = λ w s. refl;
+  left_bracket_3 = λ w s. refl;
+  right_bracket_2 = λ w s. refl;
+  right_bracket_3 = λ w s. refl;
+  semicolon_3 = λ w s. refl;
+  comma_2 = λ w s. refl;
+  compile_does_2 = λ w s. refl;
+  resolve_back_2 = λ w s. refl;
+  mark_forward_2 = λ w s. refl;
+  c_comma_2 = λ w s. refl;
+  allot_3 = λ w s. refl;
+  literal_2 = λ w s. refl;
+  if_row_2 = λ w s. refl;
+  else_row_2 = λ w s. refl;
+  until_2 = λ w s. refl;
+  while_row_2 = λ w s. refl;
+  repeat_2 = λ w s. refl;
+  again_2 = λ w s. refl;
+  do_row_2 = λ w s. refl;
+  loop_row_2 = λ w s. refl;
+  plus_loop_2 = λ w s. refl;
+  comma_3 = λ w s. refl;
+  literal_3 = λ w s. refl;
+  else_row_3 = λ w s. refl;
+  then_row_2 = λ w s. refl;
+  until_3 = λ w s. refl;
+  repeat_3 = λ w s. refl;
+  again_3 = λ w s. refl;
+  loop_row_3 = λ w s. refl;
+  plus_loop_3 = λ w s. refl;
+  resolve_back_3 = λ w s. refl;
+  resolve_forward_2 = λ w s. refl;
+  c_comma_3 = λ w s. refl;
+  compile_does_3 = λ w s. refl;
+  if_row_3 = λ w s. refl;
+  while_row_3 = λ w s. refl;
+  do_row_3 = λ w s. refl;
+  mark_forward_3 = λ w s. refl;
+  begin_2 = λ w s. refl;
+  mark_back_2 = λ w s. refl;
+  then_row_3 = λ w s. refl;
+  resolve_forward_3 = λ w s. refl;
+  begin_3 = λ w s. refl;
+  mark_back_3 = λ w s. refl;
+  dot_quote_2 = λ w s. refl;
+  abort_quote_2 = λ w s. refl;
+  dot_quote_3 = λ w s. refl;
+  abort_quote_3 = λ w s. refl;
 }
 
 pub hold_editor : EditorExamples
@@ -401,4 +579,6 @@ hold_editor = record {
   put_3 = λ w s. refl;
   insert_3 = λ w s. refl;
   delete_3 = λ w s. refl;
+  line_3 = λ w s. refl;
+  wipe_3 = λ w s. refl;
 }

@@ -1,5 +1,6 @@
 -- Written by tools/make-row-examples from tools/conformance/data/examples.txt.
 use Rattle.std.specs.Prelude.{◌≡◌, ℕ, [], ◌∷◌, Some, None, false}
+use Rattle.block_buffers.specs.Entries.{start}
 use Rattle.machine_parts.specs.Whole.{Whole}
 use Rattle.machine_parts.specs.declared.parts.Outcome.TheVariants.{Done, Fault, Ask}
 use Rattle.machine_parts.specs.declared.parts.Request.TheVariants as request
@@ -33,3 +34,7 @@ pub record EditorExamples : Type 0 where
   pub insert_3 : (w : ℕ) (s : Whole) → row 202 w (record s { values = []; memory = 0 ∷ 0 ∷ 0 ∷ 0 ∷ 0 ∷ 0 ∷ 0 ∷ 0 ∷ 0 ∷ 0 ∷ 0 ∷ 0 ∷ 0 ∷ 0 ∷ 0 ∷ 0 ∷ 0 ∷ 0 ∷ 0 ∷ 0 ∷ 0 ∷ 0 ∷ 0 ∷ 0 ∷ 0 ∷ 0 ∷ 0 ∷ 0 ∷ 0 ∷ 0 ∷ 0 ∷ 0 ∷ 0 ∷ 0 ∷ 0 ∷ 0 ∷ 0 ∷ 0 ∷ 12 ∷ []; buffers = record { slot = 0; block = Some 5; updated = false } ∷ record { slot = 3; block = None; updated = false } ∷ record { slot = 2; block = None; updated = false } ∷ record { slot = 1; block = None; updated = false } ∷ []; block_count = 9 }) ≡ (record s { values = []; memory = 0 ∷ 0 ∷ 0 ∷ 0 ∷ 0 ∷ 0 ∷ 0 ∷ 0 ∷ 0 ∷ 0 ∷ 0 ∷ 0 ∷ 0 ∷ 0 ∷ 0 ∷ 0 ∷ 0 ∷ 0 ∷ 0 ∷ 0 ∷ 0 ∷ 0 ∷ 0 ∷ 0 ∷ 0 ∷ 0 ∷ 0 ∷ 0 ∷ 0 ∷ 0 ∷ 0 ∷ 0 ∷ 0 ∷ 0 ∷ 0 ∷ 0 ∷ 0 ∷ 0 ∷ 12 ∷ []; buffers = record { slot = 0; block = Some 5; updated = false } ∷ record { slot = 3; block = None; updated = false } ∷ record { slot = 2; block = None; updated = false } ∷ record { slot = 1; block = None; updated = false } ∷ []; block_count = 9 }, Fault 1)
   -- 203 DELETE ( -- ) fault 1
   pub delete_3 : (w : ℕ) (s : Whole) → row 203 w (record s { values = []; memory = 0 ∷ 0 ∷ 0 ∷ 0 ∷ 0 ∷ 0 ∷ 0 ∷ 0 ∷ 0 ∷ 0 ∷ 0 ∷ 0 ∷ 0 ∷ 0 ∷ 0 ∷ 0 ∷ 0 ∷ 0 ∷ 0 ∷ 0 ∷ 0 ∷ 0 ∷ 0 ∷ 0 ∷ 0 ∷ 0 ∷ 0 ∷ 0 ∷ 0 ∷ 0 ∷ 0 ∷ 0 ∷ 0 ∷ 0 ∷ 0 ∷ 0 ∷ 0 ∷ 0 ∷ 12 ∷ []; buffers = record { slot = 0; block = Some 5; updated = false } ∷ record { slot = 3; block = None; updated = false } ∷ record { slot = 2; block = None; updated = false } ∷ record { slot = 1; block = None; updated = false } ∷ []; block_count = 9 }) ≡ (record s { values = []; memory = 0 ∷ 0 ∷ 0 ∷ 0 ∷ 0 ∷ 0 ∷ 0 ∷ 0 ∷ 0 ∷ 0 ∷ 0 ∷ 0 ∷ 0 ∷ 0 ∷ 0 ∷ 0 ∷ 0 ∷ 0 ∷ 0 ∷ 0 ∷ 0 ∷ 0 ∷ 0 ∷ 0 ∷ 0 ∷ 0 ∷ 0 ∷ 0 ∷ 0 ∷ 0 ∷ 0 ∷ 0 ∷ 0 ∷ 0 ∷ 0 ∷ 0 ∷ 0 ∷ 0 ∷ 12 ∷ []; buffers = record { slot = 0; block = Some 5; updated = false } ∷ record { slot = 3; block = None; updated = false } ∷ record { slot = 2; block = None; updated = false } ∷ record { slot = 1; block = None; updated = false } ∷ []; block_count = 9 }, Fault 1)
+  -- 200 LINE ( -- ) fault 1
+  pub line_3 : (w : ℕ) (s : Whole) → row 200 w (record s { values = [] }) ≡ (record s { values = [] }, Fault 1)
+  -- 204 WIPE ( 1 -- 1 ) asks read 8
+  pub wipe_3 : (w : ℕ) (s : Whole) → row 204 w (record s { values = [] ▸ 1; memory = 0 ∷ 0 ∷ 0 ∷ 0 ∷ 0 ∷ 0 ∷ 0 ∷ 0 ∷ 0 ∷ 0 ∷ 0 ∷ 0 ∷ 0 ∷ 0 ∷ 0 ∷ 0 ∷ 0 ∷ 0 ∷ 0 ∷ 0 ∷ 0 ∷ 0 ∷ 0 ∷ 0 ∷ 0 ∷ 0 ∷ 0 ∷ 0 ∷ 0 ∷ 0 ∷ 0 ∷ 0 ∷ 0 ∷ 0 ∷ 0 ∷ 0 ∷ 0 ∷ 0 ∷ 8 ∷ []; buffers = start 4; block_count = 9 }) ≡ (record s { values = [] ▸ 1; memory = 0 ∷ 0 ∷ 0 ∷ 0 ∷ 0 ∷ 0 ∷ 0 ∷ 0 ∷ 0 ∷ 0 ∷ 0 ∷ 0 ∷ 0 ∷ 0 ∷ 0 ∷ 0 ∷ 0 ∷ 0 ∷ 0 ∷ 0 ∷ 0 ∷ 0 ∷ 0 ∷ 0 ∷ 0 ∷ 0 ∷ 0 ∷ 0 ∷ 0 ∷ 0 ∷ 0 ∷ 0 ∷ 0 ∷ 0 ∷ 0 ∷ 0 ∷ 0 ∷ 0 ∷ 8 ∷ []; buffers = start 4; block_count = 9 }, Ask (request.Read 8))

@@ -21,4 +21,5 @@ returns c =
     let s11 = joined _ line.see _ _ _ s10 c.in_ok-see_command.ensures c.in_ok-subcommand-11.ensures in
     let s12 = joined _ line.debug _ _ _ s11 c.in_ok-debug_command.ensures c.in_ok-subcommand-12.ensures in
     let s13 = joined _ line.view _ _ _ s12 c.in_ok-view_command.ensures c.in_ok-subcommand-13.ensures in
-    if_ok_then c.subcommand-14.result _ _ (λ d h. (joined _ line.serve _ _ d s13 c.in_ok-serve_command.ensures h).app) c.subcommand-14.ensures
+    let s14 = joined _ line.serve _ _ _ s13 c.in_ok-serve_command.ensures c.in_ok-subcommand-14.ensures in
+    if_ok_then c.subcommand-15.result _ _ (λ d h. (joined _ line.survey _ _ d s14 c.in_ok-survey_command.ensures h).app) c.subcommand-15.ensures

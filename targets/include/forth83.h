@@ -36,7 +36,7 @@ extern "C" {
 enum forth83_status {
   FORTH83_DONE = 0,
   FORTH83_NO_MACHINE = 1,     /* the record keeps no machine */
-  FORTH83_OUT_OF_MEMORY = 2,  /* only forth83_see, _headers, _extent and _trace_line, which take memory */
+  FORTH83_OUT_OF_MEMORY = 2,  /* only forth83_see, _headers, _extent, _trace_line and _survey, which take memory */
   FORTH83_SHORT_ROOM = 3,     /* no room for what is shown, or too little for a file */
   FORTH83_TRUNCATED = 4,      /* an image's file that ends too soon */
   FORTH83_TRAILING_BYTES = 5, /* bytes after an image's file */
@@ -87,6 +87,15 @@ enum forth83_halts {
   FORTH83_INPUT_ENDED = 2,
   FORTH83_INPUT_FAULT = 3,
   FORTH83_FAULT = 4 /* `fault`, which nothing in the image handles */
+};
+
+/* The dialect that is to be loaded before old screens. */
+enum forth83_dialect {
+  FORTH83_NO_DIALECT = 0, /* none is needed, or none is known */
+  FORTH83_FIG = 1,        /* fig-FORTH */
+  FORTH83_F79 = 2,        /* Forth-79 */
+  FORTH83_F83 = 3,        /* F83 */
+  FORTH83_POLY = 4        /* polyFORTH */
 };
 
 /* A block buffer. */
@@ -210,6 +219,13 @@ uint32_t forth83_see(const forth83 *machine, const uint8_t *name, uint64_t name_
 /* Puts DEBUG's line of the tick that comes next into text, and its size into size: where the token is, its name, and both stacks. With 4,096
  * bytes of room each line fits. */
 uint32_t forth83_trace_line(const forth83 *machine, uint8_t *text, uint64_t text_size, uint64_t *size);
+
+/* Puts a report on old screens into text, and its size into size: which of them are source, which dialect they were written for and why, and
+ * which words the Forth of this machine does not know. The screens are those of a file of blocks of this name; a last block may be short. Puts
+ * the dialect that is to be loaded before them into dialect (enum forth83_dialect), the best one if it is undecided. A report on
+ * 64 screens has some 4,000 bytes; FORTH83_SHORT_ROOM says that it has more than text_size. */
+uint32_t forth83_survey(const forth83 *machine, const uint8_t *name, uint64_t name_size, const uint8_t *blocks, uint64_t blocks_size,
+                        uint8_t *text, uint64_t text_size, uint64_t *size, uint16_t *dialect);
 
 /* Obeys a request of a host, as a server does: the frame of this kind with these bytes (docs/FORMATS.md has the frames). Puts the frames of the reply
  * into reply, and how many bytes they have into replied. A reply that is longer than reply_size is cut there (FORTH83_LONG_REPLY): the request was
