@@ -11,8 +11,8 @@ from typing import Dict, Iterable, List
 HERE = pathlib.Path(__file__).resolve().parent
 # The film's own page.
 SHARED = HERE.parent / "teaching"
-FIRST = "main.js"
-POLICY = "default-src 'none'; script-src '{script}' '{film}' 'wasm-unsafe-eval'; style-src 'unsafe-inline'; img-src data: blob:"
+FIRST, OWN, LOADER = "main.js", "own.js", "unpack.js"
+POLICY = "default-src 'none'; script-src '{loader}' '{script}' '{film}' 'wasm-unsafe-eval'; style-src 'unsafe-inline'; img-src data: blob:"
 IMPORT = re.compile(r'^import \{[^}]*\} from "\./([\w-]+\.js)";\n', re.M)
 FILM_MARK = "<!-- a film of ./forth film -->"
 FILM_SCRIPTS = ("source.js", "steps.js", "showing.js", "moves.js", "motion.js", "overtime.js", "sheet.js", "player.js")
@@ -43,9 +43,17 @@ def in_order(name: str, found: List[str]) -> List[str]:
     return found
 
 
-def bundle(first: str = FIRST) -> str:
-    """All modules as one script: they have no name twice, so that imports and exports only have to go."""
-    return joined(IMPORT.sub("", text_of(name)) for name in in_order(first, []))
+def bundle(first: str = FIRST, services: str = "") -> str:
+    """All modules as one script: they have no name twice, so that imports and exports only have to go. SERVICES is a module with services of
+    one's own, whose names are its own."""
+    own = {OWN: f"const OWN_SERVICES = (() => {{\n{services}\nreturn SERVICES;\n}})();"} if services else {}
+    return joined(own.get(name) or IMPORT.sub("", text_of(name)) for name in in_order(first, []))
+
+
+def loader() -> str:
+    """The script that starts the page's own, which has the same names again: so it has a block around it."""
+    begins, _, code = bundle(LOADER).partition("\n")
+    return f"{begins}\n{{\n{code}\n}}\n"
 
 
 def filled(template: str, values: Dict[str, str]) -> str:
@@ -81,14 +89,15 @@ def film(data: Dict[str, object], files: Dict[str, bytes], parts: Dict[str, str]
     return film_page(elements, (code, player), {"MADE": "", "DATA": "", **parts})
 
 
-def page(data: Dict[str, object], files: Dict[str, bytes], facts: Dict[str, str]) -> str:
-    """The page with its data. FILES are the machine as `wasm`, and the `image`; FACTS are TITLE, VERSION, SHA256, PROVED, CLAIM and ROSE, as texts."""
-    script, player = bundle(), joined(map(text_of, FILM_SCRIPTS))
+def page(data: Dict[str, object], files: Dict[str, bytes], facts: Dict[str, str], services: str = "") -> str:
+    """The page with its data. FILES are the machine as `wasm`, and the `image`; FACTS are TITLE, VERSION, SHA256, PROVED, CLAIM and ROSE, as texts;
+    SERVICES is a module of the page's own."""
+    script, player = bundle(services=services), joined(map(text_of, FILM_SCRIPTS))
     values = {name: html.escape(text) for name, text in facts.items()}
     values["HELP"] = filled(text_of("help.html"), values)
     values["STYLE"] = text_of("page.css")
-    values["SCRIPT"] = script
-    values["POLICY"] = POLICY.format(script=hashed(script), film=hashed(player))
+    values["SCRIPT"] = loader()
+    values["POLICY"] = POLICY.format(loader=hashed(values["SCRIPT"]), script=hashed(script), film=hashed(player))
     film_of_tab = film_page(f"<script>{player}</script>", [player], {})
-    values["PACKED"] = all_packed(data, {"film": film_of_tab.encode(), **files})
+    values["PACKED"] = all_packed(data, {"film": film_of_tab.encode(), "script": script.encode(), **files})
     return filled(text_of("index.html"), values)

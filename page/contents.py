@@ -2,7 +2,6 @@
 import base64
 import hashlib
 import html
-import os
 import pathlib
 import re
 import sys
@@ -12,10 +11,9 @@ ROOT = pathlib.Path(__file__).resolve().parent.parent
 sys.path[:0] = [str(ROOT / "teaching"), str(ROOT / "commands")]
 
 import canvas  # noqa: E402
-import images  # noqa: E402
 import rows as numbers  # noqa: E402
 import wild  # noqa: E402
-from served import advice, dialects as dialect_hints, faults as messages, image, structures, table  # noqa: E402
+from served import advice, dialects as dialect_hints, faults as messages, image, paging, structures, table  # noqa: E402
 
 ROW = re.compile(r"^\| `(\S+)` \| `([^`]*)` \| (?:yes)? ?\| (.+) \|$", re.M)
 # Chapters of docs/WORDS.md whose words the page doesn't need: it edits lines and screens itself, and has no host and no files.
@@ -174,13 +172,13 @@ def library() -> Dict[str, str]:
 
 def door() -> Dict[str, object]:
     """The services that words ask their host for, and the cells by which they do."""
-    return {"names": table.NAMES, "service": table.SERVICE, "first": table.FIRST, "second": table.SECOND, "mark": table.MARK, "host": table.HOST}
+    return {"names": table.NAMES, "service": table.SERVICE, "first": table.FIRST, "second": table.SECOND, "mark": table.MARK, "host": table.HOST, "own": table.OWN}
 
 
 def system() -> Dict[str, str]:
     """The texts of the system's own words, except the kernel's, which are a disk."""
-    names = (os.path.relpath(path, ROOT) for path in image.TEXTS)
-    return {name: text_of(name) for name in names}
+    screens = image.screens()
+    return {path: paging.text_of([it for it in screens if it.path == path]) for path in sorted({it.path for it in screens})}
 
 
 def text_of(name: str) -> str:
@@ -247,26 +245,3 @@ def number_of(text: str) -> int:
 def ebcdic() -> str:
     """The characters of code page 37, byte by byte."""
     return bytes(range(256)).decode("cp037")
-
-
-# A dialect's first lines: its screen, and a title with its name, and perhaps which dialect is loaded before it.
-DIALECT = re.compile(r"% screen (\d+)\n\( ([^:\n]+): (?:.*?, (\d+) LOAD)?.*\n")
-DEFINED = re.compile(r"(?:^: |\b(?:VARIABLE|CONSTANT|CREATE) )(\S+)", re.M)
-
-
-def dialects() -> List[Dict[str, object]]:
-    """The dialects of old sources: of each its key, name and first screen, the screen that is loaded before it, and the names it defines."""
-    found: List[Dict[str, object]] = []
-    for file in sorted((ROOT / "screens/dialects").glob("*.txt")):
-        text = file.read_text(encoding="ascii")
-        head = DIALECT.match(text)
-        if head:
-            names = set(DEFINED.findall(text))
-            found.append({"key": file.stem, "name": head[2], "first": int(head[1]), "after": int(head[3]) if head[3] else None, "names": sorted(names)})
-    return found
-
-
-def names_of_image(image: bytes) -> List[str]:
-    """The names of an image's vocabulary FORTH."""
-    headers = images.Dictionary(images.parse(image).memory).headers
-    return sorted({one.name.decode("latin-1") for one in headers if one.vocabulary == images.FORTH_VOC})

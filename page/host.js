@@ -8,6 +8,7 @@ import { DATA } from "./data.js";
 import { COLUMNS, linesOf } from "./disk.js";
 import { FAULTS, lineAt, message, named, nextWord, numbered, placeLines, plain, trimmedEnd, faultWord } from "./faults.js";
 import { ASKS, cellBytes, Machine, PAGE_SIZE, Refused, SYSTEM } from "./machine.js";
+import { OWN_SERVICES } from "./own.js";
 import { MOVED, Refusal, SERVICES, visible, WAITS } from "./services.js";
 import { exitInLoop, unfinished } from "./structures.js";
 import { FIRST_TEXT, Texts, Unreadable } from "./texts.js";
@@ -65,7 +66,7 @@ export class Host {
   // What the machine's words ask for: a number of the table of services, or 0.
   get service() {
     const asked = !this.isForeign && this.machine.asks === ASKS.KEY ? this.machine.cell(DOOR.service) : 0;
-    return asked > PROMPT && asked <= DOOR.names.length ? asked : 0;
+    return (asked > PROMPT && asked <= DOOR.names.length) || asked >= DOOR.own ? asked : 0;
   }
 
   // Whether the Forth asks for a line, and not a program.
@@ -164,6 +165,7 @@ export class Host {
 
   // Does a service, and answers it: 0, or the fault by which it refuses.
   serve() {
+    if (OWN_SERVICES[this.service]) return this.serveOwn(this.service);
     const name = DOOR.names[this.service - 1], done = (result) => {
       if (result === WAITS) return "k";
       if (result === MOVED || this.service) this.set(DOOR.service, 0);
@@ -172,10 +174,27 @@ export class Host {
       return "-";
     };
     try {
+      if (!name) throw new Refusal(`nobody has registered service ${this.service}`);
       const result = SERVICES[name](this);
       return result instanceof Promise ? result.then((isDone) => (isDone ? done() : "-")) : done(result);
     } catch (error) {
       return this.refuse(error);
+    }
+  }
+
+  // Does a service of the page's own, which answers with the fault that the word takes, or 0; or with a promise of that.
+  serveOwn(number) {
+    const done = (fault) => {
+      this.set(DOOR.service, 0);
+      this.give("k", Uint8Array.of(fault || 0));
+      return "-";
+    };
+    const failed = (error) => this.refuse(error instanceof Refused ? error : new Refusal(`service ${number} failed: ${error}`));
+    try {
+      const result = OWN_SERVICES[number](this);
+      return result instanceof Promise ? result.then(done).catch(failed) : done(result);
+    } catch (error) {
+      return failed(error);
     }
   }
 

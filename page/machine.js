@@ -6,7 +6,7 @@ import { decode, encode } from "./bytes.js";
 export const ASKS = { NOTHING: 0, KEY: 1, LINE: 2, READ: 3, WRITE: 4 };
 export const PAGE_SIZE = 1024, MEMORY = 65536, STACK = 256;
 // How many blocks a machine has: those of its disk are answered, and lines of texts are the others.
-const ALL_BLOCKS = 65536, ROOM = 131072, BODY = 2048, LONG_REPLY = 22, REFUSED = "!".charCodeAt(0), SHOWN = "s".charCodeAt(0);
+const ALL_BLOCKS = 65536, ROOM = 131072, BODY = 2048, REPORT = 16384, SHORT_ROOM = 3, LONG_REPLY = 22, REFUSED = "!".charCodeAt(0), SHOWN = "s".charCodeAt(0);
 // Cells of the system in the machine's memory.
 export const SYSTEM = { state: 16, base: 18, toIn: 20, blk: 22, tibCount: 24, here: 28, last: 30, context: 32, scr: 38, fault: 40, forth: 42, fence: 54 };
 
@@ -36,7 +36,7 @@ export class Machine {
   // calls: what the module exports. layout: where the fields of its records are.
   constructor(calls, layout) {
     Object.assign(this, { calls, layout });
-    [this.record, this.body, this.size] = [layout.size, BODY, 8].map((size) => calls.malloc(size));
+    [this.record, this.body, this.size, this.dialect] = [layout.size, BODY, 8, 2].map((size) => calls.malloc(size));
     this.bytes(this.record, layout.size).fill(0);
     this.makeRoom(ROOM);
   }
@@ -99,6 +99,24 @@ export class Machine {
   token(name) { return cellsOf(this.ask("y", encode(name)).bytes)[0]; }
   viewOf(name) { return cellsOf(this.ask("i", encode(name)).bytes)[0]; }
   see(name) { return decode(this.ask("z", encode(name)).bytes); }
+  // Bytes as a call wants them: a copy in the module's memory, and how many there are.
+  lent(bytes) {
+    const at = this.calls.malloc(bytes.length);
+    this.bytes(at, bytes.length).set(bytes);
+    return [at, BigInt(bytes.length)];
+  }
+
+  // The report on old screens, for this Forth, and the number of the dialect that is to be loaded before them: 0 for none.
+  survey(name, blocks, room = REPORT) {
+    const named = this.lent(encode(name)), screens = this.lent(blocks), text = this.calls.malloc(room);
+    const status = this.calls.forth83_survey(this.record, ...named, ...screens, text, BigInt(room), this.size, this.dialect);
+    const size = status ? 0 : Number(this.view().getBigUint64(this.size, true)), report = decode(this.bytes(text, size));
+    for (const at of [named[0], screens[0], text]) this.calls.free(at);
+    if (status === SHORT_ROOM) return this.survey(name, blocks, 4 * room);
+    this.must(status, "survey");
+    return { report, dialect: this.view().getUint16(this.dialect, true) };
+  }
+
   // An image of memory up to HERE that starts with a word.
   image(word) { return this.ask("t", cellBytes(word)).bytes; }
 

@@ -28,7 +28,7 @@ async function begin() {
   page.start = new Start(page, parts("door-rose", "door-lesson", "door-old", "start-lines"));
   page.map = new MemoryMap(page, parts("map-bar", "map-parts", "map-words", "map-fold", "map-others", "map-none", "map-again", "map-said"));
   page.canvas = new Canvas(page, parts("canvas-picture", "canvas-none", "canvas-save", "canvas-try", "canvas-lines"));
-  page.oldDisk = new OldDisk(page, parts("old-choose", "old-file", "old-format", "old-clean", "old-half", "old-ebcdic", "old-offset", "old-sector", "old-skew", "old-first", "old-said", "old-screen", "old-preview",
+  page.oldDisk = new OldDisk(page, parts("old-choose", "old-file", "old-format", "old-clean", "old-half", "old-ebcdic", "old-offset", "old-sector", "old-skew", "old-first", "old-said", "old-report", "old-screen", "old-preview",
     "old-insert", "old-dialect", "old-shown"));
   page.course = new Course(page, parts("course-lesson", "course-text", "course-check", "course-back", "course-on", "course-said", "course-disk"));
   page.classList = new ClassList(page, calls, parts("class-choose", "class-files", "class-said", "class-table", "class-head",

@@ -1,8 +1,7 @@
-"""Makes the machine's WebAssembly module, as ./build-library makes it for the target wasm32, and keeps it in build/out/page. As a program, it
+"""Makes the machine's WebAssembly module, as targets/make makes it for the target wasm32, and keeps it in build/out/page. As a program, it
 makes and keeps that of the proved library."""
 import hashlib
 import json
-import os
 import pathlib
 import shutil
 import sys
@@ -10,11 +9,12 @@ import tempfile
 from typing import Dict, NamedTuple, Optional
 
 ROOT = pathlib.Path(__file__).resolve().parent.parent
-sys.path.insert(0, str(ROOT / "targets"))
+sys.path[:0] = [str(ROOT / "targets"), str(ROOT / "commands")]
 
 import libraries  # noqa: E402
 import lowering  # noqa: E402
 import records  # noqa: E402
+import whole  # noqa: E402
 from lowering import Refused  # noqa: E402
 
 KEPT = ROOT / "build/out/page"
@@ -69,9 +69,7 @@ def keep(module: Module, total: str) -> None:
     try:
         KEPT.mkdir(parents=True, exist_ok=True)
         for name, content in ((file, module.code), (file.with_suffix(".json"), json.dumps(record).encode())):
-            new = name.with_name(f"{name.name}.{os.getpid()}")
-            new.write_bytes(content)
-            os.replace(new, name)
+            whole.replace(name, content)
     except OSError:
         pass
 

@@ -1,17 +1,16 @@
-// Old disks: shows a file of another system in a format, adds its screens as a disk, and names its dialect.
+// Old disks: shows a file of another system in a format, reports on its screens, adds them as a disk, and loads their dialect.
 
 import { DATA } from "./data.js";
 import { linesOf } from "./disk.js";
-import { PAGE_SIZE } from "./machine.js";
-import { Survey } from "./survey.js";
+import { Machine, PAGE_SIZE } from "./machine.js";
 import { guess, imported } from "./wild.js";
 
-const SURVEY = "./forth survey, where the program is, says from which system they come, and why.";
-const MOST_UNKNOWN = 12, MOST_OTHERS = 3;
+// By their numbers in include/forth83.h, the texts of screens/dialects.
+const DIALECTS = [null, "fig", "f79", "f83", "poly"];
 
 export class OldDisk {
   constructor(page, parts) {
-    Object.assign(this, { page, parts, name: "", container: null, blocks: null });
+    Object.assign(this, { page, parts, name: "", container: null, blocks: null, machine: null, best: null });
     parts.format.append(...DATA.formats.map((one) => new Option(`${one.name}: ${one.what}`, one.name)));
     parts.choose.addEventListener("click", () => parts.file.click());
     parts.file.addEventListener("change", () => this.read(parts.file.files[0]));
@@ -59,10 +58,11 @@ export class OldDisk {
     if (made.wrong) said.textContent = `${size}: not in this format, ${made.wrong}.`;
     else {
       const count = this.blocks.length / PAGE_SIZE;
-      said.textContent = `${size}: ${count} screens. ${this.advice()}`;
+      said.textContent = `${size}: ${count} screens.`;
       screen.max = count - 1;
       screen.value = this.firstScreen(count);
     }
+    this.survey();
     this.show();
   }
 
@@ -80,33 +80,29 @@ export class OldDisk {
     preview.textContent = isThere ? linesOf(this.pageAt(block)).map((line, at) => `${String(at).padStart(2)} ${line}`).join("\n") : "";
   }
 
-  // Which dialect knows most of their words.
-  advice() {
-    const pages = Array.from({ length: this.blocks.length / PAGE_SIZE }, (_, block) => this.pageAt(block));
-    const survey = new Survey(pages, new Set(DATA.known), DATA.dialects), { alone, ranks } = survey.ranks(), [{ unknown }, ...others] = ranks;
-    const equal = ranks.filter((one) => one.unknown.length === unknown.length).map((one) => one.dialect);
-    // A dialect that is loaded after another one of these knows its words, and adds none that are needed.
-    const ties = equal.filter((one) => !equal.some((other) => other.first === one.after)), names = ties.map((one) => one.name).join(" or ");
-    this.best = alone.length ? ties[0] : null;
-    this.parts.dialect.disabled = !this.best;
-    if (!survey.sources.length) return "No screen here looks like source: try another format.";
-    if (!this.best) return `The Forth knows all names in these screens. Some may mean something else there, as */ and DO do in other Forths: ${SURVEY}`;
-    const more = unknown.length > MOST_UNKNOWN ? " …" : "", words = unknown.length ? ` (${unknown.slice(0, MOST_UNKNOWN).join(" ")}${more})` : "";
-    const rest = others.filter((one) => one.unknown.length > unknown.length).slice(0, MOST_OTHERS).map((one) => `${one.dialect.name} ${one.unknown.length}`).join(", ");
-    const best = ties.length > 1 ? `${names} leave equally few words unknown` : `The dialect ${names} leaves the fewest words unknown`;
-    return `${best}: ${unknown.length}${words}. The next: ${rest}; without a dialect ${alone.length} are unknown. ${ties.length > 1 ? SURVEY : ""} ` +
-      "Load the dialect, and then put this in as a disk.";
+  // Reports on the screens as `./forth survey` does, for the Forth that a page begins with, and offers the dialect that they need.
+  survey() {
+    const { report, dialect } = this.parts, made = this.blocks ? this.forth.survey(this.name, this.blocks) : { report: "", dialect: 0 };
+    this.best = DIALECTS[made.dialect];
+    dialect.disabled = !this.best;
+    report.textContent = made.report;
   }
 
-  // Loads the words of the dialect from its disk, after those of the dialect that it needs.
-  async load() {
-    const base = DATA.dialects.find((one) => one.first === this.best.after);
-    for (const dialect of base ? [base, this.best] : [this.best]) {
-      const name = `dialect ${dialect.key}.blk`;
-      if (this.page.session.disk.name !== name && !(await this.page.work.putIn(name))) return;
-      this.page.enter(`${dialect.first} LOAD`);
-      await this.page.idle();
+  get forth() {
+    if (!this.machine) {
+      const { machine, layout } = this.page.session;
+      this.machine = new Machine(machine.calls, layout);
+      this.machine.load(DATA.image);
     }
+    return this.machine;
+  }
+
+  // Loads the words of the dialect from its disk.
+  async load() {
+    const name = `dialect ${this.best}.blk`, [, first] = /% screen (\d+)/.exec(DATA.disks[name].text);
+    if (this.page.session.disk.name !== name && !(await this.page.work.putIn(name))) return;
+    this.page.enter(`${first} LOAD`);
+    await this.page.idle();
   }
 
   async insert() {

@@ -3,6 +3,7 @@ import os
 import pathlib
 
 import program
+import whole
 
 
 def shown(name: bytes) -> str:
@@ -40,14 +41,7 @@ def check_target(path: str, mark: str, what: str) -> None:
 
 def write_whole(path: str, text: str) -> None:
     """Writes a file beside its place, and puts it there when it is whole."""
-    path = pathlib.Path(path)
-    beside = path.with_name(f"{path.name}.{os.getpid()}")
     try:
-        with open(beside, "w", encoding="utf-8", newline="\n") as file:
-            file.write(text)
-        os.replace(beside, path)
+        whole.replace(path, text.encode())
     except OSError as error:
         raise program.Refusal(f"cannot write {path}: {error.strerror}") from error
-    finally:
-        if beside.exists():
-            beside.unlink()
