@@ -7,6 +7,7 @@ from __future__ import annotations
 from typing import Dict, List, NamedTuple, Tuple
 
 UNKNOWN = "?"
+NAMES = {"fig": "fig-FORTH", "f79": "Forth-79", "f83": "F83", "poly": "polyFORTH"}
 
 
 class Line(NamedTuple):
@@ -38,20 +39,21 @@ def printed() -> str:
     return f"Type these lines on the old machine. Write each answer into a line of a text, without ok; ? for an error.\n{lines}"
 
 
-def read(text: str, names: Dict[str, str]) -> List[str]:
-    """What the answers say: the dialects that agree with most of them, and where they do not; then each by itself."""
+def read(text: str) -> str:
+    """What the answers say, in lines: the dialects that agree with most of them, and where they do not; then each by itself."""
     given = [" ".join(answer.split()) for answer in text.splitlines()]
-    agree, asked = dict.fromkeys(names, 0), 0
+    agree, asked = dict.fromkeys(NAMES, 0), 0
     said: List[str] = []
-    against: Dict[str, List[str]] = {key: [] for key in names}
+    against: Dict[str, List[str]] = {key: [] for key in NAMES}
     for line, answer in zip(CARD, given):
         found = [it for it in line.answers if it[0] == (UNKNOWN if answer.startswith(UNKNOWN) else answer)]
         said.append(f"{line.about} {found[0][2]}" if found else f"{line.about}: {answer}, which is none of the answers that are known")
         asked += bool(line.answers[0][1])
-        for key in names if line.answers[0][1] else ():
+        for key in NAMES if line.answers[0][1] else ():
             agrees = bool(found) and key in found[0][1].split()
             agree[key] += agrees
             against[key] += [] if agrees else [line.typed]
-    best = [key for key in names if agree[key] == max(agree.values())]
+    best = [key for key in NAMES if agree[key] == max(agree.values())]
     wrong = f"; not as in it: {', '.join(against[best[0]])}" if len(best) == 1 and against[best[0]] else ""
-    return [f"dialect: {' or '.join(names[key] for key in best)}, by {agree[best[0]]} of {asked} answers{wrong}", *said]
+    found_in = f"dialect: {' or '.join(NAMES[key] for key in best)}, by {agree[best[0]]} of {asked} answers{wrong}"
+    return "".join(f"{line}\n" for line in (found_in, *said))

@@ -22,15 +22,18 @@
 #include <fcntl.h>
 #include <io.h>
 #include <share.h>
+#include <sys/stat.h>
 #else
+#include <fcntl.h>
 #include <poll.h>
 #include <signal.h>
 #include <sys/file.h>
+#include <sys/stat.h>
 #include <termios.h>
 #include <unistd.h>
 #endif
 
-enum { SLICE = 250000, MOST_BLOCKS = 65536, MOST_NAME = 4096, CTRL_C = 3, CTRL_D = 4, CTRL_U = 21, RUBOUT = 127 };
+enum { SLICE = 250000, MOST_BLOCKS = 65536, MOST_NAME = 4096, MOST_BESIDE = 100, CTRL_C = 3, CTRL_D = 4, CTRL_U = 21, RUBOUT = 127 };
 
 static const char journal_head[] = "jaurimet journal 1\n"; /* then of each block its number, a new line, and its bytes */
 
@@ -133,6 +136,14 @@ static bool take_place(const char *made, const char *name)
     return MoveFileExA(made, name, MOVEFILE_REPLACE_EXISTING) != 0;
 }
 
+/* A new file, which nobody has yet. */
+static FILE *open_new(const char *made, const char *like)
+{
+    (void)like;
+    int file = _open(made, _O_CREAT | _O_EXCL | _O_WRONLY | _O_BINARY, _S_IREAD | _S_IWRITE);
+    return file < 0 ? NULL : _fdopen(file, "wb");
+}
+
 static void console_is_done(void)
 {
     SetEvent(has_left);
@@ -212,6 +223,21 @@ static bool take_place(const char *made, const char *name)
     return rename(made, name) == 0;
 }
 
+/* A new file, which nobody has yet, with the mode and the owner of the file `like`, if there is one; only root may give files away. */
+static FILE *open_new(const char *made, const char *like)
+{
+    struct stat there;
+    bool is_there = like != NULL && stat(like, &there) == 0;
+    int file = open(made, O_CREAT | O_EXCL | O_WRONLY, is_there ? 0600 : 0666);
+    if (file < 0)
+        return NULL;
+    if (is_there && ((fchown(file, there.st_uid, there.st_gid) != 0 && geteuid() == 0) || fchmod(file, there.st_mode & 0777) != 0)) {
+        close(file);
+        return NULL;
+    }
+    return fdopen(file, "wb");
+}
+
 static void console_is_done(void)
 {
 }
@@ -283,13 +309,22 @@ static uint8_t *page_of(const forth83_buffer *it)
     return &machine.memory[65536u - 1024u * machine.buffer_count + 1024u * it->slot];
 }
 
+/* Opens a new file beside NAME, by a name that is free; a journal is like the file of blocks. */
+static FILE *open_beside(const char *name, char *made)
+{
+    struct stat there;
+    FILE *file = NULL;
+    for (int i = 0; file == NULL && i < MOST_BESIDE; i++)
+        if (snprintf(made, MOST_NAME, "%s.%d.new", name, i) < MOST_NAME)
+            file = open_new(made, stat(name, &there) == 0 ? name : block_name);
+    return file;
+}
+
 /* Writes a file anew, by `put`: beside it first, so that the old one stays if this fails. */
 static bool write_anew(const char *name, bool (*put)(FILE *file))
 {
     char made[MOST_NAME];
-    if (snprintf(made, sizeof made, "%s.new", name) >= (int)sizeof made)
-        return false;
-    FILE *file = fopen(made, "wb");
+    FILE *file = open_beside(name, made);
     if (file == NULL)
         return false;
     bool is_put = put(file);
@@ -391,7 +426,7 @@ static bool put_image(FILE *file)
 static void try_name(const char *name)
 {
     char made[MOST_NAME];
-    FILE *file = snprintf(made, sizeof made, "%s.new", name) < (int)sizeof made ? fopen(made, "wb") : NULL;
+    FILE *file = open_beside(name, made);
     if (file == NULL)
         refuse("cannot write ", name);
     fclose(file);

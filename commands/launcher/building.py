@@ -85,6 +85,8 @@ class Unproved:
 
     def __init__(self) -> None:
         self.path = os.path.join(KEPT, "unproved")
+        if not os.path.exists(build("unproved")):  # an installation has it not
+            raise Refused("there is no program without proofs here: its sources do not exist")
         if not self._is_kept():
             try:
                 self.path = os.path.join(tempfile.mkdtemp(), "unproved")
@@ -127,8 +129,8 @@ class Unproved:
                 signal.signal(number, handler)
 
     def _show(self, running: subprocess.Popen[bytes]) -> None:
-        """Says that it is built, and shows the seconds at a terminal. It makes a folder, of which it keeps the name, when it begins to build;
-        before that it compares the sums of the sources, which takes a while on a busy machine."""
+        """Says that it is built, and shows the seconds, at a terminal each, else each thirtieth. It makes a folder, of which it keeps the name,
+        when it begins to build; before that it compares the sums of the sources, which takes a while on a busy machine."""
         while running.poll() is None and not os.path.exists(self.path + ".room"):
             time.sleep(0.01)
         if running.poll() is None:
@@ -138,6 +140,8 @@ class Unproved:
             if is_shown:
                 os.write(2, b"\rforth: %d seconds so far\033[K" % seconds)
             seconds += 1
+            if not is_shown and seconds % 30 == 0:
+                say(f"{seconds} seconds so far")
             try:
                 running.wait(1)
             except subprocess.TimeoutExpired:

@@ -5,12 +5,13 @@ import os
 import sys
 from typing import Callable, NoReturn, Optional
 
-from launcher.program import find, Refused, ROOT, say
+from launcher.program import find, named, Refused, ROOT, say
+from served.bridge import ENDS as MAP
 from served.start import main as session, Misused, USAGE as MISUSED, VALUES
 
 SCRIPTS = {
     "film": "teaching/film", "map": "teaching/map", "print": "teaching/print", "class": "teaching/class", "picture": "teaching/picture",
-    "blocks": "commands/blocks", "survey": "commands/survey", "capitals": "commands/capitals", "import": "commands/bring", "export": "commands/bring",
+    "blocks": "commands/blocks", "capitals": "commands/capitals", "import": "commands/bring", "export": "commands/bring",
 }  # fmt: skip
 HELP = {"-h", "--help"}
 DEVICE = {"--on": 1, "--speed": 1}
@@ -47,12 +48,25 @@ def own(words: list[str]) -> list[str]:
     return words[: words.index("--")] if "--" in words else words
 
 
-def take_program(words: list[str]) -> tuple[str, list[str]]:
-    """Which program is wanted, and the other words."""
-    how = [word[2:] for word in words if word in ABOUT_PROGRAMS]
+def take_program(words: list[str]) -> tuple[list[str], list[str]]:
+    """The option that says which program is wanted, with its value, if there is one; and the other words."""
+    named_last: list[str] = []
+    while "--program" in words:
+        at = words.index("--program")
+        named_last, words = words[at : at + 2], words[:at] + words[at + 2 :]
+        if not named_last[1:]:
+            raise Misused(f"--program needs {VALUES['--program'][0]}")
+    if named_last:
+        return named_last, words
+    how = [word for word in words if word in ABOUT_PROGRAMS]
     if len(set(how)) > 1:
         raise Misused("--unproved and --proved cannot be used together")
-    return "".join(how[:1]), [word for word in words if word not in ABOUT_PROGRAMS]
+    return how[:1], [word for word in words if word not in ABOUT_PROGRAMS]
+
+
+def program_of(option: list[str]) -> str:
+    """The path of the program that this option names; without one it is the usual one."""
+    return named(option[1]) if option[1:] else find("".join(option)[2:])
 
 
 def make_page(words: list[str]) -> int:
@@ -65,14 +79,14 @@ def make_page(words: list[str]) -> int:
     looked = subprocess.call([*maker, "-", "--look", *words])
     if looked:
         return looked
-    return subprocess.call([*maker, find(take_program(words)[0]), *words])
+    return subprocess.call([*maker, program_of(take_program(words)[0]), *words])
 
 
 def go_through_course(words: list[str]) -> int:
     """Starts the course, or shows something of it."""
     from launcher import course
 
-    how, rest = take_program(words)
+    option, rest = take_program(words)
     first = rest[0] if rest else ""
     if first in course.KINDS:
         if len(rest) != 2:
@@ -93,35 +107,55 @@ def go_through_course(words: list[str]) -> int:
         raise Misused("course takes no more than the name of its file of blocks")
     blocks = first or "course.blk"
     if not os.path.exists(blocks):
-        course.make(find(how), blocks)
-    return session([*[f"--{how}"] * bool(how), "--no-start", course.START, blocks])
+        course.make(program_of(option), blocks)
+    return session([*option, "--no-start", course.START, blocks])
 
 
 def where(words: list[str]) -> int:
     """Shows at which word of an image its fault happens."""
-    how, rest = take_program(words)
+    option, rest = take_program(words)
     if rest and rest[0].startswith("-"):
         raise Misused(f"where has no option {rest[0]}")
     if len(rest) not in (1, 2):
         raise Misused("where needs an IMAGE, and BLOCKS if the image uses a file of blocks")
     from served import way  # a session does not need it
 
-    return way.where(find(how), rest[0], rest[1] if rest[1:] else None)
+    return way.where(program_of(option), rest[0], rest[1] if rest[1:] else None)
 
 
 def run_tests(words: list[str]) -> int:
     """Runs files of tests."""
     from launcher import tests
 
-    return tests.main(*take_program(words))
+    option, names = take_program(words)
+    return tests.main(lambda: program_of(option), names)
 
 
-OWN: dict[str, Callable[[list[str]], int]] = {"page": make_page, "course": go_through_course, "where": where, "test": run_tests}
+def bridge(words: list[str]) -> int:
+    """A session in which addresses are devices: a map, a file of Python with the devices, and the words of a session."""
+    given = {option: [word for word in own(words) if word.endswith(end)] for option, end in (("--bridge", MAP), ("--devices", ".py"))}
+    if len(given["--bridge"]) != 1 or len(given["--devices"]) > 1:
+        raise Misused("bridge needs a map of devices, as kiln.map, and a file of Python with these devices")
+    options = [word for option, files in given.items() for file in files for word in (option, file)]
+    return session(options + [word for word in words if word not in options])
+
+
+def survey(words: list[str]) -> int:
+    """Reports what old screens are."""
+    from launcher import survey as reports
+
+    option, rest = take_program(words)
+    return reports.main(lambda: program_of(option), rest)
+
+
+OWN: dict[str, Callable[[list[str]], int]] = {
+    "page": make_page, "course": go_through_course, "where": where, "test": run_tests, "bridge": bridge, "survey": survey,
+}  # fmt: skip
 COMMANDS = {*SCRIPTS, *OWN}
 
 
 def do_command(command: str, words: list[str]) -> int:
-    if HELP & set(own(words)) and command in ("course", "where", "test"):
+    if HELP & set(own(words)) and command in ("course", "where", "test", "bridge"):
         sys.stdout.write(usage(command))
         return 0
     if command == "page" and HELP & set(own(words)):

@@ -18,6 +18,13 @@ def say(text: str) -> None:
     os.write(2, os.fsencode(f"forth: {text}\n"))
 
 
+def named(path: str) -> str:
+    """The path of a program that the command line names."""
+    if not os.path.isfile(path) or not os.access(path, os.X_OK):
+        raise Refused(f"{path}: this is no program that can be run: name a built forth83")
+    return path
+
+
 def find(how: str) -> str:
     """The path of the program; how is `proved`, `unproved`, or empty."""
     if not how and os.access(PROVED, os.X_OK) and os.path.exists(os.path.join(BUILT, "proved")) and not os.path.exists(AWAITED):

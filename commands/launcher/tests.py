@@ -5,8 +5,9 @@ import os
 import re
 import subprocess
 import sys
+from typing import Callable
 
-from launcher.program import find, ROOT, say
+from launcher.program import ROOT, say
 from served.start import Misused
 
 LAUNCH = os.path.join(ROOT, "commands", "launch")
@@ -23,15 +24,17 @@ def run(program: str, name: str) -> tuple[int, int, bytes]:
     return int(counts[1]), int(counts[2]), done.stdout[: counts.start()]
 
 
-def main(how: str, names: list[str]) -> int:
-    """Runs the files; 0 if all tests were right, 1 if not."""
-    if not names or names[0].startswith("-"):
+def main(find: Callable[[], str], names: list[str]) -> int:
+    """Runs the files by the program that is found; 0 if all tests were right, 1 if not."""
+    if not names:
         raise Misused("test needs files of tests, as in ./forth test calc-test.fs")
+    if names[0].startswith("-"):
+        raise Misused(f"test has no option {names[0]}")
     for name in names:
         if not os.path.isfile(name):
-            say(f"there is no file {name}")
+            say(f"{name}: there is no such file: name a text with tests")
             return 1
-    program, wrong = find(how), 0
+    program, wrong = find(), 0
     for name in names:
         tests, bad, shown = run(program, name)
         sys.stdout.flush()

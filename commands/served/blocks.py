@@ -38,17 +38,21 @@ def make(program: str, name: str) -> None:
     folder = os.path.dirname(name) or "."
     if not os.access(folder, os.W_OK):
         raise Unreadable(f"cannot make {name}: the folder {folder} cannot be written; name a file elsewhere, as in ./forth ~/my.blk")
-    new = f"{name}.{os.getpid()}"
+    import tempfile  # files are seldom made
+
+    beside = os.path.join(image.beside(program), image.NEW)
     try:
-        image.run(program, "kernel", new)
-        os.link(new, name)
+        with tempfile.TemporaryDirectory(prefix=".forth-", dir=folder) as room:
+            new = os.path.join(room, "new")
+            if os.path.isfile(beside):
+                shutil.copyfile(beside, new)
+            else:
+                image.run(program, "kernel", new)
+            os.link(new, name)
     except FileExistsError:
         pass
     except (image.NotMade, OSError) as error:
         raise Unreadable(f"cannot make {name}: {error}") from error
-    finally:
-        if os.path.exists(new):
-            os.unlink(new)
 
 
 def look_at_kind(name: str) -> None:
@@ -65,7 +69,10 @@ def look_at_kind(name: str) -> None:
 
 def look_inside(name: str) -> None:
     with open(name, "rb") as file:
-        start, size = file.read(BLOCK), os.fstat(file.fileno()).st_size
+        try:
+            start, size = file.read(BLOCK), os.fstat(file.fileno()).st_size
+        except OSError as error:
+            raise Unreadable(f"cannot read {name}: {error.strerror}") from error
         try:
             fcntl.flock(file, fcntl.LOCK_EX | fcntl.LOCK_NB)
         except OSError as error:

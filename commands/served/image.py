@@ -10,6 +10,7 @@ import os
 import re
 from typing import Callable
 
+from served import paging
 from served.table import numbers
 
 ROOT = os.path.dirname(os.path.dirname(os.path.dirname(os.path.realpath(__file__))))
@@ -19,6 +20,7 @@ LIBRARY = os.path.join(ROOT, "screens", "library")  # texts that INCLUDE finds f
 DIALECT = os.path.join(ROOT, "screens", "tools", "dialect.txt")
 OF_DIALECTS = re.compile(r"^% screen \d+\n\( Order: what dialects need.*?(?=^% screen)", re.M | re.S)
 BLOCK = 1024
+NEW = "kernel.blk"
 KERNEL = "1", "20"  # its screens
 
 
@@ -33,7 +35,7 @@ def with_numbers(text: str) -> str:
 
 def sum_of(paths: list[str]) -> str:
     made = hashlib.sha256()
-    for path in [*paths, os.path.realpath(__file__)]:
+    for path in [*paths, os.path.realpath(__file__), os.path.realpath(paging.__file__)]:
         with open(path, "rb") as file:
             made.update(file.read())
     made.update(repr(numbers()).encode())
@@ -86,7 +88,7 @@ def find(program: str, kernel: str = "") -> str:
     """The folder with `served.img`, what a session starts with; `small.img`, the same without what dialects need, for programs; and
     `plain.img`, the kernel alone. The kernel is the program's own, or that in screens 1 to 20 of a file."""
     if kernel and not os.path.isfile(kernel):
-        raise NotMade(f"{kernel} does not exist, or cannot be read")
+        raise NotMade(f"{kernel}: it does not exist, or cannot be read: name a file of blocks")
     if not kernel and os.path.isdir(beside(program)):
         return beside(program)
     made_of = [program, *TEXTS, ORDER, *([kernel] if kernel else [])]
@@ -94,7 +96,7 @@ def find(program: str, kernel: str = "") -> str:
 
 
 def beside(program: str) -> str:
-    """Where the same images are beside a program that cannot make them, as a server in C."""
+    """Where the same images, and a new file of blocks, are beside a program that cannot make them, as a server in C."""
     return os.path.join(os.path.dirname(os.path.realpath(program)), "images", sum_of([*TEXTS, ORDER]))
 
 
@@ -136,37 +138,45 @@ def make_kernel(program: str, kernel: str, room: str, blocks: str) -> None:
                       f"forth: then: dd if=new.blk of={kernel} bs=1024 skip=1 seek=1 count=20 conv=notrunc") from error
 
 
-def text_of(said: str) -> str:
-    """The text of the tools that has the screen with which this message begins."""
-    screen = re.match(r"screen \d+", said)
-    return next((os.path.relpath(path, ROOT) for path in TEXTS if screen and f"% {screen[0]}\n" in read(path)), "the tools")
+def screens() -> list[paging.Screen]:
+    """The screens of the tools."""
+    return paging.paged([(os.path.relpath(path, ROOT), read(path)) for path in TEXTS])
 
 
-def make_served(program: str, kernel: bytes, texts: str, order: str, made: str) -> None:
-    """Makes an image of the kernel's screens and these texts, with its words in their order."""
+def run_over(tools: list[paging.Screen], *words: str) -> None:
+    """Runs the program over these screens; NotMade names the file and the line of what it refuses, not those of the files here."""
+    try:
+        run(*words)
+    except NotMade as error:
+        first, *rest = str(error).splitlines()
+        mark = rest[1:] if len(rest) > 1 else rest
+        raise NotMade("\n".join([f"{paging.place_of(tools, first)}: {first}", *mark])) from error
+
+
+def make_served(program: str, kernel: bytes, tools: list[paging.Screen], order: str, made: str) -> None:
+    """Makes an image of the kernel's screens and these, with its words in their order."""
     import tempfile
 
     with tempfile.TemporaryDirectory() as room:
         text, blocks, orders, first = (os.path.join(room, name) for name in ("text", "all.blk", "order.blk", "made.img"))
         with open(blocks, "wb") as file:
             file.write(kernel[:BLOCK] + re.sub(rb"BOOT COLD *", lambda found: b" " * len(found[0]), kernel[BLOCK : 21 * BLOCK]))
-        run(program, "screens", write(text, with_numbers(texts) + "% screen 199\nBOOT COLD\n"), blocks)
-        try:
-            run(program, "build", "--where", blocks, "1", "199", first)
-        except NotMade as error:
-            raise NotMade(f"{text_of(str(error))}: {error}") from error
+        last = str(tools[-1].number + 1)
+        run_over(tools, program, "screens", write(text, f"{with_numbers(paging.text_of(tools))}% screen {last}\nBOOT COLD\n"), blocks)
+        run_over(tools, program, "build", "--where", blocks, "1", last, first)
         run(program, "screens", write(text, order), orders)
         run(program, "load", first, orders, "1", re.findall(r"^% screen (\d+)$", order, re.M)[-1], made)
 
 
 def make(program: str, kernel: str, room: str) -> None:
-    """Makes the images of a session in a folder."""
-    blocks, order = os.path.join(room, "all.blk"), read(ORDER)
+    """Makes the images of a session in a folder, and a new file of blocks, which has the kernel's screens."""
+    blocks, order = os.path.join(room, NEW), read(ORDER)
     make_kernel(program, kernel, room, blocks)
     with open(blocks, "rb") as file:
-        screens = file.read()
-    os.unlink(blocks)
-    texts = [(path, read(path)) for path in TEXTS]
-    make_served(program, screens, "".join(text for _, text in texts), order, os.path.join(room, "served.img"))
-    small = "".join(text for path, text in texts if path != DIALECT)
-    make_served(program, screens, small, re.sub(OF_DIALECTS, "", order), os.path.join(room, "small.img"))
+        kernel_screens = file.read()
+    if kernel:
+        os.unlink(blocks)
+    tools = screens()
+    make_served(program, kernel_screens, tools, order, os.path.join(room, "served.img"))
+    small = [screen for screen in tools if screen.path != os.path.relpath(DIALECT, ROOT)]
+    make_served(program, kernel_screens, small, re.sub(OF_DIALECTS, "", order), os.path.join(room, "small.img"))

@@ -7,6 +7,8 @@ from __future__ import annotations
 import os
 from typing import Optional
 
+import whole
+
 HEAD = b"jaurimet journal 1\n"
 BLOCK = 1024
 
@@ -40,7 +42,7 @@ class Journal:
     """The journal of a block file."""
 
     def __init__(self, blocks: str) -> None:
-        self._places, self._kept = places(blocks), {}  # type: list[str], dict[int, bytes]
+        self._blocks, self._places, self._kept = blocks, places(blocks), {}  # type: str, list[str], dict[int, bytes]
         self.path: Optional[str] = None  # where it is
         self.is_lost = False  # no place takes it
 
@@ -54,27 +56,12 @@ class Journal:
         content = HEAD + b"".join(b"%d\n" % number + page for number, page in sorted(screens.items()))
         for path in [*([self.path] if self.path else []), *self._places]:
             try:
-                self._write(path, content)
+                whole.replace(path, content, self._blocks)
             except OSError:
                 continue
             self.path, self._kept, self.is_lost = path, dict(screens), False
             return
         self.is_lost = True
-
-    @staticmethod
-    def _write(path: str, content: bytes) -> None:
-        """The file has this content, wholly or not at all."""
-        new = f"{path}.{os.getpid()}"
-        try:
-            with open(new, "wb") as file:
-                file.write(content)
-                file.flush()
-                os.fsync(file.fileno())
-            os.replace(new, path)
-        except OSError:
-            if os.path.exists(new):
-                os.unlink(new)
-            raise
 
     def is_in(self, blocks: str) -> bool:
         """Whether the file of blocks has all of these screens as they are here."""

@@ -5,6 +5,7 @@ import os
 import sys
 from typing import Optional
 
+import whole
 from served import image
 from served.blocks import look_at_name, open_blocks
 from served.faults import plain
@@ -111,16 +112,13 @@ def look_at_own(own: str, images: str) -> None:
 
 def write_own(own: str, made: bytes) -> None:
     """Writes the image beside its place, and puts it there when it is whole."""
-    is_file = os.path.isfile(own) or not os.path.exists(own)
-    new = f"{own}.forth83-new" if is_file else own
     try:
-        with open(new, "wb") as file:
-            file.write(made)
-        if is_file:
-            os.replace(new, own)
+        if os.path.isfile(own) or not os.path.exists(own):
+            whole.replace(own, made)
+        else:
+            with open(own, "wb") as file:
+                file.write(made)
     except OSError as error:
-        if is_file and os.path.isfile(new):
-            os.unlink(new)
         raise Unreadable(f"it cannot be written: {error.strerror}") from error
 
 

@@ -3,10 +3,10 @@ from __future__ import annotations
 
 import os
 import time
-from typing import Callable, TYPE_CHECKING, Optional
+from typing import Any, Callable, TYPE_CHECKING, Optional
 
 from served.manual import help_for
-from served import past, reports, words
+from served import bridge, past, reports, words
 from served.faults import MISSING, SAID, UNKNOWN, plain, section
 from served.prompt import Ended, Interrupted
 from served.script import Script
@@ -27,14 +27,45 @@ NO_STRUCTURE = {int(cause): text for cause, text in section("see")}  # why the s
 REGISTERED: dict[int, Callable[[Target], int]] = {}
 
 
-def register(path: str) -> None:
-    """Takes the services of a file of Python."""
+def taken(path: str, name: str) -> Any:
+    """What a file of Python has by this name."""
     import runpy
 
+    if not os.path.isfile(path):
+        raise Unreadable(f"cannot read {path}: there is no such file")
     try:
-        REGISTERED.update(runpy.run_path(path)["SERVICES"])
-    except (OSError, KeyError, SyntaxError) as error:
-        raise Unreadable(f"{path} has no services: {error}") from error
+        return runpy.run_path(path)[name]
+    except Exception as error:  # whatever goes wrong in a file that somebody else wrote
+        why = f"it has no {name}" if isinstance(error, KeyError) and error.args == (name,) else f"{type(error).__name__}: {error}"
+        raise Unreadable(f"cannot use {path}: {why}") from error
+
+
+def register(path: str) -> None:
+    """Takes the services of a file of Python."""
+    REGISTERED.update(taken(path, "SERVICES"))
+
+
+def register_devices(path: str, places: list[Optional[bridge.Range]]) -> None:
+    """Takes the devices of a file of Python for the addresses of a map: they are the ports."""
+    devices = bridge.Devices(places, taken(path, "DEVICES"))
+    if devices.missing():
+        raise Unreadable(f"cannot use {path}: it has no device {', '.join(devices.missing())}, which the map names; DEVICES has a function for each name")
+
+    def fetch(machine: Target) -> int:
+        address = machine.wire.state().stack[-1]
+        byte = devices.fetch(address)
+        if byte is None:
+            raise Refusal(f"the map has no device at {address:04X}")
+        machine.set_results(byte, 0)
+        return 0
+
+    def store(machine: Target) -> int:
+        byte, address = machine.wire.state().stack[-2:]
+        if not devices.store(address, byte):
+            raise Refusal(f"the map has no device at {address:04X}")
+        return 0
+
+    REGISTERED.update({bridge.PORT_FETCH: fetch, bridge.PORT_STORE: store})
 
 
 class Refusal(Exception):
@@ -54,7 +85,7 @@ def serve(session: Session, number: int) -> int:
     names = {number: name for name, number in numbers().items()}
     try:
         if number in REGISTERED:
-            return REGISTERED[number](session.target)
+            return from_python(session, number)
         if number not in names:
             raise Refusal(f"nobody has registered service {number}")
         globals()[function_name(names[number])](session)
@@ -68,6 +99,16 @@ def serve(session: Session, number: int) -> int:
         session.refused = f"the machine cannot be asked for that (cause {error.cause} of docs/FORMATS.md); its memory may be damaged"
         return SAID
     return 0
+
+
+def from_python(session: Session, number: int) -> int:
+    """Does a service of a file of Python. If that goes wrong the service is refused, and the session goes on."""
+    try:
+        return REGISTERED[number](session.target)
+    except (Ended, Interrupted, Refusal, Refused):
+        raise
+    except Exception as error:
+        raise Refusal(f"service {number} failed: {type(error).__name__}: {error}") from error
 
 
 def numbers_on_stack(session: Session, count: int) -> list[int]:

@@ -2,10 +2,10 @@
 from __future__ import annotations
 
 import os
-from typing import Callable, Optional
+from typing import Callable, Iterator, Optional
 
-from launcher.program import find, say
-from served import blocks, image, journal
+from launcher.program import find, named, say
+from served import blocks, bridge, image, journal
 from served.prompt import Ended, Signals
 from served.script import Script
 from served.session import Session
@@ -21,6 +21,7 @@ TOGETHER = ("--kernel", "--quiet"), ("--proved", "--unproved"), ("--start", "--n
 VALUES = {"-e": ("some words of Forth", 1), "--kernel-of": ("the name of a file", 1), "--program": ("the name of a file", 1),
           "--services": ("a file of Python", 1), "--target": ("a board's serial line, as /dev/ttyACM0", 1),
           "--speed": ("the bits a second of the line", 1),
+          "--bridge": ("a map of devices", 1), "--devices": ("a file of Python", 1), "--dialect": ("a dialect, as fig", 1),
           "--image": ("OWN, the name of an image, and what it loads: the screens FROM TO, texts, or both", 1)}
 
 
@@ -45,7 +46,8 @@ class Asked:
         self.is_quiet = "--quiet" in self.flags or bool(self.lines)
         self.kernel = self._values.get("--kernel-of", [""])[0]
         self.program = self._values.get("--program", [""])[0]
-        self.services, self.target, self.speed = (self._values.get(option, [""])[0] for option in ("--services", "--target", "--speed"))
+        self.services, self.target, self.speed = self._values_of("--services", "--target", "--speed")
+        self.bridge, self.devices, self.dialect = self._values_of("--bridge", "--devices", "--dialect")
         self._check()
         self.own = self._own()
 
@@ -75,6 +77,9 @@ class Asked:
         else:
             (self.texts if is_text(word) else self._names).append(word)
 
+    def _values_of(self, *options: str) -> Iterator[str]:
+        return (self._values.get(option, [""])[0] for option in options)
+
     def _check(self) -> None:
         """Refuses what does not go together."""
         if len(self._names) > 1:
@@ -86,6 +91,8 @@ class Asked:
             raise Misused("a text cannot be used with --kernel")
         if self.target and (self.flags & {"--kernel", "--dap"} or "--image" in self._values):
             raise Misused("--target cannot be used with --kernel, --image or --dap")
+        if self.bridge and not (self.devices or self.services or self.target):
+            raise Misused("bridge needs the devices: a file of Python, or the board of --target")
         if self.speed and not (self.target and self.speed.isascii() and self.speed.isdigit()):
             raise Misused("--speed is for --target, and needs the bits a second of its line")
         if any(values[0].startswith("-") for values in self._values.values()):
@@ -126,7 +133,7 @@ def is_text(name: str) -> bool:
 
 def find_program(wanted: Asked) -> str:
     """The program that runs; if there is none, or another one is wanted, it is made."""
-    return wanted.program or find("".join(flag[2:] for flag in wanted.flags & {"--proved", "--unproved"}))
+    return named(wanted.program) if wanted.program else find("".join(flag[2:] for flag in wanted.flags & {"--proved", "--unproved"}))
 
 
 def texts_of(wanted: Asked, is_terminal: bool) -> list[str]:
@@ -138,9 +145,26 @@ def texts_of(wanted: Asked, is_terminal: bool) -> list[str]:
     return [own] * is_included + wanted.texts
 
 
+def first_lines(wanted: Asked) -> list[bytes]:
+    """What a session loads before its texts: a dialect, and a map of devices."""
+    dialect = [f"{first_screen(wanted.dialect)} LOAD"] if wanted.dialect else []
+    lines = [bridge.BEFORE, *dialect, bridge.AFTER, f'INCLUDE "{wanted.bridge}"'] if wanted.bridge else dialect
+    return [os.fsencode(line) for line in lines]
+
+
+def first_screen(dialect: str) -> int:
+    """The screen that loads a dialect, which is the first one of its text."""
+    from served.dialects import DIALECTS, FOLDER
+
+    if f"{dialect}.txt" not in DIALECTS:
+        raise Unreadable(f"there is no dialect {dialect}; there are {', '.join(name[:-4] for name in DIALECTS)}")
+    with open(os.path.join(FOLDER, f"{dialect}.txt"), encoding="utf-8") as text:
+        return int(text.readline().split()[-1])
+
+
 def script_lines(wanted: Asked) -> list[Line]:
     """All lines of a script's texts, before any of them is done."""
-    found: list[Line] = []
+    found = [Line("bridge", number, line) for number, line in enumerate(first_lines(wanted), 1)]
     for name in texts_of(wanted, False):
         try:
             found += lines_of(name, read_file(name))
@@ -191,10 +215,7 @@ def start(wanted: Asked) -> int:
     is_new = blocks.open_blocks(program, wanted.blocks) if wanted.blocks else False
     if is_new and not is_terminal:
         say(f"{wanted.blocks} is a new file")
-    if wanted.services:
-        from served.services import register
-
-        register(wanted.services)
+    register(wanted)
     is_kernel, signals = "--kernel" in wanted.flags, Signals()
     words = [program, "serve", os.path.join(images, "plain.img" if is_kernel else "served.img"), *([wanted.blocks] if wanted.blocks else [])]
     try:
@@ -212,6 +233,25 @@ def start(wanted: Asked) -> int:
         raise Unreadable(f"{program} ended as soon as it was started; try it again") from None
     begin(session, wanted, is_new)
     return session.run()
+
+
+def register(wanted: Asked) -> None:
+    """Takes the services and devices of files of Python."""
+    if not (wanted.services or wanted.bridge):
+        return
+    from served import services
+
+    if wanted.services:
+        services.register(wanted.services)
+    if wanted.bridge:
+        try:
+            places = bridge.ranges(wanted.bridge, read_file(wanted.bridge))
+        except OSError as error:
+            raise Unreadable(f"cannot read {wanted.bridge}: {error.strerror}") from error
+        except bridge.Misread as error:
+            raise Unreadable(str(error)) from error
+        if wanted.devices:
+            services.register_devices(wanted.devices, places)
 
 
 def wire_to(wanted: Asked, signals: Signals, is_script: bool) -> Callable[[list[str], Callable[[bytes], None]], Wire]:
@@ -242,7 +282,7 @@ def begin(session: Session, wanted: Asked, is_new: bool) -> None:
     texts = texts_of(wanted, True)
     if len(texts) > len(wanted.texts):
         session.say(f"{texts[0]} is included first; --no-start leaves it out.\n")
-    session.first = [f'INCLUDE "{text}"'.encode(errors="surrogateescape") for text in texts]
+    session.first = first_lines(wanted) + [f'INCLUDE "{text}"'.encode(errors="surrogateescape") for text in texts]
     offer_journal(session, wanted.blocks)
 
 

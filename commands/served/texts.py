@@ -10,6 +10,7 @@ import re
 import stat
 from typing import Callable, NamedTuple, Optional
 
+from served import bridge
 from served.image import LIBRARY, with_numbers
 
 FIRST = 32768  # blocks from here on are lines of texts
@@ -44,6 +45,14 @@ def read_file(name: str) -> bytes:
     if len(content) > LARGEST:
         raise OSError(errno.EFBIG, f"it has more than {LARGEST >> 20} MB")
     return with_numbers(content.decode()).encode() if os.path.dirname(os.path.realpath(name)) == LIBRARY else content
+
+
+def forth_of(path: str, content: bytes) -> bytes:
+    """The Forth of a file that is included: a map of devices stands for one."""
+    try:
+        return bridge.text_of(path, content) if path.endswith(bridge.ENDS) else content
+    except bridge.Misread as error:
+        raise Unreadable(str(error)) from error
 
 
 def lines_of(name: str, content: bytes) -> list[Line]:
@@ -118,7 +127,7 @@ class Texts:
         self.included.add(os.path.realpath(path))
         key = (os.path.realpath(path), content)
         if key not in self._ranges:
-            self._ranges[key] = self.add(lines_of(path, content))
+            self._ranges[key] = self.add(lines_of(path, forth_of(path, content)))
         for block in self._ranges[key]:
             self._pages.pop(block, None)
         return self._ranges[key]

@@ -2,11 +2,11 @@
 from __future__ import annotations
 
 import os
-import re
 from typing import Iterable, Iterator, Sequence
 
+from served import image, paging
 from served.faults import plain, section
-from served.image import ROOT, TEXTS
+from served.image import ROOT
 from served.target import CONTEXT, FENCE, FORTH_VOCABULARY, TOP, Target, plain_name
 from served.wire import Header
 
@@ -87,11 +87,10 @@ def place_of(target: Target, view: int, token: int) -> str:
 
 def system_screen(number: int) -> tuple[str, list[str]]:
     """The text that has a screen of the system, and its lines."""
-    for path in [*TEXTS, os.path.join(ROOT, "screens", "kernel.txt")]:
-        with open(path, encoding="utf-8") as file:
-            found = re.search(rf"^% screen {number}\n(.*?)(?=^% screen|\Z)", file.read(), re.M | re.S)
-        if found:
-            return os.path.relpath(path, ROOT), found[1].splitlines()
+    kernel = os.path.join("screens", "kernel.txt")
+    for screen in [*image.screens(), *paging.parts_of(kernel, image.read(os.path.join(ROOT, kernel)))]:
+        if screen.number == number:
+            return screen.path, [line for _, line in screen.lines]
     return "", []
 
 

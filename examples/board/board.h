@@ -1,4 +1,4 @@
-/* What board.c wants of a board: six functions, a list of services, and how large its flash is cut. docs/EMBEDDING.md, "Another board", says more. */
+/* What board.c wants of a board: six functions, a list of services, and how large its flash is cut. README.md, "Another board", says more. */
 #ifndef BOARD_H
 #define BOARD_H
 #include "forth83.h"
