@@ -1,4 +1,4 @@
-"""The targets of the machine's C library, and how the library is made for each of them: see `./build-library --help`.
+"""The targets of the machine's C library, and how the library is made for each of them: see `targets/make --help`.
 
 The Rattle toolchain itself compiles a proved library for Linux on x86-64 and on ARM of 64 bits. For any other target the library's
 LLVM text (lowering.py) is rewritten (retarget.py), and the toolchain's own clang compiles it. So a library needs no other compiler;
@@ -12,6 +12,7 @@ import shutil
 import tempfile
 from typing import Dict, List, NamedTuple, Sequence
 
+import in_c
 import lowering
 import records
 import retarget
@@ -40,6 +41,7 @@ TARGETS: Dict[str, Target] = {
     "cortex-m3": Target("thumbv7m-none-eabi", ["-Os"], "boards with Cortex-M3 and M4, soft floats"),
     "cortex-m7": Target("thumbv7em-none-eabihf", ["-O2", "-mcpu=cortex-m7"], "boards with Cortex-M7, hard floats"),
     "wasm32": Target("wasm32-unknown-unknown", ["-O3"], "WebAssembly; lib/forth83.wasm is the linked module"),
+    "c": Target("", [], "any other processor, as one file of C99, src/forth83.c"),
 }
 
 
@@ -100,6 +102,16 @@ def compile_text(room: pathlib.Path, name: str, text: str, is_proved: bool, made
     # The text's name is in what clang makes, so it is the same in every folder.
     called([tool("clang"), f"--target={target.triple}", *target.options, "-ffunction-sections", "-fdata-sections", "-Wno-override-module",
             "-x", "ir", other.name, "-c", "-o", str(made.resolve())], cwd=room)
+
+
+def portable(made: pathlib.Path, is_proved: bool) -> None:
+    """The library as one file of C."""
+    made.parent.mkdir(parents=True, exist_ok=True)
+    try:
+        with open(made, "w", encoding="ascii") as out:
+            in_c.write(lowering.text_of_library(is_proved), out, None if is_proved else lowering.PREFIX)
+    except retarget.Unknown as error:
+        raise Refused(f"targets/in_c.py: {error}") from None
 
 
 def compile_all(names: Sequence[str], is_proved: bool) -> None:

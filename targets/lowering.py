@@ -9,6 +9,7 @@ import os
 import pathlib
 import re
 import shutil
+import signal
 import subprocess
 import sys
 import tempfile
@@ -38,6 +39,12 @@ exec "{kit}/toolchain/bin/clang" "$@"
 
 class Refused(Exception):
     """Why nothing was made."""
+
+
+def end_tidily() -> None:
+    """A signal ends the process as an exception does, so that its temporary folders are removed."""
+    for number in (signal.SIGTERM, signal.SIGHUP):
+        signal.signal(number, lambda number, _frame: sys.exit(128 + number))
 
 
 def say(text: str) -> None:

@@ -43,12 +43,17 @@ POINTERS = [
     re.compile(rf" *{NAME} = load (?:ptr|\{{ (?:ptr|{INTEGER}), (?:ptr|{INTEGER}) \}}), ptr {NAME}, align \d+{MARKS}"),
     re.compile(rf" *{NAME} = alloca ptr, align \d+"),
 ]
+# A constant that has addresses of constants among its bytes: its beginning, its types, its values, and its end.
+VALUE = rf'(?:\[\d+ x i8\] (?:zeroinitializer|c"[^"]*")|ptr (?:getelementptr \(i8, ptr {NAME}, i64 \d+\)|{NAME}))'
+POINTING = re.compile(rf"({NAME} = (?:private |internal )?(?:unnamed_addr )?constant) <\{{ ((?:(?:\[\d+ x i8\]|ptr)(?:, )?)+) \}}> "
+                      rf"<\{{ ({VALUE}(?:, {VALUE})*) \}}>(, align \d+)")
 CALL = re.compile(rf" *(?:{NAME} = )?(?:tail |musttail |notail )?call (?:noundef |zeroext |signext )*[^@]*(@(?:\"[^\"]*\"|[\w.$+-]+))\(.*")
 INTRINSIC = re.compile(r"@llvm\.(?:mem(?:set\.p0|cpy\.p0\.p0|move\.p0\.p0)\.i64|trap|[su](?:add|sub|mul)\.with\.overflow\.i\d+"
                        r"|(?:ctpop|ctlz|cttz|umin|umax|smin|smax|abs|bswap|fshl|fshr)\.i\d+)")
 OUTSIDE = [
     re.compile(r"(?:;.*|\}|source_filename = .*|!.*|)"),
     re.compile(rf"{NAME} = (?:private |internal )?(?:unnamed_addr )?constant {PLAIN} .*"),
+    POINTING,
     re.compile(r"declare (?:i\d+|void|\{ i64, i64 \}) @[\w.]+\(.*"),
     re.compile(r"define .*\{"),
     re.compile(r"[\w.\"-]+:.*"),
@@ -104,11 +109,18 @@ class Narrowing:
             return self.stored(*found.groups())
         if found := re.fullmatch(rf"( *)({NAME}) = load ptr, ptr ({NAME}), align (\d+){MARKS}", line):
             return self.loaded(*found.groups())
+        if found := POINTING.fullmatch(line):
+            return [self.constant(*found.groups())]
         pair = re.fullmatch(rf"( *)({NAME}) = load \{{ (ptr|{INTEGER}), (ptr|{INTEGER}) \}}, ptr ({NAME}), align (\d+)", line)
         if pair and "ptr" in pair.groups()[2:4]:
             return self.loaded_pair(*pair.groups())
         line = re.sub(rf"= ptrtoaddr ptr ({NAME}) to i64", r"= ptrtoint ptr \1 to i64", line)
         return [re.sub(r"= alloca ptr, align \d+", "= alloca i64, align 8", line)]
+
+    def constant(self, begins: str, types: str, values: str, ends: str) -> str:
+        """A constant with addresses: after each come the four bytes that it lacks."""
+        items = [f"{item}, [4 x i8] zeroinitializer" if item.startswith("ptr") else item for item in re.findall(VALUE, values)]
+        return f"{begins} <{{ {types.replace('ptr', 'ptr, [4 x i8]')} }}> <{{ {', '.join(items)} }}>{ends}"
 
     def stored(self, indent: str, value: str, place: str, align: str) -> List[str]:
         number = f"%narrow.{self.count}"
