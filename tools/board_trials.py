@@ -83,7 +83,7 @@ def made(place: Place, program: pathlib.Path, what: str, *options: str) -> pathl
     room = place.room / "board"
     (room / "library/lib").mkdir(parents=True, exist_ok=True)
     (room / "library/lib/libforth83.a").write_bytes(place.library.read_bytes())
-    shutil.copytree(ROOT / "include", room / "library/include", dirs_exist_ok=True)
+    shutil.copytree(ROOT / "targets/include", room / "library/include", dirs_exist_ok=True)
     for name in os.listdir(EXAMPLE):
         shutil.copy(EXAMPLE / name, room)
     subprocess.run([*host(program), "--image", room / "board.img", "-e", "REQUIRE board.fs"], stderr=subprocess.DEVNULL, check=True)

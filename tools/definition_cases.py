@@ -140,6 +140,10 @@ class State:
     def say_assign(self, names: Dict[str, int], rest: str) -> None:
         self.parts["buffers"] = defined("block_buffers.Entries.assigned")(number(names, rest), self.parts["buffers"])
 
+    def say_updated(self, names: Dict[str, int], rest: str) -> None:
+        self.say_assign(names, rest)
+        self.parts["buffers"] = defined("block_buffers.Entries.front_marked")(self.parts["buffers"])
+
     def pages(self) -> Tuple[bytes, ...]:
         """The blocks of the device."""
         pages = [bytearray(1024) for _ in range(self.parts["block_count"])]

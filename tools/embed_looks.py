@@ -27,6 +27,16 @@ WORDS = [
     b": CUBE DUP SQUARE * ;",
     b"FORTH DEFINITIONS TOOLS",
 ]
+# Old screens, each with the number of the dialect whose signs they have (crates/survey_tables/src/signs.rt).
+SURVEYED = [
+    (b"0 VARIABLE LEVEL : UP LEVEL @ -DUP IF . ENDIF ;".ljust(1024), 1),
+    (b"79-STANDARD  : LOW 3 LOADS 12 ASHIFT ;".ljust(1024), 2),
+    (b"DEFER ALARM  : BODY ['] ALARM >BODY @ ;  ONLY FORTH ALSO".ljust(1024), 3),
+    (b"8 CVARIABLE STATE  : GO STATE ACTIVATE BEGIN PAUSE AGAIN ;  7 STRAIGHT".ljust(1024), 4),
+    (b": SQUARE DUP * ;".ljust(1024), 0),
+    (bytes(range(256)) * 5, 0),
+    (b"", 0),
+]
 STRANGE = [b"", b"NOWHERE", b"square", 31 * b"N", 300 * b"N", b"\0", b"A B"]
 
 
@@ -131,6 +141,21 @@ class Looks:
         return self.fitting(self.calls.forth83_trace_line, 1)
 
 
+    def survey(self, name: bytes, blocks: bytes) -> Tuple[int, bytes, int]:
+        """forth83_survey: its status, the report, and the number of the dialect."""
+        dialect = ctypes.c_uint16(7)
+        words = (name, ctypes.c_uint64(len(name)), blocks, ctypes.c_uint64(len(blocks)))
+        found = []
+        for room in (65536, 40):
+            place, size = ctypes.create_string_buffer(b"\x5a" * room, room), ctypes.c_uint64(9)
+            status = self.unchanged(self.calls.forth83_survey, *words, place, ctypes.c_uint64(room), ctypes.byref(size), ctypes.byref(dialect))
+            end = size.value if status == 0 else 0
+            must(place.raw[end:] == b"\x5a" * (room - end), "forth83_survey wrote more than it says")
+            found.append((status, place.raw[:end], dialect.value))
+        must(found[0][0] != 0 or found[1][:2] == (3, b""), f"a report in a small room: {found[1]}")
+        return found[0]
+
+
 def name_at(machine: Any, field: int) -> bytes:
     """The name of the header with this link field."""
     count = machine.memory[field + 2] % 32
@@ -178,6 +203,19 @@ def check_lines(hosts: Any, program: pathlib.Path, image: pathlib.Path) -> None:
         got.append(Looks(hosts, machine).line())
     wanted = replies(program, image, asked)
     must(got == wanted and len(set(got)) > 60, f"DEBUG's lines: the library {got}, the server {wanted}")
+
+
+def check_surveys(hosts: Any, program: pathlib.Path, folder: pathlib.Path) -> None:
+    """Reports on old screens are those of the program's `survey`, for screens of each dialect, of none, and bytes that are no text."""
+    image, blocks = folder / "survey.img", folder / "old.blk"
+    image.write_bytes(hosts.image)
+    looks = Looks(hosts, hosts.load()[1])
+    for text, dialect in SURVEYED:
+        blocks.write_bytes(text)
+        last = max(len(text) - 1, 0) // 1024
+        done = subprocess.run([program, "survey", image, "old.blk", "0", str(last)], cwd=folder, stdout=subprocess.PIPE, check=False)
+        must(done.returncode == 0 and looks.survey(b"old.blk", text) == (0, done.stdout, dialect), f"a survey: {looks.survey(b'old.blk', text)}, the program {done.stdout!r}")
+    must(Looks(hosts, type(looks.machine)()).survey(b"old.blk", b"") == (1, b"", 7), "a survey with no machine")
 
 
 def check_looks(hosts: Any, program: pathlib.Path, folder: pathlib.Path) -> None:

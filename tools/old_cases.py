@@ -13,7 +13,9 @@ from sessions import ROOT, Folder
 CASES = ROOT / "tools/old_cases.txt"
 WORDS = ROOT / "tools/dialect_cases.txt"
 # The first screen of each dialect, and of the preludes that are loaded after one: "f79+mms".
-FIRST = {"fig": 1001, "f79": 1021, "f83": 1041, "poly": 1061, "mms": 1088, "mvp": 1102, "volks": 1091, "hs": 1084, "rsc": 1093, "ports": 1086, "devices": 1108, "high-first": 1110}
+FIRST = {"fig": 1001, "f79": 1021, "f83": 1041, "poly": 1061, "mms": 1088, "mvp": 1102, "volks": 1091, "hs": 1084, "rsc": 1093, "ports": 1086, "high-first": 1110}
+# Texts of screens/library that are included after a dialect: "fig+devices".
+TEXTS = {"devices": "INCLUDE devices.fs"}
 
 
 class Step:
@@ -102,7 +104,7 @@ def read_cases(text: str) -> List[Case]:
                 raise ValueError(f"no case begins with: {first}")
             continue
         for dialect in match[1].split(","):
-            if any(name != "none" and name not in FIRST for name in dialect.split("+")):
+            if any(name != "none" and name not in FIRST and name not in TEXTS for name in dialect.split("+")):
                 raise ValueError(f"{first}: {dialect} is no dialect")
             cases.append(Case(dialect, match[2]))
             for line in lines:
@@ -141,7 +143,7 @@ class Runner:
         if case.dialect not in self.blocks:
             (self.room / "case.blk").unlink(missing_ok=True)
             said = self.folder.run([self.program, "new", "case.blk", "8"])
-            for name in case.dialects():
+            for name in filter(FIRST.get, case.dialects()):
                 said += self.folder.run([self.program, "screens", f"screens/dialects/{name}.txt", "case.blk"])
             if said:
                 raise ValueError(said)
@@ -156,7 +158,7 @@ class Runner:
         said = self.folder.run([self.program, "screens", "case.txt", "case.blk"])
         if said:
             return [said]
-        steps = [*(Step(f"{FIRST[name]} LOAD") for name in case.dialects()), *case.steps]
+        steps = [*(Step(TEXTS.get(name) or f"{FIRST[name]} LOAD") for name in case.dialects()), *case.steps]
         typed = "".join(step.lines() for step in steps)
         output = self.folder.typed("case.blk", typed)
         if "ESC" in "".join(step.shown or "" for step in case.steps):

@@ -88,8 +88,8 @@ def check_canvas(cases: Tally) -> None:
 
 def check_assembly(cases: Tally) -> None:
     """The modules in one script: each after those that it imports, with no name twice; data that can't end the script."""
-    order, of_films = assembly.in_order("main.js", []), assembly.in_order("filmed.js", [])
-    cases.must({*order, *of_films} == {file.name for file in PAGE.glob("*.js")} | SHARED, f"modules that neither main.js nor filmed.js uses: {order}")
+    order, others = assembly.in_order("main.js", []), [*assembly.in_order("filmed.js", []), *assembly.in_order("unpack.js", [])]
+    cases.must({*order, *others} == {file.name for file in PAGE.glob("*.js")} | SHARED, f"modules that main.js, filmed.js and unpack.js do not use: {order}")
     for at, name in enumerate(order):
         later = [it for it in assembly.IMPORT.findall(assembly.text_of(name)) if it not in order[:at]]
         cases.must(not later, f"{name} comes before {later}")
@@ -101,6 +101,7 @@ def check_assembly(cases: Tally) -> None:
     cases.must(not re.search(r"^(import|export)\b", script, re.M), "imports or exports are left")
     text = assembly.page({"text": "</script><!--"}, {}, {"TITLE": "A & B", "VERSION": "v", "SHA256": "s", "PROVED": "p", "CLAIM": "c", "ROSE": "r"})
     cases.must("</script><!--" not in text and "<title>A &amp; B</title>" in text, "the data end the script")
+    cases.must(all(f"'{assembly.hashed(code)}'" in text for code in (script, assembly.loader())), "the policy does not name the page's scripts")
     cases.must("{{" not in re.sub(r"<script>.*</script>", "", text, flags=re.S), "a place of the template isn't filled")
 
 
@@ -298,6 +299,35 @@ def check_own_course(trial: Trial, program: pathlib.Path, room: pathlib.Path, ma
     own.must(result["mark"] == "wrong" and "deceived" in result["text"], f"a screen that says of itself that it is right: {result}")
 
 
+SERVICES = """// A lamp, and a sensor that takes its time.
+const lamps = new Map(), port = (host) => host.numbers(1)[0];
+export const SERVICES = {
+  48: (host) => { host.results(lamps.get(port(host)) ?? 7, 0); },
+  49: (host) => { const [x, number] = host.numbers(2); if (number > 9) return 9; lamps.set(number, x); },
+  100: (host) => new Promise((done) => setTimeout(done, 30)).then(() => { host.results(20 + port(host), 0); }),
+  101: () => { throw new Error("the line is cut"); },
+};
+"""
+
+
+def check_services_of_own(trial: Trial, room: pathlib.Path, make: Callable[..., None]) -> None:
+    """A page whose host has services of its own: ports, one that waits, one that refuses, one that fails, and one that nobody has."""
+    (room / "own.js").write_text(SERVICES, encoding="utf-8")
+    (room / "own.fs").write_text("REQUIRE board.fs\n: CELSIUS ( n -- t ) 100 CALL-HOST DROP 58 @ ;\n", encoding="utf-8")
+    make(room / "own.html", room / "own.fs", "--services", room / "own.js")
+    own = Trial(trial.browser, room / "own.html", trial.cases)
+    own.open()
+    for line, shown in (("2 PORT@ . 5 2 PORT! 2 PORT@ .", "7 5  ok"), ("3 CELSIUS .", "23  ok"), ("1 10 PORT!", "(fault 9)"),
+                        ("101 CALL-HOST", "service 101 failed: Error: the line is cut (fault 17)"), ("102 CALL-HOST", "nobody has registered service 102 (fault 17)")):
+        own.must(shown in own.type(line), f"services of a page: {line}: {own.shown()[-90:]!r}")
+    for content, why in (("const SERVICES = {};\n", "it has no line"), ('import "x";\nexport const SERVICES = {};\n', "it imports something"),
+                         ("export const SERVICES = {};\n// </script>\n", "it has </script")):
+        (room / "wrong.js").write_text(content, encoding="utf-8")
+        words = [sys.executable, "-B", PAGE / "make", "--program", "-", "--look", "--services", room / "wrong.js", "-o", room / "own.html"]
+        refused = subprocess.run(words, capture_output=True, text=True, check=False)
+        trial.must(refused.returncode == 1 and why in refused.stderr, f"a script that can't be used: {refused.stderr!r}")
+
+
 def check_handed_out(trial: Trial, program: pathlib.Path, room: pathlib.Path, make: Callable[..., None]) -> None:
     """A page with a disk of its own, that starts with a word; its work doesn't mix with that of other pages."""
     (room / "lesson.txt").write_text(LESSON, encoding="ascii")
@@ -319,5 +349,6 @@ def check_handed_out(trial: Trial, program: pathlib.Path, room: pathlib.Path, ma
     own.must("5  ok" in own.type("MINE ."), "its work is gone after a reload")
     own.must(own.shown().count("Good morning") == 1, "it starts anew after a reload")
     check_own_course(trial, program, room, make)
+    check_services_of_own(trial, room, make)
     trial.open()
     trial.must("Good morning" not in trial.shown(), "two pages have one work")

@@ -8,6 +8,7 @@ import subprocess
 from typing import Dict, List, Optional, Tuple
 
 from page_trials import Trial
+from typed_sessions import image
 
 ROOT = pathlib.Path(__file__).resolve().parent.parent
 IN_PAGE = """(() => {
@@ -158,7 +159,17 @@ def check_guesses(trial: Trial) -> None:
     trial.must("must be whole numbers" in trial.text("old-said"), f"an option that is no number: {trial.text('old-said')!r}")
 
 
-def check_advice(trial: Trial, room: pathlib.Path) -> None:
+def reported(program: pathlib.Path, room: pathlib.Path, disk: pathlib.Path) -> str:
+    """What the program reports on a disk for the Forth of a session."""
+    folder = room / "reported"
+    folder.mkdir()
+    subprocess.run([program, "import", disk, folder / disk.name, "--format", "cpm8-data", "--clean"], check=True, stdout=subprocess.DEVNULL)
+    last = (folder / disk.name).stat().st_size // 1024 - 1
+    words = [program.resolve(), "survey", pathlib.Path(image.find(str(program)), "served.img"), disk.name, "0", str(last)]
+    return subprocess.run(words, cwd=folder, check=True, stdout=subprocess.PIPE, text=True).stdout
+
+
+def check_advice(trial: Trial, program: pathlib.Path, room: pathlib.Path) -> None:
     """The old disk of docs/OLD-SOURCES.md, as a person opens it: its format and dialect, which is loaded, and its first screen."""
     disk = room / "kiln.dsk"
     subprocess.run([ROOT / "examples/make-old-disk", disk], check=True, stdout=subprocess.DEVNULL)
@@ -166,8 +177,9 @@ def check_advice(trial: Trial, room: pathlib.Path) -> None:
     trial.open()
     trial.value(f"window.opened = false; page.files.open(new File([fromBase64({content})], 'kiln.dsk')).then(() => (window.opened = true)); 0")
     trial.must(trial.wait("window.opened && document.body.dataset.tab === 'disk'"), "an old disk isn't opened")
-    said = trial.text("old-said")
-    trial.must("The dialect fig-FORTH leaves the fewest words unknown" in said and "243 screens" in said, f"the advice for an old disk: {said!r}")
+    said, report = trial.text("old-said"), trial.text("old-report")
+    trial.must(report == reported(program, room, disk), f"the report on an old disk: {report!r}")
+    trial.must("dialect: fig-FORTH, probably" in report and "243 screens" in said, f"the advice for an old disk: {said!r} {report!r}")
     trial.must("cpm8-data" == trial.value("document.getElementById('old-format').value"), "the format of an old disk isn't guessed")
     trial.must("one habit each" in trial.text("old-preview"), f"the first screen of an old disk: {trial.text('old-preview')!r}")
     trial.click("old-dialect")
@@ -183,5 +195,5 @@ def check(trial: Trial, program: pathlib.Path, room: pathlib.Path) -> int:
     """All of it: how many containers were compared."""
     count = check_formats(trial, program, room)
     check_guesses(trial)
-    check_advice(trial, room)
+    check_advice(trial, program, room)
     return count

@@ -10,8 +10,9 @@ import tempfile
 from typing import List, Tuple
 
 ROOT = pathlib.Path(__file__).resolve().parent.parent
-sys.path[:0] = [str(ROOT / "targets"), str(ROOT / "examples/embed")]
+sys.path[:0] = [str(ROOT / "targets"), str(ROOT / "targets/python")]
 
+import forth83  # noqa: E402
 import libraries  # noqa: E402
 import records  # noqa: E402
 
@@ -64,13 +65,11 @@ class Native:
     """The native library, loaded into this process."""
 
     def __init__(self, library: pathlib.Path, image: bytes) -> None:
-        import bench  # pylint: disable=import-outside-toplevel
-
-        self.bench, self.image, self.calls = bench, image, ctypes.CDLL(str(library))
+        self.image, self.calls = image, ctypes.CDLL(str(library))
 
     def run_plan(self, plan: Plan) -> Tuple[bytes, bytes, bytes]:
         """What is shown, the record and the blocks after a plan."""
-        self.machine, self.blocks, self.shown, self.pending = self.bench.Machine(), bytearray(BLOCKS * PAGE), b"", b""
+        self.machine, self.blocks, self.shown, self.pending = forth83.Record(), bytearray(BLOCKS * PAGE), b"", b""
         self.how, self.number = "-", 0
         status = self.calls.forth83_load_3(self.image, ctypes.c_size_t(len(self.image)), ALL_BLOCKS, ctypes.byref(self.machine))
         assert status == 0, f"load: status {status}"

@@ -54,8 +54,11 @@ PROMISES: Dict[str, Promise] = {
     "SEE": Promise(
         [("see", "seeing.rt", "see")], [], "The text of a word that SEE answers is a definition which compiles to just the word's thread; any other word is refused, and why."),
     "Requests of a host": Promise(
-        [("serving", "serving.rt", "serve"), ("serving", "laws.rt", "spelling_law"), ("serving", "laws.rt", "framing_law"), ("serving", "laws.rt", "kept_law")], ENDS,
+        [("serving", "serving.rt", "serve"), ("serving", "laws.rt", "framing_law"), ("serving", "laws.rt", "kept_law")], ENDS,
         "What a host's frames ask is done, each request after the other, and nothing else; just the replies that the definitions say are sent."),
+    "How requests are spelled": Promise(
+        [("serving", "laws.rt", "spelling_law")], [],
+        "Each request that a frame can spell is read from the frame that spells it, and from no other one."),
     "The resident compiler agrees": Promise(
         [("metacompiler", "load.rt", "load_on"), ("metacompiler", "load.rt", "load_by_machine"), ("metacompiler", "laws.rt", "agree_law")], ENDS,
         "Screens that are loaded on a machine compile to what `build` makes of them."),

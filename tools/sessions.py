@@ -3,7 +3,8 @@
 Sessions are between lines of three backquotes. They run one after another in a folder of their own, which `tools/lay-built`
 makes of the program.
 
-- Lines after three backquotes and the name of a file are that file, which is in the folder from the beginning.
+- Lines after three backquotes and the name of a file are that file, which is in the folder from the beginning; if `examples` has a file of
+  that name, they are lines of it, one after another.
 - A line after `$` is run by the shell. `$ ./forth [BLOCKS]` starts the Forth with its tools. A page that begins without one is a session.
 - A line after `>` is typed there. One after `>>` is typed, too, as the answer to a question; after `>>>` are keys
   without a return.
@@ -77,10 +78,11 @@ class Folder:
     def __init__(self, room: str, program: pathlib.Path) -> None:
         self.room = room
         subprocess.run([ROOT / "tools/lay-built", program, room], check=True)
-        module.copy_to(pathlib.Path(room))
         self.program = f"{room}/crates/forth83/out/forth83"
         self.run(["./forth83", "kernel", "kernel"])
         shutil.copy(self.image(), f"{room}/tools")
+        # The page's module may have to be made, which takes longer than to find a mistake in the tools.
+        module.copy_to(pathlib.Path(room))
 
     def run(self, words: List[str], typed: str = "") -> str:
         ends = {"stdout": subprocess.PIPE, "stderr": subprocess.STDOUT}
@@ -145,6 +147,19 @@ def check_examples(page: str, program: str) -> int:
     return wrong
 
 
+def lay_files(page: str, text: str, room: str) -> int:
+    """Writes the files that a page has into the folder; returns 1 if what it shows of an example is not in that."""
+    wrong = 0
+    for name, content in re.findall(r"^```([\w-]+\.\w+)\n(.*?)^```$", text, re.M | re.S):
+        example = next((ROOT / "examples").rglob(name), None)
+        if example is None:
+            pathlib.Path(room, name).write_text(content, encoding="utf-8")
+        elif content not in example.read_text(encoding="utf-8"):
+            print(f"{page}: {example.relative_to(ROOT)} does not have the lines that begin with {content.splitlines()[0]}", file=sys.stderr)
+            wrong = 1
+    return wrong
+
+
 def check(page: str, program: str, at_least: int) -> int:
     """Returns 1 if a session differs, or if the page has fewer lines to type than that."""
     text = (ROOT / page).read_text(encoding="utf-8")
@@ -156,8 +171,7 @@ def check(page: str, program: str, at_least: int) -> int:
         steps.insert(0, Step("./forth", True))
     with tempfile.TemporaryDirectory() as room:
         folder = Folder(room, pathlib.Path(program).resolve())
-        for name, content in re.findall(r"^```([\w-]+\.\w+)\n(.*?)^```$", text, re.M | re.S):
-            pathlib.Path(room, name).write_text(content, encoding="utf-8")
+        wrong |= lay_files(page, text, room)
         while steps:
             step, inside = steps.pop(0), []
             while steps and not steps[0].at_shell:

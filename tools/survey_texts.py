@@ -17,6 +17,8 @@ SYSTEMS = {"mms": ("MMSFORTH", "f79"), "mvp": ("MVP-FORTH", "f79"), "hs": ("HS/F
 KEYS = (*NAMES, *SYSTEMS)
 MAKING = ("VARIABLE", "CONSTANT", "CREATE", "2VARIABLE", "2CONSTANT")
 WIDTH = 96
+# Sums of screens that were among the dialects once: devices at addresses. A file of blocks may have them still, and they are not its owner's.
+EARLIER = (0x5b9f6adc78ce5c60, 0xdeb4da5a6b4406f7)
 HEAD = re.compile(r"\A((?:# .*\n)+)")
 
 
@@ -133,7 +135,7 @@ def glossary_of(key: str) -> str:
 
 def texts() -> str:
     """What the texts of this repository say."""
-    sums = sorted({sum_of(screen) for path in DIALECTS.glob("*.txt") for screen in screens(path.stem).values()})
+    sums = sorted({*EARLIER, *(sum_of(screen) for path in DIALECTS.glob("*.txt") for screen in screens(path.stem).values())})
     parts = ["//! What texts of this repository say. tools/make-survey-texts wrote it: change the texts.\n\nuse crate::words::LeftOut;\n"]
     parts.append(listed("TOOLS", "The tools that screens don't find.", tool_names()))
     parts.append(listed("HIDDEN", "What each dialect hides once it is loaded.", set.intersection(*map(hidden, NAMES))))

@@ -7,6 +7,7 @@ from typing import List
 ROOT = pathlib.Path(__file__).resolve().parent.parent
 sys.path.insert(0, str(ROOT / "targets"))
 
+import in_c  # noqa: E402
 import records  # noqa: E402
 import retarget  # noqa: E402
 from tally import Tally  # noqa: E402
@@ -23,6 +24,9 @@ NARROWED = [
     ("  %r4 = ptrtoaddr ptr %r3 to i64", ["  %r4 = ptrtoint ptr %r3 to i64"]),
     ("  %r5 = load i64, ptr %r4, align 8, !range !2", ["  %r5 = load i64, ptr %r4, align 8, !range !2"]),
     ('  %r6 = call i8 @"forth83_c::running::load"(ptr %r12, i64 %r18)', ['  %r6 = call i8 @"forth83_c::running::load"(ptr %r12, i64 %r18)']),
+    (r'@words = private constant <{ [8 x i8], ptr, [6 x i8] }> <{ [8 x i8] zeroinitializer, ptr getelementptr (i8, ptr @words, i64 16), [6 x i8] c"ptr @\00" }>, align 8',
+     [r'@words = private constant <{ [8 x i8], ptr, [4 x i8], [6 x i8] }> <{ [8 x i8] zeroinitializer, ptr getelementptr (i8, ptr @words, i64 16), '
+      r'[4 x i8] zeroinitializer, [6 x i8] c"ptr @\00" }>, align 8']),
     ("  %r7 = load { ptr, i64 }, ptr %r6, align 8",
      ["  %narrow.1.at = getelementptr i8, ptr %r6, i64 8", "  %narrow.1.a.number = load i64, ptr %r6, align 8",
       "  %narrow.1.a = inttoptr i64 %narrow.1.a.number to ptr", "  %narrow.1.b = load i64, ptr %narrow.1.at, align 8",
@@ -43,6 +47,7 @@ REFUSED = [
     "  %r1 = call ptr @llvm.ptrmask.p0.i64(ptr %r0, i64 7)",
     "  %r1 = load ptr, ptr %r0",
     "@table = private constant [2 x ptr] [ptr @a, ptr @b]",
+    "@table = private constant <{ i8, ptr }> <{ i8 1, ptr @a }>, align 8",
     "@table = global i64 0",
     "module asm \"nop\"",
 ]
@@ -129,9 +134,25 @@ def check_records(cases: Tally) -> None:
     cases.must(calls == [records.Call("forth83_go", ["Global", "&mut Big", "&[u8]", "u16"])], f"calls: {calls}")
 
 
+POINTING = ('@static.2 = private constant <{ [8 x i8], ptr, ptr }> <{ [8 x i8] c"AB\\00\\00\\00\\00\\00\\\\", ptr getelementptr (i8, ptr @static.1, i64 16), '
+            'ptr @static.1 }>, align 8')
+UNITS = "{{{{65,66,0,0,0,0,0,92}},{.at = (const char *)f0.bytes + 16},{.at = (const char *)f0.bytes + 0}}}"
+
+
+def check_in_c(cases: Tally) -> None:
+    """The library in C: the bytes of constants, those with addresses, and the names of calls and of other functions."""
+    cases.must(in_c.bytes_of("[6 x i8]", 'A\\22\\\\\\5C') == b'A"\\\\\0\0', f"bytes: {in_c.bytes_of('[6 x i8]', 'A')!r}")
+    made = in_c.pointing(in_c.Names(""), POINTING)
+    cases.must(made == ("f1", ["f0", "f0"], f"static const struct {{ unit bytes[3]; }} f1 = {UNITS};\n"), f"a constant with addresses: {made}")
+    cases.must(in_c.in_order({"b": (["a"], "B"), "a": ([], "A")}) == ["A", "B"], "constants before those that have their addresses")
+    names = in_c.Names("")
+    cases.must([names.name(it) for it in ("@forth83_run", '@"forth83_c::kept::keep"', "%x")] == ["forth83_run", "f0", "v_x"], "names of functions")
+
+
 def check() -> Tally:
     """All of them."""
     cases = Tally("check-targets")
     check_retarget(cases)
     check_records(cases)
+    check_in_c(cases)
     return cases

@@ -5,6 +5,7 @@ import pty
 import select
 import signal
 import subprocess
+import sys
 import termios
 import time
 from typing import Callable, List, Optional
@@ -12,10 +13,15 @@ from typing import Callable, List, Optional
 from target_runs import ROOT, Place
 from terminals import Glass
 
+sys.path.insert(0, str(ROOT / "commands"))
+
+from served import image as served_image  # type: ignore[import]  # noqa: E402
+
 Must = Callable[[bool, str], None]
 SCREENS = 8
 LINES = b": SQUARE DUP * ;\n12 SQUARE .\n3 BLOCK C@ . 5 BUFFER 1024 66 FILL UPDATE\nKEY A .\n1 0 /\n99 BLOCK\n5 .\n"
 LIMIT = 20
+LISTS = 24  # of frames, for each server
 
 
 class Session:
@@ -158,3 +164,14 @@ def check_bench(must: Must, place: Place, image: pathlib.Path, wanted: Optional[
     shown = place.run(bench, [image], LINES)
     must(wanted in (None, shown), f"{place.target}: the test bench shows {shown!r}, and natively {wanted!r}")
     return shown
+
+
+def check_server(must: Must, place: Place, program: pathlib.Path) -> None:
+    """The server in C replies to random lists of frames as the program does, and README's sessions run over it as they are shown."""
+    runs = place.starter(place.compile("serve", [ROOT / "examples/serve.c"], "-D_DEFAULT_SOURCE"))
+    beside = pathlib.Path(served_image.beside(str(runs)))
+    beside.parent.mkdir(exist_ok=True)
+    beside.symlink_to(served_image.find(str(program)))
+    for words in (["check-serve", program, LISTS, "--other", runs], ["check-readme", runs]):
+        done = subprocess.run([ROOT / "tools" / str(words[0]), *map(str, words[1:])], stdout=subprocess.PIPE, stderr=subprocess.STDOUT, text=True, check=False)
+        must(done.returncode == 0, f"{place.target}: {words[0]} over its server: {done.stdout}")

@@ -1,6 +1,7 @@
 """Compiles C programs over the library for each target, and runs them: natively, or with an emulator."""
 import os
 import pathlib
+import shlex
 import shutil
 import subprocess
 import sys
@@ -32,12 +33,19 @@ def board(processor: str, machine: str, ram: int, *options: str) -> Runner:
     return Runner(compiler, ["qemu-system-arm"], "gcc-arm-none-eabi, libnewlib-arm-none-eabi and qemu-system-arm", machine, ram)
 
 
+def emulator(processor: str) -> List[str]:
+    """The emulator of a processor, by one of the names that Debian's packages give it."""
+    names = [f"qemu-{processor}", f"qemu-{processor}-static"]
+    return [next(filter(shutil.which, names), names[0])]
+
+
 RUNNERS: Dict[str, Runner] = {
     "native": Runner(["cc"], [], "gcc"),
     "x86_64-linux": Runner(["cc"], [], "gcc"),
-    "aarch64-linux": Runner(["aarch64-linux-gnu-gcc", "-static"], ["qemu-aarch64"], "gcc-aarch64-linux-gnu and qemu-user"),
-    "armv7-linux": Runner(["arm-linux-gnueabihf-gcc", "-static"], ["qemu-arm"], "gcc-arm-linux-gnueabihf and qemu-user"),
-    "riscv64-linux": Runner(["riscv64-linux-gnu-gcc", "-static"], ["qemu-riscv64"], "gcc-riscv64-linux-gnu and qemu-user"),
+    "c": Runner(["cc"], [], "gcc"),
+    "aarch64-linux": Runner(["aarch64-linux-gnu-gcc", "-static"], emulator("aarch64"), "gcc-aarch64-linux-gnu and qemu-user"),
+    "armv7-linux": Runner(["arm-linux-gnueabihf-gcc", "-static"], emulator("arm"), "gcc-arm-linux-gnueabihf and qemu-user"),
+    "riscv64-linux": Runner(["riscv64-linux-gnu-gcc", "-static"], emulator("riscv64"), "gcc-riscv64-linux-gnu and qemu-user"),
     "x86_64-windows": Runner(["x86_64-w64-mingw32-gcc", "-static", "-D__USE_MINGW_ANSI_STDIO=1"], [WINE], "gcc-mingw-w64-x86-64 and wine64"),
     "cortex-m0": board("cortex-m0", "mps2-an385", 0x21000000),
     "cortex-m3": board("cortex-m3", "mps2-an385", 0x21000000),
@@ -68,9 +76,14 @@ class Place:
 
     def __init__(self, target: str, room: pathlib.Path, is_proved: bool) -> None:
         self.target, self.room, self.runner = target, room / target, RUNNERS[target]
+        self.settings = {"WINEPREFIX": str(self.room / "wine"), "WINEDEBUG": "-all"} if target.endswith("windows") else {}
         self.room.mkdir()
         if target == "native":
             self.library = libraries.native(self.room, is_proved)
+        elif target == "c":
+            libraries.portable(self.room / "forth83.c", is_proved)
+            build(["cc", "-std=c99", "-O1", "-Wall", "-Wno-unused", "-Werror", "-c", self.room / "forth83.c", "-o", self.room / "forth83.o"])
+            self.library = libraries.archived(self.room, [self.room / "forth83.o"])
         else:
             self.objects = [libraries.compiled(self.room, target, is_proved)]
             self.library = libraries.archived(self.room, self.objects)
@@ -78,7 +91,7 @@ class Place:
     def compile(self, name: str, sources: Sequence[pathlib.Path], *options: str) -> pathlib.Path:
         """Compiles a program for a system with files; the program."""
         made = self.room / (f"{name}.exe" if self.target.endswith("windows") else name)
-        build([*self.runner.compiler, *STRICT, *options, f"-I{ROOT / 'include'}", *sources, self.library, "-o", made])
+        build([*self.runner.compiler, *STRICT, *options, f"-I{ROOT / 'targets/include'}", *sources, self.library, "-o", made])
         return made
 
     def compile_trial(self) -> pathlib.Path:
@@ -96,7 +109,7 @@ class Place:
         """Compiles the trial as a WebAssembly module."""
         made, exports = self.room / "trial.o", ["malloc", "trial_digest", "trial_record", "trial_continue", "trial_shown"]
         build([libraries.tool("clang"), f"--target={libraries.TARGETS['wasm32'].triple}", *STRICT, "-ffreestanding", "-DBARE", "-isystem",
-               TRIAL / "include", f"-I{ROOT / 'include'}", "-c", TRIAL / "trial.c", "-o", made])
+               TRIAL / "include", f"-I{ROOT / 'targets/include'}", "-c", TRIAL / "trial.c", "-o", made])
         return libraries.web_linked(self.room, [made, *self.objects], exports)
 
     def command(self, program: pathlib.Path, words: Sequence[object]) -> List[str]:
@@ -110,11 +123,18 @@ class Place:
                     "-semihosting-config", f"enable=on,target=native{asked}", "-kernel", str(program)]
         return [*self.runner.runs, str(program), *text]
 
+    def starter(self, program: pathlib.Path) -> pathlib.Path:
+        """A command that runs the program with the words that it is given."""
+        made = self.room / f"{program.name}.sh"
+        settings = [f"{name}={value}" for name, value in self.settings.items()]
+        made.write_text(f'#!/bin/sh\nexec {shlex.join(["env", *settings, *self.command(program, [])])} "$@"\n', encoding="utf-8")
+        made.chmod(0o755)
+        return made
+
     def run(self, program: pathlib.Path, words: Sequence[object], typed: bytes = b"", room: Optional[pathlib.Path] = None) -> bytes:
         """What a program shows."""
-        how = {**os.environ, "WINEPREFIX": str(self.room / "wine"), "WINEDEBUG": "-all"}
         done = subprocess.run(self.command(program, words), input=typed, stdout=subprocess.PIPE, stderr=subprocess.PIPE, cwd=room or self.room,
-                              env=how, check=False)
+                              env={**os.environ, **self.settings}, check=False)
         if done.returncode:
             said = (done.stdout + done.stderr).decode(errors="replace")[-500:]
             sys.exit(f"check-targets: {self.target}: {program.name} {' '.join(map(str, words))}: status {done.returncode}: {said}")

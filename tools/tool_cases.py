@@ -1,4 +1,4 @@
-"""Unit tests of the commands in tools/, commands/, build/ and bench/. The expected values are worked out by hand."""
+"""Unit tests of the commands in tools/, commands/, build/ and tools/bench/. The expected values are worked out by hand."""
 import contextlib
 import importlib.machinery
 import importlib.util
@@ -27,6 +27,8 @@ ROOT = pathlib.Path(__file__).resolve().parent.parent
 sys.path.append(str(ROOT / "commands"))
 
 import quiet_end  # noqa: E402
+from served import image, paging  # type: ignore[import]  # noqa: E402
+import whole  # noqa: E402
 
 
 def command(path: str) -> types.ModuleType:
@@ -115,6 +117,23 @@ class QuietEnds(unittest.TestCase):
 
     def test_a_list_that_is_read_ends_with_the_status_of_the_command(self) -> None:
         self.assertEqual(7, quiet_end.status_of(lambda: 7))
+
+
+class WholeFiles(unittest.TestCase):
+    def test_a_file_is_replaced_with_its_mode_and_a_new_one_has_that_of_another(self) -> None:
+        with tempfile.TemporaryDirectory() as name:
+            old, new, link = (pathlib.Path(name) / it for it in ("old", "new", "link"))
+            old.write_bytes(b"1")
+            old.chmod(0o640)
+            link.symlink_to(old)
+            with mock.patch("os.fsync", side_effect=lambda number: self.assertEqual(0o640, os.fstat(number).st_mode & 0o777)):
+                whole.replace(link, b"2")
+                whole.replace(new, b"3", str(old))
+            self.assertEqual((b"2", b"3", 0o640), (old.read_bytes(), new.read_bytes(), new.stat().st_mode & 0o777))
+            self.assertTrue(link.is_symlink())
+            with mock.patch("os.replace", side_effect=OSError), self.assertRaises(OSError):
+                whole.replace(old, b"4")
+            self.assertEqual((b"2", ["link", "new", "old"]), (old.read_bytes(), sorted(os.listdir(name))))
 
 
 class SideBySide(unittest.TestCase):
@@ -330,6 +349,15 @@ class Sessions(unittest.TestCase):
         steps = sessions.steps_of("```\n> 1 .\n> 2 .\n```\n")
         self.assertEqual(sessions.parted(steps, "1 . 1  ok\n2 . 2  ok\n"), [["1  ok"], ["2  ok"]])
 
+    def test_a_page_shows_lines_of_an_example(self) -> None:
+        said = io.StringIO()
+        with tempfile.TemporaryDirectory() as room, contextlib.redirect_stderr(said):
+            self.assertEqual(0, sessions.lay_files("page", "```main.fs\nREQUIRE later.fs\nREQUIRE commands.fs\n```\n", room))
+            self.assertEqual(1, sessions.lay_files("page", "```main.fs\nREQUIRE commands.fs\nREQUIRE later.fs\n```\n", room))
+            self.assertEqual(0, sessions.lay_files("page", "```own.fs\n5 .\n```\n", room))
+            self.assertEqual(["own.fs"], os.listdir(room))
+        self.assertIn("examples/logger/main.fs does not have", said.getvalue())
+
     def test_a_difference_is_reported(self) -> None:
         step = sessions.Step("1 .", False)
         step.shown = ["1  ok"]
@@ -337,6 +365,41 @@ class Sessions(unittest.TestCase):
         with contextlib.redirect_stderr(said):
             self.assertEqual((sessions.differs("page", step, ["1  ok "]), sessions.differs("page", step, ["2"])), (0, 1))
         self.assertIn("page: 1 .", said.getvalue())
+
+
+class Paging(unittest.TestCase):
+    """The maker of the tools' screens: none of them can be full."""
+
+    FULL = "% screen 90\n( Kilns )\n" + "".join(f"( the kiln {number} )\n: KILN{number} {number} . ;\n" for number in range(7)) + "( more )\n"
+    ADDED = ": SAW ( -- )\n  9 . ;\n"
+
+    def test_what_has_no_room_runs_on(self) -> None:
+        screens = paging.paged([("a.txt", self.FULL + self.ADDED), ("b.txt", "% screen 91\n( Saws )\n: BLADE 8 . ;\n")])
+        self.assertEqual([(90, "a.txt", 15), (91, "a.txt", 4), (92, "b.txt", 2)], [(it.number, it.path, len(it.lines)) for it in screens])
+        self.assertEqual([(2, "( Kilns )"), (17, "( more )"), (18, ": SAW ( -- )"), (19, "  9 . ;")], screens[1].lines)
+
+    def test_what_has_room_stays(self) -> None:
+        text = "% screen 90\n( Kilns )\n" + 15 * ": KILN 7 . ;\n" + "% screen 93\n( Saws )\n"
+        self.assertEqual(text, paging.text_of(paging.paged([("a.txt", text)])))
+
+    def test_a_word_of_two_lines_on_each_screen_of_the_tools(self) -> None:
+        texts = [(path, image.read(path)) for path in image.TEXTS]
+        more = [(path, re.sub(r"(?m)^% screen \d+\n.*\n", lambda found: found[0] + self.ADDED, text)) for path, text in texts]
+        screens = paging.paged(more)
+        self.assertEqual(16, max(len(it.lines) for it in screens))
+        self.assertEqual(len({it.number for it in screens}), len(screens))
+        self.assertGreater(len(screens), len(image.screens()))
+        for path, text in more:
+            lines = {line for it in screens for line in it.lines if it.path == path}
+            self.assertEqual([line for line in text.splitlines() if not line.startswith("% ")], [line for _, line in sorted(lines)])
+
+    def test_a_refusal_has_a_place(self) -> None:
+        screens = paging.paged([("a.txt", self.FULL + self.ADDED)])
+        self.assertEqual("a.txt:4", paging.place_of(screens, "screen 90 offset 130: Unknown"))
+        self.assertEqual("a.txt:19", paging.place_of(screens, "screen 91 offset 194: Unknown"))
+        self.assertEqual("a.txt:3", paging.place_of(screens, "line 3: LongLine"))
+        self.assertEqual("a.txt:18", paging.place_of(screens, "line 20: LongLine"))
+        self.assertEqual("the tools", paging.place_of(screens, "out of memory"))
 
 
 class CommandLines(unittest.TestCase):
@@ -421,18 +484,18 @@ class Editors(unittest.TestCase):
 
 
 class Calls(unittest.TestCase):
-    """bench/call, with what callgrind prints."""
+    """tools/bench/call, with what callgrind prints."""
 
     SAID = "==7== Events    : Ir\n==7== Collected : 78153663\n==7==\n==7== I   refs:      78,153,663\n"
 
     def test_how_many_instructions_callgrind_counted(self) -> None:
-        module = command("bench/call")
+        module = command("tools/bench/call")
         self.assertEqual(78153663, module.collected(self.SAID))
         with self.assertRaises(SystemExit):
             module.collected("valgrind: no such program")
 
     def test_a_line_is_what_twice_as_many_take_more(self) -> None:
-        module = command("bench/call")
+        module = command("tools/bench/call")
         with mock.patch.object(module, "instructions", side_effect=lambda words: 5000 + 40 * int(words[3])) as asked:
             self.assertEqual(40, module.each("program", "image", "lines", 1000))
         self.assertEqual([["program", "image", "lines", "2000"], ["program", "image", "lines", "1000"]], [it.args[0] for it in asked.call_args_list])

@@ -15,7 +15,7 @@ forth() {
   starts 'a line that the end of input keeps' $'23 SCR ! 0 PUT 2 3 * .  ok\n[0]' '' '23 SCR ! 0 PUT 2 3 * .\n'
   starts 'lines that were kept' $'22 LOAD 23 LOAD 25 6  ok\n[0]' '' '22 LOAD 23 LOAD\n'
   differs "./forth: its files" forth.blk "$(ls)"
-  differs "./forth: its images" $'plain.img\nserved.img\nsmall.img' "$(ls ../tree/build/out/served-*)"
+  differs "./forth: its images" $'kernel.blk\nplain.img\nserved.img\nsmall.img' "$(ls ../tree/build/out/served-*)"
   touch -d '1 hour ago' ../tree/build/out/served-*/*.img
   shown=$(stat -c %y ../tree/build/out/served-*/*.img)
   touch ../tree/screens/tools/show.txt
@@ -106,7 +106,7 @@ texts() {
   starts 'texts that are loaded' $'1 LOAD 22 LOAD 5 6  ok\n[0]' '' '1 LOAD 22 LOAD\n' ../x.blk
   printf x >> ../x.txt
   "$blocks" ../x.txt ../x.blk 2> ../said || status=$?
-  differs "./forth blocks over a file" "[1] forth: ../x.blk already exists, and is left alone; name another file" "[$status] $(cat ../said)"
+  differs "./forth blocks over a file" "[1] forth: ../x.blk: it already exists, and is left alone: name another file" "[$status] $(cat ../said)"
   starts 'a text that was loaded' $'1 LOAD 5  ok\n[0]' '' '1 LOAD\n' ../x.blk
   printf '%065d\n' 0 > ../x.txt
   status=0
@@ -252,6 +252,6 @@ own_kernels() {
   starts 'a kernel that is refused' '[1]' $'own.blk: screen 18, line 3, column 2: Unknown\n  FOO BAR' '5 .\n' --kernel-of own.blk
   starts 'how the kernel comes back' '[1]' 'dd if=new.blk of=own.blk bs=1024 skip=1 seek=1 count=20 conv=notrunc' '' --kernel-of own.blk
   starts 'the program'"'"'s kernel then' $'5 . 5  ok\n[0]' '' '5 .\n' own.blk
-  starts 'no kernel to build' '[1]' "nothing does not exist" '' --kernel-of nothing
+  starts 'no kernel to build' '[1]' "nothing: it does not exist, or cannot be read: name a file of blocks" '' --kernel-of nothing
   starts 'no kernel named' '[2]' usage '' --kernel-of
 }

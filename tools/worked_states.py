@@ -62,7 +62,7 @@ class Reader(definition_cases.Text):
             parts.append(f"ip = {state.parts['ip']}")
         if "next" in said:
             parts.append(f"pending = {' '.join(map(str, state.parts['pending']))}")
-        if said & {"count", "assign", "buffers"}:
+        if said & {"count", "assign", "updated", "buffers"}:
             parts.append(f"buffers = {buffers(state)}")
         if "device" in said:
             parts.append(f"block_count = {state.parts['block_count']}")

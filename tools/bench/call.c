@@ -1,4 +1,4 @@
-/* A host whose calls bench/call measures:
+/* A host whose calls tools/bench/call measures:
  *
  *   call IMAGE lines COUNT     types 12 SQUARE . so often, a call each time: nanoseconds a call, the least of thousands
  *   call IMAGE calls COUNT     calls SQUARE so often: forth83_call, a push, a run, a pop and forth83_resume
