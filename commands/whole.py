@@ -23,6 +23,16 @@ def replace(path: str | os.PathLike[str], content: bytes, like: str = "") -> Non
         raise
 
 
+def put_aside(path: str) -> str:
+    """Renames a file to one with `.old` at its end, or `.old2` and so on if there are such files; the new name."""
+    number, kept = 1, path + ".old"
+    while os.path.lexists(kept):
+        number += 1
+        kept = f"{path}.old{number}"
+    os.rename(path, kept)
+    return kept
+
+
 def be_as(descriptor: int, place: str) -> None:
     """Gives a new file the owner and the mode of the file at a place, or the mode of any new one if there is no such file."""
     try:

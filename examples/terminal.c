@@ -391,10 +391,19 @@ static bool take_journal(FILE *journal)
     return is_taken;
 }
 
+/* A name that no file has: NAME.old, or NAME.old2 and so on. */
+static void find_free(const char *name, char *old, size_t size)
+{
+    snprintf(old, size, "%s.old", name);
+    unsigned number = 1;
+    for (FILE *taken; (taken = fopen(old, "rb")) != NULL; fclose(taken))
+        snprintf(old, size, "%s.old%u", name, ++number);
+}
+
 /* What an earlier session could not write is offered. */
 static void offer_journal(void)
 {
-    char name[MOST_NAME], old[MOST_NAME + 4], head[sizeof journal_head] = "";
+    char name[MOST_NAME], old[MOST_NAME + 16], head[sizeof journal_head] = "";
     snprintf(name, sizeof name, "%s.journal", block_name);
     FILE *journal = fopen(name, "rb");
     if (journal == NULL)
@@ -409,7 +418,7 @@ static void offer_journal(void)
     if (byte == 'y' && (fgets(head, sizeof head, journal) == NULL || strcmp(head, journal_head) != 0 || !take_journal(journal)))
         refuse("cannot write all of ", name);
     fclose(journal);
-    snprintf(old, sizeof old, "%s.old", name);
+    find_free(name, old, sizeof old);
     if (!take_place(name, old))
         refuse("cannot rename ", name);
     printf("%c\nit is %s now\n", byte, old);

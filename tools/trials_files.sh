@@ -82,9 +82,9 @@ builds() {
   differs "the kernel" $'3 4 + . 7  ok\n.' "$(printf '3 4 + .\n' | "$program" run kernel.img made && echo .)"
 }
 
-# A block file whose new screens cannot all be written stays as it was: on a full disk, if the program is killed while it writes, and if
-# the name of the new file is taken. A limit of 4 KiB for a file imitates the disk: writing more is refused if the signal is ignored, and
-# otherwise kills the program.
+# A block file whose new screens cannot all be written stays as it was: on a full disk, and if the program is killed while it writes. A
+# limit of 4 KiB for a file imitates the disk: writing more is refused if the signal is ignored, and otherwise kills the program. What a
+# killed run left is not touched by the next one.
 replaced() {
   local status said
   "$program" new old.blk 8
@@ -97,16 +97,45 @@ replaced() {
   status=0
   { (ulimit -c 0 -f 4 && exec "$program" screens change old.blk > /dev/null) || status=$?; } 2> /dev/null
   differs "screens, killed" "153 old.blk old.blk.forth83-new" "$status $(cmp old.blk before && echo old.blk*)"
+  cp old.blk.forth83-new left
   ends '[0]' screens change old.blk
-  differs "the next one" "changed old.blk" "$(dd if=old.blk bs=1024 skip=7 count=1 status=none | tr -d ' ') $(ls -d old.blk*)"
-  cp old.blk before
-  mkdir old.blk.forth83-new
-  ends $'cannot open old.blk\n[1]' screens change old.blk
-  differs "a name that is taken" "" "$(cmp old.blk before)"
-  rmdir old.blk.forth83-new
+  differs "the next one" "changed old.blk old.blk.forth83-new" "$(dd if=old.blk bs=1024 skip=7 count=1 status=none | tr -d ' ') $(cmp old.blk.forth83-new left && echo old.blk*)"
   ln -s change linked
   ends $'error: the text and the blocks are the same file\n[2]' screens change linked
   differs "a text over itself" "changed" "$(tail -n 1 change)"
+}
+
+# No file beside a block file is taken for a new one, whatever it is: not a person's own, a folder, a link, or a pipe. Where all ten names
+# are taken the block file stays as it was.
+taken_names() {
+  local name
+  mkdir taken taken/old.blk.forth83-new1
+  "$program" new taken/old.blk 8
+  echo mine > taken/old.blk.forth83-new
+  ln -s elsewhere taken/old.blk.forth83-new2
+  mkfifo taken/old.blk.forth83-new3
+  ends '[0]' screens change taken/old.blk
+  differs "a new file by another name" "changed mine elsewhere" "$(tail -c 1024 taken/old.blk | tr -d ' ') $(cat taken/old.blk.forth83-new) $(readlink taken/old.blk.forth83-new2)"
+  for name in taken/old.blk.forth83-new{4..9}; do
+    echo "$name" > "$name"
+  done
+  cp taken/old.blk before
+  printf '%% screen 7\nagain\n' > again.txt
+  ends $'error: taken/old.blk has ten files beside it named .forth83-new to .forth83-new9; remove those that are not needed\n[2]' screens again.txt taken/old.blk
+  differs "names that are all taken" "old.blk$(printf ' old.blk.forth83-new%s' '' {1..9})" "$(cmp taken/old.blk before && cd taken && echo *)"
+  differs "the last of them" "taken/old.blk.forth83-new9" "$(cat taken/old.blk.forth83-new9)"
+}
+
+# A file that is replaced keeps its permissions, and if root replaces it also its owner and its group.
+owners() {
+  "$program" new owned.blk 8
+  chmod 640 owned.blk
+  [ "$(id -u)" != 0 ] || chown 65534:65533 owned.blk
+  local before
+  before=$(stat -c '%u %g %a %i' owned.blk)
+  ends '[0]' screens change owned.blk
+  differs "the owner, the group and the mode" "${before% *}" "$(stat -c '%u %g %a' owned.blk)"
+  [ "${before##* }" != "$(stat -c %i owned.blk)" ] || differs "a file that is replaced" "a new one" "the old one"
 }
 
 # A file isn't written over one that it is made of; and an image that can't be written whole stays as it was.

@@ -4,6 +4,7 @@ from __future__ import annotations
 import os
 from typing import Callable, Iterator, Optional
 
+import whole
 from launcher.program import find, named, say
 from served import blocks, bridge, image, journal
 from served.prompt import Ended, Signals
@@ -191,8 +192,7 @@ def offer_journal(session: Session, blocks: str) -> None:
         answer = session.console.line(b"", False)
         if answer is not None and answer.strip().lower() in (b"y", b"yes"):
             taken.update(screens)
-        os.replace(path, path + ".old")
-        session.say_line(f"the journal is {path}.old now\n")
+        session.say_line(f"the journal is {whole.put_aside(path)} now\n")
     for number, page in taken.items():
         session.target.put(number, page)
     session.keep_journal()  # after the other ones are out of its way

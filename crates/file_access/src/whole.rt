@@ -1,11 +1,13 @@
 //! Files that are read whole, and written whole.
 
+ghost use Rattle.std.specs.Prelude.{IfOk};
 ghost use Rattle.file_access.specs.Streams.{IsApart};
 
 use crate::opening::open_apart;
 use std::alloc::Global;
-use std::fs::{File, OpenOptions};
+use std::fs::{File, Metadata, OpenOptions};
 use std::io::{ErrorKind, Read, Write};
+use std::os::unix::fs::{MetadataExt, OpenOptionsExt, fchown};
 use std::{fs, io};
 
 /// Reads a file that takes the place of no standard stream. An error: it can't be read, or memory ran out.
@@ -43,23 +45,57 @@ pub fn read_blocks(rt: &HostRuntime, name: &str) -> io::Result<Vec<u8>> {
     }
 }
 
-/// Writes a new file, which has the permissions of another, if that exists, before it has a byte. An error: it can't be written whole.
-fn write_like(rt: &HostRuntime, file: File, bytes: &[u8], other: &str) -> io::Result<()>
+/// How many names are tried for a new file.
+const NEW_NAMES: u32 = 10;
+
+/// Gives a new file the owner, the group and the permissions of another. Only root may give a file to someone else; otherwise the new
+/// one stays the user's own, with the group of the other if the user belongs to it. An error: it can't have these permissions.
+fn make_like(file: &File, other: &Metadata) -> io::Result<()> {
+    if fchown(file, Some(other.uid()), Some(other.gid())).is_err() {
+        let _group = fchown(file, None, Some(other.gid()));
+    }
+    file.set_permissions(other.permissions())
+}
+
+/// Makes a new file beside the one at `place`: `PLACE.forth83-new`, or if that exists `PLACE.forth83-new1`, and so on to 9. A file that
+/// exists isn't touched. Only the user may open one that is to be like another before it is so. An error, `AlreadyExists`: each of these
+/// names is taken; or the file can't be made, or memory ran out.
+fn new_beside(rt: &HostRuntime, place: &str, is_like_another: bool) -> io::Result<(File, String)>
+    ensures { IfOk result (λ made. IsApart made.0) }
+{
+    let mut options = OpenOptions::new();
+    options.write(true).create_new(true);
+    if is_like_another {
+        options.mode(0o600);
+    }
+    for number in 0..NEW_NAMES {
+        let name = if number == 0 {
+            format!(in rt.alloc(); "{place}.forth83-new")?
+        } else {
+            format!(in rt.alloc(); "{place}.forth83-new{number}")?
+        };
+        match open_apart(rt, &options, name.as_str()) {
+            Ok(file) => return Ok((file, name)),
+            Err(error) => {
+                if error.kind() != ErrorKind::AlreadyExists {
+                    return Err(error);
+                }
+            }
+        }
+    }
+    Err(ErrorKind::AlreadyExists.into())
+}
+
+/// Writes a new file, which is like another, if that exists, before it has a byte. An error: it can't be written whole.
+fn write_like(file: File, bytes: &[u8], other: Option<&Metadata>) -> io::Result<()>
     requires apart { IsApart file }
 {
     let mut file = file;
-    if let Ok(metadata) = fs::metadata(rt, other) {
-        file.set_permissions(metadata.permissions())?;
+    if let Some(other) = other {
+        make_like(&file, other)?;
     }
     file.write_all(bytes)?;
     file.sync_all()
-}
-
-/// Writes a file of this name, and puts it in the place of another. An error: one of these can't be done.
-fn write_and_place(rt: &HostRuntime, name: &str, bytes: &[u8], place: &str) -> io::Result<()> {
-    let file = open_apart(rt, OpenOptions::new().write(true).create_new(true), name)?;
-    write_like(rt, file, bytes, place)?;
-    fs::rename(rt, name, place)
 }
 
 /// The file that a name means, after symbolic links; where there is none, the name itself. An error: it can't be found out,
@@ -76,15 +112,16 @@ fn meant(rt: &HostRuntime, name: &str) -> io::Result<String> {
     }
 }
 
-/// Replaces a file whole, or makes it: its bytes are written into a file beside it, `NAME.forth83-new`, which then takes its
-/// place. Where that fails the file is as it was, and the one beside it is removed. An error: it can't be written or placed,
-/// or memory ran out.
+/// Replaces a file whole, or makes it: its bytes are written into a new file beside it (`new_beside`), which then takes its place.
+/// Where that fails the file is as it was, and the one beside it is removed. An error: it can't be written or placed, or memory ran out.
 fn replace_file(rt: &HostRuntime, name: &str, bytes: &[u8]) -> io::Result<()> {
     let place = meant(rt, name)?;
-    let beside = format!(in rt.alloc(); "{place}.forth83-new")?;
-    // What a run that was killed has left there.
-    let _left = fs::remove_file(rt, beside.as_str());
-    let done = write_and_place(rt, beside.as_str(), bytes, place.as_str());
+    let old = fs::metadata(rt, place.as_str()).ok();
+    let (file, beside) = new_beside(rt, place.as_str(), old.is_some())?;
+    let done = match write_like(file, bytes, old.as_ref()) {
+        Ok(()) => fs::rename(rt, beside.as_str(), place.as_str()),
+        Err(error) => Err(error),
+    };
     if done.is_err() {
         let _gone = fs::remove_file(rt, beside.as_str());
     }

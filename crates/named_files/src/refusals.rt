@@ -55,12 +55,18 @@ pub fn refuse_blocks(rt: &HostRuntime, blocks: &str, why: Unopened) -> u8
     }
 }
 
-/// Prints why a file isn't read or written, and answers the status.
+/// Prints why a file isn't read or written, and answers the status. `AlreadyExists` comes from one that is written alone: each name for
+/// a new file beside it is taken.
 pub fn refuse_file(rt: &HostRuntime, error: &io::Error, name: &str) -> u8
     ensures { 0 < result }
 {
-    if error.kind() == ErrorKind::OutOfMemory {
-        return out_of_memory(rt);
+    match error.kind() {
+        ErrorKind::OutOfMemory => out_of_memory(rt),
+        ErrorKind::AlreadyExists => refuse_use(
+            rt,
+            name,
+            "has ten files beside it named .forth83-new to .forth83-new9; remove those that are not needed",
+        ),
+        _ => cannot_open(rt, name),
     }
-    cannot_open(rt, name)
 }
