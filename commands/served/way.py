@@ -49,12 +49,15 @@ class Way(Kernel):
 
 def where(program: str, image: str, blocks: Optional[str]) -> int:
     """Runs the image over a copy of the blocks; its status."""
+    way: Optional[Way] = None
     with tempfile.TemporaryDirectory() as room:
         copy = os.path.join(room, "copy.blk") if blocks else None
-        if blocks and copy:
-            shutil.copyfile(blocks, copy)
         try:
+            if blocks and copy:
+                shutil.copyfile(blocks, copy)
             way = Way([program, "serve", "--", image, *([copy] if copy else [])], blocks, copy)
-        except Gone:  # `run` says why
-            os.execv(program, [program, "run", "--", image, *([blocks] if blocks else [])])
-        return way.run()
+        except (Gone, OSError):  # `run` says why
+            pass
+        if way:
+            return way.run()
+    os.execv(program, [program, "run", "--", image, *([blocks] if blocks else [])])
