@@ -27,6 +27,12 @@ class Runner(NamedTuple):
     ram: int = 0
 
 
+def first_program() -> str:
+    """The program in C with which docs/EMBEDDING.md begins."""
+    text = (ROOT / "docs/EMBEDDING.md").read_text(encoding="utf-8")
+    return "".join(f"{line[4:]}\n" for line in text[text.index("    #include") :].split("\n\n")[0].split("\n"))
+
+
 def board(processor: str, machine: str, ram: int, *options: str) -> Runner:
     """A bare board, of which the emulator has its files and words."""
     compiler = ["arm-none-eabi-gcc", f"-mcpu={processor}", "-mthumb", *options]
