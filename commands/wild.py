@@ -5,7 +5,8 @@ Each format is a pair of functions over bytes. Writing gives back what was read,
 import re
 from typing import Dict, List, NamedTuple, Optional, Tuple
 
-BLOCK, LINE = 1024, 64
+BLOCK, LINE, MOST = 1024, 64, 65536
+TOO_LARGE = "it has more than 65,536 screens, or one with a number above 65,535"
 PADDING = b"\x1a\x00 \xe5"
 HEADING = re.compile(r"^\s*(?:% screen|scr(?:een)?\s*#?|blocks?\s*#?|blk\s*#?)\s*:?\s*(\d+)\b.*$", re.I)
 NUMBERED = re.compile(r"^\s*(\d{1,2})(?:[:|.)]?(?: (.*)|\s*$))", re.S)
@@ -163,9 +164,9 @@ def text_lines(data: bytes) -> List[str]:
 
 
 def is_numbered(lines: List[str]) -> bool:
-    """Whether each line has its number before it, as LIST shows them."""
-    numbers = [match[1] for line in lines if line.strip() and (match := NUMBERED.match(line))]
-    return bool(numbers) and len(numbers) == sum(1 for line in lines if line.strip()) and [int(n) for n in numbers] == sorted(map(int, numbers))
+    """Whether each line has its number before it, each above the one before, as LIST shows them."""
+    numbers = [int(match[1]) for line in lines if line.strip() and (match := NUMBERED.match(line))]
+    return bool(numbers) and len(numbers) == sum(1 for line in lines if line.strip()) and numbers == sorted(set(numbers))
 
 
 def listed(lines: List[str]) -> Optional[Dict[int, List[str]]]:
@@ -176,6 +177,8 @@ def listed(lines: List[str]) -> Optional[Dict[int, List[str]]]:
         match = HEADING.match(line)
         if match:
             number = int(match[1])
+            if number in screens:
+                raise Wild(f"screen {number} occurs twice; leave one out, or number them anew")
             screens[number] = []
         elif number is not None:
             screens[number].append(line)
@@ -203,8 +206,8 @@ def screens_of_listing(data: bytes) -> Tuple[int, bytes]:
     if screens is None:
         screens = {at // 16: lines[at:at + 16] for at in range(0, max(len(lines), 1), 16)}
     first, last = min(screens), max(screens)
-    if last - first > 65535:
-        raise Wild(f"screens {first} to {last} are more than 65,536")
+    if last >= MOST:
+        raise Wild(TOO_LARGE)
     made = []
     for number in range(first, last + 1):
         placed = unnumbered(number, screens.get(number, []))

@@ -12,7 +12,6 @@ sys.path[:0] = [str(ROOT / "teaching"), str(ROOT / "commands")]
 
 import canvas  # noqa: E402
 import rows as numbers  # noqa: E402
-import wild  # noqa: E402
 from served import advice, dialects as dialect_hints, faults as messages, image, paging, structures, table  # noqa: E402
 
 ROW = re.compile(r"^\| `(\S+)` \| `([^`]*)` \| (?:yes)? ?\| (.+) \|$", re.M)
@@ -220,28 +219,10 @@ def disks() -> Dict[str, Dict[str, object]]:
     return found
 
 
-FORMAT = re.compile(r"^\| (`[a-z0-9`, -]+`) \| ([^|]+) \| ([\d,]*) ?\| ([\d,]*) ?\| ([^|]+) \|$", re.M)
+FORMAT = re.compile(r"^\| (`[a-z0-9`, -]+`) \| ([^|]+) \| [\d,]* ?\| [\d,]* ?\| [^|]+ \|$", re.M)
 
 
 def formats(page: str) -> List[Dict[str, object]]:
-    """The formats of containers, as docs/OLD-SOURCES.md has them: name, what it is, bytes before it, a sector's bytes, their order. Those
-    that commands/bring adds to the program's say so, and a disk whose sectors move has the numbers of commands/wild.py."""
-    found: List[Dict[str, object]] = []
-    for names, what, offset, sector, order in FORMAT.findall(page):
-        numbers = [int(it) for it in re.findall(r"\d+", order)]
-        places = [it - min(numbers) for it in numbers] or (found[-1]["order"] if "same" in order else [0])
-        for name in re.findall(r"`([^`]+)`", names):
-            words = re.sub(r"[`*]", "", what.partition(";")[0])
-            added = {"isAdded": True} if name in wild.DISKS or name in wild.PLAIN or name == "text" else {}
-            turning = {"turning": wild.DISKS[name]._asdict(), "order": [0]} if name in wild.DISKS else {}
-            found.append({"name": name, "what": words, "offset": number_of(offset), "sector": number_of(sector), "order": places, **added, **turning})
-    return found
-
-
-def number_of(text: str) -> int:
-    return int(text.replace(",", "") or "0")
-
-
-def ebcdic() -> str:
-    """The characters of code page 37, byte by byte."""
-    return bytes(range(256)).decode("cp037")
+    """The formats of containers, as docs/OLD-SOURCES.md has them: names, and what each is."""
+    return [{"name": name, "what": re.sub(r"[`*]", "", what.partition(";")[0])}
+            for names, what in FORMAT.findall(page) for name in re.findall(r"`([^`]+)`", names)]

@@ -5,19 +5,19 @@ import { DATA } from "./data.js";
 import { Disk, isScreens, screensOf } from "./disk.js";
 import { PAGE_SIZE } from "./machine.js";
 import { by } from "./parts.js";
-import { guess } from "./wild.js";
 import { sessionOf } from "./work.js";
 
 const IMAGE = "FTH83IMG", SESSION = '{"format":"forth83"', MOST_TEXT = 200000, MOST_LINE = 127, SOURCE = /\.(f|fs|fth|4th|fr)$/i;
 
 // Whether a file is blocks, and not the image of a disk of another system, which may have whole blocks too.
-const isBlocks = (name, bytes) => bytes.length > 0 && bytes.length % PAGE_SIZE === 0 && (/\.blk$/i.test(name) || guess(bytes) === "blocks");
+const isBlocks = (name, bytes, machine) =>
+  bytes.length > 0 && bytes.length % PAGE_SIZE === 0 && (/\.blk$/i.test(name) || machine.guess(bytes) === "blocks");
 
 const linesOfText = (text) => text.replace(/\r\n?/g, "\n").replace(/\n$/, "").split("\n");
 
 // Whether a text is lines for the Forth, and not a listing or the like, by the length of its lines, or by its name.
-function isTyped(name, bytes, text) {
-  const isText = bytes.length > 0 && bytes.length < MOST_TEXT && !text.includes("\0") && guess(bytes) === "blocks";
+function isTyped(name, bytes, text, machine) {
+  const isText = bytes.length > 0 && bytes.length < MOST_TEXT && !text.includes("\0") && machine.guess(bytes) === "blocks";
   return isText && (SOURCE.test(name) || linesOfText(text).every((line) => encode(line).length <= MOST_LINE));
 }
 
@@ -65,13 +65,13 @@ export class Files {
 
   // Files: blocks are another disk, images run, screens as text go onto this disk, other texts are included.
   async open(file) {
-    const bytes = new Uint8Array(await file.arrayBuffer()), text = decode(bytes);
+    const bytes = new Uint8Array(await file.arrayBuffer()), text = decode(bytes), { machine } = this.session;
     if (this.session.isRunning || !this.work.isOurs) this.work.refuse();
     else if (text.startsWith(SESSION)) await this.resume(file.name, text);
     else if (decode(bytes.subarray(0, IMAGE.length)) === IMAGE) this.runImage(file.name, bytes);
     else if (isScreens(text)) await this.merge(file.name, text);
-    else if (isBlocks(file.name, bytes)) await this.work.insert(asFileName(file.name), bytes);
-    else if (isTyped(file.name, bytes, text)) this.include(file.name, bytes);
+    else if (isBlocks(file.name, bytes, machine)) await this.work.insert(asFileName(file.name), bytes);
+    else if (isTyped(file.name, bytes, text, machine)) this.include(file.name, bytes);
     else this.openOldDisk(file.name, bytes);
   }
 

@@ -6,7 +6,7 @@ import { decode, encode } from "./bytes.js";
 export const ASKS = { NOTHING: 0, KEY: 1, LINE: 2, READ: 3, WRITE: 4 };
 export const PAGE_SIZE = 1024, MEMORY = 65536, STACK = 256;
 // How many blocks a machine has: those of its disk are answered, and lines of texts are the others.
-const ALL_BLOCKS = 65536, ROOM = 131072, BODY = 2048, REPORT = 16384, SHORT_ROOM = 3, LONG_REPLY = 22, REFUSED = "!".charCodeAt(0), SHOWN = "s".charCodeAt(0);
+const ALL_BLOCKS = 65536, ROOM = 131072, BODY = 2048, REPORT = 16384, SAID = 512, SHORT_ROOM = 3, LONG_REPLY = 22, NOT_READ = 23, REFUSED = "!".charCodeAt(0), SHOWN = "s".charCodeAt(0);
 // Cells of the system in the machine's memory.
 export const SYSTEM = { state: 16, base: 18, toIn: 20, blk: 22, tibCount: 24, here: 28, last: 30, context: 32, scr: 38, fault: 40, forth: 42, fence: 54 };
 
@@ -116,6 +116,34 @@ export class Machine {
     this.must(status, "survey");
     return { report, dialect: this.view().getUint16(this.dialect, true) };
   }
+
+  // The name of the format that a file of another system may have.
+  guess(container) {
+    const bytes = this.lent(container), said = this.calls.malloc(SAID);
+    const status = this.calls.forth83_guess_format(...bytes, said, BigInt(SAID), this.size), name = decode(this.bytes(said, this.sized()));
+    for (const at of [bytes[0], said]) this.calls.free(at);
+    this.must(status, "guess_format");
+    return name;
+  }
+
+  // The blocks of a file of another system, by options as on a command line: their bytes, the number of the first one and what is said of them, or
+  // { wrong } with why it is not read.
+  unpack(container, options, room = 2 * container.length + PAGE_SIZE) {
+    const words = this.lent(encode(options)), bytes = this.lent(container);
+    const [blocks, said, count, first] = [room, SAID, 8, 2].map((size) => this.calls.malloc(size));
+    this.view().setBigUint64(count, 0n, true);
+    const status = this.calls.forth83_unpack(...words, ...bytes, blocks, BigInt(room), this.size, first, said, BigInt(SAID), count);
+    const size = this.sized(), text = decode(this.bytes(said, this.sized(count)));
+    const made = { bytes: status ? null : this.bytes(blocks, size).slice(), first: this.view().getUint16(first, true), said: text };
+    for (const at of [words[0], bytes[0], blocks, said, count, first]) this.calls.free(at);
+    if (status === SHORT_ROOM) return this.unpack(container, options, size);
+    if (status === NOT_READ) return { wrong: text };
+    this.must(status, "unpack");
+    return made;
+  }
+
+  // A size that a call has put into its place.
+  sized(at = this.size) { return Number(this.view().getBigUint64(at, true)); }
 
   // An image of memory up to HERE that starts with a word.
   image(word) { return this.ask("t", cellBytes(word)).bytes; }

@@ -47,6 +47,10 @@ class Module(NamedTuple):
         return PROVED if self.is_proved else UNPROVED
 
 
+# The calls that a page makes.
+CALLS = ("forth83_load_3", "forth83_serve", "forth83_survey", "forth83_unpack", "forth83_guess_format")
+
+
 def file_of(is_proved: bool) -> pathlib.Path:
     return KEPT / ("proved.wasm" if is_proved else "unproved.wasm")
 
@@ -90,7 +94,7 @@ def made(is_proved: bool, total: str) -> Module:
     """A new module."""
     with tempfile.TemporaryDirectory(prefix="forth83-page-") as name:
         room = pathlib.Path(name)
-        module = Module(libraries.web_module(room, libraries.compiled(room, "wasm32", is_proved)).read_bytes(), is_proved, records.layout())
+        module = Module(libraries.web_module(room, libraries.compiled(room, "wasm32", is_proved), CALLS).read_bytes(), is_proved, records.layout())
     keep(module, total)
     return module
 

@@ -3,10 +3,16 @@
 import { DATA } from "./data.js";
 import { linesOf } from "./disk.js";
 import { Machine, PAGE_SIZE } from "./machine.js";
-import { guess, imported } from "./wild.js";
 
 // By their numbers in include/forth83.h, the texts of screens/dialects.
-const DIALECTS = [null, "fig", "f79", "f83", "poly"];
+const DIALECTS = [null, "fig", "f79", "f83", "poly"], BLANK = 32;
+
+// Blocks as a disk from screen 0 on: before the first one are blank ones.
+function withFront({ bytes, first }) {
+  const made = new Uint8Array(first * PAGE_SIZE + bytes.length).fill(BLANK);
+  made.set(bytes, first * PAGE_SIZE);
+  return made;
+}
 
 export class OldDisk {
   constructor(page, parts) {
@@ -29,7 +35,7 @@ export class OldDisk {
   open(name, container) {
     const { format, half, ebcdic, offset, sector, skew, first, shown } = this.parts;
     Object.assign(this, { name, container });
-    format.value = guess(container);
+    format.value = this.forth.guess(container);
     for (const box of [half, ebcdic]) box.checked = false;
     for (const text of [offset, sector, skew, first]) text.value = "";
     shown.hidden = false;
@@ -37,28 +43,25 @@ export class OldDisk {
     shown.scrollIntoView();
   }
 
-  // The options that were chosen besides the format, or what is wrong with them.
+  // What was chosen, as options of a command line.
   options() {
-    const { clean, half, ebcdic, offset, sector, skew, first } = this.parts;
-    const [before, size, from] = [offset, sector, first].map(({ value }) => (value.trim() ? Number(value) : null));
-    const order = skew.value.trim() ? skew.value.trim().split(/[\s,]+/).map(Number) : null;
-    if ([before, size, from, ...(order || [])].some((number) => number !== null && !(Number.isInteger(number) && number >= 0))) return null;
-    return { offset: before, sector: size, skew: order, first: from || 0, isCleaned: clean.checked, isHalf: half.checked, isEbcdic: ebcdic.checked,
-      table: DATA.ebcdic };
+    const { format, clean, half, ebcdic, offset, sector, skew, first } = this.parts, order = skew.value.trim().split(/[\s,]+/).join(",");
+    const valued = [["offset", offset.value.trim()], ["sector", sector.value.trim()], ["skew", order], ["first", first.value.trim()]];
+    const flags = [["clean", clean], ["half", half], ["ebcdic", ebcdic]].filter(([, box]) => box.checked).map(([name]) => `--${name}`);
+    return [`--format ${format.value}`, ...valued.filter(([, text]) => text).map(([name, text]) => `--${name} ${text}`), ...flags].join(" ");
   }
 
   // Reads the container in the chosen format.
   draw() {
     if (!this.container) return;
-    const { format, said, screen, insert } = this.parts, chosen = DATA.formats.find((one) => one.name === format.value), options = this.options();
-    const made = options ? imported(this.container, chosen, options) : { wrong: "the options must be whole numbers" };
-    this.blocks = made.bytes || null;
+    const { said, screen, insert } = this.parts, made = this.forth.unpack(this.container, this.options());
+    this.blocks = made.wrong ? null : withFront(made);
     insert.disabled = !this.blocks;
     const size = `${this.name}, ${this.container.length.toLocaleString("en")} bytes`;
-    if (made.wrong) said.textContent = `${size}: not in this format, ${made.wrong}.`;
+    if (made.wrong) said.textContent = `${size}: ${made.wrong}.`;
     else {
       const count = this.blocks.length / PAGE_SIZE;
-      said.textContent = `${size}: ${count} screens.`;
+      said.textContent = `${size}: ${count} screens${made.said && `; ${made.said}`}.`;
       screen.max = count - 1;
       screen.value = this.firstScreen(count);
     }

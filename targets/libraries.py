@@ -140,9 +140,9 @@ def web_linked(room: pathlib.Path, objects: List[pathlib.Path], exports: Sequenc
     return module
 
 
-def web_module(room: pathlib.Path, library: pathlib.Path) -> pathlib.Path:
-    """The WebAssembly module of the compiled library, with all its calls."""
-    return web_linked(room, [library], ["malloc", "free", *(it.name for it in records.calls())])
+def web_module(room: pathlib.Path, library: pathlib.Path, calls: Sequence[str] = ()) -> pathlib.Path:
+    """The WebAssembly module of the compiled library, with these calls, or with all."""
+    return web_linked(room, [library], ["malloc", "free", *(calls or [it.name for it in records.calls()])])
 
 
 def native(room: pathlib.Path, is_proved: bool) -> pathlib.Path:

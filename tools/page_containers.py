@@ -1,128 +1,29 @@
-"""Compares the page's old disks with `./forth83 import`, and opens the old disk of docs/OLD-SOURCES.md."""
+"""Containers in the page: the cases of container_cases.txt, what it guesses of files, and the old disk of docs/OLD-SOURCES.md."""
 import base64
-from concurrent import futures
 import json
 import pathlib
-import random
 import subprocess
-from typing import Dict, List, Optional, Tuple
+from typing import Tuple
 
+import container_cases
 from page_trials import Trial
 from typed_sessions import image
 
 ROOT = pathlib.Path(__file__).resolve().parent.parent
 IN_PAGE = """(() => {
-  const options = { offset: null, sector: null, skew: null, first: 0, isHalf: false, isEbcdic: false, isCleaned: false, table: DATA.ebcdic, ...%s };
-  const made = imported(fromBase64(%s), DATA.formats.find((one) => one.name === %s), options);
-  return made.bytes ? toBase64(made.bytes) : null;
+  const made = page.oldDisk.forth.unpack(fromBase64(%s), %s);
+  return made.wrong ? ["", "", made.wrong] : [String(made.first), toBase64(made.bytes), ""];
 })()"""
-# What the page's options are on the command line.
-FLAGS = {"isHalf": "--half", "isEbcdic": "--ebcdic", "isCleaned": "--clean"}
-ENDINGS = {"lines-lf": b"\n", "lines-cr": b"\r", "lines-crlf": b"\r\n"}
-Options = Dict[str, object]
 
 
-def containers(dice: random.Random, format_: Dict[str, object]) -> List[bytes]:
-    """Files in a format: two of whole tracks, and some that don't fit it, or end within a screen, with and without padding."""
-    ending = ENDINGS.get(str(format_["name"]), b"")
-    turning = format_.get("turning") or {"sectors": 1}
-    sector, offset = int(str(format_["sector"])), int(str(format_["offset"]))
-    in_track = len(format_["order"]) * int(turning["sectors"])  # type: ignore
-    made = []
-    for screens in (2, 6):
-        tracks = -(-screens * 1024 // (sector * in_track))
-        if format_["name"] == "apple-dos":
-            tracks += tracks % 2
-        made.append(dice.randbytes(offset) + b"".join(dice.randbytes(sector) + ending for _ in range(tracks * in_track)))
-    cut, altered = made[1][:-1], bytearray(made[1])
-    altered[offset + sector % len(made[1][offset:])] ^= 1
-    ends = [made[0] + rest for rest in (b"\x1a" * 100, b"( the last )\x1a\0\0", b" \xe5" * 20, b"text" * 300)]
-    return [*made, cut, bytes(altered), made[1] + b"x" * 1024, made[0][:1], b"", *ends, made[0][:-200], made[0][:len(made[0]) - 5] + b"\x1a" * 5]
+def check_formats(trial: Trial) -> int:
+    """The cases of container_cases.txt, in the page: how many there are."""
+    def asks(options: str, data: bytes) -> Tuple[int, bytes, str]:
+        first, blocks, wrong = trial.value(IN_PAGE % (json.dumps(base64.b64encode(data).decode()), json.dumps(options)))
+        return int(first or "0"), base64.b64decode(blocks), wrong
 
-
-def texts(dice: random.Random) -> List[bytes]:
-    """Listings and texts, good ones and others."""
-    lines = [b"( a line )", b"", b"\t: TAB  1 ;", b"x" * 64, b"  0 ( zero )", b"\xe4 \x85", b"3: three", b" 15 last", b"2\tx"]
-    headings = [b"SCR # 6", b"screen 7", b"Block #8: title", b"% screen 9", b" BLK 12", b"SCR #3x", b"scr # 4 \xe4"]
-    made = [b"", b"\n", b"SCR # 6\n  0 ( A listing )\n  1 : SIX ( -- n )\n  2   6 ;\n\n\nSCR # 7\n  0 ( More )\n",
-            b"x" * 65 + b"\n", b"SCR # 1\n 16 too many\n", b"one\r\ntwo\rthree\n\x1arest", b"1 x\n" * 17, b"SCR # 5\n" + b"a\n" * 17 + b"\n" * 3]
-    for _ in range(24):
-        pieces = [dice.choice(headings) if dice.random() < 0.2 else dice.choice(lines) for _ in range(dice.randrange(1, 40))]
-        numbered = [b"%2d %s" % (at % 16, line) for at, line in enumerate(pieces)]
-        made.append(dice.choice((b"\n", b"\r", b"\r\n")).join(dice.choice((pieces, numbered))) + dice.choice((b"", b"\n", b"\n\n", b"\x1a\0")))
-    return made
-
-
-def cases(dice: random.Random, format_: Dict[str, object]) -> List[Tuple[bytes, Options]]:
-    """Files of a format with options: none, each flag, and random ones of a disk of one's own."""
-    if format_["name"] == "text":
-        files = [*texts(dice), *(one.decode("latin-1").encode("cp037") for one in texts(dice)[:20])]
-        return [(one, {"isEbcdic": at >= len(files) - 20, "isCleaned": at % 3 == 1, "first": at % 4}) for at, one in enumerate(files)]
-    files = containers(dice, format_)
-    made: List[Tuple[bytes, Options]] = [(one, {"isCleaned": bool(at % 2)}) for at, one in enumerate(files)]
-    made += [(one, {"isHalf" if at % 2 else "isEbcdic": True, "first": at % 3}) for at, one in enumerate(files)]
-    for _ in range(6):
-        own: Options = {}
-        sectors = dice.randrange(1, 9)
-        skew = dice.sample(range(sectors), sectors)
-        least = dice.randrange(2)
-        if dice.random() < 0.7:
-            own["skew"] = [place + least for place in skew]
-        if dice.random() < 0.2:
-            own["skew"] = [dice.randrange(9) for _ in range(4)]
-        if dice.random() < 0.5:
-            own["sector"] = dice.choice((64, 128, 256, 512, 1024, 2048, 100))
-        if dice.random() < 0.5:
-            own["offset"] = dice.choice((0, 16, 100, 256, 1024, 99999))
-        size = int(str(own.get("sector", 128))) * sectors * dice.randrange(1, 40)
-        own["first"] = dice.choice((0, 0, 3))
-        made.append((dice.randbytes(int(str(own.get("offset", 0))) % 5000 + size), own))
-    return made
-
-
-def on_command_line(options: Options) -> List[str]:
-    """The page's options as those of a command."""
-    words = []
-    for name, value in options.items():
-        if name in FLAGS:
-            words += [FLAGS[name]] * bool(value)
-        elif name == "skew":
-            words += ["--skew", ",".join(map(str, value))]  # type: ignore
-        elif value or name != "first":
-            words += [f"--{name}", str(value)]
-    return words
-
-
-def imported(tree: pathlib.Path, room: pathlib.Path, content: bytes, name: str, options: Options) -> Optional[bytes]:
-    """What the command makes of a container, or None."""
-    disk, blocks = room / "old.dsk", room / "old.blk"
-    room.mkdir()
-    disk.write_bytes(content)
-    words = [tree / "forth83", "import", disk, blocks, "--format", name, *on_command_line(options)]
-    done = subprocess.run(words, stdout=subprocess.DEVNULL, stderr=subprocess.DEVNULL, check=False)
-    return blocks.read_bytes() if done.returncode == 0 else None
-
-
-def check_formats(trial: Trial, program: pathlib.Path, room: pathlib.Path) -> int:
-    """Each format with files that fit, and with others, by options of all kinds; how many files were compared."""
-    dice, tree, count, fitting = random.Random(7), room / "tree", 0, set()
-    subprocess.run([ROOT / "tools/lay-built", program, tree], check=True)
-    for format_ in trial.value("DATA.formats"):
-        name, files = str(format_["name"]), cases(dice, format_)
-        with futures.ThreadPoolExecutor() as pool:
-            made = [pool.submit(imported, tree, room / f"{name}{at}", content, name, options) for at, (content, options) in enumerate(files)]
-        for number, ((content, options), one) in enumerate(zip(files, made)):
-            wanted = one.result()
-            text = json.dumps(base64.b64encode(content).decode())
-            got = trial.value(IN_PAGE % (json.dumps(options), text, json.dumps(name)))
-            got = None if got is None else base64.b64decode(got)
-            trial.must(got == wanted, f"{name}, file {number} of {len(content)} bytes with {options}: the page has "
-                       f"{'nothing' if got is None else len(got)}, import has {'nothing' if wanted is None else len(wanted)}")
-            count += 1
-            if wanted is not None:
-                fitting.add((name, *sorted(options)))
-    trial.must(len(fitting) > 40, f"only {len(fitting)} kinds of options fit some file")
-    return count
+    trial.open()
+    return container_cases.try_page(asks, trial.must)
 
 
 def dropped(trial: Trial, name: str, content: bytes) -> None:
@@ -156,7 +57,7 @@ def check_guesses(trial: Trial) -> None:
     dropped(trial, "own.dsk", b"".join(bytes([65 + place]) * 256 for place in (0, 2, 1, 3)) + b"?" * 7)
     for part, value in (("old-format", "blocks"), ("old-offset", "7"), ("old-skew", "1 3,2, 4"), ("old-sector", "256"), ("old-first", "-1")):
         trial.value(set_value % (part, value))
-    trial.must("must be whole numbers" in trial.text("old-said"), f"an option that is no number: {trial.text('old-said')!r}")
+    trial.must("--first has a value that is no whole number" in trial.text("old-said"), f"an option that is no number: {trial.text('old-said')!r}")
 
 
 def reported(program: pathlib.Path, room: pathlib.Path, disk: pathlib.Path) -> str:
@@ -193,7 +94,7 @@ def check_advice(trial: Trial, program: pathlib.Path, room: pathlib.Path) -> Non
 
 def check(trial: Trial, program: pathlib.Path, room: pathlib.Path) -> int:
     """All of it: how many containers were compared."""
-    count = check_formats(trial, program, room)
+    count = check_formats(trial)
     check_guesses(trial)
     check_advice(trial, program, room)
     return count

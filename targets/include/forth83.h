@@ -36,7 +36,7 @@ extern "C" {
 enum forth83_status {
   FORTH83_DONE = 0,
   FORTH83_NO_MACHINE = 1,     /* the record keeps no machine */
-  FORTH83_OUT_OF_MEMORY = 2,  /* only forth83_see, _headers, _extent, _trace_line and _survey, which take memory */
+  FORTH83_OUT_OF_MEMORY = 2,  /* only forth83_see, _headers, _extent, _trace_line, _survey, _unpack, _pack and _guess_format, which take memory */
   FORTH83_SHORT_ROOM = 3,     /* no room for what is shown, or too little for a file */
   FORTH83_TRUNCATED = 4,      /* an image's file that ends too soon */
   FORTH83_TRAILING_BYTES = 5, /* bytes after an image's file */
@@ -56,7 +56,8 @@ enum forth83_status {
   FORTH83_NAMELESS = 19,       /* SEE: it uses a word without a name that can be read */
   FORTH83_SHADOWED = 20,       /* SEE: a name in its text would mean another word, or a number is a name */
   FORTH83_BAD_TEXT = 21,       /* SEE: a text in it has a quote */
-  FORTH83_LONG_REPLY = 22      /* the reply is longer than the room, which has the front of it; the request was obeyed */
+  FORTH83_LONG_REPLY = 22,     /* the reply is longer than the room, which has the front of it; the request was obeyed */
+  FORTH83_REFUSED = 23         /* forth83_unpack and _pack: what was given is refused, and `said` says why */
 };
 
 /* Why forth83_run ended. */
@@ -227,6 +228,22 @@ uint32_t forth83_trace_line(const forth83 *machine, uint8_t *text, uint64_t text
 uint32_t forth83_survey(const forth83 *machine, const uint8_t *name, uint64_t name_size, const uint8_t *blocks, uint64_t blocks_size,
                         uint8_t *text, uint64_t text_size, uint64_t *size, uint16_t *dialect);
 
+/* Reads a container of another system: a disk, a file of blocks, lines or a listing. Puts its blocks into blocks, how many bytes they have into
+ * size, the number of the first one into first, and what is to be said of them into said, which may be nothing: a sentence without its
+ * full stop, cut where the room ends (512 bytes are enough). The options are words with blanks between them, those of `forth83 import`, as in
+ * "--format rx01 --half"; docs/OLD-SOURCES.md has them. FORTH83_REFUSED: said has why, and nothing is in blocks. FORTH83_SHORT_ROOM: size says how
+ * many bytes blocks must have. Needs no machine. */
+uint32_t forth83_unpack(const uint8_t *options, uint64_t options_size, const uint8_t *container, uint64_t container_size, uint8_t *blocks,
+                        uint64_t blocks_size, uint64_t *size, uint16_t *first, uint8_t *said, uint64_t said_size, uint64_t *said_count);
+
+/* Writes blocks back into a container that was read with the same options: into its own bytes, and only where screens are. The first of
+ * these blocks is that with number 0. Texts and records are not written. said is as above. */
+uint32_t forth83_pack(const uint8_t *options, uint64_t options_size, const uint8_t *blocks, uint64_t blocks_size, uint8_t *container,
+                      uint64_t container_size, uint8_t *said, uint64_t said_size, uint64_t *said_count);
+
+/* Puts the name of the format that a container may have into said, by its size, its head and its first lines. */
+uint32_t forth83_guess_format(const uint8_t *container, uint64_t container_size, uint8_t *said, uint64_t said_size, uint64_t *said_count);
+
 /* Obeys a request of a host, as a server does: the frame of this kind with these bytes (docs/FORMATS.md has the frames). Puts the frames of the reply
  * into reply, and how many bytes they have into replied. A reply that is longer than reply_size is cut there (FORTH83_LONG_REPLY): the request was
  * obeyed all the same, so give requests that move the machine FORTH83_SERVE_ROOM bytes, and ask again for what only looks. No block is
@@ -266,7 +283,7 @@ static inline const char *forth83_status_text(uint32_t status)
         "a page must have 1,024 bytes", "the stack is full or empty", "no word has that name",
         "a chain of more than 32,768 headers", "the word is no colon definition", "the word is the thread of no text",
         "the word uses a word without a name", "a name in the word means another word", "a text in the word has a quote",
-        "the reply is longer than the room"};
+        "the reply is longer than the room", "what was given is refused"};
     return status < sizeof texts / sizeof texts[0] ? texts[status] : "unknown status";
 }
 

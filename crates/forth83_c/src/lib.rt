@@ -20,8 +20,9 @@ mod stop;
 mod surveying;
 mod text;
 mod tracing;
+mod unpacking;
 
-ghost use Rattle.std.specs.Prelude.{◌≡◌, ◌≢◌, ◌<◌, ◌≤◌, ◌⊎◌, length, take, drop, IsTrue};
+ghost use Rattle.std.specs.Prelude.{◌≡◌, ◌≢◌, ◌<◌, ◌≤◌, ◌⊎◌, ◌%◌, length, take, drop, IsTrue};
 ghost use Rattle.dictionary.specs.Adding.{is_name};
 ghost use Rattle.image_loader.specs.Files.{Contents, IsFile, IsCutShort, IsFollowed, HasBadMagic, HasBadVersion, HasBadBuffers, HasBadSize};
 ghost use Rattle.machine.specs.State.{start};
@@ -39,6 +40,7 @@ use record::{Forth83, Forth83End};
 use status::Status;
 use std::alloc::Global;
 use surveying::NamedBlocks;
+use unpacking::Told;
 
 /// Loads an image, of which `image` are the bytes of the file, for a device of `block_count` blocks.
 #[unsafe(no_mangle)]
@@ -353,6 +355,83 @@ pub extern "C" fn forth83_survey(
         bytes: blocks,
     };
     surveying::survey(alloc, machine, blocks, text, size, dialect).code()
+}
+
+/// Puts the blocks of a container of another system into `room`, and how many bytes they have into `size`, by options as on a command
+/// line; the number of the first one into `first`; and what is said of them, or why they are not read, into `said`.
+#[unsafe(no_mangle)]
+pub extern "C" fn forth83_unpack(
+    alloc: Global,
+    options: &[u8],
+    container: &[u8],
+    room: &mut [u8],
+    size: &mut usize,
+    first: &mut u16,
+    said: &mut [u8],
+    said_size: &mut usize,
+) -> u32
+    ensures known { (result ≡ 0) ⊎ ((result ≡ 2) ⊎ ((result ≡ 3) ⊎ (result ≡ 23))) }
+    ensures fits { result ≡ 0 → size.new ≤ length room.new }
+    ensures beyond { result ≡ 0 → drop size.new room.new ≡ drop size.new room.old }
+    ensures whole { result ≡ 0 → size.new % 1024 ≡ 0 }
+    ensures stays { result ≢ 0 → room.new ≡ room.old }
+{
+    let told = Told {
+        room: said,
+        size: said_size,
+    };
+    match unpacking::unpack(alloc, options, container, room, size, told) {
+        Ok(number) => {
+            *first = number;
+            0
+        }
+        Err(why) => why.code(),
+    }
+}
+
+/// Puts blocks into a container of another system, in its place, by options as on a command line; and what is said of them, or why they are
+/// not written, into `said`.
+#[unsafe(no_mangle)]
+pub extern "C" fn forth83_pack(
+    alloc: Global,
+    options: &[u8],
+    blocks: &[u8],
+    container: &mut [u8],
+    said: &mut [u8],
+    said_size: &mut usize,
+) -> u32
+    ensures known { (result ≡ 0) ⊎ ((result ≡ 2) ⊎ ((result ≡ 3) ⊎ (result ≡ 23))) }
+    ensures len { length container.new ≡ length container.old }
+    ensures stays { result ≢ 0 → container.new ≡ container.old }
+{
+    let told = Told {
+        room: said,
+        size: said_size,
+    };
+    match unpacking::pack(alloc, options, blocks, container, told) {
+        Ok(()) => 0,
+        Err(why) => why.code(),
+    }
+}
+
+/// Puts the name of the format that a container may have into `said`, by its size, its head and its first lines.
+#[unsafe(no_mangle)]
+pub extern "C" fn forth83_guess_format(
+    alloc: Global,
+    container: &[u8],
+    said: &mut [u8],
+    said_size: &mut usize,
+) -> u32
+    ensures { (result ≡ 0) ⊎ ((result ≡ 2) ⊎ ((result ≡ 3) ⊎ (result ≡ 23))) }
+{
+    let told = Told {
+        room: said,
+        size: said_size,
+    };
+    match unpacking::guess(alloc, container, told) {
+        Ok(()) => 0,
+        Err(why) => why.code(),
+    }
 }
 
 /// Obeys a request of a server's host: the frame of this kind and these bytes. The reply is put into `room`, and how many bytes it has into `size`;
