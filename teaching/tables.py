@@ -5,9 +5,9 @@ import io
 import unicodedata
 from typing import List, NamedTuple
 
-from checking import RIGHT, Result
-from trials import Lesson
+from judged import Lesson, Result
 
+RIGHT = "right"
 SIGNS = {"right": "✓", "wrong": "✗", "missing": "?", "endless": "∞", "empty": "·"}
 PLAIN = {"right": "+", "wrong": "x", "missing": "?", "endless": "@", "empty": "."}
 MEANINGS = {"right": "right", "wrong": "wrong", "missing": "a word is missing", "endless": "never ends", "empty": "nothing written"}

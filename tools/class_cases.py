@@ -9,6 +9,7 @@ import subprocess
 from itertools import zip_longest
 from typing import Callable, Dict, List, NamedTuple
 
+import course_answers
 import teaching_runs
 
 ROOT = pathlib.Path(__file__).resolve().parent.parent
@@ -122,7 +123,7 @@ PUPILS = (
     Pupil("=HYPERLINK(1).blk", lambda course: b"\x89PNG\r\n\x1a\n" + os.urandom(999), []),
     Pupil("session.json", lambda course: b'{"format":"forth83","disk":"AAA', []),
 )
-REFUSED = {"long lines": "line 2 has 84 of 64 bytes; line 4 has 75 of 64 bytes", "half a block": "it has 1500 bytes", "empty": "it is empty",
+REFUSED = {"long lines": "line 2 has more than 64 bytes", "half a block": "it has 1500 bytes", "empty": "it is empty",
            "=HYPERLINK(1)": "no text of screens", "session": "nor a session that the page saved"}
 
 
@@ -167,6 +168,27 @@ def check_class(tree: teaching_runs.Tree) -> None:
     tree.cases.holds("a folder", "it is a folder", rows[room.name][LESSONS + 1])
     tree.cases.holds("a name that could be a formula", "'=HYPERLINK(1)", done.stdout.decode("utf-8"))
     check_forms(tree, room)
+    check_answers(tree, course)
+
+
+def check_answers(tree: teaching_runs.Tree, course: bytes) -> None:
+    """What pupils write (tools/course_answers.txt) is right or not in a class, too: the file of pupil N has the Nth answer to each lesson."""
+    room, solved = tree.room / "answers", course_answers.solutions()
+    room.mkdir()
+    given: Dict[int, List[course_answers.Answer]] = {}
+    for answer in course_answers.answers():
+        given.setdefault(answer.lesson, []).append(answer)
+    for number in range(max(map(len, given.values()))):
+        answered = {lesson: answers[number] for lesson, answers in given.items() if number < len(answers)}
+        written = {lesson + 20: course_answers.screen(answer, solved).splitlines()[1:] for lesson, answer in answered.items()}
+        (room / f"pupil{number}.blk").write_bytes(with_screens(written)(course))
+    status, said = tree.tool("class", "--csv", *sorted(str(path) for path in room.iterdir()))
+    tree.cases.same("the status of a class with an answer to each lesson", 0, status)
+    rows = rows_of(said)
+    for lesson, answers in given.items():
+        for number, answer in enumerate(answers):
+            got = rows[f"pupil{number}"][lesson - 1]
+            tree.cases.same(f"lesson {lesson}, {answer.title}: {got}", answer.is_right, got == "right")
 
 
 def check_forms(tree: teaching_runs.Tree, room: pathlib.Path) -> None:

@@ -37,6 +37,10 @@ limit = record (option (codes "limit")) {
   defaults = codes "1000000000000" ∷ [];
 }
 
+-- of `judge`
+abbrev pub lesson_limit : Rule
+lesson_limit = record limit { defaults = codes "5000000" ∷ [] }
+
 abbrev pub show_place : Rule
 show_place = flag (codes "where")
 
@@ -114,8 +118,12 @@ serve = sub (codes "serve") (word (codes "IMAGE") ∷ new_rule (codes "BLOCKS") 
 abbrev pub survey : Shape
 survey = sub (codes "survey") (word (codes "IMAGE") ∷ (screens_rules ++ all_places ∷ []))
 
+abbrev pub judge : Shape
+judge = sub (codes "judge")
+    (word (codes "IMAGE") ∷ word (codes "TEXTS") ∷ word (codes "COURSE") ∷ word (codes "PUPIL") ∷ lesson_limit ∷ [])
+
 abbrev pub subcommands : List Shape
-subcommands = kernel ∷ build ∷ load ∷ upgrade ∷ text ∷ screens ∷ new ∷ import ∷ export ∷ run ∷ see ∷ debug ∷ view ∷ serve ∷ survey ∷ []
+subcommands = kernel ∷ build ∷ load ∷ upgrade ∷ text ∷ screens ∷ new ∷ import ∷ export ∷ run ∷ see ∷ debug ∷ view ∷ serve ∷ survey ∷ judge ∷ []
 
 abbrev pub forth83 : App
 forth83 = record {

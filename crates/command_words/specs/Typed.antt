@@ -7,6 +7,7 @@ use Rattle.clap.specs.Walk.{Row, Text, first_of, one_of}
 use Rattle.clap.specs.Simple.{subcommand_of}
 use Rattle.command_words.specs.CommandLine.{forth83}
 use Rattle.command_words.specs.declared.BuildWords.{BuildWords}
+use Rattle.command_words.specs.declared.JudgeWords.{JudgeWords}
 use Rattle.command_words.specs.declared.LoadWords.{LoadWords}
 use Rattle.command_words.specs.declared.ScreenRange.{ScreenRange}
 use Rattle.command_words.specs.declared.SurveyWords.{SurveyWords}
@@ -55,6 +56,13 @@ pub record IsSurvey (rows : List Row) (w : SurveyWords) : Type 0 where
   pub screens : AreScreens rows w.screens
   pub all : IsFlag rows (codes "all") w.lists_all
 
+pub record IsJudge (rows : List Row) (w : JudgeWords) : Type 0 where
+  pub image : IsText rows (codes "IMAGE") w.image
+  pub texts : IsText rows (codes "TEXTS") w.texts
+  pub course : IsText rows (codes "COURSE") w.course
+  pub pupil : IsText rows (codes "PUPIL") w.pupil
+  pub limit : number_in (codes "limit") rows ≡ Some w.limit
+
 pub record IsContainer (rows : List Row) (w : ContainerWords) : Type 0 where
   pub container : IsText rows (codes "CONTAINER") w.container
   pub blocks : IsText rows (codes "BLOCKS") w.blocks
@@ -84,6 +92,7 @@ Says rows (words.See image name) = IsText rows (codes "IMAGE") image × IsText r
 Says rows (words.View image name) = IsText rows (codes "IMAGE") image × IsText rows (codes "NAME") name
 Says rows (words.Serve image blocks) = IsText rows (codes "IMAGE") image × IsTextIfGiven rows (codes "BLOCKS") blocks
 Says rows (words.Survey w) = IsSurvey rows w
+Says rows (words.Judge w) = IsJudge rows w
 
 -- the subcommand of this name
 abbrev pub name_of : Words → Text
@@ -102,6 +111,7 @@ name_of (words.See image name) = codes "see"
 name_of (words.View image name) = codes "view"
 name_of (words.Serve image blocks) = codes "serve"
 name_of (words.Survey w) = codes "survey"
+name_of (words.Judge w) = codes "judge"
 
 -- w is of the subcommand of this name, and says what was found for its arguments
 pub record AreOf (name : Text) (rows : List Row) (w : Words) : Type 0 where
@@ -153,6 +163,9 @@ load_parts = Word (codes "IMAGE") ∷ (screens_parts ++ Word (codes "OUT") ∷ l
 abbrev pub survey_parts : List Part
 survey_parts = Word (codes "IMAGE") ∷ screens_parts
 
+abbrev pub judge_parts : List Part
+judge_parts = Word (codes "IMAGE") ∷ Word (codes "TEXTS") ∷ Word (codes "COURSE") ∷ Word (codes "PUPIL") ∷ limit_part ∷ []
+
 abbrev pub upgrade_parts : List Part
 upgrade_parts = Word (codes "IMAGE") ∷ Word (codes "OUT") ∷ NumberIfGiven 16 (codes "buffers") ∷ []
 
@@ -172,7 +185,7 @@ parts =
     ∷ (codes "text", screens_parts) ∷ (codes "screens", Word (codes "TEXT") ∷ Word (codes "BLOCKS") ∷ [])
     ∷ (codes "new", Word (codes "BLOCKS") ∷ Number 32 (codes "N") ∷ []) ∷ (codes "import", container_parts) ∷ (codes "export", container_parts)
     ∷ (codes "run", Word (codes "IMAGE") ∷ limit_part ∷ []) ∷ (codes "debug", debug_parts) ∷ (codes "see", seen_parts) ∷ (codes "view", seen_parts)
-    ∷ (codes "serve", Word (codes "IMAGE") ∷ []) ∷ (codes "survey", survey_parts) ∷ []
+    ∷ (codes "serve", Word (codes "IMAGE") ∷ []) ∷ (codes "survey", survey_parts) ∷ (codes "judge", judge_parts) ∷ []
 
 -- of the subcommand of this name one part is lacking, or none has this name
 abbrev pub LacksIn : List (Text × List Part) → (name : Text) → List Row → Type 0

@@ -87,6 +87,16 @@ pub fn limit<'a>(alloc: Global) -> Arg<'a>
         .default_value("1000000000000")
 }
 
+/// How many ticks a lesson may take.
+pub fn lesson_limit<'a>(alloc: Global) -> Arg<'a>
+    ensures rule { rule_of result ≡ line.lesson_limit }
+    ensures local { result.global ≡ false }
+{
+    option(alloc, "limit", "N", "Stop a lesson after N ticks")
+        .value_parser(value_parser!(u64))
+        .default_value("5000000")
+}
+
 /// Whether the place of a refusal is shown.
 pub fn show_place<'a>(alloc: Global) -> Arg<'a>
     ensures rule { rule_of result ≡ line.show_place }

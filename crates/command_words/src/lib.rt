@@ -72,6 +72,7 @@ pub enum Words {
         blocks: Option<String>,
     },
     Survey(SurveyWords),
+    Judge(JudgeWords),
 }
 
 /// Screens of a file of blocks, one after another.
@@ -111,6 +112,16 @@ pub struct SurveyWords {
     pub screens: ScreenRange,
     /// Whether all places of a word are listed.
     pub lists_all: bool,
+}
+
+/// The words of `judge`.
+#[derive(Drop)]
+pub struct JudgeWords {
+    pub image: String,
+    pub texts: String,
+    pub course: String,
+    pub pupil: String,
+    pub limit: u64,
 }
 
 /// What became of the command line.

@@ -7,7 +7,7 @@ ghost use Rattle.clap.specs.Matches.{found_of};
 ghost use Rattle.clap.specs.Simple.{subcommand_rows_of};
 ghost use Rattle.command_words.specs.Typed as typed;
 
-use crate::{BuildWords, ContainerWords, LoadWords, ScreenRange, SurveyWords, Words};
+use crate::{BuildWords, ContainerWords, JudgeWords, LoadWords, ScreenRange, SurveyWords, Words};
 use clap::ArgMatches;
 use std::alloc::Global;
 use thiserror::Error;
@@ -278,6 +278,19 @@ fn survey_words(alloc: Global, matches: &ArgMatches<'_>) -> Result<SurveyWords, 
     })
 }
 
+fn judge_words(alloc: Global, matches: &ArgMatches<'_>) -> Result<JudgeWords, Unread>
+    ensures typed { IfOk result (typed.IsJudge (rows_of (found_of matches.now))) }
+    ensures lacks { IfErr result (λ why. why ≡ Unread.Missing → typed.LacksOne (rows_of (found_of matches.now)) typed.judge_parts) }
+{
+    Ok(JudgeWords {
+        image: text(alloc, matches, "IMAGE")?,
+        texts: text(alloc, matches, "TEXTS")?,
+        course: text(alloc, matches, "COURSE")?,
+        pupil: text(alloc, matches, "PUPIL")?,
+        limit: limit(matches)?,
+    })
+}
+
 fn kernel_words(alloc: Global, matches: &ArgMatches<'_>) -> Result<Words, Unread>
     ensures typed { IfOk result (typed.AreOf (codes "kernel") (rows_of (found_of matches.now))) }
     ensures lacks { IfErr result (λ why. why ≡ Unread.Missing → typed.LacksOne (rows_of (found_of matches.now)) (typed.Word (codes "BLOCKS") ∷ [])) }
@@ -311,6 +324,7 @@ fn words_of(alloc: Global, name: &str, matches: &ArgMatches<'_>) -> Result<Words
         "view" => view_words(alloc, matches),
         "serve" => serve_words(alloc, matches),
         "survey" => Ok(Words::Survey(survey_words(alloc, matches)?)),
+        "judge" => Ok(Words::Judge(judge_words(alloc, matches)?)),
         _ => Err(Unread::Missing),
     }
 }

@@ -6,8 +6,8 @@ ghost use Rattle.command_words.specs.CommandLine as line;
 
 use crate::VERSION;
 use crate::arguments::{
-    all_places, buffers, count, flag, format, four_buffers, limit, may_be, offset, option, screen,
-    sector, show_place, word,
+    all_places, buffers, count, flag, format, four_buffers, lesson_limit, limit, may_be, offset,
+    option, screen, sector, show_place, word,
 };
 use clap::Command;
 use std::alloc::{AllocError, Global};
@@ -199,6 +199,22 @@ fn survey_command<'a>(alloc: Global) -> Result<Command<'a>, AllocError>
     with_screens(alloc, command)?.arg(all_places(alloc))
 }
 
+fn judge_command<'a>(alloc: Global) -> Result<Command<'a>, AllocError>
+    ensures { IfOk result (line.IsSubcommand line.judge) }
+{
+    Command::new(alloc, "judge")
+        .about("Judge a pupil's answers to the lessons of a course")
+        .arg(word(
+            alloc,
+            "IMAGE",
+            "The image that has loaded the course's checkers",
+        ))?
+        .arg(word(alloc, "TEXTS", "What is said of faults"))?
+        .arg(word(alloc, "COURSE", "The course, blocks or a text of screens"))?
+        .arg(word(alloc, "PUPIL", "The pupil's file, of the same kind"))?
+        .arg(lesson_limit(alloc))
+}
+
 /// The program's command line.
 pub fn command<'a>(alloc: Global) -> Result<Command<'a>, AllocError>
     ensures { IfOk result (λ c. app_of c ≡ line.forth83) }
@@ -222,5 +238,6 @@ pub fn command<'a>(alloc: Global) -> Result<Command<'a>, AllocError>
         .subcommand(debug_command(alloc)?)?
         .subcommand(view_command(alloc)?)?
         .subcommand(serve_command(alloc)?)?
-        .subcommand(survey_command(alloc)?)
+        .subcommand(survey_command(alloc)?)?
+        .subcommand(judge_command(alloc)?)
 }

@@ -10,6 +10,7 @@ use Rattle.command_words.specs.declared.Words.TheVariants as words
 use Rattle.command_words.specs.declared.containers.ContainerWords.{ContainerWords}
 use Rattle.debug_subcommand.specs.Files.{Debugs, RefusesDebug}
 use Rattle.file_subcommands.specs.Filed.{Builds, Exports, Imports, MakesKernel, MakesNew, MakesScreens, Prints, RefusesBuild, RefusesExport, RefusesImport, RefusesNew, RefusesUpgrade, Sees, Upgrades, Views, Wanted, image_steps, kernel_steps, screens_steps, text_steps}
+use Rattle.judge_subcommand.specs.Judged.{Judges, judge_steps}
 use Rattle.load_subcommand.specs.Files.{Loads, load_steps}
 use Rattle.named_files.specs.Asking.{step}
 use Rattle.named_files.specs.Done.{Done, Refuses}
@@ -53,6 +54,8 @@ Obeys (words.See image name) status failed old new = Sees (string_bytes image) (
 Obeys (words.View image name) status failed old new = Views (string_bytes image) (string_bytes name) status failed old new
 Obeys (words.Serve image blocks) status failed old new = ServesFiles (string_bytes image) (typed blocks) status failed old new
 Obeys (words.Survey w) status failed old new = Surveys (string_bytes w.image) (string_bytes w.screens.blocks) status failed old new
+Obeys (words.Judge w) status failed old new =
+    Judges (string_bytes w.image) (string_bytes w.texts) (string_bytes w.course) (string_bytes w.pupil) status failed old new
 
 -- the subcommand could not begin: a step that it must take was refused, or what was typed can't be used
 abbrev pub RefusesWords : Words → (status : ℕ) → (failed : Bool) → (old new : Done) → Type 0
@@ -73,6 +76,8 @@ RefusesWords (words.See image name) status failed old new = Refuses (image_steps
 RefusesWords (words.View image name) status failed old new = Refuses (image_steps (string_bytes image)) status old new
 RefusesWords (words.Serve image blocks) status failed old new = Refuses (serve_steps (string_bytes image) (typed blocks)) status old new
 RefusesWords (words.Survey w) status failed old new = Refuses (survey_steps (string_bytes w.image) (string_bytes w.screens.blocks)) status old new
+RefusesWords (words.Judge w) status failed old new =
+    Refuses (judge_steps (string_bytes w.image) (string_bytes w.texts) (string_bytes w.course) (string_bytes w.pupil)) status old new
 
 -- what the program does with a command line. It obeys the words that were typed, or one of their steps is refused; if a line can't be printed
 -- meanwhile, the status is 5. Or no words come of the command line: it is printed why, or memory ran out.

@@ -7,7 +7,7 @@ ghost use Rattle.named_files.specs.Done.{IsPassedOn, done, status_of};
 ghost use Rattle.std.specs.String.{string_bytes};
 
 use command_words::{
-    ContainerWords, LoadWords, Parsed, ScreenRange, SurveyWords, Words, parse, typed,
+    ContainerWords, JudgeWords, LoadWords, Parsed, ScreenRange, SurveyWords, Words, parse, typed,
 };
 use debug_subcommand::debug_word;
 use file_subcommands::{
@@ -15,6 +15,7 @@ use file_subcommands::{
     upgrade_image, view_word, write_kernel, write_new, write_screens,
 };
 use inner_interpreter::Output;
+use judge_subcommand::{Judged, judge_pupil};
 use load_subcommand::{Load, load_screens};
 use named_files::{Files, SystemFiles, out_of_memory, standard_output};
 use run_subcommand::run_image;
@@ -84,6 +85,21 @@ fn surveyed_of(words: &SurveyWords) -> Surveyed<'_>
     }
 }
 
+/// What the words of `judge` name.
+fn judged_of(words: &JudgeWords) -> Judged<'_>
+    ensures image { (result.image.now ≡ string_bytes words.now.image) × (result.texts.now ≡ string_bytes words.now.texts) }
+    ensures files { (result.course.now ≡ string_bytes words.now.course) × (result.pupil.now ≡ string_bytes words.now.pupil) }
+    ensures ticks { result.ticks ≡ words.now.limit }
+{
+    Judged {
+        image: words.image.as_str(),
+        texts: words.texts.as_str(),
+        course: words.course.as_str(),
+        pupil: words.pupil.as_str(),
+        ticks: words.limit,
+    }
+}
+
 /// Runs what the words say, and answers the status. If a subcommand cannot start, the reason is printed, and the status is the error.
 fn obey<F: Files, W: Output>(files: &mut F, writer: &mut W, words: Words) -> Result<u8, u8>
     ensures obeyed { W.failed writer.old ≡ false → IfOk result (λ status. Obeys words status (W.failed writer.new)
@@ -145,6 +161,7 @@ fn obey<F: Files, W: Output>(files: &mut F, writer: &mut W, words: Words) -> Res
             serve_image(files, writer, image.as_str(), blocks.as_deref())
         }
         Words::Survey(words) => survey_screens(files, writer, surveyed_of(&words)),
+        Words::Judge(words) => judge_pupil(files, writer, judged_of(&words)),
     }
 }
 

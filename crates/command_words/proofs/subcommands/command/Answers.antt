@@ -22,4 +22,5 @@ returns c =
     let s12 = joined _ line.debug _ _ _ s11 c.in_ok-debug_command.ensures c.in_ok-subcommand-12.ensures in
     let s13 = joined _ line.view _ _ _ s12 c.in_ok-view_command.ensures c.in_ok-subcommand-13.ensures in
     let s14 = joined _ line.serve _ _ _ s13 c.in_ok-serve_command.ensures c.in_ok-subcommand-14.ensures in
-    if_ok_then c.subcommand-15.result _ _ (λ d h. (joined _ line.survey _ _ d s14 c.in_ok-survey_command.ensures h).app) c.subcommand-15.ensures
+    let s15 = joined _ line.survey _ _ _ s14 c.in_ok-survey_command.ensures c.in_ok-subcommand-15.ensures in
+    if_ok_then c.subcommand-16.result _ _ (λ d h. (joined _ line.judge _ _ d s15 c.in_ok-judge_command.ensures h).app) c.subcommand-16.ensures
