@@ -26,13 +26,12 @@ put_aside k line = record {
   returns = k.returns;
 }
 
-pub called_kept : (k : Forth83) (word : ℕ) (line values stack : List ℕ) (top : ℕ) → IsRecord k → k.asks ≤ 2
-    → stack ≡ drop (needs k.asks) (slice_range k.values k.values_top 256)
-    → (if k.asks == 2 then line else []) ≡ take (needs k.asks) (slice_range k.values k.values_top 256)
-    → stack ≡ slice_range values top 256 → top ≤ 256
-    → HasCalled k (record k { aside = put_aside k line; is_called = 1; values = values; values_top = top; returns_top = 256; ip = 0; has_pending = 1; pending = word; asks = 0 }) word
+pub called_kept : (k : Forth83) (word : ℕ) (line : List ℕ) (top : ℕ) → IsRecord k → k.asks ≤ 2
+    → slice_range k.values top 256 ≡ drop (needs k.asks) (slice_range k.values k.values_top 256)
+    → (if k.asks == 2 then line else []) ≡ take (needs k.asks) (slice_range k.values k.values_top 256) → top ≤ 256
+    → HasCalled k (record k { aside = put_aside k line; is_called = 1; values_top = top; returns_top = 256; ip = 0; has_pending = 1; pending = word; asks = 0 }) word
 unfolding kept_state
-called_kept k word line values stack top h few off cells is most = record {
+called_kept k word line top h few off cells most = record {
   before = kept_state k;
   was_kept = kept_kept k h;
   is_kept = record {
@@ -52,7 +51,7 @@ called_kept k word line values stack top h few off cells is most = record {
       buffers = h.buffers;
     };
     memory = refl;
-    values = ap (λ n. drop n (slice_range k.values k.values_top 256)) (needs_are k.asks k.asked k.token) ∙ sym off ∙ is;
+    values = ap (λ n. drop n (slice_range k.values k.values_top 256)) (needs_are k.asks k.asked k.token) ∙ sym off;
     returns = refl;
     ip = refl;
     pending = refl;
@@ -73,12 +72,12 @@ called_kept k word line values stack top h few off cells is most = record {
   faults = refl;
 }
 
-pub resumed_kept : (k : Forth83) (values stack : List ℕ) (top : ℕ) → IsRecord k → k.is_called ≢ 0
-    → stack ≡ (if k.aside.asks == 2 then k.aside.line else []) ++ drop (needs k.asks) (slice_range k.values k.values_top 256)
-    → stack ≡ slice_range values top 256 → top ≤ 256
+pub resumed_kept : (k : Forth83) (values : List ℕ) (top : ℕ) → IsRecord k → k.is_called ≢ 0
+    → slice_range values top 256 ≡ (if k.aside.asks == 2 then k.aside.line else []) ++ drop (needs k.asks) (slice_range k.values k.values_top 256)
+    → top ≤ 256
     → HasResumed k (record k { values = values; values_top = top; returns_top = k.aside.returns_top; returns = k.aside.returns; ip = k.aside.ip; has_pending = k.aside.has_pending; pending = k.aside.pending; asks = k.aside.asks; asked = k.aside.asked; token = k.aside.token; is_called = 0 })
 unfolding kept_state
-resumed_kept k values stack top h some on is most = record {
+resumed_kept k values top h some on most = record {
   before = kept_state k;
   aside = record {
     ip = k.aside.ip;
@@ -108,8 +107,7 @@ resumed_kept k values stack top h some on is most = record {
     memory = refl;
     values =
         ap (λ n. (if k.aside.asks == 2 then k.aside.line else []) ++ drop n (slice_range k.values k.values_top 256)) (needs_are k.asks k.asked k.token)
-        ∙ sym on
-        ∙ is;
+        ∙ sym on;
     returns = refl;
     ip = refl;
     pending = refl;

@@ -1,4 +1,5 @@
 pub mod Bytes
+pub mod Celled
 pub mod Codes
 pub mod Same
 pub mod Taking

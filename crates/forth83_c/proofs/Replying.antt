@@ -7,6 +7,7 @@ use Rattle.machine.specs.State.{State, state_at}
 use Rattle.inner_interpreter.specs.Ends.{Marks}
 use Rattle.inner_interpreter.specs.declared.ends.EndFault.{EndFault}
 use Rattle.serving.specs.Requests.{Wish}
+use Rattle.serving.specs.Room.{SendsFew, move_room}
 use Rattle.serving.specs.Served.{IsServed, MayObey, Served}
 use Rattle.serving.proofs.Anywhere.{may_at}
 use Rattle.serving.proofs.Blockless.{may_call_none}
@@ -123,3 +124,17 @@ obeyed_lent name w m m' s s' reply none from to h =
     let back : state_at None m ≡ s = ap (state_at None) from ∙ ap (λ p. state_at p s) (sym none) in
     subst (λ (t : State). MayObey 0 w true t s' [] [] (Some []) (Some reply)) back
     (subst (λ (t : State). MayObey 0 w true (state_at None m) t [] [] (Some []) (Some reply)) (sym to) (may_at None 0 w true m m' [] [] (Some []) (Some reply) h))
+
+-- a room that was empty took no more than this
+pub room_in : {T : Type 0} (r : Result T EndFault) (name name' : ℕ) (before before' taken taken' : List ℕ) → Marks false false r → taken ≡ [] → before' ≡ before → OnOk r (SendsFew move_room (Some (marked name before taken)) (Some (marked name' before' taken'))) → length taken' ≤ move_room
+room_in (Ok x) name name' before before' taken taken' mark empty same few =
+    let old : length (before ++ taken) ≡ length before + length taken = length-append before taken in
+    let new : length (before' ++ taken') ≡ length before' + length taken' = length-append before' taken' in
+    let none : length taken ≡ 0 = ap length empty in
+    let size : length before' ≡ length before = ap length same in
+    omega (arith, few, old, new, none, size)
+room_in (Err x) name name' before before' taken taken' mark empty same few = grind arith
+
+pub size_few : (size n most : ℕ) → size ≡ size_as n → n ≤ most → size ≤ most
+unfolding size_as
+size_few size n most e h = grind arith

@@ -6,7 +6,6 @@ use Rattle.dictionary.specs.Adding.{is_name}
 use Rattle.dictionary.specs.Header.{compilation_address}
 use Rattle.dictionary.specs.Search.{Sought, Found, sought}
 use Rattle.dictionary.proofs.Unnamed.{name_never}
-use Rattle.stacks.specs.Cells.{first_of}
 use Rattle.machine.specs.State.{State}
 use Rattle.forth83_c.specs.declared.record.Forth83.{Forth83}
 use Rattle.forth83_c.specs.declared.record.Forth83Faults.{Forth83Faults}
@@ -20,9 +19,6 @@ some_of {A = A} o x P e h = subst (λ (v : Option A). IfSome v P) e h
 
 pub same_state : (k : Forth83) (s t : State) → IsKept k s → IsKept k t → s ≡ t
 same_state k s t h g = grind arith
-
-none_first : (xs : List ℕ) → first_of xs ≡ None → xs ≡ []
-none_first xs e = search rules
 
 -- the state that a record says
 unfoldable pub kept_state : Forth83 → State
@@ -49,15 +45,13 @@ pub some_state : (k : Forth83) → IsRecord k → (s : State) × IsKept k s
 some_state k h = (kept_state k, kept_kept k h)
 
 -- its data stack, where that is full or empty
-pub full_stack : (k : Forth83) (xs : List ℕ) → IsRecord k → xs ≡ slice_range k.values k.values_top 256 → 256 ≤ length xs
-    → (s : State) × IsKept k s × (256 ≤ length s.parts.values)
+pub full_stack : (k : Forth83) → IsRecord k → 256 ≤ length (slice_range k.values k.values_top 256) → (s : State) × IsKept k s × (256 ≤ length s.parts.values)
 unfolding kept_state
-full_stack k xs h e l = (kept_state k, kept_kept k h, omega (arith, l, ap (λ ys. length ys) e))
+full_stack k h l = (kept_state k, kept_kept k h, l)
 
-pub empty_stack : (k : Forth83) (xs : List ℕ) → IsRecord k → xs ≡ slice_range k.values k.values_top 256 → first_of xs ≡ None
-    → (s : State) × IsKept k s × (s.parts.values ≡ [])
+pub empty_stack : (k : Forth83) → IsRecord k → slice_range k.values k.values_top 256 ≡ [] → (s : State) × IsKept k s × (s.parts.values ≡ [])
 unfolding kept_state
-empty_stack k xs h e l = (kept_state k, kept_kept k h, sym e ∙ none_first xs l)
+empty_stack k h e = (kept_state k, kept_kept k h, e)
 
 -- what a search comes to in its memory
 pub sought_there : (k : Forth83) (m name : List ℕ) (r : Sought) → IsRecord k → m ≡ stored k.memory → sought m name ≡ r

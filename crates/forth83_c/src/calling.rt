@@ -1,62 +1,13 @@
 //! A word that a host calls, and what was before it.
 
-ghost use Rattle.std.specs.Prelude.{◌≡◌, ◌≢◌, ◌<◌, ◌==◌, ◌++◌, [], length, take, drop, if◌then◌else◌, IfSome, IsNone, IsTrue, IsFalse};
+ghost use Rattle.std.specs.Prelude.{◌≡◌, ◌≢◌};
 ghost use Rattle.forth83_c.specs.declared.status.Status.TheVariants as status;
-ghost use Rattle.forth83_c.specs.Calls.{HasCalled, HasResumed, needs, WhyNotCalled, WhyNotResumed};
+ghost use Rattle.forth83_c.specs.Calls.{HasCalled, HasResumed, WhyNotCalled, WhyNotResumed};
 
-use crate::kept::{is_record, keep_stack, stack_of};
+use crate::kept::is_record;
 use crate::record::{Forth83, Forth83Aside};
+use crate::stack_cells::{behind_line, put_line, top_line};
 use crate::status::Status;
-use stacks::Stack;
-
-/// Takes the two cells of a line off the data stack, the top first.
-fn take_two(stack: &mut Stack) -> Option<[u16; 2]>
-    ensures taken { IfSome result (λ line. stack.old ≡ line ++ stack.new) }
-    ensures few { IsNone result → length stack.old < 2 }
-{
-    let first = stack.pop()?;
-    let second = stack.pop()?;
-    Some([first, second])
-}
-
-/// Takes what a request needs off the data stack: the two cells of a line.
-fn take_line(stack: &mut Stack, asks: u16) -> Option<[u16; 2]>
-    ensures off { IfSome result (λ line. stack.new ≡ drop (needs asks) stack.old) }
-    ensures line { IfSome result (λ line. (if asks == 2 then line else []) ≡ take (needs asks) stack.old) }
-    ensures few { IsNone result → (asks ≡ 2) × (length stack.old < 2) }
-{
-    if asks == 2 {
-        take_two(stack)
-    } else {
-        Some([0; 2])
-    }
-}
-
-/// Puts the two cells of a line on the data stack, if there is room for both.
-fn put_two(stack: &mut Stack, line: [u16; 2]) -> bool
-    ensures put { IsTrue result → stack.new ≡ line ++ stack.old }
-    ensures full { IsFalse result → 254 < length stack.old }
-{
-    stack.push(line[1]).is_ok() && stack.push(line[0]).is_ok()
-}
-
-/// Drops what a request needs from the data stack.
-fn drop_line(stack: &mut Stack, asks: u16)
-    ensures { stack.new ≡ drop (needs asks) stack.old }
-{
-    if asks == 2 {
-        let _first = stack.pop();
-        let _second = stack.pop();
-    }
-}
-
-/// Puts what a request needs on the data stack.
-fn put_line(stack: &mut Stack, asks: u16, line: [u16; 2]) -> bool
-    ensures put { IsTrue result → stack.new ≡ (if asks == 2 then line else []) ++ stack.old }
-    ensures full { IsFalse result → (asks ≡ 2) × (254 < length stack.old) }
-{
-    asks != 2 || put_two(stack, line)
-}
 
 /// Calls a word: where the machine is is kept aside, and the word is entered.
 pub fn call(kept: &mut Forth83, word: u16) -> Status
@@ -73,10 +24,10 @@ pub fn call(kept: &mut Forth83, word: u16) -> Status
     if kept.asks > 2 || kept.is_called != 0 {
         return Status::Waiting;
     }
-    let mut stack = stack_of(&kept.values, kept.values_top);
-    let Some(line) = take_line(&mut stack, kept.asks) else {
+    let Some(line) = top_line(&kept.values, kept.values_top, kept.asks) else {
         return Status::Stack;
     };
+    let top = behind_line(&kept.values, kept.values_top, kept.asks);
     kept.aside = Forth83Aside {
         ip: kept.ip,
         has_pending: kept.has_pending,
@@ -89,7 +40,7 @@ pub fn call(kept: &mut Forth83, word: u16) -> Status
         returns: kept.returns,
     };
     kept.is_called = 1;
-    kept.values_top = keep_stack(stack, &mut kept.values);
+    kept.values_top = top;
     kept.returns_top = 256;
     kept.ip = 0;
     kept.has_pending = 1;
@@ -113,12 +64,13 @@ pub fn resume(kept: &mut Forth83) -> Status
     if kept.halts != 0 {
         return Status::Halted;
     }
-    let mut stack = stack_of(&kept.values, kept.values_top);
-    drop_line(&mut stack, kept.asks);
-    if !put_line(&mut stack, kept.aside.asks, kept.aside.line) {
+    let below = behind_line(&kept.values, kept.values_top, kept.asks);
+    let asks = kept.aside.asks;
+    let line = kept.aside.line;
+    let Some(top) = put_line(&mut kept.values, below, asks, line) else {
         return Status::Stack;
-    }
-    kept.values_top = keep_stack(stack, &mut kept.values);
+    };
+    kept.values_top = top;
     kept.returns_top = kept.aside.returns_top;
     kept.returns = kept.aside.returns;
     kept.ip = kept.aside.ip;

@@ -45,7 +45,7 @@ fn buffer_of(entry: Entry) -> Forth83Buffer
 }
 
 /// The cells of a stack whose top is at a place.
-pub fn stack_of(cells: &[u16; 257], top: u16) -> Stack
+fn stack_of(cells: &[u16; 257], top: u16) -> Stack
     requires { top ≤ 256 }
     ensures { result ≡ slice_range cells.now top 256 }
 {
@@ -199,7 +199,7 @@ pub fn rest_of(kept: &Forth83) -> Option<Rest>
 }
 
 /// Keeps a stack, and answers where its top is.
-pub fn keep_stack(stack: Stack, cells: &mut [u16; 257]) -> u16
+fn keep_stack(stack: Stack, cells: &mut [u16; 257]) -> u16
     ensures cells { stack ≡ slice_range cells.new result 256 }
     ensures most { result ≤ 256 }
 {

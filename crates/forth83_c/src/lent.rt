@@ -6,6 +6,7 @@ ghost use Rattle.machine.specs.Answer.{answer_of, asked_by, is_answer, seen};
 ghost use Rattle.name_index.specs.Index.{Holds};
 ghost use Rattle.forth83_c.specs.Driven.{HasStopped, IsDriven, told};
 ghost use Rattle.serving.specs.Requests.{wish_of};
+ghost use Rattle.serving.specs.Room.{may_move, move_room};
 ghost use Rattle.machine.specs.Registers.{state_of};
 ghost use Rattle.forth83_c.specs.Replied.{IsReplied};
 
@@ -131,6 +132,7 @@ pub fn obey_lent<'m>(
     ensures same { result.memory.ghost_name ≡ memory.entry.ghost_name }
     ensures replied { IfSome left.new (λ own. IsReplied (wish_of command.entry) (state_of (stored memory.entry.now) rest)
         (state_of (stored result.memory.now) own) room.old room.new result.size) }
+    ensures room { may_move (wish_of command.entry) ≡ true → result.size ≤ move_room }
     ensures whole { IsSome left.new }
 {
     let mut machine = over(memory, rest, index);

@@ -15,6 +15,7 @@ pub mod record;
 mod replies;
 mod running;
 mod showing;
+mod stack_cells;
 mod status;
 mod stop;
 mod surveying;
@@ -22,7 +23,7 @@ mod text;
 mod tracing;
 mod unpacking;
 
-ghost use Rattle.std.specs.Prelude.{◌≡◌, ◌≢◌, ◌<◌, ◌≤◌, ◌⊎◌, ◌%◌, length, take, drop, IsTrue};
+ghost use Rattle.std.specs.Prelude.{◌≡◌, ◌≢◌, ◌<◌, ◌≤◌, ◌⊎◌, ◌%◌, length, take, drop, true, IsTrue};
 ghost use Rattle.dictionary.specs.Adding.{is_name};
 ghost use Rattle.image_loader.specs.Files.{Contents, IsFile, IsCutShort, IsFollowed, HasBadMagic, HasBadVersion, HasBadBuffers, HasBadSize};
 ghost use Rattle.machine.specs.State.{start};
@@ -31,6 +32,7 @@ ghost use Rattle.forth83_c.specs.Called.{AsksPage, HasAnswered, HasBegun, HasEnt
 ghost use Rattle.forth83_c.specs.Kept.{IsKept, SameBeside};
 ghost use Rattle.forth83_c.specs.Calls.{ByCode, HasCalled, HasResumed, WhyNotCalled, WhyNotResumed};
 ghost use Rattle.serving.specs.Requests.{wished};
+ghost use Rattle.serving.specs.Room.{may_move, move_room};
 ghost use Rattle.forth83_c.specs.Replied.{HasReplied, TellsReplied};
 ghost use Rattle.forth83_c.specs.Looked.{HasExtent, HasListed, HasSeen, HasTraced, HasViewed, WhyNoExtent, WhyNotListed, WhyNotSeen, WhyNotSurveyed, WhyNotTraced, WhyNotViewed};
 ghost use Rattle.forth83_c.specs.declared.kept.TheConstants.{ABI};
@@ -451,6 +453,9 @@ pub extern "C" fn forth83_serve(
 
     // 0: the reply is in the room; 22: it is longer than the room; 1: the record keeps no machine, and all is as it was.
     ensures told { ByCode (TellsReplied size.new (length room.new)) machine.old result }
+
+    // The reply to a request that may move the machine has 73,830 bytes at most.
+    ensures room { result ≢ 1 → may_move (wished kind body.now) ≡ true → size.new ≤ move_room }
     ensures stays { result ≡ 1 → machine.new ≡ machine.old }
     ensures silent { result ≡ 1 → room.new ≡ room.old }
     ensures untold { result ≡ 1 → size.new ≡ size.old }

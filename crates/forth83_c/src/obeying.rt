@@ -1,7 +1,8 @@
 //! A request of a server's host, and the machine that is kept.
 
-ghost use Rattle.std.specs.Prelude.{◌≡◌, ◌≢◌, [], Some, true, length};
+ghost use Rattle.std.specs.Prelude.{◌≡◌, ◌≢◌, ◌≤◌, [], Some, true, length};
 ghost use Rattle.serving.specs.Requests.{wish_of, wished};
+ghost use Rattle.serving.specs.Room.{may_move, move_room};
 ghost use Rattle.serving.specs.Served.{MayObey};
 ghost use Rattle.forth83_c.specs.declared.status.Status.TheVariants as status;
 ghost use Rattle.forth83_c.specs.Replied.{HasReplied, TellsReplied};
@@ -29,6 +30,7 @@ pub fn obey(
     ensures same { replies.new.room.ghost_name ≡ replies.old.room.ghost_name }
     ensures before { replies.new.before.bytes ≡ replies.old.before.bytes }
     ensures obeyed { MayObey 0 (wish_of command.entry) true machine.old machine.new [] [] (Some []) (Some replies.new.taken.bytes) }
+    ensures room { may_move (wish_of command.entry) ≡ true → length replies.new.taken.bytes ≤ move_room }
 {
     let mut device = NoBlocks::new();
     match obey_in_place(alloc, machine, &mut device, 0, command, replies) {
@@ -48,6 +50,7 @@ pub fn serve(
 ) -> Status
     ensures replied { result ≢ status.NoMachine → HasReplied kept.old kept.new (wished kind body.now) room.old room.new size.new }
     ensures told { TellsReplied size.new (length room.new) kept.old result }
+    ensures room { result ≢ status.NoMachine → may_move (wished kind body.now) ≡ true → size.new ≤ move_room }
     ensures stays { result ≡ status.NoMachine → kept.new ≡ kept.old }
     ensures silent { result ≡ status.NoMachine → room.new ≡ room.old }
     ensures untold { result ≡ status.NoMachine → size.new ≡ size.old }

@@ -12,9 +12,10 @@ ghost use Rattle.memory.specs.Bytes.{front_put, zeros};
 ghost use Rattle.memory.specs.Mirrored.{stored};
 
 use crate::driving::counted;
-use crate::kept::{is_record, keep, keep_stack, rest_of, stack_of};
+use crate::kept::{is_record, keep, rest_of};
 use crate::lent::{answer_lent, drive_lent};
 use crate::record::{Forth83, Forth83Aside, Forth83End, Forth83Faults};
+use crate::stack_cells::{put_cell, top_cell};
 use crate::status::Status;
 use image_loader::{BorrowedImage, ImageFault, write_into};
 use inner_interpreter::Answer;
@@ -266,14 +267,12 @@ pub fn push(kept: &mut Forth83, x: u16) -> Status
     if !is_record(kept) {
         return Status::NoMachine;
     }
-    let mut stack = stack_of(&kept.values, kept.values_top);
-    match stack.push(x) {
-        Ok(()) => {
-            let top = keep_stack(stack, &mut kept.values);
+    match put_cell(&mut kept.values, kept.values_top, x) {
+        Some(top) => {
             kept.values_top = top;
             Status::Done
         }
-        Err(_) => Status::Stack,
+        None => Status::Stack,
     }
 }
 
@@ -294,12 +293,10 @@ pub fn pop(kept: &mut Forth83, x: &mut u16) -> Status
     if !is_record(kept) {
         return Status::NoMachine;
     }
-    let mut stack = stack_of(&kept.values, kept.values_top);
-    match stack.pop() {
-        Some(top) => {
-            *x = top;
-            let place = keep_stack(stack, &mut kept.values);
-            kept.values_top = place;
+    match top_cell(&kept.values, kept.values_top) {
+        Some((cell, top)) => {
+            *x = cell;
+            kept.values_top = top;
             Status::Done
         }
         None => Status::Stack,

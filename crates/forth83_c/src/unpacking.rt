@@ -75,7 +75,9 @@ impl Told<'_> {
 }
 
 /// The blocks of a container by these options.
-fn unpacked(alloc: Global, options: &[u8], container: &[u8]) -> Result<Unpacked, Refusal> {
+fn unpacked(alloc: Global, options: &[u8], container: &[u8]) -> Result<Unpacked, Refusal>
+    ensures { IfOk result (λ u. length u.blocks.items % 1024 ≡ 0) }
+{
     let options = read_options(alloc, options)?;
     old_disks::unpack(alloc, container, &options)
 }

@@ -6,6 +6,7 @@ pub mod Texts
 pub mod Spelling
 pub mod Storing
 pub mod Framing
+pub mod Roomy
 pub mod Stretch
 pub mod Inspected
 pub mod Places

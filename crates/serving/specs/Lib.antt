@@ -2,6 +2,7 @@ pub mod Frames
 pub mod Registers
 pub mod Replies
 pub mod Requests
+pub mod Room
 pub mod Running
 pub mod Saving
 pub mod Served

@@ -9,9 +9,10 @@ ghost use Rattle.inner_interpreter.specs.Ends.{Marks};
 ghost use Rattle.inner_interpreter.specs.Moves.{Answer as AnswerTurn, Enter as EnterTurn};
 ghost use Rattle.inner_interpreter.specs.Histories.{acted, takes};
 ghost use Rattle.serving.specs.Requests.{Extent, Find, Image, Listed, Look, Memory as MemoryWish, PutBack as PutBackWish, Registers as RegistersWish, See, SetBytes as SetBytesWish, SetCell as SetCellWish, Unknown, Version, View, wish_of};
+ghost use Rattle.serving.specs.Room.{SendsFew, may_move, move_room};
 ghost use Rattle.serving.specs.Served.{HasObeyed, HasSaved, Looks, MayObey, act_reply, is_stretch, move_refusal, moved, needs_room, served};
 
-use crate::frames::{refuse, send_cells, send_memory, show};
+use crate::frames::{refuse, send_cells, send_memory, show, shown_len};
 use crate::listing::{Room, send_extent, send_listing};
 use crate::looking::{send_found, send_image, send_seen, send_view};
 use crate::putting::put_back;
@@ -68,8 +69,10 @@ fn refuse_move<W: Output>(machine: &LentMachine, writer: &mut W) -> Result<(), E
 fn send_act<W: Output>(machine: &LentMachine, act: Act, writer: &mut W) -> Result<(), EndFault>
     ensures ok { OnOk result (Appends (W.sent writer.old) (W.sent writer.new) (act_reply machine.now act)) }
     ensures err { OnErr result (AppendsPart (W.sent writer.old) (W.sent writer.new) (act_reply machine.now act)) }
+    ensures room { OnOk result (SendsFew move_room (W.sent writer.old) (W.sent writer.new)) }
     ensures mark { Marks (W.failed writer.old) (W.failed writer.new) result }
 {
+    let _size = shown_len(machine, act.shown);
     match show(machine, writer, act.shown) {
         Ok(()) => end(machine, writer, 0, act.event),
         Err(fault) => Err(fault),
@@ -84,6 +87,7 @@ fn obey_entry<W: Output>(
 ) -> Result<(), EndFault>
     ensures ok { OnOk result (Looks (moved machine.old (EnterTurn word)) true machine.new (W.sent writer.old) (W.sent writer.new)) }
     ensures err { OnErr result (Looks (moved machine.old (EnterTurn word)) false machine.new (W.sent writer.old) (W.sent writer.new)) }
+    ensures room { OnOk result (SendsFew move_room (W.sent writer.old) (W.sent writer.new)) }
     ensures mark { Marks (W.failed writer.old) (W.failed writer.new) result }
 {
     match enter(machine, word) {
@@ -102,6 +106,7 @@ fn obey_answer<W: Output>(
         (W.sent writer.new)) }
     ensures err { OnErr result (Looks (moved machine.old (AnswerTurn (seen reply.entry))) false machine.new (W.sent writer.old)
         (W.sent writer.new)) }
+    ensures room { OnOk result (SendsFew move_room (W.sent writer.old) (W.sent writer.new)) }
     ensures mark { Marks (W.failed writer.old) (W.failed writer.new) result }
 {
     match answer(machine, reply) {
@@ -119,6 +124,7 @@ fn obey_cell<W: Output>(
 ) -> Result<(), EndFault>
     ensures ok { OnOk result (Looks (served machine.old (SetCellWish address x)) true machine.new (W.sent writer.old) (W.sent writer.new)) }
     ensures err { OnErr result (Looks (served machine.old (SetCellWish address x)) false machine.new (W.sent writer.old) (W.sent writer.new)) }
+    ensures room { OnOk result (SendsFew move_room (W.sent writer.old) (W.sent writer.new)) }
     ensures mark { Marks (W.failed writer.old) (W.failed writer.new) result }
 {
     machine.set_cell(address, x);
@@ -134,6 +140,7 @@ fn obey_bytes<W: Output>(
 ) -> Result<(), EndFault>
     ensures ok { OnOk result (Looks (served machine.old (SetBytesWish at bytes.now)) true machine.new (W.sent writer.old) (W.sent writer.new)) }
     ensures err { OnErr result (Looks (served machine.old (SetBytesWish at bytes.now)) false machine.new (W.sent writer.old) (W.sent writer.new)) }
+    ensures room { OnOk result (SendsFew move_room (W.sent writer.old) (W.sent writer.new)) }
     ensures mark { Marks (W.failed writer.old) (W.failed writer.new) result }
 {
     if bytes.is_empty() || bytes.len() > 2046 {
@@ -162,6 +169,7 @@ fn obey_put_back<W: Output>(
         calls calls (W.sent writer.old) (W.sent writer.new)) }
     ensures err { (count : ℕ) (calls : List DeviceCall) → OnErr result (HasObeyed count (PutBackWish body.now) false machine.old machine.new
         calls calls (W.sent writer.old) (W.sent writer.new)) }
+    ensures room { OnOk result (SendsFew move_room (W.sent writer.old) (W.sent writer.new)) }
     ensures mark { Marks (W.failed writer.old) (W.failed writer.new) result }
 {
     if put_back(machine, body) {
@@ -318,6 +326,7 @@ fn obey_plainly<W: Output, D: Device>(
         machine.new (D.calls device.old) (D.calls device.new) (W.sent writer.old) (W.sent writer.new)) }
     ensures err { needs_room (wish_of command.entry) ≡ false → OnErr result (HasObeyed count (wish_of command.entry) false machine.old
         machine.new (D.calls device.old) (D.calls device.new) (W.sent writer.old) (W.sent writer.new)) }
+    ensures room { may_move (wish_of command.entry) ≡ true → OnOk result (SendsFew move_room (W.sent writer.old) (W.sent writer.new)) }
     ensures mark { Marks (W.failed writer.old) (W.failed writer.new) result }
 {
     match command {
@@ -380,6 +389,7 @@ pub fn obey_in_place<W: Output, D: Device>(
         (D.calls device.old) (D.calls device.new) (W.sent writer.old) (W.sent writer.new)) }
     ensures err { OnErr result (MayObey count (wish_of command.entry) false machine.old machine.new
         (D.calls device.old) (D.calls device.new) (W.sent writer.old) (W.sent writer.new)) }
+    ensures room { may_move (wish_of command.entry) ≡ true → OnOk result (SendsFew move_room (W.sent writer.old) (W.sent writer.new)) }
     ensures mark { Marks (W.failed writer.old) (W.failed writer.new) result }
 {
     match command {

@@ -4,6 +4,7 @@ ghost use Rattle.std.specs.Prelude.{◌≡◌, true, false, ℕ, List, Option, S
 ghost use Rattle.inner_interpreter.specs.Served.{HasActed};
 ghost use Rattle.inner_interpreter.specs.Ends.{Marks};
 ghost use Rattle.serving.specs.Running.{IsAsking, is_fault, next_if_asked, next_of};
+ghost use Rattle.serving.specs.Room.{SendsFew, move_room};
 ghost use Rattle.serving.specs.Served.{HasObeyed};
 ghost use Rattle.serving.specs.Requests.{Run};
 
@@ -95,6 +96,7 @@ pub fn run<W: Output, D: Device>(
         (D.calls device.new) (W.sent writer.old) (W.sent writer.new)) }
     ensures err { OnErr result (HasObeyed count (Run limit) false machine.old machine.new (D.calls device.old)
         (D.calls device.new) (W.sent writer.old) (W.sent writer.new)) }
+    ensures room { OnOk result (SendsFew move_room (W.sent writer.old) (W.sent writer.new)) }
     ensures mark { Marks (W.failed writer.old) (W.failed writer.new) result }
 {
     let mut event = Event::Went;

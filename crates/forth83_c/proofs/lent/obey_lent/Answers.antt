@@ -3,7 +3,7 @@ use Rattle.memory.specs.Mirrored.{stored}
 use Rattle.serving.specs.Requests.{wish_of}
 use Rattle.machine.specs.Registers.{state_of}
 use Rattle.machine.proofs.Lending.{lent_stays}
-use Rattle.forth83_c.proofs.Replying.{obeyed_lent}
+use Rattle.forth83_c.proofs.Replying.{obeyed_lent, size_few}
 use Rattle.forth83_c.proofs.lent.obey_lent.Goals as goal
 
 pub returns-clause-same : goal.returns-clause-same
@@ -21,3 +21,6 @@ returns-clause-replied c =
       put = search rules;
       size_is = c.obey.new.replies.counted;
     }
+
+pub returns-clause-room : goal.returns-clause-room
+returns-clause-room c = λ moves. size_few _ _ _ c.obey.new.replies.counted (c.obey.ensures.room moves)

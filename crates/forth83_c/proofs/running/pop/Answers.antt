@@ -1,6 +1,6 @@
-use Rattle.std.proofs.Common.{sym}
+use Rattle.std.proofs.Common.{refl}
 use Rattle.forth83_c.proofs.Same.{empty_stack}
 use Rattle.forth83_c.proofs.running.pop.Goals as goal
 
 pub returns-in-None-clause-why : goal.returns-in-None-clause-why
-returns-in-None-clause-why c = λ _. empty_stack _ c.stack_of-stack.result (c.is_record.ensures.0 c.if-not-is_record.false) c.stack_of-stack.ensures (sym c.in-None.ensures.value)
+returns-in-None-clause-why c = λ _. empty_stack _ (c.is_record.ensures.0 c.if-not-is_record.false) (c.in-None.ensures.empty refl)
