@@ -130,7 +130,7 @@ struct Sitting<'a> {
     turn: u64,
     piece: usize,
     /// The fault thread that leaves faults to a host.
-    tell: u16,
+    fault_thread: u16,
 }
 
 /// The bytes of a screen.
@@ -155,7 +155,7 @@ fn put_page(blocks: &mut [u8], block: u16, page: Option<[u8; 1024]>) -> bool {
     true
 }
 
-/// Tells the machine's words that there is a host, which gives them a script's lines.
+/// Says to the machine's words that there is a host, which gives them a script's lines.
 fn greet(machine: &mut LentMachine) {
     machine.set_cell(MARK, HOST);
     if let Ok(Some(door)) = find(machine.memory(), b"DOOR") {
@@ -198,7 +198,7 @@ impl<'a> Sitting<'a> {
         }
     }
 
-    /// Begins a line, if one isn't begun.
+    /// Begins a line, if none is started.
     fn show_line_end(&mut self) -> Result<(), AllocError> {
         match self.typed.shown.last() {
             None | Some(b'\n') => Ok(()),
@@ -257,7 +257,7 @@ impl<'a> Sitting<'a> {
         machine: &mut LentMachine,
         fault: u16,
     ) -> Result<Option<Ending>, AllocError> {
-        if machine.memory().cell(FAULT) != self.tell {
+        if machine.memory().cell(FAULT) != self.fault_thread {
             return Ok(None);
         }
         let mut text = Vec::new(self.alloc);
@@ -334,7 +334,7 @@ impl<'a> Sitting<'a> {
             return Ok(Some(Ending::Fault));
         }
         if self.typed.places.is_empty() {
-            self.tell = memory.cell(FAULT);
+            self.fault_thread = memory.cell(FAULT);
         }
         self.note(machine)?;
         let done = self.typed.places.len().saturating_sub(1);
@@ -518,7 +518,7 @@ pub fn type_lines<'a>(
         left: given.limits.ticks,
         turn: 0,
         piece: 0,
-        tell: 0,
+        fault_thread: 0,
     };
     greet(&mut machine);
     let mut ending = Ending::Left;

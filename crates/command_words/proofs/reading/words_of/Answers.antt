@@ -16,3 +16,9 @@ returns-in_err-container_words-in-import-clause-lacks c = of_err c.from_residual
 
 pub returns-in_err-container_words-in-export-clause-lacks : goal.returns-in_err-container_words-in-export-clause-lacks
 returns-in_err-container_words-in-export-clause-lacks c = of_err c.from_residual-in_err-container_words-in-export.result _ _ c.from_residual-in_err-container_words-in-export.ensures.1 (λ missing. inr (c.in-export.not-kernel, inr (c.in-export.not-build, inr (c.in-export.not-load, inr (c.in-export.not-upgrade, inr (c.in-export.not-text, inr (c.in-export.not-screens, inr (c.in-export.not-new, inr (c.in-export.not-import, inl (c.in-export.is, c.in_err-container_words-in-export.ensures.lacks missing))))))))))
+
+pub returns-in_err-survey_words-in-survey-clause-lacks : goal.returns-in_err-survey_words-in-survey-clause-lacks
+returns-in_err-survey_words-in-survey-clause-lacks c = of_err c.from_residual-in_err-survey_words-in-survey.result _ _ c.from_residual-in_err-survey_words-in-survey.ensures.1 (λ missing. inr (c.in-survey.not-kernel, inr (c.in-survey.not-build, inr (c.in-survey.not-load, inr (c.in-survey.not-upgrade, inr (c.in-survey.not-text, inr (c.in-survey.not-screens, inr (c.in-survey.not-new, inr (c.in-survey.not-import, inr (c.in-survey.not-export, inr (c.in-survey.not-run, inr (c.in-survey.not-debug, inr (c.in-survey.not-see, inr (c.in-survey.not-view, inr (c.in-survey.not-serve, inl (c.in-survey.is, c.in_err-survey_words-in-survey.ensures.lacks missing))))))))))))))))
+
+pub returns-in_err-judge_words-in-judge-clause-lacks : goal.returns-in_err-judge_words-in-judge-clause-lacks
+returns-in_err-judge_words-in-judge-clause-lacks c = of_err c.from_residual-in_err-judge_words-in-judge.result _ _ c.from_residual-in_err-judge_words-in-judge.ensures.1 (λ missing. inr (c.in-judge.not-kernel, inr (c.in-judge.not-build, inr (c.in-judge.not-load, inr (c.in-judge.not-upgrade, inr (c.in-judge.not-text, inr (c.in-judge.not-screens, inr (c.in-judge.not-new, inr (c.in-judge.not-import, inr (c.in-judge.not-export, inr (c.in-judge.not-run, inr (c.in-judge.not-debug, inr (c.in-judge.not-see, inr (c.in-judge.not-view, inr (c.in-judge.not-serve, inr (c.in-judge.not-survey, inl (c.in-judge.is, c.in_err-judge_words-in-judge.ensures.lacks missing)))))))))))))))))
