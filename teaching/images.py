@@ -7,7 +7,7 @@ import bisect
 from typing import Callable, Dict, Iterator, List, Optional
 
 import program
-from rows import COLON, CONSTANT, VARIABLE, VOCABULARY
+from rows import COLON
 
 MAGIC = b"FTH83IMG"
 MEMORY = 65536

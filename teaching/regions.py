@@ -2,10 +2,11 @@
 from typing import Dict, List, Optional, Tuple
 
 import images
+import rows
 import texts
 
-KINDS = {images.COLON: "thread", images.VARIABLE: "data", images.CONSTANT: "data", images.VOCABULARY: "record"}
-WHAT = {images.COLON: "colon word", images.VARIABLE: "variable", images.CONSTANT: "constant", images.VOCABULARY: "vocabulary"}
+KINDS = {rows.COLON: "thread", rows.VARIABLE: "data", rows.CONSTANT: "data", rows.VOCABULARY: "record"}
+WHAT = {rows.COLON: "colon word", rows.VARIABLE: "variable", rows.CONSTANT: "constant", rows.VOCABULARY: "vocabulary"}
 
 
 class Region:

@@ -123,5 +123,5 @@ def page_row(lessons: List[Lesson], row: Row) -> str:
 def page_notes(lessons: List[Lesson], row: Row) -> str:
     """What CHECK says of the lessons of a pupil that are not right."""
     wrong = [f"<dd>{lesson.number}: <code>{html.escape(readable(one.text))}</code></dd>"
-            for lesson, one in zip(lessons, row.results) if one.mark not in (RIGHT, "empty")]
+             for lesson, one in zip(lessons, row.results) if one.mark not in (RIGHT, "empty")]
     return f"<dt>{html.escape(readable(row.name))}</dt>{''.join(wrong)}" if wrong else ""

@@ -1,10 +1,13 @@
-"""The files of a crate with what each says of itself in its first comment, as a table of its README."""
+"""The files of a crate with what each says of itself in its first comment, as a table of its README; and what the crate does not promise."""
 import pathlib
 import re
 from typing import Dict, List, NamedTuple, Tuple
 
+import unclaused
+
 BEGINS = "<!-- tools/crate-files writes this table -->"
 ENDS = "<!-- end of the table -->"
+OPEN_BEGINS, OPEN_ENDS = "<!-- tools/crate-files writes what has no clause -->", "<!-- end of what has no clause -->"
 ROW = re.compile(r"^\| `([^`]+)` \| (.+) \|$", re.M)
 
 
@@ -60,3 +63,12 @@ def sources_of(crate: pathlib.Path) -> List[Source]:
     code = [*crate.glob("src/**/*.rt"), *crate.glob("src/**/*.unproved")]
     code.sort(key=lambda path: (path.stem not in ("lib", "main"), str(path)))
     return [Source(path.relative_to(crate).as_posix(), path.read_text(encoding="utf-8")) for path in specs + code]
+
+
+def with_unpromised(readme: str, crate: str) -> Tuple[str, List[str]]:
+    """The README with what no clause says between its two marks, and what is wrong."""
+    before, begins, rest = readme.partition(OPEN_BEGINS)
+    _, ends, after = rest.partition(OPEN_ENDS)
+    if not begins or not ends:
+        return readme, [f"it lacks the line {OPEN_ENDS if begins else OPEN_BEGINS}"]
+    return "\n".join([before + begins, "", "\n".join(unclaused.unpromised(crate)), "", ends + after]), []

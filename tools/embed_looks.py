@@ -140,7 +140,6 @@ class Looks:
         """forth83_trace_line."""
         return self.fitting(self.calls.forth83_trace_line, 1)
 
-
     def survey(self, name: bytes, blocks: bytes) -> Tuple[int, bytes, int]:
         """forth83_survey: its status, the report, and the number of the dialect."""
         dialect = ctypes.c_uint16(7)

@@ -13,6 +13,7 @@ from typing import Dict, Iterable, List, NamedTuple
 ROOT = pathlib.Path(__file__).resolve().parent.parent
 LIMITS = ROOT / "tools/english_limits.txt"
 
+
 class Word(NamedTuple):
     """What is counted, as a pattern, and what to write instead."""
     pattern: str

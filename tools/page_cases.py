@@ -232,7 +232,8 @@ const found = [...take(old, old), ...take(later, later)].map((one, at) => isSame
 const mine = record(67280, 3), kept = take(mine, null), placeless = record(67276, 3);
 const placed = new Uint8Array(67280);
 placed.set(placeless.subarray(0, 66722));
-found.push(isSame(take(placeless, null)[0], withAllBlocks(placed)), isSame(kept[0], withAllBlocks(mine.slice())), kept[1], isSame(take(mine, old)[1], wanted), isSame(old, record(66724, 1)));
+found.push(isSame(take(placeless, null)[0], withAllBlocks(placed)), isSame(kept[0], withAllBlocks(mine.slice())), kept[1]);
+found.push(isSame(take(mine, old)[1], wanted), isSame(old, record(66724, 1)));
 found.push(take(record(66724, 3), null), take(record(66723, 1), null), take(record(66740, 1), null), take(mine, record(66724, 2)));
 console.log(JSON.stringify(found));
 """

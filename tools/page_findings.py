@@ -176,10 +176,12 @@ def big_disk(trial: Trial) -> None:
 
 # What a page of version 2.0.0 kept: a state with one disk, and other disks under their names. Its Forth has its tools in it.
 OF_2_0_0 = """(async () => {
-  const kept = %s, { work } = page, disk = Disk.ofText("course.blk", 64, DATA.disks["course.blk"].text), store = (name, value) => work.store.ask("readwrite", (all) => all.put(value, name));
+  const kept = %s, { work } = page, disk = Disk.ofText("course.blk", 64, DATA.disks["course.blk"].text);
+  const store = (name, value) => work.store.ask("readwrite", (all) => all.put(value, name));
   disk.put(22, pageOf(["( Lesson 2: words of your own )", ": MINUTES 60 * ;"]).page);
   disk.put(44, pageOf(["( an older checker )"]).page);
-  await store("forth/session/", { ...kept, name: "course.blk", disk: disk.bytes, record: inflate(fromBase64(kept.record), DATA.layout.size - 4), outer: null, program: "", history: ["MYWORD"], when: Date.now() });
+  const record = inflate(fromBase64(kept.record), DATA.layout.size - 4), when = Date.now();
+  await store("forth/session/", { ...kept, name: "course.blk", disk: disk.bytes, record, outer: null, program: "", history: ["MYWORD"], when });
   await store("forth/disk/old.blk", Disk.ofText("old.blk", 8, "%% screen 3\\n( old )\\n").bytes);
   work.isOurs = false;
   await work.store.ask("readwrite", (all) => all.delete(IDBKeyRange.bound("forth/work/", "forth/work/z")));

@@ -112,7 +112,8 @@ def check_saved(trial: Trial, program: pathlib.Path, room: pathlib.Path) -> None
     """An image that the page saves runs in the page and in the program, with the same output; without a host EXPECT shows nothing of a line."""
     for line in (": GREETED ( -- ) .\" hello \" 6 0 DO I DUP * . LOOP CR ;", ": ASKED ( -- ) .\" name? \" PAD 20 EXPECT CR .\" hi \" PAD SPAN @ TYPE ;"):
         trial.type(line)
-    for word, typed, wanted in (("greeted", "", "hello 0 1 4 9 16 25"), ("ASKED", "Ada\n", "name? Ada hi Ada"), ("", "3 4 + . GREETED\n", "3 4 + . GREETED 7 hello 0 1 4 9 16 25 ok")):
+    for word, typed, wanted in (("greeted", "", "hello 0 1 4 9 16 25"), ("ASKED", "Ada\n", "name? Ada hi Ada"),
+                                ("", "3 4 + . GREETED\n", "3 4 + . GREETED 7 hello 0 1 4 9 16 25 ok")):
         image = saved(trial, word)
         (room / "own.img").write_bytes(image)
         native = squeezed(run(program, room / "own.img", typed))

@@ -150,7 +150,8 @@ def visitor(trial: Trial) -> None:
     trial.must(trial.value("document.body.dataset.tab") == "start" and "proved" in trial.text("start"), "the first visit doesn't open the start page")
     for at, wanted in enumerate(("7  ok", "ok", "49  ok", ": SQUARE DUP * ;")):
         trial.value(f"document.querySelectorAll('#start-lines button')[{at}].click()")
-        trial.must(trial.wait("document.querySelectorAll('#start-lines .got').length > %d" % at) and wanted in trial.value(f"document.querySelectorAll('#start-lines .got')[{at}].textContent"),
+        trial.must(trial.wait("document.querySelectorAll('#start-lines .got').length > %d" % at)
+                   and wanted in trial.value(f"document.querySelectorAll('#start-lines .got')[{at}].textContent"),
                    f"line {at} of the start page")
     trial.click("door-rose")
     trial.must(trial.wait("page.session.disk.name === 'draw.blk' && /ROSE[^]*ok/.test(page.transcript.text())", 20), "no rose is drawn by a click")
@@ -281,7 +282,8 @@ def libraries(trial: Trial) -> None:
     trial.type("REQUIRE later-test.fs")
     trial.must(f"{count} 0  ok" in trial.type("#TESTS @ . #WRONG @ ."), "REQUIRE of a text that was read")
     trial.file("skip.fs", r"'0 [IF]\nNOSUCH\n[THEN] S\" 1 NOSUCH\" EVALUATE\n'")
-    trial.must("NOSUCH is unknown (fault 13)\nEVALUATE:1:3\n1 NOSUCH\n  ^\nincluded by skip.fs:3\n" in trial.shown()[-120:], f"a fault in a text that is evaluated: {trial.shown()[-120:]!r}")
+    trial.must("NOSUCH is unknown (fault 13)\nEVALUATE:1:3\n1 NOSUCH\n  ^\nincluded by skip.fs:3\n" in trial.shown()[-120:],
+               f"a fault in a text that is evaluated: {trial.shown()[-120:]!r}")
     trial.must("it has no [THEN]" in trial.type("0 [IF] 1 .") and "-5 was thrown, and there is no CATCH" in trial.type("-5 THROW"), "[IF] and THROW")
     trial.must("PROFILE needs a terminal" in trial.type("PROFILE 1 ."), "PROFILE")
     trial.value("page.session.start()")
@@ -614,7 +616,8 @@ def class_list(trial: Trial) -> None:
     title = trial.value("document.querySelectorAll('#class-rows tr')[2].children[3].title")
     trial.must("CUBE leaves" in title and "is wanted" in title, f"what is wrong in a pupil's lesson: {title!r}")
     trial.value("document.querySelectorAll('#class-rows tr')[2].children[3].firstChild.click()")
-    trial.must(trial.text("class-message").startswith("eve.blk, lesson 3, wrong: ") and "CUBE leaves" in trial.text("class-message"), f"a sign that is chosen: {trial.text('class-message')!r}")
+    trial.must(trial.text("class-message").startswith("eve.blk, lesson 3, wrong: ") and "CUBE leaves" in trial.text("class-message"),
+               f"a sign that is chosen: {trial.text('class-message')!r}")
     trial.must("3 3 CUBE leaves 9 but 27 is wanted." in trial.value("page.classList.csv().split('\\r\\n')[3]"), "the messages as CSV")
     trial.must(trial.value("page.classList.csv().split('\\r\\n')[3]").startswith('"eve.blk","endless L","endless","wrong CUBE","empty"'), "the list as CSV")
     cheats(trial)

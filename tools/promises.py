@@ -70,7 +70,8 @@ PROMISES: Dict[str, Promise] = {
     "The command line": Promise(
         [("command_words", "lib.rt", "parse")], [], "The words that are obeyed are those that were typed."),
     "The C library": Promise(
-        [("forth83_c", "lib.rt", f"forth83_{name}") for name in LIBRARY], [], "Each call of the library does to the record in memory what the table says of the machine that it holds."),
+        [("forth83_c", "lib.rt", f"forth83_{name}") for name in LIBRARY], [],
+        "Each call of the library does to the record in memory what the table says of the machine that it holds."),
 }
 
 # The reading guide: what to read in which order, the files that have it, and what to check it against. Each file of the headline is in one of them.
@@ -79,7 +80,8 @@ GUIDE: List[Tuple[str, str, str]] = [
     ("the parts of a machine, and how a row is written", "machine_parts/Whole machine_parts/Row machine/State", "MACHINE.md, \"Tokens\""),
     ("rows 1 to 107", "plain_rows/Control plain_rows/Stack plain_rows/Cell plain_rows/Double plain_rows/MemoryRows",
      "the Standard's glossary, word by word, and the worked states"),
-    ("block buffers, and the rows of devices", "block_buffers/Entries block_buffers/Screens primitives/Blocks primitives/Devices", "the Standard, BLOCK to FLUSH; MACHINE.md, \"Blocks\""),
+    ("block buffers, and the rows of devices", "block_buffers/Entries block_buffers/Screens primitives/Blocks primitives/Devices",
+     "the Standard, BLOCK to FLUSH; MACHINE.md, \"Blocks\""),
     ("numbers as text, and their rows", "number_text/Digits number_text/Base number_text/Picture number_text/Conversion number_text/Numbers primitives/Numbers",
      "the Standard, <# to SIGN, CONVERT"),
     ("the stream, and its rows", "input_source/Streams input_source/Words input_source/Placing primitives/Streams", "the Standard, WORD, ( and .("),
@@ -88,7 +90,8 @@ GUIDE: List[Tuple[str, str, str]] = [
      "primitives/Names primitives/DictionaryRows primitives/Interpret", "MACHINE.md, \"The dictionary\"; the Standard, FIND to FORGET"),
     ("what compiling words write, and the editor",
      "compiling_words/Code compiling_words/Laying compiling_words/Definitions primitives/Defining primitives/Compiling primitives/Editor", "the Standard, : to WHILE; EDITOR"),
-    ("which number is which row", "plain_rows/Table primitives/Table", "`row`; its tables are made of the headings (`tools/check-definitions --write`), which are those of [primitives.txt](primitives.txt)"),
+    ("which number is which row", "plain_rows/Table primitives/Table",
+     "`row`; its tables are made of the headings (`tools/check-definitions --write`), which are those of [primitives.txt](primitives.txt)"),
     ("a tick, an answer, lists of them",
      "machine/Tick machine/Answer machine/Entering inner_interpreter/Moves inner_interpreter/Histories inner_interpreter/Hosts inner_interpreter/Runs",
      "MACHINE.md, \"Tokens\", \"Faults\", \"Blocks\", \"Keys and lines\""),
@@ -96,7 +99,8 @@ GUIDE: List[Tuple[str, str, str]] = [
      "inner_interpreter/Ends inner_interpreter/Reads inner_interpreter/Reports block_buffers/DeviceCalls block_buffers/Disks block_buffers/Calls block_buffers/Likeness "
      "block_buffers/ReadPages block_buffers/devices.rt inner_interpreter/ends.rt", "PROMISES, \"Logs\""),
     ("a run", "run_subcommand/Running subcommands/Lines subcommands/Ends subcommands/Statuses", "PROGRAM.md, \"Running an image\"; MACHINE.md, \"Running an image\""),
-    ("words of a source", "source_words/Words source_words/Modes image_builder/Places image_builder/Spelled image_builder/Names image_builder/Meanings", "PROGRAM.md, \"The language of `build`\""),
+    ("words of a source", "source_words/Words source_words/Modes image_builder/Places image_builder/Spelled image_builder/Names image_builder/Meanings",
+     "PROGRAM.md, \"The language of `build`\""),
     ("what words define, and the image", "colon_bodies/* image_builder/Grammar image_builder/Items image_builder/Faults image_builder/Stages image_builder/Sources",
      "MACHINE.md, \"The dictionary\", \"Image files\"; dump an image"),
     ("image files", "image_loader/Files subcommands/Images", "MACHINE.md, \"Image files\""),

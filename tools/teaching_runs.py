@@ -318,7 +318,8 @@ def check_hostile(tree: Tree) -> None:
     tree.cases.same(f"a film of a name with an accent: {said}", (0, True), (status, "screens 24 to 24" in said))
     status, said = tree.tool("film", "RINGS", "--blocks", "odd.blk", "--screens", "23", "23", "-o", "odd.html")
     tree.cases.same(f"a film with bytes that are no text: {said}", 0, status)
-    tree.cases.holds("names that are no text", "\xff\x07\x80", "".join(one["name"] for one in tree.opened("odd.html")["words"]) + "".join(one[2] for one in tree.opened("odd.html")["places"]))
+    tree.cases.holds("names that are no text", "\xff\x07\x80", "".join(one["name"] for one in tree.opened("odd.html")["words"])
+                     + "".join(one[2] for one in tree.opened("odd.html")["places"]))
 
 
 # The status, a part of the message, and the words, with a bar between them if a word has spaces.

@@ -69,7 +69,8 @@ class Window(NamedTuple):
 WINDOWS = (Window("1366 x 650", 1366, 650), Window("1920 x 1080", 1920, 1080), Window("1920 x 1080 at 200 %", 960, 540, 2, True),
            Window("390 x 844", 390, 844))
 
-# A function of a film's window: how many steps were looked at, and what of them isn't seen. A box is seen if its corners, moved in by two pixels, are in the window and nothing covers them.
+# A function of a film's window: how many steps were looked at, and what of them isn't seen. A box is seen
+# if its corners, moved in by two pixels, are in the window and nothing covers them.
 HIDDEN = r"""(({ document, innerWidth, go, getComputedStyle }) => {
   const within = (box, one) => [[2, 2], [-2, 2], [2, -2], [-2, -2]].every(([x, y]) => {
     const at = [x > 0 ? box.left + x : box.right + x, y > 0 ? box.top + y : box.bottom + y], over = document.elementFromPoint(...at);

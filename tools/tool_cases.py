@@ -22,6 +22,7 @@ import definitions
 import runnable
 import sessions
 import tally
+import unclaused
 
 ROOT = pathlib.Path(__file__).resolve().parent.parent
 sys.path.append(str(ROOT / "commands"))
@@ -317,7 +318,7 @@ impl Pair {
 class BareFunctions(unittest.TestCase):
     @staticmethod
     def bare(text: str) -> List[object]:
-        return [(it.name, it.lines) for it in command("tools/bare-functions").functions_in("low", "a.rt", text) if it.is_bare]
+        return [(it.name, it.lines) for it in unclaused.functions_in("low", "a.rt", text) if it.is_bare]
 
     def test_only_functions_without_a_clause_are_bare(self) -> None:
         text = "fn bare() {\n    one();\n}\n\nfn kept()\n    ensures { true }\n{\n}\n\nimpl Clone for X {\n    fn clone(&self) -> X {\n        X\n    }\n}\n"
@@ -328,13 +329,12 @@ class BareFunctions(unittest.TestCase):
         self.assertEqual(self.bare(text), [("size", 1), ("last", 3)])
 
     def test_those_that_do_more_than_their_clause_says(self) -> None:
-        tool = command("tools/bare-functions")
         kept = "    ensures { IfErr result (λ status. 0 < status) }\n{\n"
         text = ("use std::fs;\n\nfn reads() -> u8\n    ensures { result ≡ 1 }\n{\n    fs::read(1)\n}\n\nfn above() -> u8\n    ensures { result ≡ 1 }\n{\n    reads()\n}\n\n"
                 f"fn silent() -> Result<u8, u8>\n{kept}    Ok(1)\n}}\n\nfn good() -> u8\n    ensures {{ result ≡ 1 }}\n{{\n    1\n}}\n")
-        functions = list(tool.functions_in("low", "a.rt", text))
+        functions = list(unclaused.functions_in("low", "a.rt", text))
         self.assertEqual([it.name for it in functions if it.is_silent], ["silent"])
-        self.assertEqual([it.name for it in tool.calling(functions)], ["reads", "above"])
+        self.assertEqual([it.name for it in unclaused.calling(functions)], ["reads", "above"])
 
 
 class Sessions(unittest.TestCase):
