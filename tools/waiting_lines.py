@@ -1,14 +1,19 @@
-"""A line is awaited, and a signal comes in a function that readline calls, whose exceptions readline drops.
+"""A signal comes where its exception is dropped, or where a write has begun that the terminal holds.
 
-    waiting_lines.py COMMANDS SIGNAL begin|complete    shows what ended the wait, and whether the function was done whole
+    waiting_lines.py COMMANDS SIGNAL begin|complete    shows what ended the wait for a line, and whether the function was done whole
+    waiting_lines.py COMMANDS SIGNAL hold              shows that the write has ended
 """
+import _thread
 import os
 import readline
 import signal
 import sys
+import termios
+import time
 
 sys.path.insert(0, sys.argv[1])
 
+from served.output import Output  # type: ignore[import]  # noqa: E402
 from served.prompt import Ended, Interrupted, Signals, Terminal  # type: ignore[import]  # noqa: E402
 
 
@@ -16,9 +21,28 @@ def raised() -> None:
     os.kill(os.getpid(), getattr(signal, sys.argv[2]))
 
 
-def main() -> None:
+def raise_soon() -> None:
+    time.sleep(0.5)
+    raised()
+
+
+class LateHold(Output):
+    """^S comes between the look at the terminal and the write."""
+
+    def is_held(self, stream: int) -> bool:
+        termios.tcflow(stream, termios.TCOOFF)
+        return False
+
+
+def hold(signals: Signals) -> None:
+    _thread.start_new_thread(raise_soon, ())
+    LateHold(False, signals).write(1, b"is held")
+    termios.tcflow(1, termios.TCOON)
+    print("Given up", flush=True)
+
+
+def wait_for_line(signals: Signals) -> None:
     done = []
-    signals = Signals()
 
     def names() -> "list[str]":
         raised()
@@ -35,4 +59,7 @@ def main() -> None:
         print(type(error).__name__, *done, flush=True)
 
 
-main()
+if sys.argv[3] == "hold":
+    hold(Signals())
+else:
+    wait_for_line(Signals())

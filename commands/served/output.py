@@ -33,7 +33,7 @@ class Output:
         is_terminal = os.isatty(stream)
         try:
             while text and not (is_terminal and self.is_held(stream)):
-                text = text[os.write(stream, text[:PIECE] if is_terminal else text) :]
+                text = text[self._signals.write(stream, text[:PIECE]) if is_terminal else os.write(stream, text) :]
         except OSError as error:
             if stream == 1 and not self._has_failed:
                 self._has_failed = True

@@ -46,11 +46,11 @@ class Signals:
 
     A signal can come where its exception ends nothing: in a function that readline or `input` calls, which drop it, or just before the
     wait. And Python handles a signal that comes while readline does something else than wait when the next signal comes. So an alarm comes
-    every GLANCE seconds of a wait, and asks again.
+    every GLANCE seconds of a wait, and asks again. After a signal that ends the session alarms come until it has ended.
     """
 
     def __init__(self) -> None:
-        self.is_waiting = False
+        self.is_waiting = self._is_writing = False
         self._interrupted, self._status = False, 0
         signal.signal(signal.SIGINT, self._on_interrupt)
         for number in ENDINGS:
@@ -60,15 +60,18 @@ class Signals:
         come, comes = os.pipe()
         os.set_blocking(comes, False)
         signal.set_wakeup_fd(comes, warn_on_full_buffer=False)
-        _thread.start_new_thread(self._watch, (come,))
+        _thread.start_new_thread(self._watch, (come, _thread.get_ident()))
 
-    def _watch(self, come: int) -> None:
+    def _watch(self, come: int, session: int) -> None:
         """Within a sequence of keys, as ^R, readline lets nobody see a signal: so its input ends if the session is to end."""
+        while not set(os.read(come, 64)) & set(ENDINGS):
+            pass
+        time.sleep(PATIENCE)
+        if not self._status:
+            os.dup2(os.open(os.devnull, os.O_RDONLY), 0)
         while True:
-            if set(os.read(come, 64)) & set(ENDINGS):
-                time.sleep(PATIENCE)
-                if not self._status:
-                    os.dup2(os.open(os.devnull, os.O_RDONLY), 0)
+            signal.pthread_kill(session, signal.SIGALRM)
+            time.sleep(GLANCE)
 
     def _on_interrupt(self, number: int, _: object) -> None:
         self._interrupted = True
@@ -79,11 +82,13 @@ class Signals:
         self._ask()
 
     def _ask(self, *_: object) -> None:
-        """Ends a wait, if a signal has come."""
+        """Ends a wait, if a signal has come, and a write, if the session is to end."""
         if self.is_waiting:
             self.look()
             if self._interrupted:
                 raise Interrupted
+        if self._is_writing:
+            self.look()
 
     def take_interrupt(self) -> bool:
         """Whether ^C came since the last call."""
@@ -113,6 +118,21 @@ class Signals:
         finally:
             self.is_waiting = False
             signal.setitimer(signal.ITIMER_REAL, 0)
+
+    def write(self, stream: int, text: bytes) -> int:
+        """Writes to a terminal, and returns how many bytes are done with. A terminal can hold them, after ^S: if the session is to end then, they
+        are given up."""
+        try:
+            return self._write(stream, text)
+        except Ended:
+            return len(text)
+
+    def _write(self, stream: int, text: bytes) -> int:
+        self._is_writing = True
+        try:
+            return os.write(stream, text)
+        finally:
+            self._is_writing = False
 
     @contextlib.contextmanager
     def undisturbed(self) -> Iterator[None]:
@@ -211,7 +231,7 @@ class Terminal:
         """Writes to the terminal; Ended if the session is to end while ^S holds the output."""
         while not select.select([], [1], [], GLANCE)[1]:
             self._signals.look()
-        os.write(1, text)
+        self._signals.write(1, text)
 
     @staticmethod
     def _prompt(shown: str) -> str:
