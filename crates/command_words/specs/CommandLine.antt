@@ -85,8 +85,12 @@ new = sub (codes "new") (word (codes "BLOCKS") ∷ count ∷ [])
 abbrev pub format : Rule
 format = record (option (codes "format")) { defaults = codes "blocks" ∷ [] }
 
+-- `--ID N`, a number of 32 bits
+abbrev pub number : Text → Rule
+number id = record (option id) { parser = Some (value.Signed (pos 0) (pos 4294967295)) }
+
 abbrev pub offset : Rule
-offset = record (option (codes "offset")) { parser = Some (value.Signed (pos 0) (pos 4294967295)) }
+offset = number (codes "offset")
 
 abbrev pub sector : Rule
 sector = record (option (codes "sector")) { parser = Some (value.Signed (pos 0) (pos 65535)) }
@@ -94,8 +98,12 @@ sector = record (option (codes "sector")) { parser = Some (value.Signed (pos 0) 
 abbrev pub layout_rules : List Rule
 layout_rules = format ∷ offset ∷ sector ∷ option (codes "skew") ∷ []
 
+-- whether what is read is made text
+abbrev pub clean : Rule
+clean = flag (codes "clean")
+
 abbrev pub import : Shape
-import = sub (codes "import") (word (codes "CONTAINER") ∷ word (codes "BLOCKS") ∷ flag (codes "clean") ∷ layout_rules)
+import = sub (codes "import") (word (codes "CONTAINER") ∷ word (codes "BLOCKS") ∷ clean ∷ layout_rules)
 
 abbrev pub export : Shape
 export = sub (codes "export") (word (codes "BLOCKS") ∷ word (codes "CONTAINER") ∷ layout_rules)
@@ -122,8 +130,27 @@ abbrev pub judge : Shape
 judge = sub (codes "judge")
     (word (codes "IMAGE") ∷ word (codes "TEXTS") ∷ word (codes "COURSE") ∷ word (codes "PUPIL") ∷ lesson_limit ∷ [])
 
+-- how screens lie in a container of any kind
+abbrev pub disk_rules : List Rule
+disk_rules =
+    layout_rules ++ number (codes "first") ∷ number (codes "sides") ∷ flag (codes "half") ∷ flag (codes "ebcdic") ∷ []
+
+-- records in place of lines
+abbrev pub record_rules : List Rule
+record_rules = number (codes "width") ∷ number (codes "lines") ∷ number (codes "columns") ∷ []
+
+abbrev pub unpack : Shape
+unpack = sub (codes "unpack")
+    (word (codes "CONTAINER") ∷ word (codes "BLOCKS") ∷ clean ∷ flag (codes "append") ∷ (disk_rules ++ record_rules))
+
+abbrev pub pack : Shape
+pack = sub (codes "pack") (word (codes "BLOCKS") ∷ word (codes "CONTAINER") ∷ disk_rules)
+
+abbrev pub guess : Shape
+guess = sub (codes "guess") (word (codes "DISK") ∷ flag (codes "better") ∷ flag (codes "score") ∷ [])
+
 abbrev pub subcommands : List Shape
-subcommands = kernel ∷ build ∷ load ∷ upgrade ∷ text ∷ screens ∷ new ∷ import ∷ export ∷ run ∷ see ∷ debug ∷ view ∷ serve ∷ survey ∷ judge ∷ []
+subcommands = kernel ∷ build ∷ load ∷ upgrade ∷ text ∷ screens ∷ new ∷ import ∷ export ∷ run ∷ see ∷ debug ∷ view ∷ serve ∷ survey ∷ judge ∷ unpack ∷ pack ∷ guess ∷ []
 
 abbrev pub forth83 : App
 forth83 = record {

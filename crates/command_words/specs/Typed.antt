@@ -7,11 +7,14 @@ use Rattle.clap.specs.Walk.{Row, Text, first_of, one_of}
 use Rattle.clap.specs.Simple.{subcommand_of}
 use Rattle.command_words.specs.CommandLine.{forth83}
 use Rattle.command_words.specs.declared.BuildWords.{BuildWords}
+use Rattle.command_words.specs.declared.GuessWords.{GuessWords}
 use Rattle.command_words.specs.declared.JudgeWords.{JudgeWords}
 use Rattle.command_words.specs.declared.LoadWords.{LoadWords}
 use Rattle.command_words.specs.declared.ScreenRange.{ScreenRange}
 use Rattle.command_words.specs.declared.SurveyWords.{SurveyWords}
 use Rattle.command_words.specs.declared.containers.ContainerWords.{ContainerWords}
+use Rattle.command_words.specs.declared.containers.DiskWords.{DiskWords}
+use Rattle.command_words.specs.declared.containers.UnpackWords.{UnpackWords}
 use Rattle.command_words.specs.declared.Words.{Words}
 use Rattle.command_words.specs.declared.Words.TheVariants as words
 
@@ -71,6 +74,26 @@ pub record IsContainer (rows : List Row) (w : ContainerWords) : Type 0 where
   pub sector : number_in (codes "sector") rows ≡ w.sector
   pub skew : IsTextIfGiven rows (codes "skew") w.skew
 
+pub record IsDisk (rows : List Row) (w : DiskWords) : Type 0 where
+  pub container : IsContainer rows w.container
+  pub first : number_in (codes "first") rows ≡ w.first
+  pub sides : number_in (codes "sides") rows ≡ w.sides
+  pub half : IsFlag rows (codes "half") w.is_half
+  pub ebcdic : IsFlag rows (codes "ebcdic") w.is_ebcdic
+
+pub record IsUnpack (rows : List Row) (w : UnpackWords) : Type 0 where
+  pub disk : IsDisk rows w.disk
+  pub width : number_in (codes "width") rows ≡ w.width
+  pub lines : number_in (codes "lines") rows ≡ w.lines
+  pub columns : number_in (codes "columns") rows ≡ w.columns
+  pub clean : IsFlag rows (codes "clean") w.disk.container.cleans
+  pub append : IsFlag rows (codes "append") w.appends
+
+pub record IsGuess (rows : List Row) (w : GuessWords) : Type 0 where
+  pub disk : IsText rows (codes "DISK") w.disk
+  pub better : IsFlag rows (codes "better") w.is_better
+  pub score : IsFlag rows (codes "score") w.is_score
+
 -- each file and option is the one that was given in its place
 abbrev pub Says : List Row → Words → Type 0
 Says rows (words.Kernel blocks) = IsText rows (codes "BLOCKS") blocks
@@ -93,6 +116,9 @@ Says rows (words.View image name) = IsText rows (codes "IMAGE") image × IsText 
 Says rows (words.Serve image blocks) = IsText rows (codes "IMAGE") image × IsTextIfGiven rows (codes "BLOCKS") blocks
 Says rows (words.Survey w) = IsSurvey rows w
 Says rows (words.Judge w) = IsJudge rows w
+Says rows (words.Unpack w) = IsUnpack rows w
+Says rows (words.Pack w) = IsDisk rows w
+Says rows (words.Guess w) = IsGuess rows w
 
 -- the subcommand of this name
 abbrev pub name_of : Words → Text
@@ -112,6 +138,9 @@ name_of (words.View image name) = codes "view"
 name_of (words.Serve image blocks) = codes "serve"
 name_of (words.Survey w) = codes "survey"
 name_of (words.Judge w) = codes "judge"
+name_of (words.Unpack w) = codes "unpack"
+name_of (words.Pack w) = codes "pack"
+name_of (words.Guess w) = codes "guess"
 
 -- w is of the subcommand of this name, and says what was found for its arguments
 pub record AreOf (name : Text) (rows : List Row) (w : Words) : Type 0 where
@@ -173,6 +202,13 @@ abbrev pub container_parts : List Part
 container_parts =
     Word (codes "CONTAINER") ∷ Word (codes "BLOCKS") ∷ Word (codes "format") ∷ NumberIfGiven 32 (codes "offset") ∷ NumberIfGiven 16 (codes "sector") ∷ []
 
+abbrev pub disk_parts : List Part
+disk_parts = container_parts ++ NumberIfGiven 32 (codes "first") ∷ NumberIfGiven 32 (codes "sides") ∷ []
+
+abbrev pub unpack_parts : List Part
+unpack_parts =
+    disk_parts ++ NumberIfGiven 32 (codes "width") ∷ NumberIfGiven 32 (codes "lines") ∷ NumberIfGiven 32 (codes "columns") ∷ []
+
 abbrev pub debug_parts : List Part
 debug_parts = Word (codes "IMAGE") ∷ Word (codes "NAME") ∷ Word (codes "TRACE") ∷ limit_part ∷ []
 
@@ -185,7 +221,8 @@ parts =
     ∷ (codes "text", screens_parts) ∷ (codes "screens", Word (codes "TEXT") ∷ Word (codes "BLOCKS") ∷ [])
     ∷ (codes "new", Word (codes "BLOCKS") ∷ Number 32 (codes "N") ∷ []) ∷ (codes "import", container_parts) ∷ (codes "export", container_parts)
     ∷ (codes "run", Word (codes "IMAGE") ∷ limit_part ∷ []) ∷ (codes "debug", debug_parts) ∷ (codes "see", seen_parts) ∷ (codes "view", seen_parts)
-    ∷ (codes "serve", Word (codes "IMAGE") ∷ []) ∷ (codes "survey", survey_parts) ∷ (codes "judge", judge_parts) ∷ []
+    ∷ (codes "serve", Word (codes "IMAGE") ∷ []) ∷ (codes "survey", survey_parts) ∷ (codes "judge", judge_parts)
+    ∷ (codes "unpack", unpack_parts) ∷ (codes "pack", disk_parts) ∷ (codes "guess", Word (codes "DISK") ∷ []) ∷ []
 
 -- of the subcommand of this name one part is lacking, or none has this name
 abbrev pub LacksIn : List (Text × List Part) → (name : Text) → List Row → Type 0

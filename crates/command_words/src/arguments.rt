@@ -132,13 +132,30 @@ pub fn format<'a>(alloc: Global) -> Arg<'a>
     .default_value("blocks")
 }
 
+/// `--NAME N`, a number of 32 bits, which may be given.
+pub fn number<'a>(alloc: Global, name: &'a str, help: &'a str) -> Arg<'a>
+    ensures rule { rule_of result ≡ line.number name.now }
+    ensures local { result.global ≡ false }
+{
+    option(alloc, name, "N", help).value_parser(value_parser!(u32))
+}
+
 /// The bytes before a container's first sector.
 pub fn offset<'a>(alloc: Global) -> Arg<'a>
     ensures rule { rule_of result ≡ line.offset }
     ensures local { result.global ≡ false }
 {
     let help = "Bytes before the first sector (default: the format's)";
-    option(alloc, "offset", "N", help).value_parser(value_parser!(u32))
+    number(alloc, "offset", help)
+}
+
+/// Whether what is read is made text.
+pub fn clean<'a>(alloc: Global) -> Arg<'a>
+    ensures rule { rule_of result ≡ line.clean }
+    ensures local { result.global ≡ false }
+{
+    let help = "Clear high bits, and replace tabs, NULs and other bytes that aren't text by blanks";
+    flag(alloc, "clean", help)
 }
 
 /// The bytes of a container's sector.

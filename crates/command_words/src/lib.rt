@@ -13,7 +13,7 @@ ghost use Rattle.command_words.specs.Typed.{IsTyped};
 ghost use Rattle.command_words.specs.Refused as refused;
 
 use clap::error::ErrorKind;
-pub use containers::ContainerWords;
+pub use containers::{ContainerWords, DiskWords, UnpackWords};
 use reading::{Unread, words_in};
 use std::alloc::{AllocError, Global};
 use std::{env, io};
@@ -73,6 +73,9 @@ pub enum Words {
     },
     Survey(SurveyWords),
     Judge(JudgeWords),
+    Unpack(UnpackWords),
+    Pack(DiskWords),
+    Guess(GuessWords),
 }
 
 /// Screens of a file of blocks, one after another.
@@ -122,6 +125,16 @@ pub struct JudgeWords {
     pub course: String,
     pub pupil: String,
     pub limit: u64,
+}
+
+/// The words of `guess`.
+#[derive(Drop)]
+pub struct GuessWords {
+    pub disk: String,
+    /// Whether only an order is printed that looks clearly better than as it is.
+    pub is_better: bool,
+    /// Whether only a score is printed.
+    pub is_score: bool,
 }
 
 /// What became of the command line.

@@ -7,7 +7,10 @@ ghost use Rattle.clap.specs.Matches.{found_of};
 ghost use Rattle.clap.specs.Simple.{subcommand_rows_of};
 ghost use Rattle.command_words.specs.Typed as typed;
 
-use crate::{BuildWords, ContainerWords, JudgeWords, LoadWords, ScreenRange, SurveyWords, Words};
+use crate::{
+    BuildWords, ContainerWords, DiskWords, GuessWords, JudgeWords, LoadWords, ScreenRange,
+    SurveyWords, UnpackWords, Words,
+};
 use clap::ArgMatches;
 use std::alloc::Global;
 use thiserror::Error;
@@ -125,13 +128,13 @@ fn count(matches: &ArgMatches<'_>) -> Result<u32, Unread>
     }
 }
 
-/// The bytes before a container's first sector, if they were typed.
-fn offset(matches: &ArgMatches<'_>) -> Result<Option<u32>, Unread>
-    ensures typed { IfOk result (λ n. typed.number_in (codes "offset") (rows_of (found_of matches.now)) ≡ n) }
-    ensures lacks { IfErr result (λ why. why ≡ Unread.Missing → typed.Lacks (rows_of (found_of matches.now)) (typed.NumberIfGiven 32 (codes "offset"))) }
+/// A number of 32 bits, if one was typed.
+fn size_if_given(matches: &ArgMatches<'_>, name: &str) -> Result<Option<u32>, Unread>
+    ensures typed { IfOk result (λ n. typed.number_in name.now (rows_of (found_of matches.now)) ≡ n) }
+    ensures lacks { IfErr result (λ why. why ≡ Unread.Missing → typed.Lacks (rows_of (found_of matches.now)) (typed.NumberIfGiven 32 name.now)) }
 {
-    match matches.try_get_one::<u32>("offset") {
-        Ok(offset) => Ok(offset),
+    match matches.try_get_one::<u32>(name) {
+        Ok(size) => Ok(size),
         Err(_) => Err(Unread::Missing),
     }
 }
@@ -206,7 +209,7 @@ fn container_words(
         container: text(alloc, matches, "CONTAINER")?,
         blocks: text(alloc, matches, "BLOCKS")?,
         format: text(alloc, matches, "format")?,
-        offset: offset(matches)?,
+        offset: size_if_given(matches, "offset")?,
         sector: number_if_given(matches, "sector")?,
         skew: text_if_given(alloc, matches, "skew")?,
         cleans,
@@ -291,6 +294,46 @@ fn judge_words(alloc: Global, matches: &ArgMatches<'_>) -> Result<JudgeWords, Un
     })
 }
 
+/// What `pack` names, and `unpack` beside its own options.
+fn disk_words(alloc: Global, matches: &ArgMatches<'_>, cleans: bool) -> Result<DiskWords, Unread>
+    ensures typed { IfOk result (typed.IsDisk (rows_of (found_of matches.now))) }
+    ensures cleans { IfOk result (λ w. w.container.cleans ≡ cleans) }
+    ensures lacks { IfErr result (λ why. why ≡ Unread.Missing → typed.LacksOne (rows_of (found_of matches.now)) typed.disk_parts) }
+{
+    Ok(DiskWords {
+        container: container_words(alloc, matches, cleans)?,
+        first: size_if_given(matches, "first")?,
+        sides: size_if_given(matches, "sides")?,
+        is_half: is_given(matches, "half"),
+        is_ebcdic: is_given(matches, "ebcdic"),
+    })
+}
+
+fn unpack_words(alloc: Global, matches: &ArgMatches<'_>) -> Result<UnpackWords, Unread>
+    ensures typed { IfOk result (typed.IsUnpack (rows_of (found_of matches.now))) }
+    ensures lacks { IfErr result (λ why. why ≡ Unread.Missing → typed.LacksOne (rows_of (found_of matches.now)) typed.unpack_parts) }
+{
+    let cleans = is_given(matches, "clean");
+    Ok(UnpackWords {
+        disk: disk_words(alloc, matches, cleans)?,
+        width: size_if_given(matches, "width")?,
+        lines: size_if_given(matches, "lines")?,
+        columns: size_if_given(matches, "columns")?,
+        appends: is_given(matches, "append"),
+    })
+}
+
+fn guess_words(alloc: Global, matches: &ArgMatches<'_>) -> Result<GuessWords, Unread>
+    ensures typed { IfOk result (typed.IsGuess (rows_of (found_of matches.now))) }
+    ensures lacks { IfErr result (λ why. why ≡ Unread.Missing → typed.LacksOne (rows_of (found_of matches.now)) (typed.Word (codes "DISK") ∷ [])) }
+{
+    Ok(GuessWords {
+        disk: text(alloc, matches, "DISK")?,
+        is_better: is_given(matches, "better"),
+        is_score: is_given(matches, "score"),
+    })
+}
+
 fn kernel_words(alloc: Global, matches: &ArgMatches<'_>) -> Result<Words, Unread>
     ensures typed { IfOk result (typed.AreOf (codes "kernel") (rows_of (found_of matches.now))) }
     ensures lacks { IfErr result (λ why. why ≡ Unread.Missing → typed.LacksOne (rows_of (found_of matches.now)) (typed.Word (codes "BLOCKS") ∷ [])) }
@@ -325,6 +368,9 @@ fn words_of(alloc: Global, name: &str, matches: &ArgMatches<'_>) -> Result<Words
         "serve" => serve_words(alloc, matches),
         "survey" => Ok(Words::Survey(survey_words(alloc, matches)?)),
         "judge" => Ok(Words::Judge(judge_words(alloc, matches)?)),
+        "unpack" => Ok(Words::Unpack(unpack_words(alloc, matches)?)),
+        "pack" => Ok(Words::Pack(disk_words(alloc, matches, false)?)),
+        "guess" => Ok(Words::Guess(guess_words(alloc, matches)?)),
         _ => Err(Unread::Missing),
     }
 }

@@ -6,8 +6,8 @@ ghost use Rattle.command_words.specs.CommandLine as line;
 
 use crate::VERSION;
 use crate::arguments::{
-    all_places, buffers, count, flag, format, four_buffers, lesson_limit, limit, may_be, offset,
-    option, screen, sector, show_place, word,
+    all_places, buffers, clean, count, flag, format, four_buffers, lesson_limit, limit, may_be,
+    number, offset, option, screen, sector, show_place, word,
 };
 use clap::Command;
 use std::alloc::{AllocError, Global};
@@ -115,11 +115,7 @@ fn import_command<'a>(alloc: Global) -> Result<Command<'a>, AllocError>
         .about("Write a new block file with the screens of a container")
         .arg(word(alloc, "CONTAINER", "A disk image or file of another system"))?
         .arg(word(alloc, "BLOCKS", "The new file"))?
-        .arg(flag(
-            alloc,
-            "clean",
-            "Clear high bits, and replace tabs, NULs and other bytes that aren't text by blanks",
-        ))?;
+        .arg(clean(alloc))?;
     with_layout(alloc, command)
 }
 
@@ -215,6 +211,91 @@ fn judge_command<'a>(alloc: Global) -> Result<Command<'a>, AllocError>
         .arg(lesson_limit(alloc))
 }
 
+/// Gives a command the options that say how screens lie in a container of any kind.
+fn with_disk<'a>(alloc: Global, command: Command<'a>) -> Result<Command<'a>, AllocError>
+    ensures { IfOk result (line.Adds line.disk_rules command.entry) }
+{
+    with_layout(alloc, command)?
+        .arg(number(
+            alloc,
+            "first",
+            "The number of the first screen (default: 0, or a listing's own)",
+        ))?
+        .arg(number(
+            alloc,
+            "sides",
+            "The tracks of two sides come in turn, of N bytes each: the first side comes first",
+        ))?
+        .arg(flag(alloc, "half", "Screens of 512 bytes, 16 lines of 32"))?
+        .arg(flag(alloc, "ebcdic", "Letters of code page 37"))
+}
+
+/// Gives a command the options of records that are read in place of lines of 64.
+fn with_records<'a>(alloc: Global, command: Command<'a>) -> Result<Command<'a>, AllocError>
+    ensures { IfOk result (line.Adds line.record_rules command.entry) }
+{
+    command
+        .arg(number(
+            alloc,
+            "width",
+            "Records of N bytes instead of lines of 64, such as 80 for cards",
+        ))?
+        .arg(number(
+            alloc,
+            "lines",
+            "How many of them are a screen (default: 16)",
+        ))?
+        .arg(number(
+            alloc,
+            "columns",
+            "How many bytes of each are text (default: all)",
+        ))
+}
+
+fn unpack_command<'a>(alloc: Global) -> Result<Command<'a>, AllocError>
+    ensures { IfOk result (line.IsSubcommand line.unpack) }
+{
+    let command = Command::new(alloc, "unpack")
+        .about("Write the screens of any old disk, text or listing into a block file")
+        .arg(word(alloc, "CONTAINER", "A disk image or file of another system"))?
+        .arg(word(alloc, "BLOCKS", "The new file"))?
+        .arg(clean(alloc))?
+        .arg(flag(
+            alloc,
+            "append",
+            "Add the screens at the end of a block file that exists",
+        ))?;
+    with_records(alloc, with_disk(alloc, command)?)
+}
+
+fn pack_command<'a>(alloc: Global) -> Result<Command<'a>, AllocError>
+    ensures { IfOk result (line.IsSubcommand line.pack) }
+{
+    let command = Command::new(alloc, "pack")
+        .about("Write the screens of a block file back into an old disk")
+        .arg(word(alloc, "BLOCKS", "A block file (blocks of 1,024 bytes)"))?
+        .arg(word(alloc, "CONTAINER", "A disk image or file of another system"))?;
+    with_disk(alloc, command)
+}
+
+fn guess_command<'a>(alloc: Global) -> Result<Command<'a>, AllocError>
+    ensures { IfOk result (line.IsSubcommand line.guess) }
+{
+    Command::new(alloc, "guess")
+        .about("Print the orders of a disk's sectors that look most like screens")
+        .arg(word(alloc, "DISK", "A disk image of another system"))?
+        .arg(flag(
+            alloc,
+            "better",
+            "Print only an order that looks clearly better than as it is, if there is one",
+        ))?
+        .arg(flag(
+            alloc,
+            "score",
+            "Print only how much it looks like source as it is, at most 2",
+        ))
+}
+
 /// The program's command line.
 pub fn command<'a>(alloc: Global) -> Result<Command<'a>, AllocError>
     ensures { IfOk result (λ c. app_of c ≡ line.forth83) }
@@ -239,5 +320,8 @@ pub fn command<'a>(alloc: Global) -> Result<Command<'a>, AllocError>
         .subcommand(view_command(alloc)?)?
         .subcommand(serve_command(alloc)?)?
         .subcommand(survey_command(alloc)?)?
-        .subcommand(judge_command(alloc)?)
+        .subcommand(judge_command(alloc)?)?
+        .subcommand(unpack_command(alloc)?)?
+        .subcommand(pack_command(alloc)?)?
+        .subcommand(guess_command(alloc)?)
 }

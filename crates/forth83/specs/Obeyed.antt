@@ -15,6 +15,8 @@ use Rattle.load_subcommand.specs.Files.{Loads, load_steps}
 use Rattle.named_files.specs.Asking.{step}
 use Rattle.named_files.specs.Done.{Done, Refuses}
 use Rattle.named_files.specs.declared.step_log.Deed.TheVariants as deed
+use Rattle.old_disk_subcommands.specs.Guessed.{Guesses, guess_steps}
+use Rattle.old_disk_subcommands.specs.Unpacked.{Packs, RefusesPack, RefusesUnpack, Unpacks}
 use Rattle.run_subcommand.specs.Files.{Runs, run_steps}
 use Rattle.serve_subcommand.specs.Files.{ServesFiles, serve_steps}
 use Rattle.survey_subcommand.specs.Surveyed.{Surveys, survey_steps}
@@ -56,6 +58,10 @@ Obeys (words.Serve image blocks) status failed old new = ServesFiles (string_byt
 Obeys (words.Survey w) status failed old new = Surveys (string_bytes w.image) (string_bytes w.screens.blocks) status failed old new
 Obeys (words.Judge w) status failed old new =
     Judges (string_bytes w.image) (string_bytes w.texts) (string_bytes w.course) (string_bytes w.pupil) status failed old new
+Obeys (words.Unpack w) status failed old new =
+    Unpacks (string_bytes w.disk.container.container) (string_bytes w.disk.container.blocks) w.appends status failed old new
+Obeys (words.Pack w) status failed old new = Packs (string_bytes w.container.blocks) (string_bytes w.container.container) status failed old new
+Obeys (words.Guess w) status failed old new = Guesses (string_bytes w.disk) status failed old new
 
 -- the subcommand could not begin: a step that it must take was refused, or what was typed can't be used
 abbrev pub RefusesWords : Words → (status : ℕ) → (failed : Bool) → (old new : Done) → Type 0
@@ -78,6 +84,11 @@ RefusesWords (words.Serve image blocks) status failed old new = Refuses (serve_s
 RefusesWords (words.Survey w) status failed old new = Refuses (survey_steps (string_bytes w.image) (string_bytes w.screens.blocks)) status old new
 RefusesWords (words.Judge w) status failed old new =
     Refuses (judge_steps (string_bytes w.image) (string_bytes w.texts) (string_bytes w.course) (string_bytes w.pupil)) status old new
+RefusesWords (words.Unpack w) status failed old new =
+    RefusesUnpack (string_bytes w.disk.container.container) (string_bytes w.disk.container.blocks) (string_bytes w.disk.container.format) w.appends status old new
+RefusesWords (words.Pack w) status failed old new =
+    RefusesPack (string_bytes w.container.blocks) (string_bytes w.container.container) (string_bytes w.container.format) status old new
+RefusesWords (words.Guess w) status failed old new = Refuses (guess_steps (string_bytes w.disk)) status old new
 
 -- what the program does with a command line. It obeys the words that were typed, or one of their steps is refused; if a line can't be printed
 -- meanwhile, the status is 5. Or no words come of the command line: it is printed why, or memory ran out.

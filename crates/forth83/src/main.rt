@@ -7,7 +7,8 @@ ghost use Rattle.named_files.specs.Done.{IsPassedOn, done, status_of};
 ghost use Rattle.std.specs.String.{string_bytes};
 
 use command_words::{
-    ContainerWords, JudgeWords, LoadWords, Parsed, ScreenRange, SurveyWords, Words, parse, typed,
+    ContainerWords, DiskWords, GuessWords, JudgeWords, LoadWords, Parsed, ScreenRange, SurveyWords,
+    UnpackWords, Words, parse, typed,
 };
 use debug_subcommand::debug_word;
 use file_subcommands::{
@@ -18,6 +19,7 @@ use inner_interpreter::Output;
 use judge_subcommand::{Judged, judge_pupil};
 use load_subcommand::{Load, load_screens};
 use named_files::{Files, SystemFiles, out_of_memory, standard_output};
+use old_disk_subcommands::{Guess, OldDisk, Unpacking, guess_order, pack_disk, unpack_disk};
 use run_subcommand::run_image;
 use serve_subcommand::serve_image;
 use std::process::ExitCode;
@@ -100,6 +102,59 @@ fn judged_of(words: &JudgeWords) -> Judged<'_>
     }
 }
 
+/// The container and the file of blocks that the words of `pack` name, and how screens lie in the container.
+fn old_disk_of(words: &DiskWords) -> OldDisk<'_>
+    ensures files { (result.container.now ≡ string_bytes words.now.container.container) × (result.blocks.now ≡ string_bytes words.now.container.blocks) }
+    ensures format { result.format.now ≡ string_bytes words.now.container.format }
+    ensures numbers { (result.offset ≡ words.now.container.offset) × (result.sector ≡ words.now.container.sector) }
+    ensures skew { option_map (λ text. text.now) result.skew ≡ option_map string_bytes words.now.container.skew }
+    ensures sides { (result.first ≡ words.now.first) × (result.sides ≡ words.now.sides) }
+    ensures letters { (result.is_half ≡ words.now.is_half) × (result.is_ebcdic ≡ words.now.is_ebcdic) }
+{
+    OldDisk {
+        container: words.container.container.as_str(),
+        blocks: words.container.blocks.as_str(),
+        format: words.container.format.as_str(),
+        offset: words.container.offset,
+        sector: words.container.sector,
+        skew: words.container.skew.as_deref(),
+        first: words.first,
+        sides: words.sides,
+        is_half: words.is_half,
+        is_ebcdic: words.is_ebcdic,
+    }
+}
+
+/// What the words of `unpack` name.
+fn unpacking_of(words: &UnpackWords) -> Unpacking<'_>
+    ensures files { (result.disk.container.now ≡ string_bytes words.now.disk.container.container)
+        × (result.disk.blocks.now ≡ string_bytes words.now.disk.container.blocks)
+        × (result.disk.format.now ≡ string_bytes words.now.disk.container.format) }
+    ensures records { (result.width ≡ words.now.width) × (result.lines ≡ words.now.lines) × (result.columns ≡ words.now.columns) }
+    ensures flags { (result.cleans ≡ words.now.disk.container.cleans) × (result.appends ≡ words.now.appends) }
+{
+    Unpacking {
+        disk: old_disk_of(&words.disk),
+        width: words.width,
+        lines: words.lines,
+        columns: words.columns,
+        cleans: words.disk.container.cleans,
+        appends: words.appends,
+    }
+}
+
+/// What the words of `guess` name.
+fn guess_of(words: &GuessWords) -> Guess<'_>
+    ensures disk { result.disk.now ≡ string_bytes words.now.disk }
+    ensures flags { (result.is_better ≡ words.now.is_better) × (result.is_score ≡ words.now.is_score) }
+{
+    Guess {
+        disk: words.disk.as_str(),
+        is_better: words.is_better,
+        is_score: words.is_score,
+    }
+}
+
 /// Runs what the words say, and answers the status. If a subcommand cannot start, the reason is printed, and the status is the error.
 fn obey<F: Files, W: Output>(files: &mut F, writer: &mut W, words: Words) -> Result<u8, u8>
     ensures obeyed { W.failed writer.old ≡ false → IfOk result (λ status. Obeys words status (W.failed writer.new)
@@ -162,6 +217,9 @@ fn obey<F: Files, W: Output>(files: &mut F, writer: &mut W, words: Words) -> Res
         }
         Words::Survey(words) => survey_screens(files, writer, surveyed_of(&words)),
         Words::Judge(words) => judge_pupil(files, writer, judged_of(&words)),
+        Words::Unpack(words) => unpack_disk(files, writer, unpacking_of(&words)),
+        Words::Pack(words) => pack_disk(files, writer, old_disk_of(&words)),
+        Words::Guess(words) => guess_order(files, writer, guess_of(&words)),
     }
 }
 

@@ -4,6 +4,7 @@
 mod calling;
 mod driving;
 mod finding;
+mod judging;
 mod kept;
 pub mod laws;
 mod lent;
@@ -14,6 +15,7 @@ mod obeying;
 pub mod record;
 mod replies;
 mod running;
+mod screens;
 mod showing;
 mod stack_cells;
 mod status;
@@ -23,7 +25,7 @@ mod text;
 mod tracing;
 mod unpacking;
 
-ghost use Rattle.std.specs.Prelude.{◌≡◌, ◌≢◌, ◌<◌, ◌≤◌, ◌⊎◌, ◌%◌, length, take, drop, true, IsTrue};
+ghost use Rattle.std.specs.Prelude.{◌≡◌, ◌≢◌, ◌<◌, ◌≤◌, ◌⊎◌, ◌+◌, ◌%◌, ◌*◌, length, take, drop, true, IsTrue};
 ghost use Rattle.dictionary.specs.Adding.{is_name};
 ghost use Rattle.image_loader.specs.Files.{Contents, IsFile, IsCutShort, IsFollowed, HasBadMagic, HasBadVersion, HasBadBuffers, HasBadSize};
 ghost use Rattle.machine.specs.State.{start};
@@ -35,10 +37,15 @@ ghost use Rattle.serving.specs.Requests.{wished};
 ghost use Rattle.serving.specs.Room.{may_move, move_room};
 ghost use Rattle.forth83_c.specs.Replied.{HasReplied, TellsReplied};
 ghost use Rattle.forth83_c.specs.Looked.{HasExtent, HasListed, HasSeen, HasTraced, HasViewed, WhyNoExtent, WhyNotListed, WhyNotSeen, WhyNotSurveyed, WhyNotTraced, WhyNotViewed};
+ghost use Rattle.forth83_c.specs.Paged.{HasNoText, HasNoScreens};
 ghost use Rattle.forth83_c.specs.declared.kept.TheConstants.{ABI};
+ghost use Rattle.screen_text.specs.Reading.{IsRead, read};
+ghost use Rattle.screen_text.specs.Screens.{screen_text};
 
 use inner_interpreter::Answer;
+use lessons::{JudgedFiles, Progress};
 use record::{Forth83, Forth83End};
+use screens::NoScreens;
 use status::Status;
 use std::alloc::Global;
 use surveying::NamedBlocks;
@@ -330,6 +337,60 @@ pub extern "C" fn forth83_trace_line(
     tracing::trace_line(alloc, machine, text, size).code()
 }
 
+/// Puts the text of a screen of 1,024 bytes into `text`, and how many bytes it has into `size`: a heading with its number, and its lines.
+#[unsafe(no_mangle)]
+#[tactic(auto, using(crate::proofs::Codes::code_zero))]
+pub extern "C" fn forth83_text(
+    alloc: Global,
+    number: u16,
+    page: &[u8],
+    text: &mut [u8],
+    size: &mut usize,
+) -> u32
+    ensures written { result ≡ 0 → take size.new text.new ≡ screen_text number page.now }
+    ensures fits { result ≡ 0 → size.new ≤ length text.new }
+    ensures beyond { result ≡ 0 → drop size.new text.new ≡ drop size.new text.old }
+    ensures why { HasNoText number page.now (length text.old) result }
+    ensures stays { result ≢ 0 → text.new ≡ text.old }
+    ensures untold { result ≢ 0 → size.new ≡ size.old }
+{
+    screens::write(alloc, number, page, text, size).code()
+}
+
+/// Puts the numbers of the screens of a text into `numbers`, their bytes into `pages`, 1,024 for each, and how many they are into `count`. Of
+/// a text that is none of screens the first line at fault goes into `line`, counted from 1, and what is wrong with it into `cause`.
+#[unsafe(no_mangle)]
+pub extern "C" fn forth83_screens(
+    alloc: Global,
+    text: &[u8],
+    numbers: &mut [u16],
+    pages: &mut [u8],
+    count: &mut usize,
+    line: &mut usize,
+    cause: &mut u16,
+) -> u32
+    ensures read { result ≡ 0 → IsRead (read text.now) (take count.new numbers.new) (take (1024 * count.new) pages.new) }
+    ensures fits { result ≡ 0 → (count.new ≤ length numbers.new) × (1024 * count.new ≤ length pages.new) }
+    ensures beyond { result ≡ 0 → (drop count.new numbers.new ≡ drop count.new numbers.old)
+        × (drop (1024 * count.new) pages.new ≡ drop (1024 * count.new) pages.old) }
+    ensures why { result ≢ 0 → HasNoScreens (read text.now) (length numbers.old) (length pages.old) line.new cause.new result }
+    ensures stays { result ≢ 0 → (numbers.new ≡ numbers.old) × (pages.new ≡ pages.old) }
+{
+    match screens::screens(alloc, text, numbers, pages) {
+        Ok(found) => {
+            *count = found;
+            0
+        }
+        Err(NoScreens::OutOfMemory) => 2,
+        Err(NoScreens::ShortRoom) => 3,
+        Err(NoScreens::Refused(fault)) => {
+            *line = fault.line;
+            *cause = screens::number_of(fault.cause);
+            23
+        }
+    }
+}
+
 /// Puts a report on old screens into `text`, how many bytes it has into `size`, and the dialect that is to be loaded before them into
 /// `dialect`: 1 fig-FORTH, 2 Forth-79, 3 F83, 4 polyFORTH, 0 none. The screens are those of a file of blocks of this name; their words are
 /// compared with those of the machine's Forth.
@@ -434,6 +495,59 @@ pub extern "C" fn forth83_guess_format(
         Ok(()) => 0,
         Err(why) => why.code(),
     }
+}
+
+/// Judges the next lesson of what a pupil wrote, with the course's own checkers: puts its line into `text`, and how many bytes it has into `size`,
+/// which is 0 if no lesson is left. The image is one that has loaded the checkers, `texts` what is said of faults, and `course` and `pupil` are
+/// blocks. `next` and `stopped` say how far the judging is: both are 0 at the beginning. With too little room, `size` says how much is needed.
+#[unsafe(no_mangle)]
+pub extern "C" fn forth83_judge(
+    alloc: Global,
+    image: &[u8],
+    texts: &[u8],
+    course: &[u8],
+    pupil: &[u8],
+    ticks: u64,
+    next: &mut u16,
+    stopped: &mut u16,
+    text: &mut [u8],
+    size: &mut usize,
+) -> u32
+    // Bytes that are no image's file are refused by the first field that fits no file.
+    ensures truncated { IsCutShort image.now → result ≡ 4 }
+    ensures trailing { IsFollowed image.now → result ≡ 5 }
+    ensures bad_magic { HasBadMagic image.now → result ≡ 6 }
+    ensures bad_version { HasBadVersion image.now → result ≡ 7 }
+    ensures bad_buffers { HasBadBuffers image.now → result ≡ 8 }
+    ensures bad_size { HasBadSize image.now → result ≡ 9 }
+
+    // With an image, 0: the line is at the front of the room; 2: out of memory; 3: the line needs more room.
+    ensures known { (contents : Contents) → IsFile image.now contents → (result ≡ 0) ⊎ ((result ≡ 2) ⊎ (result ≡ 3)) }
+    ensures found { result ≡ 0 → (contents : Contents) × IsFile image.now contents }
+    ensures fits { result ≡ 0 → size.new ≤ length text.new }
+    ensures beyond { result ≡ 0 → drop size.new text.new ≡ drop size.new text.old }
+    ensures needs { result ≡ 3 → length text.new < size.new }
+
+    // After a line comes the next lesson; at the end, and if nothing was judged, nothing changes.
+    ensures onward { result ≡ 0 → 0 < size.new → next.new ≡ next.old + 1 }
+    ensures ended { result ≡ 0 → size.new ≡ 0 → next.new ≡ next.old }
+    ensures stays { result ≢ 0 → text.new ≡ text.old }
+    ensures waits { result ≢ 0 → next.new ≡ next.old }
+    ensures patient { result ≢ 0 → stopped.new ≡ stopped.old }
+{
+    let files = JudgedFiles {
+        texts,
+        course,
+        pupil,
+    };
+    let mut progress = Progress {
+        next: *next,
+        stopped: *stopped,
+    };
+    let code = judging::judge(alloc, image, files, ticks, &mut progress, text, size);
+    *next = progress.next;
+    *stopped = progress.stopped;
+    code
 }
 
 /// Obeys a request of a server's host: the frame of this kind and these bytes. The reply is put into `room`, and how many bytes it has into `size`;

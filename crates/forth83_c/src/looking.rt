@@ -37,7 +37,7 @@ pub fn view(kept: &Forth83, name: &[u8], block: &mut u16) -> Status
 }
 
 /// Puts cells at the front of a room that has as many, and answers how many they are.
-fn put_cells(room: &mut [u16], cells: &[u16]) -> usize
+pub fn put_cells(room: &mut [u16], cells: &[u16]) -> usize
     requires { length cells.now ≤ length room.old }
     ensures front { take result room.new ≡ cells.now }
     ensures beyond { drop result room.new ≡ drop result room.old }

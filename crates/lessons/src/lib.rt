@@ -14,7 +14,7 @@ mod trials;
 
 pub use files::{FileFault, blocks_of};
 pub use judging::{Desk, Mark, Verdict, judge};
-pub use results::{JudgedFiles, Judgment, judge_files};
+pub use results::{JudgedFiles, Judgment, Progress, judge_files, judge_next};
 pub use screens::{Lesson, lessons_of};
 pub use sealing::{is_left, seal};
 pub use sitting::{Ending, Limits};

@@ -1,5 +1,7 @@
 //! The results of a pupil, a line a lesson.
 
+ghost use Rattle.std.specs.Prelude.{◌≡◌, ◌<◌, ◌≤◌, ◌+◌, ◌/◌, ◌⊎◌, IfErr, IfOk, IsTrue, OnOk, length};
+
 use crate::bytes::put_number;
 use crate::files::{FileFault, blocks_of};
 use crate::judging::{Desk, Mark, Verdict, judge};
@@ -9,7 +11,7 @@ use image_loader::Image;
 use std::alloc::{AllocError, Global};
 
 /// After so many lessons of a pupil that a limit had to stop, the others get a tenth of the ticks.
-const PATIENCE: usize = 3;
+const PATIENCE: u16 = 3;
 
 /// The bytes that a lesson may show.
 const MOST_SHOWN: usize = 1_000_000;
@@ -33,7 +35,9 @@ fn put_result(
     alloc: Global,
     lesson: Lesson<'_>,
     verdict: &Verdict,
-) -> Result<(), AllocError> {
+) -> Result<(), AllocError>
+    ensures { OnOk result (0 < length text.new.items) }
+{
     put_number(text, alloc, i64::from(lesson.number))?;
     text.extend_from_slice(b"\t")?;
     put_number(text, alloc, i64::from(lesson.screen))?;
@@ -45,44 +49,128 @@ fn put_result(
     put_readable(text, verdict.word.as_slice())?;
     text.extend_from_slice(b"\t")?;
     put_readable(text, verdict.text.as_slice())?;
-    text.extend_from_slice(b"\n")
+    text.push(b'\n')?;
+    Ok(())
 }
 
-/// Judges all lessons of a course that a pupil's blocks have, in the order of their numbers, each for at most so many ticks: a line for
-/// each. There is none if the course has no lessons.
-fn all_results(
-    alloc: Global,
-    desk: Desk<'_>,
-    pupil: &[u8],
-    ticks: u64,
-) -> Result<Vec<u8>, AllocError> {
-    let lessons = lessons_of(alloc, desk.course)?;
-    let mut text = Vec::new(alloc);
-    let mut stopped = 0;
-    for lesson in lessons.iter() {
-        let limits = Limits {
-            ticks: if stopped < PATIENCE {
+/// How far the judging of a pupil's file is.
+#[derive(Clone, Copy, Debug, PartialEq, Eq, Drop)]
+pub struct Progress {
+    /// The place of the next lesson among those of the course, in the order of their numbers, from 0 on.
+    pub next: u16,
+    /// How many lessons a limit had to stop.
+    pub stopped: u16,
+}
+
+impl Progress {
+    /// Nothing was judged yet.
+    pub fn begun() -> Progress
+        ensures { result ≡ record { next = 0; stopped = 0 } }
+    {
+        Progress {
+            next: 0,
+            stopped: 0,
+        }
+    }
+
+    /// What the next lesson may do, if one may take so many ticks.
+    fn limits(self, ticks: u64) -> Limits
+        ensures patient { self.stopped < 3 → result.ticks ≡ ticks }
+        ensures hasty { 3 ≤ self.stopped → result.ticks ≡ ticks / 10 }
+    {
+        Limits {
+            ticks: if self.stopped < PATIENCE {
                 ticks
             } else {
                 ticks / 10
             },
             shown: MOST_SHOWN,
-        };
-        let verdict = judge(alloc, desk, *lesson, pupil, limits)?;
-        if verdict.mark == Mark::Endless && verdict.word.is_empty() {
-            stopped = stopped.saturating_add(1);
         }
-        put_result(&mut text, alloc, *lesson, &verdict)?;
     }
-    Ok(text)
+
+    /// After a lesson with this verdict, of which the next one has this place.
+    fn after(self, next: u16, verdict: &Verdict) -> Progress
+        ensures next { result.next ≡ next }
+        ensures stopped { (result.stopped ≡ self.stopped) ⊎ (result.stopped ≡ self.stopped + 1) }
+    {
+        let is_stopped = verdict.mark == Mark::Endless && verdict.word.is_empty();
+        Progress {
+            next,
+            stopped: if is_stopped {
+                self.stopped.saturating_add(1)
+            } else {
+                self.stopped
+            },
+        }
+    }
 }
 
-/// The files of a judgment: what is said of faults, a line for each; the course, and what a pupil hands in, blocks or texts of screens.
+/// What lessons are judged with, the pupil's blocks, the lessons of the course, and how many ticks each of them may take.
+#[derive(Clone, Copy)]
+struct Sheet<'a> {
+    desk: Desk<'a>,
+    pupil: &'a [u8],
+    lessons: &'a [Lesson<'a>],
+    ticks: u64,
+}
+
+/// Judges the next lesson, and adds its line; whether there was one.
+fn put_next(
+    text: &mut Vec<u8>,
+    alloc: Global,
+    sheet: Sheet<'_>,
+    progress: &mut Progress,
+) -> Result<bool, AllocError>
+    ensures onward { IfOk result (λ found. IsTrue found → progress.new.next ≡ progress.old.next + 1) }
+    ensures stopped { IfOk result (λ _. (progress.new.stopped ≡ progress.old.stopped) ⊎ (progress.new.stopped ≡ progress.old.stopped + 1)) }
+    ensures added { IfOk result (λ found. IsTrue found → 0 < length text.new.items) }
+    ensures ended { IfOk result (λ found. ¬ IsTrue found → progress.new ≡ progress.old) }
+    ensures silent { IfOk result (λ found. ¬ IsTrue found → text.new.items ≡ text.old.items) }
+    ensures stays { IfErr result (λ _. progress.new ≡ progress.old) }
+{
+    let Some(lesson) = sheet.lessons.get(usize::from(progress.next)).copied() else {
+        return Ok(false);
+    };
+    let Some(next) = progress.next.checked_add(1) else {
+        return Ok(false);
+    };
+    let verdict = judge(
+        alloc,
+        sheet.desk,
+        lesson,
+        sheet.pupil,
+        progress.limits(sheet.ticks),
+    )?;
+    put_result(text, alloc, lesson, &verdict)?;
+    *progress = progress.after(next, &verdict);
+    Ok(true)
+}
+
+/// What lessons are judged with, and what a pupil wrote: what is said of faults, a line for each; the course, and the pupil's file. These two are
+/// blocks or texts of screens for `judge_files`, and blocks for `judge_next`.
 #[derive(Clone, Copy)]
 pub struct JudgedFiles<'a> {
     pub texts: &'a [u8],
     pub course: &'a [u8],
     pub pupil: &'a [u8],
+}
+
+impl<'a> JudgedFiles<'a> {
+    /// The course and the pupil's file as blocks, with this image, these lessons of the course, and the ticks of a lesson.
+    fn sheet(self, image: &'a Image, lessons: &'a [Lesson<'a>], ticks: u64) -> Sheet<'a>
+        ensures { result.ticks ≡ ticks }
+    {
+        Sheet {
+            desk: Desk {
+                image,
+                course: self.course,
+                texts: self.texts,
+            },
+            pupil: self.pupil,
+            lessons,
+            ticks,
+        }
+    }
 }
 
 /// The results, a line for each lesson; or, if nothing was judged, a line `course: CAUSE` or `pupil: CAUSE`.
@@ -101,7 +189,25 @@ fn unjudged(alloc: Global, what: &str, fault: FileFault) -> Result<Judgment, All
     })
 }
 
-/// Judges what a pupil hands in, with the image that has loaded the course's checkers, each lesson for at most so many ticks.
+/// Judges all lessons of a course by a pupil's blocks.
+fn all_results(
+    alloc: Global,
+    image: &Image,
+    blocks: JudgedFiles<'_>,
+    ticks: u64,
+) -> Result<Vec<u8>, AllocError> {
+    let lessons = lessons_of(alloc, blocks.course)?;
+    let sheet = blocks.sheet(image, lessons.as_slice(), ticks);
+    let mut text = Vec::new(alloc);
+    let mut progress = Progress::begun();
+    for _ in 0..lessons.len() {
+        put_next(&mut text, alloc, sheet, &mut progress)?;
+    }
+    Ok(text)
+}
+
+/// Judges what a pupil hands in, with the image that has loaded the course's checkers, each lesson for at most so many ticks. There is no line
+/// if the course has no lessons.
 pub fn judge_files(
     alloc: Global,
     image: &Image,
@@ -116,13 +222,37 @@ pub fn judge_files(
         Ok(blocks) => blocks,
         Err(fault) => return unjudged(alloc, "pupil", fault),
     };
-    let desk = Desk {
-        image,
-        course: course.as_slice(),
+    let blocks = JudgedFiles {
         texts: files.texts,
+        course: course.as_slice(),
+        pupil: pupil.as_slice(),
     };
     Ok(Judgment {
         is_judged: true,
-        text: all_results(alloc, desk, pupil.as_slice(), ticks)?,
+        text: all_results(alloc, image, blocks, ticks)?,
     })
+}
+
+/// Judges the next lesson by blocks, as `judge_files` judges it: its line, or nothing if no lesson is left. So a host can do something else
+/// between two lessons.
+pub fn judge_next(
+    alloc: Global,
+    image: &Image,
+    blocks: JudgedFiles<'_>,
+    ticks: u64,
+    progress: &mut Progress,
+) -> Result<Vec<u8>, AllocError>
+    // After a line comes the next lesson, and at the end nothing changes.
+    ensures onward { IfOk result (λ line. 0 < length line.items → progress.new.next ≡ progress.old.next + 1) }
+    ensures ended { IfOk result (λ line. length line.items ≡ 0 → progress.new ≡ progress.old) }
+
+    // A lesson that a limit had to stop is counted.
+    ensures stopped { IfOk result (λ _. (progress.new.stopped ≡ progress.old.stopped) ⊎ (progress.new.stopped ≡ progress.old.stopped + 1)) }
+    ensures stays { IfErr result (λ _. progress.new ≡ progress.old) }
+{
+    let lessons = lessons_of(alloc, blocks.course)?;
+    let sheet = blocks.sheet(image, lessons.as_slice(), ticks);
+    let mut text = Vec::new(alloc);
+    put_next(&mut text, alloc, sheet, progress)?;
+    Ok(text)
 }

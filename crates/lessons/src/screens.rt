@@ -68,6 +68,23 @@ fn lesson_of(line: &[u8], screen: u16) -> Option<Lesson<'_>> {
     })
 }
 
+/// Puts a lesson among those before it, in the order of their numbers; of two with the same number the first one counts.
+fn put_lesson<'a>(lessons: &mut Vec<Lesson<'a>>, lesson: Lesson<'a>) -> Result<(), AllocError> {
+    let place = lessons
+        .iter()
+        .position(|other| other.number >= lesson.number)
+        .unwrap_or(lessons.len());
+    if let Some(other) = lessons.get(place) {
+        if other.number == lesson.number {
+            return Ok(());
+        }
+    }
+    match lessons.insert(place, lesson) {
+        Ok(()) => Ok(()),
+        Err(_) => Err(AllocError),
+    }
+}
+
 /// The lessons of a course, in the order of their numbers: of two with the same number the first one counts. Screen 0 has none.
 pub fn lessons_of(alloc: Global, blocks: &[u8]) -> Result<Vec<Lesson<'_>>, AllocError> {
     let mut found: Vec<Lesson<'_>> = Vec::new(alloc);
@@ -76,11 +93,8 @@ pub fn lessons_of(alloc: Global, blocks: &[u8]) -> Result<Vec<Lesson<'_>>, Alloc
             break;
         };
         if let Some(lesson) = lesson_of(line_of(screen, 0), number) {
-            if !found.iter().any(|other| other.number == lesson.number) {
-                found.push(lesson)?;
-            }
+            put_lesson(&mut found, lesson)?;
         }
     }
-    found.sort_by_key(|lesson| lesson.number)?;
     Ok(found)
 }

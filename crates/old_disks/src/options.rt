@@ -16,6 +16,21 @@ pub struct Records {
     pub columns: usize,
 }
 
+impl Records {
+    /// Records of a width, unless it is 0. No less than one is a screen; all of a record is text if it is not said how much.
+    pub fn new(width: usize, lines: Option<usize>, columns: Option<usize>) -> Option<Records> {
+        if width == 0 {
+            return None;
+        }
+        let columns = columns.unwrap_or(0);
+        Some(Records {
+            width,
+            lines: lines.unwrap_or(LINES).max(1),
+            columns: if columns > 0 { columns } else { width },
+        })
+    }
+}
+
 /// How a container is read or written.
 #[derive(Drop)]
 pub struct Options {
@@ -103,8 +118,8 @@ fn number(digits: &[u8]) -> Option<usize> {
     usize::try_from(made).ok()
 }
 
-/// The numbers of a list, which has commas between them.
-fn numbers(alloc: Global, list: &[u8]) -> Result<Vec<usize>, Refusal> {
+/// The numbers of a skew, which has commas between them.
+pub fn read_skew(alloc: Global, list: &[u8]) -> Result<Vec<usize>, Refusal> {
     let mut made = Vec::new(alloc);
     for digits in list.split(|byte| *byte == b',') {
         let Some(place) = number(digits) else {
@@ -120,8 +135,8 @@ fn numbers(alloc: Global, list: &[u8]) -> Result<Vec<usize>, Refusal> {
 struct Given {
     options: Options,
     width: usize,
-    lines: usize,
-    columns: usize,
+    lines: Option<usize>,
+    columns: Option<usize>,
 }
 
 impl Given {
@@ -142,8 +157,8 @@ impl Given {
         Given {
             options,
             width: 0,
-            lines: LINES,
-            columns: 0,
+            lines: None,
+            columns: None,
         }
     }
 
@@ -168,8 +183,8 @@ impl Given {
             Valued::First => options.first = value,
             Valued::Sides => options.side = if value > 0 { Some(value) } else { None },
             Valued::Width => self.width = value,
-            Valued::Lines => self.lines = value,
-            Valued::Columns => self.columns = value,
+            Valued::Lines => self.lines = Some(value),
+            Valued::Columns => self.columns = Some(value),
         }
     }
 
@@ -179,7 +194,7 @@ impl Given {
             Valued::Format => {
                 self.options.format = Format::named(word).ok_or(Refusal::NoFormat)?;
             }
-            Valued::Skew => self.options.skew = numbers(alloc, word)?,
+            Valued::Skew => self.options.skew = read_skew(alloc, word)?,
             _ => {
                 let value = number(word).ok_or(option.no_number())?;
                 self.take_number(option, value);
@@ -188,7 +203,7 @@ impl Given {
         Ok(())
     }
 
-    /// The options. Records have no less than a line a screen.
+    /// The options.
     fn finish(self) -> Options {
         let Given {
             mut options,
@@ -196,13 +211,7 @@ impl Given {
             lines,
             columns,
         } = self;
-        if width > 0 {
-            options.records = Some(Records {
-                width,
-                lines: lines.max(1),
-                columns: if columns > 0 { columns } else { width },
-            });
-        }
+        options.records = Records::new(width, lines, columns);
         options
     }
 }

@@ -2,6 +2,7 @@
 
 ghost use Rattle.std.specs.Prelude.{◌≡◌, ◌==◌, ◌||◌, ◌++◌, ◌*◌, length, Ok, Err, IfErr, IfOk, OnOk, map};
 ghost use Rattle.std.specs.List.{list_any};
+ghost use Rattle.bstr.specs.Text.{line_len, without_terminator};
 ghost use Rattle.screen_text.specs.Reading.{Refuses, RefusesText, IsRead, nothing, read, text_lines, whole, with_escapes, with_line, with_plain, with_screen, with_text, with_texts};
 ghost use Rattle.screen_text.specs.Bytes.{padded};
 ghost use Rattle.screen_text.specs.Escapes.{unescaped};
@@ -10,7 +11,6 @@ use crate::bytes::{LINE, bad_byte, is_line, pad, spread, trimmed};
 use crate::cause::{Cause, TextFault};
 use crate::escapes::{has_sign, unescaped};
 use crate::headings::{behind, has_mark, named};
-use bstr::ByteSlice;
 use std::alloc::{AllocError, Global};
 use std::marker::Model;
 
@@ -240,12 +240,45 @@ fn push_padded(bytes: &mut Vec<u8>, line: &[u8]) -> Result<(), AllocError>
     bytes.resize(bytes.len().saturating_add(blanks), b' ')
 }
 
+/// How many bytes the first line of a text has, with its line feed.
+#[tactic(auto, unfolding(bstr::specs::Text::line_len))]
+fn line_len(text: &[u8]) -> usize
+    ensures { result ≡ line_len text.now }
+{
+    for (index, byte) in text.iter().enumerate() {
+        if *byte == b'\n' {
+            return index + 1;
+        }
+    }
+    text.len()
+}
+
+/// A line without its line feed, and without the carriage return before that.
+fn without_end(line: &[u8]) -> &[u8]
+    ensures { result.now ≡ without_terminator line.now }
+{
+    let [front @ .., b'\n'] = line else {
+        return line;
+    };
+    match front {
+        [text @ .., b'\r'] => text,
+        _ => front,
+    }
+}
+
 /// The lines of a text.
-#[tactic(auto, unfolding(crate::specs::Reading::text_lines))]
+#[tactic(auto, unfolding(crate::specs::Reading::text_lines), using(crate::proofs::Splitting::first_line, crate::proofs::Splitting::takes_some))]
 fn lines_of(alloc: Global, text: &[u8]) -> Result<Vec<&[u8]>, AllocError>
     ensures { IfOk result (λ v. map (λ x. x.now) v.items ≡ text_lines text.now) }
 {
-    text.lines().collect(alloc)
+    let mut lines = Vec::new(alloc);
+    let mut rest = text;
+    while !rest.is_empty() {
+        let (line, more) = rest.split_at(line_len(rest));
+        lines.push(without_end(line))?;
+        rest = more;
+    }
+    Ok(lines)
 }
 
 /// Takes all lines of a text.

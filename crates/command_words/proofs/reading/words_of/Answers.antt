@@ -22,3 +22,12 @@ returns-in_err-survey_words-in-survey-clause-lacks c = of_err c.from_residual-in
 
 pub returns-in_err-judge_words-in-judge-clause-lacks : goal.returns-in_err-judge_words-in-judge-clause-lacks
 returns-in_err-judge_words-in-judge-clause-lacks c = of_err c.from_residual-in_err-judge_words-in-judge.result _ _ c.from_residual-in_err-judge_words-in-judge.ensures.1 (λ missing. inr (c.in-judge.not-kernel, inr (c.in-judge.not-build, inr (c.in-judge.not-load, inr (c.in-judge.not-upgrade, inr (c.in-judge.not-text, inr (c.in-judge.not-screens, inr (c.in-judge.not-new, inr (c.in-judge.not-import, inr (c.in-judge.not-export, inr (c.in-judge.not-run, inr (c.in-judge.not-debug, inr (c.in-judge.not-see, inr (c.in-judge.not-view, inr (c.in-judge.not-serve, inr (c.in-judge.not-survey, inl (c.in-judge.is, c.in_err-judge_words-in-judge.ensures.lacks missing)))))))))))))))))
+
+pub returns-in_err-unpack_words-in-unpack-clause-lacks : goal.returns-in_err-unpack_words-in-unpack-clause-lacks
+returns-in_err-unpack_words-in-unpack-clause-lacks c = of_err c.from_residual-in_err-unpack_words-in-unpack.result _ _ c.from_residual-in_err-unpack_words-in-unpack.ensures.1 (λ missing. inr (c.in-unpack.not-kernel, inr (c.in-unpack.not-build, inr (c.in-unpack.not-load, inr (c.in-unpack.not-upgrade, inr (c.in-unpack.not-text, inr (c.in-unpack.not-screens, inr (c.in-unpack.not-new, inr (c.in-unpack.not-import, inr (c.in-unpack.not-export, inr (c.in-unpack.not-run, inr (c.in-unpack.not-debug, inr (c.in-unpack.not-see, inr (c.in-unpack.not-view, inr (c.in-unpack.not-serve, inr (c.in-unpack.not-survey, inr (c.in-unpack.not-judge, inl (c.in-unpack.is, c.in_err-unpack_words-in-unpack.ensures.lacks missing))))))))))))))))))
+
+pub returns-in_err-disk_words-in-pack-clause-lacks : goal.returns-in_err-disk_words-in-pack-clause-lacks
+returns-in_err-disk_words-in-pack-clause-lacks c = of_err c.from_residual-in_err-disk_words-in-pack.result _ _ c.from_residual-in_err-disk_words-in-pack.ensures.1 (λ missing. inr (c.in-pack.not-kernel, inr (c.in-pack.not-build, inr (c.in-pack.not-load, inr (c.in-pack.not-upgrade, inr (c.in-pack.not-text, inr (c.in-pack.not-screens, inr (c.in-pack.not-new, inr (c.in-pack.not-import, inr (c.in-pack.not-export, inr (c.in-pack.not-run, inr (c.in-pack.not-debug, inr (c.in-pack.not-see, inr (c.in-pack.not-view, inr (c.in-pack.not-serve, inr (c.in-pack.not-survey, inr (c.in-pack.not-judge, inr (c.in-pack.not-unpack, inl (c.in-pack.is, c.in_err-disk_words-in-pack.ensures.lacks missing)))))))))))))))))))
+
+pub returns-in_err-guess_words-in-guess-clause-lacks : goal.returns-in_err-guess_words-in-guess-clause-lacks
+returns-in_err-guess_words-in-guess-clause-lacks c = of_err c.from_residual-in_err-guess_words-in-guess.result _ _ c.from_residual-in_err-guess_words-in-guess.ensures.1 (λ missing. inr (c.in-guess.not-kernel, inr (c.in-guess.not-build, inr (c.in-guess.not-load, inr (c.in-guess.not-upgrade, inr (c.in-guess.not-text, inr (c.in-guess.not-screens, inr (c.in-guess.not-new, inr (c.in-guess.not-import, inr (c.in-guess.not-export, inr (c.in-guess.not-run, inr (c.in-guess.not-debug, inr (c.in-guess.not-see, inr (c.in-guess.not-view, inr (c.in-guess.not-serve, inr (c.in-guess.not-survey, inr (c.in-guess.not-judge, inr (c.in-guess.not-unpack, inr (c.in-guess.not-pack, inl (c.in-guess.is, c.in_err-guess_words-in-guess.ensures.lacks missing))))))))))))))))))))

@@ -23,4 +23,7 @@ returns c =
     let s13 = joined _ line.view _ _ _ s12 c.in_ok-view_command.ensures c.in_ok-subcommand-13.ensures in
     let s14 = joined _ line.serve _ _ _ s13 c.in_ok-serve_command.ensures c.in_ok-subcommand-14.ensures in
     let s15 = joined _ line.survey _ _ _ s14 c.in_ok-survey_command.ensures c.in_ok-subcommand-15.ensures in
-    if_ok_then c.subcommand-16.result _ _ (λ d h. (joined _ line.judge _ _ d s15 c.in_ok-judge_command.ensures h).app) c.subcommand-16.ensures
+    let s16 = joined _ line.judge _ _ _ s15 c.in_ok-judge_command.ensures c.in_ok-subcommand-16.ensures in
+    let s17 = joined _ line.unpack _ _ _ s16 c.in_ok-unpack_command.ensures c.in_ok-subcommand-17.ensures in
+    let s18 = joined _ line.pack _ _ _ s17 c.in_ok-pack_command.ensures c.in_ok-subcommand-18.ensures in
+    if_ok_then c.subcommand-19.result _ _ (λ d h. (joined _ line.guess _ _ d s18 c.in_ok-guess_command.ensures h).app) c.subcommand-19.ensures

@@ -1,0 +1,2 @@
+pub mod Guessed
+pub mod Unpacked

@@ -1,0 +1,77 @@
+//! `guess`.
+
+ghost use Rattle.std.specs.Prelude.{◌≡◌, ◌⊎◌, false, true, IfErr, IfOk, IsNone};
+ghost use Rattle.named_files.specs.Done.{IsPassedOn, Refuses, done, status_of};
+ghost use Rattle.subcommands.specs.Lines.{Prints};
+ghost use Rattle.old_disk_subcommands.specs.Guessed.{EndsGuessed, Guesses, guess_steps};
+
+use inner_interpreter::{Output, send_all};
+use named_files::Files;
+use old_disks::{better_order, show_likeness, show_orders};
+use std::alloc::{AllocError, Global};
+use subcommands::{Ended, end_with, print_out_of_memory};
+
+/// What `guess` names.
+#[derive(Clone, Copy)]
+pub struct Guess<'a> {
+    pub disk: &'a str,
+    /// Whether only an order is printed that looks clearly better than as it is.
+    pub is_better: bool,
+    /// Whether only a score is printed.
+    pub is_score: bool,
+}
+
+/// What is printed of a disk.
+fn report(alloc: Global, disk: &[u8], guess: Guess<'_>) -> Result<String, AllocError> {
+    if guess.is_score {
+        show_likeness(alloc, disk)
+    } else if guess.is_better {
+        better_order(alloc, disk)
+    } else {
+        show_orders(alloc, disk)
+    }
+}
+
+/// Prints a text.
+fn print_report<W: Output>(text: &[u8], writer: &mut W) -> Ended
+    ensures printed { W.failed writer.new ≡ false → Prints text.now 0 result.status (W.sent writer.old) (W.sent writer.new) }
+    ensures passed { W.failed writer.new ≡ false → W.passed writer.new ≡ true }
+    ensures cut { W.failed writer.old ≡ false → W.failed writer.new ≡ true → result.status ≡ 5 }
+    ensures file { IsNone result.file }
+{
+    if send_all(writer, text).is_err() || writer.flush().is_err() {
+        return end_with(5);
+    }
+    end_with(0)
+}
+
+/// Prints what the sectors of a disk look like. Status 0; 1: memory ran out; 5: the text can't be printed.
+fn do_guess<W: Output>(alloc: Global, disk: &[u8], guess: Guess<'_>, writer: &mut W) -> Ended
+    ensures printed { W.failed writer.new ≡ false → EndsGuessed result.status (W.sent writer.old) (W.sent writer.new) }
+    ensures passed { W.failed writer.new ≡ false → W.passed writer.new ≡ true }
+    ensures cut { W.failed writer.old ≡ false → W.failed writer.new ≡ true → result.status ≡ 5 }
+    ensures file { IsNone result.file }
+{
+    match report(alloc, disk, guess) {
+        Ok(text) => print_report(text.as_bytes(), writer),
+        Err(_) => print_out_of_memory(writer),
+    }
+}
+
+/// Reads the disk that `guess` names, and prints what its sectors look like. If it cannot begin, that is printed, and the status is the error.
+pub fn guess_order<F: Files, W: Output>(
+    files: &mut F,
+    writer: &mut W,
+    guess: Guess<'_>,
+) -> Result<u8, u8>
+    ensures guessed { IfOk result (λ status. Guesses guess.entry.disk.now status (W.failed writer.new)
+        (done (F.log files.old) (W.sent writer.old)) (done (F.log files.new) (W.sent writer.new))) }
+    ensures refused { IfErr result (λ status. Refuses (guess_steps guess.entry.disk.now) status
+        (done (F.log files.old) (W.sent writer.old)) (done (F.log files.new) (W.sent writer.new))) }
+    ensures cut { W.failed writer.old ≡ false → W.failed writer.new ≡ true → status_of result ≡ 5 }
+    ensures passed { IsPassedOn (status_of result) (W.failed writer.new) (W.passed writer.new) (W.sent writer.old) (W.sent writer.new) }
+{
+    let disk = files.file_bytes(guess.disk)?;
+    let ended = do_guess(files.alloc(), disk.as_slice(), guess, writer);
+    Ok(ended.status)
+}
