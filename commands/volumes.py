@@ -1,6 +1,7 @@
 """What a disk's file is, by its first bytes, its size and its directory; and the files that its directory names.
 
-commands/bring asks before it takes a file for blocks. Where a Debian package reads a directory better (cpmtools, mtools), it is called.
+commands/bring asks before it takes a file for blocks. Where a Debian package reads a directory better (cpmtools, mtools), it is called. The
+program puts the sectors of a PDP-11's disk into order (`unpack`), and says how much a file looks like source (`guess --score`).
 """
 from __future__ import annotations
 
@@ -12,9 +13,7 @@ import subprocess
 import tempfile
 from typing import Callable, Dict, Iterator, List, NamedTuple, Optional, Tuple
 
-import guess
-import wild
-from wild import Wild
+from subcommands import program
 
 # First bytes of files that are no sectors: what each is, and what makes sectors of it.
 MAGICS: List[Tuple[bytes, str, str]] = [
@@ -31,6 +30,10 @@ MAGICS: List[Tuple[bytes, str, str]] = [
 CPM_NAMES = re.compile(rb"[!-~]{1,8} *")
 RADIX_50 = " ABCDEFGHIJKLMNOPQRSTUVWXYZ$.%0123456789"
 CHAINED = 2000  # sectors of a chain at most, so that a damaged one ends
+
+
+class Wild(Exception):
+    """Why a container cannot be read or written, in one sentence."""
 
 
 class Kind(NamedTuple):
@@ -188,6 +191,14 @@ def cpm_names(path: pathlib.Path, definition: str) -> List[Tuple[str, str]]:
     return names
 
 
+def likeness(content: bytes) -> float:
+    """How much a file looks like source."""
+    with tempfile.TemporaryDirectory() as room:
+        place = pathlib.Path(room, "file")
+        place.write_bytes(content)
+        return float(program(["guess", str(place), "--score"]).text)
+
+
 def cpm_file(path: pathlib.Path, definitions: List[str], name: str) -> bytes:
     """A file of a CP/M disk: what all definitions that fit the disk read, or the reading that looks most like source."""
     contents: Dict[bytes, str] = {}
@@ -195,8 +206,9 @@ def cpm_file(path: pathlib.Path, definitions: List[str], name: str) -> bytes:
         for definition in definitions:
             tool("cpmtools", "cpmcp", "-f", definition, str(path), name, f"{room}/{definition}")
             contents.setdefault(pathlib.Path(room, definition).read_bytes(), definition)
-    likely = sorted(contents, key=lambda content: -guess.likeness(content))
-    if len(likely) > 1 and guess.likeness(likely[0]) < guess.likeness(likely[1]) + 0.1:
+    scores = {content: likeness(content) for content in contents} if len(contents) > 1 else {}
+    likely = sorted(contents, key=lambda content: -scores.get(content, 0))
+    if len(likely) > 1 and scores[likely[0]] < scores[likely[1]] + 0.1:
         raise Wild(f"definitions of cpmtools read it differently; take it with cpmcp -f NAME, where NAME is one of {', '.join(contents.values())}")
     return likely[0]
 
@@ -268,13 +280,20 @@ def of_1541(_: pathlib.Path, data: bytes) -> Optional[Kind]:
     return Kind("a disk of a Commodore 1541 (D64)", f"{FILES}; --format d64 takes its sectors", files)
 
 
+def turned(data: bytes, name: str) -> bytes:
+    """The sectors of a PDP-11's floppy disk in the order in which they are read; none if it is no such disk."""
+    with tempfile.TemporaryDirectory() as room:
+        disk, blocks = pathlib.Path(room, "disk"), pathlib.Path(room, "blocks")
+        disk.write_bytes(data)
+        return blocks.read_bytes() if program(["unpack", str(disk), str(blocks), "--format", name]).status == 0 else b""
+
+
 def of_rt11(_: pathlib.Path, data: bytes) -> Optional[Kind]:
     """A volume of RT-11, by its home block; the floppy disks of a PDP-11 are put into their order first."""
-    for order in (None, *wild.DISKS):
-        try:
-            volume = data if order is None else wild.disk_read(wild.DISKS[order], data)
-        except Wild:
+    for name, pitch in (("", 1), ("rx01", 26 * 128), ("rx02", 26 * 256)):
+        if len(data) % pitch:
             continue
+        volume = turned(data, name) if name else data
         if volume[1008:1016] == b"DECRT11A":
             return Kind("a volume of RT-11", FILES, lambda volume=volume: rt11_files(volume))
     return None

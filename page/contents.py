@@ -11,10 +11,11 @@ ROOT = pathlib.Path(__file__).resolve().parent.parent
 sys.path[:0] = [str(ROOT / "teaching"), str(ROOT / "commands")]
 
 import canvas  # noqa: E402
+import glossary  # noqa: E402
+import judged  # noqa: E402
 import rows as numbers  # noqa: E402
 from served import advice, dialects as dialect_hints, faults as messages, image, paging, structures, table  # noqa: E402
 
-ROW = re.compile(r"^\| `(\S+)` \| `([^`]*)` \| (?:yes)? ?\| (.+) \|$", re.M)
 # Chapters of docs/WORDS.md whose words the page doesn't need: it edits lines and screens itself, and has no host and no files.
 CHAPTERS_LEFT_OUT = (
     "Editing the line", "The screen editor", "Starting", "Text files", "Numbers with their base",
@@ -22,6 +23,7 @@ CHAPTERS_LEFT_OUT = (
 SCREENS, PAGE, WIDTH = 64, 1024, 64
 EXAMPLES = ("kiln", "life", "gold", "sieve")
 KERNEL, COURSE, FIRST = "forth.blk", "course.blk", 20
+TICKS = judged.TICKS  # of one lesson
 
 
 def inline(text: str) -> str:
@@ -124,13 +126,13 @@ def body_of_lesson(body: str) -> str:
     return "".join(pieces).replace("</pre><pre>", "\n")
 
 
-def manual(words: str) -> List[List[str]]:
-    """What docs/WORDS.md says of each word: its name, stack effect, chapter and description."""
+def manual() -> List[List[str]]:
+    """What is said of each word: its name, stack effect, chapter and description."""
     made = {}
-    for part in re.split(r"^### \d+\. ", words, flags=re.M)[1:]:
-        chapter = part.partition("\n")[0].partition(":")[0]
-        if not chapter.startswith(CHAPTERS_LEFT_OUT):
-            made.update({name: [name, effect, chapter, inline(says)] for name, effect, says in ROW.findall(part)})
+    for word in glossary.read():
+        chapter = word.section.partition(". ")[2].partition(":")[0]
+        if word.part != glossary.INNER and not chapter.startswith(CHAPTERS_LEFT_OUT):
+            made[word.name] = [word.name, word.effect, chapter, inline(word.row().split(" | ", 3)[3][:-2])]
     return list(made.values())
 
 
@@ -148,7 +150,7 @@ def of_forth(layout: Dict[str, object], version: str, image: bytes, own: Dict[st
     """What a Forth in a page needs, with a person or without: OWN are texts by their names, beside those that come with the Forth."""
     return {
         "layout": layout, "version": {"text": version, "image": hashlib.sha256(image).hexdigest()}, "rows": rows(), "door": door(),
-        "manual": manual(text_of("docs/WORDS.md")), "system": system(), "disks": {KERNEL: kernel()}, **texts(own),
+        "manual": manual(), "system": system(), "disks": {KERNEL: kernel()}, **texts(own),
     }  # fmt: skip
 
 
@@ -161,7 +163,8 @@ def texts(own: Dict[str, str]) -> Dict[str, object]:
     meant = {"files": files, "names": names, "begins": advice.BEFORE_BLANK, "library": advice.LATER, "later": later}
     helps = [text for where, text in messages.section("help") if where != "terminal"]
     tables = {"ends": structures.ENDS, "closed_by": structures.CLOSED_BY, "parsing": structures.PARSING, "one_word": structures.ONE_WORD, "drops": structures.DROPS}
-    return {"structures": tables, "faults": messages.MESSAGES, "see": dict(messages.section("see")), "help": helps, "advice": meant, "library": {**library(), **own}}
+    sections = {"faults": messages.MESSAGES, "see": dict(messages.section("see")), "textCauses": dict(messages.section("texts"))}
+    return {**sections, "structures": tables, "help": helps, "advice": meant, "library": {**library(), **own}}
 
 
 def library() -> Dict[str, str]:

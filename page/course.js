@@ -8,7 +8,9 @@ import { typeLine } from "./start.js";
 
 // The course's disk; a lesson's checker is so many screens after the pupil's.
 export const COURSE = "course.blk", CHECKERS = 20;
-const TITLE = /^\( Lesson (\d+): (.*?) \)$/, TASK = /^\( (.*?) \)$/;
+const TASK = /^\( (.*?) \)$/;
+// How much of a disk may have lessons, as `./forth83 judge` has it.
+const MOST_OF_DISK = 8000000;
 
 export class Course {
   constructor(page, parts) {
@@ -32,7 +34,7 @@ export class Course {
   list() {
     const { disk } = this.page.session, isOwn = DATA.lessons.every((lesson) => lesson.disk !== disk.name);
     const title = this.lesson && this.lesson.title;
-    this.lessons = [...(isOwn ? lessonsOf(disk) : []), ...DATA.lessons];
+    this.lessons = [...(isOwn ? lessonsOf(this.page.session.machine, disk) : []), ...DATA.lessons];
     this.parts.lesson.replaceChildren(...this.lessons.map((lesson, at) => new Option(lesson.title, at)));
     this.go(Math.max(0, this.lessons.findIndex((lesson) => lesson.title === title)));
   }
@@ -81,7 +83,7 @@ export class Course {
   restore() {
     const { session } = this.page, { disk } = session;
     if (!DATA.disks[disk.name]) return false;
-    const own = builtIn(disk.name), pupils = lessonsOf(own).map((lesson) => lesson.screen), changed = [];
+    const own = builtIn(disk.name), pupils = lessonsOf(session.machine, own).map((lesson) => lesson.screen), changed = [];
     for (let block = 1; block < Math.min(own.count, disk.count); block++) {
       const text = linesOf(own.page(block)).join("\n");
       const isChecker = block < Math.min(...pupils) || (pupils.includes(block - CHECKERS) && !pupils.includes(block));
@@ -121,17 +123,15 @@ export class Course {
   find(title) { this.go(this.lessons.findIndex((lesson) => lesson.title === title)); }
 }
 
-// The lessons that a disk has in its screens: a title `( Lesson 3: the stack )` in line 0, and what to do as comments below it.
-export function lessonsOf(disk) {
-  const found = new Map();
-  for (let screen = 0; screen < disk.count; screen++) {
-    const head = TITLE.exec(disk.title(screen));
-    if (!head || found.has(head[1])) continue;
-    const lines = linesOf(disk.page(screen));
+// The lessons that a disk has in its screens, in the order of their numbers, and what to do: the comments below a title. The library finds them as it
+// judges a pupil who has written nothing.
+export function lessonsOf(machine, disk) {
+  const bytes = disk.bytes.subarray(0, MOST_OF_DISK);
+  return [...machine.judge([DATA.image, new Uint8Array(0), bytes, bytes], 0)].map((lesson) => {
+    const { number, screen } = lesson, lines = linesOf(disk.page(screen)), title = `${number}. ${lesson.title}`;
     const end = lines.findIndex((line, at) => at > 0 && !TASK.test(line)), tasks = lines.slice(1, end < 0 ? lines.length : end);
-    const title = `${head[1]}. ${head[2]}`, rows = tasks.map((line) => `<li>${escapeHtml(TASK.exec(line)[1])}</li>`).join("");
+    const rows = tasks.map((line) => `<li>${escapeHtml(TASK.exec(line)[1])}</li>`).join("");
     const html = `<h2>${escapeHtml(title)}</h2><ul>${rows}</ul><p>Your screen is ${screen}. Write into it, and then choose CHECK.</p>`;
-    found.set(head[1], { number: Number(head[1]), title: `${title} (${disk.name})`, html, disk: disk.name, screen, isOwn: true });
-  }
-  return [...found.values()];
+    return { number, title: `${title} (${disk.name})`, html, disk: disk.name, screen, isOwn: true };
+  });
 }

@@ -3,6 +3,7 @@
 import { encode, fromBase64, isSame } from "./bytes.js";
 import { DATA } from "./data.js";
 import { Disk, linesOf, sumOf } from "./disk.js";
+import { diskOfText } from "./screens.js";
 
 const LESSON = /^\( Lesson \d+: /, VERSION = /forth83 [\w.]+ (?:in a )?page,? (?:un)?proved */;
 // Lines that are typed again for a new Forth: those that begin so.
@@ -13,7 +14,7 @@ const isEmpty = (page) => page.every((byte) => byte === 32 || byte === 0);
 
 // A disk of the page's own, as the page brings it.
 export function builtIn(name) {
-  const { count, text, bytes } = DATA.disks[name], disk = bytes ? new Disk(name, fromBase64(bytes)) : Disk.ofText(name, count, text);
+  const { count, text, bytes } = DATA.disks[name], disk = bytes ? new Disk(name, fromBase64(bytes)) : diskOfText(name, count, text);
   return Object.assign(disk, { base: sumsOf(disk), isFresh: true });
 }
 

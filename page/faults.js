@@ -11,7 +11,8 @@ const readable = (bytes) => new TextDecoder().decode(bytes);
 // Bytes as a text in which nothing moves a cursor.
 export const plain = (bytes) => readable(bytes).replace(SPACES, ".");
 const columns = (bytes) => [...readable(bytes)].length;
-const fill = (text, values) => text.replace(/\{(\w+)\}/g, (_, name) => values[name]);
+// A text with values in the places that have their names.
+export const fill = (text, values) => text.replace(/\{(\w+)\}/g, (_, name) => values[name]);
 
 export function trimmedEnd(bytes) {
   let end = bytes.length;

@@ -2,9 +2,10 @@
 
 import { decode, element, encode } from "./bytes.js";
 import { DATA } from "./data.js";
-import { Disk, isScreens, screensOf } from "./disk.js";
+import { Disk } from "./disk.js";
 import { PAGE_SIZE } from "./machine.js";
 import { by } from "./parts.js";
+import { isScreens, screensOf } from "./screens.js";
 import { sessionOf } from "./work.js";
 
 const IMAGE = "FTH83IMG", SESSION = '{"format":"forth83"', MOST_TEXT = 200000, MOST_LINE = 127, SOURCE = /\.(f|fs|fth|4th|fr)$/i;

@@ -6,7 +6,9 @@ import { decode, encode } from "./bytes.js";
 export const ASKS = { NOTHING: 0, KEY: 1, LINE: 2, READ: 3, WRITE: 4 };
 export const PAGE_SIZE = 1024, MEMORY = 65536, STACK = 256;
 // How many blocks a machine has: those of its disk are answered, and lines of texts are the others.
-const ALL_BLOCKS = 65536, ROOM = 131072, BODY = 2048, REPORT = 16384, SAID = 512, SHORT_ROOM = 3, LONG_REPLY = 22, NOT_READ = 23, REFUSED = "!".charCodeAt(0), SHOWN = "s".charCodeAt(0);
+const ALL_BLOCKS = 65536, ROOM = 131072, BODY = 2048, REPORT = 16384, SAID = 512, TEXT = 4096, SHORT_ROOM = 3, LONG_REPLY = 22, NOT_READ = 23, REFUSED = "!".charCodeAt(0), SHOWN = "s".charCodeAt(0);
+// What is wrong with a text of screens, by the numbers of include/forth83.h; other numbers are that of a byte.
+const TEXT_CAUSES = ["OutOfMemory", "BadEscape", "LongLine", "FullScreen", "BadHeading", "LateHeading", "NamedTwice", "NoScreen"], BAD_BYTE = "BadByte", PERCENT = 37;
 // Cells of the system in the machine's memory.
 export const SYSTEM = { state: 16, base: 18, toIn: 20, blk: 22, tibCount: 24, here: 28, last: 30, context: 32, scr: 38, fault: 40, forth: 42, fence: 54 };
 
@@ -117,6 +119,29 @@ export class Machine {
     return { report, dialect: this.view().getUint16(this.dialect, true) };
   }
 
+  // A screen as text.
+  text(number, page) {
+    const bytes = this.lent(page), text = this.calls.malloc(TEXT);
+    this.must(this.calls.forth83_text(number, ...bytes, text, BigInt(TEXT), this.size), "text");
+    const made = decode(this.bytes(text, this.sized()));
+    for (const at of [bytes[0], text]) this.calls.free(at);
+    return made;
+  }
+
+  // The screens of a text, { block, page }; or { line, cause, byte }, what is wrong with it and where.
+  screens(text) {
+    const lines = text.filter((byte) => byte === 10).length, headings = text.filter((byte, at) => byte === PERCENT && (!at || text[at - 1] === 10)).length;
+    const bytes = this.lent(text), most = headings + Math.ceil(lines / 16) + 1, sizes = [2 * most, PAGE_SIZE * most, 8, 2];
+    const [numbers, pages, line, cause] = sizes.map((size) => this.calls.malloc(size));
+    const status = this.calls.forth83_screens(...bytes, numbers, BigInt(most), pages, BigInt(PAGE_SIZE * most), this.size, line, cause);
+    const count = status ? 0 : this.sized(), blocks = cellsOf(this.bytes(numbers, 2 * count));
+    const read = blocks.map((block, at) => ({ block, page: this.bytes(pages + PAGE_SIZE * at, PAGE_SIZE).slice() }));
+    const number = this.view().getUint16(cause, true), wrong = { line: this.sized(line), cause: TEXT_CAUSES[number] || BAD_BYTE, byte: number & 255 };
+    for (const at of [bytes[0], numbers, pages, line, cause]) this.calls.free(at);
+    if (status !== NOT_READ) this.must(status, "screens");
+    return status ? wrong : read;
+  }
+
   // The name of the format that a file of another system may have.
   guess(container) {
     const bytes = this.lent(container), said = this.calls.malloc(SAID);
@@ -140,6 +165,30 @@ export class Machine {
     if (status === NOT_READ) return { wrong: text };
     this.must(status, "unpack");
     return made;
+  }
+
+  // What the lessons of a course come to, one after the other, by what a pupil wrote: of each its number, screen and title, the mark, the word that it is
+  // about and the text. FILES are an image that has loaded the course's checkers, what is said of faults, and the blocks of the course and of the pupil.
+  *judge(files, ticks) {
+    const lent = files.map((bytes) => this.lent(bytes)), progress = this.calls.malloc(4);
+    let room = SAID, place = this.calls.malloc(room);
+    this.view().setUint32(progress, 0, true);
+    try {
+      for (;;) {
+        const status = this.calls.forth83_judge(...lent.flat(), BigInt(ticks), progress, progress + 2, place, BigInt(room), this.size), size = this.sized();
+        if (status === SHORT_ROOM) {
+          this.calls.free(place);
+          [room, place] = [size, this.calls.malloc(size)];
+          continue;
+        }
+        this.must(status, "judge");
+        if (!size) return;
+        const [number, screen, title, mark, word, text] = decode(this.bytes(place, size - 1)).split("\t");
+        yield { number: Number(number), screen: Number(screen), title, mark, word, text };
+      }
+    } finally {
+      for (const at of [...lent.map(([begins]) => begins), progress, place]) this.calls.free(at);
+    }
   }
 
   // A size that a call has put into its place.

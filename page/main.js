@@ -7,10 +7,12 @@ import { DATA } from "./data.js";
 import { Editor } from "./editor.js";
 import { Film } from "./film.js";
 import { Manual } from "./manual.js";
+import { Machine } from "./machine.js";
 import { MemoryMap } from "./map.js";
 import { OldDisk } from "./olddisk.js";
 import { Page } from "./page.js";
 import { by, parts } from "./parts.js";
+import { useLibrary } from "./screens.js";
 import { Session } from "./session.js";
 import { Start } from "./start.js";
 import { Store } from "./store.js";
@@ -18,6 +20,7 @@ import { Transcript } from "./transcript.js";
 
 async function begin() {
   const { instance } = await WebAssembly.instantiate(DATA.wasm, {}), calls = instance.exports;
+  useLibrary(new Machine(calls, DATA.layout));
   const page = new Page(new Transcript(by("transcript")), await Store.open(DATA.place));
   page.session = new Session(calls, DATA.layout, DATA.image, page);
   page.session.work = page.work;

@@ -48,7 +48,9 @@ class Module(NamedTuple):
 
 
 # The calls that a page makes.
-CALLS = ("forth83_load_3", "forth83_serve", "forth83_survey", "forth83_unpack", "forth83_guess_format")
+CALLS = (
+    "forth83_load_3", "forth83_serve", "forth83_survey", "forth83_text", "forth83_screens", "forth83_unpack", "forth83_guess_format", "forth83_judge",
+)  # fmt: skip
 
 
 def file_of(is_proved: bool) -> pathlib.Path:

@@ -2,10 +2,11 @@
 
 import { element, encode, signed } from "./bytes.js";
 import { DATA } from "./data.js";
-import { COLUMNS, textOf } from "./disk.js";
+import { COLUMNS } from "./disk.js";
 import { makingLines, nameVersion, versionOf } from "./editions.js";
 import { Files } from "./files.js";
 import { wordAt } from "./manual.js";
+import { textOf } from "./screens.js";
 import { ask, by } from "./parts.js";
 import { Work } from "./work.js";
 

@@ -1,6 +1,7 @@
 // Which structure of a definition has no end, by the definition's source, as commands/served/structures.py finds it.
 
 import { DATA } from "./data.js";
+import { fill } from "./faults.js";
 
 // The words of lines, in capitals, each with the name of its line: without comments and texts, and what other words take.
 function* wordsIn(lines) {
@@ -37,7 +38,7 @@ export function unfinished(lines) {
     }
   }
   const last = open.pop();
-  return last ? `: ${last.name} of ${last.line} has no ${ends[last.name]}` : "";
+  return last ? fill(DATA.faults.open, { word: last.name, line: last.line, end: ends[last.name] }) : "";
 }
 
 // The name of the line with the last EXIT that is in a counted loop whose cells stay, as far as the words say it; or undefined.

@@ -23,12 +23,14 @@ STACK = 1 << 20
 
 
 class Target(NamedTuple):
-    """A target: its triple, the options of clang for it, what it is in words, and whether the toolchain compiles a proved library for it."""
+    """A target: its triple, the options of clang for it, what it is in words, whether the toolchain compiles a proved library for it, and whether
+    all but the machine is compiled to few bytes."""
 
     triple: str
     options: Sequence[str]
     what: str
     is_own: bool = False
+    is_small: bool = False
 
 
 TARGETS: Dict[str, Target] = {
@@ -40,7 +42,7 @@ TARGETS: Dict[str, Target] = {
     "cortex-m0": Target("thumbv6m-none-eabi", ["-Os"], "boards with Cortex-M0 and M0+, as the RP2040"),
     "cortex-m3": Target("thumbv7m-none-eabi", ["-Os"], "boards with Cortex-M3 and M4, soft floats"),
     "cortex-m7": Target("thumbv7em-none-eabihf", ["-O2", "-mcpu=cortex-m7"], "boards with Cortex-M7, hard floats"),
-    "wasm32": Target("wasm32-unknown-unknown", ["-O3"], "WebAssembly; lib/forth83.wasm is the linked module"),
+    "wasm32": Target("wasm32-unknown-unknown", ["-O3"], "WebAssembly; lib/forth83.wasm is the linked module", is_small=True),
     "c": Target("", [], "any other processor, as one file of C99, src/forth83.c"),
 }
 
@@ -94,9 +96,10 @@ def own(room: pathlib.Path, name: str) -> pathlib.Path:
 def compile_text(room: pathlib.Path, name: str, text: str, is_proved: bool, made: pathlib.Path) -> None:
     """Rewrites the library's text for the target, and compiles it."""
     target, other = TARGETS[name], room / f"{name}.ll"
+    machine = lowering.below("inner_interpreter", lowering.needs_of_crates()) if target.is_small else None
     try:
         with open(other, "w", encoding="utf-8") as out:
-            retarget.retarget(text.splitlines(), out, lowering.layout_of(target.triple), target.triple, None if is_proved else lowering.PREFIX)
+            retarget.retarget(text.splitlines(), out, lowering.layout_of(target.triple), target.triple, None if is_proved else lowering.PREFIX, machine)
     except retarget.Unknown as error:
         raise Refused(f"targets/retarget.py: {error}") from None
     # The text's name is in what clang makes, so it is the same in every folder.

@@ -16,7 +16,7 @@ processors. With `--exports` the functions whose name is PREFIX and `forth83_..`
 import argparse
 import re
 import sys
-from typing import Iterable, Iterator, List, Optional, TextIO
+from typing import Iterable, Iterator, List, Optional, Sequence, TextIO
 
 NAME = r'[%@](?:"[^"]*"|[\w.$+-]+)'
 INTEGER = r"i\d+"
@@ -189,6 +189,12 @@ def returned(line: str, triple: str) -> str:
     return re.sub(r"^(define (?:noundef )?)(i32 @forth83_)", r"\1signext \2", line) if triple.startswith("riscv64") else line
 
 
+def shortened(line: str, fast: Sequence[str]) -> str:
+    """The first line of a function; one of a crate that is not among FAST is compiled to as few bytes as possible."""
+    found = re.fullmatch(r'(define .*@"?(\w+).*\)) (#\d+ \{)', line)
+    return f"{found[1]} minsize optsize {found[3]}" if found and found[2] not in fast else line
+
+
 def attributes_for(line: str) -> str:
     """A group of attributes without what only x86 or a sanitizer has."""
     words = re.sub(r' "[\w-]+"="[^"]*"| sanitize_\w+', "", line)
@@ -213,8 +219,8 @@ def without_main(lines: Iterable[str], prefix: str) -> Iterator[str]:
             is_left_out = False
 
 
-def rewritten(lines: Iterable[str], layout: str, triple: str) -> Iterator[str]:
-    """The module's lines for the target."""
+def rewritten(lines: Iterable[str], layout: str, triple: str, fast: Optional[Sequence[str]] = None) -> Iterator[str]:
+    """The module's lines for the target. Where FAST names crates, others are compiled to few bytes."""
     width = width_of(layout)
     pointers = Narrowing() if width == 32 else Widening()
     for number, line in enumerate(lines, 1):
@@ -228,15 +234,15 @@ def rewritten(lines: Iterable[str], layout: str, triple: str) -> Iterator[str]:
             for made in pointers.lines_of(line):
                 if not is_known(made, width):
                     raise Unknown(f"line {number} has a form that isn't known: {line.strip()}")
-                yield returned(made, triple)
+                yield returned(made, triple) if fast is None else shortened(made, fast)
 
 
-def retarget(source: Iterable[str], target: TextIO, layout: str, triple: str, prefix: Optional[str]) -> None:
-    """Writes the module of SOURCE for the target."""
+def retarget(source: Iterable[str], target: TextIO, layout: str, triple: str, prefix: Optional[str], fast: Optional[Sequence[str]] = None) -> None:
+    """Writes the module of SOURCE for the target. Where FAST names crates, those are compiled for speed, and others to few bytes."""
     lines: Iterable[str] = (line.rstrip("\n") for line in source)
     if prefix is not None:
         lines = (rename(line, prefix) for line in without_main(lines, prefix))
-    for line in rewritten(lines, layout, triple):
+    for line in rewritten(lines, layout, triple, fast):
         target.write(line + "\n")
     target.write(heap(width_of(layout)))
 

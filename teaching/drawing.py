@@ -183,7 +183,7 @@ def draw_cells(canvas: Canvas, one: regions.Map) -> None:
     canvas.line(", ".join(f"{name} {memory.cell(address)}" for address, name in images.CELLS.items()))
     found = one.at_link_field()
     canvas.line("Vocabularies, and the newest word of each chain", "heading")
-    for name, record, heads in one.vocabularies():
+    for name, record, heads in one.image.vocabularies():
         newest = [texts.shown(found[head].name) if head in found else "none" for head in heads]
         canvas.line(f"{name} at {record}: {', '.join(f'{number} {text}' for number, text in enumerate(newest))}")
 
@@ -220,7 +220,7 @@ def draw_key(canvas: Canvas, heading: str) -> None:
 
 
 def title(one: regions.Map) -> str:
-    return f"{one.name}: an image of version {one.image.version}, {one.image.size} bytes, begins with {listing.entry(one)}"
+    return f"{one.name}: an image of {one.image.size} bytes, begins with {listing.entry(one)}"
 
 
 def draw_own(canvas: Canvas, grids: List[Grid], split: int) -> None:

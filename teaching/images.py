@@ -1,26 +1,24 @@
-"""Images as files, and what their memory has: headers, vocabularies, and where each word ends.
-
-docs/MACHINE.md has the format, the memory map and the headers. Both versions of the format are read, and a file that is none
-is refused by the same causes as `forth83` has.
+"""What is in the memory of an image: headers, vocabularies, and where each word ends. The program reads the file, finds the headers and looks
+names up, as a server (docs/FORMATS.md, "Frames"); docs/MACHINE.md has the memory map.
 """
 import bisect
-from typing import Callable, Dict, Iterator, List, Optional
+import pathlib
+from typing import Dict, Iterator, List, Optional, Tuple
 
 import program
+import texts
 from rows import COLON
+from served import wire
 
-MAGIC = b"FTH83IMG"
 MEMORY = 65536
 PAGE = 1024
 TIB, TIB_END, DICTIONARY = 128, 256, 256
-DP, LAST, CONTEXT, CURRENT, FAULT, FORTH_VOC, VOC_LINK, FENCE = 28, 30, 32, 34, 40, 42, 52, 54
+DP, LAST, FORTH_VOC, VOC_LINK, FENCE = 28, 30, 42, 52, 54
 CELLS = {
     16: "STATE", 18: "BASE", 20: ">IN", 22: "BLK", 24: "#TIB", 26: "SPAN", 28: "DP", 30: "LAST", 32: "CONTEXT",
     34: "CURRENT", 36: "HLD", 38: "SCR", 40: "FAULT", 52: "VOC-LINK", 54: "FENCE",
 }
-MOST_HEADERS = 32768
-
-
+CHAIN_TOO_LONG = 5  # a server's cause
 CAUSES = {
     "BadMagic": "it does not begin like an image; ./forth --image makes one, and so does ./forth83 load",
     "BadVersion": "its version is neither 1 nor 2",
@@ -37,26 +35,14 @@ class BadImage(program.Refusal):
 
     def reason(self) -> str:
         """The cause in words."""
-        return f"{CAUSES[str(self)]} ({self})"
-
-
-class Image:
-    """The contents of an image's file; `memory` is all of memory."""
-
-    def __init__(self, version: int, buffers: int, entry: int, content: bytes) -> None:
-        self.version, self.buffers, self.entry, self.size = version, buffers, entry, len(content)
-        self.memory = Memory(content)
-
-    def limit(self) -> int:
-        """Where the block buffers begin."""
-        return MEMORY - PAGE * self.buffers
+        return f"{CAUSES[str(self)]} ({self})" if str(self) in CAUSES else str(self)
 
 
 class Memory:
     """65,536 bytes; addresses wrap."""
 
     def __init__(self, content: bytes) -> None:
-        self.bytes = bytearray(content) + bytearray(MEMORY - len(content))
+        self.bytes = content
 
     def byte(self, address: int) -> int:
         return self.bytes[address & 0xFFFF]
@@ -67,60 +53,18 @@ class Memory:
     def span(self, address: int, count: int) -> bytes:
         return bytes(self.byte(address + step) for step in range(count))
 
-    def set_cell(self, address: int, value: int) -> None:
-        self.bytes[address & 0xFFFF] = value & 0xFF
-        self.bytes[(address + 1) & 0xFFFF] = value >> 8
-
-
-def field(data: bytes, at: int, is_good: Callable[[int], bool], cause: str) -> int:
-    """The cell at a place of a file. If only a part of it exists, that part decides whether the file ends too soon."""
-    part = data[at:at + 2]
-    if len(part) == 2:
-        value = int.from_bytes(part, "little")
-        if not is_good(value):
-            raise BadImage(cause)
-        return value
-    if part and not any(is_good(part[0] | high << 8) for high in range(256)):
-        raise BadImage(cause)
-    raise BadImage("Truncated")
-
-
-def parse(data: bytes) -> Image:
-    """The image of a file's bytes."""
-    if data[:8] != MAGIC[:len(data[:8])]:
-        raise BadImage("BadMagic")
-    if len(data) < 8:
-        raise BadImage("Truncated")
-    version = field(data, 8, lambda value: value in (1, 2), "BadVersion")
-    at, buffers = 10, 4
-    if version == 2:
-        buffers = field(data, 10, lambda value: 2 <= value <= 16, "BadBuffers")
-        at = 12
-    entry = field(data, at, lambda value: True, "BadSize")
-    limit = MEMORY - PAGE * buffers
-    size = field(data, at + 2, lambda value: 256 <= value <= limit, "BadSize")
-    content = data[at + 4:]
-    if len(content) > size:
-        raise BadImage("TrailingBytes")
-    if len(content) < size:
-        raise BadImage("Truncated")
-    return Image(version, buffers, entry, content)
-
 
 class Header:
     """A word's header, known by the address of its link field."""
 
-    def __init__(self, memory: Memory, link_field: int, vocabulary: int) -> None:
-        count = memory.byte(link_field + 2)
-        self.link_field, self.vocabulary = link_field, vocabulary
-        self.begins = (link_field - 2) & 0xFFFF
-        self.view, self.link = memory.cell(link_field - 2), memory.cell(link_field)
-        self.is_immediate, self.is_hidden = bool(count & 64), bool(count & 32)
-        self.name = memory.span(link_field + 3, count & 31)
-        self.code_field = (link_field + 3 + len(self.name)) & 0xFFFF
-        self.body = (self.code_field + 2) & 0xFFFF
-        self.code = memory.cell(self.code_field)
-        self.end = None
+    def __init__(self, memory: Memory, word: wire.Header) -> None:
+        self.name, self.view, self.code = word.name, word.view, word.code
+        self.is_immediate, self.is_hidden = word.is_immediate, word.is_hidden
+        self.code_field = word.token
+        self.link_field = (word.token - len(word.name) - 3) & 0xFFFF
+        self.begins, self.body = (self.link_field - 2) & 0xFFFF, (word.token + 2) & 0xFFFF
+        self.link = memory.cell(self.link_field)
+        self.end = 0
 
     def is_colon(self) -> bool:
         return self.code == COLON
@@ -130,44 +74,49 @@ class Header:
         return self.name[0] & 3 if self.name else 0
 
 
-def chain(memory: Memory, head: int) -> Iterator[int]:
-    """The link fields of a chain, the newest first."""
-    at, count = memory.cell(head), 0
-    while at and count < MOST_HEADERS:
-        yield at
-        at, count = memory.cell(at), count + 1
-    if at:
-        raise BadImage("ChainTooLong")
+class Image:
+    """An image that a server has loaded and does not run: its size as a file, its memory, its headers by their addresses, its vocabularies."""
 
-
-def records(memory: Memory) -> List[int]:
-    """The records of the vocabularies, the newest first."""
-    found, at = [], memory.cell(VOC_LINK)
-    while at:
-        if at in found or len(found) > MOST_HEADERS:
-            raise BadImage("ChainTooLong")
-        found.append(at)
-        at = memory.cell(at + 8)
-    return found
-
-
-class Dictionary:
-    """All headers of an image, by their addresses, and the vocabularies."""
-
-    def __init__(self, memory: Memory) -> None:
-        self.memory, self.records = memory, records(memory)
-        found = {}
-        for record in self.records:
-            for number in range(4):
-                for link_field in chain(memory, record + 2 * number):
-                    found.setdefault(link_field, Header(memory, link_field, record))
-        self.headers = [found[link_field] for link_field in sorted(found)]
-        self.by_code_field = {}
+    def __init__(self, forth83: program.Program, path: pathlib.Path) -> None:
+        self.size = path.stat().st_size
+        self._server = wire.Wire([str(forth83.path), "serve", "--", str(path)], lambda _: None)
+        state = self._server.state()
+        self.buffers, self.entry = len(state.buffers), state.pending or 0
+        self.memory = Memory(self._server.memory(0, MEMORY))
+        self.headers = sorted(self._listed(), key=lambda header: header.link_field)
+        self.by_code_field: Dict[int, Header] = {}
         for header in self.headers:
             self.by_code_field.setdefault(header.code_field, header)
-        self.set_ends()
+        self._set_ends()
 
-    def set_ends(self) -> None:
+    def __enter__(self) -> "Image":
+        return self
+
+    def __exit__(self, *_: object) -> None:
+        self._server.close()
+
+    def limit(self) -> int:
+        """Where the block buffers begin."""
+        return MEMORY - PAGE * self.buffers
+
+    def used(self) -> int:
+        """Where the bytes that are not 0 end, below the block buffers."""
+        return len(self.memory.bytes[:self.limit()].rstrip(b"\0"))
+
+    def _listed(self) -> Iterator[Header]:
+        try:
+            yield from (Header(self.memory, word) for word in self._server.headers())
+        except wire.Refused as why:
+            raise BadImage("ChainTooLong" if why.cause == CHAIN_TOO_LONG else "it has too many words to list") from why
+
+    def _records(self) -> Iterator[int]:
+        """The records of the vocabularies, the newest first. They end, since the server has listed their words."""
+        at = self.memory.cell(VOC_LINK)
+        while at:
+            yield at
+            at = self.memory.cell(at + 8)
+
+    def _set_ends(self) -> None:
         """A word ends where the next header begins, or at HERE."""
         beginnings = sorted(header.begins for header in self.headers)
         for header in self.headers:
@@ -176,28 +125,36 @@ class Dictionary:
 
     def owners(self) -> Dict[int, Header]:
         """The colon word in whose thread each address lies."""
-        found = {}
+        found: Dict[int, Header] = {}
         for header in filter(Header.is_colon, self.headers):
             found.update((address, header) for address in range(header.body, header.end))
         return found
 
     def find(self, name: bytes) -> Optional[Header]:
-        """The header that a search of the name finds: in the vocabulary of CONTEXT, then in FORTH."""
-        if not name or len(name) > 31:
+        """The header that the machine's own search of the name comes to."""
+        try:
+            return self.by_code_field.get(self._server.token(name))
+        except wire.Refused:
             return None
-        for record in (self.memory.cell(CONTEXT), FORTH_VOC):
-            for link_field in chain(self.memory, record + 2 * (name[0] & 3)):
-                header = Header(self.memory, link_field, record)
-                if header.name == name and not header.is_hidden:
-                    return self.by_code_field.get(header.code_field)
-        return None
 
     def name_of(self, code_field: int) -> bytes:
         """The name that a token has in a trace."""
         header = self.by_code_field.get(code_field)
         return header.name if header else b"?"
 
-    def vocabulary_name(self, record: int) -> bytes:
-        if record == FORTH_VOC:
-            return b"FORTH"
-        return self.name_of((record - 2) & 0xFFFF)
+    def _vocabulary_name(self, record: int) -> bytes:
+        return b"FORTH" if record == FORTH_VOC else self.name_of((record - 2) & 0xFFFF)
+
+    def vocabularies(self) -> List[Tuple[str, int, List[int]]]:
+        """Each vocabulary's name, record, and the link field that begins each of its four chains."""
+        return [(texts.shown(self._vocabulary_name(record)), record, [self.memory.cell(record + 2 * number) for number in range(4)])
+                for record in self._records()]
+
+
+def opened(forth83: program.Program, path: pathlib.Path) -> Image:
+    """The image of a file, which must be one and be readable."""
+    with path.open("rb"):  # says why, if it cannot be read
+        said = program.said_by(forth83.run(["view", "--", str(path), "-"]))
+    if said.startswith("image: "):
+        raise BadImage(said.partition(": ")[2])
+    return Image(forth83, path)

@@ -15,14 +15,14 @@ def bar(size: int, most: int) -> str:
 
 def outline(one: regions.Map) -> Iterator[str]:
     image = one.image
-    yield f"{one.name}: version {image.version}, {image.size} bytes, {image.buffers} block buffers, begins with {entry(one)}"
+    yield f"{one.name}: {image.size} bytes, {image.buffers} block buffers, begins with {entry(one)}"
     yield ""
     for begins, end, _, text in one.outline():
         yield f"{begins:6}  {end - begins:6}  {text:28} {bar(end - begins, images.MEMORY)}"
 
 
 def entry(one: regions.Map) -> str:
-    return texts.shown(one.dictionary.name_of(one.image.entry))
+    return texts.shown(one.image.name_of(one.image.entry))
 
 
 def cells(one: regions.Map) -> Iterator[str]:
@@ -36,7 +36,7 @@ def vocabularies(one: regions.Map) -> Iterator[str]:
     found = one.at_link_field()
     yield ""
     yield "vocabularies, and the newest word of each of their four chains"
-    for name, record, heads in one.vocabularies():
+    for name, record, heads in one.image.vocabularies():
         newest = [texts.shown(found[head].name) if head in found else "-" for head in heads]
         yield f"{record:6}  {name:9} {'  '.join(newest)}"
 

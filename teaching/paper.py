@@ -3,7 +3,7 @@ import base64
 import hashlib
 import pathlib
 from html import escape
-from typing import Iterator, List, Set, Tuple
+from typing import Iterator, List, Tuple
 
 import screens
 from references import References
@@ -16,9 +16,6 @@ WHO = '<p class="who">Name<span></span>Date<span></span></p>'
 
 def figure(read: screens.Screens, number: int) -> str:
     """A screen with its number and its lines."""
-    if number in read.refused:
-        note = f"<p>This screen isn't printed: it has bytes that are no text ({escape(read.refused[number])}).</p>"
-        return f"<figure><figcaption>Screen {number}</figcaption>{note}</figure>"
     lines = read.lines.get(number, []) + [""] * screens.LINES
     text = "\n".join(f"{at:2} {line}".rstrip() for at, line in enumerate(lines[:screens.LINES]))
     return f"<figure><figcaption>Screen {number}</figcaption><pre>{escape(text)}</pre></figure>"
@@ -41,7 +38,7 @@ def pages(read: screens.Screens, numbers: List[int], shadow: int, name: str) -> 
 
 
 def first_line(read: screens.Screens, number: int) -> str:
-    return read.lines[number][0] if read.lines.get(number) else ("no text" if number in read.refused else "")
+    return read.lines[number][0] if read.lines.get(number) else ""
 
 
 def index(read: screens.Screens, numbers: List[int]) -> str:
@@ -77,15 +74,10 @@ def columns(head: str, rows: str) -> str:
     return f'<div class="{kind}"><table>{head}<tbody>{rows}</tbody></table></div>'
 
 
-def missing(references: References, known: Set[str]) -> str:
-    found = references.missing(known)
-    if not found:
-        return ""
-    rows = "".join(f"<tr><td>{escape(name)}</td><td>{short_places(found[name])}</td></tr>" for name in sorted(found))
-    note = ("<p>Neither defined in these screens nor words of this Forth, or no words at all, such as what a word like TEXT reads "
-            "after it.</p>")
-    head = "<thead><tr><th>word</th><th>used</th></tr></thead>"
-    return f"<section><h2>Words that aren't known</h2>{note}{columns(head, rows)}</section>"
+def missing(unknown: str) -> str:
+    """What a survey says of unknown words, if it does."""
+    note = "<p>Neither defined in these screens nor words of this Forth, as <code>./forth survey</code> lists them.</p>"
+    return f"<section><h2>Words that aren't known</h2>{note}<pre>{escape(unknown)}</pre></section>" if unknown else ""
 
 
 def document(name: str, parts: List[str], is_wide: bool) -> str:

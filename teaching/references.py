@@ -4,8 +4,7 @@ A comment goes up to its `)`, a text up to its quote, `\\` to the end of its lin
 begin these are names like others. A word defines the next one where it is `:`, one of the Forth's defining words outside a
 definition, or a word of these screens whose definition uses such a word.
 """
-import re
-from typing import Dict, Iterator, List, Set, Tuple
+from typing import Iterator, List, Tuple
 
 import screens
 
@@ -46,10 +45,6 @@ def passed(text: str, word: str, at: int, line: int) -> int:
         return at
     closed = text.find(ENDS[word.upper()], at)
     return len(text) if closed < 0 else closed + 1
-
-
-def is_number(word: str, has_hex: bool) -> bool:
-    return bool(re.fullmatch(r"-?[0-9][0-9A-Z]*\.?", word) or has_hex and re.fullmatch(r"-?[0-9A-F]+\.?", word))
 
 
 class References:
@@ -98,10 +93,3 @@ class References:
             places += [place for word, found in self.used.items() if word != name and word.upper() == name for place in found
                        if word not in self.defined]
         return sorted(set(places))
-
-    def missing(self, known: Set[str]) -> Dict[str, List[Tuple[int, int]]]:
-        """Words that are used, and are defined neither here nor among the known ones, with their places."""
-        names = {name.upper() for name in self.defined} | {name.upper() for name in known}
-        has_hex = any(word.upper() == "HEX" for word in self.used)
-        return {word: sorted(set(places)) for word, places in self.used.items()
-                if word.upper() not in names and not is_number(word.upper(), has_hex)}

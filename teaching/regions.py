@@ -3,7 +3,6 @@ from typing import Dict, List, Optional, Tuple
 
 import images
 import rows
-import texts
 
 KINDS = {rows.COLON: "thread", rows.VARIABLE: "data", rows.CONSTANT: "data", rows.VOCABULARY: "record"}
 WHAT = {rows.COLON: "colon word", rows.VARIABLE: "variable", rows.CONSTANT: "constant", rows.VOCABULARY: "vocabulary"}
@@ -23,10 +22,10 @@ class Map:
     """An image with its dictionary, and the regions of its memory."""
 
     def __init__(self, name: str, image: images.Image) -> None:
-        self.name, self.image, self.dictionary = name, image, images.Dictionary(image.memory)
+        self.name, self.image = name, image
         self.here, self.limit = image.memory.cell(images.DP), image.limit()
-        self.top = max(image.size, min(self.here, self.limit))
-        self.words = [header for header in self.dictionary.headers if images.DICTIONARY <= header.begins < self.limit]
+        self.top = max(image.used(), min(self.here, self.limit))
+        self.words = [header for header in image.headers if images.DICTIONARY <= header.begins < self.limit]
 
     def outline(self) -> List[Tuple[int, int, str, str]]:
         """All of memory in a few regions, each with a description."""
@@ -50,14 +49,8 @@ class Map:
             found.append(Region(at, self.top, "other"))
         return [region for region in found if region.size() > 0]
 
-    def vocabularies(self) -> List[Tuple[str, int, List[int]]]:
-        """Each vocabulary's name, record, and the link field that begins each of its four chains."""
-        memory = self.image.memory
-        return [(texts.shown(self.dictionary.vocabulary_name(record)), record,
-                 [memory.cell(record + 2 * number) for number in range(4)]) for record in self.dictionary.records]
-
     def at_link_field(self) -> Dict[int, images.Header]:
-        return {header.link_field: header for header in self.dictionary.headers}
+        return {header.link_field: header for header in self.image.headers}
 
 
 def parts_of(header: images.Header) -> List[Region]:

@@ -1,4 +1,4 @@
-"""The numbers of the primitives that films and maps know. tools/kernel-tables writes this file from docs/primitives.txt."""
+"""The numbers of the primitives that films and maps know. tools/make-words writes this file from docs/primitives.txt."""
 
 COLON = 1  # colon
 VARIABLE = 2  # variable

@@ -1,4 +1,5 @@
-"""Containers of other systems as cases of tools/container_cases.txt, over the terminal's `import` and `export`, the C library and the page."""
+"""Containers of other systems as cases of tools/container_cases.txt, over the terminal's `import` and `export`, the program's `unpack` and `pack`,
+the C library and the page."""
 from __future__ import annotations
 
 import ast
@@ -104,17 +105,17 @@ def try_library(calls: Any, must: Callable[[object, str], None]) -> int:
     return count
 
 
-def at_terminal(folder: Any, case: Case) -> str:
-    """What `import` or `export` makes."""
+def at_terminal(folder: Any, case: Case, reads: str, writes: str) -> str:
+    """What `import` or `export` makes, or another subcommand that reads or writes."""
     room = pathlib.Path(folder.room)
     (room / "case.blk").unlink(missing_ok=True)
     (room / "case.dsk").write_bytes(case.data)
     if case.call in ("writes", "unwritten"):
         (room / "case.blk").write_bytes(case.second)
-        said = folder.run(["./forth83", "export", "case.blk", "case.dsk", *case.options.split()])
+        said = folder.run(["./forth83", writes, "case.blk", "case.dsk", *case.options.split()])
         data = (room / "case.dsk").read_bytes()
         return summed(data) if case.call == "writes" or data != case.data else f"refused: {said}"
-    said = folder.run(["./forth83", "import", "case.dsk", "case.blk", *case.options.split()])
+    said = folder.run(["./forth83", reads, "case.dsk", "case.blk", *case.options.split()])
     if not (room / "case.blk").is_file():
         return f"refused: {said}"
     blocks = (room / "case.blk").read_bytes()
@@ -126,10 +127,13 @@ def at_terminal(folder: Any, case: Case) -> str:
 def try_terminal(folder: Any, expect: Expect) -> None:
     """All cases that a terminal has, over the launcher."""
     for case in cases():
-        if case.call in ("reads", "writes"):
-            expect(f"{case.call} {case.options} {case.recipe[:80]}", case.wanted, at_terminal(folder, case))
-        elif case.call in ("refused", "unwritten"):
-            expect(f"{case.options} {case.recipe[:80]}: refused", "refused", at_terminal(folder, case)[:7])
+        for reads, writes in (("import", "export"), ("unpack", "pack")):
+            if case.call in ("reads", "writes"):
+                expect(f"{reads}: {case.call} {case.options} {case.recipe[:80]}", case.wanted, at_terminal(folder, case, reads, writes))
+            elif case.call in ("refused", "unwritten"):
+                got = at_terminal(folder, case, reads, writes)
+                is_said = reads == "import" or "--width" in case.options or "--format tape" in case.options or case.wanted in got
+                expect(f"{reads}: {case.options} {case.recipe[:80]}: {got}", ("refused", True), (got[:7], is_said))
 
 
 def try_page(asks: Callable[[str, bytes], Tuple[int, bytes, str]], must: Callable[[object, str], None]) -> int:

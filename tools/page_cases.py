@@ -46,14 +46,6 @@ made
 FIRST = ('<h2>1. First <code>lines</code></h2><p>Text with <strong>weight</strong> and a link.</p><div class="typing">'
          '<button type="button" data-line="3 4 + .">3 4 + .</button><pre>7  ok</pre>'
          '<button type="button" data-film="5 SQUARES">▶ the steps of 5 SQUARES</button></div>')
-WORDS = """### 1. The data stack
-
-| `DUP` | `( x -- x x )` |  | Copies the `top`. |
-
-### 19. Editing the line that you type
-
-| `EXPECT` | `( a n -- )` |  | A line. |
-"""
 
 
 def check_contents(cases: Tally) -> None:
@@ -63,8 +55,9 @@ def check_contents(cases: Tally) -> None:
     helped = contents.lessons(LESSONS, contents.hints("% lesson 1\n+: a < b\n.: last\n% lesson 2\nno\n"))[0]["html"]
     wanted = FIRST + "<details><summary>Hints</summary><ul><li>+: a &lt; b</li><li>.: last</li></ul></details>"
     cases.must(helped == wanted, f"a lesson with hints: {helped}")
-    words = contents.manual(WORDS)
-    cases.must(words == [["DUP", "( x -- x x )", "The data stack", "Copies the <code>top</code>."]], f"the manual: {words}")
+    words = {word[0]: word[1:] for word in contents.manual()}
+    wanted = ["( x -- x x )", "The data stack", "Copies the top. Example: <code>3 DUP . .</code> shows <code>3 3</code>."]
+    cases.must(words["DUP"] == wanted and "HISTORY" not in words, f"the manual: {words['DUP']}")
     block = "% AT".ljust(64) + " " * 64 + "B".ljust(896)
     cases.must(contents.disk_of_blocks((" " * 1024 + block).encode()) == {"count": 2, "text": "% screen 1\n%% AT\n\nB\n"}, "a disk of text")
     cases.must(contents.disk_of_blocks(bytes(1024)) == {"bytes": "A" * 1366 + "=="}, "a disk of zeros")
@@ -107,13 +100,11 @@ def check_assembly(cases: Tally) -> None:
 
 # Node runs the modules that need no browser.
 NODE = """
-import { linesOf, pageOf, replaced, screensOf, textOf, search, Disk } from "./disk.js";
+import { linesOf, pageOf, replaced, search, Disk } from "./disk.js";
 import { Terminal } from "./terminal.js";
-const found = [];
-const disk = Disk.ofText("d", 2, "% screen 1\\n( T )\\n%~~C3~A4~7E\\n%%x\\n");
-found.push(linesOf(disk.page(1)).slice(0, 3), textOf(disk));
-found.push(pageOf(["x".repeat(65)]).wrong, pageOf(Array(17).fill("y")).wrong, screensOf("x\\n").wrong, screensOf("% screen 70000\\n").wrong,
-  screensOf("% screen 1\\n%~~A\\n").wrong);
+const found = [], disk = Disk.blank("d", 2);
+disk.put(1, pageOf(["( T )", "\u00e4~", "%x"]).page);
+found.push(linesOf(disk.page(1)).slice(0, 3), pageOf(["x".repeat(65)]).wrong, pageOf(Array(17).fill("y")).wrong);
 found.push([...search(2, (block) => linesOf(disk.page(block)), { text: "t )" })]);
 const words = pageOf(["DUP dup ?DUP", `dup ${"x".repeat(60)}`, "DUP"]).page;
 for (const isWhole of [true, false]) {
@@ -127,10 +118,8 @@ terminal.take(";1HC\\n\\x1b[KD\\x1b[10CE");
 found.push(terminal.text());
 console.log(JSON.stringify(found));
 """
-TOLD = [["( T )", "\u00e4~", "%x"], "% screen 0\n% screen 1\n( T )\n%~~C3~A4~7E\n%%x\n", "line 0 has 65 characters; 64 fit",
-        "a screen has 16 lines, and this one has 17", "line 1 of the file is no line of a screen: x",
-        "line 1 of the file: screens have numbers from 0 to 65535",
-        "line 2 of the file has a ~ without two digits, 0 to 9 and A to F", [{"block": 1, "line": 0, "columns": [2], "text": "( T )"}],
+TOLD = [["( T )", "\u00e4~", "%x"], "line 0 has 65 characters; 64 fit", "a screen has 16 lines, and this one has 17",
+        [{"block": 1, "line": 0, "columns": [2], "text": "( T )"}],
         [["OVER OVER ?DUP", "dup " + "x" * 60, "OVER"], 3, [1]], [["OVER OVER ?OVER", "dup " + "x" * 60, "OVER"], 4, [1]], [[1, 0, [0, 4]], [0, 0, [0]]],
         "C\nD          E\n"]
 

@@ -6,6 +6,7 @@ import subprocess
 from typing import Tuple
 
 import container_cases
+import text_cases
 from page_trials import Trial
 from typed_sessions import image
 
@@ -24,6 +25,28 @@ def check_formats(trial: Trial) -> int:
 
     trial.open()
     return container_cases.try_page(asks, trial.must)
+
+
+TEXT_IN_PAGE = """(() => {
+  const text = fromBase64(%s), read = page.session.machine.screens(text);
+  return read.cause ? [read.line, read.cause === "BadByte" ? `BadByte ${read.byte}` : read.cause] : read.map(({ block, page: bytes }) => [block, toBase64(bytes)]);
+})()"""
+
+
+def check_texts(trial: Trial, program: str) -> int:
+    """The cases of text_cases.txt, and random texts as the program reads them, in the page: how many cases there are."""
+    def reads(text: bytes) -> str:
+        made = trial.value(TEXT_IN_PAGE % json.dumps(base64.b64encode(text).decode()))
+        if made and isinstance(made[0], int):
+            return f"line {made[0]} {made[1]}"
+        return text_cases.answer_of({number: base64.b64decode(page) for number, page in made})
+
+    count = text_cases.try_cases("the page", reads, trial.must)
+    text_cases.try_alike(list(text_cases.random_texts(500, 2)), reads, text_cases.by_program(program), trial.must)
+    written = "screensOf(textOf(page.session.disk)).screens.every(({ block, page: bytes }) => isSame(bytes, page.session.disk.page(block)))"
+    trial.must(trial.value(written), "the text of the page's disk is another disk")
+    trial.must(trial.value("linesOf(screensOf('% screen 1\\nÄ ~\\n').screens[0].page)[0]") == "Ä ~", "a letter of another alphabet in a text")
+    return count
 
 
 def dropped(trial: Trial, name: str, content: bytes) -> None:
@@ -93,8 +116,8 @@ def check_advice(trial: Trial, program: pathlib.Path, room: pathlib.Path) -> Non
 
 
 def check(trial: Trial, program: pathlib.Path, room: pathlib.Path) -> int:
-    """All of it: how many containers were compared."""
-    count = check_formats(trial)
+    """All of it: how many containers and texts were compared."""
+    count = check_formats(trial) + check_texts(trial, str(program))
     check_guesses(trial)
     check_advice(trial, program, room)
     return count

@@ -40,7 +40,7 @@ def frame(trial: Trial, text: str, at: int = 0) -> None:
 
 
 def blocks(trial: Trial, name: str, text: str) -> None:
-    trial.file(name, f"Disk.ofText('d', 64, {json.dumps(text)}).bytes")
+    trial.file(name, f"diskOfText('d', 64, {json.dumps(text)}).bytes")
 
 
 def screen(trial: Trial, number: int) -> str:
@@ -75,7 +75,7 @@ def other_disks(trial: Trial) -> None:
     blocks(trial, "mine.blk", "% screen 5\n( an old copy )\n")
     trial.must(screen(trial, 5) == "( more work )" and "There is a disk mine.blk" in trial.value("asked[0]"), "a file with the name of a disk")
     trial.answers("Keep both", "Keep both")
-    one = "new File([Disk.ofText('d', 64, '%% screen 5\\n( %s )\\n').bytes], 'mine.blk')"
+    one = "new File([diskOfText('d', 64, '%% screen 5\\n( %s )\\n').bytes], 'mine.blk')"
     trial.value(f"page.files.openAll([{one % 'one'}, {one % 'two'}])")
     trial.must({"mine 3.blk", "mine 4.blk"} <= set(trial.value("page.work.names")), f"two files at once: {trial.value('page.work.names')}")
 
@@ -176,13 +176,13 @@ def big_disk(trial: Trial) -> None:
 
 # What a page of version 2.0.0 kept: a state with one disk, and other disks under their names. Its Forth has its tools in it.
 OF_2_0_0 = """(async () => {
-  const kept = %s, { work } = page, disk = Disk.ofText("course.blk", 64, DATA.disks["course.blk"].text);
+  const kept = %s, { work } = page, disk = diskOfText("course.blk", 64, DATA.disks["course.blk"].text);
   const store = (name, value) => work.store.ask("readwrite", (all) => all.put(value, name));
   disk.put(22, pageOf(["( Lesson 2: words of your own )", ": MINUTES 60 * ;"]).page);
   disk.put(44, pageOf(["( an older checker )"]).page);
   const record = inflate(fromBase64(kept.record), DATA.layout.size - 4), when = Date.now();
   await store("forth/session/", { ...kept, name: "course.blk", disk: disk.bytes, record, outer: null, program: "", history: ["MYWORD"], when });
-  await store("forth/disk/old.blk", Disk.ofText("old.blk", 8, "%% screen 3\\n( old )\\n").bytes);
+  await store("forth/disk/old.blk", diskOfText("old.blk", 8, "%% screen 3\\n( old )\\n").bytes);
   work.isOurs = false;
   await work.store.ask("readwrite", (all) => all.delete(IDBKeyRange.bound("forth/work/", "forth/work/z")));
   await work.store.ask("readwrite", (all) => all.delete("forth/work/"));
@@ -305,7 +305,7 @@ def order_of(trial: Trial) -> str:
 
 def arranged_screens(trial: Trial) -> None:
     """Screens are put in and moved; changes and drafts go with them, and Undo brings back each order."""
-    trial.file("order.blk", "Disk.ofText('d', 8, 'ABCDE'.split('').map((one, at) => `% screen ${at}\\n${one}\\n`).join('')).bytes")
+    trial.file("order.blk", "diskOfText('d', 8, 'ABCDE'.split('').map((one, at) => `% screen ${at}\\n${one}\\n`).join('')).bytes")
     trial.type("3 SCR ! 1 PUT ( of D )")
     trial.value("page.tab('screens'), page.editor.go(2), 0")
     frame(trial, "C\n" + "x" * 70)

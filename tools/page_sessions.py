@@ -25,7 +25,7 @@ class Session:
         made = re.fullmatch(r"\./(?:forth blocks|forth83 screens) ((?:examples|screens)/\S+) (\S+)", line)
         if made:
             text, count = (ROOT / made[1]).read_text(encoding="ascii"), 64 if line.startswith("./forth blocks") else 128
-            disk = f"Disk.ofText({json.dumps(made[2])}, {count}, {json.dumps(text)})"
+            disk = f"diskOfText({json.dumps(made[2])}, {count}, {json.dumps(text)})"
             self.trial.answers("Replace")
             self.trial.value(f"window.in = false; page.work.insert({json.dumps(made[2])}, {disk}.bytes).then(() => (window.in = true)); 0")
             self.trial.wait("window.in")

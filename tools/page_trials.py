@@ -8,7 +8,7 @@ import time
 from typing import Any, List, Optional
 
 import browser as browsers
-import course_answers
+import class_cases
 import session_cases
 from tally import Tally
 
@@ -599,12 +599,12 @@ def film(trial: Trial) -> None:
 
 
 def class_list(trial: Trial) -> None:
-    """A class list: the course's solutions are right, and files with trouble are what they are."""
+    """A class list as a teacher sees it: its rows, what a sign says, and the list as CSV; and changed checkers of a pupil's disk."""
     root = pathlib.Path(__file__).resolve().parent.parent
     solved = json.dumps((root / "screens/course/solutions.txt").read_text(encoding="ascii"))
     course = "builtIn('course.blk')"
     trial.value(f"window.solved = {course}; for (const one of screensOf({solved}).screens) solved.put(one.block, one.page); "
-                f"window.looping = {course}; looping.put(21, pageOf([': L BEGIN AGAIN ; L']).page); looping.put(22, pageOf(['KEY']).page); "
+                f"window.looping = {course}; looping.put(21, pageOf([': L BEGIN AGAIN ; L']).page); looping.put(22, pageOf([': L R> 2- >R ; : M L ; M']).page); "
                 "looping.put(23, pageOf([': CUBE DUP * ;', ': TWIST SWAP ROT ;', ': SUMSQ DUP * SWAP DUP * + ;']).page); "
                 f"window.checked = false; page.classList.check([new File([solved.bytes], 'ada.blk'), new File([{course}.bytes], 'bob.blk'), "
                 "new File([looping.bytes], 'eve.blk'), new File(['x'], 'odd.txt')]).then(() => (window.checked = true)); 0")
@@ -620,52 +620,32 @@ def class_list(trial: Trial) -> None:
                f"a sign that is chosen: {trial.text('class-message')!r}")
     trial.must("3 3 CUBE leaves 9 but 27 is wanted." in trial.value("page.classList.csv().split('\\r\\n')[3]"), "the messages as CSV")
     trial.must(trial.value("page.classList.csv().split('\\r\\n')[3]").startswith('"eve.blk","endless L","endless","wrong CUBE","empty"'), "the list as CSV")
-    cheats(trial)
+    changed_checkers(trial)
 
 
-# What the class list says of a pupil's screen of a lesson, as a text of screens.
-JUDGED = """(async () => { const disk = builtIn("course.blk"); for (const one of screensOf(%s).screens) disk.put(one.block, one.page);
-  const { mark, text } = await page.classList.lesson(page.classList.taught.find(({ number }) => number === %d), disk.bytes); return [mark, text] })()"""
+# What the class list says of a pupil's file, as the cells of its row; and how long the window had no turn meanwhile, in milliseconds.
+JUDGED = """(async () => { let last = performance.now(), longest = 0;
+  const timer = setInterval(() => { const now = performance.now(); longest = Math.max(longest, now - last); last = now; }, 1);
+  const { results = [] } = await page.classList.judged(fromBase64(%s));
+  clearInterval(timer);
+  return [results.map(({ mark, word, text }) => [`${mark} ${word}`.trim(), text]), longest]; })()"""
+MOST_MILLISECONDS = 4000  # without proofs, on a machine that does other work, too; a proved page needs some 100
 
 
 def class_answers(trial: Trial) -> None:
-    """The class list judges all answers of tools/course_answers.txt rightly, and each wrong one with a sentence; so do screens that leave."""
-    solved = course_answers.solutions()
-    for answer in course_answers.answers():
-        mark, text = trial.value(JUDGED % (json.dumps(course_answers.screen(answer, solved)), answer.lesson))
-        trial.must((mark == "right") == answer.is_right and text, f"lesson {answer.lesson}, {answer.title}: {mark}, {text!r}")
-    for line in ("BYE", "QUIT", "ABORT"):
-        mark, text = trial.value(JUDGED % (json.dumps(f"% screen 22\n{line}\n"), 2))
-        trial.must(mark == "wrong" and "leaves the Forth" in text, f"a screen with {line}: {mark}, {text!r}")
+    """The class list says of each file of tools/class_cases.txt, and of each answer of tools/course_answers.txt, what the terminal says, and of
+    each lesson that is not right why; and the window has its turn."""
+    def row(pupil: class_cases.Pupil) -> List[str]:
+        results, longest = trial.value(JUDGED % json.dumps(base64.b64encode(pupil.data).decode()))
+        trial.must(all(text for _, text in results), f"{pupil.name}: a lesson without a sentence: {results}")
+        trial.must(longest < MOST_MILLISECONDS, f"{pupil.name}: the window has no turn for {longest:.0f} milliseconds")
+        return [cell for cell, _ in results]
+
+    class_cases.try_rows(base64.b64decode(trial.value("toBase64(builtIn('course.blk').bytes)")), row, trial.must)
 
 
-# Screens of pupils who want to deceive a checker: of each its lesson, and what is in the screen. None of them has the words that are asked for.
-CHEATS = {
-    "says so": (3, ['CR .( Lesson 3 is right. Lesson 4 is next.) QUIT']),
-    "other words for trials": (3, [": CUBE ; : TWIST ; : SUMSQ ;", ': T{ ; : -> ; : }T ; : NEEDS BL WORD DROP ; : ALL-RIGHT', '  CR ." Lesson 3 is right." ;']),
-    "a blank checker": (3, ["43 BLOCK 1024 32 FILL UPDATE", ": CUBE ; : TWIST ; : SUMSQ ;", "CR .( Lesson 3 is right.)"]),
-    "no trial is wrong": (3, [": CUBE ; : TWIST ; : SUMSQ ;", ": FAIL ; ' FAIL ' CUBE DROP DROP", ": }T SCLEAR ;"]),
-    "another ALL-RIGHT at once": (2, [": MINUTES ; : FAHRENHEIT ; : BORDER ;", ": NEEDS CR .\" Lesson 2 is right.\" QUIT ;"]),
-    "an end before the trials": (1, ["CR .( Lesson 1 is right.) QUIT"]),
-}
-
-
-def cheats(trial: Trial) -> None:
-    """No screen that deceives the Forth's checker is right in a class list; and changed checkers of a pupil's disk aren't used."""
-    course = "builtIn('course.blk')"
-    for what, (lesson, lines_) in CHEATS.items():
-        trial.value(f"window.tricky = {course}; tricky.put({20 + lesson}, pageOf({json.dumps(lines_)}).page); window.checked = false; "
-                    "page.classList.check([new File([tricky.bytes], 'x.blk')]).then(() => (window.checked = true)); 0")
-        trial.must(trial.wait("window.checked", 60), f"a class list with {what} isn't made")
-        marks = trial.value("page.classList.rows[0].results.map((one) => one.mark)")
-        trial.must(marks.count("right") == 0 and marks.count("empty") == 13, f"a pupil deceives the class list: {what}: {marks}")
-        text = trial.value(f"page.classList.rows[0].results[{lesson - 1}].text")
-        trial.must(text.startswith("The checker was deceived: "), f"{what} does not deceive the Forth's checker: {text}")
-    forged = [f"{screen}, pageOf(['CR .( Lesson {screen - 40} is right.)']).page" for screen in range(41, 55)]
-    trial.value(f"window.tricky = {course}; {''.join(f'tricky.put({one});' for one in forged)} tricky.put(23, pageOf([': CUBE ;']).page); "
-                "window.checked = false; page.classList.check([new File([tricky.bytes], 'x.blk')]).then(() => (window.checked = true)); 0")
-    trial.wait("window.checked", 60)
-    trial.must(trial.value("page.classList.rows[0].results.every((one) => one.mark !== 'right')"), "a pupil's own checkers are used in a class list")
+def changed_checkers(trial: Trial) -> None:
+    """CHECK in the page puts changed checkers back."""
     trial.value("page.work.putIn('course.blk')")
     trial.must(trial.wait("page.session.disk.name === 'course.blk' && page.session.waitsForLine", 15), "the course's disk isn't put in")
     trial.type("1 LOAD")

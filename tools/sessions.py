@@ -18,11 +18,14 @@ import shutil
 import subprocess
 import sys
 import tempfile
-from typing import List
-
-import typed_sessions
+from typing import Iterable, List
 
 ROOT = pathlib.Path(__file__).resolve().parent.parent
+sys.path.append(str(ROOT / "commands"))
+
+import glossary  # noqa: E402
+import typed_sessions  # noqa: E402
+
 sys.path.append(str(ROOT / "page"))
 
 import module  # noqa: E402
@@ -120,29 +123,27 @@ def differs(page: str, step: Step, got: List[str]) -> int:
     return 1
 
 
-EXAMPLE = re.compile(r"^\| `([^ ]+)` \| `[^`]*` \|.* Example: ((?:`[^`]+`, )*`[^`]+`)(?: shows `([^`]+)`)?\. \|$", re.M)
 # Words that leave the Forth, or take the terminal: check-served and check-screen-editor try them at one.
 AT_TERMINALS = {"BYE", "BYE-WITH", "COLD", "DEBUG", "ED", "EDIT", "RELOAD", "RETYPE", "TELL"}
 
 
-def check_examples(page: str, program: str) -> int:
-    """Returns 1 if an example in a table of words shows something else; `..` before what is shown stands for more that is shown."""
-    rows = [row for row in EXAMPLE.findall((ROOT / page).read_text(encoding="utf-8")) if row[0] not in AT_TERMINALS]
+def check_examples(words: Iterable[glossary.Word], program: str) -> int:
+    """Returns 1 if the example of a word shows something else; `..` before what is shown stands for more that is shown."""
+    tried = [word for word in words if word.typed and word.name not in AT_TERMINALS]
     steps = [Step("WARNING OFF", False)]
-    for _, typed, _ in rows:
-        first, *rest = re.findall(r"`([^`]+)`", typed)
-        steps.append(Step(first, False))
-        steps[-1].answers = "".join(f"{line}\n" for line in rest)
+    for word in tried:
+        steps.append(Step(word.typed[0], False))
+        steps[-1].answers = "".join(f"{line}\n" for line in word.typed[1:])
     wrong = 0
     with tempfile.TemporaryDirectory() as room:
         shown = Folder(room, pathlib.Path(program).resolve()).session("./forth", steps)[1:]
-    for (name, typed, wanted), lines in zip(rows, shown):
+    for word, lines in zip(tried, shown):
         got = re.sub(r"( ok( \d+)?)+$", "", " " + " ".join(" ".join(lines).split()))
-        part = " ".join(wanted.lstrip(".").split())
-        if name not in re.split("[ `]+", typed):
-            got = f"no {name}"
-        if not (part in got if wanted.startswith("..") else got.endswith(f" {part}".rstrip()) if ", " in typed else got.strip() == part):
-            print(f"{page}: {name}: its example {typed}\n  wanted {wanted}\n  got    {got}", file=sys.stderr)
+        part = " ".join(word.shown.lstrip(".").split())
+        if word.name not in " ".join(word.typed).split():
+            got = f"no {word.name}"
+        if not (part in got if word.shown.startswith("..") else got.endswith(f" {part}".rstrip()) if word.typed[1:] else got.strip() == part):
+            print(f"data/words.txt: {word.name}: its example {word.typed}\n  wanted {word.shown}\n  got    {got}", file=sys.stderr)
             wrong = 1
     return wrong
 

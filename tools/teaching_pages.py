@@ -109,7 +109,7 @@ def check_paper(tree: teaching_runs.Tree, one: browser.Browser) -> None:
     one.size(1300, 900)
     edges = ('Array.from(document.querySelectorAll("thead"), (head) => head.getBoundingClientRect().left - '
              'head.parentNode.querySelector("td").getBoundingClientRect().left)')
-    tree.cases.same("how far the heads of tables are from their first cells", [0, 0], one.value(edges))
+    tree.cases.same("how far the heads of tables are from their first cells", [0], one.value(edges))
     one.open(tree.room / "life.html")
     one.paper(tree.room / "life.pdf")
     tree.cases.same("pages of life: two of screens, and one with the index and the words", 3,

@@ -478,7 +478,7 @@ def check_pages(tree: Tree) -> None:
         tree.forth(*words)
     status, said = tree.tool("print", "few.blk")
     tree.cases.same("pages of one screen", (0, True), (status, "few.html, 1 screen;" in said))
-    tree.cases.same("the word that isn't known", ["MISSPELT", "1.0"], texts_of(tree.room / "few.html", "td")[-2:])
+    tree.cases.holds("the word that isn't known", "MISSPELT            1  screen 1 line 0", texts_of(tree.room / "few.html", "pre")[-1])
     line = ': GR\u00dcSSE ( -- ) ." \u00a3" ;'
     (tree.room / "accents.blk").write_bytes(line.encode("utf-8").ljust(1024))
     tree.cases.same("pages with UTF-8", 0, tree.tool("print", "accents.blk")[0])

@@ -52,7 +52,7 @@ def volumes(folder: Folder, expect: Expect) -> None:
     with (room / "wild2.blk").open("ab") as file:
         file.write(b)
     said = folder.run(["./forth83", "export", "wild2.blk", "a.dsk"])
-    expect("a file with more screens", (a, True), ((room / "a.dsk").read_bytes(), "NoRoom" in said))
+    expect(f"a file with more screens: {said}", (a, True), ((room / "a.dsk").read_bytes(), "it has room for 2 screens, but there are" in said))
 
 # Disks of other systems, made by their own rules
 

@@ -24,7 +24,6 @@ import sys
 from typing import Callable
 
 import card
-import guess
 import quiet_end
 from launcher.program import Refused
 from served import image
@@ -81,15 +80,6 @@ def image_of(over: str | None, program: str) -> str:
     return over
 
 
-def order_of(data: bytes) -> str:
-    """That the sectors of these screens seem to be in another order, if they do."""
-    order = guess.better(data)
-    if order is None:
-        return ""
-    had = guess.score(data[: guess.SAMPLE])
-    return f"another order would read better ({order.score:.2f} of 2; this one has {had:.2f}): import it again with {order.options}\n"
-
-
 def report(program_of: Callable[[], str], asked: argparse.Namespace) -> int:
     """Has the program report, and says whether another order would read better."""
     data = read(asked.blocks)
@@ -97,7 +87,7 @@ def report(program_of: Callable[[], str], asked: argparse.Namespace) -> int:
     program = program_of()
     words = [program, "survey", image_of(asked.over, program), asked.blocks, str(first), str(last)]
     status = subprocess.call([*words, *["--all"] * asked.all])
-    sys.stdout.write(order_of(data))
+    subprocess.call([program, "guess", asked.blocks, "--better"])
     return status
 
 

@@ -19,7 +19,7 @@ def advice(word: str, names: Iterable[str], unfinished: Optional[str]) -> str:
     """Advice for an unknown word, with a semicolon before it; empty if there is none. `unfinished` is the word that is being defined."""
     upper = word.upper()
     if unfinished is not None and upper == unfinished.upper():
-        return "; it is not finished: its ; is missing, or RECURSE is meant"
+        return MESSAGES["undone"]
     if upper == "PRIM":
         return MESSAGES["prim"]
     known = hint(word) + of_library(upper)
@@ -27,19 +27,19 @@ def advice(word: str, names: Iterable[str], unfinished: Optional[str]) -> str:
         return known
     front = next((begin for begin in BEFORE_BLANK if upper.startswith(begin) and len(upper) > len(begin)), "")
     if front and not (front == "'" and upper.endswith("'")):
-        return f"; write a blank after {front}"
+        return MESSAGES["parted"].format(front=front)
     parts = SUM.fullmatch(word)
     if parts:
-        return f"; write {parts[1]} {parts[3]} {parts[2]}"
+        return MESSAGES["sum"].format(first=parts[1], sign=parts[2], second=parts[3])
     all_names = list(names)
     near = [name for name in all_names if name.upper() == upper] + [name for name in all_names if is_near(upper, name.upper())]
-    return f"; is {near[0]} meant?" if near else ""
+    return MESSAGES["near"].format(name=near[0]) if near else ""
 
 
 def of_library(upper: str) -> str:
     """Whether the text of later Forths' words has the word."""
     with open(os.path.join(LIBRARY, LATER), encoding="utf-8") as text:
-        return f"; INCLUDE {LATER} has it" if upper in MADE.findall(text.read()) else ""
+        return MESSAGES["library"].format(file=LATER) if upper in MADE.findall(text.read()) else ""
 
 
 def is_near(one: str, other: str) -> bool:

@@ -4,6 +4,8 @@ from __future__ import annotations
 import os
 import re
 
+from served.faults import MESSAGES
+
 ROOT = os.path.dirname(os.path.dirname(os.path.dirname(os.path.realpath(__file__))))
 FOLDER = os.path.join(ROOT, "screens", "dialects")
 DIALECTS = ("fig.txt", "f79.txt", "f83.txt", "poly.txt")
@@ -35,6 +37,5 @@ def hint(name: str) -> str:
     found = having(name)
     if not found:
         return ""
-    *first, last = found
-    listed = f"{', '.join(first)} and {last} have" if first else f"{last} has"
-    return f"; screens/dialects/{listed} it"
+    *others, last = found
+    return MESSAGES["dialects" if others else "dialect"].format(others=", ".join(others), last=last)

@@ -8,14 +8,17 @@ import glob
 import hashlib
 import os
 import re
+import textwrap
 from typing import Callable
 
+import glossary
 from served import paging
 from served.table import numbers
 
 ROOT = os.path.dirname(os.path.dirname(os.path.dirname(os.path.realpath(__file__))))
 TEXTS = sorted(glob.glob(os.path.join(ROOT, "screens", "tools", "*.txt")))
 ORDER = os.path.join(ROOT, "screens", "order.txt")  # is loaded over the image, puts its words into their order, and forgets itself
+LISTS = [os.fspath(glossary.WORDS), os.path.realpath(glossary.__file__)]  # have the inner words
 LIBRARY = os.path.join(ROOT, "screens", "library")  # texts that INCLUDE finds from any folder
 DIALECT = os.path.join(ROOT, "screens", "tools", "dialect.txt")
 OF_DIALECTS = re.compile(r"^% screen \d+\n\( Order: what dialects need.*?(?=^% screen)", re.M | re.S)
@@ -31,6 +34,22 @@ class NotMade(Exception):
 def with_numbers(text: str) -> str:
     """The text with the number of each service in the place of its name between two @."""
     return re.sub(r"@([A-Z?()-]+)@", lambda found: str(numbers()[found[1]]), text)
+
+
+def inner_lists() -> dict[str, list[str]]:
+    """The inner words, which go to TOOLS: of the first two lists one half each; those that dialects need are in the third."""
+    inner = [word for word in glossary.read() if word.part == glossary.INNER]
+    dialects = [word.name for word in inner if word.section.startswith(os.path.basename(DIALECT))]
+    others = [word.name for word in inner if word.name not in dialects]
+    return {"INNER1": others[: len(others) // 2], "INNER2": others[len(others) // 2 :], "INNER3": dialects}
+
+
+def with_lists(order: str) -> str:
+    """The text with the lists of inner words in the place of their names between two @."""
+    for name, words in inner_lists().items():
+        lines = textwrap.wrap(f": {name} ( -- ) {' '.join(words)} ;", 63, break_long_words=False, break_on_hyphens=False)
+        order = order.replace(f"@{name}@", "\n".join(lines))
+    return order
 
 
 def sum_of(paths: list[str]) -> str:
@@ -91,13 +110,13 @@ def find(program: str, kernel: str = "") -> str:
         raise NotMade(f"{kernel}: it does not exist, or cannot be read: name a file of blocks")
     if not kernel and os.path.isdir(beside(program)):
         return beside(program)
-    made_of = [program, *TEXTS, ORDER, *([kernel] if kernel else [])]
+    made_of = [program, *TEXTS, ORDER, *LISTS, *([kernel] if kernel else [])]
     return kept("served", made_of, lambda room: make(program, kernel, room))
 
 
 def beside(program: str) -> str:
     """Where the same images, and a new file of blocks, are beside a program that cannot make them, as a server in C."""
-    return os.path.join(os.path.dirname(os.path.realpath(program)), "images", sum_of([*TEXTS, ORDER]))
+    return os.path.join(os.path.dirname(os.path.realpath(program)), "images", sum_of([*TEXTS, ORDER, *LISTS]))
 
 
 def run(*words: str) -> None:
@@ -170,7 +189,7 @@ def make_served(program: str, kernel: bytes, tools: list[paging.Screen], order: 
 
 def make(program: str, kernel: str, room: str) -> None:
     """Makes the images of a session in a folder, and a new file of blocks, which has the kernel's screens."""
-    blocks, order = os.path.join(room, NEW), read(ORDER)
+    blocks, order = os.path.join(room, NEW), with_lists(read(ORDER))
     make_kernel(program, kernel, room, blocks)
     with open(blocks, "rb") as file:
         kernel_screens = file.read()

@@ -65,8 +65,7 @@ def open_structure(target: Target, given: faults.Input) -> str:
         lines = [(f"line {line.number}", line.text) for line in before if line] + [(f"line {place.number}", given.text[: given.offset])]
     elif given.block:
         lines = [(f"line {at // LINE}", given.text[at : min(at + LINE, given.offset)]) for at in range(0, given.offset, LINE)]
-    missing = structures.unfinished([(name, text.decode(errors="replace")) for name, text in lines])
-    return f": {missing}" if missing else ""
+    return structures.unfinished([(name, text.decode(errors="replace")) for name, text in lines])
 
 
 def place_lines(given: faults.Input, place: Optional[Line], at: int, has_column: bool = True) -> list[str]:

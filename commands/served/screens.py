@@ -5,9 +5,11 @@ import os
 import re
 import subprocess
 
+from served.faults import section
 from served.target import BLOCK
 from served.texts import read_file
 
+REFUSED = re.compile(r"line (\d+): (\w+) ?(\d*)")
 HEADING = re.compile(rb"^% screen ([0-9]+)$", re.M)
 
 
@@ -19,11 +21,17 @@ def numbers_of(text: bytes) -> list[int]:
     return sorted(named)
 
 
+def why(said: str) -> str:
+    """What the program said of a text that it refuses, in words."""
+    found = REFUSED.fullmatch(said)
+    return f"line {found[1]} {dict(section('texts'))[found[2]].format(byte=found[3])}" if found else said
+
+
 def run(words: list[str]) -> str:
     """Runs the program; what it said if it refused."""
     done = subprocess.run(words, stdin=subprocess.DEVNULL, capture_output=True, check=False)
     said = (done.stdout + done.stderr).decode(errors="replace").strip()
-    return said or f"status {done.returncode}" if done.returncode else ""
+    return why(said) or f"status {done.returncode}" if done.returncode else ""
 
 
 def read_screens(forth83: str, name: str, count: int, room: str) -> tuple[list[tuple[int, bytes]], str]:

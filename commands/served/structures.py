@@ -4,6 +4,8 @@ from __future__ import annotations
 import re
 from typing import Iterator, NamedTuple, Optional
 
+from served.faults import MESSAGES
+
 ENDS = {  # the structures, and what ends them
     "IF": "THEN", "BEGIN": "UNTIL, AGAIN or REPEAT", "WHILE": "REPEAT", "DO": "LOOP", "?DO": "LOOP", "CASE": "ENDCASE", "OF": "ENDOF",
 }  # fmt: skip
@@ -43,8 +45,8 @@ def words_of(lines: list[tuple[str, str]]) -> Iterator[Word]:
             skips = not skips and name in ONE_WORD
 
 
-def unfinished(lines: list[tuple[str, str]]) -> Optional[str]:
-    """What is missing in the last definition of these lines, as far as its words say it."""
+def unfinished(lines: list[tuple[str, str]]) -> str:
+    """What is missing in the last definition of these lines, as far as its words say it, with a colon before it; or an empty text."""
     open_words: list[Word] = []
     for word in words_of(lines):
         if word.name == ":":
@@ -54,11 +56,14 @@ def unfinished(lines: list[tuple[str, str]]) -> Optional[str]:
         elif word.name in CLOSED_BY:
             closed = CLOSED_BY[word.name].split()
             if not open_words or open_words[-1].name not in closed:
-                return None
+                return ""
             open_words.pop()
             if word.name == "REPEAT":
                 open_words = open_words[:-1]
-    return f"{open_words[-1].name} of {open_words[-1].line} has no {ENDS[open_words[-1].name]}" if open_words else None
+    if not open_words:
+        return ""
+    last = open_words[-1]
+    return MESSAGES["open"].format(word=last.name, line=last.line, end=ENDS[last.name])
 
 
 def exit_in_loop(lines: list[tuple[str, str]]) -> Optional[str]:

@@ -36,7 +36,7 @@ extern "C" {
 enum forth83_status {
   FORTH83_DONE = 0,
   FORTH83_NO_MACHINE = 1,     /* the record keeps no machine */
-  FORTH83_OUT_OF_MEMORY = 2,  /* only forth83_see, _headers, _extent, _trace_line, _survey, _unpack, _pack and _guess_format, which take memory */
+  FORTH83_OUT_OF_MEMORY = 2,  /* only forth83_see, _headers, _extent, _trace_line, _survey, _text, _screens, _unpack, _pack, _guess_format and _judge, which take memory */
   FORTH83_SHORT_ROOM = 3,     /* no room for what is shown, or too little for a file */
   FORTH83_TRUNCATED = 4,      /* an image's file that ends too soon */
   FORTH83_TRAILING_BYTES = 5, /* bytes after an image's file */
@@ -57,7 +57,19 @@ enum forth83_status {
   FORTH83_SHADOWED = 20,       /* SEE: a name in its text would mean another word, or a number is a name */
   FORTH83_BAD_TEXT = 21,       /* SEE: a text in it has a quote */
   FORTH83_LONG_REPLY = 22,     /* the reply is longer than the room, which has the front of it; the request was obeyed */
-  FORTH83_REFUSED = 23         /* forth83_unpack and _pack: what was given is refused, and `said` says why */
+  FORTH83_REFUSED = 23         /* forth83_screens, _unpack and _pack: what was given is refused, and `cause` or `said` says why */
+};
+
+/* What is wrong with a line of a text of screens (docs/PROGRAM.md, "Screens as text"). */
+enum forth83_cause {
+  FORTH83_BAD_ESCAPE = 1,   /* after %~ a ~ without two digits, 0 to 9 and A to F */
+  FORTH83_LONG_LINE = 2,    /* more than 64 bytes */
+  FORTH83_FULL_SCREEN = 3,  /* the seventeenth line of a screen */
+  FORTH83_BAD_HEADING = 4,  /* one % at its beginning, and no heading */
+  FORTH83_LATE_HEADING = 5, /* a heading after lines without one */
+  FORTH83_NAMED_TWICE = 6,  /* a second heading with this number */
+  FORTH83_NO_SCREEN = 7,    /* it would begin screen 65,536 */
+  FORTH83_BAD_BYTE = 256    /* from here on: a byte that is no text, 256 and the byte */
 };
 
 /* Why forth83_run ended. */
@@ -228,6 +240,16 @@ uint32_t forth83_trace_line(const forth83 *machine, uint8_t *text, uint64_t text
 uint32_t forth83_survey(const forth83 *machine, const uint8_t *name, uint64_t name_size, const uint8_t *blocks, uint64_t blocks_size,
                         uint8_t *text, uint64_t text_size, uint64_t *size, uint16_t *dialect);
 
+/* Puts a screen of FORTH83_PAGE bytes as text into text, and its size into size: a line `% screen 21` with its number, and its lines. Each
+ * screen fits into 3,200 bytes. Needs no machine. */
+uint32_t forth83_text(uint16_t number, const uint8_t *page, uint64_t page_size, uint8_t *text, uint64_t text_size, uint64_t *size);
+
+/* Reads a text of screens: puts their numbers into numbers, their bytes into pages, FORTH83_PAGE for each, and how many they are into count. A text
+ * has at most one screen more than a sixteenth of its lines, or than it has headings. FORTH83_REFUSED: line has the first line at fault, counted
+ * from 1, and cause what is wrong with it (enum forth83_cause); nothing is in numbers and pages. Needs no machine. */
+uint32_t forth83_screens(const uint8_t *text, uint64_t text_size, uint16_t *numbers, uint64_t numbers_size, uint8_t *pages, uint64_t pages_size,
+                         uint64_t *count, uint64_t *line, uint16_t *cause);
+
 /* Reads a container of another system: a disk, a file of blocks, lines or a listing. Puts its blocks into blocks, how many bytes they have into
  * size, the number of the first one into first, and what is to be said of them into said, which may be nothing: a sentence without its
  * full stop, cut where the room ends (512 bytes are enough). The options are words with blanks between them, those of `forth83 import`, as in
@@ -243,6 +265,20 @@ uint32_t forth83_pack(const uint8_t *options, uint64_t options_size, const uint8
 
 /* Puts the name of the format that a container may have into said, by its size, its head and its first lines. */
 uint32_t forth83_guess_format(const uint8_t *container, uint64_t container_size, uint8_t *said, uint64_t said_size, uint64_t *said_count);
+
+/* Judges the next lesson of what a pupil wrote, as `forth83 judge` does, with the checkers of a course: puts its line into line, and its size into
+ * size; size is 0 if no lesson is left. A line has six parts with tabs between them, and ends with a new line: the lesson's number, its screen and
+ * its title; right, wrong, missing, endless or empty; the word that this is about, if there is one; and a sentence. The image is one that has loaded
+ * the checkers (`1 LOAD` of the course), texts is data/faults.txt, and course and pupil are blocks: bytes after the last whole one are ignored.
+ * A run of a lesson, of which there are at most two, takes at most so many ticks (FORTH83_JUDGE_TICKS is what `./forth class` gives it), and may show
+ * 1,000,000 bytes. next and stopped say how far the judging is: set both to 0 before the first lesson, and leave them as they are between two calls.
+ * After three lessons that a limit had to stop, the others get a tenth of the ticks. FORTH83_SHORT_ROOM: size says how many bytes line must have;
+ * 4,096 are enough unless a program shows longer lines. Needs no machine. Takes from malloc the bytes of the course once more, some 300 KB, and at
+ * most 4 MB for what a program shows. */
+#define FORTH83_JUDGE_TICKS 5000000
+uint32_t forth83_judge(const uint8_t *image, uint64_t image_size, const uint8_t *texts, uint64_t texts_size, const uint8_t *course,
+                       uint64_t course_size, const uint8_t *pupil, uint64_t pupil_size, uint64_t ticks, uint16_t *next, uint16_t *stopped,
+                       uint8_t *line, uint64_t line_size, uint64_t *size);
 
 /* Obeys a request of a host, as a server does: the frame of this kind with these bytes (docs/FORMATS.md has the frames). Puts the frames of the reply
  * into reply, and how many bytes they have into replied. A reply that is longer than reply_size is cut there (FORTH83_LONG_REPLY): the request was

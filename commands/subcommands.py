@@ -1,0 +1,25 @@
+"""Runs subcommands of the program, for scripts beside it."""
+from __future__ import annotations
+
+import os
+import pathlib
+import subprocess
+from typing import List, NamedTuple
+
+ROOT = pathlib.Path(__file__).resolve().parent.parent
+
+
+class Ran(NamedTuple):
+    """How the program ended, and what it printed."""
+
+    status: int
+    text: str
+
+
+def program(words: List[str], is_heard: bool = True) -> Ran:
+    """Runs the program's own subcommand: the proved program, or the one without proofs if that is all there is."""
+    unproved = ROOT / "build/out/unproved"
+    is_proved = subprocess.run([ROOT / "build/is-proved"], check=False).returncode == 0
+    command = unproved if not is_proved and unproved.exists() else ROOT / "forth83"
+    done = subprocess.run([command, *words], env={**os.environ, "FORTH83_PLAIN": "1"}, check=False, stdout=subprocess.PIPE if is_heard else None)
+    return Ran(done.returncode, (done.stdout or b"").decode(errors="replace"))
