@@ -1,11 +1,13 @@
-"""The words of the Forth and of its tools: what data/words.txt says of each, and of primitives docs/primitives.txt."""
+"""The words of the Forth and of its tools: what data/words.txt says of each, and of primitives docs/primitives.txt; and those of the dialects, in
+data/dialects.txt."""
 import pathlib
 import re
 from typing import Dict, Iterator, List, NamedTuple, Tuple
 
 ROOT = pathlib.Path(__file__).resolve().parent.parent
-WORDS, PRIMITIVES = ROOT / "data/words.txt", ROOT / "docs/primitives.txt"
+WORDS, PRIMITIVES, OF_DIALECTS = ROOT / "data/words.txt", ROOT / "docs/primitives.txt", ROOT / "data/dialects.txt"
 KERNEL, TOOLS, TEXTS, INNER = "The kernel", "The tools", "Texts that come with the Forth", "Inner words"
+DIALECTS = {"fig": "fig-FORTH", "f79": "Forth-79", "f83": "F83", "poly": "polyFORTH"}
 UNNAMED = range(1, 5)  # the code fields of defining words, which have no name in the kernel
 PRIMITIVE = "primitive"
 
@@ -39,9 +41,31 @@ class Word(NamedTuple):
 
     def row(self) -> str:
         """Its row in a table of a page."""
-        lines = ", ".join(f"`{line}`" for line in self.typed)
-        example = f" Example: {lines}{f' shows `{self.shown}`' if self.shown else ''}." if lines else ""
-        return f"| `{self.name}` | `{self.effect}` | {'yes' if self.is_immediate else ''} | {self.says}{example} |"
+        return f"| `{self.name}` | `{self.effect}` | {'yes' if self.is_immediate else ''} | {self.says}{example_text(self.typed, self.shown)} |"
+
+
+class DialectWord(NamedTuple):
+    """A word of dialects: in which section it is, which texts of screens/dialects define it so, and what is said of it."""
+
+    section: str
+    name: str
+    effect: str
+    is_immediate: bool
+    dialects: Tuple[str, ...]
+    says: str
+    typed: Tuple[str, ...]
+    shown: str
+
+    def row(self) -> str:
+        """Its row in the table of the page."""
+        where = "all" if len(self.dialects) == len(DIALECTS) else " ".join(self.dialects)
+        return f"| `{self.name}`{' (i)' * self.is_immediate} | `{self.effect}` | {where} | {self.says}{example_text(self.typed, self.shown)} |"
+
+
+def example_text(typed: Tuple[str, ...], shown: str) -> str:
+    """An example, as a page has it after what a word does."""
+    lines = ", ".join(f"`{line}`" for line in typed)
+    return f" Example: {lines}{f' shows `{shown}`' if shown else ''}." if lines else ""
 
 
 def fields_of(line: str) -> List[str]:
@@ -96,13 +120,36 @@ def example_of(typed: str) -> Tuple[str, ...]:
     return tuple(typed.split(r" \n ")) if typed else ()
 
 
+def lines_of(text: str) -> Iterator[str]:
+    """The lines of a list that are no remarks: these begin with `--`."""
+    return (line for line in text.splitlines() if line and line != "--" and not line.startswith("-- "))
+
+
+def dialect_word(section: str, line: str) -> DialectWord:
+    """The word of a line of data/dialects.txt."""
+    fields = fields_of(line)
+    texts = tuple(DIALECTS) if fields[2:3] == ["all"] else tuple(fields[2].split()) if len(fields) > 2 else ()
+    if len(fields) not in (4, 6) or not texts or not set(texts) <= DIALECTS.keys() or fields[2] != "all" and len(texts) == len(DIALECTS):
+        raise Malformed(line)
+    typed, shown = fields[4:] or ("", "")
+    return DialectWord(section, *named(fields[0])[:1], fields[1], named(fields[0])[1], texts, fields[3], example_of(typed), shown)
+
+
+def dialect_words(text: str = "") -> Iterator[DialectWord]:
+    """All words of the dialects, in the order of the list."""
+    section = ""
+    for line in lines_of(text or OF_DIALECTS.read_text(encoding="utf-8")):
+        if line.startswith("## "):
+            section = line[3:]
+        else:
+            yield dialect_word(section, line)
+
+
 def read(text: str = "", listed: str = "") -> Iterator[Word]:
-    """All words, in the order of the list; a line that begins with `--` is a remark."""
+    """All words, in the order of the list."""
     known = {it.word: it for it in primitives(listed) if it.number not in UNNAMED}
     part = section = ""
-    for line in (text or WORDS.read_text(encoding="utf-8")).splitlines():
-        if not line or line == "--" or line.startswith("-- "):
-            continue
+    for line in lines_of(text or WORDS.read_text(encoding="utf-8")):
         if line.startswith("## "):
             part = line[3:]
         elif line.startswith("### "):
