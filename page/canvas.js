@@ -1,7 +1,8 @@
 // The canvas that the words of the disk draw.blk draw on: 320 by 200 points of 16 colors, in 32 blocks; and their tones.
 
 import { DATA } from "./data.js";
-import { PAGE_SIZE, SYSTEM } from "./machine.js";
+import { SYSTEM } from "./cells.js";
+import { PAGE_SIZE } from "./machine.js";
 
 const WIDE = 320, HIGH = 200, ROW = WIDE / 2, BLOCKS = 32, TONES = 1000, VARIABLE = 2, MOST_SECONDS = 10;
 
@@ -18,7 +19,7 @@ export class Canvas {
 
   // The first block of the canvas, or null if there is no variable CANVAS or the disk does not have the whole canvas.
   first() {
-    const { machine, disk } = this.session, here = machine.cell(SYSTEM.here);
+    const { machine, disk } = this.session, here = machine.cell(SYSTEM.dp);
     if (here !== this.here) {
       const found = this.session.tokenOf("CANVAS");
       Object.assign(this, { here, place: found !== null && machine.cell(found) === VARIABLE ? found + 2 : null });

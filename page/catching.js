@@ -1,6 +1,7 @@
 // CATCH and THROW, as commands/served/catching.py has them: what CATCH found is put back when something is thrown, or when a fault happens.
 
-import { cellBytes, cellsOf, SYSTEM } from "./machine.js";
+import { SYSTEM } from "./cells.js";
+import { cellBytes, cellsOf } from "./machine.js";
 
 // The cell of the registers that counts the buffers; cells of a buffer; and those that say that nothing is pending or asked.
 const BUFFER_COUNT = 10, BUFFER_CELLS = 4, UNASKED = Array(7).fill(0);

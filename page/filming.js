@@ -6,7 +6,8 @@ import { Calls, TABLE_ROWS, effectOf } from "./calls.js";
 import { COLUMNS, Disk, linesOf } from "./disk.js";
 import { named } from "./faults.js";
 import { Host } from "./host.js";
-import { ASKS, SYSTEM } from "./machine.js";
+import { SYSTEM } from "./cells.js";
+import { ASKS } from "./machine.js";
 
 const MOST_TICKS = 400000, MOST_STEPS = 20000, MOST_OUTPUT = 1 << 20, MOST_BYTES = 4096, LONGEST_FILMED = 1024, WORKS_FOR = 30, RETURN = 10;
 
@@ -79,7 +80,7 @@ export class Filming {
     const { machine, fence } = this, known = new Map(this.words.map((one) => [`${one.word} ${one.name}`, one]));
     this.words = machine.words().map((one) => known.get(`${one.word} ${one.name}`) || one);
     this.names = new Map(this.words.map((one) => [one.word, one]));
-    this.here = machine.cell(SYSTEM.here);
+    this.here = machine.cell(SYSTEM.dp);
     this.last = machine.cell(SYSTEM.last);
     this.words.forEach((one, at) => { one.end = at + 1 < this.words.length ? this.words[at + 1].header - 2 : this.here; });
     const isFollowed = (one) => one.word >= fence && machine.cell(one.word) === TABLE_ROWS.variable && !this.followed.some(({ word }) => word === one);
@@ -94,7 +95,7 @@ export class Filming {
       if (this.words[middle].word < address) low = middle + 1;
       else high = middle;
     }
-    const end = low === this.words.length ? this.machine.cell(SYSTEM.here) : low && this.words[low - 1].end;
+    const end = low === this.words.length ? this.machine.cell(SYSTEM.dp) : low && this.words[low - 1].end;
     return address < end ? this.words[low - 1] : null;
   }
 
@@ -119,7 +120,7 @@ export class Filming {
 
   // Notes a step. Of steps outside your calls, only what they do to the calls is kept.
   look(ip) {
-    const { machine, calls } = this, here = machine.cell(SYSTEM.here);
+    const { machine, calls } = this, here = machine.cell(SYSTEM.dp);
     if (machine.cell(SYSTEM.last) !== this.last || here < this.here) this.learn();
     const codeField = this.executed(ip), effect = effectOf(machine, codeField);
     if (calls.open.length || (calls.begins(ip) && this.isWanted(ip, here))) this.take(ip, codeField, here);

@@ -7,7 +7,8 @@ import { Catching } from "./catching.js";
 import { DATA } from "./data.js";
 import { COLUMNS, linesOf } from "./disk.js";
 import { FAULTS, lineAt, message, named, nextWord, numbered, placeLines, plain, trimmedEnd, faultWord } from "./faults.js";
-import { ASKS, cellBytes, Machine, PAGE_SIZE, Refused, SYSTEM } from "./machine.js";
+import { SYSTEM } from "./cells.js";
+import { ASKS, cellBytes, Machine, PAGE_SIZE, Refused } from "./machine.js";
 import { OWN_SERVICES } from "./own.js";
 import { MOVED, Refusal, SERVICES, visible, WAITS } from "./services.js";
 import { exitInLoop, unfinished } from "./structures.js";
@@ -54,7 +55,7 @@ export class Host {
     const words = this.machine.words(), names = new Map(words.map((one) => [one.word, one.name])), { own } = this;
     // An image that a page has saved has its words, and others of these names.
     if (own && Object.entries(OWN).every(([name, [place, offset]]) => names.get(own[place] - offset) === name)) return { ...own };
-    const found = new Map(words.map((one) => [one.name, one.word])), places = { fence: this.machine.cell(SYSTEM.here) };
+    const found = new Map(words.map((one) => [one.name, one.word])), places = { fence: this.machine.cell(SYSTEM.dp) };
     const isServed = Object.keys(OWN).every((name) => found.has(name));
     for (const [name, [place, offset]] of Object.entries(OWN)) if (isServed || (name === "BREAK" && found.has(name))) places[place] = found.get(name) + offset;
     return places;
@@ -236,7 +237,7 @@ export class Host {
   described(number) {
     const { machine, places } = this, { text, offset } = this.input(), [start, end] = faultWord(number, { text, offset }), name = text.subarray(start, end);
     const isName = number === FAULTS.unknown && this.lookUp(decode(name)) !== null, isSet = (place) => machine.cell(place) !== 0;
-    const [from, to] = nextWord(text, offset), left = machine.cell(places.limit) - machine.cell(SYSTEM.here);
+    const [from, to] = nextWord(text, offset), left = machine.cell(places.limit) - machine.cell(SYSTEM.dp);
     const advice = number === FAULTS.unknown && !isName ? this.advice(plain(name)) : "", isOpenText = name[name.length - 1] === QUOTE && !text.subarray(end).includes(QUOTE);
     return message(number, plain(name), { isName, isHidden: isSet(places.hidden), left, hasDialect: isSet(places.dialect), follows: plain(text.subarray(from, to)), base: machine.cell(SYSTEM.base), advice, isOpenText });
   }
@@ -244,7 +245,7 @@ export class Host {
   // What was probably meant by a word that is unknown.
   advice(word) {
     const newest = this.machine.words().pop(), { machine } = this;
-    return adviceFor(word, visible(this, [machine.cell(SYSTEM.context), SYSTEM.forth]).map((one) => one.name), newest && newest.isHidden ? newest.name : null);
+    return adviceFor(word, visible(this, [machine.cell(SYSTEM.context), SYSTEM.forthVoc]).map((one) => one.name), newest && newest.isHidden ? newest.name : null);
   }
 
   // A fault in words, with its place; SAID is what the program or a service has said of it.
@@ -284,7 +285,7 @@ export class Host {
   // What is being interpreted: BLK, >IN, and a copy of the bytes, since memory may move with each call.
   input() {
     const { machine } = this, block = machine.cell(SYSTEM.blk), offset = machine.cell(SYSTEM.toIn);
-    const text = block ? (this.page(block) || new Uint8Array(0)).slice() : machine.memory.slice(TIB_AT, TIB_AT + Math.min(machine.cell(SYSTEM.tibCount), 128));
+    const text = block ? (this.page(block) || new Uint8Array(0)).slice() : machine.memory.slice(TIB_AT, TIB_AT + Math.min(machine.cell(SYSTEM.numberTib), 128));
     return { block, offset, text };
   }
 

@@ -9,9 +9,6 @@ export const PAGE_SIZE = 1024, MEMORY = 65536, STACK = 256;
 const ALL_BLOCKS = 65536, ROOM = 131072, BODY = 2048, REPORT = 16384, SAID = 512, TEXT = 4096, SHORT_ROOM = 3, LONG_REPLY = 22, NOT_READ = 23, REFUSED = "!".charCodeAt(0), SHOWN = "s".charCodeAt(0);
 // What is wrong with a text of screens, by the numbers of include/forth83.h; other numbers are that of a byte.
 const TEXT_CAUSES = ["OutOfMemory", "BadEscape", "LongLine", "FullScreen", "BadHeading", "LateHeading", "NamedTwice", "NoScreen"], BAD_BYTE = "BadByte", PERCENT = 37;
-// Cells of the system in the machine's memory.
-export const SYSTEM = { state: 16, base: 18, toIn: 20, blk: 22, tibCount: 24, here: 28, last: 30, context: 32, scr: 38, fault: 40, forth: 42, fence: 54 };
-
 // A request that was refused, and why.
 export class Refused extends Error {
   constructor(cause) { super(`cause ${cause} of docs/FORMATS.md`).cause = cause; }

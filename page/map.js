@@ -1,7 +1,8 @@
 // The map of the machine's memory: its parts from address 0 up, your words with their sizes, and the block buffers.
 
 import { element, hexadecimal } from "./bytes.js";
-import { MEMORY, PAGE_SIZE, SYSTEM } from "./machine.js";
+import { SYSTEM } from "./cells.js";
+import { MEMORY, PAGE_SIZE } from "./machine.js";
 
 const TIB = 128, DICTIONARY = 256, FIRST_LESSON = 21;
 const KINDS = { 1: "colon word", 2: "variable", 3: "constant", 4: "vocabulary" };
@@ -35,7 +36,7 @@ export class MemoryMap {
 
   // All of memory in a few parts, each with its addresses.
   regions() {
-    const { machine } = this, here = machine.cell(SYSTEM.here), { fence } = this.page.session.places;
+    const { machine } = this, here = machine.cell(SYSTEM.dp), { fence } = this.page.session.places;
     const buffers = machine.buffers.sort((a, b) => a.place - b.place), limit = buffers.length ? buffers[0].place : MEMORY;
     const rows = [["system cells", 0, TIB, "system"], ["the line that is typed (TIB)", TIB, DICTIONARY, "system"],
       ["the Forth's own words", DICTIONARY, fence, "own"], ["your words", fence, Math.max(fence, here), "yours"], ["free", Math.max(fence, here), limit, "free"]];
@@ -63,7 +64,7 @@ export class MemoryMap {
 
   // Your words, the newest first.
   drawWords(fence) {
-    const words = this.machine.words(), here = this.machine.cell(SYSTEM.here);
+    const words = this.machine.words(), here = this.machine.cell(SYSTEM.dp);
     const isOfCourse = words.some(({ name, view }) => name === "CHECK-ONE" && view), found = { own: [], others: [] };
     for (const [at, word] of words.entries()) {
       const row = this.row(word, words[at + 1] ? words[at + 1].header - 2 : here, fence);

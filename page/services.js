@@ -5,7 +5,8 @@ import { decode, signed } from "./bytes.js";
 import { DATA } from "./data.js";
 import { COLUMNS } from "./disk.js";
 import { FAULTS, named, placeLines, plain, trimmedEnd } from "./faults.js";
-import { hasThread, PAGE_SIZE, Refused, SYSTEM } from "./machine.js";
+import { SYSTEM } from "./cells.js";
+import { hasThread, PAGE_SIZE, Refused } from "./machine.js";
 import { endOfComment, FIRST_TEXT, skipping } from "./texts.js";
 
 export const WAITS = Symbol("a person is needed"), MOVED = Symbol("the machine goes on elsewhere");

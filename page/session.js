@@ -3,7 +3,8 @@
 import { encode } from "./bytes.js";
 import { DATA } from "./data.js";
 import { Host } from "./host.js";
-import { ASKS, inLayout3, Machine, SYSTEM } from "./machine.js";
+import { SYSTEM } from "./cells.js";
+import { ASKS, inLayout3, Machine } from "./machine.js";
 import { Texts } from "./texts.js";
 
 const SLICE = 12, LONG = 2000, LONGEST_LINE = 1024, HALTED_BY_FAULT = 4;
@@ -237,7 +238,7 @@ export class Session extends Host {
   // Says once that the dictionary ends within the words of the Forth, as after -5000 ALLOT.
   lookAtHere() {
     const { machine, isInside } = this;
-    this.isInside = machine.cell(SYSTEM.here) < machine.cell(SYSTEM.fence);
+    this.isInside = machine.cell(SYSTEM.dp) < machine.cell(SYSTEM.fence);
     if (this.isInside && !isInside) this.view.note("HERE is inside the Forth, so what is compiled now overwrites it; UNDO goes back.");
   }
 

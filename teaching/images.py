@@ -9,14 +9,14 @@ import program
 import texts
 from rows import COLON
 from served import wire
+from system_cells import BASE, BLK, CONTEXT, CURRENT, DP, FAULT, FENCE, FORTH_VOC, HLD, LAST, NUMBER_TIB, SCR, SPAN, STATE, TIB, TO_IN, VOC_LINK  # noqa: F401
 
 MEMORY = 65536
 PAGE = 1024
-TIB, TIB_END, DICTIONARY = 128, 256, 256
-DP, LAST, FORTH_VOC, VOC_LINK, FENCE = 28, 30, 42, 52, 54
+TIB_END, DICTIONARY = 256, 256
 CELLS = {
-    16: "STATE", 18: "BASE", 20: ">IN", 22: "BLK", 24: "#TIB", 26: "SPAN", 28: "DP", 30: "LAST", 32: "CONTEXT",
-    34: "CURRENT", 36: "HLD", 38: "SCR", 40: "FAULT", 52: "VOC-LINK", 54: "FENCE",
+    STATE: "STATE", BASE: "BASE", TO_IN: ">IN", BLK: "BLK", NUMBER_TIB: "#TIB", SPAN: "SPAN", DP: "DP", LAST: "LAST", CONTEXT: "CONTEXT",
+    CURRENT: "CURRENT", HLD: "HLD", SCR: "SCR", FAULT: "FAULT", VOC_LINK: "VOC-LINK", FENCE: "FENCE",
 }
 CHAIN_TOO_LONG = 5  # a server's cause
 CAUSES = {

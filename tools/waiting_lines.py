@@ -1,4 +1,4 @@
-"""A signal comes where its exception is dropped, or where a write has begun that the terminal holds.
+"""A signal comes where its exception is dropped, or while a terminal holds a write.
 
     waiting_lines.py COMMANDS SIGNAL begin|complete    shows what ended the wait for a line, and whether the function was done whole
     waiting_lines.py COMMANDS SIGNAL hold              shows that the write has ended

@@ -8,8 +8,8 @@ from served.faults import Input
 from served.table import FIRST, SECOND
 from served.texts import FIRST as FIRST_TEXT, Texts
 from served.wire import Refused, Stop, Wire, cells, packed
+from system_cells import BASE, BLK, CONTEXT, DP, FAULT, FENCE, FORTH_VOC, SCR, STATE, TIB, TO_IN  # noqa: F401
 
-STATE, BASE, TO_IN, BLK, DP, CONTEXT, SCR, FAULT, FORTH_VOCABULARY, FENCE, TIB = 16, 18, 20, 22, 28, 32, 38, 40, 42, 54, 128
 TOP = 65536
 BLOCK = 1024
 MOST_NOTED = 200_000  # answers of a line that are kept for WHY: a program that polls the keyboard for days takes no more memory

@@ -7,7 +7,7 @@ from typing import Iterable, Iterator, Sequence
 from served import image, paging
 from served.faults import plain, section
 from served.image import ROOT
-from served.target import CONTEXT, FENCE, FORTH_VOCABULARY, TOP, Target, plain_name
+from served.target import CONTEXT, FENCE, FORTH_VOC, TOP, Target, plain_name
 from served.wire import Header
 
 WIDTH = 64
@@ -21,7 +21,7 @@ def visible(target: Target, vocabularies: Sequence[int] = ()) -> list[Header]:
     memory = target.wire.memory(0, TOP)
     by_link = {header.token - 3 - len(header.name): header for header in target.wire.headers()}
     found: dict[bytes, tuple[int, Header]] = {}
-    for vocabulary in vocabularies or (cell_of(memory, CONTEXT), FORTH_VOCABULARY):
+    for vocabulary in vocabularies or (cell_of(memory, CONTEXT), FORTH_VOC):
         for link in links(memory, vocabulary):
             header = by_link.get(link)
             if header and not header.is_hidden and header.name not in found:

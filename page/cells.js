@@ -1,0 +1,21 @@
+// Addresses in the memory of a machine, which the system keeps for itself. tools/make-words writes this file from crates/memory/src/system.rt.
+export const SYSTEM = {
+  state: 16,
+  base: 18,
+  toIn: 20,
+  blk: 22,
+  numberTib: 24,
+  span: 26,
+  dp: 28,
+  last: 30,
+  context: 32,
+  current: 34,
+  hld: 36,
+  scr: 38,
+  fault: 40,
+  forthVoc: 42,
+  vocLink: 52,
+  fence: 54,
+  runtimeCells: 64,
+  tib: 128,
+};
