@@ -1,6 +1,7 @@
 """Tries the page in a headless Chromium, as a person would: by keys, clicks, files and reloads."""
 import base64
 import json
+import os
 import pathlib
 import re
 import subprocess
@@ -22,8 +23,13 @@ TABS = ("start", "screens", "disk", "course", "film", "map", "canvas", "words", 
 CONTROL = 2
 
 
+def slowness() -> float:
+    """How many times longer than on a quiet machine things may take, as other work shares its processors."""
+    return max(1.0, os.getloadavg()[0] / (os.cpu_count() or 1))
+
+
 class Trial:
-    """A browser with the page."""
+    """A browser with the page. Limits are those of a quiet machine, in seconds."""
 
     def __init__(self, browser: browsers.Browser, page: pathlib.Path, cases: Tally) -> None:
         self.browser, self.page, self.cases = browser, page, cases
@@ -33,7 +39,7 @@ class Trial:
         return self.browser.value(expression)
 
     def wait(self, expression: str, seconds: float = 10) -> bool:
-        until = time.time() + seconds
+        until = time.time() + seconds * slowness()
         while time.time() < until:
             if self.value(expression):
                 return True
@@ -207,7 +213,7 @@ def stops(trial: Trial) -> None:
         trial.enter(program)
         time.sleep(0.4)
         before = time.time()
-        trial.must(trial.value("page.session.isRunning") and time.time() - before < 2, f"{what} doesn't run, or the page doesn't answer")
+        trial.must(trial.value("page.session.isRunning") and time.time() - before < 2 * slowness(), f"{what} doesn't run, or the page doesn't answer")
         trial.press("Escape", 27) if what == "a loop" else trial.click("stop")
         trial.must(trial.idle(15) and "interrupted" in trial.shown(), f"{what} isn't stopped")
         trial.must(len(trial.shown()) < 80000, f"the output of {what} isn't cut")
