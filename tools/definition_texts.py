@@ -1,80 +1,111 @@
-"""What screens define, and words as text, by the definitions: a witness is looked for, and the definitions say whether it is one."""
+"""What screens define or why they are refused, and words as text, by the definitions: a witness is looked for, and they say whether it is one."""
 from typing import Any, List, Optional, Tuple
 
 from antt import Unknown
 from definition_machine import NONE, defined
+from std_words import listed
 
 BODY, ITEMS = "colon_bodies", "image_builder"
-SEMI = ("SEMI",)
+SEMI, WHOLE = ("SEMI",), ("Whole",)
 MAKES = {"Variable": ("Variable",), "Create": ("Create",), "Vocabulary": ("Vocabulary",)}
 LAYS = {"Comma": "Cell", "CharComma": "Byte", "Allot": "Allot"}
-Found = Optional[Tuple[int, Any]]
+Step = Tuple[Any, Optional[Any]]
 
 
 def title(place: Any) -> str:
     """A word of a source, by where it is."""
-    return f"screen {place.f_screen}, place {place.f_offset}, `{place.f_name[:31].decode('ascii', 'replace')}`"
+    return f"screen {place.f_screen} offset {place.f_offset}"
 
 
-def body_of(items: Any, places: List[Any]) -> Tuple[int, Any]:
-    """How many words a body has with its `;`, and the definition that they are."""
-    half, state = ("Free",), ("At", ("Top",), ("Empty",), ("Free",))
-    for count, place in enumerate(places, 1):
-        meant = defined(f"{ITEMS}.Meanings.meaning")(half, items, place)
-        if meant[0] == "Err":
-            raise Unknown(f"{title(place)}: by `meaning` it is refused: {meant[1][0]}")
-        half = defined(f"{BODY}.Rules.half_after")(half, meant[1])
-        read = defined(f"{BODY}.Open.whole")(*state[1:]) if meant[1] == SEMI else defined(f"{BODY}.Open.read")(*state[1:], meant[1])
-        if read == NONE:
-            raise Unknown(f"{title(place)}: by the rules of bodies it may not come here")
-        if meant[1] == SEMI:
-            return count, read[1]
-        state = read[1]
-    raise Unknown(f"{title(places[-1])}: the definition does not end" if places else "a definition does not end")
+def definition_of(words: List[Any]) -> Any:
+    """The definition that these words of a body are."""
+    state: Any = ("At", ("Top",), ("Empty",), ("Free",))
+    for word in words:
+        state = defined(f"{BODY}.Open.read")(*state[1:], word)[1]
+    return defined(f"{BODY}.Open.whole")(*state[1:])[1]
 
 
-def item_of(items: Any, places: List[Any]) -> Found:
-    """How many of these words are the next item, and that item; what it is by the first words' sorts."""
-    sorts = [place.f_sort for place in places[:2]] + [("End",)] * 2
-    first, second = sorts[0][0], sorts[1][0]
-    if first == "Number" and second in LAYS:
-        return 2, (LAYS[second], sorts[0][1])
-    if first == "Number" and second in ("Prim", "Constant") and len(places) > 2:
-        return 3, ("Header", places[2], ("Primitive" if second == "Prim" else "Constant", sorts[0][1]))
-    if first in MAKES and len(places) > 1:
-        return 2, ("Header", places[1], MAKES[first])
-    if first == "Immediate":
-        return 1, ("Immediate",)
-    if first == "Other" and second == "Definitions":
-        record = defined(f"{ITEMS}.Meanings.record_named")(items, places[0])
-        return (2, ("Definitions", record[1])) if record != NONE else None
-    if first == "Boot" and len(places) > 1:
-        name = defined(f"{ITEMS}.Meanings.look")(items, places[1])
-        return (2, ("Boot", defined(f"{ITEMS}.Names.address")(name[1]))) if name != NONE else None
-    if first == "Colon" and len(places) > 1:
-        count, body = body_of(items, places[2:])
-        return count + 2, ("Colon", places[1], body)
-    return None
+def start_of(items: Any, place: Any) -> Step:
+    """What a word begins, or is, where an item begins."""
+    kind, *number = place.f_sort
+    if kind == "Immediate":
+        return WHOLE, ("Immediate",)
+    if kind == "Other":
+        return ("Chosen", defined(f"{ITEMS}.Meanings.record_named")(items, place)[1]), None
+    if kind == "Number":
+        return ("Counted", number[0]), None
+    return ("Due", ("Makes", MAKES[kind]) if kind in MAKES else ("Defines",) if kind == "Colon" else ("Starts",)), None
+
+
+def named(items: Any, lead: Any, place: Any) -> Step:
+    """What the word is that is due as a name."""
+    if lead[0] == "Makes":
+        return WHOLE, ("Header", place, lead[1])
+    if lead[0] == "Defines":
+        return ("Inside", place, listed(())), None
+    return WHOLE, ("Boot", defined(f"{ITEMS}.Names.address")(defined(f"{ITEMS}.Meanings.look")(items, place)[1]))
+
+
+def inside(items: Any, name: Any, before: Any, place: Any) -> Step:
+    """What a word of a body leads to, after these words."""
+    half = defined(f"{BODY}.Rules.half_of")(("Free",), before)
+    word = defined(f"{ITEMS}.Meanings.meaning")(half, items, place)[1]
+    return (WHOLE, ("Colon", name, definition_of(list(before)))) if word == SEMI else (("Inside", name, (*before, word)), None)
+
+
+def step(items: Any, stage: Any, place: Any) -> Step:
+    """What is started after one more word that has no cause, and the item that is whole with it."""
+    kind = place.f_sort[0]
+    if stage == WHOLE:
+        return start_of(items, place)
+    if stage[0] == "Due":
+        return named(items, stage[1], place)
+    if stage[0] == "Inside":
+        return inside(items, stage[1], stage[2], place)
+    if stage[0] == "Chosen":
+        return WHOLE, ("Definitions", stage[1])
+    made = ("Makes", ("Primitive" if kind == "Prim" else "Constant", stage[1]))
+    return (WHOLE, (LAYS[kind], stage[1])) if kind in LAYS else (("Due", made), None)
+
+
+def items_of(places: List[Any], limit: int, last: int) -> Any:
+    """The items that the words of a source are, of which this is the last screen. A source that is refused is refused by the first word that has
+    a cause by `cause_at`."""
+    items: Any = ("Nothing",)
+    stage: Any = WHOLE
+    words: Tuple[Any, ...] = ()
+    for at, place in enumerate(places, 1):
+        cause = defined(f"{ITEMS}.Faults.cause_at")(limit, items, stage, place, listed(places[at:]))
+        if cause != NONE:
+            raise Unknown(f"{title(place)}: {cause[1][0]}")
+        stage, item = step(items, stage, place)
+        words = (*words, place)
+        if item and not defined(f"{ITEMS}.Grammar.IsSound")(limit, items, words, item):
+            raise Unknown(f"{title(place)}: no cause, and by IsSound this item may not come here")
+        items, words = (("Then", items, words, item), ()) if item else (items, words)
+    if stage != WHOLE or defined(f"{ITEMS}.Items.boot")(items) == NONE:
+        raise Unknown(f"screen {last} offset 1024: {'EndsInside' if stage != WHOLE else 'NoBoot'}")
+    return items
 
 
 def build(first: int, screens: List[bytes], buffers: int) -> Any:
     """The image that screens define, of which the first has this number; refuses a source that is not good."""
     places = list(defined(f"{ITEMS}.Spelled.all_placed")(defined("source_words.Words.source_words")(first, tuple(screens))))
-    limit, at = defined("memory.Bytes.limit_of")(buffers), 0
-    items: Tuple[Any, ...] = ("Nothing",)
-    while at < len(places):
-        found = item_of(items, places[at:])
-        if found is None:
-            raise Unknown(f"{title(places[at])}: no item that the definitions know begins here")
-        words = tuple(places[at:at + found[0]])
-        if not defined(f"{ITEMS}.Grammar.IsSound")(limit, items, words, found[1]):
-            raise Unknown(f"{title(places[at])}: by IsSound this item may not come here")
-        items = ("Then", items, words, found[1])
-        at += found[0]
-    entry = defined(f"{ITEMS}.Items.boot")(items)
-    if entry == NONE or not defined(f"{ITEMS}.Faults.IsGood")(limit, tuple(places), items, entry[1]):
-        raise Unknown("by IsGood the source is not good: it has no BOOT")
-    return {"buffers": buffers, "entry": entry[1], "bytes": defined(f"{ITEMS}.Items.image")(items)}
+    limit = defined("memory.Bytes.limit_of")(buffers)
+    items = items_of(places, limit, first + len(screens) - 1)
+    entry = defined(f"{ITEMS}.Items.boot")(items)[1]
+    if not defined(f"{ITEMS}.Faults.IsGood")(limit, tuple(places), items, entry):
+        raise Unknown("no word has a cause, and by IsGood the source is not good")
+    return {"buffers": buffers, "entry": entry, "bytes": defined(f"{ITEMS}.Items.image")(items)}
+
+
+def refusal(screens: List[bytes]) -> str:
+    """Why screens from 1 on are refused, and where; empty if they are not."""
+    try:
+        build(1, screens, 4)
+    except Unknown as refused:
+        return str(refused)
+    return ""
 
 
 def see(memory: bytes, name: bytes) -> str:

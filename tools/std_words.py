@@ -155,6 +155,7 @@ WORDS: Dict[str, Word] = {
     "digits_of": Word(2, digits, "digits_of b n: the digits of n in base b, the highest first; none for 0"),
     "is_some": Word(1, lambda x: x != NONE, "is_some x: x is no None"),
     "is_none": Word(1, lambda x: x == NONE, "is_none x: x is None"),
+    "option_map": Word(2, lambda act, x: NONE if x == NONE else ("Some", act(x[1])), "option_map f x: None of None, Some (f y) of Some y"),
     "unwrap_or": Word(2, lambda x, d: d if x == NONE else x[1], "unwrap_or None d = d; unwrap_or (Some x) d = x"),
     "IsTrue": Word(1, lambda b: b, "IsTrue b = b ≡ true"),
     "IsFalse": Word(1, lambda b: not b, "IsFalse b = b ≡ false"),

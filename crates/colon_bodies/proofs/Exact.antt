@@ -1,5 +1,6 @@
 -- A source that is good has no fault.
-use Rattle.std.proofs.Common.{◌≡◌, Bool, true, false, ℕ, ◌⊎◌, inl, inr, List, [], ◌∷◌, ◌++◌, Option, Some, None, refl, sym, ap, ◌∙◌, subst, arith, append_assoc, append-nil}
+use Rattle.std.proofs.Common.{◌≡◌, Bool, true, false, ℕ, ◌<◌, ◌≤◌, ◌⊎◌, inl, inr, List, [], ◌∷◌, ◌++◌, Option, Some, None, refl, sym, ap, ◌∙◌, subst, arith, append_assoc, append-nil}
+use Rattle.std.specs.Prelude.{◌↔◌}
 use Rattle.colon_bodies.specs.declared.words.Half.{Half}
 use Rattle.colon_bodies.specs.declared.words.Half.TheVariants.{Free}
 use Rattle.colon_bodies.specs.declared.fault.BodyCause.{BodyCause}
@@ -7,9 +8,11 @@ use Rattle.colon_bodies.specs.declared.fault.BodyCause.TheVariants as r
 use Rattle.colon_bodies.specs.Tokens.{Token, DOES, SEMI, IsShort, AreShort}
 use Rattle.colon_bodies.specs.Tree.{Body, Empty, Definition, all_words}
 use Rattle.colon_bodies.specs.Rules.{IsKnown, AreKnown, half_after, half_of, suits, has_does}
-use Rattle.colon_bodies.specs.Faults.{BeginsShallow, IsFront, Applies, IsFault, IsGood}
-use Rattle.colon_bodies.specs.Open.{Outer, Top, Past, State, At, open_words, read, past, past_after, whole}
-use Rattle.colon_bodies.proofs.Reading.{accept, accept_words, accept_all, next, finish, finish_is, read_words, whole_words}
+use Rattle.colon_bodies.specs.Faults.{BeginsShallow, IsFront, body_cause, IsFault, IsGood}
+use Rattle.colon_bodies.proofs.Causes.{Applies, rank, FirstCause}
+use Rattle.colon_bodies.specs.Open.{Outer, Top, Past, State, At, open_words, read, past, past_after, whole, open_depth}
+use Rattle.colon_bodies.proofs.Reading.{accept, accept_words, accept_all, next, finish, finish_is, read_words, whole_words, accept_open, accept_depth}
+use Rattle.colon_bodies.proofs.Opened.{Says, says, first_is}
 use Rattle.colon_bodies.proofs.Taking.{laid-append, short-append, read_half, read_suits, read_past, read_once}
 
 -- two ways to cut one list
@@ -140,10 +143,60 @@ within rt at limit source body used before after w cause g s f a =
         let same : w ≡ v = cc in
         clean rt at limit source body used before z w cause g (e ∙ ap (λ u. before ++ u ∷ z) (sym same) ∙ sym (append_assoc before (w ∷ []) z)) a
 
+-- words that a definition goes on after are read to open structures
+pub record Reached (front : List Token) : Type 0 where
+  pub outer : Outer
+  pub body : Body
+  pub half : Half
+  pub is : front ≡ open_words outer body half
+
+reach : (xs more : List Token) (o : Outer) (t : Body) (h : Half) (d : Definition) → accept o t h (xs ++ more) ≡ Some d → ((u : Definition) → all_words u ++ SEMI ∷ [] ≡ open_words o t h ++ xs → ⊥) → Reached (open_words o t h ++ xs)
+reach [] more o t h d e n = record { outer = o; body = t; half = h; is = append-nil (open_words o t h) }
+reach (x ∷ xs) more o t h d e n = by (read o t h x) refl (λ p q g a k. reach xs more p q g d a k) e
+  where
+    by : (y : Option State) → read o t h x ≡ y → ((p : Outer) (q : Body) (g : Half) → accept p q g (xs ++ more) ≡ Some d → ((u : Definition) → all_words u ++ SEMI ∷ [] ≡ open_words p q g ++ xs → ⊥) → Reached (open_words p q g ++ xs)) → next y (λ p q g. accept p q g (xs ++ more)) (finish o t h x (xs ++ more)) ≡ Some d → Reached (open_words o t h ++ (x ∷ xs))
+    by None f ih k =
+        let i = finish_is o t h d x (xs ++ more) k in
+        let z = nil_front xs more (finish_end o t h d x (xs ++ more) k) in
+        absurd (n d (ap (λ l. l ++ SEMI ∷ []) (sym (whole_words o t h d i.0)) ∙ ap (λ v. open_words o t h ++ (v ∷ [])) (sym i.1) ∙ ap (λ l. open_words o t h ++ (x ∷ l)) (sym z)))
+    by (Some (At p q g)) f ih k =
+        let e : open_words p q g ++ xs ≡ open_words o t h ++ (x ∷ xs) = ap (λ l. l ++ xs) (read_words o t h x p q g f) ∙ append_assoc (open_words o t h) (x ∷ []) xs in
+        subst (λ l. Reached l) e (ih p q g k (λ u m. n u (m ∙ e)))
+
+pub reached : (rt : ℕ → ℕ) (at limit : ℕ) (front : List Token) → IsFront rt at limit front → Reached front
+reached rt at limit front f =
+    let b = f.begins in
+    reach front b.more Top Empty Free b.body (ap (accept Top Empty Free) (sym b.is) ∙ accept_all b.body) f.open_yet
+
+reached_shallow : (rt : ℕ → ℕ) (at limit : ℕ) (front : List Token) (f : IsFront rt at limit front) (p : Reached front) → open_depth p.outer p.body ≤ 64
+reached_shallow rt at limit front f p =
+    let b = f.begins in
+    let a : accept p.outer p.body p.half b.more ≡ Some b.body =
+    sym (accept_open p.outer p.body p.half b.more) ∙ ap (λ l. accept Top Empty Free (l ++ b.more)) (sym p.is) ∙ ap (accept Top Empty Free) (sym b.is) ∙ accept_all b.body in
+    let k = accept_depth b.more p.outer p.body p.half b.body a in
+    let s = b.shallow in
+    omega (arith, k, s)
+
+-- after such words the first cause of a word is what body_cause says
+pub cause_says : (rt : ℕ → ℕ) (at limit : ℕ) (before : List Token) (w : Token) → IsFront rt at limit before → Says rt at limit before w (body_cause rt at limit before w)
+cause_says rt at limit before w f =
+    let p = reached rt at limit before f in
+    subst (λ l. Says rt at limit l w (body_cause rt at limit l w)) (sym p.is) (says rt at limit p.outer p.body p.half w (reached_shallow rt at limit before f p))
+
+pub applies : (rt : ℕ → ℕ) (at limit : ℕ) (before : List Token) (w : Token) (c : BodyCause) → IsFront rt at limit before → body_cause rt at limit before w ≡ Some c → (0 < rank c) × FirstCause rt at limit c before w
+applies rt at limit before w c f e = subst (λ x. Says rt at limit before w x) e (cause_says rt at limit before w f)
+
+pub first_exactly : (rt : ℕ → ℕ) (at limit : ℕ) (before : List Token) (w : Token) (c : BodyCause) → IsFront rt at limit before → 0 < rank c → FirstCause rt at limit c before w ↔ (body_cause rt at limit before w ≡ Some c)
+first_exactly rt at limit before w c f a =
+    let p = reached rt at limit before f in (
+      λ x. subst (λ l. body_cause rt at limit l w ≡ Some c) (sym p.is) (first_is rt at limit p.outer p.body p.half w c (reached_shallow rt at limit before f p) a (subst (λ l. FirstCause rt at limit c l w) p.is x)),
+      λ e. (applies rt at limit before w c f e).1,
+    )
+
 pub no_fault : (rt : ℕ → ℕ) (at limit : ℕ) (source : List Token) (body : Definition) (used place : ℕ) (cause : BodyCause) → IsGood rt at limit source body used → IsFault rt at limit source place cause → cause ≡ r.Memory
 no_fault rt at limit source body used place r.Memory g f = refl
 no_fault rt at limit source body used place r.EndsInside g f =
     let p = f.1 in
     absurd (p.open_yet body (not_past body p.begins.body source g.after p.begins.more g.is p.begins.is))
 no_fault rt at limit source body used place c g f =
-    within rt at limit source body used f.0 f.2 f.1 c g f.3 f.5 f.6.applies
+    within rt at limit source body used f.0 f.2 f.1 c g f.3 f.5 (applies rt at limit f.0 f.1 c f.5 f.6).1.applies

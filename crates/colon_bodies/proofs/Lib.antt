@@ -1,8 +1,10 @@
 pub mod Cells
 pub mod Parts
+pub mod Causes
 pub mod Reading
 pub mod Laying
 pub mod Taking
+pub mod Opened
 pub mod Whole
 pub mod Room
 pub mod Exact

@@ -4,7 +4,8 @@ use Rattle.colon_bodies.specs.declared.words.Half.{Half}
 use Rattle.colon_bodies.specs.declared.words.Half.TheVariants.{Free, Ticked, Forced, Compiling, Both}
 use Rattle.colon_bodies.specs.Tokens.{Token, NAME, THEN, UNTIL, REPEAT, LOOP, SEMI}
 use Rattle.colon_bodies.specs.Tree.{Body, Empty, Call, Tick, Pair, IfThen, IfElse, Until, While, Loop, Definition, Simple, Doing, words, all_words, depth, all_depth}
-use Rattle.colon_bodies.specs.Faults.{Begins, BeginsShallow}
+use Rattle.colon_bodies.specs.Faults.{BeginsShallow}
+use Rattle.colon_bodies.proofs.Causes.{Begins}
 use Rattle.colon_bodies.specs.Open.{Outer, Top, Past, InIf, InElse, InBegin, InWhile, InDo, State, At, outer_words, open_words, complete, fit, read, whole, open_depth}
 use Rattle.colon_bodies.proofs.Parts.{by_parts, by_frames}
 

@@ -12,7 +12,8 @@ use Rattle.colon_bodies.specs.Tree.{Body, Empty, Text, Definition, Simple, Doing
 use Rattle.colon_bodies.specs.Code.{size, all_size, thread}
 use Rattle.memory.specs.Bytes.{cell_bytes}
 use Rattle.colon_bodies.specs.Rules.{IsKnown, AreKnown, half_after, half_of, suits, has_does}
-use Rattle.colon_bodies.specs.Faults.{Begins, BeginsShallow, Applies, rank, FirstCause}
+use Rattle.colon_bodies.specs.Faults.{BeginsShallow}
+use Rattle.colon_bodies.proofs.Causes.{Begins, Applies, rank, FirstCause}
 use Rattle.colon_bodies.specs.Open.{Outer, Top, Past, InIf, InElse, InBegin, InWhile, InDo, State, At, outer_words, half_words, open_words, fit, read, whole, past, past_after, frames, open_depth, outer_size, half_size, open_size}
 use Rattle.colon_bodies.specs.Draft.{marks_of, Drafted, Drafts, After, Goes, Finishes, opener}
 use Rattle.colon_bodies.proofs.Cells.{length-cell}
@@ -167,7 +168,7 @@ before_bad_name rt at limit before w p known d a b h = grind (arith, before_unkn
 pub bad_name : (rt : ℕ → ℕ) (at limit : ℕ) (before : List Token) (w : Token) → Placed before w → IsKnown rt w → (IsShort w → ⊥) → FirstCause rt at limit r.BadName before w
 bad_name rt at limit before w p known bad = record { applies = bad; first = before_bad_name rt at limit before w p known }
 
-before_full : (rt : ℕ → ℕ) (at limit : ℕ) (before : List Token) (w : Token) → Placed before w → IsKnown rt w → IsShort w → (d : BodyCause) → 0 < rank d → rank d < 5 → Applies rt at limit d before w → ⊥
+pub before_full : (rt : ℕ → ℕ) (at limit : ℕ) (before : List Token) (w : Token) → Placed before w → IsKnown rt w → IsShort w → (d : BodyCause) → 0 < rank d → rank d < 5 → Applies rt at limit d before w → ⊥
 before_full rt at limit before w p known short d a b h = grind (arith, before_unknown, begun)
 
 pub full : (rt : ℕ → ℕ) (at limit : ℕ) (before : List Token) (w : Token) → Placed before w → IsKnown rt w → IsShort w → limit < at + laid (before ++ w ∷ []) → FirstCause rt at limit r.Full before w

@@ -1,16 +1,17 @@
 -- A source has one first fault.
-use Rattle.std.proofs.Common.{◌≡◌, ℕ, ◌<◌, ◌⊎◌, inl, inr, List, [], ◌∷◌, ◌++◌, length, suc, refl, sym, ap, ◌∙◌, subst, arith, append_assoc, append-nil}
+use Rattle.std.proofs.Common.{◌≡◌, ℕ, ◌⊎◌, inl, inr, List, [], ◌∷◌, ◌++◌, length, Some, refl, sym, ap, ◌∙◌, subst, arith, append_assoc, append-nil}
 use Rattle.colon_bodies.specs.declared.words.Half.TheVariants.{Free}
 use Rattle.colon_bodies.specs.declared.fault.BodyCause.{BodyCause}
 use Rattle.colon_bodies.specs.declared.fault.BodyCause.TheVariants as r
 use Rattle.colon_bodies.specs.Tokens.{Token, AreShort}
 use Rattle.colon_bodies.specs.Tree.{Empty}
 use Rattle.colon_bodies.specs.Rules.{AreKnown}
-use Rattle.colon_bodies.specs.Faults.{IsFront, Applies, rank, FirstCause, IsFault, IsSameFault}
+use Rattle.colon_bodies.specs.Faults.{IsFront, body_cause, IsFault, IsSameFault}
+use Rattle.colon_bodies.proofs.Causes.{Applies}
 use Rattle.colon_bodies.specs.Open.{Top}
 use Rattle.colon_bodies.proofs.Reading.{accept, accept_all}
 use Rattle.colon_bodies.proofs.Taking.{laid-append}
-use Rattle.colon_bodies.proofs.Exact.{two_cuts, accept_suits, well_placed, short_front, short_last, known_front, known_last}
+use Rattle.colon_bodies.proofs.Exact.{two_cuts, applies, accept_suits, well_placed, short_front, short_last, known_front, known_last}
 
 -- within words with which nothing is wrong, no word has a cause
 pub front_clean : (rt : ℕ → ℕ) (at limit : ℕ) (before rest : List Token) (w : Token) (cause : BodyCause) → IsFront rt at limit (before ++ w ∷ rest) → Applies rt at limit cause before w → cause ≡ r.Memory
@@ -39,7 +40,7 @@ record AtWord (rt : ℕ → ℕ) (at limit : ℕ) (source : List Token) (place :
   is : source ≡ before ++ word ∷ after
   place_is : place ≡ length before
   front : IsFront rt at limit before
-  first : FirstCause rt at limit cause before word
+  first : body_cause rt at limit before word ≡ Some cause
 
 abbrev View : (ℕ → ℕ) → ℕ → ℕ → List Token → ℕ → BodyCause → Type 0
 View rt at limit source place cause = (cause ≡ r.Memory) ⊎ ((cause ≡ r.EndsInside) × (place ≡ length source) × IsFront rt at limit source) ⊎ AtWord rt at limit source place cause
@@ -47,27 +48,16 @@ View rt at limit source place cause = (cause ≡ r.Memory) ⊎ ((cause ≡ r.End
 view : (rt : ℕ → ℕ) (at limit : ℕ) (source : List Token) (place : ℕ) (cause : BodyCause) → IsFault rt at limit source place cause → View rt at limit source place cause
 view rt at limit source place cause f = grind arith
 
-rank_same : (c d : BodyCause) → rank c ≡ rank d → c ≡ d
-rank_same c d e = grind arith
-
-ranked : (c : BodyCause) → (c ≡ r.Memory) ⊎ (0 < rank c)
-ranked c = grind arith
-
-order : (m n : ℕ) → (m < n) ⊎ (n < m) ⊎ (m ≡ n)
-order (suc m) (suc n) = elim (order m n) [ inl a ↦ inl (omega arith) | inr (inl a) ↦ inr (inl (omega arith)) | inr (inr a) ↦ inr (inr (ap suc a)) ]
-order m n = grind arith
-
-same_cause : (rt : ℕ → ℕ) (at limit : ℕ) (before : List Token) (w : Token) (c d : BodyCause) → FirstCause rt at limit c before w → FirstCause rt at limit d before w → 0 < rank c → 0 < rank d → c ≡ d
-same_cause rt at limit before w c d f g a b = grind (arith, order, rank_same)
-
 at_one_word : (rt : ℕ → ℕ) (at limit : ℕ) (source : List Token) (p q : ℕ) (c d : BodyCause) (f : AtWord rt at limit source p c) (g : AtWord rt at limit source q d) → g.before ≡ f.before → f.word ≡ g.word → IsSameFault p c q d
-at_one_word rt at limit source p q c d f g e h = grind (arith, ranked, same_cause)
+at_one_word rt at limit source p q c d f g e h =
+    let k : Some c ≡ Some d = sym f.first ∙ ap (λ l. body_cause rt at limit l f.word) (sym e) ∙ ap (body_cause rt at limit g.before) h ∙ g.first in
+    inr (inr (f.place_is ∙ ap length (sym e) ∙ sym g.place_is, cc))
 
 words_differ : (rt : ℕ → ℕ) (at limit : ℕ) (source : List Token) (p q : ℕ) (c d : BodyCause) (f : AtWord rt at limit source p c) (g : AtWord rt at limit source q d) (z : List Token) → g.before ≡ f.before ++ z → f.word ∷ f.after ≡ z ++ g.word ∷ g.after → IsSameFault p c q d
 words_differ rt at limit source p q c d f g [] e h = let x : f.word ≡ g.word = cc in at_one_word rt at limit source p q c d f g (e ∙ append-nil f.before) x
 words_differ rt at limit source p q c d f g (v ∷ z) e h =
     let x : f.word ≡ v = cc in
-    inl (front_clean rt at limit f.before z f.word c (subst (λ l. IsFront rt at limit l) (e ∙ ap (λ u. f.before ++ u ∷ z) (sym x)) g.front) f.first.applies)
+    inl (front_clean rt at limit f.before z f.word c (subst (λ l. IsFront rt at limit l) (e ∙ ap (λ u. f.before ++ u ∷ z) (sym x)) g.front) (applies rt at limit f.before f.word c f.front f.first).1.applies)
 
 turned : (p q : ℕ) (c d : BodyCause) → IsSameFault q d p c → IsSameFault p c q d
 turned p q c d x4 = grind arith
@@ -76,8 +66,8 @@ by_view : (rt : ℕ → ℕ) (at limit : ℕ) (source : List Token) (p q : ℕ) 
 by_view rt at limit source p q c d (inl x) g = inl x
 by_view rt at limit source p q c d f (inl x) = inr (inl x)
 by_view rt at limit source p q c d (inr (inl x)) (inr (inl y)) = inr (inr (x.1 ∙ sym y.1, x.0 ∙ sym y.0))
-by_view rt at limit source p q c d (inr (inl x)) (inr (inr g)) = inr (inl (front_clean rt at limit g.before g.after g.word d (subst (λ l. IsFront rt at limit l) g.is x.2) g.first.applies))
-by_view rt at limit source p q c d (inr (inr f)) (inr (inl y)) = inl (front_clean rt at limit f.before f.after f.word c (subst (λ l. IsFront rt at limit l) f.is y.2) f.first.applies)
+by_view rt at limit source p q c d (inr (inl x)) (inr (inr g)) = inr (inl (front_clean rt at limit g.before g.after g.word d (subst (λ l. IsFront rt at limit l) g.is x.2) (applies rt at limit g.before g.word d g.front g.first).1.applies))
+by_view rt at limit source p q c d (inr (inr f)) (inr (inl y)) = inl (front_clean rt at limit f.before f.after f.word c (subst (λ l. IsFront rt at limit l) f.is y.2) (applies rt at limit f.before f.word c f.front f.first).1.applies)
 by_view rt at limit source p q c d (inr (inr f)) (inr (inr g)) =
     elim (two_cuts f.before (f.word ∷ f.after) g.before (g.word ∷ g.after) (sym f.is ∙ g.is)) [
       | inl z ↦ words_differ rt at limit source p q c d f g z.0 z.1 z.2

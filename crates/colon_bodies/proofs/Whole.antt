@@ -9,12 +9,13 @@ use Rattle.colon_bodies.specs.Tree.{Empty, Definition, all_words, all_depth}
 use Rattle.memory.specs.Bytes.{cell_bytes}
 use Rattle.colon_bodies.specs.Code.{all_code}
 use Rattle.colon_bodies.specs.Rules.{AreKnown}
-use Rattle.colon_bodies.specs.Faults.{BeginsShallow, IsFront, FirstCause, IsFault}
+use Rattle.colon_bodies.specs.Faults.{BeginsShallow, IsFront, body_cause, IsFault}
 use Rattle.colon_bodies.specs.Open.{Top, open_words}
 use Rattle.colon_bodies.specs.Draft.{Goes, Finishes, Progress, Compiled}
 use Rattle.colon_bodies.proofs.Reading.{read_words, begins, accept_open, accept_all, accept, whole_words, whole_depth}
 use Rattle.colon_bodies.proofs.Laying.{drafted_length, length-all}
 use Rattle.colon_bodies.proofs.Cells.{length-cell}
+use Rattle.colon_bodies.proofs.Opened.{never_ends}
 use Rattle.colon_bodies.proofs.Taking.{laid-open, laid-append, laid-all, short-append, known-append}
 
 -- a list at a place
@@ -68,12 +69,12 @@ fronts rt at limit done d p =
       room = omega (arith, l, room');
     }
 
-pub faults : (rt : ℕ → ℕ) (at limit : ℕ) (source before after : List Token) (w : Token) (place : ℕ) (e : BodyCause) → source ≡ before ++ w ∷ after → place ≡ length before → IsFront rt at limit before → (e ≡ r.Memory) ⊎ FirstCause rt at limit e before w → IsFault rt at limit source place e
-faults rt at limit source before after w place e s n f x12 = grind arith
+pub faults : (rt : ℕ → ℕ) (at limit : ℕ) (source before after : List Token) (w : Token) (place : ℕ) (e : BodyCause) → source ≡ before ++ w ∷ after → place ≡ length before → IsFront rt at limit before → (e ≡ r.Memory) ⊎ (body_cause rt at limit before w ≡ Some e) → IsFault rt at limit source place e
+faults rt at limit source before after w place e s n f x12 = grind (arith, never_ends)
 
-pub word_faults : (rt : ℕ → ℕ) (at limit : ℕ) (source done after : List Token) (w : Token) (place : ℕ) (e : BodyCause) (d : Draft) (p : Progress rt at limit done d) → source ≡ done ++ w ∷ after → place ≡ length done → (e ≡ r.Memory) ⊎ FirstCause rt at limit e (open_words p.outer p.body p.half) w → IsFault rt at limit source place e
+pub word_faults : (rt : ℕ → ℕ) (at limit : ℕ) (source done after : List Token) (w : Token) (place : ℕ) (e : BodyCause) (d : Draft) (p : Progress rt at limit done d) → source ≡ done ++ w ∷ after → place ≡ length done → (e ≡ r.Memory) ⊎ (body_cause rt at limit (open_words p.outer p.body p.half) w ≡ Some e) → IsFault rt at limit source place e
 word_faults rt at limit source done after w place e d p s n c =
-    faults rt at limit source done after w place e s n (fronts rt at limit done d p) (subst (λ l. (e ≡ r.Memory) ⊎ FirstCause rt at limit e l w) (sym p.front) c)
+    faults rt at limit source done after w place e s n (fronts rt at limit done d p) (subst (λ l. (e ≡ r.Memory) ⊎ (body_cause rt at limit l w ≡ Some e)) (sym p.front) c)
 
 pub ends : (rt : ℕ → ℕ) (at limit : ℕ) (source done after : List Token) (w : Token) (place : ℕ) (d : Draft) (new : List ℕ) (p : Progress rt at limit done d) → source ≡ done ++ w ∷ after → place ≡ length done → w ≡ SEMI → Finishes rt at limit p.outer p.body p.half new → Compiled rt at limit source new (place + 1)
 ends rt at limit source done after w place d new p s n z h =

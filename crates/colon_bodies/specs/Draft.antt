@@ -17,7 +17,7 @@ use Rattle.memory.specs.Bytes.{cell_bytes}
 use Rattle.memory.specs.Controls.{number_of}
 use Rattle.memory.specs.declared.controls.Control.{Control}
 use Rattle.colon_bodies.specs.Rules.{IsKnown, AreKnown}
-use Rattle.colon_bodies.specs.Faults.{FirstCause, IsGood}
+use Rattle.colon_bodies.specs.Faults.{body_cause, IsGood}
 use Rattle.colon_bodies.specs.Open.{Outer, Top, Past, InIf, InElse, InBegin, InWhile, InDo, State, At, outer_size, open_code, open_words, open_depth, past, whole, read}
 
 -- a word without where its text is in memory
@@ -129,7 +129,7 @@ pub record Goes (rt : ℕ → ℕ) (at limit : ℕ) (o : Outer) (t : Body) (h : 
 -- what comes of one more word
 abbrev pub Taken : (ℕ → ℕ) → ℕ → ℕ → Outer → Body → Half → Token → Result Draft BodyCause → Type 0
 Taken rt at limit o t h w (Ok d) = Goes rt at limit o t h w d
-Taken rt at limit o t h w (Err e) = (e ≡ r.Memory) ⊎ FirstCause rt at limit e (open_words o t h) w
+Taken rt at limit o t h w (Err e) = (e ≡ r.Memory) ⊎ (body_cause rt at limit (open_words o t h) w ≡ Some e)
 
 -- a word that opens a structure
 abbrev pub opener : Token → Bool
@@ -149,7 +149,7 @@ pub record Finishes (rt : ℕ → ℕ) (at limit : ℕ) (o : Outer) (t : Body) (
 -- what comes of a draft's ;
 abbrev pub Ended : (ℕ → ℕ) → ℕ → ℕ → Outer → Body → Half → Result (Vec ℕ Global) BodyCause → Type 0
 Ended rt at limit o t h (Ok image) = Finishes rt at limit o t h image.items
-Ended rt at limit o t h (Err e) = (e ≡ r.Memory) ⊎ FirstCause rt at limit e (open_words o t h) SEMI
+Ended rt at limit o t h (Err e) = (e ≡ r.Memory) ⊎ (body_cause rt at limit (open_words o t h) SEMI ≡ Some e)
 
 -- how far a source was read
 pub record Progress (rt : ℕ → ℕ) (at limit : ℕ) (done : List Token) (d : Draft) : Type 0 where

@@ -1,6 +1,6 @@
 -- Which words may be where.
-use Rattle.std.specs.Prelude.{ℕ, Bool, true, false, List, [], ◌∷◌, ◌≢◌, Option, Some, None}
-use Rattle.colon_bodies.specs.Tokens.{Token, control, NAME, TICK, FORCE, COMPILE, DOES}
+use Rattle.std.specs.Prelude.{ℕ, Bool, true, false, ◌==◌, List, [], ◌∷◌, ◌≢◌, Option, Some, None}
+use Rattle.colon_bodies.specs.Tokens.{Token, control, NAME, NUMBER, DOUBLE, TEXT, TICK, FORCE, COMPILE, IF, ELSE, THEN, BEGIN, UNTIL, AGAIN, WHILE, REPEAT, DO, LOOP, DOES, SEMI}
 use Rattle.colon_bodies.specs.declared.words.Half.{Half}
 use Rattle.colon_bodies.specs.declared.words.Half.TheVariants.{Free, Ticked, Forced, Compiling, Both}
 
@@ -11,6 +11,11 @@ HasCell rt (Some k) = rt k ≢ 0
 
 abbrev pub IsKnown : (ℕ → ℕ) → Token → Type 0
 IsKnown rt w = HasCell rt (control w)
+
+-- it has none
+abbrev pub is_missing : (ℕ → ℕ) → Option ℕ → Bool
+is_missing rt None = false
+is_missing rt (Some k) = rt k == 0
 
 abbrev pub AreKnown : (ℕ → ℕ) → List Token → Type 0
 AreKnown rt [] = Unit {0}
@@ -39,3 +44,33 @@ abbrev pub has_does : List Token → Bool
 has_does [] = false
 has_does (DOES ∷ ws) = true
 has_does (_ ∷ ws) = has_does ws
+
+-- The structures that are open after one more word, the innermost first, each by its last word: IF, ELSE, BEGIN, WHILE or DO. None if the word fits
+-- nowhere.
+abbrev pub opens : Option (List Token) → Token → Option (List Token)
+opens (Some os) IF = Some (IF ∷ os)
+opens (Some os) BEGIN = Some (BEGIN ∷ os)
+opens (Some os) DO = Some (DO ∷ os)
+opens (Some (IF ∷ os)) ELSE = Some (ELSE ∷ os)
+opens (Some (IF ∷ os)) THEN = Some os
+opens (Some (ELSE ∷ os)) THEN = Some os
+opens (Some (BEGIN ∷ os)) UNTIL = Some os
+opens (Some (BEGIN ∷ os)) AGAIN = Some os
+opens (Some (BEGIN ∷ os)) WHILE = Some (WHILE ∷ os)
+opens (Some (WHILE ∷ os)) REPEAT = Some os
+opens (Some (DO ∷ os)) (LOOP k) = Some os
+opens (Some []) DOES = Some []
+opens (Some []) SEMI = Some []
+opens (Some os) (NAME w) = Some os
+opens (Some os) (NUMBER n) = Some os
+opens (Some os) (DOUBLE n) = Some os
+opens (Some os) (TEXT k bs) = Some os
+opens (Some os) TICK = Some os
+opens (Some os) FORCE = Some os
+opens (Some os) COMPILE = Some os
+opens _ _ = None
+
+-- and after all the words of a list
+abbrev pub opened : Option (List Token) → List Token → Option (List Token)
+opened os [] = os
+opened os (w ∷ ws) = opened (opens os w) ws

@@ -1,5 +1,5 @@
 -- Words of a body, looked up, and what each writes.
-use Rattle.std.specs.Prelude.{ℕ, Bool, if◌then◌else◌, ◌+◌, List, [], ◌∷◌, length, ◌<◌, Option, Some, None}
+use Rattle.std.specs.Prelude.{ℕ, Bool, false, if◌then◌else◌, nat_lt, ◌+◌, List, [], ◌∷◌, length, ◌<◌, Option, Some, None}
 use Rattle.memory.specs.Controls.{number_of}
 use Rattle.memory.specs.declared.controls.Control.TheVariants as ctl
 
@@ -73,6 +73,10 @@ laid (w ∷ ws) = laid_by w + laid ws
 abbrev pub IsShort : Token → Type 0
 IsShort (TEXT k bs) = length bs < 256
 IsShort _ = Unit {0}
+
+abbrev pub is_long : Token → Bool
+is_long (TEXT k bs) = nat_lt 255 (length bs)
+is_long _ = false
 
 abbrev pub AreShort : List Token → Type 0
 AreShort [] = Unit {0}

@@ -2,6 +2,7 @@ pub mod Finding
 pub mod Imaging
 pub mod Sound
 pub mod Standing
+pub mod Applying
 pub mod Making
 pub mod Running
 pub mod Taking

@@ -1,6 +1,6 @@
 -- The whole image, and the loop over a source's words.
 use Rattle.std.proofs.Common.{length-append, ◌≡◌, ℕ, ◌+◌, ◌*◌, ◌/◌, ◌<◌, ◌≤◌, ◌⊎◌, inl, inr, List, [], ◌∷◌, ◌++◌, length, take, get_or, zero, suc, refl, sym, ap, ◌∙◌, subst, arith, append_assoc, append-nil}
-use Rattle.std.specs.Prelude.{false, Option, None, Result, Ok, Err, slice_index}
+use Rattle.std.specs.Prelude.{false, Option, Some, None, Result, Ok, Err, slice_index}
 use Rattle.colon_bodies.specs.Tokens.{Token}
 use Rattle.memory.specs.Bytes.{cell_bytes}
 use Rattle.colon_bodies.specs.declared.words.Half.{Half}
@@ -18,7 +18,8 @@ use Rattle.image_builder.specs.Items.{Items, Nothing, item_words, controls, low,
 use Rattle.image_builder.specs.Names.{Name, newest_link}
 use Rattle.image_builder.specs.Meanings.{name_first, sense_of}
 use Rattle.image_builder.specs.Stages.{Stage, Whole, IsFront}
-use Rattle.image_builder.specs.Faults.{AtNumber, AtName, AtVocabulary, InBody, FirstCause, Applies, IsFault}
+use Rattle.image_builder.specs.Faults.{cause_at, IsFault}
+use Rattle.image_builder.proofs.Applying.{AtNumber, AtName, AtVocabulary, InBody, Applies, said}
 use Rattle.image_builder.specs.Grammar.{AreSound, IsLimit}
 use Rattle.colon_bodies.proofs.Cells.{length-cell}
 use Rattle.image_builder.proofs.Sound.{sound_end, end_above}
@@ -97,8 +98,11 @@ never : (limit : ℕ) (t : Items) (stage : Stage) (w : Place) (after : List Plac
 never limit t stage w after = grind (arith, number_never, name_never, vocabulary_never, body_never, sense_cause)
 
 -- the fault of a source
-fault_is : (limit : ℕ) (source before after : List Place) (w : Place) (t : Items) (ws : List Place) (stage : Stage) (last screen offset : ℕ) (e : Cause) → source ≡ before ++ w ∷ after → screen ≡ w.screen → offset ≡ w.offset → IsFront limit before t ws stage → FirstCause limit t stage w after e → IsFault limit source last screen offset e
-fault_is limit source before after w t ws stage last screen offset e q a b f x = grind (arith, never)
+fault_is : (limit : ℕ) (source before after : List Place) (w : Place) (t : Items) (ws : List Place) (stage : Stage) (last screen offset : ℕ) (e : Cause) → source ≡ before ++ w ∷ after → screen ≡ w.screen → offset ≡ w.offset → IsFront limit before t ws stage → cause_at limit t stage w after ≡ Some e → IsFault limit source last screen offset e
+fault_is limit source before after w t ws stage last screen offset c.OutOfMemory q a b f x = tt
+fault_is limit source before after w t ws stage last screen offset c.EndsInside q a b f x = absurd ((never limit t stage w after).0 (said limit before t ws stage w after c.EndsInside f x))
+fault_is limit source before after w t ws stage last screen offset c.NoBoot q a b f x = absurd ((never limit t stage w after).1 (said limit before t ws stage w after c.NoBoot f x))
+fault_is limit source before after w t ws stage last screen offset _ q a b f x = (before, w, after, t, ws, stage, q, a, b, f, x)
 
 memory_fault : (limit : ℕ) (source : List Place) (last screen offset : ℕ) (e : Cause) → e ≡ c.OutOfMemory → IsFault limit source last screen offset e
 memory_fault limit source last screen offset e q = subst (λ x. IsFault limit source last screen offset x) (sym q) tt

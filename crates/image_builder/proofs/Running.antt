@@ -25,7 +25,8 @@ use Rattle.image_builder.specs.Stages.{Stage, Whole, Counted, Due, Chosen, Insid
 use Rattle.colon_bodies.specs.Faults as body
 use Rattle.colon_bodies.specs.declared.fault.BodyCause.TheVariants as r
 use Rattle.image_builder.specs.declared.cause.Cause.TheVariants as c
-use Rattle.image_builder.specs.Faults.{AtItem, AtNumber, AtName, AtVocabulary, InBody, Applies, refusal, IsFault, IsGood}
+use Rattle.image_builder.specs.Faults.{IsFault, IsGood}
+use Rattle.image_builder.proofs.Applying.{AtItem, AtNumber, AtName, AtVocabulary, InBody, Applies, refusal, said}
 
 -- A reader of items, and that a good source has no fault.
 pub data St : Type 0 where
@@ -440,4 +441,4 @@ no_fault limit source u entry last screen offset c.NoBoot g f =
     let q : Some t ≡ Some u = sym (front_run Items ending limit source t [] Whole [] f.2.1) ∙ whole_run limit source u entry g in
     grind arith
 no_fault limit source u entry last screen offset cause g f =
-    absurd (clean_at limit source f.0 f.2 f.1 f.3 u f.4 f.5 entry cause g f.6 f.9 f.10.applies)
+    absurd (clean_at limit source f.0 f.2 f.1 f.3 u f.4 f.5 entry cause g f.6 f.9 (said limit f.0 f.3 f.4 f.5 f.1 f.2 cause f.9 f.10))

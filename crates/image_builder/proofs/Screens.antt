@@ -26,7 +26,8 @@ use Rattle.image_builder.specs.Places.{Place}
 use Rattle.image_builder.specs.Spelled.{all_placed, placed}
 use Rattle.image_builder.specs.Items.{Items}
 use Rattle.image_builder.specs.Stages.{Stage}
-use Rattle.image_builder.specs.Faults.{AtNumber, AtName, AtVocabulary, InBody, Applies, IsFault, IsGood, IsSameFault}
+use Rattle.image_builder.specs.Faults.{IsFault, IsGood, IsSameFault}
+use Rattle.image_builder.proofs.Applying.{AtNumber, AtName, AtVocabulary, InBody, Applies, said}
 use Rattle.image_builder.specs.State.{IsBuilt, Shows, IsState, IsRead, Goes, TakenAt}
 use Rattle.image_builder.specs.Sources.{AllReadable, AsksFor, Done, IsRefused, IsBuiltOf, IsFaultless, IsWrong, after_reads, readable, readable_words, screens, source_of, done_of, IsBuiltOfRead}
 use Rattle.image_builder.proofs.Looping.{IsOfWord, sense_cause, read_on, stops, is_front}
@@ -100,7 +101,7 @@ word_answer : {limit : ℕ} (d : Disk) (from to k screen offset : ℕ) (cause : 
     ((rest : List SourceWord) (last : ℕ) → IsFault limit (all_placed (source_words from (screens d from k) ++ rest)) last screen offset cause) →
     IsAnswer limit d from to k (settled screen offset cause from).screen (settled screen offset cause from).offset (settled screen offset cause from).cause done
 word_answer d from to k screen offset c.OutOfMemory done l q o h = ((refl, refl), q)
-word_answer {limit} d from to k screen offset c.Device done l q o h = let f = h [] 0 in absurd (none_of_device limit f.3 f.5 f.1 f.2 f.10.applies)
+word_answer {limit} d from to k screen offset c.Device done l q o h = let f = h [] 0 in absurd (none_of_device limit f.3 f.5 f.1 f.2 (said limit f.0 f.3 f.4 f.5 f.1 f.2 c.Device f.9 f.10))
 word_answer d from to k screen offset c.EndsInside done l q o h = let a = (h [] screen).0 in let b = (h [] (screen + 1)).0 in absurd (omega (arith, b))
 word_answer d from to k screen offset c.NoBoot done l q o h = let a = (h [] screen).0 in let b = (h [] (screen + 1)).0 in absurd (omega (arith, b))
 word_answer {limit} d from to k screen offset z done l q o h = (fault_of_more limit d from (readable d from (to + 1 - from)) k to screen offset z l (λ rest. h rest to), (q, o, λ rest. h rest to))

@@ -1,5 +1,5 @@
 -- A source has one first fault.
-use Rattle.std.proofs.Common.{◌≡◌, ◌≢◌, ℕ, ◌<◌, ◌≤◌, ◌⊎◌, inl, inr, List, [], ◌∷◌, ◌++◌, length, suc, refl, sym, ap, ◌∙◌, subst, arith, append_assoc, append-nil}
+use Rattle.std.proofs.Common.{◌≡◌, ◌≢◌, ℕ, ◌<◌, ◌≤◌, ◌⊎◌, inl, inr, List, [], ◌∷◌, ◌++◌, length, refl, sym, ap, ◌∙◌, subst, arith, append_assoc, append-nil}
 use Rattle.std.specs.Prelude.{Bool, true, false, cond, Option, Some, None, Result, Ok, Err}
 use Rattle.colon_bodies.specs.Tokens.{Token, SEMI}
 use Rattle.colon_bodies.specs.Tree.{Empty, Definition, all_words}
@@ -24,7 +24,9 @@ use Rattle.image_builder.specs.Items.{Header, Colon, Cell, Byte, Allot, Immediat
 use Rattle.image_builder.specs.Meanings.{look, meaning}
 use Rattle.image_builder.specs.Grammar.{AreSound, IsSound}
 use Rattle.image_builder.specs.Stages.{Stage, Whole, Counted, Due, Chosen, Inside, body_at, Begun, IsFront}
-use Rattle.image_builder.specs.Faults.{IsGood, AtItem, AtNumber, AtName, AtVocabulary, InBody, Applies, FirstCause, refusal, rank, IsFault, Next, IsSameFault}
+use Rattle.image_builder.specs.Faults.{IsGood, cause_at, IsFault, IsSameFault}
+use Rattle.image_builder.proofs.Applying.{AtItem, AtNumber, AtName, AtVocabulary, InBody, Applies, refusal, rank, Next, said, ranked}
+use Rattle.colon_bodies.proofs.Causes as causes
 use Rattle.block_buffers.specs.Disks.{Disk}
 use Rattle.image_loader.specs.Files.{Contents}
 use Rattle.memory.specs.Bytes.{limit_of}
@@ -185,7 +187,7 @@ name_clean limit t y ws w rest _ _ h so e = absurd h
 vocabulary_clean : (t : Items) (y : St) (ws : List Place) (v : ℕ) (w : Place) (rest : List Place) (sort : Sort) (cause : Cause) → AtVocabulary sort cause → then (at_vocabulary t ws v w sort) (W rest) ≡ Some y → ⊥
 vocabulary_clean t y ws v w rest sort cause h e = grind arith
 
-outcome_clean : (limit : ℕ) (t : Items) (p : Place) (before : List Token) (x : Token) (cause : Cause) → Outcome limit t p (before ++ x ∷ []) → body.Applies (controls t) (body_at t p) limit (refusal cause) before x → ⊥
+outcome_clean : (limit : ℕ) (t : Items) (p : Place) (before : List Token) (x : Token) (cause : Cause) → Outcome limit t p (before ++ x ∷ []) → causes.Applies (controls t) (body_at t p) limit (refusal cause) before x → ⊥
 outcome_clean limit t p before x cause (inl z) h =
     let b = z.body_is in
     let g = z.sound in
@@ -234,7 +236,7 @@ record AtWord (limit : ℕ) (source : List Place) (screen offset : ℕ) (cause :
   screen_is : screen ≡ word.screen
   offset_is : offset ≡ word.offset
   front : IsFront limit before items words stage
-  first : FirstCause limit items stage word after cause
+  first : cause_at limit items stage word after ≡ Some cause
 
 record AtEnd (limit : ℕ) (source : List Place) (last screen offset : ℕ) (cause : Cause) : Type 0 where
   items : Items
@@ -254,35 +256,19 @@ view limit source last screen offset c.EndsInside f = inr (inl (record { items =
 view limit source last screen offset c.NoBoot f = inr (inl (record { items = f.2.0; words = []; stage = Whole; screen_is = f.0; offset_is = f.1; front = f.2.1; kind = inr (refl, refl) }))
 view limit source last screen offset d f = inr (inr (record { before = f.0; word = f.1; after = f.2; items = f.3; words = f.4; stage = f.5; is = f.6; screen_is = f.7; offset_is = f.8; front = f.9; first = f.10 }))
 
--- the order of causes
-rank_same : (a b : Cause) → rank a ≡ rank b → a ≡ b
-rank_same a b e = grind arith
-
-ranked : (a : Cause) → (a ≡ c.OutOfMemory) ⊎ (0 < rank a)
-ranked a = grind arith
-
-order : (m n : ℕ) → (m < n) ⊎ (n < m) ⊎ (m ≡ n)
-order (suc m) (suc n) = elim (order m n) [ inl a ↦ inl (omega arith) | inr (inl a) ↦ inr (inl (omega arith)) | inr (inr a) ↦ inr (inr (ap suc a)) ]
-order m n = grind arith
-
-same_cause : (limit : ℕ) (t : Items) (stage : Stage) (w : Place) (after : List Place) (a b : Cause) → FirstCause limit t stage w after a → FirstCause limit t stage w after b → 0 < rank a → 0 < rank b → a ≡ b
-same_cause limit t stage w after a b f g x y = grind (arith, order, rank_same)
-
 pub turned : (p q o n : ℕ) (a b : Cause) → IsSameFault q n b p o a → IsSameFault p o a q n b
 turned p q o n a b x6 = grind arith
 
 at_one_word : (limit : ℕ) (source : List Place) (p q o n : ℕ) (a b : Cause) (f : AtWord limit source p o a) (g : AtWord limit source q n b) → g.before ≡ f.before → f.word ≡ g.word → f.after ≡ g.after → IsSameFault p o a q n b
 at_one_word limit source p q o n a b f g e h i =
-    elim (ranked a) [
-      | inl x ↦ inl x
-      | inr x ↦ elim (ranked b) [
-        | inl y ↦ inr (inl y)
-        | inr y ↦
-            let st = same_state limit f.before f.items g.items f.words g.words f.stage g.stage f.front (subst (λ l. IsFront limit l g.items g.words g.stage) e g.front) in
-            let g' = subst (λ v. FirstCause limit f.items f.stage f.word v b) (sym i) (subst (λ v. FirstCause limit f.items f.stage v g.after b) (sym h) (subst (λ v. FirstCause limit f.items v g.word g.after b) (sym st.2) (subst (λ v. FirstCause limit v g.stage g.word g.after b) (sym st.0) g.first))) in
-            inr (inr (f.screen_is ∙ ap (λ v. v.screen) h ∙ sym g.screen_is, f.offset_is ∙ ap (λ v. v.offset) h ∙ sym g.offset_is, same_cause limit f.items f.stage f.word f.after a b f.first g' x y))
-      ]
-    ]
+    let st = same_state limit f.before f.items g.items f.words g.words f.stage g.stage f.front (subst (λ l. IsFront limit l g.items g.words g.stage) e g.front) in
+    inr (inr (f.screen_is ∙ ap (λ v. v.screen) h ∙ sym g.screen_is, f.offset_is ∙ ap (λ v. v.offset) h ∙ sym g.offset_is, same_cause st.0 st.2))
+  where
+    same_cause : f.items ≡ g.items → f.stage ≡ g.stage → a ≡ b
+    same_cause j k =
+        let q : cause_at limit f.items f.stage f.word f.after ≡ cause_at limit g.items g.stage g.word g.after = rw (j, k, h, i) refl in
+        let z : Some a ≡ Some b = sym f.first ∙ q ∙ g.first in
+        cc
 
 words_differ : (limit : ℕ) (source : List Place) (p q o n : ℕ) (a b : Cause) (f : AtWord limit source p o a) (g : AtWord limit source q n b) (z : List Place) → g.before ≡ f.before ++ z → f.word ∷ f.after ≡ z ++ g.word ∷ g.after → IsSameFault p o a q n b
 words_differ limit source p q o n a b f g [] e h =
@@ -295,16 +281,16 @@ words_differ limit source p q o n a b f g (v ∷ z) e h =
     elim (ranked b) [
       | inl m ↦ inr (inl m)
       | inr m ↦ absurd (word_clean limit f.items f.words f.stage (At g.items g.words g.stage) f.word z (g.word ∷ g.after) a
-          (subst (λ l. Applies limit f.items f.stage f.word l a) y f.first.applies)
+          (subst (λ l. Applies limit f.items f.stage f.word l a) y (said limit f.before f.items f.words f.stage f.word f.after a f.front f.first))
           (g.front.sound, g.front.begun)
-          (inr (g.word, g.after, b, refl, g.first.applies, m))
+          (inr (g.word, g.after, b, refl, said limit g.before g.items g.words g.stage g.word g.after b g.front g.first, m))
           (walk_on limit f.before (f.word ∷ z) g.before f.items g.items f.words g.words f.stage g.stage f.front g.front (e ∙ ap (λ u. f.before ++ u ∷ z) (sym x))))
     ]
 
 front_and_word : (limit : ℕ) (source : List Place) (t : Items) (ws : List Place) (stage : Stage) (screen offset : ℕ) (cause : Cause) → IsFront limit source t ws stage → AtWord limit source screen offset cause → ⊥
 front_and_word limit source t ws stage screen offset cause f g =
     word_clean limit g.items g.words g.stage (At t ws stage) g.word g.after [] cause
-    (subst (λ l. Applies limit g.items g.stage g.word l cause) (sym (append-nil g.after)) g.first.applies)
+    (subst (λ l. Applies limit g.items g.stage g.word l cause) (sym (append-nil g.after)) (said limit g.before g.items g.words g.stage g.word g.after cause g.front g.first))
     (f.sound, f.begun) (inl refl)
     (walk_on limit g.before (g.word ∷ g.after) source g.items t g.words ws g.stage stage g.front f g.is)
 

@@ -22,14 +22,17 @@ use Rattle.image_builder.specs.Items.{Item, Header, Immediate, Definitions, Boot
 use Rattle.image_builder.specs.Meanings.{look, record_named, meaning, meanings, half_past}
 use Rattle.image_builder.specs.Grammar.{AreSound, IsSound, Spells, Fits, Leads, IsOpen}
 use Rattle.image_builder.specs.Stages.{Whole, Counted, Due, Chosen, Inside, body_at, Stage}
-use Rattle.image_builder.specs.Faults.{AtNumber, AtName, FirstCause, rank, refusal}
+use Rattle.image_builder.specs.Faults.{cause_at, inner_cause}
+use Rattle.image_builder.proofs.Applying.{AtNumber, AtName, counted_is_full}
+use Rattle.colon_bodies.specs.Faults.{body_cause}
+use Rattle.std.specs.Option.{option_map}
+use Rattle.std.proofs.lemmas.Bool.{lt-ltb, le-ltb}
 use Rattle.image_builder.specs.Built.{Built}
 use Rattle.colon_bodies.specs.Draft.{IsBlank, Drafts, Goes as BodyGoes, Finishes as BodyEnds}
 use Rattle.image_builder.specs.State.{IsState, Goes, IsSame, Ends, Shows, Taken, TakenAt, located}
 use Rattle.image_builder.proofs.Making.{built_end}
 use Rattle.colon_bodies.specs.Tokens.{Token, SEMI}
 use Rattle.colon_bodies.specs.Tree.{Body}
-use Rattle.colon_bodies.specs.Faults as body
 use Rattle.colon_bodies.specs.Rules as rules
 use Rattle.colon_bodies.specs.declared.words.Half.{Half}
 use Rattle.colon_bodies.specs.declared.words.Half.TheVariants.{Free}
@@ -70,8 +73,8 @@ whole b t ws w i h s e d =
     }
 
 -- after a number
-pub counted_full : (limit : ℕ) (t : Items) (n : ℕ) (w : Place) (after : List Place) (sort : Sort) → w.sort ≡ sort → (sort ≡ s.Comma) ⊎ (sort ≡ s.CharComma) ⊎ (sort ≡ s.Allot) → AtNumber limit t n sort c.Full → FirstCause limit t (Counted n) w after c.Full
-counted_full limit t n w after sort e o h = grind arith
+pub counted_full : (limit : ℕ) (t : Items) (n : ℕ) (w : Place) (after : List Place) (sort : Sort) → w.sort ≡ sort → (sort ≡ s.Comma) ⊎ (sort ≡ s.CharComma) ⊎ (sort ≡ s.Allot) → AtNumber limit t n sort c.Full → cause_at limit t (Counted n) w after ≡ Some c.Full
+counted_full limit t n w after sort e o h = counted_is_full limit t n w.sort (subst (λ x. AtNumber limit t n x c.Full) (sym e) h)
 
 pub counted_due : {limit : ℕ} (b : Build) (t : Items) (n : ℕ) (ws : List Place) (w : Place) (l : Lead) (sort : Sort) → IsState limit b t ws (Counted n) → w.sort ≡ sort → ((a : Place) → a.sort ≡ s.Number n → Leads l (a ∷ w ∷ [])) → IsOpen t l → Goes limit b (g.Due l) t ws w
 counted_due b t n ws w l sort h e f o = grind (arith, due)
@@ -169,11 +172,8 @@ colon_goes {limit} b t ws a w h short room' titled =
       front = refl;
     }
 
-full_alone : (limit : ℕ) (t : Items) (w : Place) (l : Lead) → (31 < length w.name → ⊥) → (d : Cause) → rank d < 8 → AtName limit t w l d → AtName limit t w l c.Full → ⊥
-full_alone limit t w l h d r a f = grind arith
-
-pub name_full : (limit : ℕ) (t : Items) (w : Place) (after : List Place) (l : Lead) → length w.name < 32 → AtName limit t w l c.Full → FirstCause limit t (Due l) w after c.Full
-name_full limit t w after l h f = record { applies = f; first = λ d a b j. full_alone limit t w l (λ x. omega (arith, x, h)) d b j f }
+pub name_full : (limit : ℕ) (t : Items) (w : Place) (after : List Place) (l : Lead) → length w.name < 32 → AtName limit t w l c.Full → cause_at limit t (Due l) w after ≡ Some c.Full
+name_full limit t w after l h f = grind (arith, lt-ltb, le-ltb)
 
 pub not_long : (b : Bool) (n : ℕ) → IsTrue b ↔ (31 < n) → b ≡ false → n < 32
 not_long b n h e = let no : 31 < n → ⊥ = λ x. let y = h.1 x in cc in omega (arith, no)
@@ -193,17 +193,11 @@ meanings_more t h inner toks w e = grind arith
 pub meanings_ok : (t : Items) (inner : List Place) (toks : List Token) (w : Place) (x : Token) → meanings Free t inner ≡ map (λ v. Ok v) toks → meaning (rules.half_of Free toks) t w ≡ Ok x → meanings Free t (inner ++ w ∷ []) ≡ map (λ v. Ok v) (toks ++ x ∷ [])
 meanings_ok t inner toks w x e m = grind (arith, meanings_more, map-append)
 
-pub means_fault : (limit : ℕ) (t : Items) (p w : Place) (before : List Token) (after : List Place) (e : Cause) → meaning (rules.half_of Free before) t w ≡ Err e → FirstCause limit t (Inside p before) w after e
-means_fault limit t p w before after e m = grind arith
+pub means_fault : (limit : ℕ) (t : Items) (p w : Place) (before : List Token) (after : List Place) (e : Cause) → meaning (rules.half_of Free before) t w ≡ Err e → cause_at limit t (Inside p before) w after ≡ Some e
+means_fault limit t p w before after e m = ap (inner_cause (controls t) (body_at t p) limit before) m
 
-earlier : (rt : ℕ → ℕ) (at limit : ℕ) (before : List Token) (x : Token) (e : BodyCause) (d : Cause) → body.FirstCause rt at limit e before x → 0 < rank d → rank d < rank (cause_of e) → body.Applies rt at limit (refusal d) before x → ⊥
-earlier rt at limit before x e d f a b h = grind arith
-
-again : (rt : ℕ → ℕ) (at limit : ℕ) (before : List Token) (x : Token) (e : BodyCause) → body.FirstCause rt at limit e before x → (e ≡ r.Memory) ⊎ body.Applies rt at limit (refusal (cause_of e)) before x
-again rt at limit before x e f = grind arith
-
-pub body_fault : (limit : ℕ) (t : Items) (p w : Place) (before : List Token) (after : List Place) (x : Token) (e : Cause) (d : BodyCause) → meaning (rules.half_of Free before) t w ≡ Ok x → e ≡ cause_of d → body.FirstCause (controls t) (body_at t p) limit d before x → (e ≡ c.OutOfMemory) ⊎ FirstCause limit t (Inside p before) w after e
-body_fault limit t p w before after x e d m q f = grind (arith, again, earlier)
+pub body_fault : (limit : ℕ) (t : Items) (p w : Place) (before : List Token) (after : List Place) (x : Token) (e : Cause) (d : BodyCause) → meaning (rules.half_of Free before) t w ≡ Ok x → e ≡ cause_of d → body_cause (controls t) (body_at t p) limit before x ≡ Some d → (e ≡ c.OutOfMemory) ⊎ (cause_at limit t (Inside p before) w after ≡ Some e)
+body_fault limit t p w before after x e d m q f = inr (ap (inner_cause (controls t) (body_at t p) limit before) m ∙ ap (option_map cause_of) f ∙ ap Some (sym q))
 
 pub same_built : {limit : ℕ} (b new : Build) (t : Items) → Built limit b t → IsSame b new → Built limit new t
 same_built b new t h k = grind arith
@@ -268,10 +262,10 @@ taken_out b t ws p before at draft h e k = grind (arith, draft_in)
 pub goes_out : {limit : ℕ} (b new : Build) (t : Items) (p : Place) (at : ℕ) (o : Outer) (u : Body) (h : Half) (x : Token) → Built limit b t → at ≡ body_at t p → BodyGoes (slice_index b.runtime.items) at b.limit o u h x new.draft → BodyGoes (controls t) (body_at t p) limit o u h x new.draft
 goes_out {limit} b new t p at o u h x i e g = grind arith
 
-pub cause_out : {limit : ℕ} (b : Build) (t : Items) (ws : List Place) (p : Place) (before : List Token) (at : ℕ) (d : BodyCause) (x : Token) (h : IsState limit b t ws (Inside p before)) → at ≡ body_at t p → body.FirstCause (slice_index b.runtime.items) at b.limit d (open_words h.drafts.outer h.drafts.body h.drafts.half) x → body.FirstCause (controls t) (body_at t p) limit d before x
+pub cause_out : {limit : ℕ} (b : Build) (t : Items) (ws : List Place) (p : Place) (before : List Token) (at : ℕ) (d : BodyCause) (x : Token) (h : IsState limit b t ws (Inside p before)) → at ≡ body_at t p → (body_cause (slice_index b.runtime.items) at b.limit (open_words h.drafts.outer h.drafts.body h.drafts.half) x ≡ Some d) → (body_cause (controls t) (body_at t p) limit before x ≡ Some d)
 cause_out {limit} b t ws p before at d x h e f = grind arith
 
-pub word_fault : {limit : ℕ} (b : Build) (t : Items) (ws : List Place) (p w : Place) (before : List Token) (after : List Place) (at : ℕ) (x : Token) (e : Cause) (h : IsState limit b t ws (Inside p before)) → at ≡ body_at t p → meaning (rules.half_of Free before) t w ≡ Ok x → (e ≡ c.OutOfMemory) ⊎ ((d : BodyCause) × (e ≡ cause_of d) × body.FirstCause (slice_index b.runtime.items) at b.limit d (open_words h.drafts.outer h.drafts.body h.drafts.half) x) → (e ≡ c.OutOfMemory) ⊎ FirstCause limit t (Inside p before) w after e
+pub word_fault : {limit : ℕ} (b : Build) (t : Items) (ws : List Place) (p w : Place) (before : List Token) (after : List Place) (at : ℕ) (x : Token) (e : Cause) (h : IsState limit b t ws (Inside p before)) → at ≡ body_at t p → meaning (rules.half_of Free before) t w ≡ Ok x → (e ≡ c.OutOfMemory) ⊎ ((d : BodyCause) × (e ≡ cause_of d) × (body_cause (slice_index b.runtime.items) at b.limit (open_words h.drafts.outer h.drafts.body h.drafts.half) x ≡ Some d)) → (e ≡ c.OutOfMemory) ⊎ (cause_at limit t (Inside p before) w after ≡ Some e)
 word_fault b t ws p w before after at x e h q m (inl z) = inl z
 word_fault {limit} b t ws p w before after at x e h q m (inr z) = body_fault limit t p w before after x e z.0 m z.1 (cause_out b t ws p before at z.0 x h q z.2)
 
@@ -279,10 +273,10 @@ word_fault {limit} b t ws p w before after at x e h q m (inr z) = body_fault lim
 pub at_title : {limit : ℕ} (b : Build) (t : Items) (p : Place) (name : List ℕ) (here n : ℕ) → Built limit b t → here ≡ length b.image.items + 256 → n ≡ length name → p.name ≡ name → here + 7 + n ≡ body_at t p
 at_title b t p name here n h e l q = let z = built_end b t h in let k = ap length q in omega arith
 
-pub end_fault : (limit : ℕ) (t : Items) (p w : Place) (before : List Token) (after : List Place) (e : Cause) → meaning (rules.half_of Free before) t w ≡ Ok SEMI → (e ≡ c.OutOfMemory) ⊎ ((d : BodyCause) × (e ≡ cause_of d) × body.FirstCause (controls t) (body_at t p) limit d before SEMI) → (e ≡ c.OutOfMemory) ⊎ FirstCause limit t (Inside p before) w after e
+pub end_fault : (limit : ℕ) (t : Items) (p w : Place) (before : List Token) (after : List Place) (e : Cause) → meaning (rules.half_of Free before) t w ≡ Ok SEMI → (e ≡ c.OutOfMemory) ⊎ ((d : BodyCause) × (e ≡ cause_of d) × (body_cause (controls t) (body_at t p) limit before SEMI ≡ Some d)) → (e ≡ c.OutOfMemory) ⊎ (cause_at limit t (Inside p before) w after ≡ Some e)
 end_fault limit t p w before after e m x8 = grind (arith, body_fault)
 
-pub ended_cause : {limit : ℕ} (b : Build) (t : Items) (ws : List Place) (p : Place) (before : List Token) (at : ℕ) (e : Cause) (d : BodyCause) (h : IsState limit b t ws (Inside p before)) → at ≡ body_at t p → e ≡ cause_of d → (d ≡ r.Memory) ⊎ body.FirstCause (slice_index b.runtime.items) at b.limit d (open_words h.drafts.outer h.drafts.body h.drafts.half) SEMI → (e ≡ c.OutOfMemory) ⊎ ((x : BodyCause) × (e ≡ cause_of x) × body.FirstCause (controls t) (body_at t p) limit x before SEMI)
+pub ended_cause : {limit : ℕ} (b : Build) (t : Items) (ws : List Place) (p : Place) (before : List Token) (at : ℕ) (e : Cause) (d : BodyCause) (h : IsState limit b t ws (Inside p before)) → at ≡ body_at t p → e ≡ cause_of d → (d ≡ r.Memory) ⊎ (body_cause (slice_index b.runtime.items) at b.limit (open_words h.drafts.outer h.drafts.body h.drafts.half) SEMI ≡ Some d) → (e ≡ c.OutOfMemory) ⊎ ((x : BodyCause) × (e ≡ cause_of x) × (body_cause (controls t) (body_at t p) limit before SEMI ≡ Some x))
 ended_cause b t ws p before at e d h q i x11 = grind (arith, cause_out)
 
 pub ended_in : {limit : ℕ} (b : Build) (t : Items) (ws : List Place) (p : Place) (before : List Token) (at : ℕ) (image : List ℕ) (h : IsState limit b t ws (Inside p before)) → at ≡ body_at t p → BodyEnds (slice_index b.runtime.items) at b.limit h.drafts.outer h.drafts.body h.drafts.half image → BodyEnds (controls t) (body_at t p) limit h.drafts.outer h.drafts.body h.drafts.half image

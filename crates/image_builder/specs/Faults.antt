@@ -1,9 +1,9 @@
 -- Good sources, and the first fault of any other.
-use Rattle.std.specs.Prelude.{◌≡◌, ◌≢◌, ℕ, ◌+◌, ◌<◌, ◌≤◌, ◌⊎◌, List, [], ◌∷◌, ◌++◌, length, Some, None, Result, Ok, Err}
+use Rattle.std.specs.Prelude.{◌≡◌, ◌≢◌, ℕ, ◌+◌, ◌⊎◌, nat_lt, ◌==◌, ◌&&◌, if◌then◌else◌, List, [], ◌∷◌, ◌++◌, length, Option, Some, None, is_some, Result, Ok, Err}
+use Rattle.std.specs.Option.{option_map}
 use Rattle.colon_bodies.specs.Tokens.{Token}
 use Rattle.colon_bodies.specs.declared.words.Half.TheVariants.{Free}
-use Rattle.colon_bodies.specs.declared.fault.BodyCause.{BodyCause}
-use Rattle.colon_bodies.specs.Meaning.{Sense, Plain}
+use Rattle.colon_bodies.specs.Meaning.{by_spelling}
 use Rattle.image_builder.specs.Places.{Place}
 use Rattle.image_builder.specs.Items.{Items, item_words, head_size, kind_size, end_of, names, controls, boot}
 use Rattle.image_builder.specs.declared.entry.Lead.{Lead}
@@ -12,108 +12,79 @@ use Rattle.image_builder.specs.declared.spot.Sort.{Sort}
 use Rattle.image_builder.specs.declared.cause.Cause.{Cause}
 use Rattle.colon_bodies.specs.Faults as body
 use Rattle.colon_bodies.specs.Rules as rules
-use Rattle.colon_bodies.specs.declared.fault.BodyCause.TheVariants as r
 use Rattle.image_builder.specs.declared.spot.Sort.TheVariants as s
 use Rattle.image_builder.specs.declared.cause.Cause.TheVariants as c
 use Rattle.image_builder.specs.Meanings.{look, record_named, meaning}
-use Rattle.image_builder.specs.Grammar.{IsPrimitive, AreSound}
+use Rattle.image_builder.specs.Grammar.{may_name, AreSound}
+use Rattle.image_builder.specs.Causes.{cause_of}
 use Rattle.image_builder.specs.Stages.{Stage, body_at, IsFront, Whole, Counted, Due, Chosen, Inside}
 
--- the next word is of this sort
-abbrev pub Next : List Place → Sort → Type 0
-Next [] s = ⊥
-Next (p ∷ ps) s = p.sort ≡ s
+-- the cause of a number, by the sort of the word after it
+abbrev pub figure_cause : Items → (n : ℕ) → Sort → Option Cause
+figure_cause t n s.Allot = if nat_lt n 32768 then None else Some c.BadNumber
+figure_cause t n s.Prim = if may_name t n then None else Some c.BadPrimitive
+figure_cause t n _ = None
 
--- the causes of a word where an item begins
-abbrev pub AtItem : Items → (w : Place) → (after : List Place) → Sort → Cause → Type 0
-AtItem t w after s.Double c.BadNumber = Unit {0}
-AtItem t w after (s.Number n) c.BadNumber = (32768 ≤ n) × Next after s.Allot
-AtItem t w after (s.Number n) c.BadPrimitive = Next after s.Prim × (IsPrimitive t n → ⊥)
-AtItem t w after s.Prim c.Misplaced = Unit {0}
-AtItem t w after s.Constant c.Misplaced = Unit {0}
-AtItem t w after s.Comma c.Misplaced = Unit {0}
-AtItem t w after s.CharComma c.Misplaced = Unit {0}
-AtItem t w after s.Allot c.Misplaced = Unit {0}
-AtItem t w after s.Definitions c.Misplaced = Unit {0}
-AtItem t w after s.Immediate c.Misplaced = names t ≡ []
-AtItem t w after s.Boot c.Misplaced = boot t ≢ None
-AtItem t w after s.Other c.Misplaced = (look t w ≢ None) × (record_named t w ≡ None)
-AtItem t w after s.Other c.Unknown = (look t w ≡ None) × (record_named t w ≡ None)
-AtItem t w after _ _ = ⊥
+abbrev pub next_sort : List Place → Sort
+next_sort [] = s.Other
+next_sort (p ∷ ps) = p.sort
+
+-- of a word where an item begins
+abbrev pub item_cause : Items → (w : Place) → (after : List Place) → Sort → Option Cause
+item_cause t w after s.Double = Some c.BadNumber
+item_cause t w after (s.Number n) = figure_cause t n (next_sort after)
+item_cause t w after s.Variable = None
+item_cause t w after s.Create = None
+item_cause t w after s.Vocabulary = None
+item_cause t w after s.Colon = None
+item_cause t w after s.Immediate = if length (names t) == 0 then Some c.Misplaced else None
+item_cause t w after s.Boot = if is_some (boot t) then Some c.Misplaced else None
+item_cause t w after s.Other =
+    if is_some (record_named t w) then None
+    else if is_some (look t w) then Some c.Misplaced
+    else Some c.Unknown
+item_cause t w after _ = Some c.Misplaced
 
 -- of a word after a number
-abbrev pub AtNumber : (limit : ℕ) → Items → (n : ℕ) → Sort → Cause → Type 0
-AtNumber limit t n s.Double c.BadNumber = Unit {0}
-AtNumber limit t n s.Prim c.Misplaced = ⊥
-AtNumber limit t n s.Constant c.Misplaced = ⊥
-AtNumber limit t n s.Comma c.Misplaced = ⊥
-AtNumber limit t n s.CharComma c.Misplaced = ⊥
-AtNumber limit t n s.Allot c.Misplaced = ⊥
-AtNumber limit t n _ c.Misplaced = Unit {0}
-AtNumber limit t n s.Comma c.Full = limit < end_of t + 2
-AtNumber limit t n s.CharComma c.Full = limit < end_of t + 1
-AtNumber limit t n s.Allot c.Full = (n < 32768) × (limit < end_of t + n)
-AtNumber limit t n _ _ = ⊥
+abbrev pub counted_cause : (limit : ℕ) → Items → (n : ℕ) → Sort → Option Cause
+counted_cause limit t n s.Double = Some c.BadNumber
+counted_cause limit t n s.Prim = None
+counted_cause limit t n s.Constant = None
+counted_cause limit t n s.Comma = if nat_lt limit (end_of t + 2) then Some c.Full else None
+counted_cause limit t n s.CharComma = if nat_lt limit (end_of t + 1) then Some c.Full else None
+counted_cause limit t n s.Allot = if nat_lt n 32768 && nat_lt limit (end_of t + n) then Some c.Full else None
+counted_cause limit t n _ = Some c.Misplaced
 
--- of a word that is due as a name
-abbrev pub IsPlainSense : Sense → Type 0
-IsPlainSense Plain = Unit {0}
-IsPlainSense _ = ⊥
+-- of a word that is due as a name: of a header with these bytes, or of BOOT
+abbrev pub header_cause : (limit : ℕ) → Items → (w : Place) → (size : ℕ) → Option Cause
+header_cause limit t w size =
+    if nat_lt 31 (length w.name) then Some c.BadName
+    else if nat_lt limit (end_of t + size) then Some c.Full
+    else None
 
-abbrev pub AtName : (limit : ℕ) → Items → (w : Place) → Lead → Cause → Type 0
-AtName limit t w (Makes k) c.BadName = 31 < length w.name
-AtName limit t w (Makes k) c.Full = limit < end_of t + (head_size w + kind_size k)
-AtName limit t w Defines c.BadName = 31 < length w.name
-AtName limit t w Defines c.Full = limit < end_of t + head_size w
-AtName limit t w Starts c.Misplaced = (look t w ≡ None) × (IsPlainSense w.inner → ⊥)
-AtName limit t w Starts c.Unknown = (look t w ≡ None) × IsPlainSense w.inner
-AtName limit t w _ _ = ⊥
+abbrev pub name_cause : (limit : ℕ) → Items → (w : Place) → Lead → Option Cause
+name_cause limit t w (Makes k) = header_cause limit t w (head_size w + kind_size k)
+name_cause limit t w Defines = header_cause limit t w (head_size w)
+name_cause limit t w Starts = if is_some (look t w) then None else by_spelling (λ x. Some c.Misplaced) (Some c.Misplaced) (Some c.Unknown) w.inner
 
 -- of a word after a vocabulary's name
-abbrev pub AtVocabulary : Sort → Cause → Type 0
-AtVocabulary s.Double c.BadNumber = Unit {0}
-AtVocabulary s.Definitions c.Misplaced = ⊥
-AtVocabulary _ c.Misplaced = Unit {0}
-AtVocabulary _ _ = ⊥
+abbrev pub vocabulary_cause : Sort → Option Cause
+vocabulary_cause s.Double = Some c.BadNumber
+vocabulary_cause s.Definitions = None
+vocabulary_cause _ = Some c.Misplaced
 
 -- of a word in a body, by what it means
-abbrev pub refusal : Cause → BodyCause
-refusal c.Misplaced = r.Misplaced
-refusal c.Unbalanced = r.Unbalanced
-refusal c.Unknown = r.Unknown
-refusal c.BadName = r.BadName
-refusal c.Full = r.Full
-refusal _ = r.EndsInside
+abbrev pub inner_cause : (rt : ℕ → ℕ) → (at limit : ℕ) → (before : List Token) → Result Token Cause → Option Cause
+inner_cause rt at limit before (Ok w) = option_map cause_of (body.body_cause rt at limit before w)
+inner_cause rt at limit before (Err d) = Some d
 
-abbrev pub InBody : (rt : ℕ → ℕ) → (at limit : ℕ) → (before : List Token) → Result Token Cause → Cause → Type 0
-InBody rt at limit before (Ok w) cause = body.Applies rt at limit (refusal cause) before w
-InBody rt at limit before (Err d) cause = d ≡ cause
-
-abbrev pub Applies : (limit : ℕ) → Items → Stage → (w : Place) → (after : List Place) → Cause → Type 0
-Applies limit t Whole w after cause = AtItem t w after w.sort cause
-Applies limit t (Counted n) w after cause = AtNumber limit t n w.sort cause
-Applies limit t (Due l) w after cause = AtName limit t w l cause
-Applies limit t (Chosen v) w after cause = AtVocabulary w.sort cause
-Applies limit t (Inside p before) w after cause = InBody (controls t) (body_at t p) limit before (meaning (rules.half_of Free before) t w) cause
-
--- the order of causes
-abbrev pub rank : Cause → ℕ
-rank c.OutOfMemory = 0
-rank c.EndsInside = 1
-rank c.BadNumber = 2
-rank c.BadPrimitive = 3
-rank c.Misplaced = 4
-rank c.Unbalanced = 5
-rank c.Unknown = 6
-rank c.BadName = 7
-rank c.Full = 8
-rank c.NoBoot = 9
-rank c.Device = 10
-
--- the first cause of a word
-pub record FirstCause (limit : ℕ) (t : Items) (stage : Stage) (w : Place) (after : List Place) (cause : Cause) : Type 0 where
-  pub applies : Applies limit t stage w after cause
-  pub first : (d : Cause) → 0 < rank d → rank d < rank cause → Applies limit t stage w after d → ⊥
+-- why a word is refused after these items and what is started of the next, if it is; some words come after it
+abbrev pub cause_at : (limit : ℕ) → Items → Stage → (w : Place) → (after : List Place) → Option Cause
+cause_at limit t Whole w after = item_cause t w after w.sort
+cause_at limit t (Counted n) w after = counted_cause limit t n w.sort
+cause_at limit t (Due l) w after = name_cause limit t w l
+cause_at limit t (Chosen v) w after = vocabulary_cause w.sort
+cause_at limit t (Inside p before) w after = inner_cause (controls t) (body_at t p) limit before (meaning (rules.half_of Free before) t w)
 
 -- the first fault of a source: screen and offset, and the cause; ends at the offset 1024 of the last screen
 abbrev pub IsFault : (limit : ℕ) → List Place → (last screen offset : ℕ) → Cause → Type 0
@@ -124,7 +95,7 @@ IsFault limit source last screen offset c.NoBoot =
     (screen ≡ last) × (offset ≡ 1024) × ((t : Items) × IsFront limit source t [] Whole × (boot t ≡ None))
 IsFault limit source last screen offset cause =
     (before : List Place) × (w : Place) × (after : List Place) × (t : Items) × (ws : List Place) × (stage : Stage)
-    × (source ≡ before ++ w ∷ after) × (screen ≡ w.screen) × (offset ≡ w.offset) × IsFront limit before t ws stage × FirstCause limit t stage w after cause
+    × (source ≡ before ++ w ∷ after) × (screen ≡ w.screen) × (offset ≡ w.offset) × IsFront limit before t ws stage × (cause_at limit t stage w after ≡ Some cause)
 
 -- no fault is found in it, lack of memory aside
 abbrev pub HasNoFault : (limit : ℕ) → List Place → Type 0

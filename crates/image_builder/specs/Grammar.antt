@@ -1,6 +1,6 @@
 -- The words of items, and which items may be where.
 use Rattle.std.proofs.Math.Dec.{ltb}
-use Rattle.std.specs.Prelude.{◌≡◌, ◌≢◌, ℕ, Bool, false, ◌||◌, ◌&&◌, ◌+◌, ◌<◌, ◌≤◌, List, [], ◌∷◌, ◌++◌, map, length, Some, None, Ok}
+use Rattle.std.specs.Prelude.{◌≡◌, ◌≢◌, ℕ, Bool, true, not, nat_le, nat_lt, ◌==◌, ◌||◌, ◌&&◌, ◌+◌, ◌<◌, ◌≤◌, List, [], ◌∷◌, ◌++◌, map, length, Some, None, Ok}
 use Rattle.colon_bodies.specs.Tokens.{SEMI}
 use Rattle.colon_bodies.specs.Tree.{all_words, all_depth}
 use Rattle.colon_bodies.specs.declared.words.Half.TheVariants.{Free}
@@ -27,8 +27,8 @@ is_gap n =
     || (ltb 121 n && ltb n 128) || (ltb 134 n && ltb n 144) || (ltb 157 n && ltb n 168) || (ltb 197 n && ltb n 200)
 
 -- a number of a primitive that may be named
-abbrev pub IsPrimitive : Items → ℕ → Type 0
-IsPrimitive t n = (number_of ctl.Exit ≤ n) × (n < PRIMITIVES_END) × (is_gap n ≡ false) × (n < CONTROLS_END → controls t n ≡ 0)
+abbrev pub may_name : Items → ℕ → Bool
+may_name t n = nat_le (number_of ctl.Exit) n && nat_lt n PRIMITIVES_END && not (is_gap n) && (nat_le CONTROLS_END n || controls t n == 0)
 
 -- the words are one, or two, of these sorts
 abbrev pub One : List Place → Sort → Type 0
@@ -49,7 +49,7 @@ Leads Starts ws = One ws s.Boot
 
 -- what may follow what leads up to it
 abbrev pub IsOpen : Items → Lead → Type 0
-IsOpen t (Makes (Primitive n)) = IsPrimitive t n
+IsOpen t (Makes (Primitive n)) = may_name t n ≡ true
 IsOpen t Starts = boot t ≡ None
 IsOpen t _ = Unit {0}
 

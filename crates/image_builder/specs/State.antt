@@ -2,7 +2,7 @@
 use Rattle.std.specs.Prelude.{Bool, true, false, ◌≡◌, ℕ, ◌+◌, ◌<◌, ◌≤◌, ◌⊎◌, List, [], ◌∷◌, ◌++◌, Option, Some, None, Result, Ok, Err}
 use Rattle.colon_bodies.specs.Draft.{IsBlank, Progress, token, Goes as BodyGoes}
 use Rattle.colon_bodies.specs.declared.words.Half.{Half}
-use Rattle.colon_bodies.specs.Faults.{FirstCause as FirstBodyCause}
+use Rattle.colon_bodies.specs.Faults.{body_cause}
 use Rattle.colon_bodies.specs.Rules.{AreKnown}
 use Rattle.colon_bodies.specs.Tokens.{AreShort, Token, SEMI}
 use Rattle.colon_bodies.specs.Open.{Outer, open_words}
@@ -27,9 +27,9 @@ use Rattle.image_builder.specs.declared.cause.Cause.TheVariants as c
 use Rattle.image_builder.specs.Places.{Place, IsTitle}
 use Rattle.image_builder.specs.Items.{Items, Then, Colon, item_words, item_size, end_of, controls, image}
 use Rattle.image_builder.specs.Meanings.{is_barred}
-use Rattle.image_builder.specs.Grammar.{IsPrimitive, AreSound}
+use Rattle.image_builder.specs.Grammar.{may_name, AreSound}
 use Rattle.image_builder.specs.Stages.{Stage, Whole, Counted, Due, Chosen, Inside, body_at}
-use Rattle.image_builder.specs.Faults.{FirstCause, IsGood}
+use Rattle.image_builder.specs.Faults.{cause_at, IsGood}
 use Rattle.image_builder.specs.Stages as stages
 use Rattle.image_builder.specs.Built.{Built}
 
@@ -67,7 +67,7 @@ pub record Goes (limit : ℕ) (b : Build) (begun : Begun) (t : Items) (ws : List
 
 abbrev pub Taken : ℕ → Items → List Place → Stage → Place → List Place → Result Begun Cause → Build → Type 0
 Taken limit t ws stage w after (Ok begun) b = Goes limit b begun t ws w
-Taken limit t ws stage w after (Err e) b = (e ≡ c.OutOfMemory) ⊎ FirstCause limit t stage w after e
+Taken limit t ws stage w after (Err e) b = (e ≡ c.OutOfMemory) ⊎ (cause_at limit t stage w after ≡ Some e)
 
 -- what the code's word means
 abbrev pub Means : Result BodyWord Cause → Result Token Cause → Type 0
@@ -98,7 +98,7 @@ InBody b title t ws before p holds = IsTitle title.screen title.name.items p →
 -- what came of one more word of a draft
 abbrev pub TakenSo : ℕ → (ℕ → ℕ) → ℕ → Outer → Body → Half → Token → Result (Unit {0}) Cause → Build → Type 0
 TakenSo limit rt at o t h w (Ok u) b = BodyGoes rt at limit o t h w b.draft
-TakenSo limit rt at o t h w (Err e) b = (e ≡ c.OutOfMemory) ⊎ ((d : BodyCause) × (e ≡ cause_of d) × FirstBodyCause rt at limit d (open_words o t h) w)
+TakenSo limit rt at o t h w (Err e) b = (e ≡ c.OutOfMemory) ⊎ ((d : BodyCause) × (e ≡ cause_of d) × (body_cause rt at limit (open_words o t h) w ≡ Some d))
 
 pub record IsSame (old new : Build) : Type 0 where
   pub limit : new.limit ≡ old.limit
@@ -122,7 +122,7 @@ pub record Ends (limit : ℕ) (t : Items) (p : Place) (before : List Token) (b :
 
 abbrev pub EndsSo : ℕ → Items → Place → List Token → Result (Unit {0}) Cause → Build → Type 0
 EndsSo limit t p before (Ok u) b = Ends limit t p before b
-EndsSo limit t p before (Err e) b = (e ≡ c.OutOfMemory) ⊎ ((d : BodyCause) × (e ≡ cause_of d) × FirstBodyCause (controls t) (body_at t p) limit d before SEMI)
+EndsSo limit t p before (Err e) b = (e ≡ c.OutOfMemory) ⊎ ((d : BodyCause) × (e ≡ cause_of d) × (body_cause (controls t) (body_at t p) limit before SEMI ≡ Some d))
 
 -- the number of a primitive to be made is a byte
 abbrev pub IsByte : Kind → Type 0
@@ -139,19 +139,19 @@ pub record IsBegun (b : Build) (g : Begun) : Type 0 where
 
 -- what a number's own fault is, once the next word is known
 abbrev pub OfNumber : Items → (n : ℕ) → Sort → Option Cause → Type 0
-OfNumber t n sort None = (sort ≡ s.Prim → IsPrimitive t n) × (sort ≡ s.Allot → n < 32768)
-OfNumber t n sort (Some e) = ((sort ≡ s.Prim) × (IsPrimitive t n → ⊥) × (e ≡ c.BadPrimitive)) ⊎ ((sort ≡ s.Allot) × (32768 ≤ n) × (e ≡ c.BadNumber))
+OfNumber t n sort None = (sort ≡ s.Prim → may_name t n ≡ true) × (sort ≡ s.Allot → n < 32768)
+OfNumber t n sort (Some e) = ((sort ≡ s.Prim) × (may_name t n ≡ false) × (e ≡ c.BadPrimitive)) ⊎ ((sort ≡ s.Allot) × (32768 ≤ n) × (e ≡ c.BadNumber))
 
 -- a fault at a word, or at the number before it
 pub record Here (limit : ℕ) (t : Items) (stage : Stage) (w : Place) (after : List Place) (f : BuildFault) : Type 0 where
-  pub cause : FirstCause limit t stage w after f.cause
+  pub cause : cause_at limit t stage w after ≡ Some f.cause
   pub screen : f.screen ≡ w.screen
   pub offset : f.offset ≡ w.offset
 
 pub record Back (limit : ℕ) (t : Items) (ws : List Place) (w : Place) (after : List Place) (f : BuildFault) : Type 0 where
   pub number : Place
   pub is : ws ≡ number ∷ []
-  pub cause : FirstCause limit t Whole number (w ∷ after) f.cause
+  pub cause : cause_at limit t Whole number (w ∷ after) ≡ Some f.cause
   pub screen : f.screen ≡ number.screen
   pub offset : f.offset ≡ number.offset
 

@@ -1,10 +1,10 @@
 //! The words of a source, one by one.
 
-ghost use Rattle.std.specs.Prelude.{◌≡◌, ◌↔◌, ◌<◌, List, length, IsTrue, Some, None, slice_index};
+ghost use Rattle.std.specs.Prelude.{◌≡◌, ◌==◌, ◌<◌, List, length, Some, None, slice_index};
 ghost use Rattle.image_builder.specs.Places.{Place, place};
 ghost use Rattle.image_builder.specs.Items.{Items, controls};
 ghost use Rattle.image_builder.specs.Stages.{Stage, Whole, Counted, Due, Chosen, Inside};
-ghost use Rattle.image_builder.specs.Grammar.{IsPrimitive, is_gap};
+ghost use Rattle.image_builder.specs.Grammar.{may_name, is_gap};
 ghost use Rattle.image_builder.specs.Built.{Built, Building};
 ghost use Rattle.image_builder.specs.State.{IsState, IsBegun, Shows, TakenAt, OfNumber, IsAtSite, located};
 ghost use Rattle.image_builder.specs.declared.spot.Sort.TheVariants as s;
@@ -41,14 +41,14 @@ fn is_in_gap(n: u16) -> bool
 fn is_free_control(b: &Build, n: u16) -> bool
     requires building { Building b.now }
     requires byte { n < 256 }
-    ensures { (t : Items) → Built b.now.limit b.now t → IsTrue result ↔ (controls t n ≡ 0) }
+    ensures { (t : Items) → Built b.now.limit b.now t → result ≡ (controls t n == 0) }
 {
     is_zero(cell_at(b.runtime.as_slice(), n))
 }
 
 /// Whether a cell is 0.
 fn is_zero(x: u16) -> bool
-    ensures { IsTrue result ↔ (x ≡ 0) }
+    ensures { result ≡ (x == 0) }
 {
     x == 0
 }
@@ -64,7 +64,7 @@ fn cell_at(runtime: &[u16], n: u16) -> u16
 /// Whether a primitive of this number may be named.
 fn is_primitive(b: &Build, n: u16) -> bool
     requires building { Building b.now }
-    ensures { (t : Items) → Built b.now.limit b.now t → IsTrue result ↔ IsPrimitive t n }
+    ensures { (t : Items) → Built b.now.limit b.now t → result ≡ may_name t n }
 {
     Control::Exit as u16 <= n
         && n < PRIMITIVES_END

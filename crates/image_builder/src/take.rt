@@ -1,11 +1,11 @@
 //! One more word.
 
-ghost use Rattle.std.specs.Prelude.{◌≡◌, ◌≢◌, ◌↔◌, ◌+◌, ◌<◌, List, length, IsTrue, codes, Some, None, false};
+ghost use Rattle.std.specs.Prelude.{◌≡◌, ◌≢◌, ◌↔◌, ◌+◌, ◌<◌, List, length, IsTrue, codes, Some, None, true, false};
 ghost use Rattle.image_builder.specs.Places.{Place, place};
 ghost use Rattle.image_builder.specs.Items.{Items};
 ghost use Rattle.std.specs.Str.{bytes_eq};
 ghost use Rattle.image_builder.specs.Stages.{Whole, Counted, Due, Chosen};
-ghost use Rattle.image_builder.specs.Grammar.{IsPrimitive};
+ghost use Rattle.image_builder.specs.Grammar.{may_name};
 ghost use Rattle.image_builder.specs.Meanings.{look, record_named};
 ghost use Rattle.image_builder.specs.declared.entry.Lead.{Lead};
 ghost use Rattle.image_builder.specs.Built.{Built, Building};
@@ -33,7 +33,7 @@ pub fn is_over(b: &Build, more: usize) -> bool
 pub fn take_counted(b: &mut Build, n: u16, w: Spot) -> Result<Begun, Cause>
     requires building { Building b.old }
     ensures { (t : Items) (ws after : List Place) → IsState b.old.limit b.old t ws (Counted n) →
-        (w.entry.sort ≡ s.Prim → IsPrimitive t n) → (w.entry.sort ≡ s.Allot → n < 32768) →
+        (w.entry.sort ≡ s.Prim → may_name t n ≡ true) → (w.entry.sort ≡ s.Allot → n < 32768) →
         Taken b.old.limit t ws (Counted n) (place w.entry) after result b.new }
 {
     match w.sort {

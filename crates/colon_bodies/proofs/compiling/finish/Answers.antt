@@ -3,32 +3,33 @@ use Rattle.colon_bodies.specs.Tokens.{SEMI}
 use Rattle.colon_bodies.specs.Rules.{suits}
 use Rattle.colon_bodies.specs.Open.{frames}
 use Rattle.colon_bodies.proofs.Taking.{unsuited, ends_inside, end_ok, end_full, end_unknown, drafted_marks, open_some, not_over}
+use Rattle.colon_bodies.proofs.Opened.{first_is}
 use Rattle.colon_bodies.proofs.compiling.finish.Goals as goal
 
 pub returns-then-not-is_suited : goal.returns-then-not-is_suited
 returns-then-not-is_suited c = λ rt o t h r d k.
-    inr (unsuited rt c.args.at c.args.limit o t h SEMI (ap (λ g. suits g SEMI) (sym d.half_is) ∙ sym c.is_suited.ensures ∙ c.if-not-is_suited.true))
+    inr (first_is rt c.args.at c.args.limit o t h SEMI _ k (omega arith) (unsuited rt c.args.at c.args.limit o t h SEMI (ap (λ g. suits g SEMI) (sym d.half_is) ∙ sym c.is_suited.ensures ∙ c.if-not-is_suited.true)))
 
 pub returns-then-not-is_all_closed : goal.returns-then-not-is_all_closed
 returns-then-not-is_all_closed c = λ rt o t h r d k.
     let m = drafted_marks rt c.args.at o t h _ _ d.is in
     let s = ap (λ g. suits g SEMI) (sym d.half_is) ∙ sym c.is_suited.ensures ∙ c.if-not-is_suited.false in
     let pos : 0 < frames o = open_some _ _ _ c.is_all_closed.ensures c.if-not-is_all_closed.true m in
-    inr (ends_inside rt c.args.at c.args.limit o t h s pos)
+    inr (first_is rt c.args.at c.args.limit o t h SEMI _ k (omega arith) (ends_inside rt c.args.at c.args.limit o t h s pos))
 
 pub returns-then-control-eq0 : goal.returns-then-control-eq0
 returns-then-control-eq0 c = λ rt o t h r d k.
     let m = drafted_marks rt c.args.at o t h _ _ d.is in
     let s = ap (λ g. suits g SEMI) (sym d.half_is) ∙ sym c.is_suited.ensures ∙ c.if-not-is_suited.false in
     let z = c.is_all_closed.ensures.0 c.if-not-is_all_closed.false in
-    inr (end_unknown rt c.args.at c.args.limit o t h s (omega (arith, m, z)) k (λ n. n (r ∙ c.if-control-eq0.true)))
+    inr (first_is rt c.args.at c.args.limit o t h SEMI _ k (omega arith) (end_unknown rt c.args.at c.args.limit o t h s (omega (arith, m, z)) k (λ n. n (r ∙ c.if-control-eq0.true))))
 
 pub returns-then-is_over : goal.returns-then-is_over
 returns-then-is_over c = λ rt o t h r d k.
     let m = drafted_marks rt c.args.at o t h _ _ d.is in
     let s = ap (λ g. suits g SEMI) (sym d.half_is) ∙ sym c.is_suited.ensures ∙ c.if-not-is_suited.false in
     let z = c.is_all_closed.ensures.0 c.if-not-is_all_closed.false in
-    inr (end_full rt c.args.at c.args.limit o t h _ _ _ c.args.control s (omega (arith, m, z)) k (λ e. c.if-control-eq0.false (sym r ∙ e)) d.is c.in_ok-lay_cell.ensures.bytes (c.is_over.ensures.0 c.if-is_over.true))
+    inr (first_is rt c.args.at c.args.limit o t h SEMI _ k (omega arith) (end_full rt c.args.at c.args.limit o t h _ _ _ c.args.control s (omega (arith, m, z)) k (λ e. c.if-control-eq0.false (sym r ∙ e)) d.is c.in_ok-lay_cell.ensures.bytes (c.is_over.ensures.0 c.if-is_over.true)))
 
 pub returns : goal.returns
 returns c = λ rt o t h r d k.
