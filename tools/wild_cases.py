@@ -218,6 +218,63 @@ def inside(folder: Folder, expect: Expect) -> None:
     expect(f"sectors of a DMK: {said}", KILN.ljust(5120), made)
 
 
+def alone(folder: Folder, expect: Expect) -> None:
+    """What the program itself says of disks, without the script that calls it: files by their names, sectors as they are, and damaged ones."""
+    room, text = pathlib.Path(folder.room), b": KILN 5 ;\rKILN ." + b" " * 300 + b"\r"
+    screens = b": KILN 5 ;".ljust(64) + b"KILN .".ljust(960)
+
+    def ask(data: bytes, *words: str) -> Tuple[str, Optional[bytes]]:
+        (room / "wild.blk").unlink(missing_ok=True)
+        (room / "known.dsk").write_bytes(data)
+        said = folder.run([folder.program, words[0], "known.dsk", *words[1:]])
+        return said, (room / "wild.blk").read_bytes() if (room / "wild.blk").is_file() else None
+
+    dos, d64 = dos_disk(b"KILN", text), d64_disk(b"KI\nN\x1b.FTH", text)
+    expect("the files of DOS 3.3", ("a disk of Apple DOS 3.3\nKILN\n", None), ask(dos, "guess", "--files"))
+    expect("a file of DOS 3.3", ("", screens), ask(dos, "unpack", "wild.blk", "--file", "kiln", "--format", "text"))
+    missing = "container: it has no file OTHER; it has KILN\n", None
+    expect("no file of DOS 3.3", missing, ask(dos, "unpack", "wild.blk", "--file", "OTHER"))
+    expect("DOS 3.3 as blocks", dos, ask(dos, "unpack", "wild.blk", "--offset", "0")[1])
+    known = "container: it is a disk of Apple DOS 3.3; forth83 import --list DISK lists its files, and import DISK:NAME takes one; --offset 0"
+    said, made = ask(dos, "unpack", "wild.blk")
+    expect(f"DOS 3.3 is known: {said}", (True, None), (said.startswith(known), made))
+    expect("a name of one line", "a disk of a Commodore 1541 (D64)\nKI?N?.FTH\n", ask(d64, "guess", "--files")[0])
+    expect("a file of that name", screens, ask(d64, "unpack", "wild.blk", "--file", "KI?N?.FTH", "--format", "text")[1])
+    expect("the files of DOS are for mtools", "a disk of DOS (FAT)\n", ask(fat_disk(b"KILN    BLK", KILN), "guess", "--files")[0])
+    expect("the files of CP/M are for cpmtools", "a disk of CP/M\n", ask(cpm_disk(b"KILN    BLK", KILN), "guess", "--files")[0])
+    plain = "container: it is a file of sectors or text, without a directory that is known here\n"
+    expect("the files of screens", plain, ask(KILN, "guess", "--files")[0])
+    expect("nothing of screens is left out", ("", KILN), ask(KILN, "unpack", "wild.blk"))
+
+
+def damaged(folder: Folder, expect: Expect) -> None:
+    """Chains that lead to themselves end, and tracks that are cut short are refused."""
+    room = pathlib.Path(folder.room)
+    (room / "tracks.blk").write_bytes(KILN)
+    loop = bytearray(d64_disk(b"KILN.FTH", b"K" * 254 + b"L" * 254))
+    loop[91648:91650] = b"\x12\1"  # track 18 begins after 357 sectors, and its sector 1 names itself
+    loop[86016 + 256:86016 + 258] = b"\x11\0"  # track 17 begins after 336 sectors: the second sector of the file names the first
+    (room / "known.dsk").write_bytes(loop)
+    (room / "wild.blk").unlink(missing_ok=True)
+    expect("a directory in a circle", "a disk of a Commodore 1541 (D64)\nKILN.FTH\n", folder.run([folder.program, "guess", "known.dsk", "--files"]))
+    folder.run([folder.program, "unpack", "known.dsk", "wild.blk", "--file", "KILN.FTH"])
+    expect("a file in a circle", ((b"K" * 254 + b"L" * 254) * 1000).ljust(508928), (room / "wild.blk").read_bytes())
+    disk = imd_file(tracks_of(KILN.ljust(3328), 3328), list(range(1, 27)))
+    for what, data in (("no size", disk[:40] + b"\7" + disk[41:]), ("cut in its head", disk + b"\3\1"), ("cut in its numbers", disk[:50])):
+        (room / "known.dsk").write_bytes(data)
+        (room / "wild.blk").unlink()
+        said = folder.run([folder.program, "unpack", "known.dsk", "wild.blk"])
+        wanted = "container: it is an ImageDisk file (IMD), but it is damaged: one of its sectors is cut short, or has a size that is not known\n"
+        expect(f"an IMD, {what}", (wanted, False), (said, (room / "wild.blk").exists()))
+        (room / "wild.blk").touch()
+    (room / "known.dsk").write_bytes(disk)
+    said = folder.run([folder.program, "pack", "tracks.blk", "known.dsk"])
+    expect("an IMD is not written", ("container: it is an ImageDisk file (IMD), which is read only\n", disk), (said, (room / "known.dsk").read_bytes()))
+    (room / "wild.blk").unlink()
+    said = folder.run([folder.program, "unpack", "known.dsk", "wild.blk"])
+    expect("an IMD is read", True, said.startswith("known.dsk is an ImageDisk file (IMD); its sectors are taken in the order of their numbers\n"))
+
+
 def orders(folder: Folder, expect: Expect) -> None:
     """The order of a disk's sectors is found by its screens; cards and wide screens have a width."""
     pieces = ("\n" + (ROOT / "screens/dialects/f83.txt").read_text(encoding="ascii")).split("\n% screen ")[1:]
@@ -256,4 +313,6 @@ def try_wild(folder: Folder, expect: Expect) -> None:
     volumes(folder, expect)
     known(folder, expect)
     inside(folder, expect)
+    alone(folder, expect)
+    damaged(folder, expect)
     orders(folder, expect)

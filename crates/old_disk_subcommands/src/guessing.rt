@@ -5,11 +5,13 @@ ghost use Rattle.named_files.specs.Done.{IsPassedOn, Refuses, done, status_of};
 ghost use Rattle.subcommands.specs.Lines.{Prints};
 ghost use Rattle.old_disk_subcommands.specs.Guessed.{EndsGuessed, Guesses, guess_steps};
 
+use crate::refusing::refuse_unread;
+use disk_volumes::{Unreadable, list_files, sectors_of};
 use inner_interpreter::{Output, send_all};
 use named_files::Files;
 use old_disks::{better_order, show_likeness, show_orders};
-use std::alloc::{AllocError, Global};
-use subcommands::{Ended, end_with, print_out_of_memory};
+use std::alloc::Global;
+use subcommands::{Ended, end_with};
 
 /// What `guess` names.
 #[derive(Clone, Copy)]
@@ -19,17 +21,23 @@ pub struct Guess<'a> {
     pub is_better: bool,
     /// Whether only a score is printed.
     pub is_score: bool,
+    /// Whether it is printed what the file is, and the names of its files.
+    pub lists_files: bool,
 }
 
-/// What is printed of a disk.
-fn report(alloc: Global, disk: &[u8], guess: Guess<'_>) -> Result<String, AllocError> {
-    if guess.is_score {
-        show_likeness(alloc, disk)
-    } else if guess.is_better {
-        better_order(alloc, disk)
-    } else {
-        show_orders(alloc, disk)
+/// What is printed of a disk. Refused if it has no directory that is to be listed, its tracks are damaged, or memory runs out.
+fn report(alloc: Global, disk: &[u8], guess: Guess<'_>) -> Result<String, Unreadable> {
+    if guess.lists_files {
+        return list_files(alloc, disk);
     }
+    if guess.is_score {
+        return Ok(show_likeness(alloc, disk)?);
+    }
+    let sectors = sectors_of(alloc, disk)?;
+    if guess.is_better {
+        return Ok(better_order(alloc, sectors.bytes.as_slice())?);
+    }
+    Ok(show_orders(alloc, sectors.bytes.as_slice())?)
 }
 
 /// Prints a text.
@@ -45,7 +53,8 @@ fn print_report<W: Output>(text: &[u8], writer: &mut W) -> Ended
     end_with(0)
 }
 
-/// Prints what the sectors of a disk look like. Status 0; 1: memory ran out; 5: the text can't be printed.
+/// Prints what the sectors of a disk look like, or which files it has. Status 0; 1: it is not read (`container: SENTENCE` is printed) or
+/// memory ran out; 5: the text can't be printed.
 fn do_guess<W: Output>(alloc: Global, disk: &[u8], guess: Guess<'_>, writer: &mut W) -> Ended
     ensures printed { W.failed writer.new ≡ false → EndsGuessed result.status (W.sent writer.old) (W.sent writer.new) }
     ensures passed { W.failed writer.new ≡ false → W.passed writer.new ≡ true }
@@ -54,7 +63,7 @@ fn do_guess<W: Output>(alloc: Global, disk: &[u8], guess: Guess<'_>, writer: &mu
 {
     match report(alloc, disk, guess) {
         Ok(text) => print_report(text.as_bytes(), writer),
-        Err(_) => print_out_of_memory(writer),
+        Err(why) => refuse_unread(alloc, &why, writer),
     }
 }
 

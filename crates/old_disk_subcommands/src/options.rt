@@ -1,8 +1,9 @@
 //! What `unpack` and `pack` name, and how a container is read by that.
 
-ghost use Rattle.std.specs.Prelude.{◌≡◌, ◌⊎◌, IfErr, OnOk};
+ghost use Rattle.std.specs.Prelude.{◌≡◌, ◌⊎◌, IfErr, OnOk, option_map};
 ghost use Rattle.old_disk_subcommands.specs.Unpacked.{RefusesSkew, RefusesValues};
 
+use disk_volumes::Asked;
 use named_files::Files;
 use old_disks::{Format, Options, Records, Refusal, read_skew};
 
@@ -39,6 +40,26 @@ pub struct Unpacking<'a> {
     pub cleans: bool,
     /// Whether the screens come after those of a file that exists.
     pub appends: bool,
+    /// The file of the container's directory that is read in place of the container.
+    pub file: Option<&'a str>,
+}
+
+/// What is asked for of a container: whether it is said how screens lie in it, otherwise it must not be known to be something else.
+pub fn asked_for(unpacking: Unpacking<'_>) -> Asked<'_>
+    ensures file { option_map (λ name. name.now) result.file ≡ option_map (λ name. name.now) unpacking.entry.file }
+{
+    let disk = unpacking.disk;
+    let is_told = disk.format != "blocks"
+        || disk.offset.is_some()
+        || disk.sector.is_some()
+        || disk.skew.is_some()
+        || disk.sides.is_some()
+        || disk.is_half
+        || unpacking.width.is_some();
+    Asked {
+        file: unpacking.file,
+        is_told,
+    }
 }
 
 /// A number of bytes, of lines or of a screen; more than there can be if it is none of this system.

@@ -5,7 +5,8 @@ ghost use Rattle.named_files.specs.Done.{IsPassedOn, done, status_of};
 ghost use Rattle.old_disk_subcommands.specs.Unpacked.{Packs, PrintsSome, PrintsWhy, RefusesPack};
 
 use crate::options::{OldDisk, options_of};
-use crate::refusing::{is_said, refuse_disk};
+use crate::refusing::{is_said, refuse_disk, refuse_unread};
+use disk_volumes::{Unreadable, is_tracks};
 use inner_interpreter::Output;
 use named_files::{Files, write_made};
 use old_disks::{Options, Remark, pack};
@@ -36,6 +37,9 @@ fn do_pack<W: Output>(
     ensures passed { W.failed writer.new ≡ false → W.passed writer.new ≡ true }
     ensures cut { W.failed writer.old ≡ false → W.failed writer.new ≡ true → result.status ≡ 5 }
 {
+    if let Some(tracks) = is_tracks(container) {
+        return refuse_unread(alloc, &Unreadable::ReadOnly(tracks), writer);
+    }
     let packed = match pack(alloc, blocks, container, options) {
         Ok(packed) => packed,
         Err(why) => return refuse_disk(alloc, &why, writer),

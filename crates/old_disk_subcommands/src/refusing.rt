@@ -4,6 +4,7 @@ ghost use Rattle.std.specs.Prelude.{◌≡◌, IsNone, false, true};
 ghost use Rattle.old_disk_subcommands.specs.Unpacked.{PrintsSome, PrintsWhy};
 ghost use Rattle.subcommands.specs.Ends.{IsRefusal};
 
+use disk_volumes::Unreadable;
 use inner_interpreter::{EndFault, Output, send_all};
 use old_disks::Refusal;
 use std::alloc::Global;
@@ -23,7 +24,40 @@ impl Reason for Sentence {
     }
 }
 
-/// Prints why a container is not read or written: `container: SENTENCE`, or `out of memory`.
+/// The sentence that says why a container is not read or written; none if there is no memory.
+fn sentence_of(alloc: Global, why: &Refusal) -> Option<String> {
+    if matches!(why, Refusal::OutOfMemory) {
+        return None;
+    }
+    format!(in alloc; "{why}").ok()
+}
+
+/// The sentence that says why a disk's file is not read; none if there is no memory.
+fn sentence_of_unread(alloc: Global, why: &Unreadable) -> Option<String> {
+    if matches!(why, Unreadable::OutOfMemory) {
+        return None;
+    }
+    format!(in alloc; "{why}").ok()
+}
+
+/// Prints why a container is not read or written: `container: SENTENCE`, or `out of memory` if there is no sentence.
+fn refuse_by<W: Output>(sentence: Option<String>, writer: &mut W) -> Ended
+    ensures printed { W.failed writer.new ≡ false → PrintsWhy result.status (W.sent writer.old) (W.sent writer.new) }
+    ensures passed { W.failed writer.new ≡ false → W.passed writer.new ≡ true }
+    ensures cut { W.failed writer.old ≡ false → W.failed writer.new ≡ true → result.status ≡ 5 }
+    ensures status { IsRefusal result.status (W.failed writer.new) }
+    ensures file { IsNone result.file }
+{
+    let Some(text) = sentence else {
+        return print_out_of_memory(writer);
+    };
+    let sentence = Sentence {
+        text: text.into_bytes(),
+    };
+    refuse("container", sentence, writer)
+}
+
+/// Prints why a container is not read or written as blocks.
 pub fn refuse_disk<W: Output>(alloc: Global, why: &Refusal, writer: &mut W) -> Ended
     ensures printed { W.failed writer.new ≡ false → PrintsWhy result.status (W.sent writer.old) (W.sent writer.new) }
     ensures passed { W.failed writer.new ≡ false → W.passed writer.new ≡ true }
@@ -31,16 +65,18 @@ pub fn refuse_disk<W: Output>(alloc: Global, why: &Refusal, writer: &mut W) -> E
     ensures status { IsRefusal result.status (W.failed writer.new) }
     ensures file { IsNone result.file }
 {
-    let Ok(text) = format!(in alloc; "{why}") else {
-        return print_out_of_memory(writer);
-    };
-    if matches!(why, Refusal::OutOfMemory) {
-        return print_out_of_memory(writer);
-    }
-    let sentence = Sentence {
-        text: text.into_bytes(),
-    };
-    refuse("container", sentence, writer)
+    refuse_by(sentence_of(alloc, why), writer)
+}
+
+/// Prints why a disk's file is not read.
+pub fn refuse_unread<W: Output>(alloc: Global, why: &Unreadable, writer: &mut W) -> Ended
+    ensures printed { W.failed writer.new ≡ false → PrintsWhy result.status (W.sent writer.old) (W.sent writer.new) }
+    ensures passed { W.failed writer.new ≡ false → W.passed writer.new ≡ true }
+    ensures cut { W.failed writer.old ≡ false → W.failed writer.new ≡ true → result.status ≡ 5 }
+    ensures status { IsRefusal result.status (W.failed writer.new) }
+    ensures file { IsNone result.file }
+{
+    refuse_by(sentence_of_unread(alloc, why), writer)
 }
 
 /// Prints a text, and answers whether that is done.

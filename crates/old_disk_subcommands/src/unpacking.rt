@@ -5,8 +5,9 @@ ghost use Rattle.named_files.specs.Asking.{AnswersAll};
 ghost use Rattle.named_files.specs.Done.{IsPassedOn, done, status_of};
 ghost use Rattle.old_disk_subcommands.specs.Unpacked.{IsGrown, PrintsSome, PrintsWhy, RefusesUnpack, Unpacks, before_steps, grown, read_before};
 
-use crate::options::{Unpacking, options_of, with_records};
-use crate::refusing::{is_said, refuse_disk};
+use crate::options::{Unpacking, asked_for, options_of, with_records};
+use crate::refusing::{is_said, refuse_disk, refuse_unread};
+use disk_volumes::{Asked, Tracks, read_disk};
 use inner_interpreter::Output;
 use named_files::{Files, write_made};
 use old_disks::{Options, Refusal, Unpacked, unpack};
@@ -50,20 +51,35 @@ fn grown(before: Vec<u8>, unpacked: &Unpacked) -> Result<Vec<u8>, AllocError>
     Ok(file)
 }
 
-/// What is said of blocks that were read, and of their numbers if the first is not 0.
+/// The names of a container and of the file of blocks that is made of it.
+#[derive(Clone, Copy)]
+struct Names<'a> {
+    container: &'a str,
+    blocks: &'a str,
+}
+
+/// What is said of blocks that were read: of the tracks that they come from, and of their numbers if the first is not 0.
 fn remarks(
     alloc: Global,
-    name: &str,
+    names: Names<'_>,
+    tracks: Option<Tracks>,
     unpacked: &Unpacked,
     last: usize,
 ) -> Result<String, AllocError> {
     let count = unpacked.blocks.len() / BLOCK_BYTES;
     let first = last.saturating_sub(count.saturating_sub(1));
     let mut text = String::new(alloc);
+    if let Some(tracks) = tracks {
+        let container = names.container;
+        text.push_str(format!(in alloc;
+            "{container} is {tracks}; its sectors are taken in the order of their numbers\n"
+        )?.as_str())?;
+    }
     if let Some(remark) = unpacked.remark {
         text.push_str(format!(in alloc; "{remark}\n")?.as_str())?;
     }
     if first > 0 {
+        let name = names.blocks;
         text.push_str(format!(in alloc;
             "{name} has them as screens {first} to {last}\n"
         )?.as_str())?;
@@ -71,14 +87,15 @@ fn remarks(
     Ok(text)
 }
 
-/// Reads the blocks of a container as those of a file, after those that it has before. Status 0, with the bytes of the file. Without a file
+/// Reads the blocks of a container, or of a file that its directory names, as those of a file, after those that it has before. Status 0, with the bytes of the file. Without a file
 /// 1: the container is not read (`container: SENTENCE` is printed) or memory ran out; 5: that can't be printed.
 #[tactic(auto, using(crate::proofs::Growing::grows))]
 fn do_unpack<W: Output>(
     alloc: Global,
     options: &Options,
     container: &[u8],
-    name: &str,
+    asked: Asked<'_>,
+    names: Names<'_>,
     before: Vec<u8>,
     writer: &mut W,
 ) -> Ended
@@ -89,7 +106,11 @@ fn do_unpack<W: Output>(
     ensures passed { W.failed writer.new ≡ false → W.passed writer.new ≡ true }
     ensures cut { W.failed writer.old ≡ false → W.failed writer.new ≡ true → result.status ≡ 5 }
 {
-    let unpacked = match unpack(alloc, container, options) {
+    let read = match read_disk(alloc, container, asked) {
+        Ok(read) => read,
+        Err(why) => return refuse_unread(alloc, &why, writer),
+    };
+    let unpacked = match unpack(alloc, read.bytes.as_slice(), options) {
         Ok(unpacked) => unpacked,
         Err(why) => return refuse_disk(alloc, &why, writer),
     };
@@ -100,7 +121,7 @@ fn do_unpack<W: Output>(
         return refuse_disk(alloc, &Refusal::TooLarge, writer);
     }
     let last = (file.len() / BLOCK_BYTES).saturating_sub(1);
-    let Ok(text) = remarks(alloc, name, &unpacked, last) else {
+    let Ok(text) = remarks(alloc, names, read.tracks, &unpacked, last) else {
         return print_out_of_memory(writer);
     };
     if !is_said(text.as_bytes(), writer) {
@@ -135,7 +156,11 @@ pub fn unpack_disk<F: Files, W: Output>(
         files.alloc(),
         &options,
         bytes.as_slice(),
-        disk.blocks,
+        asked_for(unpacking),
+        Names {
+            container: disk.container,
+            blocks: disk.blocks,
+        },
         before,
         writer,
     );
