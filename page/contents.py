@@ -14,7 +14,7 @@ import canvas  # noqa: E402
 import glossary  # noqa: E402
 import judged  # noqa: E402
 import rows as numbers  # noqa: E402
-from served import advice, dialects as dialect_hints, faults as messages, image, paging, structures, table  # noqa: E402
+from served import faults as messages, image, paging, table  # noqa: E402
 
 # Chapters of docs/WORDS.md whose words the page doesn't need: it edits lines and screens itself, and has no host and no files.
 CHAPTERS_LEFT_OUT = (
@@ -22,6 +22,7 @@ CHAPTERS_LEFT_OUT = (
 )  # fmt: skip
 SCREENS, PAGE, WIDTH = 64, 1024, 64
 EXAMPLES = ("kiln", "life", "gold", "sieve")
+OF_FAULTS = ("own", "large", "unknown", "unquoted", "follows", "quit")  # what the judging of lessons takes, and the session
 KERNEL, COURSE, FIRST = "forth.blk", "course.blk", 20
 TICKS = judged.TICKS  # of one lesson
 
@@ -155,16 +156,12 @@ def of_forth(layout: Dict[str, object], version: str, image: bytes, own: Dict[st
 
 
 def texts(own: Dict[str, str]) -> Dict[str, object]:
-    """What the terminal says, too: of faults, of words that SEE can't show, and for HELP; the names that the dialects have;
-    and the texts that INCLUDE finds: those that come with the Forth, and the page's own."""
-    files = dialect_hints.DIALECTS
-    names = [sorted(dialect_hints.names_of(text_of(f"screens/dialects/{name}"))) for name in files]
-    later = dialect_hints.MADE.findall(text_of(f"screens/library/{advice.LATER}"))
-    meant = {"files": files, "names": names, "begins": advice.BEFORE_BLANK, "library": advice.LATER, "later": later}
+    """What the terminal says, too: of faults, of words that SEE can't show, and for HELP; and the texts that INCLUDE finds: those that
+    come with the Forth, and the page's own."""
     helps = [text for where, text in messages.section("help") if where != "terminal"]
-    tables = {"ends": structures.ENDS, "closed_by": structures.CLOSED_BY, "parsing": structures.PARSING, "one_word": structures.ONE_WORD, "drops": structures.DROPS}
-    sections = {"faults": messages.MESSAGES, "see": dict(messages.section("see")), "textCauses": dict(messages.section("texts"))}
-    return {**sections, "structures": tables, "help": helps, "advice": meant, "library": {**library(), **own}}
+    faults = {name: said for name, said in messages.MESSAGES.items() if name.isdigit() or name in OF_FAULTS}
+    sections = {"faults": faults, "see": dict(messages.section("see")), "textCauses": dict(messages.section("texts"))}
+    return {**sections, "help": helps, "library": {**library(), **own}}
 
 
 def library() -> Dict[str, str]:

@@ -1,10 +1,9 @@
-// Faults in words, with their place, as commands/served/{faults,reports}.py have them: the texts are those of data/faults.txt.
+// The places of faults, as commands/served/{faults,reports}.py have them.
 
-import { DATA } from "./data.js";
 import { COLUMNS } from "./disk.js";
 
-export const FAULTS = { full: 8, unknown: 13, missing: 15, said: 17 };
-const WIDEST_MARKED = 100, LONGEST_NAME = 31, PREFIXES = { $: 16, "#": 10, "%": 2 }, LAST = 1023, BLANK_CODE = 32;
+export const FAULTS = { unknown: 13, missing: 15, said: 17 };
+const WIDEST_MARKED = 100, LAST = 1023, BLANK_CODE = 32;
 const SPACES = /(?! )[\p{C}\p{Z}]/gu;
 
 const readable = (bytes) => new TextDecoder().decode(bytes);
@@ -34,31 +33,6 @@ export function faultWord(fault, { text, offset }) {
   if (fault === FAULTS.unknown || !before.length) return nextWord(text, offset);
   return nextWord(text, before.lastIndexOf(BLANK_CODE) + 1);
 }
-
-// Whether a text is a number that a cell has no room for.
-function isTooLarge(word, base) {
-  const [, prefix, sign, digits] = /^([$#%]?)(-?)(.*)$/s.exec(word), radix = PREFIXES[prefix] || base;
-  if (!/^[0-9A-Za-z]+$/.test(digits) || radix < 2 || radix > 36) return false;
-  const values = [...digits].map((digit) => parseInt(digit, 36)), number = values.reduce((sum, value) => sum * radix + value, 0) * (sign ? -1 : 1);
-  return values.every((value) => value < radix) && !(number >= -32768 && number <= 65535);
-}
-
-// What a fault means. known: whether some word has the name (isName), whether a dialect hides a tool of that name, the dictionary's room (left),
-// whether a dialect is loaded, the word that follows, BASE, advice for an unknown word, and whether a text follows without its quote.
-export function message(fault, word, known) {
-  const { faults } = DATA, { isName, isHidden, left, hasDialect, follows, base, advice, isOpenText } = known, length = Math.max(word.length, follows.length);
-  let said = faults[fault] ?? faults.own;
-  if (fault === FAULTS.unknown && isHidden) said = faults.hidden;
-  else if (fault === FAULTS.unknown && !isName && !hasDialect && isTooLarge(word, base)) said = faults.large;
-  else if (fault === FAULTS.unknown) said = isName ? faults.elsewhere : faults.unknown + advice;
-  else if (fault === FAULTS.full) said = fill(faults.full, { message: faults[fault], left, needs: hasDialect ? faults.needs : "" });
-  else if (fault === FAULTS.missing && isOpenText) said = faults.unquoted;
-  else if (fault === FAULTS.missing && length > LONGEST_NAME) said = fill(faults.long, { most: LONGEST_NAME });
-  else if (fault === FAULTS.missing && !follows) said = faults.follows;
-  return numbered(fill(said, { word }), fault);
-}
-
-export const numbered = (said, fault) => fill(DATA.faults.numbered, { said, fault });
 
 // A line with a mark below a byte; of a long one the part around it.
 export function marked(text, at) {

@@ -1,17 +1,15 @@
 // A host of a machine, as commands/served is one at a terminal: it runs it, answers what it asks, does what its words ask for, and reports its
 // faults. Its words ask by a number in a cell, and KEY: the door.
 
-import { adviceFor } from "./advice.js";
 import { decode, encode } from "./bytes.js";
 import { Catching } from "./catching.js";
 import { DATA } from "./data.js";
 import { COLUMNS, linesOf } from "./disk.js";
-import { FAULTS, lineAt, message, named, nextWord, numbered, placeLines, plain, trimmedEnd, faultWord } from "./faults.js";
+import { FAULTS, lineAt, named, nextWord, placeLines, plain, trimmedEnd, faultWord } from "./faults.js";
 import { SYSTEM } from "./cells.js";
 import { ASKS, cellBytes, Machine, PAGE_SIZE, Refused } from "./machine.js";
 import { OWN_SERVICES } from "./own.js";
 import { MOVED, Refusal, SERVICES, visible, WAITS } from "./services.js";
-import { exitInLoop, unfinished } from "./structures.js";
 import { FIRST_TEXT, Texts, Unreadable } from "./texts.js";
 
 const HERE = "this line", TIB_AT = 128, QUOTE = 34, LINE_ROOM = 127, MOST_NOTED = 20000, MOST_LOADS = 16, PROMPT = 1;
@@ -28,6 +26,9 @@ function unlessRefused(asked) {
     throw error;
   }
 }
+
+// Lines of a source, each a name and a text, as lines of a case.
+const sourceOf = (lines) => lines.flatMap(([name, text]) => [["line", name], ["text", text]]);
 
 export class Host {
   // view: show(bytes, isTyped), say(text), isAtLineStart(), fault(text, place), edit(block, place), retype(text).
@@ -127,11 +128,15 @@ export class Host {
     if (decode(bytes).trim().toUpperCase() === "QUIT") this.view.say(`${this.view.isAtLineStart() ? "" : "\n"}${DATA.faults.quit}\n`);
   }
 
-  // Says so if EXIT is in a counted loop of these lines, whose cells stay; a dialect refuses such a word.
+  // Says so if EXIT is in a counted loop of these lines.
   lookAt(lines) {
-    const place = this.isForeign || this.machine.cell(this.places.dialect) ? undefined : exitInLoop(lines);
-    if (place) this.view.say(`${this.view.isAtLineStart() ? "" : "\n"}${DATA.faults.looped.replace("{where}", place === HERE ? "" : `, in ${place}`)}\n`);
+    if (this.isForeign || !lines.some(([name, text]) => name && /EXIT/i.test(text))) return;
+    const said = this.machine.advise([["loop", ""], ...this.marks({ dialect: this.machine.cell(this.places.dialect) }), ...sourceOf(lines)]);
+    if (said) this.view.say(`${this.view.isAtLineStart() ? "" : "\n"}${said}\n`);
   }
+
+  // Marks that are set, as lines of a case.
+  marks(marks) { return Object.keys(marks).filter((name) => marks[name]).map((name) => ["mark", name]); }
 
   // Answers a line; isWhole: a return ended it. EXPECT shows the line first.
   answer(bytes, isWhole, typed = bytes) {
@@ -234,39 +239,35 @@ export class Host {
   }
 
   // A fault in words, without its place.
-  described(number) {
-    const { machine, places } = this, { text, offset } = this.input(), [start, end] = faultWord(number, { text, offset }), name = text.subarray(start, end);
-    const isName = number === FAULTS.unknown && this.lookUp(decode(name)) !== null, isSet = (place) => machine.cell(place) !== 0;
-    const [from, to] = nextWord(text, offset), left = machine.cell(places.limit) - machine.cell(SYSTEM.dp);
-    const advice = number === FAULTS.unknown && !isName ? this.advice(plain(name)) : "", isOpenText = name[name.length - 1] === QUOTE && !text.subarray(end).includes(QUOTE);
-    return message(number, plain(name), { isName, isHidden: isSet(places.hidden), left, hasDialect: isSet(places.dialect), follows: plain(text.subarray(from, to)), base: machine.cell(SYSTEM.base), advice, isOpenText });
-  }
+  described(number) { return this.machine.advise([["fault", number], ...this.known(number, this.input())]); }
 
-  // What was probably meant by a word that is unknown.
-  advice(word) {
-    const newest = this.machine.words().pop(), { machine } = this;
-    return adviceFor(word, visible(this, [machine.cell(SYSTEM.context), SYSTEM.forthVoc]).map((one) => one.name), newest && newest.isHidden ? newest.name : null);
+  // What is known of a fault, as lines of a case.
+  known(number, { text, offset }) {
+    const { machine, places } = this, [start, end] = faultWord(number, { text, offset }), name = text.subarray(start, end), [from, to] = nextWord(text, offset);
+    const isName = number === FAULTS.unknown && this.lookUp(decode(name)) !== null, isSet = (place) => machine.cell(place) !== 0, isOpen = name[name.length - 1] === QUOTE && !text.subarray(end).includes(QUOTE);
+    const marks = this.marks({ texts: true, name: isName, hidden: isSet(places.hidden), dialect: isSet(places.dialect), open: isOpen });
+    const names = number === FAULTS.unknown && !isName ? visible(this, [machine.cell(SYSTEM.context), SYSTEM.forthVoc]) : [], newest = machine.words().pop();
+    return [["word", plain(name)], ["follows", plain(text.subarray(from, to))], ["base", machine.cell(SYSTEM.base)], ["left", machine.cell(places.limit) - machine.cell(SYSTEM.dp)], ...marks,
+      ...(newest && newest.isHidden ? [["defining", newest.name]] : []), ...names.map((one) => ["name", one.name])];
   }
 
   // A fault in words, with its place; SAID is what the program or a service has said of it.
   report(number, said) {
     const input = this.input(), [start, end] = faultWord(number, input), line = this.textLine(input.block), isPlaced = line ? line.name !== "" : input.block !== 0;
-    const name = number === FAULTS.said ? plain(input.text.subarray(start, end)).toUpperCase() : "";
-    const newest = this.machine.words().pop(), several = name === "WHILE" && newest && newest.isHidden ? DATA.faults.several : "";
-    const open = name === ";" ? this.openStructure(input) : name === "EXIT" ? DATA.faults.leaving : several;
-    let text = said ? numbered(said + open, number) : open + this.described(number);
-    if (number !== FAULTS.unknown && !isPlaced && end > start) text += ` at ${plain(input.text.subarray(start, end))}`;
+    const name = plain(input.text.subarray(start, end)), lines = number === FAULTS.said && name === ";" ? this.sourceLines(input) : [];
+    let text = said + this.machine.advise([["report", number], ...this.marks({ said }), ...this.known(number, input), ...sourceOf(lines)]);
+    if (number !== FAULTS.unknown && !isPlaced && end > start) text += ` at ${name}`;
     return `${[text, ...placeLines(input, line, start), ...this.loaderLines(input.block)].join("\n")}\n`;
   }
 
-  // Which structure of the open definition has no end, if its source says it.
-  openStructure({ block, text, offset }) {
+  // The source of the open definition, each line with what it is called.
+  sourceLines({ block, text, offset }) {
     const header = this.machine.words().pop(), line = this.textLine(block), before = text.subarray(0, offset), lines = [];
-    if (!header || !header.isHidden) return "";
+    if (!header || !header.isHidden) return [];
     if (line) for (let at = header.view >= FIRST_TEXT && header.view <= block ? header.view : block; at < block; at++) lines.push([`line ${this.textLine(at).number}`, this.textLine(at).text]);
     for (let at = 0; block && !line && at < offset; at += COLUMNS) lines.push([`line ${at / COLUMNS}`, before.subarray(at, at + COLUMNS)]);
     if (line || !block) lines.push([line ? `line ${line.number}` : HERE, before]);
-    return unfinished(lines.map(([name, bytes]) => [name, decode(bytes)]));
+    return lines.map(([name, bytes]) => [name, decode(bytes)]);
   }
 
   // From where the text or the screen of a fault was loaded.

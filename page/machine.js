@@ -164,6 +164,16 @@ export class Machine {
     return made;
   }
 
+  // What is said of a case, of lines with a name and the rest: docs/FORMATS.md describes them.
+  advise(lines) {
+    const text = encode(lines.map(([name, rest]) => `${name} ${rest}`.replaceAll("\n", " ")).join("\n")), room = 2 * text.length + TEXT;
+    const given = this.lent(text), reply = this.calls.malloc(room), status = this.calls.forth83_advise(...given, reply, BigInt(room), this.size);
+    const said = status ? "" : decode(this.bytes(reply, this.sized()));
+    for (const at of [given[0], reply]) this.calls.free(at);
+    this.must(status, "advise");
+    return said;
+  }
+
   // What the lessons of a course come to, one after the other, by what a pupil wrote: of each its number, screen and title, the mark, the word that it is
   // about and the text. FILES are an image that has loaded the course's checkers, what is said of faults, and the blocks of the course and of the pupil.
   *judge(files, ticks) {

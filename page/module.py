@@ -50,6 +50,7 @@ class Module(NamedTuple):
 # The calls that a page makes.
 CALLS = (
     "forth83_load_3", "forth83_serve", "forth83_survey", "forth83_text", "forth83_screens", "forth83_unpack", "forth83_guess_format", "forth83_judge",
+    "forth83_advise",
 )  # fmt: skip
 
 

@@ -8,6 +8,7 @@ import subprocess
 import time
 from typing import Any, List, Optional
 
+import advice_cases
 import browser as browsers
 import class_cases
 import session_cases
@@ -147,6 +148,7 @@ def as_at_a_terminal(trial: Trial) -> None:
         shown = answer if case.is_fault else re.sub(r"\s*ok$", "", answer)
         is_so = shown.startswith(case.shown.strip()) if case.is_fault else shown == case.shown.strip()
         trial.must(is_so, f"{case.line}: wanted {case.shown!r}, got {shown!r}")
+    advice_cases.try_page(lambda lines: trial.value(f"page.session.machine.advise({json.dumps(lines)})"), trial.must)
     trial.value("page.work.putIn('forth.blk'), page.session.start()")
     trial.idle()
 
@@ -600,7 +602,9 @@ def film(trial: Trial) -> None:
     trial.value("document.querySelector('#words-table button').click()")
     trial.must(trial.value("document.getElementById('line').value") == "SWAP ", "a word of the manual isn't taken into the line")
     trial.value("document.getElementById('line').value = ''; " + seek % "")
-    unknown = trial.value("DATA.manual.map((one) => one[0]).filter((name) => !DATA.advice.later.includes(name) && !page.session.machine.words().some((one) => one.name === name))")
+    advises = "page.session.machine.advise([['fault', 13], ['word', name], ['mark', 'texts']])"
+    known = f"{advises}.includes('later.fs') || page.session.machine.words().some((one) => one.name === name)"
+    unknown = trial.value(f"DATA.manual.map((one) => one[0]).filter((name) => !({known}))")
     trial.must(not unknown, f"words of the manual that the Forth doesn't have: {unknown[:5]}")
 
 

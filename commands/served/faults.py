@@ -1,14 +1,11 @@
-"""Faults in words, with their place: the one table of messages, and where a word of the input is."""
+"""The place of a fault: where its word is in the input. And the texts of data/faults.txt."""
 from __future__ import annotations
 
 import os
-import re
 from typing import NamedTuple
 
-UNKNOWN, MISSING, FULL, SAID = 13, 15, 8, 17
+UNKNOWN, MISSING, SAID = 13, 15, 17
 WIDTH = 100  # columns of a line that a message shows
-LONGEST_NAME = 31
-PREFIXES = {"$": 16, "#": 10, "%": 2}
 TEXTS = os.path.join(os.path.dirname(os.path.dirname(os.path.dirname(os.path.realpath(__file__)))), "data", "faults.txt")
 
 
@@ -50,57 +47,6 @@ def columns(text: bytes) -> int:
 def plain(text: bytes) -> str:
     """A text without what a terminal would obey."""
     return "".join(c if c.isprintable() else "." for c in text.decode(errors="replace"))
-
-
-class Known(NamedTuple):
-    """What the machine knows when a fault happens: whether some word has the name that is not found, whether a dialect hides a tool of
-    that name, the dictionary's room, whether a dialect is loaded, the word that follows, BASE, advice for an unknown word, and whether a text
-    follows without its quote."""
-
-    is_name: bool = False
-    is_hidden: bool = False
-    left: int = 0
-    has_dialect: bool = False
-    follows: str = ""
-    base: int = 10
-    advice: str = ""
-    is_open_text: bool = False
-
-
-def is_too_large(word: str, base: int) -> bool:
-    """Whether a text is a number that a cell has no room for."""
-    prefix, digits = re.fullmatch(r"([$#%]?)(.*)", word, re.S).groups()  # type: ignore[union-attr]
-    try:
-        number = int(digits, PREFIXES.get(prefix, base)) if re.fullmatch("-?[0-9A-Za-z]+", digits) else 0
-    except ValueError:  # not its digits, or a base that Python does not know
-        return False
-    return not -32768 <= number <= 65535
-
-
-def message(fault: int, word: str, known: Known) -> str:
-    """What a fault means."""
-    if fault == UNKNOWN and known.is_hidden:
-        said = MESSAGES["hidden"].format(word=word)
-    elif fault == UNKNOWN and not known.is_name and not known.has_dialect and is_too_large(word, known.base):
-        said = MESSAGES["large"].format(word=word)
-    elif fault == UNKNOWN:
-        said = MESSAGES["elsewhere" if known.is_name else "unknown"].format(word=word) + ("" if known.is_name else known.advice)
-    elif fault == FULL:
-        said = MESSAGES["full"].format(message=MESSAGES[str(FULL)], left=known.left, needs=MESSAGES["needs"] * known.has_dialect)
-    elif fault == MISSING and known.is_open_text:
-        said = MESSAGES["unquoted"]
-    elif fault == MISSING and max(len(word), len(known.follows)) > LONGEST_NAME:
-        said = MESSAGES["long"].format(most=LONGEST_NAME)
-    elif fault == MISSING and not known.follows:
-        said = MESSAGES["follows"]
-    else:
-        said = MESSAGES.get(str(fault), MESSAGES["own"])
-    return MESSAGES["numbered"].format(said=said, fault=fault)
-
-
-def leaving(number: int, word: bytes) -> str:
-    """What is said to someone who wants to leave the Forth by EXIT, which is a word for definitions."""
-    return MESSAGES["leaving"] if number == SAID and word.upper() == b"EXIT" else ""
 
 
 def marked(text: bytes, at: int) -> list[str]:

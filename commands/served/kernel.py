@@ -24,7 +24,7 @@ class Kernel(Output):
     def __init__(self, words: list[str], blocks: Optional[str], signals: Signals) -> None:
         super().__init__(True, signals)
         self._pipe = Pipe(signals)
-        self.target = Target(Wire(words, self.show), Texts(), blocks)
+        self.target = Target(Wire(words, self.show), Texts(), blocks, words[0])
         self._keeping = Keeping(self.target, True)
 
     def run(self) -> int:

@@ -5,12 +5,12 @@ import itertools
 import os
 from typing import Optional
 
-from served import faults, past, structures, words
-from served.advice import advice
+from served import faults, past, words
+from served.advising import Lines, source
 from served.script import STANDARD_INPUT
 from served.target import BASE, DP, signed, Target
 from served.texts import FIRST as FIRST_TEXT, Line
-from served.wire import Header, State
+from served.wire import Header, Refused, State
 
 LINE = 64
 
@@ -19,45 +19,57 @@ def described(target: Target, number: int) -> str:
     """A fault in words, without its place."""
     given = target.input()
     word = faults.word_at(number, given)
-    name = given.text[word.start : word.stop]
-    is_name = number == faults.UNKNOWN and target.look_up(os.fsdecode(name)) is not None
-    is_hidden, has_dialect = (target.variable(cell) != 0 for cell in ("HIDDEN-TOOL", "DIALECT"))
-    left, follows = target.variable("LIMIT") - target.wire.cell(DP), given.text[given.offset :].lstrip(b" ").partition(b" ")[0]
-    advice = advice_for(target, faults.plain(name)) if number == faults.UNKNOWN and not is_name else ""
-    is_open = name.endswith(b'"') and b'"' not in given.text[word.stop :]
-    known = faults.Known(is_name, is_hidden, left, has_dialect, faults.plain(follows), target.wire.cell(BASE), advice, is_open)
-    return faults.message(number, faults.plain(name), known)
+    return target.adviser.meaning(number, faults.plain(given.text[word.start : word.stop]), known_of(target, number, given))
 
 
-def advice_for(target: Target, word: str) -> str:
-    """What was probably meant by a word that is unknown."""
-    newest = target.wire.headers()[-1]
-    return advice(word, words.names(target), faults.plain(newest.name) if newest.is_hidden else None)
+def known_of(target: Target, number: int, given: faults.Input) -> Lines:
+    """What is known of a fault, as lines of a case."""
+    word = faults.word_at(number, given)
+    asked, follows = given.text[word.start : word.stop], given.text[given.offset :].lstrip(b" ").partition(b" ")[0]
+    is_name = number == faults.UNKNOWN and target.look_up(os.fsdecode(asked)) is not None
+    marks = {
+        "texts": True, "name": is_name, "hidden": target.variable("HIDDEN-TOOL") != 0, "dialect": target.variable("DIALECT") != 0,
+        "open": asked.endswith(b'"') and b'"' not in given.text[word.stop :],
+    }  # fmt: skip
+    left = target.variable("LIMIT") - target.wire.cell(DP)
+    known = [("follows", faults.plain(follows)), ("base", str(target.wire.cell(BASE))), ("left", str(left))]
+    known += [("mark", mark) for mark, is_set in marks.items() if is_set]
+    if number in (faults.UNKNOWN, faults.SAID) and not is_name:
+        known += [("defining", name) for name in defined(target)]
+    if number == faults.UNKNOWN and not is_name:
+        known += [("name", name) for name in words.names(target)]
+    return known
+
+
+def defined(target: Target) -> list[str]:
+    """The word that is being defined, if one is, and its name can be found."""
+    try:
+        newest = target.wire.headers()[-1:]
+    except Refused:
+        newest = []
+    return [faults.plain(header.name) for header in newest if header.is_hidden]
 
 
 def report(target: Target, number: int, said: str) -> str:
     """A fault in words, with its place; `said` is what the program or a service has said of it."""
     given = target.input()
     word = faults.word_at(number, given)
-    name = given.text[word.start : word.stop]
+    name = faults.plain(given.text[word.start : word.stop])
     place = target.texts.place(given.block)
-    is_end = number == faults.SAID and name == b";"
-    hint = open_structure(target, given) if is_end else faults.leaving(number, name)
-    if number == faults.SAID and name.upper() == b"WHILE" and target.wire.headers()[-1].is_hidden:
-        hint = faults.MESSAGES["several"]
-    said = f"{said}{hint} (fault {number})" if said else hint + described(target, number)
+    lines = open_lines(target, given) if number == faults.SAID and name == ";" else []
+    said = target.adviser.report(number, name, known_of(target, number, given) + source(lines), said)
     is_placed = place.name != "" if place else given.block != 0
     if number != faults.UNKNOWN and not is_placed and name:
-        said += f" at {faults.plain(name)}"
+        said += f" at {name}"
     return "\n".join([said, *place_lines(given, place, word.start), *loader_lines(target, given.block)]) + "\n"
 
 
-def open_structure(target: Target, given: faults.Input) -> str:
-    """What to add to the message that a structure of the open definition is unfinished: which one, if its source says it."""
+def open_lines(target: Target, given: faults.Input) -> Lines:
+    """The source of the open definition, each line with what it is called."""
     header = target.wire.headers()[-1]
     place = target.texts.place(given.block)
     if not header.is_hidden:
-        return ""
+        return []
     lines = [("this line", given.text[: given.offset])]
     if place:
         first = header.view if FIRST_TEXT <= header.view <= given.block else given.block
@@ -65,7 +77,7 @@ def open_structure(target: Target, given: faults.Input) -> str:
         lines = [(f"line {line.number}", line.text) for line in before if line] + [(f"line {place.number}", given.text[: given.offset])]
     elif given.block:
         lines = [(f"line {at // LINE}", given.text[at : min(at + LINE, given.offset)]) for at in range(0, given.offset, LINE)]
-    return structures.unfinished([(name, text.decode(errors="replace")) for name, text in lines])
+    return [(name, text.decode(errors="replace")) for name, text in lines]
 
 
 def place_lines(given: faults.Input, place: Optional[Line], at: int, has_column: bool = True) -> list[str]:

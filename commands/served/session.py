@@ -3,7 +3,7 @@ from __future__ import annotations
 
 from typing import Any, Callable, Optional, Union
 
-from served import faults, reports, services, structures, words as words_of
+from served import faults, reports, services, words as words_of
 from served.catching import Catching
 from served.keeping import Keeping
 from served.output import FAILED, FAULTED, Output
@@ -32,7 +32,7 @@ class Session(Output):
         self.program, self.signals, self.arguments = words[0], signals, arguments
         super().__init__(script is not None, signals)
         self.wire = wire(words, self.show)
-        self.target = Target(self.wire, Texts(), blocks)
+        self.target = Target(self.wire, Texts(), blocks, words[0])
         self.console: Union[Terminal, Script] = script or self.terminal()
         self.past = Past(self.target)
         self.steps = Steps(self)
@@ -134,7 +134,7 @@ class Session(Output):
     def _halted(self, stop: Stop) -> None:
         """The machine has ended."""
         if stop.how == "h":
-            said = faults.message(stop.number, "the word", faults.Known())
+            said = self.target.adviser.meaning(stop.number)
             self._put_back(f"{said}: no fault thread handled it, so the Forth has stopped")
         else:
             raise Ended(FAILED if stop.how == "y" else self.status)
@@ -226,10 +226,10 @@ class Session(Output):
         self.look_at(self.open_lines)
 
     def look_at(self, lines: list[tuple[str, str]]) -> None:
-        """Says so if EXIT is in a counted loop of these lines, whose cells stay; a dialect refuses such a word."""
-        place = None if self.target.variable("DIALECT") else structures.exit_in_loop(lines)
-        if place:
-            self.report(faults.MESSAGES["looped"].format(where="" if place == "this line" else f", in {place}") + "\n")
+        """Says so if EXIT is in a counted loop of these lines."""
+        said = self.target.adviser.looped(lines, self.target.variable("DIALECT") != 0)
+        if said:
+            self.report(said + "\n")
 
     def _give_line(self, line: bytes) -> None:
         """Answers a line; what EXPECT shows of it is on the terminal already."""

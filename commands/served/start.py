@@ -15,6 +15,7 @@ from served.texts import Line, lines_of, read_file, Unreadable
 from served.wire import Gone, Wire
 
 ENDS = (".fs", ".fth", ".4th", ".frt", ".f")
+DIALECTS, FOLDER = ("fig.txt", "f79.txt", "f83.txt", "poly.txt"), os.path.join(os.path.dirname(image.LIBRARY), "dialects")
 TITLE = b"(  1  Control: threads and loops )"  # the first line of a kernel's sources
 USAGE, INTERRUPTED = 2, 130
 FLAGS = ("--quiet", "--kernel", "--proved", "--unproved", "--dap", "--start", "--no-start")
@@ -155,8 +156,6 @@ def first_lines(wanted: Asked) -> list[bytes]:
 
 def first_screen(dialect: str) -> int:
     """The screen that loads a dialect, which is the first one of its text."""
-    from served.dialects import DIALECTS, FOLDER
-
     if f"{dialect}.txt" not in DIALECTS:
         raise Unreadable(f"there is no dialect {dialect}; there are {', '.join(name[:-4] for name in DIALECTS)}")
     with open(os.path.join(FOLDER, f"{dialect}.txt"), encoding="utf-8") as text:

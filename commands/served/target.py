@@ -4,6 +4,7 @@ from __future__ import annotations
 import os
 from typing import Optional
 
+from served.advising import Adviser
 from served.faults import Input
 from served.table import FIRST, SECOND
 from served.texts import FIRST as FIRST_TEXT, Texts
@@ -18,8 +19,9 @@ MOST_NOTED = 200_000  # answers of a line that are kept for WHY: a program that 
 class Target:
     """A machine, its texts, and its file of blocks."""
 
-    def __init__(self, wire: Wire, texts: Texts, blocks: Optional[str]) -> None:
-        self.wire, self.texts, self.blocks = wire, texts, blocks
+    def __init__(self, wire: Wire, texts: Texts, blocks: Optional[str], program: str) -> None:
+        """The program is the one that says what is said about its faults."""
+        self.wire, self.texts, self.blocks, self.adviser = wire, texts, blocks, Adviser(program)
         self.log: Optional[list[tuple[str, bytes]]] = []  # what it was given since the line began; None if that was very much
         self.ticks = 0  # what it did since then
         self.all_ticks = 0  # what it did since the session began

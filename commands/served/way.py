@@ -6,7 +6,7 @@ import shutil
 import tempfile
 from typing import Optional
 
-from served import faults, reports
+from served import reports
 from served.kernel import Kernel
 from served.past import Past
 from served.prompt import Signals
@@ -42,7 +42,7 @@ class Way(Kernel):
             shutil.copyfile(self._blocks, self.target.blocks)
         found = self.past.at_fault()
         if found:
-            said = faults.message(self.number or fault, "the word", faults.Known()).strip()
+            said = self.target.adviser.meaning(self.number or fault).strip()
             self.write(2, b"\n" * bool(self.column))
             self._report(f"{said}\n{reports.way(self.target, *found)}")
 

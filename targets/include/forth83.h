@@ -36,7 +36,7 @@ extern "C" {
 enum forth83_status {
   FORTH83_DONE = 0,
   FORTH83_NO_MACHINE = 1,     /* the record keeps no machine */
-  FORTH83_OUT_OF_MEMORY = 2,  /* only forth83_see, _headers, _extent, _trace_line, _survey, _text, _screens, _unpack, _pack, _guess_format and _judge, which take memory */
+  FORTH83_OUT_OF_MEMORY = 2,  /* only forth83_see, _headers, _extent, _trace_line, _survey, _text, _screens, _unpack, _pack, _guess_format, _judge and _advise, which take memory */
   FORTH83_SHORT_ROOM = 3,     /* no room for what is shown, or too little for a file */
   FORTH83_TRUNCATED = 4,      /* an image's file that ends too soon */
   FORTH83_TRAILING_BYTES = 5, /* bytes after an image's file */
@@ -57,7 +57,7 @@ enum forth83_status {
   FORTH83_SHADOWED = 20,       /* SEE: a name in its text would mean another word, or a number is a name */
   FORTH83_BAD_TEXT = 21,       /* SEE: a text in it has a quote */
   FORTH83_LONG_REPLY = 22,     /* the reply is longer than the room, which has the front of it; the request was obeyed */
-  FORTH83_REFUSED = 23         /* forth83_screens, _unpack and _pack: what was given is refused, and `cause` or `said` says why */
+  FORTH83_REFUSED = 23         /* forth83_screens, _unpack, _pack and _advise: what was given is refused; `cause` or `said` says why, if there is one */
 };
 
 /* What is wrong with a line of a text of screens (docs/PROGRAM.md, "Screens as text"). */
@@ -279,6 +279,11 @@ uint32_t forth83_guess_format(const uint8_t *container, uint64_t container_size,
 uint32_t forth83_judge(const uint8_t *image, uint64_t image_size, const uint8_t *texts, uint64_t texts_size, const uint8_t *course,
                        uint64_t course_size, const uint8_t *pupil, uint64_t pupil_size, uint64_t ticks, uint16_t *next, uint16_t *stopped,
                        uint8_t *line, uint64_t line_size, uint64_t *size);
+
+/* Puts what is said of a case into reply, and its size into written: what a fault means and what was probably meant, with its number, or what is said
+ * of EXIT in a counted loop, which may be nothing. A case is a text of lines, as in "fault 13\nword SQAURE\nname SQUARE\n"; docs/FORMATS.md has them.
+ * FORTH83_REFUSED: the text is no case. FORTH83_SHORT_ROOM: written says how many bytes reply must have. Needs no machine. */
+uint32_t forth83_advise(const uint8_t *case_text, uint64_t case_size, uint8_t *reply, uint64_t reply_size, uint64_t *written);
 
 /* Obeys a request of a host, as a server does: the frame of this kind with these bytes (docs/FORMATS.md has the frames). Puts the frames of the reply
  * into reply, and how many bytes they have into replied. A reply that is longer than reply_size is cut there (FORTH83_LONG_REPLY): the request was

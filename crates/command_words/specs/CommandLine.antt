@@ -141,16 +141,19 @@ record_rules = number (codes "width") ∷ number (codes "lines") ∷ number (cod
 
 abbrev pub unpack : Shape
 unpack = sub (codes "unpack")
-    (word (codes "CONTAINER") ∷ word (codes "BLOCKS") ∷ clean ∷ flag (codes "append") ∷ (disk_rules ++ record_rules))
+    (word (codes "CONTAINER") ∷ word (codes "BLOCKS") ∷ clean ∷ flag (codes "append") ∷ option (codes "file") ∷ (disk_rules ++ record_rules))
 
 abbrev pub pack : Shape
 pack = sub (codes "pack") (word (codes "BLOCKS") ∷ word (codes "CONTAINER") ∷ disk_rules)
 
 abbrev pub guess : Shape
-guess = sub (codes "guess") (word (codes "DISK") ∷ flag (codes "better") ∷ flag (codes "score") ∷ [])
+guess = sub (codes "guess") (word (codes "DISK") ∷ flag (codes "better") ∷ flag (codes "score") ∷ flag (codes "files") ∷ [])
+
+abbrev pub advise : Shape
+advise = sub (codes "advise") (word (codes "CASE") ∷ [])
 
 abbrev pub subcommands : List Shape
-subcommands = kernel ∷ build ∷ load ∷ upgrade ∷ text ∷ screens ∷ new ∷ import ∷ export ∷ run ∷ see ∷ debug ∷ view ∷ serve ∷ survey ∷ judge ∷ unpack ∷ pack ∷ guess ∷ []
+subcommands = kernel ∷ build ∷ load ∷ upgrade ∷ text ∷ screens ∷ new ∷ import ∷ export ∷ run ∷ see ∷ debug ∷ view ∷ serve ∷ survey ∷ judge ∷ unpack ∷ pack ∷ guess ∷ advise ∷ []
 
 abbrev pub forth83 : App
 forth83 = record {

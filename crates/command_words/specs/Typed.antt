@@ -88,11 +88,13 @@ pub record IsUnpack (rows : List Row) (w : UnpackWords) : Type 0 where
   pub columns : number_in (codes "columns") rows ≡ w.columns
   pub clean : IsFlag rows (codes "clean") w.disk.container.cleans
   pub append : IsFlag rows (codes "append") w.appends
+  pub file : IsTextIfGiven rows (codes "file") w.file
 
 pub record IsGuess (rows : List Row) (w : GuessWords) : Type 0 where
   pub disk : IsText rows (codes "DISK") w.disk
   pub better : IsFlag rows (codes "better") w.is_better
   pub score : IsFlag rows (codes "score") w.is_score
+  pub files : IsFlag rows (codes "files") w.lists_files
 
 -- each file and option is the one that was given in its place
 abbrev pub Says : List Row → Words → Type 0
@@ -119,6 +121,7 @@ Says rows (words.Judge w) = IsJudge rows w
 Says rows (words.Unpack w) = IsUnpack rows w
 Says rows (words.Pack w) = IsDisk rows w
 Says rows (words.Guess w) = IsGuess rows w
+Says rows (words.Advise case) = IsText rows (codes "CASE") case
 
 -- the subcommand of this name
 abbrev pub name_of : Words → Text
@@ -141,6 +144,7 @@ name_of (words.Judge w) = codes "judge"
 name_of (words.Unpack w) = codes "unpack"
 name_of (words.Pack w) = codes "pack"
 name_of (words.Guess w) = codes "guess"
+name_of (words.Advise case) = codes "advise"
 
 -- w is of the subcommand of this name, and says what was found for its arguments
 pub record AreOf (name : Text) (rows : List Row) (w : Words) : Type 0 where
@@ -222,7 +226,8 @@ parts =
     ∷ (codes "new", Word (codes "BLOCKS") ∷ Number 32 (codes "N") ∷ []) ∷ (codes "import", container_parts) ∷ (codes "export", container_parts)
     ∷ (codes "run", Word (codes "IMAGE") ∷ limit_part ∷ []) ∷ (codes "debug", debug_parts) ∷ (codes "see", seen_parts) ∷ (codes "view", seen_parts)
     ∷ (codes "serve", Word (codes "IMAGE") ∷ []) ∷ (codes "survey", survey_parts) ∷ (codes "judge", judge_parts)
-    ∷ (codes "unpack", unpack_parts) ∷ (codes "pack", disk_parts) ∷ (codes "guess", Word (codes "DISK") ∷ []) ∷ []
+    ∷ (codes "unpack", unpack_parts) ∷ (codes "pack", disk_parts) ∷ (codes "guess", Word (codes "DISK") ∷ [])
+    ∷ (codes "advise", Word (codes "CASE") ∷ []) ∷ []
 
 -- of the subcommand of this name one part is lacking, or none has this name
 abbrev pub LacksIn : List (Text × List Part) → (name : Text) → List Row → Type 0

@@ -39,4 +39,6 @@ pub struct UnpackWords {
     pub columns: Option<u32>,
     /// Whether the screens come after those of a file that exists.
     pub appends: bool,
+    /// The file of the container's directory that is taken.
+    pub file: Option<String>,
 }

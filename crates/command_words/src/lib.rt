@@ -76,6 +76,9 @@ pub enum Words {
     Unpack(UnpackWords),
     Pack(DiskWords),
     Guess(GuessWords),
+    Advise {
+        case: String,
+    },
 }
 
 /// Screens of a file of blocks, one after another.
@@ -135,6 +138,8 @@ pub struct GuessWords {
     pub is_better: bool,
     /// Whether only a score is printed.
     pub is_score: bool,
+    /// Whether it is printed what the file is, and which files its directory names.
+    pub lists_files: bool,
 }
 
 /// What became of the command line.

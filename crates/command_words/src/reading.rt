@@ -320,6 +320,7 @@ fn unpack_words(alloc: Global, matches: &ArgMatches<'_>) -> Result<UnpackWords, 
         lines: size_if_given(matches, "lines")?,
         columns: size_if_given(matches, "columns")?,
         appends: is_given(matches, "append"),
+        file: text_if_given(alloc, matches, "file")?,
     })
 }
 
@@ -331,6 +332,16 @@ fn guess_words(alloc: Global, matches: &ArgMatches<'_>) -> Result<GuessWords, Un
         disk: text(alloc, matches, "DISK")?,
         is_better: is_given(matches, "better"),
         is_score: is_given(matches, "score"),
+        lists_files: is_given(matches, "files"),
+    })
+}
+
+fn advise_words(alloc: Global, matches: &ArgMatches<'_>) -> Result<Words, Unread>
+    ensures typed { IfOk result (typed.AreOf (codes "advise") (rows_of (found_of matches.now))) }
+    ensures lacks { IfErr result (λ why. why ≡ Unread.Missing → typed.LacksOne (rows_of (found_of matches.now)) (typed.Word (codes "CASE") ∷ [])) }
+{
+    Ok(Words::Advise {
+        case: text(alloc, matches, "CASE")?,
     })
 }
 
@@ -371,6 +382,7 @@ fn words_of(alloc: Global, name: &str, matches: &ArgMatches<'_>) -> Result<Words
         "unpack" => Ok(Words::Unpack(unpack_words(alloc, matches)?)),
         "pack" => Ok(Words::Pack(disk_words(alloc, matches, false)?)),
         "guess" => Ok(Words::Guess(guess_words(alloc, matches)?)),
+        "advise" => advise_words(alloc, matches),
         _ => Err(Unread::Missing),
     }
 }

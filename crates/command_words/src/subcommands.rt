@@ -264,6 +264,12 @@ fn unpack_command<'a>(alloc: Global) -> Result<Command<'a>, AllocError>
             alloc,
             "append",
             "Add the screens at the end of a block file that exists",
+        ))?
+        .arg(option(
+            alloc,
+            "file",
+            "NAME",
+            "Take this file of the container's directory",
         ))?;
     with_records(alloc, with_disk(alloc, command)?)
 }
@@ -293,7 +299,20 @@ fn guess_command<'a>(alloc: Global) -> Result<Command<'a>, AllocError>
             alloc,
             "score",
             "Print only how much it looks like source as it is, at most 2",
+        ))?
+        .arg(flag(
+            alloc,
+            "files",
+            "Print what the file is, and the files of its directory",
         ))
+}
+
+fn advise_command<'a>(alloc: Global) -> Result<Command<'a>, AllocError>
+    ensures { IfOk result (line.IsSubcommand line.advise) }
+{
+    Command::new(alloc, "advise")
+        .about("Print what a fault means, and what was probably meant")
+        .arg(word(alloc, "CASE", "A text that says what happened"))
 }
 
 /// The program's command line.
@@ -323,5 +342,6 @@ pub fn command<'a>(alloc: Global) -> Result<Command<'a>, AllocError>
         .subcommand(judge_command(alloc)?)?
         .subcommand(unpack_command(alloc)?)?
         .subcommand(pack_command(alloc)?)?
-        .subcommand(guess_command(alloc)?)
+        .subcommand(guess_command(alloc)?)?
+        .subcommand(advise_command(alloc)?)
 }

@@ -2,6 +2,7 @@
 use Rattle.std.specs.Prelude.{◌≡◌, ◌⊎◌, ℕ, List, [], ◌∷◌, Bool, true, Option, Some, None, option_map, String}
 use Rattle.std.specs.declared.alloc.Global.{Global}
 use Rattle.std.specs.String.{string_bytes}
+use Rattle.advice_subcommand.specs.Advised.{Advises, advise_steps}
 use Rattle.command_words.specs.Refused.{IsUnread}
 use Rattle.command_words.specs.Typed.{IsTyped}
 use Rattle.command_words.specs.declared.Parsed.TheVariants as parsed
@@ -62,6 +63,7 @@ Obeys (words.Unpack w) status failed old new =
     Unpacks (string_bytes w.disk.container.container) (string_bytes w.disk.container.blocks) w.appends status failed old new
 Obeys (words.Pack w) status failed old new = Packs (string_bytes w.container.blocks) (string_bytes w.container.container) status failed old new
 Obeys (words.Guess w) status failed old new = Guesses (string_bytes w.disk) status failed old new
+Obeys (words.Advise case) status failed old new = Advises (string_bytes case) status failed old new
 
 -- the subcommand could not begin: a step that it must take was refused, or what was typed can't be used
 abbrev pub RefusesWords : Words → (status : ℕ) → (failed : Bool) → (old new : Done) → Type 0
@@ -89,6 +91,7 @@ RefusesWords (words.Unpack w) status failed old new =
 RefusesWords (words.Pack w) status failed old new =
     RefusesPack (string_bytes w.container.blocks) (string_bytes w.container.container) (string_bytes w.container.format) status old new
 RefusesWords (words.Guess w) status failed old new = Refuses (guess_steps (string_bytes w.disk)) status old new
+RefusesWords (words.Advise case) status failed old new = Refuses (advise_steps (string_bytes case)) status old new
 
 -- what the program does with a command line. It obeys the words that were typed, or one of their steps is refused; if a line can't be printed
 -- meanwhile, the status is 5. Or no words come of the command line: it is printed why, or memory ran out.

@@ -6,6 +6,7 @@ ghost use Rattle.forth83.specs.Obeyed.{Obeys, RefusesWords, RunsLine};
 ghost use Rattle.named_files.specs.Done.{IsPassedOn, done, status_of};
 ghost use Rattle.std.specs.String.{string_bytes};
 
+use advice_subcommand::advise_case;
 use command_words::{
     ContainerWords, DiskWords, GuessWords, JudgeWords, LoadWords, Parsed, ScreenRange, SurveyWords,
     UnpackWords, Words, parse, typed,
@@ -132,6 +133,7 @@ fn unpacking_of(words: &UnpackWords) -> Unpacking<'_>
         × (result.disk.format.now ≡ string_bytes words.now.disk.container.format) }
     ensures records { (result.width ≡ words.now.width) × (result.lines ≡ words.now.lines) × (result.columns ≡ words.now.columns) }
     ensures flags { (result.cleans ≡ words.now.disk.container.cleans) × (result.appends ≡ words.now.appends) }
+    ensures file { option_map (λ text. text.now) result.file ≡ option_map string_bytes words.now.file }
 {
     Unpacking {
         disk: old_disk_of(&words.disk),
@@ -140,6 +142,7 @@ fn unpacking_of(words: &UnpackWords) -> Unpacking<'_>
         columns: words.columns,
         cleans: words.disk.container.cleans,
         appends: words.appends,
+        file: words.file.as_deref(),
     }
 }
 
@@ -147,11 +150,13 @@ fn unpacking_of(words: &UnpackWords) -> Unpacking<'_>
 fn guess_of(words: &GuessWords) -> Guess<'_>
     ensures disk { result.disk.now ≡ string_bytes words.now.disk }
     ensures flags { (result.is_better ≡ words.now.is_better) × (result.is_score ≡ words.now.is_score) }
+    ensures files { result.lists_files ≡ words.now.lists_files }
 {
     Guess {
         disk: words.disk.as_str(),
         is_better: words.is_better,
         is_score: words.is_score,
+        lists_files: words.lists_files,
     }
 }
 
@@ -220,6 +225,7 @@ fn obey<F: Files, W: Output>(files: &mut F, writer: &mut W, words: Words) -> Res
         Words::Unpack(words) => unpack_disk(files, writer, unpacking_of(&words)),
         Words::Pack(words) => pack_disk(files, writer, old_disk_of(&words)),
         Words::Guess(words) => guess_order(files, writer, guess_of(&words)),
+        Words::Advise { case } => advise_case(files, writer, case.as_str()),
     }
 }
 

@@ -1,6 +1,7 @@
 //! The machine for hosts in C: a record that the host owns, and functions of it.
 #![tactic(auto)]
 
+mod advising;
 mod calling;
 mod driving;
 mod finding;
@@ -495,6 +496,25 @@ pub extern "C" fn forth83_guess_format(
         Ok(()) => 0,
         Err(why) => why.code(),
     }
+}
+
+/// Puts what is said of a case, as docs/FORMATS.md describes it, into `reply`, and how many bytes it has into `written`: what a fault means and what was
+/// probably meant, or what is said of EXIT in a counted loop. With too little room, `written` says how much is needed.
+#[unsafe(no_mangle)]
+pub extern "C" fn forth83_advise(
+    alloc: Global,
+    case: &[u8],
+    reply: &mut [u8],
+    written: &mut usize,
+) -> u32
+    // 0: the answer is at the front of the room; 2: out of memory; 3: it needs more room; 23: the bytes are no case.
+    ensures known { (result ≡ 0) ⊎ ((result ≡ 2) ⊎ ((result ≡ 3) ⊎ (result ≡ 23))) }
+    ensures fits { result ≡ 0 → written.new ≤ length reply.new }
+    ensures beyond { result ≡ 0 → drop written.new reply.new ≡ drop written.new reply.old }
+    ensures needs { result ≡ 3 → length reply.new < written.new }
+    ensures stays { result ≢ 0 → reply.new ≡ reply.old }
+{
+    advising::advise(alloc, case, reply, written)
 }
 
 /// Judges the next lesson of what a pupil wrote, with the course's own checkers: puts its line into `text`, and how many bytes it has into `size`,

@@ -4,6 +4,7 @@ use crate::bytes::{
     after, after_beginning, find, first_line, first_word, front, is_blank, one_line, place_of,
     put_number, trimmed, trimmed_end,
 };
+use advice::is_too_large;
 use std::alloc::{AllocError, Global};
 
 /// Faults that are about a word of the input, and the one whose text the program has shown.
@@ -92,35 +93,6 @@ fn put_said(text: &mut Vec<u8>, said: &[u8], word: &[u8]) -> Result<(), AllocErr
         }
         None => text.extend_from_slice(said),
     }
-}
-
-/// A digit's value, for bases up to 36.
-fn digit_of(byte: u8) -> i64 {
-    match byte {
-        b'0'..=b'9' => i64::from(byte) - 48,
-        b'A'..=b'Z' => i64::from(byte) - 55,
-        b'a'..=b'z' => i64::from(byte) - 87,
-        _ => i64::MAX,
-    }
-}
-
-/// Whether a word is a number of this base that a cell has no room for.
-fn is_too_large(word: &[u8], base: u16) -> bool {
-    let digits = after_beginning(word, b"-").unwrap_or(word);
-    let mut number = 0i64;
-    for byte in digits {
-        let digit = digit_of(*byte);
-        if digit >= i64::from(base) {
-            return false;
-        }
-        number = number.saturating_mul(i64::from(base)).saturating_add(digit);
-    }
-    let most = if digits.len() < word.len() {
-        32768
-    } else {
-        65535
-    };
-    number > most
 }
 
 /// The name of what is said of a fault at this place, if it isn't its number.

@@ -26,4 +26,5 @@ returns c =
     let s16 = joined _ line.judge _ _ _ s15 c.in_ok-judge_command.ensures c.in_ok-subcommand-16.ensures in
     let s17 = joined _ line.unpack _ _ _ s16 c.in_ok-unpack_command.ensures c.in_ok-subcommand-17.ensures in
     let s18 = joined _ line.pack _ _ _ s17 c.in_ok-pack_command.ensures c.in_ok-subcommand-18.ensures in
-    if_ok_then c.subcommand-19.result _ _ (λ d h. (joined _ line.guess _ _ d s18 c.in_ok-guess_command.ensures h).app) c.subcommand-19.ensures
+    let s19 = joined _ line.guess _ _ _ s18 c.in_ok-guess_command.ensures c.in_ok-subcommand-19.ensures in
+    if_ok_then c.subcommand-20.result _ _ (λ d h. (joined _ line.advise _ _ d s19 c.in_ok-advise_command.ensures h).app) c.subcommand-20.ensures

@@ -6,4 +6,5 @@ returns c =
     let s0 = about _ _ c.new.result c.about.result _ c.new.ensures.app c.new.ensures.local c.about.ensures in
     let s1 = grown _ _ c.about.result c.word.result _ _ s0 c.word.ensures.rule c.word.ensures.local c.in_ok-arg.ensures in
     let s2 = grown _ _ _ c.flag.result _ _ s1 c.flag.ensures.rule c.flag.ensures.local c.in_ok-arg-2.ensures in
-    if_ok_then c.arg-3.result _ _ (λ d h. grown _ _ _ c.flag-2.result _ d s2 c.flag-2.ensures.rule c.flag-2.ensures.local h) c.arg-3.ensures
+    let s3 = grown _ _ _ c.flag-2.result _ _ s2 c.flag-2.ensures.rule c.flag-2.ensures.local c.in_ok-arg-3.ensures in
+    if_ok_then c.arg-4.result _ _ (λ d h. grown _ _ _ c.flag-3.result _ d s3 c.flag-3.ensures.rule c.flag-3.ensures.local h) c.arg-4.ensures
