@@ -81,7 +81,7 @@ def put_hosts(folder: pathlib.Path, target: str, kept: pathlib.Path) -> str:
     for name, options in HOSTS.items():
         compile_to(target, folder / "bin" / (name + suffix), *target_runs.RUNNERS[target].compiler, *target_runs.STRICT, *STATIC.get(target, []), *options,
                    f"-I{folder / 'include'}", ROOT / f"examples/{name}.c", folder / "lib/libforth83.a")
-    shutil.copytree(kept, folder / "bin/images" / image.sum_of([*image.TEXTS, image.ORDER]))
+    shutil.copytree(kept, folder / "bin/images" / image.sum_beside())
     return FILES_SAY.format(suffix=suffix)
 
 

@@ -114,9 +114,14 @@ def find(program: str, kernel: str = "") -> str:
     return kept("served", made_of, lambda room: make(program, kernel, room))
 
 
+def sum_beside() -> str:
+    """The name of the folder that has images beside a program: a sum of what they are made of, except the program."""
+    return sum_of([*TEXTS, ORDER, *LISTS])
+
+
 def beside(program: str) -> str:
     """Where the same images, and a new file of blocks, are beside a program that cannot make them, as a server in C."""
-    return os.path.join(os.path.dirname(os.path.realpath(program)), "images", sum_of([*TEXTS, ORDER, *LISTS]))
+    return os.path.join(os.path.dirname(os.path.realpath(program)), "images", sum_beside())
 
 
 def run(*words: str) -> None:
