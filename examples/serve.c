@@ -1,6 +1,7 @@
 /* A server over the C library: a host drives an image by frames, as it drives `forth83 serve IMAGE [BLOCKS]`.
  *
  *   serve [serve] IMAGE [BLOCKS]
+ *   serve advise CASE                as `forth83 advise`; CASE is a file, or /dev/stdin
  *
  * Requests come on standard input, and replies go to standard output; docs/FORMATS.md has the frames. forth83_serve obeys each request. What
  * a server with a file of blocks adds is here: between two calls it answers for the blocks of its file, and it writes the updated buffers at `b`,
@@ -21,7 +22,7 @@
 #include <sys/file.h>
 #endif
 
-enum { MOST_BLOCKS = 65536, MOST_SHOWN = 2048, END_SIZE = 10, FAILED_END = 5 };
+enum { MOST_BLOCKS = 65536, MOST_SHOWN = 2048, MOST_TEXT = 1 << 20, END_SIZE = 10, FAILED_END = 5 };
 
 static forth83 machine, before;
 static uint8_t body[65536], *reply;
@@ -228,20 +229,47 @@ static void load(const char *name)
         refuse("image: ", forth83_status_text(status));
 }
 
+/* Shows what is said of a case. */
+static int advise(const char *name)
+{
+    static uint8_t text[MOST_TEXT];
+    FILE *file = strcmp(name, "/dev/stdin") == 0 ? stdin : fopen(name, "rb");
+    uint32_t status = FORTH83_SHORT_ROOM;
+    if (file == NULL)
+        refuse("cannot open ", name);
+    uint64_t count = fread(text, 1, sizeof text, file);
+    if (count == sizeof text)
+        refuse(name, " is too long for a case");
+    for (size = FORTH83_PAGE; status == FORTH83_SHORT_ROOM;) {
+        room = size;
+        free(reply);
+        if ((reply = malloc((size_t)room)) == NULL)
+            refuse("out of memory", "");
+        status = forth83_advise(text, count, reply, room, &size);
+    }
+    if (status != FORTH83_DONE)
+        refuse("case: ", forth83_status_text(status));
+    send_bytes(reply, size);
+    send_bytes((const uint8_t *)"\n", 1);
+    return fflush(stdout) == 0 ? 0 : FAILED_END;
+}
+
 int main(int count, char **words)
 {
+#ifdef _WIN32
+    _setmode(_fileno(stdin), _O_BINARY);
+    _setmode(_fileno(stdout), _O_BINARY);
+#endif
+    if (count > 2 && strcmp(words[1], "advise") == 0)
+        return advise(words[count - 1]);
     if (count > 1 && strcmp(words[1], "serve") == 0) { /* as hosts of forth83 call it */
         count--;
         words++;
     }
     if (count < 2 || count > 3) {
-        fprintf(stderr, "usage: serve IMAGE [BLOCKS]\n");
+        fprintf(stderr, "usage: serve IMAGE [BLOCKS], or serve advise CASE\n");
         return 2;
     }
-#ifdef _WIN32
-    _setmode(_fileno(stdin), _O_BINARY);
-    _setmode(_fileno(stdout), _O_BINARY);
-#endif
     load(words[1]);
     if (count == 3)
         open_blocks(words[2]);
