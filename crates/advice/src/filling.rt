@@ -2,7 +2,7 @@
 
 use std::alloc::AllocError;
 
-/// What is put where a text has this name between braces.
+/// What is put if a text has this name between braces.
 #[derive(Clone, Copy)]
 pub struct Value<'a> {
     pub name: &'static [u8],

@@ -5,7 +5,7 @@ use Rattle.advice.specs.declared.case.AdviceRefused.TheVariants as refused
 use Rattle.named_files.specs.Asking.{Asks, Step, step}
 use Rattle.named_files.specs.Done.{Done, Reads}
 use Rattle.named_files.specs.declared.step_log.Deed.TheVariants as deed
-use Rattle.subcommands.specs.Lines.{Prints, PrintsOutOfMemory, PrintsRefusal, line}
+use Rattle.subcommands.specs.Lines.{Prints, PrintsOutOfMemory, PrintsRefusal, as_line}
 
 -- what `advise CASE` asks of the system: the case
 abbrev pub advise_steps : (case : List ℕ) → List Step
@@ -21,7 +21,7 @@ cause refused.NoRequest = codes "NoRequest"
 -- a line was printed with status 0, or why there is none
 abbrev pub EndsAdvised : (status : ℕ) → (old new : Option (List ℕ)) → Type 0
 EndsAdvised status old new =
-    ((answer : List ℕ) × Prints (line answer) 0 status old new)
+    ((answer : List ℕ) × Prints (as_line answer) 0 status old new)
     ⊎ ((why : AdviceRefused) × PrintsRefusal (codes "case") (cause why) status old new)
     ⊎ PrintsOutOfMemory status old new
 

@@ -3,7 +3,7 @@
 
 ghost use Rattle.std.specs.Prelude.{◌≡◌, ◌⊎◌, false, true, IfErr, IfOk, IsNone};
 ghost use Rattle.named_files.specs.Done.{IsPassedOn, Refuses, done, status_of};
-ghost use Rattle.subcommands.specs.Lines.{Prints, line};
+ghost use Rattle.subcommands.specs.Lines.{Prints, as_line};
 ghost use Rattle.advice_subcommand.specs.Advised.{Advises, EndsAdvised, advise_steps, cause};
 
 use advice::{AdviceRefused, advise};
@@ -33,7 +33,7 @@ impl Reason for Cause {
 
 /// An answer, and a line feed.
 fn as_line(answer: Vec<u8>) -> Result<Vec<u8>, AllocError>
-    ensures { IfOk result (λ text. text.items ≡ line answer.items) }
+    ensures { IfOk result (λ text. text.items ≡ as_line answer.items) }
 {
     let mut text = answer;
     text.push(b'\n')?;

@@ -78,7 +78,7 @@ both_like d mid new count a b c h k =
       };
     }
 
--- the same, where the device is known to have as many blocks as before
+-- the same, if the device is known to have as many blocks as before
 pub like_so_far : (d : Disk) (mid new : Option Disk) (count count' : ℕ) (a b c : List DeviceCall) → count' ≡ count → IsLike d mid count a b → ((m : Disk) → mid ≡ Some m → IsLike m new count' b c) → IsLike d new count a c
 like_so_far d mid new count count' a b c q h k = both_like d mid new count a b c h (λ m e. subst (λ n. IsLike m new n b c) q (k m e))
 

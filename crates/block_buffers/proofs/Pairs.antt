@@ -32,7 +32,7 @@ across : {X : Type 0} (R : X → X → Type 0) → ((x y : X) → R x y → R y 
 across R turns p [] h = All-nil (λ x. All (R x) [])
 across R turns p (x ∷ xs) h = across_more R turns p x xs (pairs_head R x xs h) (across R turns p xs (pairs_tail R x xs h)) (p x) refl
 
--- a relation that holds both ways is kept where those that pass come first
+-- a relation that holds both ways is kept if those that pass come first
 pub pairs_parted : {X : Type 0} (R : X → X → Type 0) → ((x y : X) → R x y → R y x) → (p : X → Bool) (xs : List X) → AllPairs R xs → AllPairs R (filter p xs ++ filter (λ y. not (p y)) xs)
 pairs_parted R turns p xs h =
     pairs_append R (filter p xs) (filter (λ y. not (p y)) xs) (AllPairs-filter R p xs h) (AllPairs-filter R (λ y. not (p y)) xs h) (across R turns p xs h)

@@ -45,7 +45,7 @@ found blocks from page rest e = grind (arith, common_steps, get_or-drop)
 next : (blocks : List (List ℕ)) (from : ℕ) (page : List ℕ) (rest : List (List ℕ)) → drop from blocks ≡ page ∷ rest → drop (from + 1) blocks ≡ rest
 next blocks from page rest e = sym (drop-drop 1 from blocks) ∙ ap (drop 1) e
 
--- where the pages are the blocks from a number on, reading them comes to what it comes to there
+-- if the pages are the blocks from a number on, reading them comes to what it comes to there
 all_came : (blocks : List (List ℕ)) (pages rest : List (List ℕ)) (from : ℕ) → drop from blocks ≡ pages ++ rest → AllCameTo (sound blocks) (reads_of from pages) (sound blocks)
 unfolding AllCameTo reads_of
 all_came blocks [] rest from e = refl

@@ -36,6 +36,6 @@ abbrev pub Writes : Disk → ℕ → List ℕ → Option Disk → Result Unit De
 Writes disk block page new (Ok _) = (succeeds disk block ≡ true) × (new ≡ Some (with_block disk block page))
 Writes disk block page new (Err _) = (succeeds disk block ≡ false) × (new ≡ Some (called disk))
 
--- where the blocks are reported, they are the same after
+-- if the blocks are reported, they are the same after
 abbrev pub KeepsBlocks : Option Disk → Option Disk → Type 0
 KeepsBlocks old new = IfSome old (λ d. IsSomeAnd new (λ e. e.blocks ≡ d.blocks))

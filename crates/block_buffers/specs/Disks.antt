@@ -6,7 +6,7 @@ pub record Disk : Type 0 where
   pub blocks : List (List ℕ)
   pub coming : List Bool
 
--- whether the next call fails; where no result is left, it doesn't
+-- whether the next call fails; if no result is left, it doesn't
 abbrev pub next_fails : List Bool → Bool
 next_fails [] = false
 next_fails (fails ∷ later) = fails

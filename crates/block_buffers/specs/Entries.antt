@@ -37,7 +37,7 @@ entry_at b place = slice_index_or b place (unassigned_slot 0)
 abbrev pub victim : List Entry → Entry
 victim b = entry_at b (length b - 1)
 
--- the slot of the buffer that has block u; the victim's where none has it
+-- the slot of the buffer that has block u; the victim's if none has it
 unfoldable pub slot_of : List Entry → ℕ → ℕ
 slot_of b u = (unwrap_or (find (is_of u) b) (victim b)).slot
 
@@ -70,7 +70,7 @@ IsReordered old new = (slots : List ℕ) × (new ≡ after_references slots old)
 unfoldable pub assigned : ℕ → List Entry → List Entry
 assigned u b = record { slot = (victim b).slot; block = Some u; updated = false } ∷ take (length b - 1) b
 
--- the entry in front is marked as updated, where it has a block
+-- the entry in front is marked as updated, if it has a block
 unfoldable pub front_marked : List Entry → List Entry
 front_marked [] = []
 front_marked (e ∷ es) = if is_some e.block then record e { updated = true } ∷ es else e ∷ es

@@ -4,7 +4,7 @@ use Rattle.std.specs.List.{list_any}
 use Rattle.block_buffers.specs.declared.entry.Entry.{Entry}
 use Rattle.block_buffers.specs.Entries.{is_in}
 
--- the entry's slot is below a number, and it is updated only where it has a block
+-- the entry's slot is below a number, and it is updated only if it has a block
 abbrev pub can_stand : ℕ → Entry → Bool
 can_stand n e = nat_lt e.slot n && (not e.updated || is_some e.block)
 

@@ -55,7 +55,7 @@ impl Buffers {
         }
     }
 
-    /// The buffers with just these entries, the most recently referenced first. `None` where no buffers have such: there are
+    /// The buffers with just these entries, the most recently referenced first. `None` if no buffers have such: there are
     /// 2 to 16, each slot below their number occurs once, and only a buffer with a block is updated.
     pub fn from_entries(entries: &[Entry]) -> Option<Buffers>
         ensures value { IfSome result (λ b. b ≡ entries.now) }
@@ -115,7 +115,7 @@ impl Buffers {
         self.entries().as_slice()[place]
     }
 
-    /// The slot of the buffer that has block `u`; `None` where no buffer has it.
+    /// The slot of the buffer that has block `u`; `None` if no buffer has it.
     #[tactic(auto, using(crate::proofs::Found::held_small))]
     pub fn find(&self, u: u16) -> Option<usize>
         ensures value { MatchOption result (IsFalse (holds self.now u)) (IsSlotOf self.now u) }
@@ -124,7 +124,7 @@ impl Buffers {
         stamped::find(self.slots.as_slice(), u)
     }
 
-    /// The slot of the buffer that has block `u`; the victim's where none has it.
+    /// The slot of the buffer that has block `u`; the victim's if none has it.
     #[tactic(auto, using(crate::proofs::Stamps::lengths))]
     pub fn slot_of(&self, u: u16) -> usize
         ensures value { result ≡ slot_of self.now u }
@@ -133,7 +133,7 @@ impl Buffers {
         stamped::slot_of(self.slots.as_slice(), u)
     }
 
-    /// The entry that is taken where a buffer is needed: the one that was not referenced for longest.
+    /// The entry that is taken if a buffer is needed: the one that was not referenced for longest.
     #[tactic(auto, using(crate::proofs::Stamps::lengths))]
     pub fn victim(&self) -> Entry
         ensures value { result ≡ victim self.now }
@@ -163,7 +163,7 @@ impl Buffers {
         self.next = stamped::assign(self.slots.as_mut_slice(), self.next, u);
     }
 
-    /// Marks the entry in front as updated, where it has a block. (Forth-83 Standard, UPDATE.)
+    /// Marks the entry in front as updated, if it has a block. (Forth-83 Standard, UPDATE.)
     #[tactic(auto, using(crate::proofs::Written::written))]
     pub fn mark_front(&mut self)
         ensures entries { self.new ≡ front_marked self.old }
@@ -182,7 +182,7 @@ impl Buffers {
         stamped::clean(self.slots.as_mut_slice(), slot);
     }
 
-    /// Takes the mark from the entry of block `u`, which was written; where no buffer has the block,
+    /// Takes the mark from the entry of block `u`, which was written; if no buffer has the block,
     /// nothing changes.
     #[tactic(auto, using(crate::proofs::Written::unmarks))]
     pub fn unmark(&mut self, u: u16)
@@ -202,7 +202,7 @@ impl Buffers {
         stamped::unassign_all(self.slots.as_mut_slice());
     }
 
-    /// The updated entry with the lowest slot, which is written first; `None` where no entry is
+    /// The updated entry with the lowest slot, which is written first; `None` if no entry is
     /// updated. (Forth-83 Standard, SAVE-BUFFERS.)
     #[tactic(auto, using(crate::proofs::Updated::firsts))]
     pub fn first_dirty(&self) -> Option<Entry>

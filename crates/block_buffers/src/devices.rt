@@ -18,7 +18,7 @@ pub trait Device {
     ghost use Rattle.block_buffers.specs.Calls.{Reads, Writes, KeepsBlocks, read_call, write_call};
     ghost use Rattle.block_buffers.specs.DeviceCalls.{DeviceCall};
 
-    // its blocks and its coming results, where it reports them
+    // its blocks and its coming results, if it reports them
     ghost disk: { Self → Option Disk };
 
     // its calls so far, in order
@@ -33,7 +33,7 @@ pub trait Device {
         ensures bound { result ≤ 65536 }
         ensures told { IfSome (disk self.now) (λ d. result ≡ length d.blocks) };
 
-    /// Reads a block into `page`. Where it fails, no block has changed, and `page` may hold any bytes.
+    /// Reads a block into `page`. If it fails, no block has changed, and `page` may hold any bytes.
     fn read(&mut self, block: u16, page: &mut [u8; BLOCK_SIZE]) -> Result<(), DeviceFault>
         ensures told { IfSome (disk self.old) (λ d. Reads d block (disk self.new) page.new result) }
         ensures kept { KeepsBlocks (disk self.old) (disk self.new) }
@@ -41,7 +41,7 @@ pub trait Device {
         ensures there { OnOk result (block < block_count self.old) }
         ensures logged { calls self.new ≡ calls self.old ++ read_call block page.new result ∷ [] };
 
-    /// Writes `page` to a block. Where it fails, no block has changed.
+    /// Writes `page` to a block. If it fails, no block has changed.
     fn write(&mut self, block: u16, page: &[u8; BLOCK_SIZE]) -> Result<(), DeviceFault>
         ensures told { IfSome (disk self.old) (λ d. Writes d block page.now (disk self.new) result) }
         ensures kept { OnErr result (KeepsBlocks (disk self.old) (disk self.new)) }

@@ -27,7 +27,7 @@ pub fn is_of(entry: &Entry, u: u16) -> bool
     }
 }
 
-/// The entry without its mark, where it is that of a slot.
+/// The entry without its mark, if it is that of a slot.
 pub fn cleaned_entry(entry: &Entry, slot: usize) -> Entry
     ensures { result ≡ cleaned_entry slot entry.now }
 {
@@ -37,7 +37,7 @@ pub fn cleaned_entry(entry: &Entry, slot: usize) -> Entry
     }
 }
 
-/// The entry without its mark, where it has block `u`.
+/// The entry without its mark, if it has block `u`.
 pub fn unmarked_entry(entry: &Entry, u: u16) -> Entry
     ensures { result ≡ unmarked_entry u entry.now }
 {
@@ -47,7 +47,7 @@ pub fn unmarked_entry(entry: &Entry, u: u16) -> Entry
     }
 }
 
-/// The second entry, where it is updated and has the lower slot; else the first.
+/// The second entry, if it is updated and has the lower slot; else the first.
 fn lower_updated(first: Entry, entry: &Entry) -> Entry
     ensures { result ≡ (if is_updated entry.now then lower_of first entry.now else first) }
 {
@@ -58,7 +58,7 @@ fn lower_updated(first: Entry, entry: &Entry) -> Entry
     }
 }
 
-/// The updated entry with the lowest slot; one that isn't updated where none is.
+/// The updated entry with the lowest slot; one that isn't updated if none is.
 #[tactic(auto, unfolding(crate::specs::Entries::first_updated))]
 pub fn first_updated(entries: &[Entry]) -> Entry
     ensures { result ≡ first_updated entries.now }
@@ -70,7 +70,7 @@ pub fn first_updated(entries: &[Entry]) -> Entry
     first
 }
 
-/// Whether the entry can be one of so many buffers: its slot is below their number, and it is updated only where it has a
+/// Whether the entry can be one of so many buffers: its slot is below their number, and it is updated only if it has a
 /// block.
 fn can_stand(entry: &Entry, count: usize) -> bool
     ensures { result ≡ can_stand count entry.now }

@@ -5,7 +5,7 @@ ghost use Rattle.block_buffers.specs.Disks.{next_fails};
 use crate::devices::{BLOCK_SIZE, Device, DeviceFault};
 use crate::page_log::{Called, PageLog};
 
-/// The results of the coming calls. `true` fails; where none is left, a call doesn't fail.
+/// The results of the coming calls. `true` fails; if none is left, a call doesn't fail.
 #[derive(Drop)]
 struct Coming {
     results: Vec<bool>,
@@ -39,7 +39,7 @@ pub struct MemoryDevice {
 
 impl MemoryDevice {
     /// A device of at most 65,536 blocks, perhaps of none. Call `i`, reads and writes counted
-    /// together from 0, fails where `coming[i]`; a call for a block that doesn't exist fails always.
+    /// together from 0, fails if `coming[i]`; a call for a block that doesn't exist fails always.
     pub fn new(blocks: Vec<[u8; BLOCK_SIZE]>, coming: Vec<bool>) -> MemoryDevice
         requires { vec_len blocks ≤ 65536 }
         ensures told { ⟦<MemoryDevice as Device>⟧.disk result ≡ Some

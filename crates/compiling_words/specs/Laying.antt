@@ -10,7 +10,7 @@ use Rattle.compiling_words.specs.declared.laying.Full.{Full}
 abbrev pub laid : List ℕ → List ℕ → List ℕ
 laid m bs = laid_at (cell m DP) m bs
 
--- the bytes are written where they fit, else nothing is written
+-- the bytes are written if they fit, else nothing is written
 abbrev pub IsLaid : {A : Type 0} → ℕ → List ℕ → List ℕ → List ℕ → Result A Full → Type 0
 IsLaid limit old new bs (Ok _) = IsTrue (fits limit old (length bs)) × (new ≡ laid old bs)
 IsLaid limit old new bs (Err _) = IsFalse (fits limit old (length bs)) × (new ≡ old)

@@ -13,7 +13,7 @@ use memory::{Memory, cell_bytes};
 
 /// Begins a definition (Forth-83 `:`): its hidden header, then STATE is -1 and CONTEXT is CURRENT, as both were before.
 ///
-/// `NameLength` for a name of 0 or over 31 bytes, then `Full` where the header would end after the limit: nothing is
+/// `NameLength` for a name of 0 or over 31 bytes, then `Full` if the header would end after the limit: nothing is
 /// written.
 #[tactic(auto, unfolding(crate::specs::Definitions::begun, dictionary::specs::Adding::with_header, dictionary::specs::Adding::with_header_at, memory::specs::Bytes::written))]
 pub fn begin_definition(memory: &mut Memory, name: &[u8], limit: u16) -> Result<(), AddFault>

@@ -67,7 +67,7 @@ pub fn can_allot(memory: &Memory, n: u16, limit: u16) -> bool
     end <= i32::from(limit)
 }
 
-/// Moves HERE by `n`, a signed cell (Forth-83 ALLOT). `Full` where it would be below 0 or above the limit.
+/// Moves HERE by `n`, a signed cell (Forth-83 ALLOT). `Full` if it would be below 0 or above the limit.
 pub fn allot(memory: &mut Memory, n: u16, limit: u16) -> Result<(), Full>
     ensures { IsAllotted limit (stored memory.old) (stored memory.new) n result }
 {

@@ -1,7 +1,7 @@
 //! Compiling words: what they write at HERE, the places that they leave open and fill later, and how a colon definition
 //! begins and ends (Forth-83 Standard, "compiling words").
 //!
-//! Each call writes its bytes at HERE, then DP after them, and nothing else but what it names. `Full` comes where HERE
+//! Each call writes its bytes at HERE, then DP after them, and nothing else but what it names. `Full` comes if HERE
 //! and the bytes pass the limit, where the block buffers begin; nothing is written then. Nothing is assumed of memory, and
 //! no structure is checked.
 #![tactic(auto)]

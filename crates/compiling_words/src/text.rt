@@ -46,7 +46,7 @@ pub fn lay_text(memory: &mut Memory, here: u16, token: u16, text: &[u8])
 }
 
 /// Writes a text (Forth-83 `."` and `ABORT"`): the control primitive of `word`, a count byte, the text. `Full`, with nothing
-/// written, also where the text has more than the 255 bytes that a count byte counts.
+/// written, also if the text has more than the 255 bytes that a count byte counts.
 #[tactic(auto, using(crate::proofs::Texts::texts))]
 pub fn inline_text(memory: &mut Memory, word: TextWord, text: &[u8], limit: u16) -> Result<(), Full>
     ensures counted { length text.now ≤ 255 →

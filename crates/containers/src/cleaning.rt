@@ -11,7 +11,7 @@ fn is_text(byte: u8) -> bool
     byte >= 32 && byte <= 126
 }
 
-/// A byte without its high bit, and a blank where that is no text.
+/// A byte without its high bit, and a blank if that is no text.
 #[tactic(auto, unfolding(crate::specs::Cleaning::cleaned_byte))]
 fn cleaned_byte(byte: u8) -> u8
     ensures { result ≡ cleaned_byte byte }

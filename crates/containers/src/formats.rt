@@ -139,8 +139,8 @@ impl Format {
         self == Format::F83
     }
 
-    /// The layout of the format, with one's own numbers in place of its own where they are given; an order, counted from 0 or from
-    /// 1 on, where it isn't empty. An error: the sectors or their order are none, or memory ran out.
+    /// The layout of the format, with one's own numbers in place of its own if they are given; an order, counted from 0 or from
+    /// 1 on, if it isn't empty. An error: the sectors or their order are none, or memory ran out.
     #[tactic(auto, unfolding(crate::specs::Formats::changed))]
     pub fn layout(
         self,

@@ -12,7 +12,7 @@ use Rattle.inner_interpreter.specs.Runs.{World, stop_by}
 use Rattle.inner_interpreter.specs.Tracing.{HasRunTraced}
 use Rattle.inner_interpreter.specs.Worlds.{OfFile}
 use Rattle.machine.specs.declared.extent.Extent.{Extent}
-use Rattle.machine.specs.State.{State, start}
+use Rattle.machine.specs.State.{State, loaded_state}
 use Rattle.inner_interpreter.specs.declared.stop.Stop.{Stop}
 use Rattle.subcommands.specs.Causes.{IsNoFile}
 use Rattle.subcommands.specs.Ends.{IsRefusal}
@@ -30,12 +30,12 @@ abbrev pub PrintsUntraced : (name : List ℕ) → DebugFault → (status : ℕ) 
 PrintsUntraced name debug.OutOfMemory status old new = PrintsOutOfMemory status old new
 PrintsUntraced name why status old new = PrintsRefusal name (debug_cause why) status old new
 
--- where the bytes are an image's file, and a word of this name can't be traced: of why
+-- if the bytes are an image's file, and a word of this name can't be traced: of why
 abbrev pub OfUntraced : List ℕ → (name : List ℕ) → (DebugFault → Type 0) → Type 0
 OfUntraced bytes name Of =
     (image : Contents) → IsFile bytes image → (why : DebugFault) → debugged (memory_of image) name ≡ Err why → Of why
 
--- where it can be traced
+-- if it can be traced
 abbrev pub OfTraced : List ℕ → (name : List ℕ) → Type 0 → Type 0
 OfTraced bytes name Of = (image : Contents) → IsFile bytes image → IsOk (debugged (memory_of image) name) → Of
 
@@ -50,9 +50,9 @@ IsUnmarked Kept status failed = Kept × IsRefusal status failed
 -- an image that was loaded, for a device of so many blocks, was run, and the trace of the word of this name was sent
 pub record HasTracedFrom (image : Contents) (name : List ℕ) (blocks : ℕ) (log log' : Logs) (limit : ℕ) (reader writer trace : Bool) (stop : Stop) (old new : Option (List ℕ)) : Type 0 where
   pub state : State
-  pub run : HasRun (start image blocks) state log log' limit stop
+  pub run : HasRun (loaded_state image blocks) state log log' limit stop
   pub traced : (thread : Extent) → debugged (memory_of image) name ≡ Ok thread
-      → HasRunTraced thread (line_from (memory_of image)) (start image blocks) state log log' limit stop old new
+      → HasRunTraced thread (line_from (memory_of image)) (loaded_state image blocks) state log log' limit stop old new
   pub ended : reader ≡ false → writer ≡ false → trace ≡ false → stop_by state.halt 0 ≡ Some stop
 
 -- the same, with the status of its stop
@@ -85,7 +85,7 @@ pub record DebugsFile (bytes name : List ℕ) (limit status : ℕ) (ends ends' :
   -- if the bytes are no image's file, that is printed, and nothing is run
   pub refused : ends'.writer.failed ≡ false → PrintsNoImage bytes status ends.writer.sent ends'.writer.sent
   pub unrun : (fault : ImageFault) → IsNoFile bytes fault → Kept
-  -- status 1 where a word can be traced is lack of memory, which is printed; with status 1 nothing is run
+  -- status 1 if a word can be traced is lack of memory, which is printed; with status 1 nothing is run
   pub wanting : ends'.writer.failed ≡ false → OfTraced bytes name (status ≡ 1 → PrintsOutOfMemory status ends.writer.sent ends'.writer.sent)
   pub untouched : status ≡ 1 → Kept
   -- an end that fails gives status 5, and nothing else does; reader and writer do not both fail in one run

@@ -13,7 +13,7 @@ use std::alloc::Global;
 
 /// Runs the machine as `run` does, and sends a line to `trace` before each tick whose token is taken through `ip` in the
 /// thread of the word that `name` means, as this thread is at the start: where the token is, its name then (`?`
-/// where it has none), the data stack and the return stack. A line that can't be sent stops the run before its tick.
+/// if it has none), the data stack and the return stack. A line that can't be sent stops the run before its tick.
 ///
 /// `NotFound` and `ChainTooLong`: the search of the name, then the list of all headers, end so; `NotColon`: the word is no
 /// colon definition; `OutOfMemory`. Then nothing was done.
@@ -28,7 +28,7 @@ pub fn debug<R: Input, W: Output, D: Device, T: Output>(
     trace: &mut T,
     limit: u64,
 ) -> Result<Stop, DebugFault>
-    // A word is traced exactly where there is one to trace, memory aside; each refusal is the one that is written, and
+    // A word is traced exactly if there is one to trace, memory aside; each refusal is the one that is written, and
     // nothing was done then.
     ensures debugged { IfOk result (λ stop. RunsDebugged name.now machine.old machine.new
         (run_ends R.Input W.Output D.Device reader.old writer.old device.old)

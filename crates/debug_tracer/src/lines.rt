@@ -100,7 +100,7 @@ fn send_returns<T: Output>(returns: &Stack, trace: &mut T) -> Result<(), EndFaul
     Ok(())
 }
 
-/// Sends a header's name as it is in this memory, `?` where there is no header.
+/// Sends a header's name as it is in this memory, `?` if there is no header.
 #[tactic(auto, using(inner_interpreter::proofs::Sending::part_second, inner_interpreter::proofs::Sending::part_first, inner_interpreter::proofs::Sending::appends_both), unfolding(dictionary::specs::Header::name_of))]
 fn send_name_if<T: Output>(
     memory: &Memory,

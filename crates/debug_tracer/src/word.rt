@@ -78,7 +78,7 @@ fn taken(alloc: Global, memory: &Memory, listed: Vec<u16>, l: u16) -> Result<Wor
     })
 }
 
-/// The word whose header is at `l`, where it can be traced.
+/// The word whose header is at `l`, if it can be traced.
 fn colon_word(alloc: Global, memory: &Memory, l: u16) -> Result<Word, DebugFault>
     ensures thread { IfOk result (λ word. thread_or_fault (stored memory.now) (Found l) ≡ Ok word.thread) }
     ensures memory { IfOk result (λ word. stored word.memory.value ≡ stored memory.now) }
@@ -101,7 +101,7 @@ fn colon_word(alloc: Global, memory: &Memory, l: u16) -> Result<Word, DebugFault
     }
 }
 
-/// The word that a name means, where it can be traced.
+/// The word that a name means, if it can be traced.
 #[tactic(auto, unfolding(crate::specs::Debugged::debugged))]
 pub fn word_of(alloc: Global, memory: &Memory, name: &[u8]) -> Result<Word, DebugFault>
     ensures thread { IfOk result (λ word. debugged (stored memory.now) name.now ≡ Ok word.thread) }

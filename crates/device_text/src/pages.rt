@@ -28,7 +28,7 @@ pub enum PageCause {
 #[error("screen {screen}, line {line}: {cause}")]
 pub struct Unprinted {
     pub screen: u16,
-    /// The line of the screen, counted from 0; 0 where it is the whole screen.
+    /// The line of the screen, counted from 0; 0 if it is the whole screen.
     pub line: usize,
     pub cause: PageCause,
 }

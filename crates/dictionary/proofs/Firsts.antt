@@ -21,7 +21,7 @@ newest_later p x l xs h w = record {
 Contains-later : (p : ℕ → Bool) (x k : ℕ) (xs : List ℕ) → p x ≡ false → p k ≡ true → Contains (x ∷ xs) k → Contains xs k
 Contains-later p x k xs h q x6 = grind arith
 
--- the first of a list that passes is the newest, where one passes at all
+-- the first of a list that passes is the newest, if one passes at all
 abbrev pub HasNewest : (ℕ → Bool) → List ℕ → Type 0
 HasNewest p xs = (l : ℕ) × (find p xs ≡ Some l) × IsNewest p xs l
 
@@ -34,7 +34,7 @@ pub newest_first : (p : ℕ → Bool) (xs : List ℕ) (k : ℕ) → Contains xs 
 newest_first p [] k (j, lt, at) q = absurd (omega arith)
 newest_first p (x ∷ xs) k c q = newest_step p x k xs (p x) refl (λ (d : Contains xs k). newest_first p xs k d q) c q
 
--- where none passes there is no first
+-- if none passes there is no first
 pub none_first : (p : ℕ → Bool) (xs : List ℕ) → All (λ k. IsFalse (p k)) xs → find p xs ≡ (find p [])
 none_first p [] h = refl
 none_first p (x ∷ xs) h = rw (All-head (λ (k : ℕ). IsFalse (p k)) x xs h) (none_first p xs (All-tail (λ (k : ℕ). IsFalse (p k)) x xs h))

@@ -47,7 +47,7 @@ headers_same m n here head new (l ∷ ls) f g = (header_same m n here head new l
 pub head_same : (m n : List ℕ) (here head new h : ℕ) → Fronted m n here head new → 34 ≤ h → h + 1 < here → (head + 1 < h) ⊎ (h + 1 < head) → cell n h ≡ cell m h
 head_same m n here head new h f l g x9 = grind (arith, cell_by)
 
--- the longest chain, and those cut earlier, are one where it has fewer than 32,768 members
+-- the longest chain, and those cut earlier, are one if it has fewer than 32,768 members
 pub cuts : (m : List ℕ) (l : ℕ) → length (chain m 32769 l) ≤ 32767 → (chain m 32769 l ≡ chain m 32768 l) × (chain m 32768 l ≡ chain m 32767 l)
 cuts m l h = grind (arith, chain_cut)
 

@@ -12,7 +12,7 @@ use Rattle.dictionary.specs.Laying.{fits}
 unfoldable pub is_name : List ℕ → Bool
 is_name name = nat_le 1 (length name) && nat_le (length name) 31
 
--- the count byte of a new header: bit 7 is set, and bit 5 where it is hidden
+-- the count byte of a new header: bit 7 is set, and bit 5 if it is hidden
 abbrev pub new_count : Bool → List ℕ → ℕ
 new_count hidden name = (if hidden then 160 else 128) + length name
 

@@ -22,7 +22,7 @@ target_at m (Found l) =
 unfoldable pub target : List ℕ → List ℕ → Result ℕ ForgetFault
 target m name = if length name == 0 then Err NameLength else target_at m (sought_in m (cell m CURRENT) name)
 
--- the first of a list that is below t, 0 where there is none
+-- the first of a list that is below t, 0 if there is none
 unfoldable pub first_below : ℕ → List ℕ → ℕ
 first_below t ls = unwrap_or (find (λ l. nat_lt l t) ls) 0
 

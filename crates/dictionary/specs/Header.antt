@@ -37,7 +37,7 @@ compilation_address m l = wrap (l + (3 + name_length m l))
 unfoldable pub is_named : List ℕ → List ℕ → ℕ → Bool
 is_named m name l = not (is_hidden m l) && bytes_eq (name_of m l) name
 
--- the same, where the header at one place counts as hidden
+-- the same, if the header at one place counts as hidden
 unfoldable pub is_named_but : List ℕ → List ℕ → ℕ → ℕ → Bool
 is_named_but m name hidden l = is_named m name l && not (l == hidden)
 

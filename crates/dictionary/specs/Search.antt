@@ -32,7 +32,7 @@ walked test m n l = comes_to (find test (chain m n l)) (is_longer m n l)
 unfoldable pub first_in : (ℕ → Bool) → List ℕ → ℕ → List ℕ → Sought
 first_in test m voc name = walked test m 32768 (cell m (head_of voc name))
 
--- where one search came to none, the other decides
+-- if one search came to none, the other decides
 abbrev pub or_else : Sought → Sought → Sought
 or_else Nowhere other = other
 or_else (Found l) other = Found l
@@ -55,7 +55,7 @@ sought_from m voc name = first_from (is_named m name) m voc name
 unfoldable pub sought : List ℕ → List ℕ → Sought
 sought m name = sought_from m (cell m CONTEXT) name
 
--- the same, where the header at one place counts as hidden
+-- the same, if the header at one place counts as hidden
 unfoldable pub sought_hiding : List ℕ → List ℕ → ℕ → Sought
 sought_hiding m name hidden = first_from (is_named_but m name hidden) m (cell m CONTEXT) name
 

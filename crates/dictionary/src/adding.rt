@@ -115,7 +115,7 @@ pub fn record_bytes(newest: u16) -> [u8; 10]
 }
 
 /// Whether a header of that name can be added, with `extra` written with it: `NameLength` for a name of 0 or over 31
-/// bytes, then `Full` where the bytes would end after `limit`.
+/// bytes, then `Full` if the bytes would end after `limit`.
 #[tactic(auto, unfolding(crate::specs::Adding::is_name))]
 pub fn can_add(memory: &Memory, name: &[u8], extra: &[u8], limit: u16) -> Result<(), AddFault>
     ensures cases { IsAddable limit (stored memory.now) name.now extra.now result }

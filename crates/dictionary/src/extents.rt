@@ -20,7 +20,7 @@ fn least_from(headers: &[u16], from: u16) -> Option<u16>
 }
 
 /// Where what begins at `from` ends, by the headers of all vocabularies (`headers_in_order`): at the least beginning of a
-/// header (its view cell) that isn't below `from`, or at DP where there is none. This may lie below `from`.
+/// header (its view cell) that isn't below `from`, or at DP if there is none. This may lie below `from`.
 #[tactic(auto, unfolding(crate::specs::Extents::extent_end))]
 pub fn extent_end(memory: &Memory, headers: &[u16], from: u16) -> u16
     ensures { result ≡ extent_end (stored memory.now) headers.now from }

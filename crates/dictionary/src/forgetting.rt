@@ -110,7 +110,7 @@ fn cut_vocabulary(memory: &mut Memory, before: &Snapshot, t: u16, place: u16)
 
 /// Forgets what is at `t` and above, by the memory before: VOC-LINK goes to the newest record below `t`; each head
 /// of the records from there on to the first link field of its chain below `t`; DP becomes `t`; CONTEXT and CURRENT
-/// become FORTH where they are `t` or above; LAST becomes 0. They are written in this order.
+/// become FORTH if they are `t` or above; LAST becomes 0. They are written in this order.
 #[tactic(auto, using(crate::proofs::Cuts::written_cuts))]
 pub fn cut_by(memory: &mut Memory, before: &Snapshot, t: u16)
     ensures { stored memory.new ≡ written (stored memory.old) (cuts before.now t) }

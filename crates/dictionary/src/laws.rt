@@ -13,7 +13,7 @@ ghost use Rattle.dictionary.specs.Order.{members, all_members, headers};
 ghost use Rattle.dictionary.specs.Forgetting.{first_below};
 
 /// Where a name is unhidden in its chain, and the chain has no more than 32,768 members, a search gives the newest
-/// header of that name. Where it isn't one, the search in FORTH decides.
+/// header of that name. If it isn't one, the search in FORTH decides.
 pub fn search_law()
     ensures newest { (m name : List ℕ) (voc l : ℕ) → OfWholeChain m voc name (λ members.
         Contains members l → IsTrue (is_named m name l) →

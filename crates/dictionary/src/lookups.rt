@@ -25,7 +25,7 @@ pub fn head_of(voc: u16, name: &[u8]) -> u16
     voc.wrapping_add(2 * u16::from(name[0] % 4))
 }
 
-/// The first unhidden header of that name in the chain from `start` on, where the one at `hidden` counts as hidden.
+/// The first unhidden header of that name in the chain from `start` on, if the one at `hidden` counts as hidden.
 #[tactic(auto, using(crate::proofs::Chains::walking))]
 fn walk(memory: &Memory, start: u16, name: &[u8], hidden: u16) -> Result<Option<u16>, ChainTooLong>
     ensures { IsSought (walked (is_named_but (stored memory.now) name.now hidden) (stored memory.now) 32768 start) result }
@@ -97,8 +97,8 @@ pub fn search_in(memory: &Memory, voc: u16, name: &[u8]) -> Result<Option<u16>, 
     first_in(memory, voc, name, NONE)
 }
 
-/// The link field of the header that a name means where the vocabulary at `voc` is searched, and then FORTH. A longer
-/// chain than 32,768 headers without a find is `ChainTooLong`, in `voc` also where FORTH has the name.
+/// The link field of the header that a name means if the vocabulary at `voc` is searched, and then FORTH. A longer
+/// chain than 32,768 headers without a find is `ChainTooLong`, in `voc` also if FORTH has the name.
 #[tactic(auto, using(crate::proofs::Hiding::hiding_none))]
 pub fn search_from(memory: &Memory, voc: u16, name: &[u8]) -> Result<Option<u16>, ChainTooLong>
     ensures { IsSought (sought_from (stored memory.now) voc name.now) result }
@@ -114,7 +114,7 @@ pub fn search(memory: &Memory, name: &[u8]) -> Result<Option<u16>, ChainTooLong>
     search_from(memory, memory.cell(CONTEXT), name)
 }
 
-/// The same, where the header at `hidden` counts as hidden.
+/// The same, if the header at `hidden` counts as hidden.
 #[tactic(auto, unfolding(crate::specs::Search::sought_hiding))]
 pub fn search_hiding(memory: &Memory, name: &[u8], hidden: u16) -> Result<Option<u16>, ChainTooLong>
     ensures { IsSought (sought_hiding (stored memory.now) name.now hidden) result }

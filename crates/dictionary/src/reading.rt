@@ -115,7 +115,7 @@ fn is_named(memory: &Memory, link_field: u16, name: &[u8]) -> bool
     has_name(memory, link_field, name)
 }
 
-/// The same, where the header at `hidden` counts as hidden.
+/// The same, if the header at `hidden` counts as hidden.
 #[tactic(auto, unfolding(crate::specs::Header::is_named_but))]
 pub fn is_named_but(memory: &Memory, link_field: u16, name: &[u8], hidden: u16) -> bool
     ensures { result ≡ is_named_but (stored memory.now) name.now hidden link_field }

@@ -44,7 +44,7 @@ fn begins_as_image(file: File) -> bool {
     file.read_exact(&mut start).is_ok() && start == MAGIC
 }
 
-/// What is held where the system refuses to say; lack of memory stays the error.
+/// What is held if the system refuses to say; lack of memory stays the error.
 fn untold(error: io::Error) -> io::Result<Holding> {
     if error.kind() == ErrorKind::OutOfMemory {
         return Err(error);
@@ -77,7 +77,7 @@ pub fn look_into(rt: &HostRuntime, name: &str) -> io::Result<Holding> {
 }
 
 /// Whether another run has this file; if not, this one has it for as long as the file is open. What is no plain file, or is
-/// where the system has no locks, is nobody's.
+/// if the system has no locks, is nobody's.
 pub fn is_in_use(file: &File) -> bool {
     match file.metadata() {
         Ok(metadata) => metadata.is_file()
@@ -86,7 +86,7 @@ pub fn is_in_use(file: &File) -> bool {
     }
 }
 
-/// The file of this name, held against other runs for as long as it is open; none where it doesn't exist, or can't be read and
+/// The file of this name, held against other runs for as long as it is open; none if it doesn't exist, or can't be read and
 /// written. `InUse`: another run has it.
 pub fn hold(rt: &HostRuntime, name: &str) -> Result<Option<File>, Unopened> {
     match open_apart(rt, OpenOptions::new().read(true).write(true), name) {

@@ -14,7 +14,7 @@ const LAST_STREAM: RawFd = 2;
 
 const MOST_BYTES: usize = 65536;
 
-/// Opens a file that takes the place of no standard stream. Where one of these is closed, the system gives its number to the
+/// Opens a file that takes the place of no standard stream. If one of these is closed, the system gives its number to the
 /// file that is opened next; such a file is moved to a number of its own, so that the stream stays closed, and reading
 /// or writing it fails. An error: the file can't be opened, or can't be moved.
 pub fn open_apart(rt: &HostRuntime, options: &OpenOptions, name: &str) -> io::Result<File>

@@ -26,7 +26,7 @@ pub fn read_file(rt: &HostRuntime, name: &str) -> io::Result<Vec<u8>> {
     read_whole(rt.alloc(), file)
 }
 
-/// Reads a file of blocks that is to be replaced; where there is none, it has no bytes. An error: it is no plain file, can't
+/// Reads a file of blocks that is to be replaced; if there is none, it has no bytes. An error: it is no plain file, can't
 /// be opened for reading and writing, or can't be read, or memory ran out.
 pub fn read_blocks(rt: &HostRuntime, name: &str) -> io::Result<Vec<u8>> {
     match open_apart(rt, OpenOptions::new().read(true).write(true), name) {
@@ -98,7 +98,7 @@ fn write_like(file: File, bytes: &[u8], other: Option<&Metadata>) -> io::Result<
     file.sync_all()
 }
 
-/// The file that a name means, after symbolic links; where there is none, the name itself. An error: it can't be found out,
+/// The file that a name means, after symbolic links; if there is none, the name itself. An error: it can't be found out,
 /// or memory ran out.
 fn meant(rt: &HostRuntime, name: &str) -> io::Result<String> {
     match fs::canonicalize(rt, name) {
@@ -113,7 +113,7 @@ fn meant(rt: &HostRuntime, name: &str) -> io::Result<String> {
 }
 
 /// Replaces a file whole, or makes it: its bytes are written into a new file beside it (`new_beside`), which then takes its place.
-/// Where that fails the file is as it was, and the one beside it is removed. An error: it can't be written or placed, or memory ran out.
+/// If that fails the file is as it was, and the one beside it is removed. An error: it can't be written or placed, or memory ran out.
 fn replace_file(rt: &HostRuntime, name: &str, bytes: &[u8]) -> io::Result<()> {
     let place = meant(rt, name)?;
     let old = fs::metadata(rt, place.as_str()).ok();
@@ -136,7 +136,7 @@ fn write_bytes(file: File, bytes: &[u8]) -> io::Result<()>
     file.write_all(bytes)
 }
 
-/// Writes a file whole, or makes it. A plain file is replaced, so that it is as it was where that fails; what is none (a
+/// Writes a file whole, or makes it. A plain file is replaced, so that it is as it was if that fails; what is none (a
 /// pipe, a device) is written as it is. An error: it can't be opened for writing, written or placed, or memory ran out.
 pub fn write_file(rt: &HostRuntime, name: &str, bytes: &[u8]) -> io::Result<()> {
     match open_apart(rt, OpenOptions::new().write(true), name) {

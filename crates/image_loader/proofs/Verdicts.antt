@@ -1,4 +1,4 @@
--- What reading gives of each sort of bytes, and of which sort bytes are where reading gives something.
+-- What reading gives of each sort of bytes, and of which sort bytes are if reading gives something.
 use Rattle.std.proofs.Common.{◌≡◌, ℕ, List, Result, Ok, Err, IfOk, IsOk, refl, sym, ◌∙◌, subst, arith}
 use Rattle.image_loader.specs.declared.fault.ImageFault.{ImageFault}
 use Rattle.image_loader.specs.declared.fault.ImageFault.TheVariants as fault

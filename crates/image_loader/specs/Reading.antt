@@ -32,7 +32,7 @@ opening_of bytes =
     else if not (agree bytes (version 2)) then Err fault.BadVersion
     else buffers_of bytes
 
--- the image, where as many bytes come after the size as it says
+-- the image, if as many bytes come after the size as it says
 abbrev pub body_by : Bool → Bool → Contents → Result Contents ImageFault
 body_by is_short is_long found =
     if is_short then Err fault.Truncated

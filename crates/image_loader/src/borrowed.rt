@@ -70,7 +70,7 @@ impl<'a> BorrowedImage<'a> {
         self.bytes
     }
 
-    /// The same image with bytes of its own. `OutOfMemory` where there was no memory for them.
+    /// The same image with bytes of its own. `OutOfMemory` if there was no memory for them.
     pub fn to_image(&self, alloc: Global) -> Result<Image, OutOfMemory>
         ensures { IfOk result (λ image. image ≡ self.now) }
     {

@@ -19,8 +19,8 @@ pub enum UpgradeFault {
     OutOfMemory,
 }
 
-/// The same entry and bytes with `count` buffers, 2 to 16. `TooLarge` where the bytes reach beyond where these begin;
-/// `OutOfMemory` where there was no memory for them.
+/// The same entry and bytes with `count` buffers, 2 to 16. `TooLarge` if the bytes reach beyond where these begin;
+/// `OutOfMemory` if there was no memory for them.
 pub fn upgrade(alloc: Global, image: &Image, count: u16) -> Result<Image, UpgradeFault>
     requires { IsCount count }
     ensures buffers { IfOk result (λ found. found.buffers ≡ count) }

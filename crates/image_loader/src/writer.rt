@@ -31,7 +31,7 @@ pub fn write(alloc: Global, image: &Image) -> Result<Vec<u8>, OutOfMemory>
     }
 }
 
-/// Puts the file of an image, in version 2, at the front of the room, and says how many bytes it has. `ShortRoom` where the room
+/// Puts the file of an image, in version 2, at the front of the room, and says how many bytes it has. `ShortRoom` if the room
 /// has fewer; it is then as it was.
 pub fn write_into(image: &BorrowedImage<'_>, room: &mut [u8]) -> Result<usize, ShortRoom>
     ensures written { IfOk result (λ size. IsWritten (take size room.new) image.now) }

@@ -15,7 +15,7 @@ use Rattle.machine.specs.State.{State, state_at}
 use Rattle.machine.proofs.Lending.{back_from}
 use Rattle.machine.proofs.Places.{ticked_at, answer_at}
 use Rattle.inner_interpreter.specs.declared.stop.Stop.{Stop}
-use Rattle.inner_interpreter.specs.Moves.{Move, Turn, Tick, Answer, Enter, Accepts, AreAccepted, AreGiven, HasMoved, HasRun, IsTurnGiven, Logs, after, call_by, device_call, device_calls, is_sent, shown_by, turn_bytes, turned}
+use Rattle.inner_interpreter.specs.Moves.{Move, Turn, Tick, Answer, Enter, Accepts, AreAccepted, AreGiven, HasMoved, HasRun, IsTurnGiven, Logs, after, call_by, device_call, device_calls, is_sent, shown_by, turn_bytes, after_turn}
 use Rattle.inner_interpreter.specs.Reports.{RunEnds, WriterEnd, logs_of}
 use Rattle.inner_interpreter.specs.Runs.{World, rounds, stops}
 use Rattle.inner_interpreter.specs.RunsTo.{BeginsAt, RunsTraced}
@@ -24,7 +24,7 @@ use Rattle.inner_interpreter.specs.Worlds.{Ends, EndsCut, EndsFaulted, IsAt, IsB
 use Rattle.inner_interpreter.proofs.Places.{answer_move_at, rounds_at, rounds_stay, tick_move_at, world_at}
 
 -- moves do the same wherever memory lies
-pub turned_at : (p : Option ℕ) (s : State) (t : Turn) → turned (state_at p s) t ≡ state_at p (turned s t)
+pub turned_at : (p : Option ℕ) (s : State) (t : Turn) → after_turn (state_at p s) t ≡ state_at p (after_turn s t)
 turned_at p s Tick = ap (λ (x : State × Act). x.0) (ticked_at p s.parts)
 turned_at p s (Answer reply) = ap (λ (x : State × Act). x.0) (answer_at p s reply)
 turned_at p s (Enter word) = refl
@@ -32,12 +32,12 @@ turned_at p s (Enter word) = refl
 pub after_at : (p : Option ℕ) (s : State) (ts : List Turn) → after (state_at p s) ts ≡ state_at p (after s ts)
 unfolding after
 after_at p s [] = refl
-after_at p s (t ∷ ts) = ap (λ (v : State). after v ts) (turned_at p s t) ∙ after_at p (turned s t) ts
+after_at p s (t ∷ ts) = ap (λ (v : State). after v ts) (turned_at p s t) ∙ after_at p (after_turn s t) ts
 
 pub accepted_at : (p : Option ℕ) (s : State) (ts : List Turn) → AreAccepted s ts → AreAccepted (state_at p s) ts
 unfolding AreAccepted
 accepted_at p s [] h = h
-accepted_at p s (t ∷ ts) h = (by_turn t h.0, subst (λ (v : State). AreAccepted v ts) (sym (turned_at p s t)) (accepted_at p (turned s t) ts h.1)) where
+accepted_at p s (t ∷ ts) h = (by_turn t h.0, subst (λ (v : State). AreAccepted v ts) (sym (turned_at p s t)) (accepted_at p (after_turn s t) ts h.1)) where
   by_turn : (u : Turn) → Accepts s u → Accepts (state_at p s) u
   by_turn Tick a = a
   by_turn (Answer reply) a = a
@@ -73,9 +73,9 @@ pub calls_at : (p : Option ℕ) (s : State) (ts : List Turn) → device_calls (s
 unfolding device_calls
 calls_at p s [] = refl
 calls_at p s (t ∷ ts) =
-    ap (λ cs. cs ++ device_calls (turned (state_at p s) t) ts) (call_at p s t)
+    ap (λ cs. cs ++ device_calls (after_turn (state_at p s) t) ts) (call_at p s t)
     ∙ ap (λ (v : State). device_call s t ++ device_calls v ts) (turned_at p s t)
-    ∙ ap (λ cs. device_call s t ++ cs) (calls_at p (turned s t) ts)
+    ∙ ap (λ cs. device_call s t ++ cs) (calls_at p (after_turn s t) ts)
 
 bytes_at : (p : Option ℕ) (s : State) (t : Turn) → turn_bytes (state_at p s) t ≡ turn_bytes s t
 bytes_at p s Tick = ap (λ (m : Move). m.bytes) (tick_move_at p s)
@@ -86,15 +86,15 @@ pub shown_at : (p : Option ℕ) (s : State) (ts : List Turn) → shown_by (state
 unfolding shown_by
 shown_at p s [] = refl
 shown_at p s (t ∷ ts) =
-    ap (λ bs. bs ++ shown_by (turned (state_at p s) t) ts) (bytes_at p s t)
+    ap (λ bs. bs ++ shown_by (after_turn (state_at p s) t) ts) (bytes_at p s t)
     ∙ ap (λ (v : State). turn_bytes s t ++ shown_by v ts) (turned_at p s t)
-    ∙ ap (λ bs. turn_bytes s t ++ bs) (shown_at p (turned s t) ts)
+    ∙ ap (λ bs. turn_bytes s t ++ bs) (shown_at p (after_turn s t) ts)
 
 pub given_at : (p : Option ℕ) (s : State) (ts : List Turn) (given : List (Option ℕ)) → AreGiven s ts given → AreGiven (state_at p s) ts given
 unfolding AreGiven
 given_at p s [] given h = h
 given_at p s (t ∷ ts) given (front, back, is, first, rest) =
-    (front, back, is, by_turn t first, subst (λ (v : State). AreGiven v ts back) (sym (turned_at p s t)) (given_at p (turned s t) ts back rest)) where
+    (front, back, is, by_turn t first, subst (λ (v : State). AreGiven v ts back) (sym (turned_at p s t)) (given_at p (after_turn s t) ts back rest)) where
       by_turn : (u : Turn) → IsTurnGiven s u front → IsTurnGiven (state_at p s) u front
       by_turn Tick a = a
       by_turn (Answer reply) a = a
@@ -137,12 +137,12 @@ lines_at : (extent : Extent) (line : Whole → List ℕ) → IsPlaceless line �
 unfolding lines_by
 lines_at extent line free p s [] = refl
 lines_at extent line free p s (Tick ∷ ts) =
-    ap (λ bs. bs ++ lines_by extent line (turned (state_at p s) Tick) ts) (next_at extent line free p s)
+    ap (λ bs. bs ++ lines_by extent line (after_turn (state_at p s) Tick) ts) (next_at extent line free p s)
     ∙ ap (λ (v : State). line_next extent line s ++ lines_by extent line v ts) (turned_at p s Tick)
-    ∙ ap (λ bs. line_next extent line s ++ bs) (lines_at extent line free p (turned s Tick) ts)
+    ∙ ap (λ bs. line_next extent line s ++ bs) (lines_at extent line free p (after_turn s Tick) ts)
 lines_at extent line free p s (Answer reply ∷ ts) =
-    ap (λ (v : State). lines_by extent line v ts) (turned_at p s (Answer reply)) ∙ lines_at extent line free p (turned s (Answer reply)) ts
-lines_at extent line free p s (Enter word ∷ ts) = lines_at extent line free p (turned s (Enter word)) ts
+    ap (λ (v : State). lines_by extent line v ts) (turned_at p s (Answer reply)) ∙ lines_at extent line free p (after_turn s (Answer reply)) ts
+lines_at extent line free p s (Enter word ∷ ts) = lines_at extent line free p (after_turn s (Enter word)) ts
 
 run_traced_at : (extent : Extent) (line : Whole → List ℕ) → IsPlaceless line → (p : Option ℕ) (old new : State) (log log' : Logs) (limit : ℕ) (why : Stop) (told told' : Option (List ℕ)) → HasRunTraced extent line old new log log' limit why told told' → HasRunTraced extent line (state_at p old) (state_at p new) log log' limit why told told'
 unfolding moved_at run_at

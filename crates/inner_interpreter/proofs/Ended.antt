@@ -25,7 +25,7 @@ appends_none a = grind (arith, append-nil)
 appends_kept : (a b c : Option (List ℕ)) (xs : List ℕ) → Appends a b xs → Keeps b c → Appends a c xs
 appends_kept a b c xs h k = grind arith
 
--- where the run goes on, the line is that of the state
+-- if the run goes on, the line is that of the state
 line_goes : (e : Extent) (line : Whole → List ℕ) (w : World) (s : State) → s ≡ w.state → stops w ≡ None → traced_line e line w ≡ line_next e line s
 unfolding traced_line
 line_goes e line w s same goes = ap (λ o. if is_none o then line_next e line w.state else []) goes ∙ ap (line_next e line) (sym same)

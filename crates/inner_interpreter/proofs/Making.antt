@@ -6,7 +6,7 @@ use Rattle.machine.specs.declared.act.Act.{Act}
 use Rattle.machine.specs.declared.act.Event.{Event}
 use Rattle.machine.specs.State.{State}
 use Rattle.inner_interpreter.specs.Moves.{Turn, Tick, shown_bytes}
-use Rattle.inner_interpreter.specs.Histories.{acted, behind, made, takes, told_event}
+use Rattle.inner_interpreter.specs.Histories.{acted, made_after, made, takes, told_event}
 use Rattle.inner_interpreter.proofs.HostCalls.{ManyTicked}
 use Rattle.inner_interpreter.specs.Hosts.{IsMade, HasMade, turn_of}
 use Rattle.inner_interpreter.proofs.Hosting.{taken_move, left_move, tick_left, stays_refused, one_call}
@@ -85,7 +85,7 @@ ticks_refused all a s t left refused o o' es es' h x =
     let none : takes s Tick ≡ false = tick_left s t refused h in
     let stays : t ≡ s = stays_refused s t refused h in
     let end : made s (replicate left Tick) ≡ made s [] = ap (made s) (sym (append-nil (replicate left Tick))) ∙ ticks_left left s [] none in
-    rw stays (all_made a s all o o' es es' (record { bytes = x.bytes; told = x.told; made_is = x.made_is ∙ ap (behind x.bytes x.told) end; shown_is = x.shown_is; events_are = x.events_are }))
+    rw stays (all_made a s all o o' es es' (record { bytes = x.bytes; told = x.told; made_is = x.made_is ∙ ap (made_after x.bytes x.told) end; shown_is = x.shown_is; events_are = x.events_are }))
 
 pub ticks_done : (all : List Turn) (a s : State) (left : ℕ) (o o' : List ℕ) (es es' : List Event) → left ≡ 0 → HasMade a all s (replicate left Tick) o o' es es' → IsMade (made a all) s o o' es es'
 ticks_done all a s left o o' es es' e x = all_made a s all o o' es es' (subst (λ n. HasMade a all s (replicate n Tick) o o' es es') e x)

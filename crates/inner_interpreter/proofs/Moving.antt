@@ -7,7 +7,7 @@ use Rattle.machine.specs.declared.act.Act.{Act}
 use Rattle.machine.specs.State.{State}
 use Rattle.machine.specs.Tick.{ran, ticked, is_quiet, running}
 use Rattle.machine.specs.Answer.{Reply, InputFault, is_answer, asked_by, answered, answer_of}
-use Rattle.inner_interpreter.specs.Moves.{Turn, Tick, Answer, Enter, after, turned, Accepts, AreAccepted, shown_bytes, call_by, device_call, device_calls, turn_bytes, shown_by, IsTurnGiven, AreGiven, Logs, logs, is_tick, is_reply, words_in, ticks_in, answers_in, HasMoved}
+use Rattle.inner_interpreter.specs.Moves.{Turn, Tick, Answer, Enter, after, after_turn, Accepts, AreAccepted, shown_bytes, call_by, device_call, device_calls, turn_bytes, shown_by, IsTurnGiven, AreGiven, Logs, logs, is_tick, is_reply, words_in, ticks_in, answers_in, HasMoved}
 use Rattle.inner_interpreter.specs.Served.{HasActed, HasFaulted}
 use Rattle.block_buffers.specs.DeviceCalls.{DeviceCall}
 use Rattle.inner_interpreter.specs.Sent.{AppendsPart}
@@ -26,27 +26,27 @@ asked_waits s reply h = grind arith
 pub after-append : (ts us : List Turn) (s : State) → after s (ts ++ us) ≡ after (after s ts) us
 unfolding after
 after-append [] us s = refl
-after-append (t ∷ ts) us s = after-append ts us (turned s t)
+after-append (t ∷ ts) us s = after-append ts us (after_turn s t)
 
 pub accepted-append : (ts us : List Turn) (s : State) → AreAccepted s ts → AreAccepted (after s ts) us → AreAccepted s (ts ++ us)
 unfolding after AreAccepted
 accepted-append [] us s h k = k
-accepted-append (t ∷ ts) us s h k = (h.0, accepted-append ts us (turned s t) h.1 k)
+accepted-append (t ∷ ts) us s h k = (h.0, accepted-append ts us (after_turn s t) h.1 k)
 
 pub device_calls-append : (ts us : List Turn) (s : State) → device_calls s (ts ++ us) ≡ device_calls s ts ++ device_calls (after s ts) us
 unfolding after device_calls
 device_calls-append [] us s = refl
-device_calls-append (t ∷ ts) us s = ap (λ cs. device_call s t ++ cs) (device_calls-append ts us (turned s t)) ∙ sym (append_assoc (device_call s t) (device_calls (turned s t) ts) (device_calls (after (turned s t) ts) us))
+device_calls-append (t ∷ ts) us s = ap (λ cs. device_call s t ++ cs) (device_calls-append ts us (after_turn s t)) ∙ sym (append_assoc (device_call s t) (device_calls (after_turn s t) ts) (device_calls (after (after_turn s t) ts) us))
 
 pub shown_by-append : (ts us : List Turn) (s : State) → shown_by s (ts ++ us) ≡ shown_by s ts ++ shown_by (after s ts) us
 unfolding after shown_by
 shown_by-append [] us s = refl
-shown_by-append (t ∷ ts) us s = ap (λ bs. turn_bytes s t ++ bs) (shown_by-append ts us (turned s t)) ∙ sym (append_assoc (turn_bytes s t) (shown_by (turned s t) ts) (shown_by (after (turned s t) ts) us))
+shown_by-append (t ∷ ts) us s = ap (λ bs. turn_bytes s t ++ bs) (shown_by-append ts us (after_turn s t)) ∙ sym (append_assoc (turn_bytes s t) (shown_by (after_turn s t) ts) (shown_by (after (after_turn s t) ts) us))
 
 pub given-append : (ts us : List Turn) (s : State) (g h : List (Option ℕ)) → AreGiven s ts g → AreGiven (after s ts) us h → AreGiven s (ts ++ us) (g ++ h)
 unfolding after AreGiven
 given-append [] us s g h x y = rw x y
-given-append (t ∷ ts) us s g h x y = (x.0, x.1 ++ h, ap (λ v. v ++ h) x.2 ∙ append_assoc x.0 x.1 h, x.3, given-append ts us (turned s t) x.1 h x.4 y)
+given-append (t ∷ ts) us s g h x y = (x.0, x.1 ++ h, ap (λ v. v ++ h) x.2 ∙ append_assoc x.0 x.1 h, x.3, given-append ts us (after_turn s t) x.1 h x.4 y)
 
 pub appends_none : (a : Option (List ℕ)) → Appends a a []
 appends_none a = grind (arith, append-nil)
@@ -86,7 +86,7 @@ moved_add a b c f g h whole us vs m n x y =
     }
 
 -- one move, and all its bytes are sent
-pub moved_one : (a : State) (t : Turn) (f g : List DeviceCall) (s s' : Option (List ℕ)) (r r' given : List (Option ℕ)) (whole : Bool) → Accepts a t → g ≡ f ++ device_call a t → Appends s s' (turn_bytes a t) → r' ≡ r ++ given → IsTurnGiven a t given → HasMoved a (turned a t) (logs f s r) (logs g s' r') whole (words_in (t ∷ [])) (ticks_in (t ∷ []))
+pub moved_one : (a : State) (t : Turn) (f g : List DeviceCall) (s s' : Option (List ℕ)) (r r' given : List (Option ℕ)) (whole : Bool) → Accepts a t → g ≡ f ++ device_call a t → Appends s s' (turn_bytes a t) → r' ≡ r ++ given → IsTurnGiven a t given → HasMoved a (after_turn a t) (logs f s r) (logs g s' r') whole (words_in (t ∷ [])) (ticks_in (t ∷ []))
 unfolding after device_calls shown_by AreAccepted AreGiven
 moved_one a t f g s s' r r' given whole accepted calls_are sent_is reads_are is_given = record {
   turns = t ∷ [];
@@ -106,7 +106,7 @@ moved_one a t f g s s' r r' given whole accepted calls_are sent_is reads_are is_
 }
 
 -- one move, of whose bytes a front is sent
-moved_part : (a : State) (t : Turn) (f g : List DeviceCall) (s s' : Option (List ℕ)) (r r' given : List (Option ℕ)) → Accepts a t → g ≡ f ++ device_call a t → AppendsPart s s' (turn_bytes a t) → r' ≡ r ++ given → IsTurnGiven a t given → HasMoved a (turned a t) (logs f s r) (logs g s' r') false (words_in (t ∷ [])) (ticks_in (t ∷ []))
+moved_part : (a : State) (t : Turn) (f g : List DeviceCall) (s s' : Option (List ℕ)) (r r' given : List (Option ℕ)) → Accepts a t → g ≡ f ++ device_call a t → AppendsPart s s' (turn_bytes a t) → r' ≡ r ++ given → IsTurnGiven a t given → HasMoved a (after_turn a t) (logs f s r) (logs g s' r') false (words_in (t ∷ [])) (ticks_in (t ∷ []))
 unfolding after device_calls shown_by AreAccepted AreGiven
 moved_part a t f g None s' r r' given accepted calls_are sent_is reads_are is_given = moved_one a t f g None s' r r' given false accepted calls_are tt reads_are is_given
 moved_part a t f g (Some xs) None r r' given accepted calls_are sent_is reads_are is_given = absurd sent_is
@@ -130,17 +130,17 @@ moved_part a t f g (Some xs) (Some ys) r r' given accepted calls_are sent_is rea
 -- an answer that was accepted, and what it shows was sent
 pub moved_acted : (a b : State) (f g : List DeviceCall) (r r' : List (Option ℕ)) (act : Act) (s s' : Option (List ℕ)) → HasActed a b f g r r' act → Appends s s' (shown_bytes b.parts.memory act.shown) → HasMoved a b (logs f s r) (logs g s' r') true [] 0
 moved_acted a b f g r r' act s s' x h =
-    let state : b ≡ turned a (Answer x.reply) = ap (λ (v : State × Act). v.0) x.acts in
+    let state : b ≡ after_turn a (Answer x.reply) = ap (λ (v : State × Act). v.0) x.acts in
     let shown : shown_bytes b.parts.memory act.shown ≡ turn_bytes a (Answer x.reply) = ap (λ (v : State × Act). shown_bytes v.0.parts.memory v.1.shown) x.acts in
     rw state (moved_one a (Answer x.reply) f g s s' r r' x.given true x.accepted x.calls_are (rw (← shown) h) x.reads_are x.is_given)
 
 pub moved_acted_part : (a b : State) (f g : List DeviceCall) (r r' : List (Option ℕ)) (act : Act) (s s' : Option (List ℕ)) → HasActed a b f g r r' act → AppendsPart s s' (shown_bytes b.parts.memory act.shown) → HasMoved a b (logs f s r) (logs g s' r') false [] 0
 moved_acted_part a b f g r r' act s s' x h =
-    let state : b ≡ turned a (Answer x.reply) = ap (λ (v : State × Act). v.0) x.acts in
+    let state : b ≡ after_turn a (Answer x.reply) = ap (λ (v : State × Act). v.0) x.acts in
     let shown : shown_bytes b.parts.memory act.shown ≡ turn_bytes a (Answer x.reply) = ap (λ (v : State × Act). shown_bytes v.0.parts.memory v.1.shown) x.acts in
     rw state (moved_part a (Answer x.reply) f g s s' r r' x.given x.accepted x.calls_are (rw (← shown) h) x.reads_are x.is_given)
 
--- these bytes were sent, or where not all were a front of them
+-- these bytes were sent, or if not all were a front of them
 abbrev Sends : Bool → Option (List ℕ) → Option (List ℕ) → List ℕ → Type 0
 Sends true a b bs = Appends a b bs
 Sends false a b bs = AppendsPart a b bs
@@ -226,16 +226,16 @@ pub moved_went_part : (left count : ℕ) (s t : State) (act : Act) (c : List Dev
     → HasMoved s t (logs c o r) (logs c o' r) false [] (left - (left - count))
 moved_went_part = moved_sent false
 
--- where moves are accepted, no more answers are made than ticks, but one where a request waited
+-- if moves are accepted, no more answers are made than ticks, but one if a request waited
 pub few_answers : (ts : List Turn) (s : State) → AreAccepted s ts → answers_in ts + waiting (after s ts).wait ≤ ticks_in ts + waiting s.wait
 unfolding after AreAccepted
 few_answers [] s h = omega arith
-few_answers (Tick ∷ ts) s h = omega (arith, one_waits, sum_by-cons, few_answers ts (turned s Tick) h.1)
+few_answers (Tick ∷ ts) s h = omega (arith, one_waits, sum_by-cons, few_answers ts (after_turn s Tick) h.1)
 few_answers (Answer reply ∷ ts) s h =
-    let rest = few_answers ts (turned s (Answer reply)) h.1 in
-    let free : waiting (turned s (Answer reply)).wait ≡ 0 = ap waiting (answer_none s reply) in
+    let rest = few_answers ts (after_turn s (Answer reply)) h.1 in
+    let free : waiting (after_turn s (Answer reply)).wait ≡ 0 = ap waiting (answer_none s reply) in
     omega (arith, rest, free, asked_waits s reply h.0.2, sum_by-cons (λ t. if is_tick t then 1 else 0) (Answer reply) ts, sum_by-cons (λ t. if is_reply t then 1 else 0) (Answer reply) ts)
-few_answers (Enter word ∷ ts) s h = grind (arith, sum_by-cons, few_answers ts (turned s (Enter word)) h.1)
+few_answers (Enter word ∷ ts) s h = grind (arith, sum_by-cons, few_answers ts (after_turn s (Enter word)) h.1)
 
 -- moves that are no ticks
 pub moved_still : (a b : State) (f g : Logs) (whole : Bool) (left : ℕ) → HasMoved a b f g whole [] 0 → HasMoved a b f g whole [] (left - left)
@@ -245,7 +245,7 @@ moved_still a b f g whole left h = let none : left - left ≡ 0 = omega arith in
 unfoldable pub moved_kept : (a b : State) (c d : List DeviceCall) (o o' o'' : Option (List ℕ)) (r r' : List (Option ℕ)) (words : List ℕ) (ticks : ℕ) → Keeps o' o'' → HasMoved a b (logs c o r) (logs d o' r') true words ticks → HasMoved a b (logs c o r) (logs d o'' r') true words ticks
 moved_kept a b c d o o' o'' r r' words ticks k h = grind arith
 
--- less is said where not all was to be sent
+-- less is said if not all was to be sent
 unfoldable pub moved_so : (a b : State) (f g : Logs) (whole : Bool) (words : List ℕ) (ticks : ℕ) → HasMoved a b f g true words ticks → HasMoved a b f g whole words ticks
 moved_so a b f g whole words ticks h = record { turns = h.turns; accepted = h.accepted; state_is = h.state_is; calls_are = h.calls_are; front = h.front; back = h.back; shown_is = h.shown_is; sent_is = h.sent_is; all_sent = λ q. h.all_sent refl; given = h.given; reads_are = h.reads_are; are_given = h.are_given; words_are = h.words_are; ticks_are = h.ticks_are }
 

@@ -21,11 +21,11 @@ use Rattle.machine.specs.declared.act.Cause.{Cause}
 use Rattle.machine.specs.declared.act.Cause.TheVariants.{Bye, Fault as FaultCause, InputEnded, InputFault as InputFaulted}
 use Rattle.machine.specs.declared.act.Shown.TheVariants.{Nothing}
 use Rattle.machine.specs.declared.act.Shown.{Shown}
-use Rattle.machine.specs.State.{State, start}
+use Rattle.machine.specs.State.{State, loaded_state}
 use Rattle.machine.specs.Tick.{taken, thread, executed, faulted, by_fault, concluded, ticked, shown_span}
 use Rattle.machine.specs.Answer as answering
 use Rattle.machine.specs.Answer.{Reply, block_of, answered, answer_of, asked_by, is_answer, fits_request, key_answered, line_answered, read_answered, write_answered}
-use Rattle.inner_interpreter.specs.Moves.{Turn, Tick, Answer, Enter, Accepts, turned}
+use Rattle.inner_interpreter.specs.Moves.{Turn, Tick, Answer, Enter, Accepts, after_turn}
 use Rattle.inner_interpreter.specs.Requests.{IsOrderly}
 use Rattle.inner_interpreter.proofs.Shapes.{either, by_answer, is_taken}
 
@@ -124,10 +124,10 @@ answer_orderly s reply f h =
     (λ p q. answered_orderly s.parts p reply (record { buffers = h.buffers; once = h.once }) (λ u w k. h.absent u w (q ∙ k)) (ap (λ (o : Option (Request × ℕ)). is_answer (asked_by o) reply) (sym q) ∙ f))
     (λ q. h)
 
-pub moved_orderly : (s : State) (t : Turn) → Accepts s t → IsOrderly s → IsOrderly (turned s t)
+pub moved_orderly : (s : State) (t : Turn) → Accepts s t → IsOrderly s → IsOrderly (after_turn s t)
 moved_orderly s Tick a h = ticked_orderly s.parts (record { buffers = h.buffers; once = h.once })
 moved_orderly s (Answer reply) a h = answer_orderly s reply a.2 h
 moved_orderly s (Enter word) a h = grind arith
 
-pub start_orderly : (image : Contents) (block_count : ℕ) → IsImage image → IsOrderly (start image block_count)
+pub start_orderly : (image : Contents) (block_count : ℕ) → IsImage image → IsOrderly (loaded_state image block_count)
 start_orderly image block_count h = unasked _ None (record { buffers = are_started image.buffers h.buffers; once = blocks_started image.buffers })

@@ -28,7 +28,7 @@ use Rattle.machine.specs.declared.act.Shown.{Shown}
 use Rattle.machine.specs.State.{State}
 use Rattle.machine.specs.Tick.{taken, thread, executed, running, by_fault, concluded, ticked, Runs}
 use Rattle.machine.specs.Answer.{is_answer, IsSpelled, answered, answer_of, asked_by, read_answered, write_answered}
-use Rattle.inner_interpreter.specs.Moves.{Tick, Answer, turned}
+use Rattle.inner_interpreter.specs.Moves.{Tick, Answer, after_turn}
 use Rattle.inner_interpreter.specs.Requests.{IsOrderly, asks_device, ok_to, AreAsked, IsPage, token_of, IsBelowBuffers}
 use Rattle.inner_interpreter.proofs.Orderly.{moved_orderly}
 use Rattle.inner_interpreter.proofs.Shapes.{IsTaken, is_taken, either}
@@ -51,7 +51,7 @@ unfolding concluded
 concluded_asks w x q = grind (arith, fault_asks_none)
 
 abbrev ok_state : State → List ℕ → State
-ok_state t page = turned t (Answer (ok_to (asked_by t.wait) page))
+ok_state t page = after_turn t (Answer (ok_to (asked_by t.wait) page))
 
 concluded_behind : (w : ℕ) (x : After) (page : List ℕ) → device_asked x.1 ≡ true → ok_state (concluded w x).0 page ≡ running (behind w x page)
 unfolding concluded answer_of answered read_answered write_answered
@@ -135,7 +135,7 @@ most [] s n w h runs l tok code below all asked = omega arith
 most (page ∷ pages) s n w h runs l tok code below all asked =
     let q : Whole = (taken s.parts).1
     in let same : IsTaken s.parts q = is_taken s.parts
-    in let t : State = turned s Tick
+    in let t : State = after_turn s Tick
     in let v : ℕ = token_of s
     in let device : device_asked (executed v q).1 ≡ true = concluded_asks v (executed v q) asked.0
     in let next : State = running (behind v (executed v q) page)

@@ -54,7 +54,7 @@ slices_law w a n most q =
     let sum : (rounds n (with_left a w)).left + (w.left - a) ≡ w.left - a = omega (arith, none) in
     (h.0, ap (rounds h.0) (sym start) ∙ h.1 ∙ ap (λ l. with_left l (rounds n (with_left a w))) sum)
 
--- a stop stays where more ticks are left, but one for want of ticks
+-- a stop stays if more ticks are left, but one for want of ticks
 stop_more : (d : ℕ) (c : Option Cause) (left : ℕ) (stop : Stop) → stop_by c left ≡ Some stop → (stop ≡ Limit → d ≡ 0) → stop_by c (left + d) ≡ Some stop
 stop_more d c left stop q z = grind arith
 

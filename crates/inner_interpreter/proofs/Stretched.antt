@@ -24,7 +24,7 @@ rounds_add (suc n) m w =
 goes_on : (left m : ℕ) → left ≡ suc m → stop_by None left ≡ None
 goes_on left m e = rw e refl
 
--- where the machine has not halted and ticks are left, the run goes on
+-- if the machine has not halted and ticks are left, the run goes on
 pub runs_on : (w : World) → w.state.halt ≡ None → 0 < w.left → stops w ≡ None
 runs_on w h l = grind arith
 
@@ -103,7 +103,7 @@ trace_one e line w = refl
 pub adds_one : (e : Extent) (w : World) → AddsLine e 1 w
 adds_one e w = λ line. trace_one e line w
 
--- nothing is traced where no token of the extent comes next
+-- nothing is traced if no token of the extent comes next
 line_unmet : (e : Extent) (line : Whole → List ℕ) (w : World) (s : Whole) → w.state ≡ running s → is_met e s ≡ false → traced_line e line w ≡ []
 unfolding traced_line
 line_unmet e line w s same unmet = grind arith

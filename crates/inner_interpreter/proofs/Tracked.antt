@@ -14,7 +14,7 @@ use Rattle.machine.proofs.Ran.{ran_quiet, ran_loud}
 use Rattle.block_buffers.specs.DeviceCalls.{DeviceCall}
 use Rattle.inner_interpreter.specs.declared.stop.Stop.{Stop}
 use Rattle.inner_interpreter.specs.declared.stop.Stop.TheVariants as stop
-use Rattle.inner_interpreter.specs.Moves.{Turn, Tick, Answer, Enter, after, turned, AreAccepted, Logs, logs, is_sent, is_tick, words_in, ticks_in, HasMoved, HasRun}
+use Rattle.inner_interpreter.specs.Moves.{Turn, Tick, Answer, Enter, after, after_turn, AreAccepted, Logs, logs, is_sent, is_tick, words_in, ticks_in, HasMoved, HasRun}
 use Rattle.inner_interpreter.specs.Sent.{AppendsPart}
 use Rattle.inner_interpreter.specs.Tracing.{AddsFirst, HasRunTraced, line_next, lines_by}
 use Rattle.inner_interpreter.proofs.Ending.{one_waits}
@@ -26,10 +26,10 @@ lines-append : (e : Extent) (line : Whole → List ℕ) (ts us : List Turn) (s :
 unfolding after lines_by
 lines-append e line [] us s = refl
 lines-append e line (Tick ∷ ts) us s =
-    ap (λ ls. line_next e line s ++ ls) (lines-append e line ts us (turned s Tick))
-    ∙ sym (append_assoc (line_next e line s) (lines_by e line (turned s Tick) ts) (lines_by e line (after (turned s Tick) ts) us))
-lines-append e line (Answer reply ∷ ts) us s = lines-append e line ts us (turned s (Answer reply))
-lines-append e line (Enter word ∷ ts) us s = lines-append e line ts us (turned s (Enter word))
+    ap (λ ls. line_next e line s ++ ls) (lines-append e line ts us (after_turn s Tick))
+    ∙ sym (append_assoc (line_next e line s) (lines_by e line (after_turn s Tick) ts) (lines_by e line (after (after_turn s Tick) ts) us))
+lines-append e line (Answer reply ∷ ts) us s = lines-append e line ts us (after_turn s (Answer reply))
+lines-append e line (Enter word ∷ ts) us s = lines-append e line ts us (after_turn s (Enter word))
 
 one_tick : (t : Turn) (ts : List Turn) → ticks_in (t ∷ ts) ≡ (if is_tick t then 1 else 0) + ticks_in ts
 one_tick t ts = sum_by-cons (λ u. if is_tick u then 1 else 0) t ts
@@ -39,8 +39,8 @@ no_lines : (e : Extent) (line : Whole → List ℕ) (ts : List Turn) (s : State)
 unfolding lines_by
 no_lines e line [] s h = refl
 no_lines e line (Tick ∷ ts) s h = absurd (omega (arith, h, one_tick Tick ts))
-no_lines e line (Answer reply ∷ ts) s h = no_lines e line ts (turned s (Answer reply)) (omega (arith, h, one_tick (Answer reply) ts))
-no_lines e line (Enter word ∷ ts) s h = no_lines e line ts (turned s (Enter word)) (omega (arith, h, one_tick (Enter word) ts))
+no_lines e line (Answer reply ∷ ts) s h = no_lines e line ts (after_turn s (Answer reply)) (omega (arith, h, one_tick (Answer reply) ts))
+no_lines e line (Enter word ∷ ts) s h = no_lines e line ts (after_turn s (Enter word)) (omega (arith, h, one_tick (Enter word) ts))
 
 unmet_line : (e : Extent) (line : Whole → List ℕ) (s : State) → is_met e s.parts ≡ false → line_next e line s ≡ []
 unmet_line e line s h = grind arith
@@ -70,7 +70,7 @@ unmet_tick : (e : Extent) (line : Whole → List ℕ) (n k : ℕ) (p : Whole) (t
 unfolding lines_by
 unmet_tick e line n k p ts all unmet t b more = grind (arith, unmet_line, ticked_runs, ran_quiet, ran_loud, no_lines)
 
--- no line where no token of the extent comes next
+-- no line if no token of the extent comes next
 unmet_lines : (e : Extent) (line : Whole → List ℕ) (n k : ℕ) (p : Whole) (ts : List Turn) → (ran k n p).0 ≡ k + n → AreUnmet e n p → AreAccepted (running p) ts → words_in ts ≡ [] → ticks_in ts ≡ n → lines_by e line (running p) ts ≡ []
 unfolding AreUnmet
 unmet_lines e line zero k p ts all unmet h w t = no_lines e line ts (running p) t

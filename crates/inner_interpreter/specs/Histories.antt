@@ -33,13 +33,13 @@ pub record Made : Type 0 where
   pub events : List Event
 
 -- the same, after these bytes and events
-abbrev pub behind : List ℕ → List Event → Made → Made
-behind shown events m = record { state = m.state; shown = shown ++ m.shown; events = events ++ m.events }
+abbrev pub made_after : List ℕ → List Event → Made → Made
+made_after shown events m = record { state = m.state; shown = shown ++ m.shown; events = events ++ m.events }
 
 -- a list of moves: one that the machine doesn't take changes nothing and shows nothing
 unfoldable pub made : State → List Turn → Made
 made s [] = record { state = s; shown = []; events = [] }
 made s (t ∷ ts) =
     let m = acted s t in
-    if takes s t then behind (shown_bytes m.0.parts.memory m.1.shown) (told_event m.1.event) (made m.0 ts)
+    if takes s t then made_after (shown_bytes m.0.parts.memory m.1.shown) (told_event m.1.event) (made m.0 ts)
     else made s ts

@@ -6,7 +6,7 @@ use Rattle.machine.specs.Answer.{seen}
 use Rattle.inner_interpreter.specs.declared.hosts.Move.{Move}
 use Rattle.inner_interpreter.specs.declared.hosts.Move.TheVariants as move
 use Rattle.inner_interpreter.specs.Moves.{Turn, Tick, Answer, Enter}
-use Rattle.inner_interpreter.specs.Histories.{Made, made, behind}
+use Rattle.inner_interpreter.specs.Histories.{Made, made, made_after}
 
 abbrev pub turn_of : Move → Turn
 turn_of move.Tick = Tick
@@ -23,6 +23,6 @@ pub record IsMade (m : Made) (state : State) (shown shown' : List ℕ) (events e
 pub record HasMade (s : State) (ts : List Turn) (t : State) (us : List Turn) (shown shown' : List ℕ) (events events' : List Event) : Type 0 where
   pub bytes : List ℕ
   pub told : List Event
-  pub made_is : made s ts ≡ behind bytes told (made t us)
+  pub made_is : made s ts ≡ made_after bytes told (made t us)
   pub shown_is : shown' ≡ shown ++ bytes
   pub events_are : events' ≡ events ++ told

@@ -39,7 +39,7 @@ pub record IsBegun (n : ℕ) (typed : List ℕ) (unread : Option (List ℕ)) : T
   pub few : length gone < n
   pub unread_is : unread ≡ Some rest
 
--- where reading failed for a request, bytes of the line that it asks for may be gone, and of a key none
+-- if reading failed for a request, bytes of the line that it asks for may be gone, and of a key none
 abbrev pub IsLeft : Option Request → List ℕ → Option (List ℕ) → Type 0
 IsLeft (Some (request.Line n)) typed unread = IsBegun n typed unread
 IsLeft _ typed unread = unread ≡ Some typed

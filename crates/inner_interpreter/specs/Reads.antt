@@ -15,7 +15,7 @@ Gives old new (Err _) = new ≡ old
 abbrev pub as_given : List ℕ → List (Option ℕ)
 as_given bytes = map (λ b. Some b) bytes
 
--- of a line of at most n bytes: its bytes and the return that ended it; or its bytes, and the end where they are fewer
+-- of a line of at most n bytes: its bytes and the return that ended it; or its bytes, and the end if they are fewer
 abbrev pub IsLineGiven : ℕ → List ℕ → Bool → List (Option ℕ) → Type 0
 IsLineGiven n bytes true given = (c : ℕ) × (is_return c ≡ true) × (given ≡ as_given bytes ++ Some c ∷ [])
 IsLineGiven n bytes false given = ((length bytes ≡ n) × (given ≡ as_given bytes)) ⊎ (given ≡ as_given bytes ++ None ∷ [])

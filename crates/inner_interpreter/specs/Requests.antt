@@ -7,10 +7,10 @@ use Rattle.machine_parts.specs.declared.parts.Request.TheVariants as request
 use Rattle.machine.specs.State.{State}
 use Rattle.machine.specs.Tick.{Runs, taken}
 use Rattle.machine.specs.Answer.{Reply, ReadOk, WriteOk, asked_by}
-use Rattle.inner_interpreter.specs.Moves.{Tick, Answer, turned}
+use Rattle.inner_interpreter.specs.Moves.{Tick, Answer, after_turn}
 
 -- the machine's buffers are in order: no block is in two of them, none is asked to be read that one of them has, and each
--- that is asked to be written is in one of them; a key is asked where it has room, a line where EXPECT's two cells are
+-- that is asked to be written is in one of them; a key is asked if it has room, a line where EXPECT's two cells are
 pub record IsOrderly (s : State) : Type 0 where
   pub buffers : AreBuffers s.parts.buffers
   pub once : HasNoBlockTwice s.parts.buffers
@@ -34,8 +34,8 @@ ok_to _ page = ReadOk page
 unfoldable pub AreAsked : State → List (List ℕ) → Type 0
 AreAsked s [] = Unit {0}
 AreAsked s (page ∷ pages) =
-    let t = turned s Tick in
-    IsTrue (asks_device (asked_by t.wait)) × AreAsked (turned t (Answer (ok_to (asked_by t.wait) page))) pages
+    let t = after_turn s Tick in
+    IsTrue (asks_device (asked_by t.wait)) × AreAsked (after_turn t (Answer (ok_to (asked_by t.wait) page))) pages
 
 -- the bytes of a block
 abbrev pub IsPage : List ℕ → Type 0

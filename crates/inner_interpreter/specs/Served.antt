@@ -29,7 +29,7 @@ pub record Answered (s : State) (r : Request) (typed : List ℕ) (disk : Disk) (
   pub unread_is : unread ≡ Some (served s r typed disk).typed
   pub disk_is : left ≡ Some (served s r typed disk).disk
 
--- of what the reader and the device hold, where they report it
+-- of what the reader and the device hold, if they report it
 abbrev pub WhereTold : Option (List ℕ) → Option Disk → (List ℕ → Disk → Type 0) → Type 0
 WhereTold unread disk holds = (typed : List ℕ) → unread ≡ Some typed → (d : Disk) → disk ≡ Some d → holds typed d
 
@@ -61,8 +61,8 @@ is_input_fault _ = false
 abbrev pub HasNotFailed : State → Type 0
 HasNotFailed s = is_input_fault s.halt ≡ false
 
--- the machine was given an answer that it accepted; where it comes from a call of the device, the device was given that
--- call, which failed exactly where the machine learned of it; and where it comes from the reader, the reader gave it
+-- the machine was given an answer that it accepted; if it comes from a call of the device, the device was given that
+-- call, which failed exactly if the machine learned of it; and if it comes from the reader, the reader gave it
 pub record HasActed (old new : State) (calls calls' : List DeviceCall) (reads reads' : List (Option ℕ)) (act : Act) : Type 0 where
   pub reply : Reply
   pub accepted : Accepts old (Answer reply)

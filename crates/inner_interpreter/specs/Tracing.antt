@@ -9,7 +9,7 @@ use Rattle.machine.specs.declared.extent.Extent.{Extent}
 use Rattle.machine.specs.State.{State}
 use Rattle.machine.specs.Answer.{asked_by}
 use Rattle.machine.specs.Met.{is_met}
-use Rattle.inner_interpreter.specs.Moves.{Turn, Tick, turned, AreAccepted, words_in, ticks_in, Logs, HasRun}
+use Rattle.inner_interpreter.specs.Moves.{Turn, Tick, after_turn, AreAccepted, words_in, ticks_in, Logs, HasRun}
 use Rattle.inner_interpreter.specs.Runs.{World, rounds, stops}
 use Rattle.inner_interpreter.specs.Worlds.{IsAt, IsCut, Ends, EndsCut, EndsFaulted}
 
@@ -24,8 +24,8 @@ line_next extent line s = if is_none (asked_by s.wait) && is_met extent s.parts 
 -- the trace of moves: before each tick the line of the state from which it is made
 unfoldable pub lines_by : Extent → (Whole → List ℕ) → State → List Turn → List ℕ
 lines_by extent line s [] = []
-lines_by extent line s (Tick ∷ ts) = line_next extent line s ++ lines_by extent line (turned s Tick) ts
-lines_by extent line s (t ∷ ts) = lines_by extent line (turned s t) ts
+lines_by extent line s (Tick ∷ ts) = line_next extent line s ++ lines_by extent line (after_turn s Tick) ts
+lines_by extent line s (t ∷ ts) = lines_by extent line (after_turn s t) ts
 
 -- of so many ticks, with the answers between them, only the first may have a line
 abbrev pub AddsFirst : Extent → State → (ticks : ℕ) → Type 0
@@ -42,7 +42,7 @@ pub record HasRunTraced (extent : Extent) (line : Whole → List ℕ) (old new :
   pub trace_is : Appends told told' (lines_by extent line old run.moved.turns ++ front)
   pub last : (front ≡ []) ⊎ ((why ≡ stop.TraceFault) × (line_next extent line new ≡ front ++ back))
 
--- the same, where the run goes on from there: the state is followed by a tick
+-- the same, if the run goes on from there: the state is followed by a tick
 unfoldable pub traced_line : Extent → (Whole → List ℕ) → World → List ℕ
 traced_line extent line w = if is_none (stops w) then line_next extent line w.state else []
 

@@ -5,7 +5,7 @@ use Rattle.machine_parts.specs.declared.parts.Request.{Request}
 use Rattle.machine.specs.declared.act.Act.{Act}
 use Rattle.inner_interpreter.specs.declared.stop.Stop.{Stop}
 use Rattle.image_loader.specs.Files.{Contents, IsFile}
-use Rattle.machine.specs.State.{State, start}
+use Rattle.machine.specs.State.{State, loaded_state}
 use Rattle.machine.specs.Tick.{ran}
 use Rattle.machine.specs.Answer.{InputFault, answer_of, asked_by, is_answer}
 use Rattle.inner_interpreter.specs.Lines.{IsLeft}
@@ -19,7 +19,7 @@ pub record IsAt (w : World) (state : State) (unread : Option (List ℕ)) (disk :
   pub sent_is : sent ≡ Some w.shown
   pub left_is : left ≡ w.left
 
--- the same, but that the run went on there, the reader failed where a key or a line was asked, and the machine learned of it;
+-- the same, but that the run went on there, the reader failed if a key or a line was asked, and the machine learned of it;
 -- bytes of that line may be gone
 pub record IsFaulted (w : World) (state : State) (unread : Option (List ℕ)) (disk : Option Disk) (sent : Option (List ℕ)) : Type 0 where
   pub goes : stops w ≡ None
@@ -32,7 +32,7 @@ pub record IsFaulted (w : World) (state : State) (unread : Option (List ℕ)) (d
 -- an image is loaded, for the blocks of this device; nothing is done yet
 abbrev pub loaded : Contents → List ℕ → Disk → List ℕ → ℕ → World
 loaded image typed disk sent limit =
-    record { state = start image (length disk.blocks); typed = typed; disk = disk; shown = sent; left = limit }
+    record { state = loaded_state image (length disk.blocks); typed = typed; disk = disk; shown = sent; left = limit }
 
 -- how many answers may be before the next tick
 abbrev pub waiting : Option (Request × ℕ) → ℕ

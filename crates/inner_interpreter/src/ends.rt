@@ -17,7 +17,7 @@ pub trait Input {
     ghost use Rattle.inner_interpreter.specs.Ends.{TakesByte, Marks};
     ghost use Rattle.inner_interpreter.specs.Reads.{Gives};
 
-    /// The bytes that are left, where the reader reports them.
+    /// The bytes that are left, if the reader reports them.
     ghost unread: { Self → Option (List ℕ) };
 
     /// What its calls gave so far: bytes, and ends.
@@ -38,7 +38,7 @@ pub trait Output {
     ghost use Rattle.std.specs.Io.KnownBytes.{Keeps, WriteAppends};
     ghost use Rattle.inner_interpreter.specs.Ends.{Marks};
 
-    /// The bytes that were taken, where the writer reports them.
+    /// The bytes that were taken, if the writer reports them.
     ghost sent: { Self → Option (List ℕ) };
 
     /// Whether all of them were passed on by a flush.

@@ -8,7 +8,7 @@ use crate::ends::{EndFault, Input};
 use crate::read_log::{Given, ReadLog};
 use std::io::{ErrorKind, Read};
 
-/// A reader of `std` as an `Input`. It reports its bytes where the reader does.
+/// A reader of `std` as an `Input`. It reports its bytes if the reader does.
 #[derive(Drop)]
 pub struct Reading<R> {
     reader: R,
@@ -71,7 +71,7 @@ impl<R: Read> Input for Reading<R> {
     }
 }
 
-/// One read, tried again where a signal interrupts it.
+/// One read, tried again if a signal interrupts it.
 fn read_once<R: Read>(reader: &mut R, bytes: &mut [u8]) -> Result<usize, EndFault>
     ensures bound { ReadsAtMost result bytes.new }
     ensures bytes { ReadConsumes (R.remaining reader.old) (R.remaining reader.new) result bytes.new }

@@ -14,7 +14,7 @@ use block_buffers::Device;
 use machine::{Act, Answer, LentMachine};
 use machine_parts::parts::Request;
 
-/// Answers a `Key`. Where the reader fails, the machine learns of it.
+/// Answers a `Key`. If the reader fails, the machine learns of it.
 pub fn answer_key<R: Input>(machine: &mut LentMachine, reader: &mut R) -> Result<Act, EndFault>
     requires waits { asked_by machine.old.wait ≡ Some Request.Key }
     requires goes { machine.old.halt ≡ None }
@@ -40,7 +40,7 @@ pub fn answer_key<R: Input>(machine: &mut LentMachine, reader: &mut R) -> Result
     }
 }
 
-/// Answers a `Line`. Where the reader fails, the machine learns of it.
+/// Answers a `Line`. If the reader fails, the machine learns of it.
 #[tactic(auto, using(crate::proofs::Lining::line_fits))]
 pub fn answer_line<R: Input>(
     line: &mut Vec<u8>,
@@ -117,7 +117,7 @@ pub fn answer_write<D: Device>(machine: &mut LentMachine, device: &mut D, block:
     }
 }
 
-/// Answers what was asked. Where the reader fails, the machine learns of it.
+/// Answers what was asked. If the reader fails, the machine learns of it.
 pub fn settle<R: Input, D: Device>(
     line: &mut Vec<u8>,
     machine: &mut LentMachine,

@@ -50,7 +50,7 @@ fn finish<W: Output, T: Output>(writer: &mut W, trace: &mut T, stop: Stop) -> St
     }
 }
 
-/// Sends the line of the tick that comes next, where its token is one of those that are traced.
+/// Sends the line of the tick that comes next, if its token is one of those that are traced.
 fn send_line<N: Tracer, T: Output>(
     machine: &LentMachine,
     tracer: &N,

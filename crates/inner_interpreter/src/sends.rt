@@ -11,7 +11,7 @@ use crate::ends::{EndFault, Output};
 use machine::{LentMachine, Shown};
 use machine_parts::parts::Span;
 
-/// Sends all of the bytes, or a front of them where the writer fails.
+/// Sends all of the bytes, or a front of them if the writer fails.
 pub fn send_all<W: Output>(writer: &mut W, bytes: &[u8]) -> Result<(), EndFault>
     ensures ok { OnOk result (Appends (W.sent writer.old) (W.sent writer.new) bytes.now) }
     ensures err { OnErr result (AppendsPart (W.sent writer.old) (W.sent writer.new) bytes.now) }

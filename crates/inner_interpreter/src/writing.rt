@@ -8,7 +8,7 @@ use crate::byte_log::ByteLog;
 use crate::ends::{EndFault, Output};
 use std::io::{ErrorKind, Write};
 
-/// A writer of `std` as an `Output`. It reports its bytes where the writer does. A write that takes no byte fails.
+/// A writer of `std` as an `Output`. It reports its bytes if the writer does. A write that takes no byte fails.
 #[derive(Drop)]
 pub struct Writing<W: Write> {
     writer: W,
@@ -105,7 +105,7 @@ impl<W: Write> Output for Writing<W> {
     }
 }
 
-/// One write, tried again where a signal interrupts it.
+/// One write, tried again if a signal interrupts it.
 fn write_once<W: Write>(writer: &mut W, bytes: &[u8]) -> Result<usize, EndFault>
     ensures bound { WritesAtMost result bytes.now }
     ensures bytes { WriteAppends (W.contents writer.old) (W.contents writer.new) result bytes.now }
@@ -123,7 +123,7 @@ fn write_once<W: Write>(writer: &mut W, bytes: &[u8]) -> Result<usize, EndFault>
     Err(EndFault)
 }
 
-/// One flush, tried again where a signal interrupts it.
+/// One flush, tried again if a signal interrupts it.
 fn flush_once<W: Write>(writer: &mut W) -> Result<(), EndFault>
     ensures { Keeps (W.contents writer.old) (W.contents writer.new) }
 {

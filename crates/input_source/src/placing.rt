@@ -56,7 +56,7 @@ fn place_counted(memory: &mut Memory, here: u16, bytes: &[u8])
 /// Leaves a word of a stream: >IN is the place after it, and at HERE are its count, its bytes and a blank.
 ///
 /// Its bytes and HERE are read before anything is written, and >IN is written first. Answers HERE, which stays.
-/// `TooLong`, with memory as it was, where the word has more than 255 bytes. This is what WORD of the Standard writes.
+/// `TooLong`, with memory as it was, if the word has more than 255 bytes. This is what WORD of the Standard writes.
 #[tactic(auto, unfolding(crate::specs::Placing::with_word))]
 pub fn place_word(memory: &mut Memory, stream: Stream, word: Word) -> Result<u16, TooLong>
     ensures { IsPlaced (stored memory.old) (stored memory.new) stream word result }

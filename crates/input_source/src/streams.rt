@@ -15,9 +15,9 @@ use thiserror::Error;
 #[error("no buffer has the block that BLK names")]
 pub struct NeedsBlock;
 
-/// The input stream: where BLK is 0 the #TIB bytes of the terminal's buffer, else the 1,024 bytes of block BLK.
+/// The input stream: if BLK is 0 the #TIB bytes of the terminal's buffer, else the 1,024 bytes of block BLK.
 ///
-/// Its place is >IN, which past the size counts as the size. `NeedsBlock` where BLK isn't 0 and no buffer has that block.
+/// Its place is >IN, which past the size counts as the size. `NeedsBlock` if BLK isn't 0 and no buffer has that block.
 #[tactic(auto, unfolding(crate::specs::Streams::needs_block, crate::specs::Streams::stream_at, crate::specs::Streams::stream_size))]
 pub fn stream(memory: &Memory, buffers: &Buffers) -> Result<Stream, NeedsBlock>
     ensures value { IsStream (stored memory.now) buffers.now result }

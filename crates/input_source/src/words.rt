@@ -7,7 +7,7 @@ ghost use Rattle.input_source.specs.Words.{word_start, next_delimiter, parsed, w
 
 use memory::Memory;
 
-/// A stream of bytes in memory, which goes on at address 0 where it reaches memory's end.
+/// A stream of bytes in memory, which goes on at address 0 if it reaches memory's end.
 ///
 /// Places are counted from the stream's beginning; one past the size counts as the size.
 #[derive(Clone, Copy, Debug, PartialEq, Eq)]
@@ -27,7 +27,7 @@ pub struct Word {
     pub at: u16,
     /// Its length in bytes.
     pub len: u16,
-    /// The place that is read next: past the delimiter after the word, or the size where none exists.
+    /// The place that is read next: past the delimiter after the word, or the size if none exists.
     pub next: u16,
 }
 
@@ -93,7 +93,7 @@ pub fn parse_to(memory: &Memory, stream: Stream, delimiter: u8) -> Word
 }
 
 /// The next word: the first run of bytes other than the delimiter, at the stream's place or after it. It has no
-/// bytes where none but delimiters are left. The place after is past a delimiter that was found, else the size.
+/// bytes if none but delimiters are left. The place after is past a delimiter that was found, else the size.
 #[tactic(auto, unfolding(crate::specs::Words::word_in))]
 pub fn next_word(memory: &Memory, stream: Stream, delimiter: u8) -> Word
     ensures value { result ≡ word_in (stored memory.now) stream delimiter }

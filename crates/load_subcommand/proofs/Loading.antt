@@ -11,7 +11,7 @@ use Rattle.metacompiler.specs.declared.load.LoadFault.TheVariants.{OutOfMemory}
 use Rattle.load_subcommand.specs.Loads.{EndsAnswered, EndsLoaded}
 use Rattle.subcommands.specs.declared.commands.Ended.{Ended}
 
--- where there is a value this holds of it, and else that
+-- if there is a value this holds of it, and else that
 pub by_value : {T Q : Type 0} (P : T → Type 0) (o : Option T) → IfSome o P → (IsNone o → Q) → MatchOption o Q P
 by_value P None is none = none refl
 by_value P (Some x) is none = is

@@ -34,7 +34,7 @@ EndsAnswered (Ok image) ended old new =
     (λ file. IsFileOf image (image_line image) file.items old new)
 EndsAnswered (Err why) ended old new = IsNone ended.file × PrintsUnloaded why ended.status old new
 
--- what loading comes to over this device is answered, or that memory ran out; where the writer doesn't fail, it is printed
+-- what loading comes to over this device is answered, or that memory ran out; if the writer doesn't fail, it is printed
 pub record EndsLoaded (d : Disk) (o : Loaded) (disk : Option Disk) (ended : Ended) (failed : Bool) (old new : Option (List ℕ)) : Type 0 where
   pub answer : Result Contents LoadFault
   pub is_loaded : IsLoaded d o answer disk
@@ -48,7 +48,7 @@ pub record EndsMoved (image : Contents) (count from to limit : ℕ) (calls calls
   pub read : IfOk (word_of image from to) (λ word. HasLoaded word image count from to limit calls calls' answer)
   pub ends : failed ≡ false → EndsAnswered answer ended old new
 
--- where the bytes are an image's file and the device reports its blocks: of what loading the screens comes to
+-- if the bytes are an image's file and the device reports its blocks: of what loading the screens comes to
 abbrev pub OfLoad : List ℕ → Option Disk → (from to limit : ℕ) → (Disk → Loaded → Type 0) → Type 0
 OfLoad bytes disk from to limit Of =
     (old : Contents) → IsFile bytes old → (d : Disk) → disk ≡ Some d → Of d (loaded_by_machine old d from to limit)

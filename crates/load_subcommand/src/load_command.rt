@@ -43,7 +43,7 @@ pub fn do_load<W: Output, D: Device>(
     writer: &mut W,
 ) -> Ended
     ensures status { MatchOption result.file (0 < result.status) (λ _. result.status ≡ 0) }
-    // Where the bytes are an image's file, and the device reports its blocks, the new image is that of the written rounds,
+    // If the bytes are an image's file, and the device reports its blocks, the new image is that of the written rounds,
     // and the device is as these leave it, whether its line can be printed or not.
     ensures loaded { OfLoad image.now (D.disk device.old) from to limit
         (λ d o. EndsLoaded d o (D.disk device.new) result (W.failed writer.new) (W.sent writer.old)
@@ -52,7 +52,7 @@ pub fn do_load<W: Output, D: Device>(
     ensures moved { OfImageFile image.now
         (λ old. EndsMoved old (D.block_count device.old) from to limit (D.calls device.old) (D.calls device.new) result
         (W.failed writer.new) (W.sent writer.old) (W.sent writer.new)) }
-    // Where they are none, that is printed, and the device isn't touched.
+    // If they are none, that is printed, and the device isn't touched.
     ensures refused { W.failed writer.new ≡ false →
         PrintsNoImage image.now result.status (W.sent writer.old) (W.sent writer.new) }
     ensures untouched { (fault : ImageFault) → IsNoFile image.now fault → device.new ≡ device.old }

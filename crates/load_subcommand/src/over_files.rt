@@ -24,7 +24,7 @@ fn word_at_fault(screen: &[u8; BLOCK_SIZE], place: u16, cause: LoadFault) -> u16
 }
 
 /// Says on standard error where and why the image couldn't load the screens from the first to the last: it is tried again
-/// with the blocks as they were before. Where that isn't known, nothing is promised.
+/// with the blocks as they were before. If that isn't known, nothing is promised.
 fn show_stop<F: Files>(
     files: &F,
     name: &str,

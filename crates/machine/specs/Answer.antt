@@ -56,7 +56,7 @@ is_return c = (c == 10) || (c == 13)
 abbrev pub is_typed : ℕ → Bool
 is_typed c = not (is_return c)
 
--- a line of at most n bytes: where a return ended it, it has fewer; else it has at least one
+-- a line of at most n bytes: if a return ended it, it has fewer; else it has at least one
 unfoldable pub is_line : ℕ → List ℕ → Bool → Bool
 is_line n bytes returned =
     list_all is_typed bytes
@@ -91,7 +91,7 @@ key_answered s c =
     if nat_lt 256 (length (c ∷ s.values)) then by_fault s Nothing DATA_OVERFLOW
     else (running (record s { values = c ∷ s.values }), quiet)
 
--- what a line shows of the n bytes at a: they, and a blank where a return ended it
+-- what a line shows of the n bytes at a: they, and a blank if a return ended it
 abbrev pub line_shown : ℕ → ℕ → Bool → Shown
 line_shown a n returned = if returned then LineShown (record { at = a; len = n }) else SpanShown (record { at = a; len = n })
 

@@ -2,7 +2,7 @@
 
 ghost use Rattle.std.specs.Prelude.{◌≡◌, nat_le, nat_lt, ◌&&◌};
 
-/// The addresses from `from` up to `end`: none where `end` isn't above `from`.
+/// The addresses from `from` up to `end`: none if `end` isn't above `from`.
 #[derive(Clone, Copy, Debug, PartialEq, Eq)]
 pub struct Extent {
     pub from: u16,

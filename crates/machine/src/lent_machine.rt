@@ -7,7 +7,7 @@ ghost use Rattle.memory.specs.declared.system.TheConstants.{FAULT};
 ghost use Rattle.memory.specs.Mirrored.{stored};
 ghost use Rattle.machine.specs.Answer.{asked_by, asked_page};
 ghost use Rattle.machine.specs.Onward.{ran_from};
-ghost use Rattle.machine.specs.State.{start};
+ghost use Rattle.machine.specs.State.{loaded_state};
 ghost use Rattle.machine.specs.Tick.{concluded, by_fault, IsTicked, AreTicked, IsRefused, Runs, is_running, ticked, shown_span, is_quiet, quiet};
 
 mod answers;
@@ -90,7 +90,7 @@ fn is_quiet(act: &Act) -> bool
     }
 }
 
-/// The address of the fault thread; 0 where there is none.
+/// The address of the fault thread; 0 if there is none.
 fn fault_thread(parts: &Parts) -> u16
     ensures { result ≡ cell parts.now.memory FAULT }
 {
@@ -108,7 +108,7 @@ impl<'m> LentMachine<'m> {
         block_count: u32,
     ) -> LentMachine<'m>
         requires loaded { stored memory.old ≡ front_put image.now.bytes zeros }
-        ensures { result ≡ start image.now block_count }
+        ensures { result ≡ loaded_state image.now block_count }
     {
         let buffers = Buffers::new(image.buffers());
         let limit = buffers.limit();
@@ -216,7 +216,7 @@ impl<'m> LentMachine<'m> {
         self.wait
     }
 
-    /// The bytes of the block that a `Write` asks to keep; `None` where none is asked.
+    /// The bytes of the block that a `Write` asks to keep; `None` if none is asked.
     pub fn asked_page(&self) -> Option<&[u8; 1024]>
         ensures { option_copied result ≡ asked_page self.now }
     {
@@ -254,7 +254,7 @@ impl<'m> LentMachine<'m> {
     }
 
     /// Up to `n` ticks, of which only the last may show, ask, fault or halt: how many, and the last one's act.
-    /// Refused as a tick would be, also where `n` is 0.
+    /// Refused as a tick would be, also if `n` is 0.
     pub fn ticks(&mut self, n: u64) -> Result<(u64, Act), Refused>
         ensures went { IfOk result (AreTicked n self.old self.new) }
         ensures some { IfOk result (λ r. 0 < n → 0 < r.0) }

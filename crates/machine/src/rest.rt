@@ -7,7 +7,7 @@ ghost use Rattle.memory.specs.Bytes.{front_put, zeros};
 ghost use Rattle.memory.specs.Mirrored.{stored};
 ghost use Rattle.name_index.specs.Index.{Holds};
 ghost use Rattle.machine.specs.Registers.{state_of};
-ghost use Rattle.machine.specs.State.{start, state_at};
+ghost use Rattle.machine.specs.State.{loaded_state, state_at};
 
 use crate::lent_machine::LentMachine;
 use crate::registers::Registers;
@@ -30,7 +30,7 @@ impl Rest {
         requires least { 2 ≤ buffers }
         requires most { buffers ≤ 16 }
         ensures { (image : Contents) → image.buffers ≡ buffers → image.entry ≡ entry →
-            state_of (front_put image.bytes zeros) result ≡ start image block_count }
+            state_of (front_put image.bytes zeros) result ≡ loaded_state image block_count }
     {
         Rest {
             registers: Registers {

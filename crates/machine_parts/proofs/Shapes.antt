@@ -14,7 +14,7 @@ pub by_room : (P : After → Type 0) (s : Whole) (d : List ℕ) (x : After) → 
 unfolding room
 by_room P s d x none h = by_if P (nat_lt 256 (length d)) (fault s 2) x none h
 
--- the same, by what is known where there is room
+-- the same, by what is known if there is room
 pub by_room_or : (P : After → Type 0) (s : Whole) (d : List ℕ) (x : After) → P (fault s 2) → (length d ≤ 256 → P x) → P (room s d x)
 unfolding room
 by_room_or P s d x none h = by_test (nat_lt 256 (length d)) refl where

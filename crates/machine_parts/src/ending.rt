@@ -6,7 +6,7 @@ ghost use Rattle.machine_parts.specs.Row.{leaves};
 use crate::faults::DATA_OVERFLOW;
 use crate::parts::{Outcome, Parts};
 
-/// The data stack gets the cells `given`, the new top first, in place of its `taken` top cells; fault 2 where
+/// The data stack gets the cells `given`, the new top first, in place of its `taken` top cells; fault 2 if
 /// there is no room for them. Rows write it as `leaves!`.
 #[tactic(auto, unfolding(crate::specs::Row::room))]
 pub fn leave(parts: &mut Parts, taken: usize, given: &[u16]) -> Outcome

@@ -52,7 +52,7 @@ pub enum Outcome {
 /// What the rows read and write: memory, the data stack and the return stack, the place in the thread (`ip`),
 /// the token that comes next in its place (`pending`), the block buffers, how many blocks the device has, where the
 /// buffers begin in memory, as they give it, and what searches of this memory found, in `index`. Whoever writes memory
-/// notes it there. Memory belongs to whoever made the parts. Where a host lent it and wants to know what it contains after its
+/// notes it there. Memory belongs to whoever made the parts. If a host lent it and wants to know what it contains after its
 /// machine is taken apart, `is_lent` is set, and clauses say that the parts still have the same memory.
 #[derive(Drop)]
 pub struct Parts<'m> {

@@ -12,7 +12,7 @@ use Rattle.colon_bodies.specs.Rules.{half_after}
 use Rattle.colon_bodies.specs.Open.{Outer, At, read, whole, open_size, complete}
 use Rattle.colon_bodies.proofs.Reading.{accept}
 use Rattle.source_words.specs.declared.modes.Mode.TheVariants.{Body, NameInBody}
-use Rattle.source_words.specs.Modes.{takes_text, begins_comment, after}
+use Rattle.source_words.specs.Modes.{takes_text, begins_comment, mode_after}
 use Rattle.source_words.specs.Words.{SourceWord}
 use Rattle.image_builder.specs.Spelled.{keyword}
 use Rattle.resident_bodies.proofs.Bodies.{grows}
@@ -20,7 +20,7 @@ use Rattle.metacompiler.specs.Reading.{next, name}
 use Rattle.metacompiler.specs.Meaning.{token_of, Key, IsKey, Means, IsBeside}
 use Rattle.metacompiler.specs.Turning.{words_left, Leads, Met}
 use Rattle.metacompiler.specs.Opened.{Drafts, Turned}
-use Rattle.metacompiler.proofs.Folding.{Env, IsEnv, Here, text_of_screen, Loose, Tight, Case, NotName, text_if, Marks, marks_of, case_of, due_name, Accepted, accept_one, accept_end, mode_after, same_spot, Facing, Stepped, one_step, facts, Plainly, plainly, Textly, textly, step_room, by_name, by_compile, by_single, by_double, by_row, no_semi, spot_of, Point, Closing, frames_few}
+use Rattle.metacompiler.proofs.Folding.{Env, IsEnv, Here, text_of_screen, Loose, Tight, Case, NotName, text_if, Marks, marks_of, case_of, due_name, Accepted, accept_one, accept_end, after_in_body, same_spot, Facing, Stepped, one_step, facts, Plainly, plainly, Textly, textly, step_room, by_name, by_compile, by_single, by_double, by_row, no_semi, spot_of, Point, Closing, frames_few}
 use Rattle.metacompiler.proofs.Turns.{next_within, length_text, leads_on}
 use Rattle.metacompiler.proofs.Seek.{plain_spot, left_word, due_here, text_spot, left_text, seek}
 use Rattle.metacompiler.proofs.WordSteps.{text_row_of, text_step, tick_step, force_step, holds_draft, stack_room}
@@ -47,7 +47,7 @@ by_text E s o t h v sw k ks i x p key acc =
     let is = key_text E.n E.cur nm bs k (i.keys.keywords nm bs (TEXT k bs) key) in
     let free : h ≡ Free = free_text o acc.outer t acc.tree h acc.half k bs pt.loose acc.reads in
     let room = step_room E s o t h v sw (TEXT k bs) ks x in
-    let left : words_left Body s.disk.blocks s.screen z.next s.others ≡ sw = sym (p.behind ∙ ap (λ j. words_left j s.disk.blocks s.screen z.next s.others) (mode_after nm false false m.0 m.1)) in
+    let left : words_left Body s.disk.blocks s.screen z.next s.others ≡ sw = sym (p.behind ∙ ap (λ j. words_left j s.disk.blocks s.screen z.next s.others) (after_in_body nm false false m.0 m.1)) in
     one_step E s o acc.outer t acc.tree h acc.half v sw (TEXT k bs) ks z.next x refl acc.reads acc.rest left
     (text_step E.ws E.a E.cur E.ctx E.most E.here E.head E.pf E.n E.m1 E.title nm o acc.outer t acc.tree acc.half k s.parts s.disk s.values E.below s.screen s.place s.others i.opened pt.ready (subst (λ j. Drafts E.limit E.m1 E.pf o t j s.values E.below s.parts.memory) free pt.drafts) f.stack x.some refl is pt.short.0 (subst (λ j. read o t j (TEXT k bs) ≡ Some (At acc.outer acc.tree acc.half)) free acc.reads) (subst (λ j. E.pf + open_size o t j + (3 + length bs) ≤ E.limit) free room))
 
@@ -127,7 +127,7 @@ by_tick E s o t v sw ks i x p key acc =
     let w = two.0 in
     let more = two.1 in
     let mm = means_two E.n E.cur Ticked sw ks more w E.rest two.2 pt.means.2 in
-    let left : mm.0 ∷ mm.1 ≡ words_left NameInBody s.disk.blocks s.screen (next text s.place).next s.others = sym mm.2 ∙ p.behind ∙ ap (λ j. words_left j s.disk.blocks s.screen (next text s.place).next s.others) (mode_after nm false true m.0 m.1) in
+    let left : mm.0 ∷ mm.1 ≡ words_left NameInBody s.disk.blocks s.screen (next text s.place).next s.others = sym mm.2 ∙ p.behind ∙ ap (λ j. words_left j s.disk.blocks s.screen (next text s.place).next s.others) (after_in_body nm false true m.0 m.1) in
     let named = named_here E s Ticked mm.0 mm.1 w tt f.page f.within left ((subst (λ j. IsBeside TICK v j) mm.2 pt.means.1) ∙ ap (λ (j : SourceWord). j.screen) p.is) mm.3 in
     let a2 = two.3 in
     let rest2 : accept o (Tick t w) Free (more ++ SEMI ∷ []) ≡ Some E.body = accept_same o a2.outer (Tick t w) a2.tree Free a2.half (more ++ SEMI ∷ []) E.body a2.reads a2.rest in
@@ -150,7 +150,7 @@ by_force E s o t h hf v sw ks i tight e1 half x p key acc =
     let w = two.0 in
     let more = two.1 in
     let mm = means_two E.n E.cur hf sw ks more w E.rest two.2 (subst (λ j. Means E.n E.cur j sw (ks ++ SEMI ∷ []) E.rest) half pt.means.2) in
-    let left : mm.0 ∷ mm.1 ≡ words_left NameInBody s.disk.blocks s.screen (next text s.place).next s.others = sym mm.2 ∙ p.behind ∙ ap (λ j. words_left j s.disk.blocks s.screen (next text s.place).next s.others) (mode_after nm false true m.0 m.1) in
+    let left : mm.0 ∷ mm.1 ≡ words_left NameInBody s.disk.blocks s.screen (next text s.place).next s.others = sym mm.2 ∙ p.behind ∙ ap (λ j. words_left j s.disk.blocks s.screen (next text s.place).next s.others) (after_in_body nm false true m.0 m.1) in
     let named = named_here E s hf mm.0 mm.1 w tight f.page f.within left ((subst (λ j. IsBeside FORCE v j) mm.2 pt.means.1) ∙ ap (λ (j : SourceWord). j.screen) p.is) mm.3 in
     let a2 = two.3 in
     let v2 = complete hf t w in
@@ -281,7 +281,7 @@ close E s o t h v sw i r = by (takes_text nm) refl
     page : length text ≡ 1024
     page = length_text here.parts here.screen here.place text r.point.ready.reading
 
-    ends : keyword nm [] ≡ Some SEMI → sw ≡ words_left (after Body nm) here.disk.blocks here.screen (next text here.place).next here.others → Closing E s
+    ends : keyword nm [] ≡ Some SEMI → sw ≡ words_left (mode_after Body nm) here.disk.blocks here.screen (next text here.place).next here.others → Closing E s
     ends key b =
         let m = marks_of nm [] (Some SEMI) key in
         record {
@@ -297,10 +297,10 @@ close E s o t h v sw i r = by (takes_text nm) refl
           drafts = r.point.drafts;
           some = r.some;
           key = i.keys.keywords nm [] SEMI key;
-          left = sym (ap (λ j. words_left j here.disk.blocks here.screen (next text here.place).next here.others) (mode_after nm true false m.0 m.1)) ∙ sym b ∙ r.point.means.2;
+          left = sym (ap (λ j. words_left j here.disk.blocks here.screen (next text here.place).next here.others) (after_in_body nm true false m.0 m.1)) ∙ sym b ∙ r.point.means.2;
         }
 
-    plain : Case E.n E.cur nm [] SEMI → sw ≡ words_left (after Body nm) here.disk.blocks here.screen (next text here.place).next here.others → Closing E s
+    plain : Case E.n E.cur nm [] SEMI → sw ≡ words_left (mode_after Body nm) here.disk.blocks here.screen (next text here.place).next here.others → Closing E s
     plain (inl (l, found, imm, is, none)) b = cc
     plain (inr (inl key)) b = ends key b
     plain (inr (inr (inl (found, number, double, is, none)))) b = cc
@@ -315,11 +315,11 @@ close E s o t h v sw i r = by (takes_text nm) refl
     by : (b : Bool) → takes_text nm ≡ b → Closing E s
     by false e =
         let l = left_word Body here.disk.blocks here.screen here.place here.others page r.point.ready.reading.within r.some r.word e in
-        let q = same_spot v (plain_spot here.screen here.place text) sw (words_left (after Body nm) here.disk.blocks here.screen (next text here.place).next here.others) (sym r.point.left ∙ l) in
+        let q = same_spot v (plain_spot here.screen here.place text) sw (words_left (mode_after Body nm) here.disk.blocks here.screen (next text here.place).next here.others) (sym r.point.left ∙ l) in
         plain (case_of E.n E.cur h nm [] SEMI r.point.loose r.word (subst (λ j. token_of E.n E.cur h j ≡ Some SEMI) q.0 r.point.means.0)) q.1
     by true e =
         let l = left_text Body here.disk.blocks here.screen here.place here.others page r.point.ready.reading.within r.some r.word e in
-        let q = same_spot v (text_spot here.screen here.place text) sw (words_left (after Body nm) here.disk.blocks here.screen (parsed text (next text here.place).next 34).next here.others) (sym r.point.left ∙ l) in
+        let q = same_spot v (text_spot here.screen here.place text) sw (words_left (mode_after Body nm) here.disk.blocks here.screen (parsed text (next text here.place).next 34).next here.others) (sym r.point.left ∙ l) in
         texted (case_of E.n E.cur h nm bs SEMI r.point.loose r.word (subst (λ j. token_of E.n E.cur h j ≡ Some SEMI) q.0 r.point.means.0)) e
 
 closing_on : (E : Env) (s r : Here) → Leads E.ws.interpret (spot_of E.a s) (spot_of E.a r) → r.disk.blocks ≡ s.disk.blocks → Closing E r → Closing E s

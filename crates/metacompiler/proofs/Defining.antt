@@ -11,12 +11,12 @@ use Rattle.dictionary.specs.Search.{head_of}
 use Rattle.colon_bodies.specs.declared.words.Half.TheVariants.{Free}
 use Rattle.colon_bodies.specs.Tokens.{SEMI}
 use Rattle.colon_bodies.specs.Tree.{Empty, all_words}
-use Rattle.colon_bodies.specs.Code.{all_size, thread}
+use Rattle.colon_bodies.specs.Code.{all_size, whole_code}
 use Rattle.colon_bodies.specs.Open.{Top}
 use Rattle.colon_bodies.proofs.Reading.{accept_all}
 use Rattle.colon_bodies.proofs.Taking.{laid-all}
 use Rattle.source_words.specs.declared.modes.Mode.TheVariants.{Outside, NameOfBody, Body}
-use Rattle.source_words.specs.Modes.{begins_body, after, begins_comment}
+use Rattle.source_words.specs.Modes.{begins_body, mode_after, begins_comment}
 use Rattle.source_words.specs.Words.{SourceWord, words_of_screens}
 use Rattle.resident_bodies.specs.Definitions.{laid_definition, Agrees}
 use Rattle.resident_bodies.proofs.Ending.{opening, head_low, length-extra}
@@ -30,7 +30,7 @@ use Rattle.memory.proofs.Same.{cell_by}
 use Rattle.block_buffers.proofs.Kept.{are_started, length-start}
 use Rattle.block_buffers.specs.Entries.{holds, has_updated, start as start_buffers}
 use Rattle.image_loader.specs.Files.{Contents}
-use Rattle.machine.specs.State.{start}
+use Rattle.machine.specs.State.{loaded_state}
 use Rattle.compiling_words.specs.Code.{runtime}
 use Rattle.metacompiler.specs.Loop.{Words}
 use Rattle.metacompiler.specs.Rounds.{at, Out, rounds, then_screens, out, Ended, screens}
@@ -59,7 +59,7 @@ is_colon : (nm : List ℕ) → begins_body nm ≡ true → nm ≡ codes ":"
 unfolding begins_body
 is_colon nm h = (bytes_eq-Decides nm (codes ":")).0 h
 
-after_colon : (nm : List ℕ) → begins_body nm ≡ true → after Outside nm ≡ NameOfBody
+after_colon : (nm : List ℕ) → begins_body nm ≡ true → mode_after Outside nm ≡ NameOfBody
 after_colon nm h = rw h refl
 
 -- between definitions: where the machine is, and the words that are left
@@ -102,7 +102,7 @@ define {limit} ws a cur ctx most here voc n s sw e rest g l i keys own ld df x =
     let h1 : q1 ≤ 1024 = next_within text p page rd.within in
     let title = name text q1 in
     let first = left_word Outside f.blocks b p more page rd.within m.some m.word refl in
-    let s1 = same_spot df.colon (plain_spot b p text) (df.name ∷ df.inner) (words_left (after Outside (name text p)) f.blocks b q1 more) (sym m.words ∙ first) in
+    let s1 = same_spot df.colon (plain_spot b p text) (df.name ∷ df.inner) (words_left (mode_after Outside (name text p)) f.blocks b q1 more) (sym m.words ∙ first) in
     let begins : begins_body (name text p) ≡ true = ap (λ (v : SourceWord). begins_body v.name) (sym s1.0) ∙ df.begins in
     let at_name : words_left NameOfBody f.blocks b q1 more ≡ df.name ∷ df.inner = ap (λ k. words_left k f.blocks b q1 more) (sym (after_colon (name text p) begins)) ∙ sym s1.1 in
     let screen : df.name.screen ≡ b = df.beside ∙ ap (λ (v : SourceWord). v.screen) s1.0 in
@@ -212,7 +212,7 @@ pub record Finished (limit w a : ℕ) (I : List ℕ → Type 0) (u : Whole) (f :
   pub inv : I parts.memory
   pub is : (k : ℕ) → then_screens w more (b + 1) (rounds (ticks + suc k) (at u d a) f) ≡ out parts disk k Ended
 
--- where no word is left, the next word is a comment
+-- if no word is left, the next word is a comment
 only_comments : {limit : ℕ} (f : Disk) (u : Whole) (b p more : ℕ) → Ready limit f u b p more → ((next (block_at f.blocks b) p).len == 0) ≡ false → words_left Outside f.blocks b p more ≡ [] → begins_comment (name (block_at f.blocks b) p) ≡ true
 only_comments {limit} f u b p more r z e = grind (arith, left_word, length_text)
 
@@ -315,13 +315,13 @@ head_of_all cur ctx voc (e ∷ es) i y = own_head cur ctx y
 count_by : (a b : ℕ) → IsCount a → IsCount b → limit_of a ≡ limit_of b → a ≡ b
 count_by a b x y e = omega (arith, limit_is a x, limit_is b y)
 
-pub screens_law : (ws : Words) (a cur ctx most here : ℕ) (image : Contents) (f : Disk) (from more : ℕ) (es : List ColonDefinition) → let u = (start image (length f.blocks)).parts in let n = u.memory in let limit = limit_of image.buffers in
+pub screens_law : (ws : Words) (a cur ctx most here : ℕ) (image : Contents) (f : Disk) (from more : ℕ) (es : List ColonDefinition) → let u = (loaded_state image (length f.blocks)).parts in let n = u.memory in let limit = limit_of image.buffers in
     IsCount image.buffers → Orderly limit ws a cur ctx most here n → most + length es ≤ 32767 → cell n 32 ≡ ctx → Keys n ctx → Keys n cur → IsReliable f → 0 < from → from + more < length f.blocks
     → Keys (laid_all n es) (context_of cur ctx es)
     → AreDefined limit n (words_of_screens Outside from (take (suc more) (drop from f.blocks))) es
     → (ticks : ℕ) × (parts : Whole) × (disk : Disk) × (disk.blocks ≡ f.blocks) × IsBetween (laid_all n es) (context_of cur ctx es) parts.memory × ((k : ℕ) → screens ws.interpret (suc more) from (ticks + suc k) u f ≡ out parts disk k Ended) × (length parts.buffers ≡ image.buffers)
 screens_law ws a cur ctx most here image f from more es count g l c keys own reliable pos room last src =
-    let u = (start image (length f.blocks)).parts in
+    let u = (loaded_state image (length f.blocks)).parts in
     let n = u.memory in
     let limit = limit_of image.buffers in
     let hold = holds_between ws a cur ctx most here ctx n g (omega arith) (context_head cur ctx) in
@@ -380,7 +380,7 @@ keys_last {limit} ws a cur ctx most here n sw (e ∷ es) g l keys own src = keys
 -- a byte of the system that no definition writes
 def_low : {limit : ℕ} (ws : Words) (a cur ctx most here : ℕ) (n : List ℕ) (e : ColonDefinition) (i : ℕ) → Orderly limit ws a cur ctx most here n → length e.title ≤ 31 → here + (7 + length e.title + (all_size e.body + 2)) ≤ limit → i < 256 → i / 2 ≢ 14 → i / 2 ≢ 15 → ((x : List ℕ) → (i ≢ head_of cur x) × (i ≢ head_of cur x + 1)) → byte (laid_one n e) i ≡ byte n i
 def_low {limit} ws a cur ctx most here n e i g s h l b c apart =
-    let extra = thread (runtime n) e.body (here + (7 + length e.title)) in
+    let extra = whole_code (runtime n) e.body (here + (7 + length e.title)) in
     let le = length-extra (runtime n) e.body (here + (7 + length e.title)) in
     let head = head_of cur e.title in
     ap (λ x. byte x i) (whole_is n e.screen e.title here head e.body (orderly_site ws a cur ctx most here n e.title g s) (omega arith))
@@ -463,12 +463,12 @@ by_limit : (old : Contents) (context : ℕ) (n n2 : List ℕ) (o : Out) (parts :
 by_limit old context n n2 o parts disk t k y0 y = grind arith
 
 -- The law of screens on an image: they are compiled, or there were too few ticks.
-pub load_law : (ws : Words) (a cur ctx chains here : ℕ) (image : Contents) (f : Disk) (from more ticks : ℕ) (es : List ColonDefinition) → let u = (start image (length f.blocks)).parts in let n = u.memory in let limit = limit_of image.buffers in
+pub load_law : (ws : Words) (a cur ctx chains here : ℕ) (image : Contents) (f : Disk) (from more ticks : ℕ) (es : List ColonDefinition) → let u = (loaded_state image (length f.blocks)).parts in let n = u.memory in let limit = limit_of image.buffers in
     IsCount image.buffers → Orderly limit ws a cur ctx chains here n → chains + length es ≤ 32767 → cell n 32 ≡ ctx → Keys n ctx → Keys n cur → ((j : ℕ) → j < 256 → byte n j < 256) → IsReliable f → 0 < from → from + more < length f.blocks
     → AreDefined limit n (words_of_screens Outside from (take (suc more) (drop from f.blocks))) es
     → IsLaidOr image (laid_all n es) (context_of cur ctx es) (by_out image.entry n (screens ws.interpret (suc more) from ticks u f)).answer
 load_law ws a cur ctx chains here image f from more ticks es count g l c keys own b reliable pos room src =
-    let u = (start image (length f.blocks)).parts in
+    let u = (loaded_state image (length f.blocks)).parts in
     let n = u.memory in
     let words = words_of_screens Outside from (take (suc more) (drop from f.blocks)) in
     let x = screens_law ws a cur ctx chains here image f from more es count g l c keys own reliable pos room (keys_last ws a cur ctx chains here n words es g l keys own src) src in
@@ -483,12 +483,12 @@ load_law ws a cur ctx chains here image f from more ticks es count g l c keys ow
     (λ i h. laid_low ws a cur ctx chains here n words es i g l src (omega arith) (omega arith) (omega arith) (stream_apart ws a cur ctx chains here n g i (omega arith))))
 
 -- With enough ticks screens end, and what is saved is so written.
-pub enough_law : (ws : Words) (a cur ctx chains here : ℕ) (image : Contents) (f : Disk) (from more : ℕ) (es : List ColonDefinition) → let u = (start image (length f.blocks)).parts in let n = u.memory in let limit = limit_of image.buffers in
+pub enough_law : (ws : Words) (a cur ctx chains here : ℕ) (image : Contents) (f : Disk) (from more : ℕ) (es : List ColonDefinition) → let u = (loaded_state image (length f.blocks)).parts in let n = u.memory in let limit = limit_of image.buffers in
     IsCount image.buffers → Orderly limit ws a cur ctx chains here n → chains + length es ≤ 32767 → cell n 32 ≡ ctx → Keys n ctx → Keys n cur → ((j : ℕ) → j < 256 → byte n j < 256) → IsReliable f → 0 < from → from + more < length f.blocks
     → AreDefined limit n (words_of_screens Outside from (take (suc more) (drop from f.blocks))) es
     → (t : ℕ) × ((ticks : ℕ) → t < ticks → (parts : Whole) × (disk : Disk) × (k : ℕ) × (screens ws.interpret (suc more) from ticks u f ≡ out parts disk k Ended) × IsLaidOr image (laid_all n es) (context_of cur ctx es) (ended image.entry (restored n parts)))
 enough_law ws a cur ctx chains here image f from more es count g l c keys own b reliable pos room src =
-    let u = (start image (length f.blocks)).parts in
+    let u = (loaded_state image (length f.blocks)).parts in
     let n = u.memory in
     let words = words_of_screens Outside from (take (suc more) (drop from f.blocks)) in
     let x = screens_law ws a cur ctx chains here image f from more es count g l c keys own reliable pos room (keys_last ws a cur ctx chains here n words es g l keys own src) src in

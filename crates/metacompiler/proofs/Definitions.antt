@@ -27,14 +27,14 @@ use Rattle.colon_bodies.specs.Tree.{Empty, Body as Tree, Definition}
 use Rattle.colon_bodies.specs.Open.{Top, Outer, whole}
 use Rattle.resident_bodies.specs.Definitions.{Agrees, Opens, laid_definition}
 use Rattle.resident_bodies.specs.Drafts.{Draft, Bodied}
-use Rattle.resident_bodies.proofs.Bodies.{begins, whole_code}
+use Rattle.resident_bodies.proofs.Bodies.{begins, whole_code as laid_whole}
 use Rattle.resident_bodies.proofs.Rows.{has_room_is, semicolon_is}
 use Rattle.resident_bodies.proofs.Ending.{Site, head_low, top_byte, opened, opening, begun_opening, opening_low, length-opening, opening_here, finished, finished_byte, length-laid, ended_is, ended_agrees, length-extra, kept_cell}
 use Rattle.compiling_words.specs.Code.{runtime}
 use Rattle.compiling_words.specs.Laying.{laid}
 use Rattle.dictionary.specs.Newest.{newest_count, revealed}
 use Rattle.colon_bodies.specs.declared.words.Half.{Half}
-use Rattle.colon_bodies.specs.Code.{all_size, thread}
+use Rattle.colon_bodies.specs.Code.{all_size, whole_code}
 use Rattle.colon_bodies.proofs.Cells.{length-cell}
 use Rattle.colon_bodies.specs.Tokens.{Token}
 use Rattle.source_words.specs.Modes.{begins_body, begins_comment}
@@ -206,7 +206,7 @@ opens_site m name here head k s r = search arith
 
 -- the whole body exists
 bodied : (m1 : List ℕ) (pf : ℕ) (o : Outer) (t : Tree) (h : Half) (m d below : List ℕ) (b : Definition) → whole o t h ≡ Some b → Draft m1 pf o t h m d below → Bodied m1 pf b m × (d ≡ below)
-bodied m1 pf o t h m d below b e g = search (arith, whole_code)
+bodied m1 pf o t h m d below b e g = search (arith, laid_whole)
 
 -- what ; writes is aside from the stream
 finished_aside : {limit : ℕ} (s : List ℕ) (here k e q : ℕ) → length (finished s here k e) ≡ 65536 → 256 ≤ here → here + 4 < limit → 256 ≤ cell s 28 → cell s 28 + 2 ≤ limit → limit ≤ GREATEST_LIMIT → cell s 20 ≡ q → q ≤ 1024 → KeepsStream limit s (finished s here k e) q
@@ -279,7 +279,7 @@ semi_turn {limit} ws a cur ctx most here voc view n m title body o t h u f d bel
 
 laid_fronted : {limit : ℕ} (ws : Words) (a cur ctx most here : ℕ) (n : List ℕ) (e : ColonDefinition) → Orderly limit ws a cur ctx most here n → length e.title ≤ 31 → here + (7 + length e.title + (all_size e.body + 2)) ≤ limit → Fronted n (laid_one n e) here (head_of cur e.title) (here + 2)
 laid_fronted {limit} ws a cur ctx most here n e g s h =
-    let extra = thread (runtime n) e.body (here + (7 + length e.title)) in
+    let extra = whole_code (runtime n) e.body (here + (7 + length e.title)) in
     let le = length-extra (runtime n) e.body (here + (7 + length e.title)) in
     let st = orderly_site ws a cur ctx most here n e.title g s in
     subst (λ x. Fronted n x here (head_of cur e.title) (here + 2)) (sym (whole_is n e.screen e.title here (head_of cur e.title) e.body st (omega arith)))
@@ -287,7 +287,7 @@ laid_fronted {limit} ws a cur ctx most here n e g s h =
 
 laid_named : {limit : ℕ} (ws : Words) (a cur ctx most here : ℕ) (n : List ℕ) (e : ColonDefinition) (x : List ℕ) → Orderly limit ws a cur ctx most here n → length e.title ≤ 31 → here + (7 + length e.title + (all_size e.body + 2)) ≤ limit → is_named (laid_one n e) x (here + 2) ≡ bytes_eq e.title x
 laid_named {limit} ws a cur ctx most here n e x g s h =
-    let extra = thread (runtime n) e.body (here + (7 + length e.title)) in
+    let extra = whole_code (runtime n) e.body (here + (7 + length e.title)) in
     let le = length-extra (runtime n) e.body (here + (7 + length e.title)) in
     let st = orderly_site ws a cur ctx most here n e.title g s in
     subst (λ y. is_named y x (here + 2) ≡ bytes_eq e.title x) (sym (whole_is n e.screen e.title here (head_of cur e.title) e.body st (omega arith)))

@@ -6,7 +6,7 @@ use Rattle.std.proofs.lemmas.Slice.Eq.{bytes_eq-Decides}
 use Rattle.dictionary.specs.Header.{is_immediate, compilation_address}
 use Rattle.dictionary.specs.Search.{Sought, Found, Nowhere, TooLong, sought_from}
 use Rattle.number_text.specs.Numbers.{is_number, is_double, number_value}
-use Rattle.source_words.specs.Modes.{takes_text, begins_comment, ends_body, names_in_body, after}
+use Rattle.source_words.specs.Modes.{takes_text, begins_comment, ends_body, names_in_body, mode_after}
 use Rattle.colon_bodies.specs.Tokens.{Token, NAME, NUMBER, DOUBLE, TICK, FORCE, TEXT, SEMI, AreShort, laid, COMPILE, laid_by}
 use Rattle.colon_bodies.specs.declared.words.Half.{Half}
 use Rattle.colon_bodies.specs.declared.words.Half.TheVariants.{Free, Ticked, Forced, Compiling, Both}
@@ -14,7 +14,7 @@ use Rattle.colon_bodies.specs.Meaning.{Sense, Plain, Keyword, Figure, Wide, Rema
 use Rattle.image_builder.specs.Spelled.{keyword, naming, choosing, repeating, counting, saying, ending, figure_of, keyword_or, sense_of_word}
 use Rattle.block_buffers.specs.Disks.{Disk, block_at}
 use Rattle.machine_parts.specs.Whole.{Whole}
-use Rattle.colon_bodies.specs.Tree.{Body as Tree, Definition, all_depth}
+use Rattle.colon_bodies.specs.Tree.{Body as Tree, Definition, all_nesting}
 use Rattle.colon_bodies.specs.Open.{Outer, open_size, whole, At, read, frames}
 use Rattle.colon_bodies.proofs.Reading.{accept, next as next_state, finish, finish_is, accept_depth}
 use Rattle.source_words.specs.declared.modes.Mode.TheVariants.{Outside, Body, NameInBody}
@@ -105,7 +105,7 @@ marks nm text =
 pub marks_of : (nm text : List ℕ) (k : Option Token) → keyword nm text ≡ k → Marks nm text k
 marks_of nm text k e = subst (λ x. Marks nm text x) e (marks nm text)
 
--- what a word is in a body, where no name is due
+-- what a word is in a body, if no name is due
 abbrev pub Case : List ℕ → (voc : ℕ) → (nm text : List ℕ) → Token → Type 0
 Case n voc nm text k =
     ((l : ℕ) × (sought_from n voc nm ≡ Found l) × (is_immediate n l ≡ false) × (NAME (compilation_address n l) ≡ k) × (keyword nm text ≡ None))
@@ -113,7 +113,7 @@ Case n voc nm text k =
     ⊎ (((sought_from n voc nm ≡ Nowhere) × (is_number 10 nm ≡ true) × (is_double nm ≡ false) × (NUMBER (number_value 10 nm % 65536) ≡ k) × (keyword nm text ≡ None))
     ⊎ ((sought_from n voc nm ≡ Nowhere) × (is_number 10 nm ≡ true) × (is_double nm ≡ true) × (DOUBLE (number_value 10 nm) ≡ k) × (keyword nm text ≡ None))))
 
--- where it is no keyword
+-- if it is no keyword
 abbrev figure_by : List ℕ → Bool → Bool → Sense
 figure_by nm number double = if number then (if double then Wide (number_value 10 nm) else Figure (number_value 10 nm % 65536)) else Plain
 
@@ -202,7 +202,7 @@ pub record IsEnv (E : Env) : Type 0 where
   pub opened : Opened E.limit E.ws E.a E.cur E.ctx E.most E.here E.head E.pf E.n E.m1 E.title
   pub keys : Keys E.n E.cur
   pub few : length E.below ≤ 100
-  pub shallow : all_depth E.body ≤ 64
+  pub shallow : all_nesting E.body ≤ 64
 
 -- where the machine is
 pub record Here : Type 0 where
@@ -270,15 +270,15 @@ no_semi o t h = grind arith
 pub accept_end : (o : Outer) (t : Tree) (h : Half) (u : Definition) → accept o t h (SEMI ∷ []) ≡ Some u → whole o t h ≡ Some u
 accept_end o t h u e = (finish_is o t h u SEMI [] (sym (ap (λ x. next_state x (λ p v k. accept p v k []) (finish o t h SEMI [])) (no_semi o t h)) ∙ e)).0
 
-pub frames_few : (o : Outer) (t : Tree) (h : Half) (u : Definition) (ks : List Token) → accept o t h ks ≡ Some u → all_depth u ≤ 64 → frames o ≤ 64
+pub frames_few : (o : Outer) (t : Tree) (h : Half) (u : Definition) (ks : List Token) → accept o t h ks ≡ Some u → all_nesting u ≤ 64 → frames o ≤ 64
 frames_few o t h u ks e l = let d = accept_depth ks o t h u e in omega arith
 
 pub loose_after : (h : Half) (k : Token) → Loose h → lead_if (Some k) ≡ false → Loose (half_after h k)
 loose_after h k p e = grind arith
 
 -- the mode after a word of a body
-pub mode_after : (nm : List ℕ) (semi lead : Bool) → ends_body nm ≡ semi → names_in_body nm ≡ lead → after Body nm ≡ (if semi then Outside else if lead then NameInBody else Body)
-mode_after nm semi lead e f = rw (e, f) refl
+pub after_in_body : (nm : List ℕ) (semi lead : Bool) → ends_body nm ≡ semi → names_in_body nm ≡ lead → mode_after Body nm ≡ (if semi then Outside else if lead then NameInBody else Body)
+after_in_body nm semi lead e f = rw (e, f) refl
 
 pub same_spot : (a b : SourceWord) (xs ys : List SourceWord) → a ∷ xs ≡ b ∷ ys → (a ≡ b) × (xs ≡ ys)
 same_spot a b xs ys e = (cc, cc)
@@ -374,21 +374,21 @@ compile_cell E m o t h d i g =
 -- a word without a text: where it is, and the words after it
 pub record Plainly (s : Here) (v : SourceWord) (sw : List SourceWord) : Type 0 where
   pub is : v ≡ plain_spot s.screen s.place (text_of_screen s)
-  pub behind : sw ≡ words_left (after Body (name (text_of_screen s) s.place)) s.disk.blocks s.screen (next (text_of_screen s) s.place).next s.others
+  pub behind : sw ≡ words_left (mode_after Body (name (text_of_screen s) s.place)) s.disk.blocks s.screen (next (text_of_screen s) s.place).next s.others
 
 pub plainly : (E : Env) (s : Here) (o : Outer) (t : Tree) (h : Half) (v : SourceWord) (sw : List SourceWord) (k : Token) (ks : List Token) → IsEnv E → Facing E s o t h v sw k ks → takes_text (name (text_of_screen s) s.place) ≡ false → Plainly s v sw
 plainly E s o t h v sw k ks i x e = grind (arith, facts, left_word, same_spot, plain_spot)
 
 pub record Textly (s : Here) (v : SourceWord) (sw : List SourceWord) : Type 0 where
   pub is : v ≡ text_spot s.screen s.place (text_of_screen s)
-  pub behind : sw ≡ words_left (after Body (name (text_of_screen s) s.place)) s.disk.blocks s.screen (parsed (text_of_screen s) (next (text_of_screen s) s.place).next 34).next s.others
+  pub behind : sw ≡ words_left (mode_after Body (name (text_of_screen s) s.place)) s.disk.blocks s.screen (parsed (text_of_screen s) (next (text_of_screen s) s.place).next 34).next s.others
 
 pub textly : (E : Env) (s : Here) (o : Outer) (t : Tree) (h : Half) (v : SourceWord) (sw : List SourceWord) (k : Token) (ks : List Token) → IsEnv E → Facing E s o t h v sw k ks → takes_text (name (text_of_screen s) s.place) ≡ true → Textly s v sw
 textly E s o t h v sw k ks i x e = grind (arith, facts, left_text, same_spot, text_spot)
 
 -- a word after which the body goes on
 on_in_body : (s : Here) (v : SourceWord) (sw : List SourceWord) → Plainly s v sw → ends_body (name (text_of_screen s) s.place) ≡ false → names_in_body (name (text_of_screen s) s.place) ≡ false → words_left Body s.disk.blocks s.screen (next (text_of_screen s) s.place).next s.others ≡ sw
-on_in_body s v sw p e f = sym (p.behind ∙ ap (λ m. words_left m s.disk.blocks s.screen (next (text_of_screen s) s.place).next s.others) (mode_after (name (text_of_screen s) s.place) false false e f))
+on_in_body s v sw p e f = sym (p.behind ∙ ap (λ m. words_left m s.disk.blocks s.screen (next (text_of_screen s) s.place).next s.others) (after_in_body (name (text_of_screen s) s.place) false false e f))
 
 pub step_room : (E : Env) (s : Here) (o : Outer) (t : Tree) (h : Half) (v : SourceWord) (sw : List SourceWord) (k : Token) (ks : List Token) → Facing E s o t h v sw k ks → E.pf + open_size o t h + laid_by k ≤ E.limit
 step_room E s o t h v sw k ks x = let r = x.point.room in omega arith

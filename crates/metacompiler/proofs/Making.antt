@@ -93,7 +93,7 @@ pub write_settled : (left : ℕ) (s new : State) (d : Disk) (u : ℕ) (unread : 
 write_settled zero s new d u unread disk act asks some h = absurd (omega (arith, some))
 write_settled (suc n) s new d u unread disk act asks some h = settled (suc n) s new d (request.Write u) unread disk act asks (λ go. let e : (suc n == 0) ≡ false = grind arith in ap (λ b. if b then out s.parts d (suc n) Limit else by_device (suc n) go s d (request.Write u)) e) h
 
--- where nothing is answered
+-- if nothing is answered
 abbrev pub stop_of : (left : ℕ) → Request → Option Stop
 stop_of left (request.Read u) = if left == 0 then Some Limit else None
 stop_of left (request.Write u) = if left == 0 then Some Limit else None

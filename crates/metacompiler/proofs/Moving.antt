@@ -28,7 +28,7 @@ one_move p t (Some z) some own ok e = record { moves = t ∷ []; rounds = (some,
 led_then : (p m q : Stage) (y : Option Stop) → LeadsTo p m None → LeadsTo m q y → LeadsTo p q y
 led_then p m q y f g = grind arith
 
--- where no tick is left
+-- if no tick is left
 pub none_left : (p : Stage) → p.left ≡ 0 → IsLed p p (Some Limit)
 unfolding AreRounds
 none_left p e = record { goes = tt; leads = record { moves = []; rounds = (e, refl, refl) } }
@@ -89,7 +89,7 @@ pub no_more : (word screen : ℕ) (m : Stage) (All : Stage → Stop → Type 0) 
 unfolding AreRead
 no_more word screen m All h = h.on m Ended (refl, refl)
 
--- a refusal, where no screen is read
+-- a refusal, if no screen is read
 pub refused_saved : (o : Result ℕ LoadFault) (r : Result Contents LoadFault) (P : Type 0) → IfErr o (λ c. (r ≡ Err c) × P) → IfErr o (λ c. IsSaved (Err c) r × P)
 refused_saved o r P h = grind arith
 

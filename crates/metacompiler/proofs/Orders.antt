@@ -18,7 +18,7 @@ use Rattle.dictionary.proofs.NewCounts.{length_new, hidden_new}
 use Rattle.dictionary.proofs.Fronted.{Fronted, HeadersApart, ChainApart, headers_same, head_same, chain_more, cuts, HeaderApart, header_same, sought_fronted}
 use Rattle.compiling_words.specs.Code.{runtime}
 use Rattle.colon_bodies.specs.Tree.{Definition}
-use Rattle.colon_bodies.specs.Code.{thread, all_size}
+use Rattle.colon_bodies.specs.Code.{whole_code, all_size}
 use Rattle.resident_bodies.specs.Definitions.{laid_definition, Agrees}
 use Rattle.resident_bodies.proofs.Controls.{thread_same}
 use Rattle.resident_bodies.proofs.Items.{written_is}
@@ -39,8 +39,8 @@ whole m view name here head extra =
 pub length-head : (v k c : ℕ) (name extra : List ℕ) → length (header_bytes v k c name 1 extra) ≡ 7 + length name + length extra
 length-head v k c name extra = length_header v k c 1 name extra
 
-pub whole_is : (m : List ℕ) (view : ℕ) (name : List ℕ) (here head : ℕ) (b : Definition) → Site m name here head → here + (7 + length name + length (thread (runtime m) b (here + (7 + length name)))) ≤ GREATEST_LIMIT
-    → laid_definition m view name b ≡ whole m view name here head (thread (runtime m) b (here + (7 + length name)))
+pub whole_is : (m : List ℕ) (view : ℕ) (name : List ℕ) (here head : ℕ) (b : Definition) → Site m name here head → here + (7 + length name + length (whole_code (runtime m) b (here + (7 + length name)))) ≤ GREATEST_LIMIT
+    → laid_definition m view name b ≡ whole m view name here head (whole_code (runtime m) b (here + (7 + length name)))
 whole_is m view name here head b s r = grind (arith, tops, length-head, written_is)
 
 -- its place: HERE, a head, and room
@@ -200,14 +200,14 @@ whole_agrees m n name extra view here head f g dn k a =
       ];
     }
 
-pub laid_agrees : (m n name : List ℕ) (view here head : ℕ) (b : Definition) → Site m name here head → Site n name here head → here + (7 + length name + length (thread (runtime n) b (here + (7 + length name)))) ≤ GREATEST_LIMIT → Agrees m n
+pub laid_agrees : (m n name : List ℕ) (view here head : ℕ) (b : Definition) → Site m name here head → Site n name here head → here + (7 + length name + length (whole_code (runtime n) b (here + (7 + length name)))) ≤ GREATEST_LIMIT → Agrees m n
     → Agrees (laid_definition m view name b) (laid_definition n view name b)
 laid_agrees m n name view here head b s t r g =
     let pf = here + (7 + length name) in
     let hl = head_low head here s.low s.placed in
     let ctl : (k : ℕ) → k < 32 → runtime m k ≡ runtime n k = λ k l. agrees_cell m n (64 + 2 * k) g (omega arith) (omega arith) (omega arith) in
-    let extra = thread (runtime n) b pf in
-    let bytes_are : thread (runtime m) b pf ≡ extra = thread_same (runtime m) (runtime n) b pf ctl in
+    let extra = whole_code (runtime n) b pf in
+    let bytes_are : whole_code (runtime m) b pf ≡ extra = thread_same (runtime m) (runtime n) b pf ctl in
     let ek : cell m head ≡ cell n head = agrees_cell m n head g (omega arith) (omega (arith, hl.0)) (omega (arith, hl.1)) in
     let fm : Fits m name here head (length extra) = record { all = s.all; short = s.short; low = s.low; high = r; placed = s.placed } in
     let left : laid_definition m view name b ≡ whole m view name here head extra =
@@ -398,7 +398,7 @@ pub orderly_kept : {limit : ℕ} (ws : Words) (a cur ctx most here view : ℕ) (
     → Orderly limit ws a cur ctx (suc most) (here + (7 + length name + (all_size b + 2))) (laid_definition n view name b)
 orderly_kept {limit} ws a cur ctx most here view n name b g l s h =
     let pf = here + (7 + length name) in
-    let extra = thread (runtime n) b pf in
+    let extra = whole_code (runtime n) b pf in
     let k = length-extra (runtime n) b pf in
     let fit = fits_orderly ws a cur ctx most here (length extra) n name g s (omega arith) in
     subst (λ (x : List ℕ). Orderly limit ws a cur ctx (suc most) (here + (7 + length name + (all_size b + 2))) x) (sym (whole_is n view name here (head_of cur name) b (orderly_site ws a cur ctx most here n name g s) (omega arith)))

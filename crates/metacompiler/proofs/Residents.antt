@@ -15,7 +15,7 @@ use Rattle.block_buffers.proofs.Kept.{length-start}
 use Rattle.colon_bodies.specs.Code.{all_size}
 use Rattle.image_loader.specs.Files.{Contents, IsImage}
 use Rattle.machine_parts.specs.Whole.{Whole}
-use Rattle.machine.specs.State.{start}
+use Rattle.machine.specs.State.{loaded_state}
 use Rattle.source_words.specs.declared.modes.Mode.TheVariants.{Outside}
 use Rattle.source_words.specs.Words.{SourceWord, words_of_screens, source_words}
 use Rattle.image_builder.specs.Sources.{source_of}
@@ -360,7 +360,7 @@ same_context m es = grind arith
 -- INTERPRET is found
 
 answer_of : {limit : ℕ} (image : Contents) (d : Disk) (from to ticks : ℕ) (ws : Words) (a : ℕ) (n : List ℕ) (context : ℕ) → 0 < from → Resident limit ws a (memory_of image d)
-    → IsLaidOr image n context (by_out image.entry (memory_of image d) (screens ws.interpret (to + 1 - from) from ticks (start image (length d.blocks)).parts d)).answer
+    → IsLaidOr image n context (by_out image.entry (memory_of image d) (screens ws.interpret (to + 1 - from) from ticks (loaded_state image (length d.blocks)).parts d)).answer
     → IsLaidOr image n context (loaded_by_machine image d from to ticks).answer
 answer_of {limit} image d from to ticks ws a n context h r y = grind arith
 
@@ -380,7 +380,7 @@ agree image d from to ticks ws a es x = by (cases_lt to from)
     top = limit_most image.buffers x.image_is.buffers
 
     u : Whole
-    u = (start image (length d.blocks)).parts
+    u = (loaded_state image (length d.blocks)).parts
 
     m : List ℕ
     m = memory_of image d
@@ -424,7 +424,7 @@ answered_ok : (old : Contents) (n m : List ℕ) (o : Out) (context : ℕ) (parts
 answered_ok old n m o context parts disk k e x = rw e (saved_ok old m (restored n parts) context x)
 
 is_ok_of : {limit : ℕ} (image : Contents) (d : Disk) (from to ticks : ℕ) (ws : Words) (a : ℕ) → 0 < from → Resident limit ws a (memory_of image d)
-    → IsOk (by_out image.entry (memory_of image d) (screens ws.interpret (to + 1 - from) from ticks (start image (length d.blocks)).parts d)).answer
+    → IsOk (by_out image.entry (memory_of image d) (screens ws.interpret (to + 1 - from) from ticks (loaded_state image (length d.blocks)).parts d)).answer
     → IsOk (loaded_by_machine image d from to ticks).answer
 is_ok_of {limit} image d from to ticks ws a h r y = grind arith
 
@@ -444,7 +444,7 @@ enough image d from to ws a es x = by (cases_lt to from)
     top = limit_most image.buffers x.image_is.buffers
 
     u : Whole
-    u = (start image (length d.blocks)).parts
+    u = (loaded_state image (length d.blocks)).parts
 
     m : List ℕ
     m = memory_of image d

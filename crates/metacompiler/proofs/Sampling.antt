@@ -5,7 +5,7 @@ use Rattle.memory.specs.declared.system.TheConstants.{CURRENT, DP}
 use Rattle.colon_bodies.specs.Tokens.{NAME, SEMI}
 use Rattle.colon_bodies.specs.declared.words.Half.TheVariants.{Free}
 use Rattle.source_words.specs.Modes.{begins_body, begins_comment, ends_body, names_in_body, names_outside, takes_text}
-use Rattle.source_words.specs.Words.{SourceWord, source_words, words_of_screens, screen_words, words_from, is_comment, has_text, size_of, word_of, name_of, before}
+use Rattle.source_words.specs.Words.{SourceWord, source_words, words_of_screens, screen_words, words_from, is_comment, has_text, size_of, word_of, front_word, before}
 use Rattle.image_builder.specs.Spelled.{choosing, counting, ending, figure_of, keyword, naming, repeating, saying, sense_of_word}
 use Rattle.metacompiler.specs.Meaning.{token_of}
 use Rattle.metacompiler.specs.Sample.{IsCalled, square, square_screen}
@@ -17,7 +17,7 @@ plain screen offset name = record { screen = screen; offset = offset; name = nam
 -- the screen's words
 read : (screen : ℕ) → source_words screen (square_screen ∷ []) ≡
     plain screen 0 (codes ":") ∷ plain screen 2 (codes "SQ") ∷ plain screen 5 (codes "DUP") ∷ plain screen 9 (codes "*") ∷ plain screen 11 (codes ";") ∷ []
-unfolding plain square_screen words_of_screens screen_words words_from is_comment has_text size_of word_of name_of before begins_body begins_comment ends_body names_in_body names_outside takes_text
+unfolding plain square_screen words_of_screens screen_words words_from is_comment has_text size_of word_of front_word before begins_body begins_comment ends_body names_in_body names_outside takes_text
 read screen = refl
 
 -- a word that is no keyword is what its name is found as

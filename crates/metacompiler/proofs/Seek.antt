@@ -9,8 +9,8 @@ use Rattle.std.proofs.lemmas.Slice.Eq.{bytes_eq-Decides}
 use Rattle.input_source.specs.Words.{next_delimiter, behind, parsed, bytes_of, IsNextWord, parsed_in, IsTaken}
 use Rattle.input_source.proofs.WordLaw.{word_law, taken-parsed}
 use Rattle.source_words.specs.declared.modes.Mode.{Mode}
-use Rattle.source_words.specs.Modes.{is_name_due, is_body, takes_text, begins_comment, after}
-use Rattle.source_words.specs.Words.{SourceWord, before, name_of, behind_name, enclosed, enclosing, is_comment, has_text, word_of, size_of, words_at, screen_words, after_words, words_of_screens}
+use Rattle.source_words.specs.Modes.{is_name_due, is_body, takes_text, begins_comment, mode_after}
+use Rattle.source_words.specs.Words.{SourceWord, before, front_word, behind_name, enclosed, enclosing, is_comment, has_text, word_of, size_of, words_at, screen_words, after_words, words_of_screens}
 use Rattle.source_words.proofs.Places.{none_at, blank_at, comment_at, word_at as word_there}
 use Rattle.block_buffers.specs.Disks.{block_at, Disk, succeeds, called, next_fails}
 use Rattle.source_words.proofs.Standings.{words_stand}
@@ -77,8 +77,8 @@ behind_or m sc e text = grind (arith, behind_of, past, behind_end)
 len_is : (text : List ℕ) (p : ℕ) → (next text p).len ≡ before 32 (drop (next text p).at text)
 len_is text p = let d = delimiter_is text (next text p).at 32 in omega arith
 
-name_is : (text : List ℕ) (p : ℕ) → name_of (drop (next text p).at text) ≡ name text p
-unfolding name_of
+name_is : (text : List ℕ) (p : ℕ) → front_word (drop (next text p).at text) ≡ name text p
+unfolding front_word
 name_is text p = ap (λ k. take k (drop (next text p).at text)) (sym (len_is text p))
 
 next_is : (text : List ℕ) (p : ℕ) → (next text p).next ≡ behind text ((next text p).at + (next text p).len)
@@ -152,40 +152,40 @@ abbrev pub text_spot : (sc p : ℕ) → List ℕ → SourceWord
 text_spot sc p text = record { screen = sc; offset = (next text p).at; name = name text p; text = Some (bytes_of text (parsed text (next text p).next 34)) }
 
 next_word : (m : Mode) (sc p : ℕ) (text : List ℕ) → p ≤ length text → ((next text p).len == 0) ≡ false → (not (is_name_due m) && begins_comment (name text p)) ≡ false
-    → words_at m sc p text ≡ word_of m sc (next text p).at (drop (next text p).at text) ∷ words_at (after m (name text p)) sc ((next text p).at + size_of m (drop (next text p).at text)) text
+    → words_at m sc p text ≡ word_of m sc (next text p).at (drop (next text p).at text) ∷ words_at (mode_after m (name text p)) sc ((next text p).at + size_of m (drop (next text p).at text)) text
 unfolding is_comment
 next_word m sc p text h z c = grind (arith, met, skipped, word_there, not, name_is)
 
 -- a word without a text is next
 pub word_left : (m : Mode) (sc p : ℕ) (text : List ℕ) → p ≤ length text → ((next text p).len == 0) ≡ false → (not (is_name_due m) && begins_comment (name text p)) ≡ false → (is_body m && takes_text (name text p)) ≡ false
-    → words_at m sc p text ≡ plain_spot sc p text ∷ words_at (after m (name text p)) sc (next text p).next text
+    → words_at m sc p text ≡ plain_spot sc p text ∷ words_at (mode_after m (name text p)) sc (next text p).next text
 unfolding word_of size_of has_text
 word_left m sc p text h z c x = grind (arith, name_is, next_word, len_is, ends_blank)
 
 -- a word with its text is next
 pub text_left : (m : Mode) (sc p : ℕ) (text : List ℕ) → p ≤ length text → ((next text p).len == 0) ≡ false → (not (is_name_due m) && begins_comment (name text p)) ≡ false → (is_body m && takes_text (name text p)) ≡ true
-    → words_at m sc p text ≡ text_spot sc p text ∷ words_at (after m (name text p)) sc (parsed text (next text p).next 34).next text
+    → words_at m sc p text ≡ text_spot sc p text ∷ words_at (mode_after m (name text p)) sc (parsed text (next text p).next 34).next text
 unfolding word_of size_of has_text
 text_left m sc p text h z c x = grind (arith, name_is, encloses, next_word)
 
 -- The words that are left, after a word that the machine has met.
 
 -- after a word of a screen
-left_behind : (m : Mode) (blocks : List (List ℕ)) (b p q more : ℕ) (v : SourceWord) → words_at m b p (block_at blocks b) ≡ v ∷ words_at (after m v.name) b q (block_at blocks b)
-    → words_left m blocks b p more ≡ v ∷ words_left (after m v.name) blocks b q more
+left_behind : (m : Mode) (blocks : List (List ℕ)) (b p q more : ℕ) (v : SourceWord) → words_at m b p (block_at blocks b) ≡ v ∷ words_at (mode_after m v.name) b q (block_at blocks b)
+    → words_left m blocks b p more ≡ v ∷ words_left (mode_after m v.name) blocks b q more
 unfolding after_words
 left_behind m blocks b p q more v e = ap (λ ws. ws ++ words_of_screens (after_words m ws) (b + 1) (take more (drop (b + 1) blocks))) e
 
 pub left_word : (m : Mode) (blocks : List (List ℕ)) (b p more : ℕ) → let text = block_at blocks b in
     length text ≡ 1024 → p ≤ 1024 → ((next text p).len == 0) ≡ false → (not (is_name_due m) && begins_comment (name text p)) ≡ false → (is_body m && takes_text (name text p)) ≡ false
-    → words_left m blocks b p more ≡ plain_spot b p text ∷ words_left (after m (name text p)) blocks b (next text p).next more
+    → words_left m blocks b p more ≡ plain_spot b p text ∷ words_left (mode_after m (name text p)) blocks b (next text p).next more
 left_word m blocks b p more l h z c x =
     let text = block_at blocks b in
     left_behind m blocks b p (next text p).next more (plain_spot b p text) (word_left m b p text (omega arith) z c x)
 
 pub left_text : (m : Mode) (blocks : List (List ℕ)) (b p more : ℕ) → let text = block_at blocks b in
     length text ≡ 1024 → p ≤ 1024 → ((next text p).len == 0) ≡ false → (not (is_name_due m) && begins_comment (name text p)) ≡ false → (is_body m && takes_text (name text p)) ≡ true
-    → words_left m blocks b p more ≡ text_spot b p text ∷ words_left (after m (name text p)) blocks b (parsed text (next text p).next 34).next more
+    → words_left m blocks b p more ≡ text_spot b p text ∷ words_left (mode_after m (name text p)) blocks b (parsed text (next text p).next 34).next more
 left_text m blocks b p more l h z c x =
     let text = block_at blocks b in
     left_behind m blocks b p (parsed text (next text p).next 34).next more (text_spot b p text) (text_left m b p text (omega arith) z c x)

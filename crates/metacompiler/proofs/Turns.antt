@@ -171,7 +171,7 @@ answer_step left go u s j w b d h p = rw h (rw (not_zero j p) refl)
 request_step : (k : ℕ) (go : Whole → Disk → Out) (u : Whole) (s : List ℕ) (i j w b : ℕ) (d : Disk) → ticked (at u s i) ≡ waiting (at u s j) (Read b) w → succeeds d b ≡ true → 0 < j → (let t = ticked (at u s i) in by_tick (suc k) go t.0 d t.1.event) ≡ go (due (brought u b (block_at d.blocks b)) s j w) (called d)
 request_step k go u s i j w b d e h p = let z : (suc k == 0) ≡ false = grind arith in rw e (rw z (answer_step (suc k) go u s j w b d h p))
 
--- a tick that asks for a block, the answer, and what follows: at least one tick, as no answer comes where none is left
+-- a tick that asks for a block, the answer, and what follows: at least one tick, as no answer comes if none is left
 pub ask_step : (u : Whole) (s : List ℕ) (i j w b k : ℕ) (d : Disk) → ticked (at u s i) ≡ waiting (at u s j) (Read b) w → succeeds d b ≡ true → 0 < j → rounds (suc (suc k)) (at u s i) d ≡ rounds (suc k) (due (brought u b (block_at d.blocks b)) s j w) (called d)
 unfolding rounds
 ask_step u s i j w b k d e h p = request_step k (λ (u : Whole) (e : Disk). rounds (suc k) u e) u s i j w b d e h p
@@ -335,7 +335,7 @@ pub scan : (u : Whole) (b p x : ℕ) (text : List ℕ) → Reading u b p text �
 unfolding row row_in input
 scan u b p x text r = named_here u b p text takes r
 
--- where no word is left
+-- if no word is left
 pub takes_none : (t : Whole) (w : Word) (nm : List ℕ) → (w.len == 0) ≡ true → takes t w nm ≡ leaves_past t w (0 ∷ t.values)
 takes_none t w nm e = rw e refl
 

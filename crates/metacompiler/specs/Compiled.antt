@@ -5,7 +5,7 @@ use Rattle.block_buffers.specs.Disks.{Disk}
 use Rattle.image_loader.specs.Files.{Contents, IsImage}
 use Rattle.memory.specs.Bytes.{cell, limit_of}
 use Rattle.memory.specs.declared.system.TheConstants.{CONTEXT, CURRENT}
-use Rattle.machine.specs.State.{start}
+use Rattle.machine.specs.State.{loaded_state}
 use Rattle.image_builder.specs.Sources.{source_of, AreThere}
 use Rattle.metacompiler.specs.Loop.{Words}
 use Rattle.metacompiler.specs.Resident.{Resident}
@@ -15,9 +15,9 @@ use Rattle.metacompiler.specs.Loaded.{LoadFault, OutOfMemory, loaded_by_machine,
 
 -- the memory that an image is loaded to
 abbrev pub memory_of : Contents → Disk → List ℕ
-memory_of image d = (start image (length d.blocks)).parts.memory
+memory_of image d = (loaded_state image (length d.blocks)).parts.memory
 
--- the vocabulary that is searched first after these definitions: CURRENT's, where there is one
+-- the vocabulary that is searched first after these definitions: CURRENT's, if there is one
 abbrev pub context_behind : List ℕ → List ColonDefinition → ℕ
 context_behind m [] = cell m CONTEXT
 context_behind m (e ∷ es) = cell m CURRENT

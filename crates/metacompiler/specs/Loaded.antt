@@ -7,7 +7,7 @@ use Rattle.memory.specs.Bytes.{byte, cell, put_cell}
 use Rattle.memory.specs.declared.system.TheConstants.{STATE, DP, BLK, TO_IN, CONTEXT}
 use Rattle.machine_parts.specs.Whole.{Whole}
 use Rattle.machine_parts.specs.declared.faults.TheConstants.{BLOCK_ZERO}
-use Rattle.machine.specs.State.{start}
+use Rattle.machine.specs.State.{loaded_state}
 use Rattle.machine.specs.Entering.{can_save, saved}
 use Rattle.metacompiler.specs.Rounds.{Stop, Ended, Out, screens}
 use Rattle.metacompiler.specs.Rounds as rounds
@@ -71,14 +71,14 @@ loaded_on entry s d from to ticks = by_interpret entry s d from to ticks (interp
 -- they are loaded on an image
 abbrev pub loaded_by_machine : Contents → Disk → (from to ticks : ℕ) → Loaded
 loaded_by_machine image d from to ticks =
-    loaded_on image.entry (start image (length d.blocks)).parts d from to ticks
+    loaded_on image.entry (loaded_state image (length d.blocks)).parts d from to ticks
 
 -- this is answered, or that memory was not found
 abbrev pub IsSaved : Result Contents LoadFault → Result Contents LoadFault → Type 0
 IsSaved answer (Err OutOfMemory) = Unit {0}
 IsSaved answer result = result ≡ answer
 
--- the same of loading from this device, which is then as the rounds leave it; where memory was not found, it is as it was, or so
+-- the same of loading from this device, which is then as the rounds leave it; if memory was not found, it is as it was, or so
 abbrev pub IsLoaded : Disk → Loaded → Result Contents LoadFault → Option Disk → Type 0
 IsLoaded d o (Err OutOfMemory) disk = (disk ≡ Some d) ⊎ (disk ≡ Some o.disk)
 IsLoaded d o result disk = (result ≡ o.answer) × (disk ≡ Some o.disk)

@@ -29,7 +29,7 @@ pub record IsStep (step : (Whole → Disk → Out) → Out) (left : ℕ) (new : 
   pub step_is : (go : Whole → Disk → Out) → step go ≡ continued left go new told y
   pub goes : GoesOn new y
 
--- a request's answer, where one is given
+-- a request's answer, if one is given
 abbrev pub IsSettled : (left : ℕ) → State → Disk → Request → State → Option Disk → Option Stop → Type 0
 IsSettled left s d r new disk y = IsStep (λ go. by_request left go s d r) left new disk y
 

@@ -6,11 +6,11 @@ use Rattle.machine_parts.specs.declared.faults.TheConstants.{BLOCK_ZERO}
 use Rattle.machine_parts.specs.declared.parts.Request.TheVariants.{Read, Write}
 use Rattle.machine.specs.declared.act.Event.{Event}
 use Rattle.machine.specs.declared.act.Event.TheVariants as event
-use Rattle.machine.specs.State.{State, start}
+use Rattle.machine.specs.State.{State, loaded_state}
 use Rattle.machine.specs.Tick.{running, ticked}
 use Rattle.machine.specs.Answer.{answer_of}
 use Rattle.block_buffers.specs.DeviceCalls.{DeviceCall}
-use Rattle.inner_interpreter.specs.Moves.{Turn, Tick, Answer, Enter, turned, Accepts, device_call, is_entry}
+use Rattle.inner_interpreter.specs.Moves.{Turn, Tick, Answer, Enter, after_turn, Accepts, device_call, is_entry}
 use Rattle.metacompiler.specs.Rounds.{Stop, Ended, Limit, is_end, stop_by, entered}
 use Rattle.metacompiler.specs.Loaded as loaded
 use Rattle.metacompiler.specs.Loaded.{LoadFault, Asked, Fault, Halted, OutOfMemory, interpret_in, answered, fault_of, IsSaved}
@@ -26,9 +26,9 @@ stage s calls left = record { machine = s; calls = calls; left = left }
 
 -- after a move: a tick, or an answer, which may come from a call
 abbrev pub behind : Stage → Turn → Stage
-behind p Tick = stage (turned p.machine Tick) p.calls (p.left - 1)
-behind p (Answer reply) = stage (turned p.machine (Answer reply)) (p.calls ++ device_call p.machine (Answer reply)) p.left
-behind p (Enter word) = stage (turned p.machine (Enter word)) p.calls p.left
+behind p Tick = stage (after_turn p.machine Tick) p.calls (p.left - 1)
+behind p (Answer reply) = stage (after_turn p.machine (Answer reply)) (p.calls ++ device_call p.machine (Answer reply)) p.left
+behind p (Enter word) = stage (after_turn p.machine (Enter word)) p.calls p.left
 
 -- why rounds stop after a tick with this event, if they do: where the device is asked they go on
 abbrev pub stop_by_tick : State → Event → Option Stop
@@ -104,5 +104,5 @@ HasStopped word from to p machine calls result =
 -- so it is on an image, with at most so many ticks; or memory for the machine was not found, and no call was made
 abbrev pub HasLoaded : (word : ℕ) → Contents → (count from to ticks : ℕ) → (calls calls' : List DeviceCall) → Result Contents LoadFault → Type 0
 HasLoaded word image count from to ticks calls calls' result =
-    HasRead word image.entry from to (stage (start image count) calls ticks) calls' result
+    HasRead word image.entry from to (stage (loaded_state image count) calls ticks) calls' result
     ⊎ ((result ≡ Err OutOfMemory) × (calls' ≡ calls))

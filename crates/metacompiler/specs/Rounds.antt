@@ -61,7 +61,7 @@ abbrev pub by_device : ℕ → (Whole → Disk → Out) → State → Disk → R
 by_device left go s d r =
     let a = served s r [] d in let t = answer_of s a.reply in by_answer left go t.0 a.disk t.1.event
 
--- a request: of the device it is answered where a tick is left
+-- a request: of the device it is answered if a tick is left
 abbrev pub by_request : ℕ → (Whole → Disk → Out) → State → Disk → Request → Out
 by_request left go s d (Read u) = if left == 0 then out s.parts d left Limit else by_device left go s d (Read u)
 by_request left go s d (Write u) = if left == 0 then out s.parts d left Limit else by_device left go s d (Write u)
@@ -98,7 +98,7 @@ then_screens w (suc more) screen o =
 abbrev pub screens : (w count screen left : ℕ) → Whole → Disk → Out
 screens w count screen left s d = then_screens w count screen (out s d left Ended)
 
--- for want of ticks rounds stop only where all are done
+-- for want of ticks rounds stop only if all are done
 abbrev pub StopsForWant : Type 0
 StopsForWant =
     (w count screen n : ℕ) (s : Whole) (d : Disk) →

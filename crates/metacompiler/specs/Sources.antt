@@ -3,7 +3,7 @@ use Rattle.std.specs.Prelude.{◌≡◌, ◌≤◌, ◌<◌, ◌+◌, ℕ, false
 use Rattle.memory.specs.Bytes.{cell}
 use Rattle.memory.specs.declared.system.TheConstants.{DP, CURRENT}
 use Rattle.colon_bodies.specs.Tokens.{SEMI, AreShort}
-use Rattle.colon_bodies.specs.Tree.{Definition, all_words, all_depth}
+use Rattle.colon_bodies.specs.Tree.{Definition, all_words, all_nesting}
 use Rattle.colon_bodies.specs.Code.{all_size}
 use Rattle.colon_bodies.specs.declared.words.Half.TheVariants.{Free}
 use Rattle.source_words.specs.Modes.{begins_body, begins_comment}
@@ -47,7 +47,7 @@ pub record Defines (limit : ℕ) (m : List ℕ) (ws : List SourceWord) (e : Colo
   pub short : length e.title < 32
   pub free : IsFree e.title
   pub means : Means m (cell m CURRENT) Free inner (all_words e.body ++ SEMI ∷ []) rest
-  pub shallow : all_depth e.body ≤ 64
+  pub shallow : all_nesting e.body ≤ 64
   pub texts : AreShort (all_words e.body)
   pub room : cell m DP + (7 + length e.title + (all_size e.body + 2)) ≤ limit
 

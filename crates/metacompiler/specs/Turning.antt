@@ -63,7 +63,7 @@ pub record Spot : Type 0 where
 abbrev pub spot : Whole → Disk → (b more : ℕ) → Spot
 spot u f b more = record { parts = u; disk = f; screen = b; more = more }
 
--- so many ticks lead from one to the other, whatever comes then, where one tick more is left at least
+-- so many ticks lead from one to the other, whatever comes then, if one tick more is left at least
 pub record Leads (w : ℕ) (s t : Spot) : Type 0 where
   pub ticks : ℕ
   pub is : (k : ℕ) →

@@ -17,20 +17,20 @@ pub record Scanned (ws : Words) (a : ℕ) (u v : Whole) (d e : List ℕ) : Type 
   pub room : length d ≤ 250
   pub scanned : row INTERPRET ws.scan (at u d (a + 2)) ≡ (at v e (a + 2), Done)
 
--- six ticks where it compiled a word or a number
+-- six ticks if it compiled a word or a number
 abbrev pub CompiledIn6 : Type 0
 CompiledIn6 =
     (ws : Words) (a : ℕ) (u v : Whole) (f : Disk) (d : List ℕ) →
     Scanned ws a u v d (65535 ∷ d) → Goes 6 (at u d a) f (at v d a) f
 
--- eight where it left a word w, whose row does it
+-- eight if it left a word w, whose row does it
 abbrev pub ExecutedIn8 : Type 0
 ExecutedIn8 =
     (ws : Words) (a : ℕ) (u v z : Whole) (f : Disk) (d e : List ℕ) (w n : ℕ) →
     Scanned ws a u v d (1 ∷ w ∷ d) → cell v.memory w ≡ n → nat_lt n 256 ≡ true → Thread ws z.memory a
     → row n w (at v d (a + 16)) ≡ (at z e (a + 16), Done) → Goes 8 (at u d a) f (at z e a) f
 
--- four where no word was left, and the screen ends
+-- four if no word was left, and the screen ends
 abbrev pub EndedIn4 : Type 0
 EndedIn4 =
     (ws : Words) (a : ℕ) (u v : Whole) (f : Disk) (d : List ℕ) (k : ℕ) →

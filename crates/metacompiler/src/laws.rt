@@ -17,14 +17,14 @@ pub fn agree_law()
     ensures enough { Enough }
 {}
 
-/// For want of ticks rounds stop only where all are done.
+/// For want of ticks rounds stop only if all are done.
 #[tactic(auto, using(crate::proofs::Limits::limit_done))]
 pub fn limit_law()
     ensures all { StopsForWant }
 {}
 
-/// A turn of INTERPRET's loop takes at most eight ticks where (INTERPRET) takes one: six where it compiled, eight where
-/// it left a word whose row does it, and four where no word was left, which end the screen.
+/// A turn of INTERPRET's loop takes at most eight ticks if (INTERPRET) takes one: six if it compiled, eight if
+/// it left a word whose row does it, and four if no word was left, which end the screen.
 pub fn turn_law()
     ensures compiled { CompiledIn6 }
     ensures executed { ExecutedIn8 }

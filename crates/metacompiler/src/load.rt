@@ -30,7 +30,7 @@ pub enum LoadFault {
     /// A chain that is searched for it has more than 32,768 headers.
     #[error("ChainTooLong")]
     ChainTooLong,
-    /// A fault of the machine, of this number; 16 where the first screen is 0, which is the terminal's buffer.
+    /// A fault of the machine, of this number; 16 if the first screen is 0, which is the terminal's buffer.
     #[error("Fault {0}")]
     Fault(u16),
     /// The machine halted.
@@ -206,7 +206,7 @@ pub fn load_by_machine<D: Device>(
         IsLoaded d (loaded_by_machine image.now d from to limit) result (D.disk device.new) }
     ensures compiled { (d : Disk) → D.disk device.old ≡ Some d → Compiles image.now d from to result }
 
-    // Whatever the device is: where no INTERPRET is found or the first screen is 0, this is answered, and the device is as
+    // Whatever the device is: if no INTERPRET is found or the first screen is 0, this is answered, and the device is as
     // it was; else the screens are read by moves of the machine, up to the first that doesn't end.
     ensures refused { IfErr (word_of image.now from to) (λ c. IsSaved (Err c) result × (device.new ≡ device.old)) }
     ensures moved { IfOk (word_of image.now from to)

@@ -65,7 +65,7 @@ fn stop_by(machine: &LentMachine, event: Event) -> Option<Stop>
     }
 }
 
-/// A request is answered where it is one of the device, and a tick is left.
+/// A request is answered if it is one of the device, and a tick is left.
 #[tactic(auto, using(crate::proofs::Making::read_settled, crate::proofs::Making::write_settled, crate::proofs::Making::unsettled, crate::proofs::Moving::none_left))]
 fn settle<D: Device>(
     machine: &mut LentMachine,

@@ -91,7 +91,7 @@ behind_memory : (top a : ℕ) → top < 65536 → 65536 ≤ a → is_watched top
 unfolding is_watched
 behind_memory top a h k = grind (arith, common_steps)
 
--- the n addresses from at on, where none is watched: up to memory's end, and from its beginning on
+-- the n addresses from at on, if none is watched: up to memory's end, and from its beginning on
 pub unmet_first : (top at n : ℕ) → top < 65536 → at < 65536 → 0 < n → IsUnwatched top at n → is_met top at (at + n) ≡ false
 unmet_first top at n t h some f =
     unmet top at (at + n) (omega (arith, some)) (λ a x y. elim (cases_lt a 65536) [

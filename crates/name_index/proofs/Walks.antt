@@ -27,7 +27,7 @@ same_more top more k a b m le f other lo g name s n p h q = f other lo (agree_le
 pub same_by : (top k a b : ℕ) (m other : List ℕ) → Agree top m other → Same top m k a b → Same top other k a b
 same_by top k a b m other t f third lt g name s n p h q = f third lt (λ x w. g x w ∙ t x w) name s n p h q
 
--- one member: how many headers are looked at doesn't matter where it doesn't from its link on
+-- one member: how many headers are looked at doesn't matter if it doesn't from its link on
 steady_step : (m name : List ℕ) (l x n p : ℕ) (b : Bool) → is_named m name l ≡ b → cell m l ≡ x → x + 2 ≤ l → l ≤ 2 * n → l ≤ 2 * p
     → walked (is_named m name) m (n - 1) x ≡ walked (is_named m name) m (p - 1) x
     → walked (is_named m name) m n l ≡ walked (is_named m name) m p l

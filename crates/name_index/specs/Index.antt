@@ -35,7 +35,7 @@ pub record IsEmpty (index : NameIndex) : Type 0 where
   pub heads : index.heads ≡ replicate 4 0
   pub top : index.top ≡ 256
 
--- the end of the addresses at which a write may change what is kept. Sixteen where nothing is kept
+-- the end of the addresses at which a write may change what is kept. Sixteen if nothing is kept
 abbrev pub floor_of : NameIndex → ℕ
 floor_of index = if nat_lt 256 index.top then index.top else 16
 

@@ -28,7 +28,7 @@ fn is_admissible(link_field: u16, link: u16, end: u32, limit: u16) -> bool
 }
 
 /// Puts the members of a class's chain in the table, from `first` on down to the one that is known: in each slot the newest.
-/// How far the dictionary has to be watched for it; none where the known one isn't met by members that may be watched.
+/// How far the dictionary has to be watched for it; none if the known one isn't met by members that may be watched.
 fn admit_members(
     memory: &Memory,
     index: &mut NameIndex,
@@ -64,7 +64,7 @@ fn admit_members(
     if l == known { Some(top) } else { None }
 }
 
-/// Brings the slots of a class up to the member `first` of its chain. Where they can't be, nothing is kept any more, and the
+/// Brings the slots of a class up to the member `first` of its chain. If they can't be, nothing is kept any more, and the
 /// answer is false.
 #[tactic(auto, using(crate::proofs::Raised::holds_raised))]
 pub fn bring_up(memory: &Memory, index: &mut NameIndex, class: u8, first: u16, limit: u16) -> bool

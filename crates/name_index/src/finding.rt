@@ -13,7 +13,7 @@ use dictionary::{ChainTooLong, head_of, is_hidden, search_chain, search_in};
 use memory::Memory;
 use memory::system::{CONTEXT, FORTH_VOC};
 
-/// The first member of a chain from `start` on, or the second where the first is hidden, as one is that is being defined.
+/// The first member of a chain from `start` on, or the second if the first is hidden, as one is that is being defined.
 #[tactic(auto, using(crate::proofs::Passed::passes_hidden, crate::proofs::Passed::passes_none))]
 fn first_unhidden(memory: &Memory, start: u16) -> u16
     ensures { (name : List ℕ) → PassesTo (stored memory.now) name start result }

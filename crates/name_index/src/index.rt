@@ -86,7 +86,7 @@ impl NameIndex {
         self.wait = self.next_wait;
     }
 
-    /// Is beside a write of the `n` addresses from `at` on, which wrap: where one of them is watched, nothing is kept any
+    /// Is beside a write of the `n` addresses from `at` on, which wrap: if one of them is watched, nothing is kept any
     /// more.
     #[tactic(auto, using(crate::proofs::Holding::holds_beside))]
     pub fn note(&mut self, at: u16, n: u16)
@@ -100,7 +100,7 @@ impl NameIndex {
         }
     }
 
-    /// The least address at which a write changes nothing of what is kept: 16 where nothing is.
+    /// The least address at which a write changes nothing of what is kept: 16 if nothing is.
     #[tactic(auto, using(crate::proofs::Holding::holds_above))]
     pub fn floor(&self) -> u16
         ensures value { result ≡ floor_of self.now }
@@ -141,7 +141,7 @@ impl NameIndex {
         self.top
     }
 
-    /// Whether a chain is walked though the table could be made: where it was emptied lately.
+    /// Whether a chain is walked though the table could be made: if it was emptied lately.
     #[tactic(auto, using(crate::proofs::Holding::holds_same))]
     pub(crate) fn waits(&mut self) -> bool
         ensures holds { (limit : ℕ) (m : List ℕ) → Holds limit self.old m → Holds limit self.new m }

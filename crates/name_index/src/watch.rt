@@ -15,7 +15,7 @@ fn is_met(top: u16, start: u32, end: u32) -> bool
     DICTIONARY < top && start < u32::from(top) && u32::from(DICTIONARY) < end
 }
 
-/// Whether one of the `n` addresses from `at` on is watched, where the dictionary is watched below `top`. Addresses wrap.
+/// Whether one of the `n` addresses from `at` on is watched, if the dictionary is watched below `top`. Addresses wrap.
 pub fn is_touched(top: u16, at: u16, n: u16) -> bool
     ensures beside { result ≡ false → (a : ℕ) → is_watched top a ≡ true → IsBeside at n a }
     ensures unwatched { IsUnwatched top at n → result ≡ false }

@@ -117,13 +117,13 @@ pub a_file : (Of : Vec ℕ Global → Type 0) (file : Option (Vec ℕ Global)) (
 a_file Of (Some file) ended h e = refl
 a_file Of None ended h e = no_less ended e h
 
--- what is said of a file, and what is said of it where the writer did not fail
+-- what is said of a file, and what is said of it if the writer did not fail
 pub beside : (A B : Vec ℕ Global → Type 0) (failed : Bool) (file : Option (Vec ℕ Global)) → IfSome file A → (failed ≡ false → IfSome file B)
     → IfSome file (λ f. A f × (failed ≡ false → B f))
 beside A B failed (Some file) a b = (a, b)
 beside A B failed None a b = tt
 
--- all that was sent was passed on, and nothing was sent where there is a file
+-- all that was sent was passed on, and nothing was sent if there is a file
 pub passed_on : {W : Type 0} (sent : W → Option (List ℕ)) (status : ℕ) (failed passed : Bool) (w w' : W) (file : Option (Vec ℕ Global))
     → (IsSome file → w' ≡ w) → (failed ≡ false → IsNone file → passed ≡ true) → IsPassedOn status failed passed (sent w) (sent w')
 passed_on sent status failed passed w w' (Some file) silent told = λ other fine. inr (ap sent (silent refl))

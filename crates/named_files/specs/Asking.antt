@@ -20,7 +20,7 @@ abbrev pub given : Option (Bor (List ℕ)) → List (List ℕ)
 given None = []
 given (Some name) = name.now ∷ []
 
--- a step, and the answer: 0 where it was taken, and else the status with which it was refused
+-- a step, and the answer: 0 if it was taken, and else the status with which it was refused
 pub record Answered : Type 0 where
   pub step : Step
   pub status : ℕ

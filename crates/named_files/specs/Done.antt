@@ -52,7 +52,7 @@ abbrev pub ReadsBoth : (name bytes name' bytes' : List ℕ) → (old new : Done)
 ReadsBoth name bytes name' bytes' old new = new.read ≡ (old.read ++ (name, bytes) ∷ []) ++ (name', bytes') ∷ []
 
 -- a subcommand that takes these steps ended with a status. After 0 it asked for one thing more: that its file is written, such as it
--- must be; where that was refused, the program ends with the status of that, and nothing was written. After another status it asked for
+-- must be; if that was refused, the program ends with the status of that, and nothing was written. After another status it asked for
 -- nothing more.
 pub record Makes (steps : List Step) (name : List ℕ) (ended status : ℕ) (old new : Done) (Of : Vec ℕ Global → Type 0) : Type 0 where
   pub unmade : 0 < ended → (status ≡ ended) × Asks steps 0 old.asked new.asked

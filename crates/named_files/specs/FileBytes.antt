@@ -29,7 +29,7 @@ abbrev pub reading : (name : List ℕ) → Result (Vec ℕ Global) ℕ → FileL
 reading name (Ok bytes) files = record files { read = files.read ++ (name, bytes.items) ∷ [] }
 reading name (Err status) files = files
 
--- the same, where it may not exist
+-- the same, if it may not exist
 abbrev pub reading_old : (name : List ℕ) → Result (Option (Vec ℕ Global)) ℕ → FileLogs → FileLogs
 reading_old name (Ok (Some bytes)) files = record files { read = files.read ++ (name, bytes.items) ∷ [] }
 reading_old name _ files = files

@@ -19,7 +19,7 @@ use std::fs;
 use std::fs::File;
 use std::io::{BufReader, BufWriter, IsTerminal, Stdin};
 
-/// The files of the system, by the names that the command line has. Where one can't be used as it is named that is printed, and the
+/// The files of the system, by the names that the command line has. If one can't be used as it is named that is printed, and the
 /// program's status, which is not 0, is the error. Each thing that it is asked to do is noted with the answer. What it opens is handed
 /// back in the end, and noted with all that became of it: whoever opened one file of blocks and hands back one has handed back that.
 pub trait Files {
@@ -91,7 +91,7 @@ pub trait Files {
         ensures files { (log self.new).files ≡ opening Self.Blocks.block_count result (log self.old).files }
         ensures fresh { IfOk result (λ blocks. Self.Blocks.calls blocks ≡ []) };
 
-    /// The blocks of a run: those of the file, which is held against other runs, or none where it has no file.
+    /// The blocks of a run: those of the file, which is held against other runs, or none if it has no file.
     fn run_blocks(&mut self, blocks: Option<&str>) -> Result<Self::Blocks, u8>
         ensures asked { Answers (step deed.Open (given blocks.entry)) result (log self.old).asked (log self.new).asked }
         ensures files { (log self.new).files ≡ opening Self.Blocks.block_count result (log self.old).files }
@@ -143,17 +143,17 @@ pub trait Files {
         ensures asked { Answers (step deed.Read (name.now ∷ [])) result (log self.old).asked (log self.new).asked }
         ensures read { (log self.new).files ≡ reading name.now result (log self.old).files };
 
-    /// The bytes of a file of blocks that is to be replaced; none where it doesn't exist.
+    /// The bytes of a file of blocks that is to be replaced; none if it doesn't exist.
     fn old_blocks(&mut self, blocks: &str) -> Result<Vec<u8>, u8>
         ensures asked { Answers (step deed.Read (blocks.now ∷ [])) result (log self.old).asked (log self.new).asked }
         ensures read { (log self.new).files ≡ reading blocks.now result (log self.old).files };
 
-    /// The bytes of a file that is to be replaced, where it exists.
+    /// The bytes of a file that is to be replaced, if it exists.
     fn old_file(&mut self, name: &str) -> Result<Option<Vec<u8>>, u8>
         ensures asked { Answers (step deed.Read (name.now ∷ [])) result (log self.old).asked (log self.new).asked }
         ensures read { (log self.new).files ≡ reading_old name.now result (log self.old).files };
 
-    /// Writes a file whole, or makes it; where that fails, it is as it was.
+    /// Writes a file whole, or makes it; if that fails, it is as it was.
     fn write(&mut self, name: &str, bytes: &[u8]) -> Result<(), u8>
         ensures asked { Answers (step deed.Write (name.now ∷ [])) result (log self.old).asked (log self.new).asked }
         ensures written { (log self.new).files ≡ writing name.now bytes.now result (log self.old).files };
@@ -188,7 +188,7 @@ pub struct SystemFiles<'a> {
     is_trace_new: bool,
 }
 
-/// The status of an answer: 0 where what was asked was done.
+/// The status of an answer: 0 if what was asked was done.
 fn status_of<T>(answer: &Result<T, u8>) -> u8
     ensures { result ≡ asking.answer answer.now }
 {

@@ -17,7 +17,7 @@ fn found_in(rt: &HostRuntime, name: &str) -> Result<Holding, u8>
     }
 }
 
-/// Sees to it that an image isn't taken for a file of blocks. Where it would be that is printed, and the status is the error.
+/// Sees to it that an image isn't taken for a file of blocks. If it would be that is printed, and the status is the error.
 pub fn keep_blocks(rt: &HostRuntime, blocks: &str) -> Result<(), u8>
     ensures { IfErr result (λ status. 0 < status) }
 {
@@ -27,7 +27,7 @@ pub fn keep_blocks(rt: &HostRuntime, blocks: &str) -> Result<(), u8>
     }
 }
 
-/// Sees to it that an image isn't written over blocks. Where it would be that is printed, and the status is the error.
+/// Sees to it that an image isn't written over blocks. If it would be that is printed, and the status is the error.
 pub fn keep_image(rt: &HostRuntime, image: &str) -> Result<(), u8>
     ensures { IfErr result (λ status. 0 < status) }
 {
@@ -37,7 +37,7 @@ pub fn keep_image(rt: &HostRuntime, image: &str) -> Result<(), u8>
     }
 }
 
-/// Sees to it that a trace isn't written over blocks or an image. Where it would be that is printed, and the status is the
+/// Sees to it that a trace isn't written over blocks or an image. If it would be that is printed, and the status is the
 /// error.
 pub fn keep_trace(rt: &HostRuntime, trace: &str) -> Result<(), u8>
     ensures { IfErr result (λ status. 0 < status) }
@@ -52,7 +52,7 @@ pub fn keep_trace(rt: &HostRuntime, trace: &str) -> Result<(), u8>
     }
 }
 
-/// Sees to it that a new file isn't written over one that exists. Where it would be that is printed, and the status is the
+/// Sees to it that a new file isn't written over one that exists. If it would be that is printed, and the status is the
 /// error.
 pub fn keep_absent(rt: &HostRuntime, name: &str) -> Result<(), u8>
     ensures { IfErr result (λ status. 0 < status) }
@@ -77,7 +77,7 @@ fn is_one_file(rt: &HostRuntime, name: &str, other: &str) -> io::Result<bool> {
     }
 }
 
-/// Sees to it that a file isn't written over one that is read. Where they are the same file that is printed, with what they are,
+/// Sees to it that a file isn't written over one that is read. If they are the same file that is printed, with what they are,
 /// and the status is the error.
 pub fn keep_apart(rt: &HostRuntime, read: &str, written: &str, files: &str) -> Result<(), u8>
     ensures { IfErr result (λ status. 0 < status) }

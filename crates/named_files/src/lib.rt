@@ -1,4 +1,4 @@
-//! The files that the command line names, and the standard streams, as subcommands are handed them. Where one can't be used as
+//! The files that the command line names, and the standard streams, as subcommands are handed them. If one can't be used as
 //! it is named that is printed, and the program's status is the error.
 #![tactic(auto)]
 

@@ -15,7 +15,7 @@ use std::fs;
 use std::fs::File;
 use std::io::BufWriter;
 
-/// The bytes of an image's file. Where there are none it is printed why, and the status is the error.
+/// The bytes of an image's file. If there are none it is printed why, and the status is the error.
 pub fn image_bytes(rt: &HostRuntime, image: &str) -> Result<Vec<u8>, u8>
     ensures { IfErr result (λ status. 0 < status) }
 {
@@ -26,7 +26,7 @@ pub fn image_bytes(rt: &HostRuntime, image: &str) -> Result<Vec<u8>, u8>
     }
 }
 
-/// The blocks of a run's file, or none where it has no file. Where it can't be opened that is printed, and the status is the error.
+/// The blocks of a run's file, or none if it has no file. If it can't be opened that is printed, and the status is the error.
 pub fn run_blocks(rt: &HostRuntime, blocks: Option<&str>) -> Result<FileDevice, u8>
     ensures uncalled { IfOk result (λ device. ⟦<FileDevice as Device>⟧.calls device ≡ []) }
     ensures refused { IfErr result (λ status. 0 < status) }
@@ -41,7 +41,7 @@ pub fn run_blocks(rt: &HostRuntime, blocks: Option<&str>) -> Result<FileDevice, 
     }
 }
 
-/// The blocks of a run that is traced, and the file of its trace. Where one can't be opened that is printed, and the status is the error.
+/// The blocks of a run that is traced, and the file of its trace. If one can't be opened that is printed, and the status is the error.
 pub fn run_traced(
     rt: &HostRuntime,
     blocks: Option<&str>,
@@ -57,7 +57,7 @@ pub fn run_traced(
     Ok((device, lines))
 }
 
-/// The file of blocks that is only read. Where it can't be opened that is printed, and the status is the error.
+/// The file of blocks that is only read. If it can't be opened that is printed, and the status is the error.
 pub fn read_alone(rt: &HostRuntime, blocks: &str) -> Result<FileDevice, u8>
     ensures uncalled { IfOk result (λ device. ⟦<FileDevice as Device>⟧.calls device ≡ []) }
     ensures refused { IfErr result (λ status. 0 < status) }
@@ -69,7 +69,7 @@ pub fn read_alone(rt: &HostRuntime, blocks: &str) -> Result<FileDevice, u8>
     }
 }
 
-/// The bytes of a file. Where it can't be read that is printed, and the status is the error.
+/// The bytes of a file. If it can't be read that is printed, and the status is the error.
 pub fn file_bytes(rt: &HostRuntime, name: &str) -> Result<Vec<u8>, u8>
     ensures { IfErr result (λ status. 0 < status) }
 {
@@ -79,7 +79,7 @@ pub fn file_bytes(rt: &HostRuntime, name: &str) -> Result<Vec<u8>, u8>
     }
 }
 
-/// The bytes of a file, if it exists. Where they can't be read that is printed, and the status is the error.
+/// The bytes of a file, if it exists. If they can't be read that is printed, and the status is the error.
 pub fn old_file(rt: &HostRuntime, name: &str) -> Result<Option<Vec<u8>>, u8>
     ensures { IfErr result (λ status. 0 < status) }
 {
@@ -90,7 +90,7 @@ pub fn old_file(rt: &HostRuntime, name: &str) -> Result<Option<Vec<u8>>, u8>
     }
 }
 
-/// The bytes of a file of blocks that is to be replaced; none where it doesn't exist. Where they can't be read that is printed,
+/// The bytes of a file of blocks that is to be replaced; none if it doesn't exist. If they can't be read that is printed,
 /// and the status is the error.
 pub fn old_blocks(rt: &HostRuntime, blocks: &str) -> Result<Vec<u8>, u8>
     ensures { IfErr result (λ status. 0 < status) }
@@ -101,7 +101,7 @@ pub fn old_blocks(rt: &HostRuntime, blocks: &str) -> Result<Vec<u8>, u8>
     }
 }
 
-/// A file that is to be replaced, held against other runs for as long as it is open; none where it doesn't exist. Where another
+/// A file that is to be replaced, held against other runs for as long as it is open; none if it doesn't exist. If another
 /// run has it that is printed, and the status is the error.
 pub fn held(rt: &HostRuntime, name: &str) -> Result<Option<File>, u8>
     ensures { IfErr result (λ status. 0 < status) }
@@ -112,7 +112,7 @@ pub fn held(rt: &HostRuntime, name: &str) -> Result<Option<File>, u8>
     }
 }
 
-/// Writes a file whole, or makes it. Where that fails it is as it was, that is printed, and the status is the error.
+/// Writes a file whole, or makes it. If that fails it is as it was, that is printed, and the status is the error.
 pub fn write(rt: &HostRuntime, name: &str, bytes: &[u8]) -> Result<(), u8>
     ensures { IfErr result (λ status. 0 < status) }
 {

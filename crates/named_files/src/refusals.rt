@@ -1,4 +1,4 @@
-//! What is printed where a file can't be used as it is named.
+//! What is printed if a file can't be used as it is named.
 
 ghost use Rattle.std.specs.Prelude.{◌≡◌, ◌<◌, ◌⊎◌};
 
@@ -6,7 +6,7 @@ use file_access::Unopened;
 use std::io;
 use std::io::ErrorKind;
 
-/// Prints a line of the program's own, and answers the status: 5 where it can't be written.
+/// Prints a line of the program's own, and answers the status: 5 if it can't be written.
 pub fn say<R: Print>(rt: &R, text: &str, name: &str, status: u8) -> u8
     ensures { (result ≡ status) ⊎ (result ≡ 5) }
 {

@@ -25,7 +25,7 @@ pub enum Deed {
     Read,
     /// To write a file whole.
     Write,
-    /// To open the blocks of a run: those of a file, to be read and written, or none where no file is named.
+    /// To open the blocks of a run: those of a file, to be read and written, or none if no file is named.
     Open,
     /// To open a file of blocks, to be read alone.
     OpenToRead,

@@ -17,7 +17,7 @@ fn is_closed(rt: &HostRuntime) -> bool {
 }
 
 /// Standard output. What a terminal is shown is written at once, so that a run can be watched, and stopped at any time;
-/// where it is closed, that too is seen at once. Lack of memory is printed, and the status is the error.
+/// if it is closed, that too is seen at once. Lack of memory is printed, and the status is the error.
 pub fn standard_output(rt: &HostRuntime) -> Result<Writing<BufWriter<Stdout>>, u8>
     ensures fresh { IfOk result (λ writer. (⟦<Writing<BufWriter<Stdout>> as Output>⟧.sent writer ≡ Some [])
         × (⟦<Writing<BufWriter<Stdout>> as Output>⟧.failed writer ≡ false)) }

@@ -11,7 +11,7 @@ is_base base = nat_le 2 base && nat_le base 72
 abbrev pub byte_of : ℕ → ℕ
 byte_of d = if nat_lt d 10 then 48 + d else 55 + d
 
--- the digit that a byte shows; 65,536, which is below no base, where the byte comes before `0`, or between `9` and `A`
+-- the digit that a byte shows; 65,536, which is below no base, if the byte comes before `0`, or between `9` and `A`
 unfoldable pub digit : ℕ → ℕ
 digit byte =
     if nat_lt byte 48 then 65536 else if nat_lt byte 58 then byte - 48 else if nat_lt byte 65 then 65536 else byte - 55

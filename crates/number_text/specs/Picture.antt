@@ -19,7 +19,7 @@ opened m = put_cell m HLD (pad m)
 unfoldable pub held : List ℕ → ℕ → List ℕ
 held m byte = put_byte (put_cell m HLD (difference (cell m HLD) 1)) (difference (cell m HLD) 1) byte
 
--- a `-` is held where the cell n is negative
+-- a `-` is held if the cell n is negative
 unfoldable pub signed_picture : List ℕ → ℕ → List ℕ
 signed_picture m n = if is_negative n then held m 45 else m
 

@@ -12,7 +12,7 @@ use thiserror::Error;
 #[error("BASE is outside 2 to 72")]
 pub struct BadBase;
 
-/// BASE, where it is a base.
+/// BASE, if it is a base.
 #[tactic(auto, unfolding(crate::specs::Base::has_base))]
 pub(crate) fn base_of(memory: &Memory) -> Result<u16, BadBase>
     ensures { IsBaseOf (stored memory.now) result }

@@ -35,7 +35,7 @@ fn converted(memory: &Memory, number: u32, at: u16, base: u16) -> (u32, u16)
 /// Reads digits of BASE from `at + 1` on: each makes the number its product by BASE and the digit, modulo 2^32.
 ///
 /// The address is that of the first byte that is no digit below BASE, or `at` after 65,535 digits.
-/// `BadBase` where BASE is outside 2 to 72. This is CONVERT of the Standard.
+/// `BadBase` if BASE is outside 2 to 72. This is CONVERT of the Standard.
 #[tactic(auto, unfolding(crate::specs::Conversion::digits_behind, crate::specs::Conversion::address_behind))]
 pub fn convert(memory: &Memory, number: u32, at: u16) -> Result<(u32, u16), BadBase>
     ensures { IsConverted (stored memory.now) number at result }

@@ -5,7 +5,7 @@ ghost use Rattle.number_text.specs.Digits.{byte_of, digit, IsDigit, IsNoDigit, I
 
 /// The digit that a byte shows: `0` to `9` show 0 to 9, the bytes from `A` on 10 and more.
 ///
-/// None where the byte shows no digit below the base, whatever that is.
+/// None if the byte shows no digit below the base, whatever that is.
 #[tactic(auto, unfolding(crate::specs::Digits::digit))]
 pub fn digit_of(byte: u8, base: u16) -> Option<u8>
     ensures { MatchOption result (IsNoDigit base byte) (IsDigit base byte) }
@@ -39,7 +39,7 @@ pub fn byte_of_digit(digit: u8) -> u8
     }
 }
 
-/// The number with the digits of a text after its own, modulo 2^32. None where a byte shows no digit below the base.
+/// The number with the digits of a text after its own, modulo 2^32. None if a byte shows no digit below the base.
 #[tactic(auto, using(crate::proofs::Values::steps))]
 pub(crate) fn continued(start: u32, text: &[u8], base: u16) -> Option<u32>
     ensures { MatchOption result (AreNoDigits base text.now) (IsContinued base start text.now) }

@@ -43,7 +43,7 @@ pub fn hold(memory: &mut Memory, byte: u8)
     memory.set_byte(place, byte);
 }
 
-/// Puts `-` before the picture where `n` is negative as a signed cell. This is SIGN of the Standard.
+/// Puts `-` before the picture if `n` is negative as a signed cell. This is SIGN of the Standard.
 #[tactic(auto, unfolding(crate::specs::Picture::signed_picture))]
 pub fn sign(memory: &mut Memory, n: u16)
     ensures { stored memory.new ≡ signed_picture (stored memory.old) n }
@@ -63,7 +63,7 @@ fn lowest(number: u32, base: u32) -> u8
 
 /// Puts the lowest digit of a number in BASE before the picture, and answers the number divided by BASE.
 ///
-/// `BadBase`, with memory as it was, where BASE is outside 2 to 72. This is `#` of the Standard.
+/// `BadBase`, with memory as it was, if BASE is outside 2 to 72. This is `#` of the Standard.
 #[tactic(auto, unfolding(crate::specs::Picture::with_digit))]
 pub fn picture_digit(memory: &mut Memory, number: u32) -> Result<u32, BadBase>
     ensures { IsDigitPictured (stored memory.old) (stored memory.new) number result }
@@ -107,7 +107,7 @@ fn put_digits(memory: &mut Memory, end: u16, number: u32, base: u32)
 /// Puts all digits of a number in BASE before the picture, at least one: HLD is lowered by their count, and then
 /// they are written from its old value down, the lowest first.
 ///
-/// `BadBase`, with memory as it was, where BASE is outside 2 to 72. This is `#S` of the Standard.
+/// `BadBase`, with memory as it was, if BASE is outside 2 to 72. This is `#S` of the Standard.
 #[tactic(auto, using(crate::proofs::Pictures::pictures), unfolding(crate::specs::Picture::with_digits))]
 pub fn picture_digits(memory: &mut Memory, number: u32) -> Result<(), BadBase>
     ensures written { AreDigitsPictured (stored memory.old) (stored memory.new) number result }

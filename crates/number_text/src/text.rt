@@ -50,7 +50,7 @@ fn negated(value: u32, minus: bool) -> u32
 
 /// The number that a text spells in a base: an optional `-`, one or more digits below the base, an optional last `.`.
 ///
-/// With the `.` it is a double, modulo 2^32; else a single, the low 16 bits. None where the text spells no number.
+/// With the `.` it is a double, modulo 2^32; else a single, the low 16 bits. None if the text spells no number.
 #[tactic(auto, using(crate::proofs::Values::value_is), unfolding(crate::specs::Numbers::is_number, crate::specs::Numbers::is_double, crate::specs::Numbers::number_value))]
 pub fn number(text: &[u8], base: u16) -> Option<Number>
     ensures { MatchOption result (IsNoNumber base text.now) (IsNumber base text.now) }

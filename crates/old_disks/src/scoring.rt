@@ -36,7 +36,7 @@ pub fn is_title(line: &[u8]) -> bool {
     line.starts_with(b"( ") || line.starts_with(b"\\ ")
 }
 
-/// How many lines of a screen begin with a title where none should be: each second one but the first.
+/// How many lines of a screen begin with a title if none should be: each second one but the first.
 fn count_astray(screen: &[u8]) -> usize {
     screen
         .chunks(2 * LINE)

@@ -4,7 +4,7 @@ use Rattle.machine_parts.specs.Whole.{Whole}
 use Rattle.machine_parts.specs.Row.{After}
 use Rattle.machine_parts.specs.declared.parts.Outcome.TheVariants.{Fault, Abort, Ask}
 
--- a plain row asks nothing and leaves the buffers as they are; where it ends with a fault or with an abort, all is as it
+-- a plain row asks nothing and leaves the buffers as they are; if it ends with a fault or with an abort, all is as it
 -- was
 abbrev pub IsPlain : Whole → After → Type 0
 IsPlain s (t, Ask request) = ⊥

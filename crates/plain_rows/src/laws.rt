@@ -6,7 +6,7 @@ ghost use Rattle.plain_rows.specs.Plain.{IsPlain};
 ghost use Rattle.plain_rows.specs.Table.{control, stack, cells, doubles, memory};
 ghost use Rattle.machine_parts.specs.Whole.{Whole};
 
-/// A plain row asks nothing and leaves the buffers as they are. Where it ends with a fault or with an abort, all is as
+/// A plain row asks nothing and leaves the buffers as they are. If it ends with a fault or with an abort, all is as
 /// it was.
 pub fn plain_law()
     ensures control { (n w : ℕ) (s : Whole) → IsPlain s (control n w s) }

@@ -16,7 +16,7 @@ use Rattle.machine_parts.specs.declared.parts.Outcome.TheVariants as outcome
 use Rattle.machine_parts.specs.declared.parts.Request.TheVariants as request
 use Rattle.machine_parts.specs.declared.parts.Span.{Span}
 use Rattle.machine_parts.proofs.Shapes.{by_if, by_room, by_takes1, by_takes2, by_takes3}
-use Rattle.primitives.specs.Blocks.{has_block, without_block, write_of, with_block, fetches}
+use Rattle.primitives.specs.Blocks.{has_block, without_block, write_of, referenced, fetches}
 use Rattle.primitives.specs.Devices.{saves_victim, saves}
 use Rattle.primitives.specs.Names.{searches, forgets}
 use Rattle.std.specs.Prelude.{Result, Ok, Err}
@@ -41,9 +41,9 @@ asks_device _ = false
 -- where a row stops that needs these blocks, those before being referenced: at the first that no buffer has
 unfoldable pub missing : List ℕ → Whole → Option After
 missing [] s = None
-missing (u ∷ us) s = if has_block s u then missing us (with_block s u) else Some (s, without_block s u)
+missing (u ∷ us) s = if has_block s u then missing us (referenced s u) else Some (s, without_block s u)
 
--- a key is asked where its byte has room, and a line where its address and count exist
+-- a key is asked if its byte has room, and a line if its address and count exist
 abbrev pub AsksFitly : After → Type 0
 AsksFitly (t, outcome.Ask request.Key) = length t.values < 256
 AsksFitly (t, outcome.Ask (request.Line n)) = 2 ≤ length t.values
@@ -153,7 +153,7 @@ stops_behind s slot (t, outcome.Fault f) h = keeps_behind s t slot h
 stops_behind s slot (t, outcome.Abort span) h = keeps_behind s t slot h
 stops_behind s slot (t, outcome.Halt) h = tt
 
-behaves_referenced : (m : Option After) (s : Whole) (u : ℕ) (x : After) → Behaves m (with_block s u) x → Behaves m s x
+behaves_referenced : (m : Option After) (s : Whole) (u : ℕ) (x : After) → Behaves m (referenced s u) x → Behaves m s x
 behaves_referenced m s u x h = grind (arith, stops_behind, orderly_moved)
 
 -- a row that stops here
@@ -164,11 +164,11 @@ without_fitly : (s : Whole) (u : ℕ) → AsksFitly (s, without_block s u)
 unfolding without_block
 without_fitly s u = grind arith
 
-pub behaves_fetches : (us : List ℕ) (s : Whole) (u : ℕ) (f : Whole → ℕ → After) → ((slot : ℕ) → Behaves (missing us (with_block s u)) (with_block s u) (f (with_block s u) slot)) → Behaves (missing (u ∷ us) s) s (fetches s u f)
+pub behaves_fetches : (us : List ℕ) (s : Whole) (u : ℕ) (f : Whole → ℕ → After) → ((slot : ℕ) → Behaves (missing us (referenced s u)) (referenced s u) (f (referenced s u) slot)) → Behaves (missing (u ∷ us) s) s (fetches s u f)
 unfolding missing
 behaves_fetches us s u f h = by_test (has_block s u) where
-  by_test : (b : Bool) → Behaves (if b then missing us (with_block s u) else Some (s, without_block s u)) s (if b then f (with_block s u) (slot_of s.buffers u) else (s, without_block s u))
-  by_test true = behaves_referenced (missing us (with_block s u)) s u (f (with_block s u) (slot_of s.buffers u)) (h (slot_of s.buffers u))
+  by_test : (b : Bool) → Behaves (if b then missing us (referenced s u) else Some (s, without_block s u)) s (if b then f (referenced s u) (slot_of s.buffers u) else (s, without_block s u))
+  by_test true = behaves_referenced (missing us (referenced s u)) s u (f (referenced s u) (slot_of s.buffers u)) (h (slot_of s.buffers u))
   by_test false = stopped s (without_block s u) (without_fitly s u)
 
 pub behaves_reads : (us : List ℕ) (s : Whole) (f : Whole → Stream → After) → ((stream : Stream) → Behaves (missing us (with_stream s)) (with_stream s) (f (with_stream s) stream)) → Behaves (missing (stream_needs s ++ us) s) s (reads s f)

@@ -4,7 +4,7 @@ use Rattle.std.proofs.lemmas.List.{append-nil, take_all, take-append-le}
 use Rattle.std.proofs.lemmas.Bool.{cases_lt}
 use Rattle.std.proofs.Math.Seq.{take-append-add}
 
--- where the second piece is empty, the first is all
+-- if the second piece is empty, the first is all
 pub all_in_front : (xs ys : List ℕ) → length ys ≡ 0 → xs ++ ys ≡ xs
 all_in_front xs [] h = append-nil xs
 all_in_front xs (y ∷ ys) h = absurd (omega arith)

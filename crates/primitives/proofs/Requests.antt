@@ -13,7 +13,7 @@ use Rattle.machine_parts.specs.Row.{After}
 use Rattle.machine_parts.specs.declared.parts.Outcome.{Outcome}
 use Rattle.machine_parts.specs.declared.parts.Outcome.TheVariants as outcome
 use Rattle.machine_parts.specs.declared.parts.Request.TheVariants as request
-use Rattle.primitives.specs.Blocks.{has_block, without_block, write_of, with_block}
+use Rattle.primitives.specs.Blocks.{has_block, without_block, write_of, referenced}
 use Rattle.primitives.specs.Needs.{stream_needs, needed, most_requests}
 use Rattle.primitives.proofs.Behaves.{AreOrderly, asks_device, missing, given, saved, orderly_moved}
 use Rattle.primitives.specs.Table.{row}
@@ -63,9 +63,9 @@ fewer_absent : (s : Whole) (u : ℕ) (us : List ℕ) (o : Outcome) → AreOrderl
 fewer_absent s u us o h x5 = grind (arith, cost_absent, holds_unmarked, victim_saved, cost_held, holds_assigned, cost_most)
 
 -- after a block that a buffer has, one more that none has: it costs one less
-fewer_behind : (s : Whole) (u v : ℕ) (o : Outcome) → AreOrderly s.buffers → holds s.buffers u ≡ true → Asked (with_block s u) v o → cost (u ∷ v ∷ []) (answered o (with_block s u).buffers) < cost (u ∷ v ∷ []) s.buffers
+fewer_behind : (s : Whole) (u v : ℕ) (o : Outcome) → AreOrderly s.buffers → holds s.buffers u ≡ true → Asked (referenced s u) v o → cost (u ∷ v ∷ []) (answered o (referenced s u).buffers) < cost (u ∷ v ∷ []) s.buffers
 fewer_behind s u v o h k (Writes j q r) =
-    let b : List Entry = (with_block s u).buffers
+    let b : List Entry = (referenced s u).buffers
     in let x : ℕ = unwrap_or (victim b).block 0
     in let c : List Entry = unmarked x b
     in let moved : AreOrderly b = orderly_moved (slot_of s.buffers u) s.buffers h
@@ -75,7 +75,7 @@ fewer_behind s u v o h k (Writes j q r) =
     in let stays : moved_front (slot_of c u) c ≡ c = front_stays c u (are_unmarked x b moved.buffers) front
     in let behind : cost (u ∷ v ∷ []) c ≡ cost (v ∷ []) c = cost_held u (v ∷ []) c here ∙ ap (λ (es : List Entry). cost (v ∷ []) es) stays
     in let before : cost (u ∷ v ∷ []) s.buffers ≡ cost (v ∷ []) b = cost_held u (v ∷ []) s.buffers k
-    in let one : cost (v ∷ []) c < cost (v ∷ []) b = fewer_absent (with_block s u) v [] (write_of (victim b)) moved (Writes j q refl)
+    in let one : cost (v ∷ []) c < cost (v ∷ []) b = fewer_absent (referenced s u) v [] (write_of (victim b)) moved (Writes j q refl)
     in let less : cost (u ∷ v ∷ []) c < cost (u ∷ v ∷ []) s.buffers = omega (arith, behind, before, one)
     in subst P (sym r) less
 fewer_behind s u v o h k (Reads j q r) = grind (arith, orderly_moved, front_held, touched_block, holds_moved, holds_assigned, cost_held, cost_most, cost_absent)
@@ -88,7 +88,7 @@ missing_absent : (u : ℕ) (us : List ℕ) (s : Whole) → has_block s u ≡ fal
 unfolding missing
 missing_absent u us s h = rw h refl
 
-missing_held : (u : ℕ) (us : List ℕ) (s : Whole) → has_block s u ≡ true → missing (u ∷ us) s ≡ missing us (with_block s u)
+missing_held : (u : ℕ) (us : List ℕ) (s : Whole) → has_block s u ≡ true → missing (u ∷ us) s ≡ missing us (referenced s u)
 unfolding missing
 missing_held u us s h = rw h refl
 
@@ -126,7 +126,7 @@ two_at_most : (n : ℕ) (s : Whole) → length (needed n s) ≤ 2
 unfolding needed stream_needs
 two_at_most n s = grind arith
 
--- the same blocks are needed where the top cell, BLK and SCR are the same
+-- the same blocks are needed if the top cell, BLK and SCR are the same
 needed_same : (n : ℕ) (s t : Whole) → t.values ≡ s.values → cell t.memory BLK ≡ cell s.memory BLK → cell t.memory SCR ≡ cell s.memory SCR → needed n t ≡ needed n s
 unfolding needed stream_needs
 needed_same n s t v b c = rw (v, b, c) refl
@@ -165,7 +165,7 @@ absent_without t u v k q = by_asked (asked t v k (ap asks_device q)) where
 
 absent_missing : (us : List ℕ) (s t : Whole) (u : ℕ) → missing us s ≡ Some (t, outcome.Ask (request.Read u)) → holds t.buffers u ≡ false
 absent_missing [] s t u q = absurd (nothing s (t, outcome.Ask (request.Read u)) q)
-absent_missing (v ∷ us) s t u q = grind (arith, missing, missing_held, the_some, missing_absent, absent_without, absent_missing us (with_block s v) t u)
+absent_missing (v ∷ us) s t u q = grind (arith, missing, missing_held, the_some, missing_absent, absent_without, absent_missing us (referenced s v) t u)
 
 not_written : (e : Entry) (s : Whole) (x : After) (u : ℕ) → x.1 ≡ outcome.Ask (request.Read u) → Some (s, write_of e) ≡ Some x → ⊥
 not_written e s x u r q = grind (arith, the_some)
@@ -186,7 +186,7 @@ held_without t u v h k q = by_asked (asked t v k (ap asks_device q)) where
 
 held_missing : (us : List ℕ) (s t : Whole) (u : ℕ) → AreOrderly s.buffers → missing us s ≡ Some (t, outcome.Ask (request.Write u)) → holds t.buffers u ≡ true
 held_missing [] s t u h q = absurd (nothing s (t, outcome.Ask (request.Write u)) q)
-held_missing (v ∷ us) s t u h q = grind (arith, orderly_moved, missing, missing_held, the_some, missing_absent, held_without, held_missing us (with_block s v) t u (orderly_moved (slot_of s.buffers v) s.buffers h))
+held_missing (v ∷ us) s t u h q = grind (arith, orderly_moved, missing, missing_held, the_some, missing_absent, held_without, held_missing us (referenced s v) t u (orderly_moved (slot_of s.buffers v) s.buffers h))
 
 -- the entry whose block is written is in the list
 held_written : (e : Entry) (s t : Whole) (x : After) (u : ℕ) → x ≡ (t, outcome.Ask (request.Write u)) → holds s.buffers (unwrap_or e.block 0) ≡ true → Some (s, write_of e) ≡ Some x → holds t.buffers u ≡ true

@@ -10,7 +10,7 @@ use Rattle.machine_parts.proofs.Shapes.{by_if, by_room_or, by_takes1}
 use Rattle.machine_parts.proofs.Takes.{takes2_none, takes2_deep}
 use Rattle.stacks.specs.Cells.{◌▸◌}
 use Rattle.plain_rows.proofs.Plain.{plain_control, plain_stack, plain_cells, plain_doubles, plain_memory}
-use Rattle.primitives.specs.Blocks.{with_block, fetches}
+use Rattle.primitives.specs.Blocks.{referenced, fetches}
 use Rattle.primitives.specs.Needs.{reads_stream, is_about_screen, needed}
 use Rattle.primitives.specs.Devices.{saves_victim}
 use Rattle.primitives.specs.DictionaryRows.{leaves_past, creates}
@@ -59,15 +59,15 @@ behaves_112 s = by_values s.values where
   by_values [] = behaves_fault (missing [] s) s 1
   by_values (u ∷ d) =
       behaves_fetches [] s u (λ t slot. done (record t { values = address_of t.buffers slot ∷ d }))
-      (λ slot. behaves_done (missing [] (with_block s u)) (with_block s u) (record (with_block s u) { values = address_of (with_block s u).buffers slot ∷ d }) (λ k. k))
+      (λ slot. behaves_done (missing [] (referenced s u)) (referenced s u) (record (referenced s u) { values = address_of (referenced s u).buffers slot ∷ d }) (λ k. k))
 
 behaves_113 : (s : Whole) → Behaves (given s) s (row_113 s)
 behaves_113 s =
     by_takes1 (Behaves (given s) s) s _ (behaves_fault (given s) s 1)
     (λ u d. behaves_if (given s) s (nat_lt u s.block_count) _ _ (by_held u d (holds s.buffers u) refl) (behaves_fault (given s) s 7)) where
-      by_held : (u : ℕ) (d : List ℕ) (b : Bool) → holds s.buffers u ≡ b → Behaves (given s) s (if b then done (record (with_block s u) { values = address_of s.buffers (slot_of s.buffers u) ∷ d }) else saves_victim s (done (record s { values = address_of s.buffers (victim s.buffers).slot ∷ d; buffers = assigned u s.buffers })))
+      by_held : (u : ℕ) (d : List ℕ) (b : Bool) → holds s.buffers u ≡ b → Behaves (given s) s (if b then done (record (referenced s u) { values = address_of s.buffers (slot_of s.buffers u) ∷ d }) else saves_victim s (done (record s { values = address_of s.buffers (victim s.buffers).slot ∷ d; buffers = assigned u s.buffers })))
       by_held u d true q =
-          behaves_done (given s) s (record (with_block s u) { values = address_of s.buffers (slot_of s.buffers u) ∷ d }) (orderly_moved (slot_of s.buffers u) s.buffers)
+          behaves_done (given s) s (record (referenced s u) { values = address_of s.buffers (slot_of s.buffers u) ∷ d }) (orderly_moved (slot_of s.buffers u) s.buffers)
       by_held u d false q =
           behaves_saves_victim s (done (record s { values = address_of s.buffers (victim s.buffers).slot ∷ d; buffers = assigned u s.buffers }))
           (behaves_done None s (record s { values = address_of s.buffers (victim s.buffers).slot ∷ d; buffers = assigned u s.buffers }) (orderly_assigned u s.buffers q))

@@ -17,7 +17,7 @@ write_of e = Ask (Write (unwrap_or e.block 0))
 unfoldable pub has_block : Whole → ℕ → Bool
 has_block s u = nat_lt u s.block_count && holds s.buffers u
 
--- what comes where no buffer has block u: fault 7 where it is not available, else the victim's write where that is
+-- what comes if no buffer has block u: fault 7 if it is not available, else the victim's write if that is
 -- updated, else the block's read
 unfoldable pub without_block : Whole → ℕ → Outcome
 without_block s u =
@@ -25,17 +25,17 @@ without_block s u =
     else Fault NO_BLOCK
 
 -- block u is referenced
-abbrev pub with_block : Whole → ℕ → Whole
-with_block s u = record s { buffers = moved_front (slot_of s.buffers u) s.buffers }
+abbrev pub referenced : Whole → ℕ → Whole
+referenced s u = record s { buffers = moved_front (slot_of s.buffers u) s.buffers }
 
 -- a row that needs block u: goes on with it referenced, and its slot; else the row stops, and comes again once it is
 -- answered
 abbrev pub fetches : Whole → ℕ → (Whole → ℕ → After) → After
-fetches s u after = if has_block s u then after (with_block s u) (slot_of s.buffers u) else (s, without_block s u)
+fetches s u after = if has_block s u then after (referenced s u) (slot_of s.buffers u) else (s, without_block s u)
 
 -- what the code's fetch answers
 abbrev pub IsFetched : Whole → Whole → ℕ → Result ℕ Outcome → Type 0
 IsFetched old new u (Ok slot) =
-    IsTrue (has_block old u) × (new ≡ with_block old u)
+    IsTrue (has_block old u) × (new ≡ referenced old u)
     × (slot ≡ slot_of old.buffers u) × (slot < length new.buffers)
 IsFetched old new u (Err o) = IsFalse (has_block old u) × (new ≡ old) × (o ≡ without_block old u)

@@ -8,20 +8,20 @@ use Rattle.block_buffers.specs.Entries.{address_of, holds, slot_of, victim, assi
 use Rattle.memory.specs.Bytes.{put_cell}
 use Rattle.memory.specs.declared.system.TheConstants.{SPAN}
 use Rattle.stacks.specs.Cells.{◌▸◌}
-use Rattle.primitives.specs.Blocks.{write_of, fetches, with_block}
+use Rattle.primitives.specs.Blocks.{write_of, fetches, referenced}
 
 -- 112 BLOCK ( u -- a ): a is where block u is, which is fetched and referenced
 abbrev pub block : Whole → After
 block s = takes1 s (λ u rest. fetches s u (λ t slot. done (record t { values = rest ▸ address_of t.buffers slot })))
 
--- goes on where the victim isn't updated; else its write is asked
+-- goes on if the victim isn't updated; else its write is asked
 unfoldable pub saves_victim : Whole → After → After
 saves_victim s after = if (victim s.buffers).updated then (s, write_of (victim s.buffers)) else after
 
 -- 113 BUFFER ( u -- a ): as BLOCK, but that no bytes are read
 abbrev pub buffer : Whole → After
 buffer s = takes1 s (λ u rest. needs s NO_BLOCK (nat_lt u s.block_count) (
-    if holds s.buffers u then done (record (with_block s u) {
+    if holds s.buffers u then done (record (referenced s u) {
       values = rest ▸ address_of s.buffers (slot_of s.buffers u);
     })
     else saves_victim s (done (record s {
@@ -33,7 +33,7 @@ buffer s = takes1 s (λ u rest. needs s NO_BLOCK (nat_lt u s.block_count) (
 abbrev pub update : Whole → After
 update s = done (record s { buffers = front_marked s.buffers })
 
--- goes on where no buffer is updated; else the write of the updated one with the lowest slot is asked
+-- goes on if no buffer is updated; else the write of the updated one with the lowest slot is asked
 unfoldable pub saves : Whole → After → After
 saves s after = if has_updated s.buffers then (s, write_of (first_updated s.buffers)) else after
 
@@ -49,11 +49,11 @@ flush s = saves s (done (record s { buffers = unassigned s.buffers }))
 abbrev pub empty_buffers : Whole → After
 empty_buffers s = done (record s { buffers = unassigned s.buffers })
 
--- 118 KEY ( -- c ): where c will have room, its byte is asked
+-- 118 KEY ( -- c ): if c will have room, its byte is asked
 abbrev pub key : Whole → After
 key s = room s (s.values ▸ 0) (s, Ask Key)
 
--- 119 EXPECT ( a u -- ): a line is asked; where u is 0 none is, and SPAN := 0
+-- 119 EXPECT ( a u -- ): a line is asked; if u is 0 none is, and SPAN := 0
 abbrev pub expect : Whole → After
 expect s = takes2 s (λ a u rest.
     if u == 0 then done (record s { values = rest; memory = put_cell s.memory SPAN 0 })

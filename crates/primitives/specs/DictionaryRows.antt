@@ -17,7 +17,7 @@ use Rattle.machine_parts.specs.Row.{After, done, takes1, leaves, room}
 use Rattle.primitives.specs.Names.{counted_string, name_word, name_in, reads_name, searches, reads_word, forgets, admits_header}
 use Rattle.stacks.specs.Cells.{◌▸◌}
 
--- 147 FIND ( a -- a 0, w -1, w 1 ): the counted string at a; 1 where it is immediate
+-- 147 FIND ( a -- a 0, w -1, w 1 ): the counted string at a; 1 if it is immediate
 abbrev pub find : Whole → After
 find s = takes1 s (λ a rest. searches s (sought s.memory (counted_string s.memory a))
     (leaves s (rest ▸ a ▸ 0))

@@ -27,13 +27,13 @@ compiles_past t w bs = let d = t.values ▸ 65535 in
 abbrev pub executes : Whole → Bool
 executes t = cell t.memory STATE == 0
 
--- a header has the name: its word is left below 1 where it is immediate or words are executed; else it is compiled
+-- a header has the name: its word is left below 1 if it is immediate or words are executed; else it is compiled
 abbrev pub found_word : Whole → Word → ℕ → After
 found_word t word l = let w = compilation_address t.memory l in
     if is_immediate t.memory l || executes t then leaves_past t word (t.values ▸ w ▸ 1)
     else compiles_past t word (cell_bytes w)
 
--- a single number, or a double, is left below -1 where words are executed; else it is compiled
+-- a single number, or a double, is left below -1 if words are executed; else it is compiled
 abbrev pub single_word : Whole → Word → ℕ → After
 single_word t word x =
     if executes t then leaves_past t word (t.values ▸ x ▸ 65535) else compiles_past t word (literal_code t.memory x)
@@ -51,7 +51,7 @@ number_word t word name =
     (needs t NOT_FOUND (is_number (cell t.memory BASE) name)
     (if is_double name then double_word t word n else single_word t word (n % 65536)))
 
--- 149 (INTERPRET) ( -- 0, w 1, -1, n -1, d -1 ): 0 where the stream has no word more
+-- 149 (INTERPRET) ( -- 0, w 1, -1, n -1, d -1 ): 0 if the stream has no word more
 abbrev pub interpret : Whole → After
 interpret s = reads_name s (λ t word name.
     if word.len == 0 then leaves_past t word (t.values ▸ 0)

@@ -64,7 +64,7 @@ forgets s (Err NameLength) after = fault s BAD_LENGTH
 forgets s (Err NotFound) after = fault s NOT_FOUND
 forgets s (Err ChainTooLong) after = fault s CHAIN_TOO_LONG
 
--- goes on where a new header's name has 1 to 31 bytes (15), and the header fits with n bytes after it (8)
+-- goes on if a new header's name has 1 to 31 bytes (15), and the header fits with n bytes after it (8)
 abbrev pub admits_header : Whole → Word → ℕ → After → After
 admits_header t w n after =
     needs t BAD_LENGTH (nat_le 1 w.len && nat_le w.len 31)

@@ -16,7 +16,7 @@ reads_stream n = list_any (λ k. k == n)
 unfoldable pub is_about_screen : ℕ → Bool
 is_about_screen n = nat_le 200 n && nat_le n 204
 
--- the stream's block, where it is in one
+-- the stream's block, if it is in one
 unfoldable pub stream_needs : Whole → List ℕ
 stream_needs s = if cell s.memory BLK == 0 then [] else cell s.memory BLK ∷ []
 

@@ -22,7 +22,7 @@ pub fn fetch(parts: &mut Parts, u: u16) -> Result<usize, Outcome>
     }
 }
 
-/// What stops a row that needs block `u`, which no buffer has: fault 7 where it isn't available, else the request that
+/// What stops a row that needs block `u`, which no buffer has: fault 7 if it isn't available, else the request that
 /// comes first.
 #[tactic(auto, unfolding(crate::specs::Blocks::without_block))]
 pub fn without_block(parts: &Parts, u: u16) -> Outcome

@@ -3,7 +3,7 @@ use Rattle.std.proofs.Common.{◌≡◌, ℕ, ◌+◌, ◌<◌, ◌++◌, refl, 
 use Rattle.std.specs.Prelude.{true, false}
 use Rattle.memory.specs.Bytes.{cell_bytes}
 use Rattle.colon_bodies.specs.Tree.{Body, Empty, Call, Tick, Pair, Literal, Double, Text, IfThen, IfElse, Until, Again, While, Loop, Definition}
-use Rattle.colon_bodies.specs.Code.{size, code, all_code, thread}
+use Rattle.colon_bodies.specs.Code.{size, code, all_code, whole_code}
 
 abbrev pub AreSame : (ℕ → ℕ) → (ℕ → ℕ) → Type 0
 AreSame f g = (k : ℕ) → k < 32 → f k ≡ g k
@@ -28,5 +28,5 @@ code_same f g (Text t false bs) at h = rw (code_same f g t at h, h 16 (omega ari
 pub all_same : (f g : ℕ → ℕ) (d : Definition) (at : ℕ) → AreSame f g → all_code f d at ≡ all_code g d at
 all_same f g d at h = grind (arith, code_same, size)
 
-pub thread_same : (f g : ℕ → ℕ) (d : Definition) (at : ℕ) → ((k : ℕ) → k < 32 → f k ≡ g k) → thread f d at ≡ thread g d at
+pub thread_same : (f g : ℕ → ℕ) (d : Definition) (at : ℕ) → ((k : ℕ) → k < 32 → f k ≡ g k) → whole_code f d at ≡ whole_code g d at
 thread_same f g d at h = rw (all_same f g d at h, h 5 (omega arith)) refl

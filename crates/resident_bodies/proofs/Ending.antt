@@ -20,7 +20,7 @@ use Rattle.compiling_words.specs.Code.{runtime}
 use Rattle.compiling_words.specs.Definitions.{begun, ended}
 use Rattle.compiling_words.specs.Laying.{laid}
 use Rattle.colon_bodies.specs.Tree.{Definition, all_words}
-use Rattle.colon_bodies.specs.Code.{all_size, all_code, thread}
+use Rattle.colon_bodies.specs.Code.{all_size, all_code, whole_code}
 use Rattle.colon_bodies.proofs.Cells.{length-cell}
 use Rattle.colon_bodies.proofs.Laying.{length-all}
 use Rattle.resident_bodies.specs.Words.{lays_all}
@@ -114,7 +114,7 @@ length-header v k c name extra = length_header v k c 1 name extra
 pub begun_opening : (m name : List ℕ) (here head : ℕ) → Site m name here head → here + (7 + length name) ≤ GREATEST_LIMIT → begun m name ≡ opening m name here head
 begun_opening m name here head s r = grind (arith, length-header, begun_is)
 
-laid_closed : (m name : List ℕ) (here head : ℕ) (b : Definition) → Site m name here head → here + (7 + length name + length (thread (runtime m) b (here + (7 + length name)))) ≤ GREATEST_LIMIT → laid_definition m (cell m 22) name b ≡ closed m name (thread (runtime m) b (here + (7 + length name))) here head
+laid_closed : (m name : List ℕ) (here head : ℕ) (b : Definition) → Site m name here head → here + (7 + length name + length (whole_code (runtime m) b (here + (7 + length name)))) ≤ GREATEST_LIMIT → laid_definition m (cell m 22) name b ≡ closed m name (whole_code (runtime m) b (here + (7 + length name))) here head
 laid_closed m name here head b s r = grind (arith, length-header, written_is)
 
 -- what is in them
@@ -167,7 +167,7 @@ pub record Read (m name : List ℕ) (here head : ℕ) (b : Definition) (s : List
   pub room : here + (7 + length name + (all_size b + 2)) ≤ GREATEST_LIMIT
   pub body : Bodied (opening m name here head) (here + (7 + length name)) b s
 
-pub length-extra : (rt : ℕ → ℕ) (b : Definition) (at : ℕ) → length (thread rt b at) ≡ all_size b + 2
+pub length-extra : (rt : ℕ → ℕ) (b : Definition) (at : ℕ) → length (whole_code rt b at) ≡ all_size b + 2
 length-extra rt b at = length-append (all_code rt b at) (cell_bytes (rt 5)) ∙ omega (arith, length-all rt b at, length-cell (rt 5))
 
 pub ended_is : (m name s : List ℕ) (here head : ℕ) (b : Definition) → Read m name here head b s → ended s ≡ finished s here (length name) (runtime m 5)
@@ -216,13 +216,13 @@ false_not b e f = grind arith
 
 -- below the definition
 agree_low : (m name s : List ℕ) (here head j : ℕ) (b : Definition) → Read m name here head b s → j < here → j / 4 ≢ 5 → j / 2 ≢ 14 → j / 2 ≢ 16
-    → byte (finished s here (length name) (runtime m 5)) j ≡ byte (closed m name (thread (runtime m) b (here + (7 + length name))) here head) j
+    → byte (finished s here (length name) (runtime m 5)) j ≡ byte (closed m name (whole_code (runtime m) b (here + (7 + length name))) here head) j
 agree_low m name s here head j b r h a c e = by (j / 2 == 8) refl
   where
-    by : (x : Bool) → (j / 2 == 8) ≡ x → byte (finished s here (length name) (runtime m 5)) j ≡ byte (closed m name (thread (runtime m) b (here + (7 + length name))) here head) j
+    by : (x : Bool) → (j / 2 == 8) ≡ x → byte (finished s here (length name) (runtime m 5)) j ≡ byte (closed m name (whole_code (runtime m) b (here + (7 + length name))) here head) j
     by true q =
         let st = r.site in
-        let extra = thread (runtime m) b (here + (7 + length name)) in
+        let extra = whole_code (runtime m) b (here + (7 + length name)) in
         let le = length-extra (runtime m) b (here + (7 + length name)) in
         grind (arith, finished_state, top_byte, byte_below, length-header, low_zero)
     by false q =
@@ -232,10 +232,10 @@ agree_low m name s here head j b r h a c e = by (j / 2 == 8) refl
 
 -- its header
 agree_header : (m name s : List ℕ) (here head i : ℕ) (b : Definition) → Read m name here head b s → i < 7 + length name
-    → byte (finished s here (length name) (runtime m 5)) (here + i) ≡ byte (closed m name (thread (runtime m) b (here + (7 + length name))) here head) (here + i)
+    → byte (finished s here (length name) (runtime m 5)) (here + i) ≡ byte (closed m name (whole_code (runtime m) b (here + (7 + length name))) here head) (here + i)
 agree_header m name s here head i b r h = by (i == 4) refl
   where
-    by : (x : Bool) → (i == 4) ≡ x → byte (finished s here (length name) (runtime m 5)) (here + i) ≡ byte (closed m name (thread (runtime m) b (here + (7 + length name))) here head) (here + i)
+    by : (x : Bool) → (i == 4) ≡ x → byte (finished s here (length name) (runtime m 5)) (here + i) ≡ byte (closed m name (whole_code (runtime m) b (here + (7 + length name))) here head) (here + i)
     by true q =
         let le = length-extra (runtime m) b (here + (7 + length name)) in
         grind (arith, eqb-true, length-front, finished_count, closed_has, get_or_append_left, length-whole, count_here)
@@ -245,7 +245,7 @@ agree_header m name s here head i b r h = by (i == 4) refl
 
 -- its code
 agree_code : (m name s : List ℕ) (here head i : ℕ) (b : Definition) → Read m name here head b s → i < all_size b + 2
-    → byte (finished s here (length name) (runtime m 5)) (here + (7 + length name) + i) ≡ byte (closed m name (thread (runtime m) b (here + (7 + length name))) here head) (here + (7 + length name) + i)
+    → byte (finished s here (length name) (runtime m 5)) (here + (7 + length name) + i) ≡ byte (closed m name (whole_code (runtime m) b (here + (7 + length name))) here head) (here + (7 + length name) + i)
 agree_code m name s here head i b r h =
     let pf = here + (7 + length name) in
     let e = runtime m 5 in
@@ -272,11 +272,11 @@ finished_here s here n e l a h r =
 closed_here : (m name extra : List ℕ) (here head : ℕ) → Site m name here head → here + (7 + length name + length extra) ≤ GREATEST_LIMIT → cell (closed m name extra here head) 28 ≡ here + (7 + length name + length extra)
 closed_here m name extra here head s r = omega (arith, head_low, top_here, length_bytes)
 
-agrees : (m name s : List ℕ) (here head : ℕ) (b : Definition) → Read m name here head b s → Agrees (finished s here (length name) (runtime m 5)) (closed m name (thread (runtime m) b (here + (7 + length name))) here head)
+agrees : (m name s : List ℕ) (here head : ℕ) (b : Definition) → Read m name here head b s → Agrees (finished s here (length name) (runtime m 5)) (closed m name (whole_code (runtime m) b (here + (7 + length name))) here head)
 agrees m name s here head b r =
     let st = r.site in
     let pf = here + (7 + length name) in
-    let extra = thread (runtime m) b pf in
+    let extra = whole_code (runtime m) b pf in
     let le = length-extra (runtime m) b pf in
     let new = closed_here m name extra here head st (omega arith) in
     let old = finished_here s here (length name) (runtime m 5) r.body.all st.low (omega arith) (omega arith) in

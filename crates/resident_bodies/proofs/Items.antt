@@ -12,13 +12,13 @@ use Rattle.dictionary.specs.Adding.{header_bytes, with_header_at}
 use Rattle.dictionary.proofs.Pieces.{length_header}
 use Rattle.compiling_words.specs.Code.{runtime}
 use Rattle.colon_bodies.specs.Tree.{Definition}
-use Rattle.colon_bodies.specs.Code.{all_size, thread}
+use Rattle.colon_bodies.specs.Code.{all_size, whole_code}
 use Rattle.colon_bodies.proofs.Cells.{length-cell, patched}
 use Rattle.colon_bodies.proofs.Laying.{length-all}
 use Rattle.image_builder.specs.Places.{Place}
 use Rattle.image_builder.specs.Names.{Name, class_of, newest_link}
 use Rattle.image_builder.specs.declared.entry.Sign.TheVariants as s
-use Rattle.image_builder.specs.Items.{Colon, Items, Then, end_of, current, names, new_name, controls, newest_record, head, head_size, link_of, zeros, bytes as item_bytes, heads_of, last_link, system, low, image}
+use Rattle.image_builder.specs.Items.{Colon, Items, Then, end_of, current, names, new_name, controls, newest_record, head, head_size, link_of, zero_bytes, items_bytes as item_bytes, heads_of, last_link, system, low, image}
 use Rattle.image_builder.specs.Grammar.{IsLimit, AreSound}
 use Rattle.image_builder.specs.Built.{IsRecord}
 use Rattle.image_builder.specs.Headers.{memory_of}
@@ -126,27 +126,27 @@ writes m here head hb = put_cell (put_cell (put_cell (put_bytes m here hb) 28 (w
 abbrev header_of : (view link : ℕ) → List ℕ → List ℕ → List ℕ
 header_of view link name extra = header_bytes view link (128 + length name) name 1 extra
 
-pub written_is : (m : List ℕ) (view : ℕ) (name : List ℕ) (b : Definition) → laid_definition m view name b ≡ writes m (cell m 28) (head_of (cell m 34) name) (header_of view (cell m (head_of (cell m 34) name)) name (thread (runtime m) b (cell m 28 + (7 + length name))))
+pub written_is : (m : List ℕ) (view : ℕ) (name : List ℕ) (b : Definition) → laid_definition m view name b ≡ writes m (cell m 28) (head_of (cell m 34) name) (header_of view (cell m (head_of (cell m 34) name)) name (whole_code (runtime m) b (cell m 28 + (7 + length name))))
 unfolding with_header_at written
 written_is m view name b = refl
 
-written_at : (m : List ℕ) (view : ℕ) (name : List ℕ) (b : Definition) (rt : ℕ → ℕ) (here head link : ℕ) → cell m 28 ≡ here → head_of (cell m 34) name ≡ head → cell m head ≡ link → ((k : ℕ) → k < 32 → runtime m k ≡ rt k) → laid_definition m view name b ≡ writes m here head (header_of view link name (thread rt b (here + (7 + length name))))
+written_at : (m : List ℕ) (view : ℕ) (name : List ℕ) (b : Definition) (rt : ℕ → ℕ) (here head link : ℕ) → cell m 28 ≡ here → head_of (cell m 34) name ≡ head → cell m head ≡ link → ((k : ℕ) → k < 32 → runtime m k ≡ rt k) → laid_definition m view name b ≡ writes m here head (header_of view link name (whole_code rt b (here + (7 + length name))))
 written_at m view name b rt here head link e h l c =
     written_is m view name b
-    ∙ ap (λ x. writes m x (head_of (cell m 34) name) (header_of view (cell m (head_of (cell m 34) name)) name (thread (runtime m) b (x + (7 + length name))))) e
-    ∙ ap (λ x. writes m here x (header_of view (cell m x) name (thread (runtime m) b (here + (7 + length name))))) h
-    ∙ ap (λ x. writes m here head (header_of view x name (thread (runtime m) b (here + (7 + length name))))) l
+    ∙ ap (λ x. writes m x (head_of (cell m 34) name) (header_of view (cell m (head_of (cell m 34) name)) name (whole_code (runtime m) b (x + (7 + length name))))) e
+    ∙ ap (λ x. writes m here x (header_of view (cell m x) name (whole_code (runtime m) b (here + (7 + length name))))) h
+    ∙ ap (λ x. writes m here head (header_of view x name (whole_code (runtime m) b (here + (7 + length name))))) l
     ∙ ap (λ x. writes m here head (header_of view link name x)) (thread_same (runtime m) rt b (here + (7 + length name)) c)
 
 -- the header is what the item writes
-own_is : (t : Items) (p : Place) (b : Definition) → header_of p.screen (link_of t p) p.name (thread (controls t) b (end_of t + head_size p)) ≡ head (link_of t p) p false 1 ++ thread (controls t) b (end_of t + head_size p)
+own_is : (t : Items) (p : Place) (b : Definition) → header_of p.screen (link_of t p) p.name (whole_code (controls t) b (end_of t + head_size p)) ≡ head (link_of t p) p false 1 ++ whole_code (controls t) b (end_of t + head_size p)
 unfolding header_bytes
 own_is t p b =
     let n : 128 + length p.name ≡ length p.name + 128 = omega arith in
-    ap (λ c. cell_bytes p.screen ++ (cell_bytes (link_of t p) ++ ((c ∷ []) ++ (p.name ++ (cell_bytes 1 ++ thread (controls t) b (end_of t + head_size p)))))) n
-    ∙ sym (own_bytes (cell_bytes p.screen) (cell_bytes (link_of t p)) ((length p.name + 128) ∷ []) p.name (cell_bytes 1) (thread (controls t) b (end_of t + head_size p)))
+    ap (λ c. cell_bytes p.screen ++ (cell_bytes (link_of t p) ++ ((c ∷ []) ++ (p.name ++ (cell_bytes 1 ++ whole_code (controls t) b (end_of t + head_size p)))))) n
+    ∙ sym (own_bytes (cell_bytes p.screen) (cell_bytes (link_of t p)) ((length p.name + 128) ∷ []) p.name (cell_bytes 1) (whole_code (controls t) b (end_of t + head_size p)))
 
-length-own : (t : Items) (p : Place) (b : Definition) → length (header_of p.screen (link_of t p) p.name (thread (controls t) b (end_of t + head_size p))) ≡ head_size p + (all_size b + 2)
+length-own : (t : Items) (p : Place) (b : Definition) → length (header_of p.screen (link_of t p) p.name (whole_code (controls t) b (end_of t + head_size p))) ≡ head_size p + (all_size b + 2)
 length-own t p b = grind (arith, length_header, length-append, length-all, length-cell)
 
 -- where the definition goes
@@ -159,8 +159,8 @@ name_at limit few t name h =
 -- the four writes, in front of a chain of FORTH
 forth_writes : (limit : ℕ) → IsLimit limit → (t : Items) (ws : List Place) (p : Place) (b : Definition) (x : List ℕ) → AreSound limit t → current t ≡ 42
     → let c = low (λ a. controls t (a / 2)) 0 32 in let u = Then t ws (Colon p b) in
-    put_cell (put_cell (put_cell (put_cell (parts (low (system t) 0 32) c (zeros 128) (item_bytes (heads_of t) t false) x) 28 (end_of u)) (current t + 2 * class_of p.name) (end_of t + 2)) 30 (end_of t + 2)) 54 (end_of u)
-    ≡ parts (low (system u) 0 32) c (zeros 128) (item_bytes (heads_of u) t false) x
+    put_cell (put_cell (put_cell (put_cell (parts (low (system t) 0 32) c (zero_bytes 128) (item_bytes (heads_of t) t false) x) 28 (end_of u)) (current t + 2 * class_of p.name) (end_of t + 2)) 30 (end_of t + 2)) 54 (end_of u)
+    ≡ parts (low (system u) 0 32) c (zero_bytes 128) (item_bytes (heads_of u) t false) x
 forth_writes limit few t ws p b x h v =
     let c = low (λ a. controls t (a / 2)) 0 32 in
     let u = Then t ws (Colon p b) in
@@ -170,7 +170,7 @@ forth_writes limit few t ws p b x h v =
     let l = last_link (names t) in
     let r = newest_record t in
     let g = heads_of t 42 in
-    let rest = c ++ (zeros 128 ++ (item_bytes (heads_of t) t false ++ x)) in
+    let rest = c ++ (zero_bytes 128 ++ (item_bytes (heads_of t) t false ++ x)) in
     let now = λ (i : ℕ). if i == k then e + 2 else g i in
     let same : item_bytes (heads_of t) t false ≡ item_bytes (heads_of u) t false = headed_bytes limit t p s.Plain (item_bytes (heads_of t) t false) (item_bytes (heads_of t) t false) (current t) h refl refl (λ _. refl) (λ z. absurd (z v)) in
     ap (λ m. put_cell (put_cell (put_cell m (current t + 2 * k) (e + 2)) 30 (e + 2)) 54 f) (put_end e l (current t) r (g 0) (g 1) (g 2) (g 3) e f rest)
@@ -179,16 +179,16 @@ forth_writes limit few t ws p b x h v =
     ∙ ap (λ m. put_cell m 54 f) (put_last f l (current t) r (now 0) (now 1) (now 2) (now 3) e (e + 2) rest)
     ∙ put_fence f (e + 2) (current t) r (now 0) (now 1) (now 2) (now 3) e f rest
     ∙ ap (λ y. y ++ rest) (cells_same f (e + 2) (current t) r f now (heads_of u 42) (λ i. heads_now t (new_name t p s.Plain) k i v refl))
-    ∙ ap (λ w. parts (low (system u) 0 32) c (zeros 128) w x) same
+    ∙ ap (λ w. parts (low (system u) 0 32) c (zero_bytes 128) w x) same
 
 -- and in front of a chain of another vocabulary, whose record is among the items
 record_writes : (limit : ℕ) → IsLimit limit → (t : Items) (ws : List Place) (p : Place) (b : Definition) (x : List ℕ) → AreSound limit t → IsRecord t (current t)
     → let c = low (λ a. controls t (a / 2)) 0 32 in let u = Then t ws (Colon p b) in
-    put_cell (put_cell (put_cell (put_cell (parts (low (system t) 0 32) c (zeros 128) (item_bytes (heads_of t) t false) x) 28 (end_of u)) (current t + 2 * class_of p.name) (end_of t + 2)) 30 (end_of t + 2)) 54 (end_of u)
-    ≡ parts (low (system u) 0 32) c (zeros 128) (item_bytes (heads_of u) t false) x
+    put_cell (put_cell (put_cell (put_cell (parts (low (system t) 0 32) c (zero_bytes 128) (item_bytes (heads_of t) t false) x) 28 (end_of u)) (current t + 2 * class_of p.name) (end_of t + 2)) 30 (end_of t + 2)) 54 (end_of u)
+    ≡ parts (low (system u) 0 32) c (zero_bytes 128) (item_bytes (heads_of u) t false) x
 record_writes limit few t ws p b x h o =
     let c = low (λ a. controls t (a / 2)) 0 32 in
-    let z = zeros 128 in
+    let z = zero_bytes 128 in
     let u = Then t ws (Colon p b) in
     let n = new_name t p s.Plain in
     let k = class_of p.name in
@@ -228,9 +228,9 @@ item_is limit few t ws p b h =
     let before = h.0 in
     let e = end_of t in
     let c = low (λ a. controls t (a / 2)) 0 32 in
-    let z = zeros 128 in
+    let z = zero_bytes 128 in
     let old = item_bytes (heads_of t) t false in
-    let extra = thread (controls t) b (e + head_size p) in
+    let extra = whole_code (controls t) b (e + head_size p) in
     let hb = header_of p.screen (link_of t p) p.name extra in
     let n = length-own t p b in
     let at = current t + 2 * class_of p.name in

@@ -9,7 +9,7 @@ use Rattle.dictionary.specs.Adding.{with_header_at}
 use Rattle.compiling_words.specs.Code.{runtime}
 use Rattle.compiling_words.specs.Definitions.{begun, ended}
 use Rattle.colon_bodies.specs.Tree.{Definition, all_words}
-use Rattle.colon_bodies.specs.Code.{thread}
+use Rattle.colon_bodies.specs.Code.{whole_code}
 use Rattle.image_builder.specs.Places.{Place}
 use Rattle.image_builder.specs.Items.{Items, Then, Colon}
 use Rattle.image_builder.specs.Grammar.{IsLimit, AreSound}
@@ -28,7 +28,7 @@ site_in m view name = record {
 -- memory with a whole definition: one header, and after its code field the thread
 abbrev pub laid_definition : List ℕ → (view : ℕ) → List ℕ → Definition → List ℕ
 laid_definition m view name body =
-    with_header_at (site_in m view name) m name 1 (thread (runtime m) body (cell m DP + (7 + length name))) false
+    with_header_at (site_in m view name) m name 1 (whole_code (runtime m) body (cell m DP + (7 + length name))) false
 
 -- memory after `: NAME`, the body's words one after another, and `;`
 abbrev pub laid_by_words : (m d name : List ℕ) → Definition → List ℕ

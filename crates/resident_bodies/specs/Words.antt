@@ -64,7 +64,7 @@ laid_past s word bs = record s { memory = laid (put_cell s.memory TO_IN word.nex
 abbrev pub with_true : Whole → Whole
 with_true s = record s { values = s.values ▸ 65535 }
 
--- the row of the keyword, where it has one that needs no name and no text
+-- the row of the keyword, if it has one that needs no name and no text
 abbrev pub row_of : Token → Option ℕ
 row_of DOES = Some 178
 row_of IF = Some 179

@@ -1,4 +1,4 @@
--- Written by tools/make-row-examples from tools/conformance/data/examples.txt.
+-- Written by tools/make-row-examples from tests/cases/conformance/data/examples.txt.
 use Rattle.std.specs.Prelude.{refl}
 use Rattle.block_buffers.specs.Entries.{start, holds, moved_front, entry_at, slot_of, assigned, front_marked, has_updated, first_updated, unassigned}
 use Rattle.plain_rows.specs.Table.{row_in, control, stack, cells, doubles, memory}

@@ -1,4 +1,4 @@
--- Written by tools/make-row-examples from tools/conformance/data/examples.txt.
+-- Written by tools/make-row-examples from tests/cases/conformance/data/examples.txt.
 use Rattle.std.specs.Prelude.{◌≡◌, ℕ, [], ◌∷◌}
 use Rattle.block_buffers.specs.Entries.{start}
 use Rattle.machine_parts.specs.Whole.{Whole}

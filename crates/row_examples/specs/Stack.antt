@@ -1,4 +1,4 @@
--- Written by tools/make-row-examples from tools/conformance/data/examples.txt.
+-- Written by tools/make-row-examples from tests/cases/conformance/data/examples.txt.
 use Rattle.std.specs.Prelude.{◌≡◌, ℕ, []}
 use Rattle.machine_parts.specs.Whole.{Whole}
 use Rattle.machine_parts.specs.declared.parts.Outcome.TheVariants.{Done, Fault}

@@ -4,13 +4,13 @@ use Rattle.image_loader.specs.Files.{Contents}
 use Rattle.inner_interpreter.specs.Reports.{RunEnds, logs_of}
 use Rattle.inner_interpreter.specs.RunsTo.{RunsTo}
 use Rattle.inner_interpreter.specs.declared.stop.Stop.{Stop}
-use Rattle.machine.specs.State.{State, start}
+use Rattle.machine.specs.State.{State, loaded_state}
 use Rattle.run_subcommand.specs.Running.{HasRunImage, RunsImage, RunsWith}
 
 pub run_of : (image : Contents) (s new : State) (count : ℕ) (ends ends' : RunEnds) (limit : ℕ) (why : Stop)
-    → s ≡ start image count → count ≡ ends.device.block_count → RunsTo s new ends ends' limit why → RunsImage image limit why ends ends'
+    → s ≡ loaded_state image count → count ≡ ends.device.block_count → RunsTo s new ends ends' limit why → RunsImage image limit why ends ends'
 run_of image s new count ends ends' limit why is same h =
-    record { state = new; run = subst (λ x. RunsTo x new ends ends' limit why) (is ∙ ap (start image) same) h }
+    record { state = new; run = subst (λ x. RunsTo x new ends ends' limit why) (is ∙ ap (loaded_state image) same) h }
 
 pub run_as : (image file : Contents) (limit : ℕ) (why : Stop) (ends ends' : RunEnds) → image ≡ file → RunsImage image limit why ends ends' → RunsImage file limit why ends ends'
 run_as image file limit why ends ends' same h = subst (λ i. RunsImage i limit why ends ends') same h

@@ -7,13 +7,13 @@ use Rattle.inner_interpreter.specs.Runs.{stop_by}
 use Rattle.inner_interpreter.specs.RunsTo.{RunsTo}
 use Rattle.inner_interpreter.specs.declared.stop.Stop.{Stop}
 use Rattle.inner_interpreter.specs.declared.stop.Stop.TheVariants.{InputFault, OutputFault}
-use Rattle.machine.specs.State.{State, start}
+use Rattle.machine.specs.State.{State, loaded_state}
 use Rattle.subcommands.specs.Statuses.{status_of}
 
 -- the machine that was loaded with an image, for as many blocks as the device has, ran for at most `limit` ticks, and stopped so
 pub record RunsImage (image : Contents) (limit : ℕ) (why : Stop) (ends ends' : RunEnds) : Type 0 where
   pub state : State
-  pub run : RunsTo (start image ends.device.block_count) state ends ends' limit why
+  pub run : RunsTo (loaded_state image ends.device.block_count) state ends ends' limit why
 
 -- the same, by the status of its stop
 pub record RunsWith (image : Contents) (limit : ℕ) (status : ℕ) (ends ends' : RunEnds) : Type 0 where
@@ -27,7 +27,7 @@ pub record HasRunImage (image : Contents) (count limit : ℕ) (log log' : Logs) 
   pub stop : Stop
   pub status_is : status ≡ status_of stop
   pub state : State
-  pub run : HasRun (start image count) state log log' limit stop
+  pub run : HasRun (loaded_state image count) state log log' limit stop
   pub ended : reader ≡ false → writer ≡ false → stop_by state.halt 0 ≡ Some stop
   pub output : writer ≡ true → stop ≡ OutputFault
   pub input : reader ≡ true → stop ≡ InputFault

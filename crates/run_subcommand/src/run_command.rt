@@ -47,7 +47,7 @@ pub fn do_run<R: Input, W: Output, D: Device>(
     reader: &mut R,
     writer: &mut W,
 ) -> Ended
-    // Where the bytes are an image's file, whatever the ends are, it is a run of the machine that was loaded; or memory ran out, and
+    // If the bytes are an image's file, whatever the ends are, it is a run of the machine that was loaded; or memory ran out, and
     // nothing was run.
     ensures ran { OfImageFile image.now (λ file. RunsWith file limit result.status
         (run_ends R.Input W.Output D.Device reader.old writer.old device.old)
@@ -63,11 +63,11 @@ pub fn do_run<R: Input, W: Output, D: Device>(
         (R.failed reader.new) (W.failed writer.new) result.status ⊎
         IsUnrun result.status (W.failed writer.new) reader.old reader.new device.old device.new (W.sent writer.old)
         (W.sent writer.new)) }
-    // Where they are none, that is printed, and no other end is touched.
+    // If they are none, that is printed, and no other end is touched.
     ensures refused { W.failed writer.new ≡ false →
         PrintsNoImage image.now result.status (W.sent writer.old) (W.sent writer.new) }
     ensures unrun { (fault : ImageFault) → IsNoFile image.now fault → (reader.new ≡ reader.old) × (device.new ≡ device.old) }
-    // Where the writer doesn't fail, all that was printed was passed on; where it fails, the status is 5.
+    // If the writer doesn't fail, all that was printed was passed on; if it fails, the status is 5.
     ensures passed { W.failed writer.new ≡ false → W.passed writer.new ≡ true }
     ensures cut { W.failed writer.old ≡ false → W.failed writer.new ≡ true → result.status ≡ 5 }
     ensures file { IsNone result.file }

@@ -1,18 +1,18 @@
 -- The words of screens that follow one another are those of the first, then those of the others.
 use Rattle.std.proofs.Common.{◌≡◌, ℕ, ◌+◌, ◌∙◌, List, [], ◌∷◌, ◌++◌, length, arith, refl, ap, sym, append_assoc, append-nil}
 use Rattle.source_words.specs.declared.modes.Mode.{Mode}
-use Rattle.source_words.specs.Modes.{after}
+use Rattle.source_words.specs.Modes.{mode_after}
 use Rattle.source_words.specs.Words.{SourceWord, screen_words, after_words, words_of_screens}
 
 pub after_append : (m : Mode) (xs ys : List SourceWord) → after_words m (xs ++ ys) ≡ after_words (after_words m xs) ys
 unfolding after_words
 after_append m [] ys = refl
-after_append m (x ∷ xs) ys = after_append (after m x.name) xs ys
+after_append m (x ∷ xs) ys = after_append (mode_after m x.name) xs ys
 
-pub after_snoc : (m : Mode) (ws : List SourceWord) (w : SourceWord) → after_words m (ws ++ w ∷ []) ≡ after (after_words m ws) w.name
+pub after_snoc : (m : Mode) (ws : List SourceWord) (w : SourceWord) → after_words m (ws ++ w ∷ []) ≡ mode_after (after_words m ws) w.name
 unfolding after_words
 after_snoc m [] w = refl
-after_snoc m (v ∷ ws) w = after_snoc (after m v.name) ws w
+after_snoc m (v ∷ ws) w = after_snoc (mode_after m v.name) ws w
 
 -- screens after others
 pub words_append : (m : Mode) (n : ℕ) (xs ys : List (List ℕ)) → words_of_screens m n (xs ++ ys) ≡ words_of_screens m n xs ++ words_of_screens (after_words m (words_of_screens m n xs)) (n + length xs) ys

@@ -1,7 +1,7 @@
 //! How a word is read, which the words before it decide.
 
 ghost use Rattle.std.specs.Prelude.{◌≡◌, ◌&&◌};
-ghost use Rattle.source_words.specs.Modes.{names_outside, names_in_body, takes_text, begins_body, ends_body, begins_comment, is_name_due, is_body, after};
+ghost use Rattle.source_words.specs.Modes.{names_outside, names_in_body, takes_text, begins_body, ends_body, begins_comment, is_name_due, is_body, mode_after};
 
 /// How the next word is read.
 #[derive(Clone, Copy, Debug, PartialEq, Eq)]
@@ -63,7 +63,7 @@ fn ends_body(word: &[u8]) -> bool
     word == b";".as_slice()
 }
 
-/// Whether this word begins a comment, where no name is due.
+/// Whether this word begins a comment, if no name is due.
 #[tactic(auto, unfolding(crate::specs::Modes::begins_comment))]
 pub fn begins_comment(word: &[u8]) -> bool
     ensures { result ≡ begins_comment word.now }
@@ -98,7 +98,7 @@ impl Mode {
 
     /// How the word after this one is read.
     pub fn after(self, word: &[u8]) -> Mode
-        ensures { result ≡ after self word.now }
+        ensures { result ≡ mode_after self word.now }
     {
         match self {
             Mode::Outside => {

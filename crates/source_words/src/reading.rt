@@ -2,7 +2,7 @@
 
 ghost use Rattle.std.specs.Prelude.{◌≡◌, ◌≢◌, ◌<◌, ◌≤◌, ◌∷◌, drop, length, false, slice_index};
 ghost use Rattle.source_words.specs.Words.{is_comment, words_at};
-ghost use Rattle.source_words.specs.Modes.{after};
+ghost use Rattle.source_words.specs.Modes.{mode_after};
 ghost use Rattle.source_words.specs.Scanned.{source_word};
 
 use crate::modes::Mode;
@@ -16,7 +16,7 @@ pub fn word_at(text: &[u8], screen: u16, start: usize, mode: Mode) -> (Word<'_>,
     requires begins { slice_index text.now start ≢ 32 }
     requires plain { is_comment mode (drop start text.now) ≡ false }
     ensures left { words_at mode screen start text.now ≡ source_word result.0 ∷ words_at
-        (after mode result.0.name.now) screen result.1 text.now }
+        (mode_after mode result.0.name.now) screen result.1 text.now }
     ensures at { (result.0.offset ≡ start) × (result.0.screen ≡ screen) }
     ensures further { (start < result.1) × (result.1 ≤ length text.now) }
 {

@@ -2,7 +2,7 @@
 
 ghost use Rattle.std.specs.Prelude.{◌≡◌, ◌<◌, ◌≤◌, [], ◌∷◌, length, IsNone, MatchOption, IfSome};
 ghost use Rattle.source_words.specs.Words.{screen_words};
-ghost use Rattle.source_words.specs.Modes.{after};
+ghost use Rattle.source_words.specs.Modes.{mode_after};
 
 use crate::modes::Mode;
 use crate::reading::word_at;
@@ -51,7 +51,7 @@ impl<'a> Scanner<'a> {
             (λ w. words_left self.old ≡ source_word w ∷ words_left self.new) }
         ensures end { IsNone result → words_left self.new ≡ [] }
         ensures mode { MatchOption result (self.new.mode ≡ self.old.mode)
-            (λ w. self.new.mode ≡ after self.old.mode w.name.now) }
+            (λ w. self.new.mode ≡ mode_after self.old.mode w.name.now) }
         ensures text { self.new.text ≡ self.old.text }
         ensures at { IfSome result (λ w.
             (self.old.at ≤ w.offset) × (w.offset < self.new.at) × (w.screen ≡ self.old.screen)) }

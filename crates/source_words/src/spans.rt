@@ -57,7 +57,7 @@ pub fn enclosed(text: &[u8], start: usize, end: usize, c: u8) -> (&[u8], usize)
     }
 }
 
-/// Where the word at `at` begins a comment, the place after that.
+/// If the word at `at` begins a comment, the place after that.
 fn comment_end(text: &[u8], at: usize, mode: Mode) -> Option<usize>
     requires within { at < length text.now }
     requires begins { slice_index text.now at ≢ 32 }

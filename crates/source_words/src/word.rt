@@ -9,6 +9,6 @@ pub struct Word<'a> {
     pub offset: u16,
     /// Its bytes: one at least, and no blank.
     pub name: &'a [u8],
-    /// Where it is `."` or `ABORT"` in a body, the bytes from after the next blank to the quote or the end.
+    /// If it is `."` or `ABORT"` in a body, the bytes from after the next blank to the quote or the end.
     pub text: Option<&'a [u8]>,
 }

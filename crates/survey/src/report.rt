@@ -29,7 +29,7 @@ pub struct Asked<'a> {
     pub most: usize,
 }
 
-/// The report, and the dialect that is to be loaded, the best first where it is undecided.
+/// The report, and the dialect that is to be loaded, the best first if it is undecided.
 #[derive(Drop)]
 pub struct Report {
     pub text: Vec<u8>,

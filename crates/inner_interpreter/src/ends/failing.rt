@@ -1,4 +1,4 @@
-//! Ends that fail, to try with them what a host does where an end fails. They take no memory.
+//! Ends that fail, to try with them what a host does if an end fails. They take no memory.
 
 ghost use Rattle.std.specs.Prelude.{◌≡◌, ◌≤◌, ◌<◌, ◌+◌, ◌-◌, ◌++◌, ◌∷◌, ◌↔◌, ◌≢◌, [], Some, length, min, true, false, IsOk, IfOk, OnOk};
 ghost use Rattle.std.specs.Io.KnownBytes.{Keeps, WriteAppends};

@@ -72,7 +72,7 @@ impl<'a> Answer<'a> {
 }
 
 impl<'m> LentMachine<'m> {
-    /// The answer to the request that waits. `Halted` where the machine is; else `NotAsked` where no request
+    /// The answer to the request that waits. `Halted` if the machine is; else `NotAsked` if no request
     /// is, or the answer doesn't fit it. The machine is then unchanged.
     #[tactic(auto, unfolding(crate::specs::Answer::answer_of))]
     pub fn answer(&mut self, answer: Answer<'_>) -> Result<Act, Refused>

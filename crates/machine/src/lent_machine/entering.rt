@@ -35,7 +35,7 @@ pub enum SaveRefused {
 pub struct BadSize;
 
 impl<'m> LentMachine<'m> {
-    /// Enters a word: the return stack is emptied, `ip` is 0, and the word comes next. `Halted` where the machine is, else
+    /// Enters a word: the return stack is emptied, `ip` is 0, and the word comes next. `Halted` if the machine is, else
     /// `Waiting` while a request waits; it is then unchanged.
     pub fn enter(&mut self, word: u16) -> Result<(), Refused>
         ensures entered { IfOk result (λ _. self.new ≡ with_parts self.old (entered self.old.parts word)) }
@@ -97,7 +97,7 @@ impl<'m> LentMachine<'m> {
         }
     }
 
-    /// Memory up to HERE as an image with as many block buffers, which starts with the word at `entry`. `BadSize` where
+    /// Memory up to HERE as an image with as many block buffers, which starts with the word at `entry`. `BadSize` if
     /// HERE is no size of such an image.
     pub fn save(&self, alloc: Global, entry: u16) -> Result<Image, SaveRefused>
         ensures saved { IfOk result (λ image. image ≡ saved self.now.parts entry) }

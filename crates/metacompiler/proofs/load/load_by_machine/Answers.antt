@@ -2,7 +2,7 @@ use Rattle.std.proofs.Common.{◌≡◌, ◌∙◌, length, Some, inl, refl, ap,
 use Rattle.std.specs.Prelude.{IfOk, IfErr, Err}
 use Rattle.std.proofs.lemmas.Result.{IfOk-weaker}
 use Rattle.block_buffers.specs.Disks.{Disk}
-use Rattle.machine.specs.State.{State, start}
+use Rattle.machine.specs.State.{State, loaded_state}
 use Rattle.metacompiler.specs.Loaded.{interpret_in, by_interpret, loaded_by_machine, IsLoaded}
 use Rattle.metacompiler.specs.Moved.{stage, word_for, HasRead}
 use Rattle.metacompiler.proofs.Residents.{compiles_by}
@@ -20,13 +20,13 @@ returns g c = record {
       (c.load_on.ensures.moved (rw started (refl, refl)))));
 }
   where
-    started : c.load-machine.result ≡ start c.args.image.now (g.D.Device.block_count c.args.device.now)
-    started = c.load-machine.ensures ∙ ap (λ n. start c.args.image.now n) c.count-count.ensures.value
+    started : c.load-machine.result ≡ loaded_state c.args.image.now (g.D.Device.block_count c.args.device.now)
+    started = c.load-machine.ensures ∙ ap (λ n. loaded_state c.args.image.now n) c.count-count.ensures.value
 
     told : (d : Disk) → g.D.Device.disk c.args.device.now ≡ Some d → IsLoaded d (loaded_by_machine c.args.image.now d c.args.from c.args.to c.args.limit) c.load_on.result (g.D.Device.disk c.load_on.new.device)
     told d q =
         let count : c.count-count.result ≡ length d.blocks = rw q at c.count-count.ensures.told in
-        let m : c.load-machine.result ≡ start c.args.image.now (length d.blocks) = c.load-machine.ensures ∙ ap (λ n. start c.args.image.now n) count in
+        let m : c.load-machine.result ≡ loaded_state c.args.image.now (length d.blocks) = c.load-machine.ensures ∙ ap (λ n. loaded_state c.args.image.now n) count in
         subst (λ (s : State). IsLoaded d (by_interpret c.args.image.now.entry s.parts d c.args.from c.args.to c.args.limit (interpret_in s.parts.memory)) c.load_on.result (g.D.Device.disk c.load_on.new.device)) m
         (subst (λ e. IsLoaded d (by_interpret e c.load-machine.result.parts d c.args.from c.args.to c.args.limit (interpret_in c.load-machine.result.parts.memory)) c.load_on.result (g.D.Device.disk c.load_on.new.device)) c.entry.ensures
         (c.load_on.ensures.told d q (rw m (refl, refl))))

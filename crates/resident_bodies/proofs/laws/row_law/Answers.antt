@@ -10,7 +10,7 @@ use Rattle.resident_bodies.specs.Drafts.{Beginning, IsDraft, read_on}
 use Rattle.resident_bodies.proofs.Rows.{row_is, semicolon_is}
 use Rattle.resident_bodies.proofs.laws.row_law.Goals as goal
 
--- a keyword that has a row fits only where nothing is half read
+-- a keyword that has a row fits only if nothing is half read
 keyword : (b : Beginning) (r q : State) (k : Token) (n w : ℕ) (s : Whole) → IsDraft b r (s.memory, s.values) → read_on r k ≡ Some q → FitsHere s (laid_by k) → length s.values ≤ 250 → row_of k ≡ Some n → row n w s ≡ (behind_word k s, Done)
 keyword b (At o t h) q (NAME v) n w s g e f c r = cc
 keyword b (At o t Free) (At p u i) k n w s g e f c r =
