@@ -4,7 +4,7 @@ use Rattle.std.proofs.Math.Dec.{eqb}
 use Rattle.std.proofs.lemmas.Bool.{eqb-true, eq-eqb}
 use Rattle.std.proofs.lemmas.List.{append_cancel_right}
 use Rattle.colon_bodies.specs.Tree.{Body, Empty, Definition}
-use Rattle.colon_bodies.specs.Code.{code, all_code, thread}
+use Rattle.colon_bodies.specs.Code.{code, all_code, whole_code}
 use Rattle.memory.specs.Bytes.{cell_bytes}
 use Rattle.colon_bodies.specs.Tokens.{text_control, loop_control}
 use Rattle.colon_bodies.specs.Plain.{AreApart, IsPlainCell, IsPlainBody, IsPlainDefinition}
@@ -153,7 +153,7 @@ module _ (rt : ℕ → ℕ) (d : AreApart rt) where
   one_code t u at h k e =
       one_tree rt t u at h k (one_flat (flat_all t at) (flat_all u at) (plain_all rt t at h) (plain_all rt u at k) (all_code_is rt t at ∙ e ∙ sym (all_code_is rt u at)))
 
-  pub one_thread : (t u : Definition) (at : ℕ) → IsPlainDefinition rt t → IsPlainDefinition rt u → thread rt t at ≡ thread rt u at → t ≡ u
+  pub one_thread : (t u : Definition) (at : ℕ) → IsPlainDefinition rt t → IsPlainDefinition rt u → whole_code rt t at ≡ whole_code rt u at → t ≡ u
   one_thread t u at h k e = one_code t u at h k (append_cancel_right _ _ _ e)
 
   -- the bytes of plain instructions are taken apart again
@@ -191,11 +191,11 @@ module _ (rt : ℕ → ℕ) (d : AreApart rt) where
   exit_plain = λ k a b h n e. let q = d.apart k 5 (omega (arith, a)) (omega (arith, b)) (omega arith) (omega arith) n (sym e) in omega (arith, a, q)
 
   -- A plain definition is found again in its thread.
-  pub found_again : (t : Definition) (at : ℕ) → IsPlainDefinition rt t → found rt (thread rt t at) at ≡ Some t
+  pub found_again : (t : Definition) (at : ℕ) → IsPlainDefinition rt t → found rt (whole_code rt t at) at ≡ Some t
   found_again t at h =
       let is = flat_all t at in
       let e = rt 5 in
-      let b : thread rt t at ≡ all_bytes rt (is ++ ICall e ∷ []) = ap (λ l. l ++ cell_bytes e) (sym (all_code_is rt t at)) ∙ ap (λ l. all_bytes rt is ++ l) (sym (append-nil (cell_bytes e))) ∙ sym (all-append rt is (ICall e ∷ [])) in
+      let b : whole_code rt t at ≡ all_bytes rt (is ++ ICall e ∷ []) = ap (λ l. l ++ cell_bytes e) (sym (all_code_is rt t at)) ∙ ap (λ l. all_bytes rt is ++ l) (sym (append-nil (cell_bytes e))) ∙ sym (all-append rt is (ICall e ∷ [])) in
       let p = plain-append rt is (ICall e ∷ []) (plain_all rt t at h) (exit_plain, tt) in
       ap (λ l. built_of at (before_last e (instrs rt (length l) l))) b
       ∙ ap (λ o. built_of at (before_last e o)) (instrs_of (is ++ ICall e ∷ []) (length (all_bytes rt (is ++ ICall e ∷ []))) p (omega arith))

@@ -24,7 +24,7 @@ IsSecond before w = (w ≡ DOES) × (has_does before ≡ true)
 abbrev pub IsTooDeep : List Token → Token → Type 0
 IsTooDeep before w = Begins (before ++ w ∷ []) × (BeginsShallow (before ++ w ∷ []) → ⊥)
 
--- what each cause says of a word and the words before it, where the cell after the last byte may be limit
+-- what each cause says of a word and the words before it, if the cell after the last byte may be limit
 abbrev pub Applies : (ℕ → ℕ) → ℕ → ℕ → BodyCause → List Token → Token → Type 0
 Applies rt at limit Memory before w = Unit {0}
 Applies rt at limit Misplaced before w = IsUnsuited before w ⊎ IsSecond before w ⊎ IsTooDeep before w

@@ -50,7 +50,7 @@ shut_else f t a c here = ap (λ b. cond b (In (FElse f t a here) c) (shut f (IfE
 size-join : (c t : Body) → size (join c t) ≡ size c + size t
 size-join c = by_parts (λ t. size (join c t) ≡ size c + size t) (elim [ Empty ↦ λ ih. omega arith | t ↦ λ ih. grind (arith, ih) ])
 
--- each jump, where it is in code
+-- each jump, if it is in code
 step_forward : (f : Frames) (c : Body) (here to : ℕ) → here < to → step f c here (IQuery to) ≡ Some (In (FIf f c to) Empty)
 step_forward f c here to h = ap (λ b. cond b (Some (In (FIf f c to) Empty)) (until_at f (split c (here - to)))) (lt-ltb here to h)
 

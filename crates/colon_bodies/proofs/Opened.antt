@@ -6,7 +6,7 @@ use Rattle.colon_bodies.specs.declared.words.Half.{Half}
 use Rattle.colon_bodies.specs.declared.words.Half.TheVariants.{Free}
 use Rattle.colon_bodies.specs.declared.fault.BodyCause.{BodyCause}
 use Rattle.colon_bodies.specs.declared.fault.BodyCause.TheVariants as r
-use Rattle.colon_bodies.specs.Tokens.{Token, IF, ELSE, BEGIN, WHILE, DO, DOES, SEMI, control, laid, is_long, IsShort}
+use Rattle.colon_bodies.specs.Tokens.{Token, IF, ELSE, BEGIN, WHILE, DO, DOES, SEMI, control_written, laid, is_long, IsShort}
 use Rattle.colon_bodies.specs.Tree.{Body, Empty, Definition, words}
 use Rattle.colon_bodies.specs.Rules.{IsKnown, is_missing, half_of, suits, has_does, opens, opened}
 use Rattle.colon_bodies.specs.Faults.{is_deep, body_cause}
@@ -143,7 +143,7 @@ tests suited second deep none missing long over =
     else if over then Some r.Full
     else None
 
-cause_is : (rt : ℕ → ℕ) (at limit : ℕ) (o : Outer) (t : Body) (h : Half) (w : Token) → body_cause rt at limit (open_words o t h) w ≡ tests (suits h w) (past o && has_does (w ∷ [])) (is_deep (opens (Some (openings o)) w)) (is_none (opens (Some (openings o)) w)) (is_missing rt (control w)) (is_long w) (nat_lt limit (at + laid (open_words o t h ++ w ∷ [])))
+cause_is : (rt : ℕ → ℕ) (at limit : ℕ) (o : Outer) (t : Body) (h : Half) (w : Token) → body_cause rt at limit (open_words o t h) w ≡ tests (suits h w) (past o && has_does (w ∷ [])) (is_deep (opens (Some (openings o)) w)) (is_none (opens (Some (openings o)) w)) (is_missing rt (control_written w)) (is_long w) (nat_lt limit (at + laid (open_words o t h ++ w ∷ [])))
 unfolding body_cause
 cause_is rt at limit o t h w = rw (half-open o t h, does-open o t h, opened-after o t h w) refl
 
@@ -152,7 +152,7 @@ tests_end suited second deep none missing long over e = grind arith
 
 pub never_ends : (rt : ℕ → ℕ) (at limit : ℕ) (before : List Token) (w : Token) → body_cause rt at limit before w ≡ Some r.EndsInside → ⊥
 unfolding body_cause
-never_ends rt at limit before w e = tests_end (suits (half_of Free before) w) (has_does before && has_does (w ∷ [])) (is_deep (opened (Some []) (before ++ w ∷ []))) (is_none (opened (Some []) (before ++ w ∷ []))) (is_missing rt (control w)) (is_long w) (nat_lt limit (at + laid (before ++ w ∷ []))) e
+never_ends rt at limit before w e = tests_end (suits (half_of Free before) w) (has_does before && has_does (w ∷ [])) (is_deep (opened (Some []) (before ++ w ∷ []))) (is_none (opened (Some []) (before ++ w ∷ []))) (is_missing rt (control_written w)) (is_long w) (nat_lt limit (at + laid (before ++ w ∷ []))) e
 
 second_is : (w : Token) (b : Bool) → b && has_does (w ∷ []) ≡ true → (w ≡ DOES) × (b ≡ true)
 second_is w b e = grind arith
@@ -160,10 +160,10 @@ second_is w b e = grind arith
 once_is : (w : Token) (b : Bool) → b && has_does (w ∷ []) ≡ false → w ≡ DOES → b ≡ false
 once_is w b e d = grind arith
 
-missing_is : (rt : ℕ → ℕ) (w : Token) → is_missing rt (control w) ≡ true → IsKnown rt w → ⊥
+missing_is : (rt : ℕ → ℕ) (w : Token) → is_missing rt (control_written w) ≡ true → IsKnown rt w → ⊥
 missing_is rt w e k = grind arith
 
-known_is : (rt : ℕ → ℕ) (w : Token) → is_missing rt (control w) ≡ false → IsKnown rt w
+known_is : (rt : ℕ → ℕ) (w : Token) → is_missing rt (control_written w) ≡ false → IsKnown rt w
 known_is rt w e = grind arith
 
 long_is : (w : Token) → is_long w ≡ true → IsShort w → ⊥
@@ -186,18 +186,18 @@ clean_placed rt at limit before w p known short room' r.Unbalanced a h = before_
 clean_placed rt at limit before w p known short room' r.Unknown a h = before_full rt at limit before w p known short r.Unknown a (omega arith) h
 clean_placed rt at limit before w p known short room' r.BadName a h = before_full rt at limit before w p known short r.BadName a (omega arith) h
 
-says_placed : (rt : ℕ → ℕ) (at limit : ℕ) (before : List Token) (w : Token) (m l v : Bool) → Placed before w → is_missing rt (control w) ≡ m → is_long w ≡ l → nat_lt limit (at + laid (before ++ w ∷ [])) ≡ v → Says rt at limit before w (tests true false false false m l v)
+says_placed : (rt : ℕ → ℕ) (at limit : ℕ) (before : List Token) (w : Token) (m l v : Bool) → Placed before w → is_missing rt (control_written w) ≡ m → is_long w ≡ l → nat_lt limit (at + laid (before ++ w ∷ [])) ≡ v → Says rt at limit before w (tests true false false false m l v)
 says_placed rt at limit before w true l v p a b e = (omega arith, unknown rt at limit before w p (missing_is rt w a))
 says_placed rt at limit before w false true v p a b e = (omega arith, bad_name rt at limit before w p (known_is rt w a) (long_is w b))
 says_placed rt at limit before w false false true p a b e = (omega arith, full rt at limit before w p (known_is rt w a) (short_is w b) (ltb-true limit (at + laid (before ++ w ∷ [])) e))
 says_placed rt at limit before w false false false p a b e = clean_placed rt at limit before w p (known_is rt w a) (short_is w b) (ltb-false limit (at + laid (before ++ w ∷ [])) e)
 
-says_by : (rt : ℕ → ℕ) (at limit : ℕ) (o : Outer) (t : Body) (h : Half) (w : Token) (s d : Bool) (os : Option (List Token)) (deep : Bool) → open_depth o t ≤ 64 → suits h w ≡ s → past o && has_does (w ∷ []) ≡ d → opens (Some (openings o)) w ≡ os → is_deep os ≡ deep → Says rt at limit (open_words o t h) w (tests s d deep (is_none os) (is_missing rt (control w)) (is_long w) (nat_lt limit (at + laid (open_words o t h ++ w ∷ []))))
+says_by : (rt : ℕ → ℕ) (at limit : ℕ) (o : Outer) (t : Body) (h : Half) (w : Token) (s d : Bool) (os : Option (List Token)) (deep : Bool) → open_depth o t ≤ 64 → suits h w ≡ s → past o && has_does (w ∷ []) ≡ d → opens (Some (openings o)) w ≡ os → is_deep os ≡ deep → Says rt at limit (open_words o t h) w (tests s d deep (is_none os) (is_missing rt (control_written w)) (is_long w) (nat_lt limit (at + laid (open_words o t h ++ w ∷ []))))
 says_by rt at limit o t h w false d os deep k a b e j = (omega arith, unsuited rt at limit o t h w a)
 says_by rt at limit o t h w true true os deep k a b e j = let x = second_is w (past o) b in (omega arith, second rt at limit o t h w x.0 x.1)
 says_by rt at limit o t h w true false os true k a b e j = (omega arith, deep_first rt at limit o t h w a (once_is w (past o) b) (ap is_deep e ∙ j))
 says_by rt at limit o t h w true false None false k a b e j = (omega arith, none_first rt at limit o t h w a (once_is w (past o) b) e)
-says_by rt at limit o t h w true false (Some os) false k a b e j = says_placed rt at limit (open_words o t h) w (is_missing rt (control w)) (is_long w) (nat_lt limit (at + laid (open_words o t h ++ w ∷ []))) (some_placed o t h w os k a (once_is w (past o) b) e j) refl refl refl
+says_by rt at limit o t h w true false (Some os) false k a b e j = says_placed rt at limit (open_words o t h) w (is_missing rt (control_written w)) (is_long w) (nat_lt limit (at + laid (open_words o t h ++ w ∷ []))) (some_placed o t h w os k a (once_is w (past o) b) e j) refl refl refl
 
 pub says : (rt : ℕ → ℕ) (at limit : ℕ) (o : Outer) (t : Body) (h : Half) (w : Token) → open_depth o t ≤ 64 → Says rt at limit (open_words o t h) w (body_cause rt at limit (open_words o t h) w)
 says rt at limit o t h w k =

@@ -3,13 +3,13 @@ use Rattle.std.proofs.Common.{◌≡◌, true, false, ℕ, ◌<◌, ◌≤◌, L
 use Rattle.colon_bodies.specs.declared.words.Half.{Half}
 use Rattle.colon_bodies.specs.declared.words.Half.TheVariants.{Free, Ticked, Forced, Compiling, Both}
 use Rattle.colon_bodies.specs.Tokens.{Token, NAME, THEN, UNTIL, REPEAT, LOOP, SEMI}
-use Rattle.colon_bodies.specs.Tree.{Body, Empty, Call, Tick, Pair, IfThen, IfElse, Until, While, Loop, Definition, Simple, Doing, words, all_words, depth, all_depth}
+use Rattle.colon_bodies.specs.Tree.{Body, Empty, Call, Tick, Pair, IfThen, IfElse, Until, While, Loop, Definition, Simple, Doing, words, all_words, nesting, all_nesting}
 use Rattle.colon_bodies.specs.Faults.{BeginsShallow}
 use Rattle.colon_bodies.proofs.Causes.{Begins}
 use Rattle.colon_bodies.specs.Open.{Outer, Top, Past, InIf, InElse, InBegin, InWhile, InDo, State, At, outer_words, open_words, complete, fit, read, whole, open_depth}
 use Rattle.colon_bodies.proofs.Parts.{by_parts, by_frames}
 
--- the definition, where these words complete it
+-- the definition, if these words complete it
 abbrev pub finish : Outer → Body → Half → Token → List Token → Option Definition
 finish o t h SEMI [] = whole o t h
 finish _ _ _ _ _ = None
@@ -50,7 +50,7 @@ pub read_words : (o : Outer) (t : Body) (h : Half) (w : Token) (p : Outer) (u : 
 read_words o t h w p u g e = grind (arith, move, fit_words, append_assoc)
 
 -- It makes nothing less deep.
-completed_depth : (h : Half) (t : Body) (w : ℕ) → depth (complete h t w) ≡ depth t
+completed_depth : (h : Half) (t : Body) (w : ℕ) → nesting (complete h t w) ≡ nesting t
 completed_depth h t w = grind arith
 
 pub completed_open : (o : Outer) (h : Half) (t : Body) (w : ℕ) → open_depth o (complete h t w) ≡ open_depth o t
@@ -69,13 +69,13 @@ finish_is o t h u w ws e = grind arith
 pub whole_words : (o : Outer) (t : Body) (h : Half) (u : Definition) → whole o t h ≡ Some u → open_words o t h ≡ all_words u
 whole_words o t h u e = grind (arith, append_assoc)
 
-pub whole_depth : (o : Outer) (t : Body) (h : Half) (u : Definition) → whole o t h ≡ Some u → open_depth o t ≡ all_depth u
+pub whole_depth : (o : Outer) (t : Body) (h : Half) (u : Definition) → whole o t h ≡ Some u → open_depth o t ≡ all_nesting u
 whole_depth o t h u e = grind arith
 
-next_depth : (s : Option State) (ws : List Token) (o : Outer) (t : Body) (u : Definition) (stop : Option Definition) → ((p : Outer) (v : Body) (g : Half) → s ≡ Some (At p v g) → open_depth o t ≤ open_depth p v) → ((p : Outer) (v : Body) (g : Half) → accept p v g ws ≡ Some u → open_depth p v ≤ all_depth u) → (stop ≡ Some u → open_depth o t ≤ all_depth u) → next s (λ p v g. accept p v g ws) stop ≡ Some u → open_depth o t ≤ all_depth u
+next_depth : (s : Option State) (ws : List Token) (o : Outer) (t : Body) (u : Definition) (stop : Option Definition) → ((p : Outer) (v : Body) (g : Half) → s ≡ Some (At p v g) → open_depth o t ≤ open_depth p v) → ((p : Outer) (v : Body) (g : Half) → accept p v g ws ≡ Some u → open_depth p v ≤ all_nesting u) → (stop ≡ Some u → open_depth o t ≤ all_nesting u) → next s (λ p v g. accept p v g ws) stop ≡ Some u → open_depth o t ≤ all_nesting u
 next_depth s ws o t u stop h ih f e = grind arith
 
-pub accept_depth : (ws : List Token) (o : Outer) (t : Body) (h : Half) (u : Definition) → accept o t h ws ≡ Some u → open_depth o t ≤ all_depth u
+pub accept_depth : (ws : List Token) (o : Outer) (t : Body) (h : Half) (u : Definition) → accept o t h ws ≡ Some u → open_depth o t ≤ all_nesting u
 accept_depth [] o t h u e = cc
 accept_depth (w ∷ ws) o t h u e =
     next_depth (read o t h w) ws o t u (finish o t h w ws) (λ p v g. read_depth o t h w p v g) (λ p v g. accept_depth ws p v g u) (λ f.
@@ -122,10 +122,10 @@ closed = by_frames (λ o. (t : Body) → all_words (close o t) ≡ (outer_words 
 settled : (o : Outer) (t : Body) (h : Half) → outer_words o ++ words (settle h t) ≡ open_words o t h ++ settling h
 settled o t h = grind (arith, append-nil, append_assoc)
 
-close_depth : (o : Outer) (t : Body) → all_depth (close o t) ≡ open_depth o t
-close_depth = by_frames (λ o. (t : Body) → all_depth (close o t) ≡ open_depth o t) (elim [ Top ↦ λ ih t. omega arith | o ↦ λ ih t. grind (arith, ih) ])
+close_depth : (o : Outer) (t : Body) → all_nesting (close o t) ≡ open_depth o t
+close_depth = by_frames (λ o. (t : Body) → all_nesting (close o t) ≡ open_depth o t) (elim [ Top ↦ λ ih t. omega arith | o ↦ λ ih t. grind (arith, ih) ])
 
-settle_depth : (h : Half) (t : Body) → depth (settle h t) ≡ depth t
+settle_depth : (h : Half) (t : Body) → nesting (settle h t) ≡ nesting t
 settle_depth h t = grind arith
 
 goes_on_to : (o : Outer) (t : Body) (h : Half) → all_words (close o (settle h t)) ++ SEMI ∷ [] ≡ open_words o t h ++ (settling h ++ (closing o ++ SEMI ∷ []))

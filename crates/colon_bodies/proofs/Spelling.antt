@@ -2,7 +2,7 @@
 use Rattle.std.proofs.Common.{◌≡◌, Bool, ℕ, List, [], ◌∷◌, ◌++◌, refl, sym, ap, ◌∙◌, arith, append_assoc, append-nil}
 use Rattle.colon_bodies.specs.Tokens.{Token, NAME}
 use Rattle.colon_bodies.specs.Tree.{named, words, all_words, Body, Empty, Definition}
-use Rattle.colon_bodies.specs.Code.{size, code, thread}
+use Rattle.colon_bodies.specs.Code.{size, code, whole_code}
 use Rattle.colon_bodies.specs.Plain.{IsPlainBody, IsPlainDefinition, spelled, all_spelled, respelled}
 use Rattle.colon_bodies.proofs.Parts.{by_parts}
 
@@ -12,7 +12,7 @@ spelled_size f = by_parts (λ t. size (spelled f t) ≡ size t) (elim [ Empty �
 pub spelled_code : (rt : ℕ → ℕ) (f : ℕ → Bool) (t : Body) (at : ℕ) → code rt (spelled f t) at ≡ code rt t at
 spelled_code rt f = by_parts (λ t. (at : ℕ) → code rt (spelled f t) at ≡ code rt t at) (elim [ Empty ↦ λ ih at. refl | t ↦ λ ih at. grind (arith, spelled_size, ih) ])
 
-pub spelled_thread : (rt : ℕ → ℕ) (f : ℕ → Bool) (d : Definition) (at : ℕ) → thread rt (all_spelled f d) at ≡ thread rt d at
+pub spelled_thread : (rt : ℕ → ℕ) (f : ℕ → Bool) (d : Definition) (at : ℕ) → whole_code rt (all_spelled f d) at ≡ whole_code rt d at
 spelled_thread rt f d at = grind (arith, spelled_code, spelled_size)
 
 respelled-append : (f : ℕ → Bool) (xs ys : List Token) → respelled f (xs ++ ys) ≡ respelled f xs ++ respelled f ys

@@ -9,7 +9,7 @@ use Rattle.colon_bodies.specs.declared.fault.BodyCause.{BodyCause}
 use Rattle.colon_bodies.specs.declared.fault.BodyCause.TheVariants as r
 use Rattle.colon_bodies.specs.Tokens.{Token, TEXT, DOES, SEMI, laid_by, laid, IsShort, AreShort}
 use Rattle.colon_bodies.specs.Tree.{Body, Empty, Text, Definition, Simple, Doing, words, all_words}
-use Rattle.colon_bodies.specs.Code.{size, all_size, thread}
+use Rattle.colon_bodies.specs.Code.{size, all_size, whole_code}
 use Rattle.memory.specs.Bytes.{cell_bytes}
 use Rattle.colon_bodies.specs.Rules.{IsKnown, AreKnown, half_after, half_of, suits, has_does}
 use Rattle.colon_bodies.specs.Faults.{BeginsShallow}
@@ -239,7 +239,7 @@ ends_inside rt at limit o t h s k = unbalanced rt at limit o t h SEMI s (λ q. c
 pub end_unknown : (rt : ℕ → ℕ) (at limit : ℕ) (o : Outer) (t : Body) (h : Half) → suits h SEMI ≡ true → frames o ≡ 0 → open_depth o t ≤ 64 → (IsKnown rt SEMI → ⊥) → FirstCause rt at limit r.Unknown (open_words o t h) SEMI
 end_unknown rt at limit o t h s f k bad = grind (arith, unknown, semi_free h s, closed_is o t f, half-open, once, whole_words, append-nil, whole_depth)
 
-end_is : (rt : ℕ → ℕ) (at : ℕ) (o : Outer) (t : Body) (d : Definition) (image new : List ℕ) (marks : List Mark) (control : ℕ) → whole o t Free ≡ Some d → rt 5 ≡ control → Drafted rt at o t Free image marks → new ≡ image ++ cell_bytes control → new ≡ thread rt d at
+end_is : (rt : ℕ → ℕ) (at : ℕ) (o : Outer) (t : Body) (d : Definition) (image new : List ℕ) (marks : List Mark) (control : ℕ) → whole o t Free ≡ Some d → rt 5 ≡ control → Drafted rt at o t Free image marks → new ≡ image ++ cell_bytes control → new ≡ whole_code rt d at
 end_is rt at o t d image new marks control e r k h = grind (arith, append_assoc)
 
 pub end_full : (rt : ℕ → ℕ) (at limit : ℕ) (o : Outer) (t : Body) (h : Half) (image new : List ℕ) (marks : List Mark) (control : ℕ) → suits h SEMI ≡ true → frames o ≡ 0 → open_depth o t ≤ 64 → IsKnown rt SEMI → Drafted rt at o t h image marks → new ≡ image ++ cell_bytes control → limit < at + length new → FirstCause rt at limit r.Full (open_words o t h) SEMI

@@ -5,7 +5,7 @@ use Rattle.colon_bodies.specs.declared.draft.Draft.{Draft}
 use Rattle.colon_bodies.specs.declared.fault.BodyCause.{BodyCause}
 use Rattle.colon_bodies.specs.declared.fault.BodyCause.TheVariants as r
 use Rattle.colon_bodies.specs.Tokens.{Token, SEMI, laid, AreShort}
-use Rattle.colon_bodies.specs.Tree.{Empty, Definition, all_words, all_depth}
+use Rattle.colon_bodies.specs.Tree.{Empty, Definition, all_words, all_nesting}
 use Rattle.memory.specs.Bytes.{cell_bytes}
 use Rattle.colon_bodies.specs.Code.{all_code}
 use Rattle.colon_bodies.specs.Rules.{AreKnown}
@@ -81,7 +81,7 @@ ends rt at limit source done after w place d new p s n z h =
     let b = h.body in
     let q : done ≡ all_words b = p.front ∙ whole_words p.outer p.body p.half b h.is in
     let x = whole_depth p.outer p.body p.half b h.is in
-    let deep : all_depth b ≤ 64 = subst (λ n. n ≤ 64) x p.shallow in
+    let deep : all_nesting b ≤ 64 = subst (λ n. n ≤ 64) x p.shallow in
     let l : laid (all_words b ++ SEMI ∷ []) ≡ length new =
     laid-append (all_words b) (SEMI ∷ []) ∙ omega (arith, ap length h.bytes, length-append (all_code rt b at) (cell_bytes (rt 5)), length-all rt b at, length-cell (rt 5), laid-all b) in
     let m = ap length q in

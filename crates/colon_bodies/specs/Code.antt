@@ -8,8 +8,8 @@ use Rattle.memory.specs.declared.controls.Control.{Control}
 use Rattle.memory.specs.declared.controls.Control.TheVariants as ctl
 
 -- the cell that calls a control primitive; rt k is the compilation address of the control of row k
-abbrev pub cell_of : (ℕ → ℕ) → Control → List ℕ
-cell_of rt control = cell_bytes (rt (number_of control))
+abbrev pub control_cell : (ℕ → ℕ) → Control → List ℕ
+control_cell rt control = cell_bytes (rt (number_of control))
 
 -- how many bytes it takes
 abbrev pub size : Body → ℕ
@@ -35,36 +35,36 @@ all_size (Doing t a) = size t + (2 + size a)
 abbrev pub code : (ℕ → ℕ) → Body → ℕ → List ℕ
 code rt Empty at = []
 code rt (Call t f w) at = code rt t at ++ cell_bytes w
-code rt (Literal t n) at = code rt t at ++ (cell_of rt ctl.Literal ++ cell_bytes n)
-code rt (Double t n) at = code rt t at ++ (cell_of rt ctl.Literal ++ (cell_bytes (n % 65536) ++ (cell_of rt ctl.Literal ++ cell_bytes (n / 65536))))
-code rt (Tick t w) at = code rt t at ++ (cell_of rt ctl.Literal ++ cell_bytes w)
-code rt (Pair t f w) at = code rt t at ++ (cell_of rt ctl.Compile ++ cell_bytes w)
+code rt (Literal t n) at = code rt t at ++ (control_cell rt ctl.Literal ++ cell_bytes n)
+code rt (Double t n) at = code rt t at ++ (control_cell rt ctl.Literal ++ (cell_bytes (n % 65536) ++ (control_cell rt ctl.Literal ++ cell_bytes (n / 65536))))
+code rt (Tick t w) at = code rt t at ++ (control_cell rt ctl.Literal ++ cell_bytes w)
+code rt (Pair t f w) at = code rt t at ++ (control_cell rt ctl.Compile ++ cell_bytes w)
 code rt (IfThen t a) at =
     let p = at + size t in
-    code rt t at ++ (cell_of rt ctl.ZeroBranch ++ (cell_bytes (p + (4 + size a)) ++ code rt a (p + 4)))
+    code rt t at ++ (control_cell rt ctl.ZeroBranch ++ (cell_bytes (p + (4 + size a)) ++ code rt a (p + 4)))
 code rt (IfElse t a b) at =
     let p = at + size t in
-    code rt t at ++ (cell_of rt ctl.ZeroBranch ++ (cell_bytes (p + (8 + size a)) ++ (code rt a (p + 4)
-    ++ (cell_of rt ctl.Branch ++ (cell_bytes (p + (8 + size a + size b)) ++ code rt b (p + (8 + size a)))))))
+    code rt t at ++ (control_cell rt ctl.ZeroBranch ++ (cell_bytes (p + (8 + size a)) ++ (code rt a (p + 4)
+    ++ (control_cell rt ctl.Branch ++ (cell_bytes (p + (8 + size a + size b)) ++ code rt b (p + (8 + size a)))))))
 code rt (Until t a) at =
     let p = at + size t in
-    code rt t at ++ (code rt a p ++ (cell_of rt ctl.ZeroBranch ++ cell_bytes p))
+    code rt t at ++ (code rt a p ++ (control_cell rt ctl.ZeroBranch ++ cell_bytes p))
 code rt (Again t a) at =
     let p = at + size t in
-    code rt t at ++ (code rt a p ++ (cell_of rt ctl.Branch ++ cell_bytes p))
+    code rt t at ++ (code rt a p ++ (control_cell rt ctl.Branch ++ cell_bytes p))
 code rt (While t a b) at =
     let p = at + size t in
-    code rt t at ++ (code rt a p ++ (cell_of rt ctl.ZeroBranch ++ (cell_bytes (p + (8 + size a + size b)) ++ (code rt b (p + (size a + 4))
-    ++ (cell_of rt ctl.Branch ++ cell_bytes p)))))
+    code rt t at ++ (code rt a p ++ (control_cell rt ctl.ZeroBranch ++ (cell_bytes (p + (8 + size a + size b)) ++ (code rt b (p + (size a + 4))
+    ++ (control_cell rt ctl.Branch ++ cell_bytes p)))))
 code rt (Loop t a k) at =
     let p = at + size t in
-    code rt t at ++ (cell_of rt ctl.Do ++ (cell_bytes (p + (8 + size a)) ++ (code rt a (p + 4) ++ (cell_bytes (rt (loop_control k)) ++ cell_bytes (p + 4)))))
+    code rt t at ++ (control_cell rt ctl.Do ++ (cell_bytes (p + (8 + size a)) ++ (code rt a (p + 4) ++ (cell_bytes (rt (loop_control k)) ++ cell_bytes (p + 4)))))
 code rt (Text t k bs) at = code rt t at ++ (cell_bytes (rt (text_control k)) ++ (length bs ∷ bs))
 
 abbrev pub all_code : (ℕ → ℕ) → Definition → ℕ → List ℕ
 all_code rt (Simple t) at = code rt t at
-all_code rt (Doing t a) at = code rt t at ++ (cell_of rt ctl.Does ++ code rt a (at + (size t + 2)))
+all_code rt (Doing t a) at = code rt t at ++ (control_cell rt ctl.Does ++ code rt a (at + (size t + 2)))
 
 -- a whole definition: its bodies, and EXIT
-abbrev pub thread : (ℕ → ℕ) → Definition → ℕ → List ℕ
-thread rt d at = all_code rt d at ++ cell_of rt ctl.Exit
+abbrev pub whole_code : (ℕ → ℕ) → Definition → ℕ → List ℕ
+whole_code rt d at = all_code rt d at ++ control_cell rt ctl.Exit

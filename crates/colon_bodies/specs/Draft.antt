@@ -1,6 +1,5 @@
 -- What the compiler keeps while it reads, and what each of its steps does.
-use Rattle.std.specs.Prelude.{◌≡◌, Bool, true, false, ℕ, ◌+◌, ◌≤◌, List, [], ◌∷◌, ◌++◌, ◌⊎◌, length, Option, Some, None, Result, Ok, Err, Vec}
-use Rattle.std.specs.declared.alloc.Global.{Global}
+use Rattle.std.specs.Prelude.{◌≡◌, Bool, true, false, ℕ, ◌+◌, ◌≤◌, List, [], ◌∷◌, ◌++◌, ◌⊎◌, length, Option, Some, None, Result, Ok, Err, vec_capacity}
 use Rattle.colon_bodies.specs.declared.words.BodyWord.{BodyWord}
 use Rattle.colon_bodies.specs.declared.words.BodyWord.TheVariants as w
 use Rattle.colon_bodies.specs.declared.words.Half.{Half}
@@ -12,7 +11,7 @@ use Rattle.colon_bodies.specs.declared.fault.BodyCause.{BodyCause}
 use Rattle.colon_bodies.specs.declared.fault.BodyCause.TheVariants as r
 use Rattle.colon_bodies.specs.Tokens.{Token, NAME, NUMBER, DOUBLE, TEXT, TICK, FORCE, COMPILE, IF, ELSE, THEN, BEGIN, UNTIL, AGAIN, WHILE, REPEAT, DO, LOOP, DOES, SEMI, IsShort, AreShort}
 use Rattle.colon_bodies.specs.Tree.{Body, Definition}
-use Rattle.colon_bodies.specs.Code.{size, thread}
+use Rattle.colon_bodies.specs.Code.{size, whole_code}
 use Rattle.memory.specs.Bytes.{cell_bytes}
 use Rattle.memory.specs.Controls.{number_of}
 use Rattle.memory.specs.declared.controls.Control.{Control}
@@ -56,6 +55,10 @@ marks_of at (InDo o t) = marks_of at o ++ m.Do (outer_size o + size t + 2) ∷ [
 abbrev pub IsBlank : Draft → Type 0
 IsBlank d = (d.image.items ≡ []) × (d.marks.items ≡ []) × (d.half ≡ Free) × (d.is_past ≡ false)
 
+-- it has the room that the other had, or more
+abbrev pub KeepsRoom : Draft → Draft → Type 0
+KeepsRoom old new = (vec_capacity old.image ≤ vec_capacity new.image) × (vec_capacity old.marks ≤ vec_capacity new.marks)
+
 -- the bytes and the marks are those of the words that were read
 pub record Drafted (rt : ℕ → ℕ) (at : ℕ) (o : Outer) (t : Body) (h : Half) (image : List ℕ) (marks : List Mark) : Type 0 where
   pub bytes : image ≡ open_code rt o t h at
@@ -78,7 +81,7 @@ After rt at (Some (At o t h)) (Err e) image marks = e ≡ r.Memory
 abbrev pub Calls : (ℕ → ℕ) → Control → ℕ → Type 0
 Calls rt control w = rt (number_of control) ≡ w
 
--- what a step makes of the bytes and the marks, where they are those of the words that were read
+-- what a step makes of the bytes and the marks, if they are those of the words that were read
 abbrev pub Steps : (ℕ → ℕ) → ℕ → Outer → Body → Half → Token → List ℕ → List Mark → Result (Unit {0}) BodyCause → List ℕ → List Mark → Type 0
 Steps rt at o t h w image marks result written kept = Drafted rt at o t h image marks → After rt at (read o t h w) result written kept
 
@@ -127,9 +130,9 @@ pub record Goes (rt : ℕ → ℕ) (at limit : ℕ) (o : Outer) (t : Body) (h : 
   pub room : at + length d.image.items ≤ limit
 
 -- what comes of one more word
-abbrev pub Taken : (ℕ → ℕ) → ℕ → ℕ → Outer → Body → Half → Token → Result Draft BodyCause → Type 0
-Taken rt at limit o t h w (Ok d) = Goes rt at limit o t h w d
-Taken rt at limit o t h w (Err e) = (e ≡ r.Memory) ⊎ (body_cause rt at limit (open_words o t h) w ≡ Some e)
+abbrev pub Taken : (ℕ → ℕ) → ℕ → ℕ → Outer → Body → Half → Token → Result (Unit {0}) BodyCause → Draft → Type 0
+Taken rt at limit o t h w (Ok u) d = Goes rt at limit o t h w d
+Taken rt at limit o t h w (Err e) d = (e ≡ r.Memory) ⊎ (body_cause rt at limit (open_words o t h) w ≡ Some e)
 
 -- a word that opens a structure
 abbrev pub opener : Token → Bool
@@ -142,14 +145,14 @@ opener _ = false
 pub record Finishes (rt : ℕ → ℕ) (at limit : ℕ) (o : Outer) (t : Body) (h : Half) (image : List ℕ) : Type 0 where
   pub body : Definition
   pub is : whole o t h ≡ Some body
-  pub bytes : image ≡ thread rt body at
+  pub bytes : image ≡ whole_code rt body at
   pub known : IsKnown rt SEMI
   pub room : at + length image ≤ limit
 
 -- what comes of a draft's ;
-abbrev pub Ended : (ℕ → ℕ) → ℕ → ℕ → Outer → Body → Half → Result (Vec ℕ Global) BodyCause → Type 0
-Ended rt at limit o t h (Ok image) = Finishes rt at limit o t h image.items
-Ended rt at limit o t h (Err e) = (e ≡ r.Memory) ⊎ (body_cause rt at limit (open_words o t h) SEMI ≡ Some e)
+abbrev pub Ended : (ℕ → ℕ) → ℕ → ℕ → Outer → Body → Half → Result (Unit {0}) BodyCause → List ℕ → Type 0
+Ended rt at limit o t h (Ok u) image = Finishes rt at limit o t h image
+Ended rt at limit o t h (Err e) image = (e ≡ r.Memory) ⊎ (body_cause rt at limit (open_words o t h) SEMI ≡ Some e)
 
 -- how far a source was read
 pub record Progress (rt : ℕ → ℕ) (at limit : ℕ) (done : List Token) (d : Draft) : Type 0 where
@@ -167,7 +170,7 @@ pub record Progress (rt : ℕ → ℕ) (at limit : ℕ) (done : List Token) (d :
 pub record Compiled (rt : ℕ → ℕ) (at limit : ℕ) (source : List Token) (image : List ℕ) (used : ℕ) : Type 0 where
   pub body : Definition
   pub good : IsGood rt at limit source body used
-  pub is : image ≡ thread rt body at
+  pub is : image ≡ whole_code rt body at
 
 -- how far a word writes before it needs the address after what it has written
 abbrev pub jump_by : Token → ℕ

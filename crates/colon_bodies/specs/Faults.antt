@@ -1,7 +1,7 @@
 -- Good sources, and the first fault of any other.
 use Rattle.std.specs.Prelude.{ℕ, Bool, false, not, ◌&&◌, if◌then◌else◌, nat_lt, ◌+◌, List, [], ◌∷◌, ◌++◌, length, ◌≡◌, ◌≤◌, ◌⊎◌, Option, Some, None, is_none}
-use Rattle.colon_bodies.specs.Tokens.{Token, control, laid, is_long, AreShort, SEMI}
-use Rattle.colon_bodies.specs.Tree.{Definition, all_words, all_depth}
+use Rattle.colon_bodies.specs.Tokens.{Token, control_written, laid, is_long, AreShort, SEMI}
+use Rattle.colon_bodies.specs.Tree.{Definition, all_words, all_nesting}
 use Rattle.colon_bodies.specs.Rules.{AreKnown, is_missing, half_of, suits, has_does, opened}
 use Rattle.colon_bodies.specs.declared.fault.BodyCause.{BodyCause}
 use Rattle.colon_bodies.specs.declared.words.Half.TheVariants.{Free}
@@ -12,7 +12,7 @@ pub record BeginsShallow (front : List Token) : Type 0 where
   pub body : Definition
   pub more : List Token
   pub is : all_words body ++ SEMI ∷ [] ≡ front ++ more
-  pub shallow : all_depth body ≤ 64
+  pub shallow : all_nesting body ≤ 64
 
 -- Nothing is wrong with these words, which are written from an address on, and the definition goes on after them.
 pub record IsFront (rt : ℕ → ℕ) (at limit : ℕ) (front : List Token) : Type 0 where
@@ -34,7 +34,7 @@ body_cause rt at limit before w =
     else if has_does before && has_does (w ∷ []) then Some Misplaced
     else if is_deep (opened (Some []) (before ++ w ∷ [])) then Some Misplaced
     else if is_none (opened (Some []) (before ++ w ∷ [])) then Some Unbalanced
-    else if is_missing rt (control w) then Some Unknown
+    else if is_missing rt (control_written w) then Some Unknown
     else if is_long w then Some BadName
     else if nat_lt limit (at + laid (before ++ w ∷ [])) then Some Full
     else None
@@ -61,7 +61,7 @@ pub record IsGood (rt : ℕ → ℕ) (at limit : ℕ) (source : List Token) (bod
   pub after : List Token
   pub is : source ≡ (all_words body ++ SEMI ∷ []) ++ after
   pub used_is : used ≡ length (all_words body ++ SEMI ∷ [])
-  pub shallow : all_depth body ≤ 64
+  pub shallow : all_nesting body ≤ 64
   pub known : AreKnown rt (all_words body ++ SEMI ∷ [])
   pub short : AreShort (all_words body)
   pub room : at + laid (all_words body ++ SEMI ∷ []) ≤ limit

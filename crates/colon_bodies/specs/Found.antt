@@ -78,7 +78,7 @@ instrs rt n [] = Some []
 instrs rt zero (b ∷ bs) = None
 instrs rt (suc n) (b ∷ bs) = and_more (first rt (b ∷ bs)) (instrs rt n)
 
--- those before the last, where that is EXIT
+-- those before the last, if that is EXIT
 abbrev pub if_exit : ℕ → Instr → Option (List Instr)
 if_exit e (ICall w) = cond (eqb w e) (Some []) None
 if_exit e _ = None

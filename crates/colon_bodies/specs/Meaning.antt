@@ -1,4 +1,4 @@
--- What a word of a body is: by its name, where that stands for something, else by how it is spelled.
+-- What a word of a body is: by its name, if that stands for something, else by how it is spelled.
 use Rattle.std.specs.Prelude.{ℕ, Bool, false, ◌||◌}
 use Rattle.colon_bodies.specs.Tokens.{Token, NUMBER, DOUBLE}
 use Rattle.colon_bodies.specs.declared.words.Half.{Half}

@@ -3,9 +3,9 @@ use Rattle.std.specs.Prelude.{ℕ, Bool, true, false, ◌+◌, List, [], ◌∷�
 use Rattle.colon_bodies.specs.declared.words.Half.{Half}
 use Rattle.colon_bodies.specs.declared.words.Half.TheVariants.{Free, Ticked, Forced, Compiling, Both}
 use Rattle.colon_bodies.specs.Tokens.{Token, NAME, NUMBER, DOUBLE, TEXT, TICK, FORCE, COMPILE, IF, ELSE, THEN, BEGIN, UNTIL, AGAIN, WHILE, REPEAT, DO, LOOP, DOES}
-use Rattle.colon_bodies.specs.Tree.{Body, Empty, Call, Tick, Pair, Literal, Double, Text, IfThen, IfElse, Until, Again, While, Loop, Definition, Simple, Doing, words, depth}
+use Rattle.colon_bodies.specs.Tree.{Body, Empty, Call, Tick, Pair, Literal, Double, Text, IfThen, IfElse, Until, Again, While, Loop, Definition, Simple, Doing, words, nesting}
 use Rattle.memory.specs.declared.controls.Control.TheVariants as ctl
-use Rattle.colon_bodies.specs.Code.{size, cell_of, code}
+use Rattle.colon_bodies.specs.Code.{size, control_cell, code}
 use Rattle.memory.specs.Bytes.{cell_bytes}
 
 -- Each open structure is in the ones outside it, with the bodies that were read before.
@@ -42,7 +42,7 @@ half_words Both ws = ws ++ COMPILE ∷ FORCE ∷ []
 abbrev pub open_words : Outer → Body → Half → List Token
 open_words o t h = half_words h (outer_words o ++ words t)
 
--- the body, where a name comes
+-- the body, if a name comes
 abbrev pub complete : Half → Body → ℕ → Body
 complete Free t w = Call t false w
 complete Ticked t w = Tick t w
@@ -50,7 +50,7 @@ complete Forced t w = Call t true w
 complete Compiling t w = Pair t false w
 complete Both t w = Pair t true w
 
--- what one more word makes of it where nothing is half read; none where it doesn't fit
+-- what one more word makes of it if nothing is half read; none if it doesn't fit
 abbrev pub fit : Outer → Body → Token → Option State
 fit o t FORCE = Some (At o t Forced)
 fit o t TICK = Some (At o t Ticked)
@@ -79,7 +79,7 @@ read o t Free w = fit o t w
 read o t Compiling FORCE = Some (At o t Both)
 read _ _ _ _ = None
 
--- the whole definition, where ; may come
+-- the whole definition, if ; may come
 abbrev pub whole : Outer → Body → Half → Option Definition
 whole Top t Free = Some (Simple t)
 whole (Past t) a Free = Some (Doing t a)
@@ -111,15 +111,15 @@ frames (InDo o t) = frames o + 1
 
 abbrev pub outer_depth : Outer → ℕ
 outer_depth Top = 0
-outer_depth (Past t) = depth t
-outer_depth (InIf o t) = max (outer_depth o) (frames o + depth t)
-outer_depth (InElse o t a) = max (outer_depth o) (max (frames o + depth t) (frames o + 1 + depth a))
-outer_depth (InBegin o t) = max (outer_depth o) (frames o + depth t)
-outer_depth (InWhile o t a) = max (outer_depth o) (max (frames o + depth t) (frames o + 1 + depth a))
-outer_depth (InDo o t) = max (outer_depth o) (frames o + depth t)
+outer_depth (Past t) = nesting t
+outer_depth (InIf o t) = max (outer_depth o) (frames o + nesting t)
+outer_depth (InElse o t a) = max (outer_depth o) (max (frames o + nesting t) (frames o + 1 + nesting a))
+outer_depth (InBegin o t) = max (outer_depth o) (frames o + nesting t)
+outer_depth (InWhile o t a) = max (outer_depth o) (max (frames o + nesting t) (frames o + 1 + nesting a))
+outer_depth (InDo o t) = max (outer_depth o) (frames o + nesting t)
 
 abbrev pub open_depth : Outer → Body → ℕ
-open_depth o t = max (outer_depth o) (frames o + depth t)
+open_depth o t = max (outer_depth o) (frames o + nesting t)
 
 abbrev pub outer_size : Outer → ℕ
 outer_size Top = 0
@@ -143,27 +143,27 @@ open_size o t h = outer_size o + size t + half_size h
 -- the bytes written for the open structures, with 0 in each cell that waits for its address
 abbrev pub outer_code : (ℕ → ℕ) → Outer → ℕ → List ℕ
 outer_code rt Top at = []
-outer_code rt (Past t) at = code rt t at ++ cell_of rt ctl.Does
+outer_code rt (Past t) at = code rt t at ++ control_cell rt ctl.Does
 outer_code rt (InIf o t) at =
-    outer_code rt o at ++ (code rt t (at + outer_size o) ++ (cell_of rt ctl.ZeroBranch ++ cell_bytes 0))
+    outer_code rt o at ++ (code rt t (at + outer_size o) ++ (control_cell rt ctl.ZeroBranch ++ cell_bytes 0))
 outer_code rt (InElse o t a) at =
     let p = at + outer_size o + size t in
-    outer_code rt o at ++ (code rt t (at + outer_size o) ++ (cell_of rt ctl.ZeroBranch ++ (cell_bytes (p + (8 + size a)) ++ (code rt a (p + 4) ++ (cell_of rt ctl.Branch ++ cell_bytes 0)))))
+    outer_code rt o at ++ (code rt t (at + outer_size o) ++ (control_cell rt ctl.ZeroBranch ++ (cell_bytes (p + (8 + size a)) ++ (code rt a (p + 4) ++ (control_cell rt ctl.Branch ++ cell_bytes 0)))))
 outer_code rt (InBegin o t) at =
     outer_code rt o at ++ code rt t (at + outer_size o)
 outer_code rt (InWhile o t a) at =
     let p = at + outer_size o + size t in
-    outer_code rt o at ++ (code rt t (at + outer_size o) ++ (code rt a p ++ (cell_of rt ctl.ZeroBranch ++ cell_bytes 0)))
+    outer_code rt o at ++ (code rt t (at + outer_size o) ++ (code rt a p ++ (control_cell rt ctl.ZeroBranch ++ cell_bytes 0)))
 outer_code rt (InDo o t) at =
-    outer_code rt o at ++ (code rt t (at + outer_size o) ++ (cell_of rt ctl.Do ++ cell_bytes 0))
+    outer_code rt o at ++ (code rt t (at + outer_size o) ++ (control_cell rt ctl.Do ++ cell_bytes 0))
 
 -- bytes with those of what is half read after them
 abbrev pub half_code : (ℕ → ℕ) → Half → List ℕ → List ℕ
 half_code rt Free bs = bs
-half_code rt Ticked bs = bs ++ cell_of rt ctl.Literal
+half_code rt Ticked bs = bs ++ control_cell rt ctl.Literal
 half_code rt Forced bs = bs
-half_code rt Compiling bs = bs ++ cell_of rt ctl.Compile
-half_code rt Both bs = bs ++ cell_of rt ctl.Compile
+half_code rt Compiling bs = bs ++ control_cell rt ctl.Compile
+half_code rt Both bs = bs ++ control_cell rt ctl.Compile
 
 abbrev pub open_code : (ℕ → ℕ) → Outer → Body → Half → ℕ → List ℕ
 open_code rt o t h at = half_code rt h (outer_code rt o at ++ code rt t (at + outer_size o))

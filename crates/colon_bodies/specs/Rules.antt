@@ -1,6 +1,6 @@
 -- Which words may be where.
 use Rattle.std.specs.Prelude.{ℕ, Bool, true, false, ◌==◌, List, [], ◌∷◌, ◌≢◌, Option, Some, None}
-use Rattle.colon_bodies.specs.Tokens.{Token, control, NAME, NUMBER, DOUBLE, TEXT, TICK, FORCE, COMPILE, IF, ELSE, THEN, BEGIN, UNTIL, AGAIN, WHILE, REPEAT, DO, LOOP, DOES, SEMI}
+use Rattle.colon_bodies.specs.Tokens.{Token, control_written, NAME, NUMBER, DOUBLE, TEXT, TICK, FORCE, COMPILE, IF, ELSE, THEN, BEGIN, UNTIL, AGAIN, WHILE, REPEAT, DO, LOOP, DOES, SEMI}
 use Rattle.colon_bodies.specs.declared.words.Half.{Half}
 use Rattle.colon_bodies.specs.declared.words.Half.TheVariants.{Free, Ticked, Forced, Compiling, Both}
 
@@ -10,7 +10,7 @@ HasCell rt None = Unit {0}
 HasCell rt (Some k) = rt k ≢ 0
 
 abbrev pub IsKnown : (ℕ → ℕ) → Token → Type 0
-IsKnown rt w = HasCell rt (control w)
+IsKnown rt w = HasCell rt (control_written w)
 
 -- it has none
 abbrev pub is_missing : (ℕ → ℕ) → Option ℕ → Bool

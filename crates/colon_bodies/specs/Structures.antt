@@ -22,7 +22,7 @@ join c (Again t a) = Again (join c t) a
 join c (While t a b) = While (join c t) a b
 join c (Loop t a k) = Loop (join c t) a k
 
--- the last n bytes of a body, where it can be cut there
+-- the last n bytes of a body, if it can be cut there
 pub data Cut : Type 0 where
   Nowhere : Cut
   Between : (front back : Body) → Cut

@@ -33,23 +33,23 @@ abbrev pub loop_control : (plus : Bool) → ℕ
 loop_control plus = number_of (if plus then ctl.PlusLoop else ctl.Loop)
 
 -- the control primitive that a word writes
-abbrev pub control : Token → Option ℕ
-control (NUMBER n) = Some (number_of ctl.Literal)
-control (DOUBLE n) = Some (number_of ctl.Literal)
-control TICK = Some (number_of ctl.Literal)
-control COMPILE = Some (number_of ctl.Compile)
-control IF = Some (number_of ctl.ZeroBranch)
-control ELSE = Some (number_of ctl.Branch)
-control UNTIL = Some (number_of ctl.ZeroBranch)
-control AGAIN = Some (number_of ctl.Branch)
-control WHILE = Some (number_of ctl.ZeroBranch)
-control REPEAT = Some (number_of ctl.Branch)
-control DO = Some (number_of ctl.Do)
-control (LOOP k) = Some (loop_control k)
-control (TEXT k bs) = Some (text_control k)
-control DOES = Some (number_of ctl.Does)
-control SEMI = Some (number_of ctl.Exit)
-control _ = None
+abbrev pub control_written : Token → Option ℕ
+control_written (NUMBER n) = Some (number_of ctl.Literal)
+control_written (DOUBLE n) = Some (number_of ctl.Literal)
+control_written TICK = Some (number_of ctl.Literal)
+control_written COMPILE = Some (number_of ctl.Compile)
+control_written IF = Some (number_of ctl.ZeroBranch)
+control_written ELSE = Some (number_of ctl.Branch)
+control_written UNTIL = Some (number_of ctl.ZeroBranch)
+control_written AGAIN = Some (number_of ctl.Branch)
+control_written WHILE = Some (number_of ctl.ZeroBranch)
+control_written REPEAT = Some (number_of ctl.Branch)
+control_written DO = Some (number_of ctl.Do)
+control_written (LOOP k) = Some (loop_control k)
+control_written (TEXT k bs) = Some (text_control k)
+control_written DOES = Some (number_of ctl.Does)
+control_written SEMI = Some (number_of ctl.Exit)
+control_written _ = None
 
 -- how many bytes each word writes, wherever it is: those below, and otherwise a control's cell and one cell after it
 abbrev pub laid_by : Token → ℕ

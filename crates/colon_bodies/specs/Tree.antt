@@ -23,7 +23,7 @@ pub data Definition : Type 0 where
   Simple : Body → Definition
   Doing : Body → Body → Definition
 
--- a name, after [COMPILE] where it is forced
+-- a name, after [COMPILE] if it is forced
 abbrev pub named : (forced : Bool) → (w : ℕ) → List Token
 named false w = NAME w ∷ []
 named true w = FORCE ∷ NAME w ∷ []
@@ -49,21 +49,21 @@ all_words (Simple t) = words t
 all_words (Doing t a) = words t ++ (DOES ∷ words a)
 
 -- how deep its structures lie in one another
-abbrev pub depth : Body → ℕ
-depth Empty = 0
-depth (Call t f w) = depth t
-depth (Literal t n) = depth t
-depth (Double t n) = depth t
-depth (Tick t w) = depth t
-depth (Pair t f w) = depth t
-depth (IfThen t a) = max (depth t) (depth a + 1)
-depth (IfElse t a b) = max (depth t) (max (depth a + 1) (depth b + 1))
-depth (Until t a) = max (depth t) (depth a + 1)
-depth (Again t a) = max (depth t) (depth a + 1)
-depth (While t a b) = max (depth t) (max (depth a + 1) (depth b + 1))
-depth (Loop t a k) = max (depth t) (depth a + 1)
-depth (Text t k bs) = depth t
+abbrev pub nesting : Body → ℕ
+nesting Empty = 0
+nesting (Call t f w) = nesting t
+nesting (Literal t n) = nesting t
+nesting (Double t n) = nesting t
+nesting (Tick t w) = nesting t
+nesting (Pair t f w) = nesting t
+nesting (IfThen t a) = max (nesting t) (nesting a + 1)
+nesting (IfElse t a b) = max (nesting t) (max (nesting a + 1) (nesting b + 1))
+nesting (Until t a) = max (nesting t) (nesting a + 1)
+nesting (Again t a) = max (nesting t) (nesting a + 1)
+nesting (While t a b) = max (nesting t) (max (nesting a + 1) (nesting b + 1))
+nesting (Loop t a k) = max (nesting t) (nesting a + 1)
+nesting (Text t k bs) = nesting t
 
-abbrev pub all_depth : Definition → ℕ
-all_depth (Simple t) = depth t
-all_depth (Doing t a) = max (depth t) (depth a)
+abbrev pub all_nesting : Definition → ℕ
+all_nesting (Simple t) = nesting t
+all_nesting (Doing t a) = max (nesting t) (nesting a)

@@ -1,15 +1,16 @@
 //! The one pass over the words of a body.
 
-ghost use Rattle.std.specs.Prelude.{◌≡◌, ◌≢◌, true, ℕ, IfOk, IfErr, map, ◌+◌, ◌<◌, ◌≤◌, ◌⊎◌, ◌^◌, List, length, slice_index};
+ghost use Rattle.std.specs.Prelude.{◌≡◌, ◌≢◌, true, ℕ, IfOk, IfErr, map, ◌+◌, ◌<◌, ◌≤◌, ◌⊎◌, ◌^◌, List, length, slice_index, vec_capacity};
 ghost use Rattle.colon_bodies.specs.Tree.{Body};
-ghost use Rattle.colon_bodies.specs.Tokens.{SEMI, IsShort, control, laid};
+ghost use Rattle.colon_bodies.specs.Tokens.{SEMI, IsShort, control_written, laid_by, laid};
 ghost use Rattle.colon_bodies.specs.Rules.{suits};
 ghost use Rattle.colon_bodies.specs.Faults.{IsFault};
 ghost use Rattle.colon_bodies.specs.Open.{Outer, read, past, open_depth};
-ghost use Rattle.colon_bodies.specs.Draft.{token, After, Calls, Drafts, Drafting, Steps, Taken, Ended, Compiled, jump_by};
+ghost use Rattle.colon_bodies.specs.Draft.{token, After, Calls, Drafts, Drafting, Steps, Taken, Ended, Compiled, KeepsRoom, opener, jump_by};
 ghost use Rattle.memory.specs.declared.controls.Control.TheVariants as ctl;
 ghost use Rattle.colon_bodies.specs.declared.words.Half.{Half};
 ghost use Rattle.colon_bodies.specs.declared.words.Half.TheVariants.{Free};
+ghost use Rattle.colon_bodies.specs.declared.fault.BodyCause.TheVariants.{Memory};
 
 use crate::controls::{cell_of, loop_control, text_control};
 use crate::draft::{Draft, Mark};
@@ -25,9 +26,8 @@ use crate::steps::{
 };
 use crate::words::{BodyWord, Half};
 use memory::controls::Control;
-use std::alloc::Global;
 
-/// Writes what one word writes where nothing is half read.
+/// Writes what one word writes if nothing is half read.
 fn step(
     image: &mut Vec<u8>,
     marks: &mut Vec<Mark>,
@@ -40,9 +40,13 @@ fn step(
     requires room { at + length image.old.items + jump_by (token word) < 2 ^ 16 }
     requires controls { 28 ≤ length runtime.now }
     requires short { IsShort (token word) }
-    ensures { (o : Outer) (t : Body) → is_past ≡ past o →
+    ensures steps { (o : Outer) (t : Body) → is_past ≡ past o →
         Steps (slice_index runtime.now) at o t Free (token word.entry)
         image.old.items marks.old.items result image.new.items marks.new.items }
+    ensures kept { (vec_capacity image.old ≤ vec_capacity image.new) × (vec_capacity marks.old ≤ vec_capacity marks.new) }
+    ensures room { length image.old.items + laid_by (token word.entry) ≤ vec_capacity image.old →
+        (opener (token word.entry) ≡ true → length marks.old.items < vec_capacity marks.old) →
+        IfErr result (λ e. e ≢ Memory) }
 {
     match word {
         BodyWord::Name(w) => lay_name(image, w),
@@ -73,9 +77,11 @@ fn step(
 
 /// Writes what one word writes after what is half read.
 fn complete_half(image: &mut Vec<u8>, word: BodyWord) -> Result<(), BodyCause>
-    ensures { (rt : ℕ → ℕ) (at : ℕ) (o : Outer) (t : Body) (h : Half) (marks : List Mark) → h ≢ Free →
+    ensures steps { (rt : ℕ → ℕ) (at : ℕ) (o : Outer) (t : Body) (h : Half) (marks : List Mark) → h ≢ Free →
         suits h (token word.entry) ≡ true →
         Steps rt at o t h (token word.entry) image.old.items marks result image.new.items marks }
+    ensures kept { vec_capacity image.old ≤ vec_capacity image.new }
+    ensures room { length image.old.items + laid_by (token word.entry) ≤ vec_capacity image.old → IfErr result (λ e. e ≢ Memory) }
 {
     match word {
         BodyWord::Name(w) => lay_name(image, w),
@@ -92,7 +98,11 @@ fn lay(d: &mut Draft, word: BodyWord, at: u16, runtime: &[u16]) -> Result<(), Bo
     ensures taken { (o : Outer) (t : Body) (h : Half) → suits h (token word.entry) ≡ true →
         Drafts (slice_index runtime.now) at o t h d.old →
         After (slice_index runtime.now) at (read o t h (token word.entry)) result d.new.image.items d.new.marks.items }
-    ensures kept { (d.new.half ≡ d.old.half) × (d.new.is_past ≡ d.old.is_past) }
+    ensures half { (d.new.half ≡ d.old.half) × (d.new.is_past ≡ d.old.is_past) }
+    ensures kept { KeepsRoom d.old d.new }
+    ensures room { length d.old.image.items + laid_by (token word.entry) ≤ vec_capacity d.old.image →
+        (opener (token word.entry) ≡ true → length d.old.marks.items < vec_capacity d.old.marks) →
+        IfErr result (λ e. e ≢ Memory) }
 {
     if is_free(d.half) {
         step(&mut d.image, &mut d.marks, d.is_past, word, at, runtime)?;
@@ -102,23 +112,26 @@ fn lay(d: &mut Draft, word: BodyWord, at: u16, runtime: &[u16]) -> Result<(), Bo
     Ok(())
 }
 
-/// Takes one more word; where it is refused, the draft is gone.
+/// Takes one more word; if it is refused, nothing of the draft is of use any more but its room.
 pub fn take_word(
-    d: Draft,
+    d: &mut Draft,
     word: BodyWord,
     at: u16,
     limit: u16,
     runtime: &[u16],
-) -> Result<Draft, BodyCause>
-    requires drafting { Drafting at d.image.items d.marks.items }
-    requires room { at + length d.image.items ≤ limit }
-    requires jump { at + length d.image.items + jump_by (token word) < 2 ^ 16 }
+) -> Result<(), BodyCause>
+    requires drafting { Drafting at d.old.image.items d.old.marks.items }
+    requires room { at + length d.old.image.items ≤ limit }
+    requires jump { at + length d.old.image.items + jump_by (token word) < 2 ^ 16 }
     requires controls { 28 ≤ length runtime.now }
     requires inside { token word ≢ SEMI }
-    ensures { (o : Outer) (t : Body) (h : Half) → Drafts (slice_index runtime.now) at o t h d → open_depth o t ≤ 64 →
-        Taken (slice_index runtime.now) at limit o t h (token word.entry) result }
+    ensures taken { (o : Outer) (t : Body) (h : Half) → Drafts (slice_index runtime.now) at o t h d.old → open_depth o t ≤ 64 →
+        Taken (slice_index runtime.now) at limit o t h (token word.entry) result d.new }
+    ensures kept { KeepsRoom d.old d.new }
+    ensures room { length d.old.image.items + laid_by (token word.entry) ≤ vec_capacity d.old.image →
+        (opener (token word.entry) ≡ true → length d.old.marks.items < 64 → length d.old.marks.items < vec_capacity d.old.marks) →
+        IfErr result (λ e. e ≢ Memory) }
 {
-    let mut d = d;
     if !is_suited(d.half, word) {
         return Err(BodyCause::Misplaced);
     }
@@ -134,7 +147,7 @@ pub fn take_word(
         }
         return Err(BodyCause::BadName);
     }
-    lay(&mut d, word, at, runtime)?;
+    lay(d, word, at, runtime)?;
     if !is_known(word, runtime) {
         return Err(BodyCause::Unknown);
     }
@@ -143,13 +156,15 @@ pub fn take_word(
     }
     d.half = half_behind(d.half, word);
     d.is_past = past_behind(d.is_past, word);
-    Ok(d)
+    Ok(())
 }
 
-/// Takes the last word, and gives the bytes; where it is refused, the draft is gone.
-pub fn finish(d: Draft, at: u16, limit: u16, control: u16) -> Result<Vec<u8>, BodyCause>
-    ensures { (rt : ℕ → ℕ) (o : Outer) (t : Body) (h : Half) → Calls rt ctl.Exit control → Drafts rt at o t h d →
-        open_depth o t ≤ 64 → Ended rt at limit o t h result }
+/// Takes the last word: the draft's bytes are then those of the definition; if it is refused, nothing of the draft is of use any more but its room.
+pub fn finish(d: &mut Draft, at: u16, limit: u16, control: u16) -> Result<(), BodyCause>
+    ensures ended { (rt : ℕ → ℕ) (o : Outer) (t : Body) (h : Half) → Calls rt ctl.Exit control → Drafts rt at o t h d.old →
+        open_depth o t ≤ 64 → Ended rt at limit o t h result d.new.image.items }
+    ensures kept { KeepsRoom d.old d.new }
+    ensures room { length d.old.image.items + 2 ≤ vec_capacity d.old.image → IfErr result (λ e. e ≢ Memory) }
 {
     if !is_suited(d.half, BodyWord::Semicolon) {
         return Err(BodyCause::Misplaced);
@@ -160,41 +175,45 @@ pub fn finish(d: Draft, at: u16, limit: u16, control: u16) -> Result<Vec<u8>, Bo
     if control == 0 {
         return Err(BodyCause::Unknown);
     }
-    let mut image = d.image;
-    lay_cell(&mut image, control)?;
-    if is_over(&image, at, limit) {
+    lay_cell(&mut d.image, control)?;
+    if is_over(&d.image, at, limit) {
         return Err(BodyCause::Full);
     }
-    Ok(image)
+    Ok(())
 }
 
-/// The bytes of the first definition of a source, and how many words it has; or the first fault.
+/// Compiles the first definition of a source into the draft, which is emptied first, and answers how many words it has; or the first fault.
+/// Memory is never lacking if the draft has room for the bytes of all words, and for 64 open structures or one for each word.
 pub fn compile(
-    alloc: Global,
+    d: &mut Draft,
     words: &[BodyWord],
     runtime: &[u16],
     at: u16,
     limit: u16,
-) -> Result<(Vec<u8>, usize), BodyFault>
+) -> Result<usize, BodyFault>
     requires jumps { (limit ≤ 65530) ⊎ (at + laid (map token words.now) < 2 ^ 16) }
     requires start { at ≤ limit }
     requires controls { 28 ≤ length runtime.now }
-    ensures compiled { IfOk result (λ c.
-        Compiled (slice_index runtime.now) at limit (map token words.now) c.0.items c.1) }
+    ensures compiled { IfOk result (λ used.
+        Compiled (slice_index runtime.now) at limit (map token words.now) d.new.image.items used) }
     ensures refused { IfErr result (λ e.
         IsFault (slice_index runtime.now) at limit (map token words.now) e.place e.cause) }
+    ensures kept { KeepsRoom d.old d.new }
+    ensures room { laid (map token words.now) ≤ vec_capacity d.old.image → length words.now ≤ vec_capacity d.old.marks →
+        IfErr result (λ e. e.cause ≢ Memory) }
+    ensures shallow { laid (map token words.now) ≤ vec_capacity d.old.image → 64 ≤ vec_capacity d.old.marks →
+        IfErr result (λ e. e.cause ≢ Memory) }
 {
-    let mut draft = Draft::new(alloc);
+    d.clear();
     for (i, word) in words.iter().enumerate() {
         if is_semicolon(*word) {
-            return match finish(draft, at, limit, cell_of(runtime, Control::Exit)) {
-                Ok(image) => Ok((image, i + 1)),
+            return match finish(d, at, limit, cell_of(runtime, Control::Exit)) {
+                Ok(()) => Ok(i + 1),
                 Err(cause) => Err(BodyFault { place: i, cause }),
             };
         }
-        match take_word(draft, *word, at, limit, runtime) {
-            Ok(next) => draft = next,
-            Err(cause) => return Err(BodyFault { place: i, cause }),
+        if let Err(cause) = take_word(d, *word, at, limit, runtime) {
+            return Err(BodyFault { place: i, cause });
         }
     }
     Err(BodyFault {

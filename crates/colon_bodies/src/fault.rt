@@ -36,7 +36,7 @@ pub enum BodyCause {
 #[derive(Clone, Copy, Debug, Drop, PartialEq, Eq, Error)]
 #[error("word {place}: {cause}")]
 pub struct BodyFault {
-    /// The place of the word at fault, from 0; the count of the words where they end too early.
+    /// The place of the word at fault, from 0; the count of the words if they end too early.
     pub place: usize,
     /// Its cause.
     pub cause: BodyCause,

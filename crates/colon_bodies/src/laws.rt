@@ -3,7 +3,7 @@
 ghost use Rattle.std.specs.Prelude.{◌≡◌, Bool, ℕ, Some, List};
 ghost use Rattle.colon_bodies.specs.Tokens.{Token};
 ghost use Rattle.colon_bodies.specs.Tree.{Definition, all_words};
-ghost use Rattle.colon_bodies.specs.Code.{thread};
+ghost use Rattle.colon_bodies.specs.Code.{whole_code};
 ghost use Rattle.colon_bodies.specs.Found.{found};
 ghost use Rattle.colon_bodies.specs.Plain.{AreApart, IsPlainDefinition, all_spelled, respelled};
 ghost use Rattle.colon_bodies.specs.Faults.{IsGood, IsFault, HasNoFault, IsSameFault};
@@ -23,7 +23,7 @@ pub fn good_has_no_fault()
 /// No bytes are the threads of two plain definitions.
 pub fn one_thread()
     ensures { (rt : ℕ → ℕ) (t u : Definition) (at : ℕ) → AreApart rt → IsPlainDefinition rt t →
-        IsPlainDefinition rt u → thread rt t at ≡ thread rt u at → t ≡ u }
+        IsPlainDefinition rt u → whole_code rt t at ≡ whole_code rt u at → t ≡ u }
 {}
 
 /// A source has one first fault at most; lack of memory aside.
@@ -34,7 +34,7 @@ pub fn one_fault()
 
 /// Forced names write the same.
 pub fn spelled_thread()
-    ensures { (rt : ℕ → ℕ) (f : ℕ → Bool) (d : Definition) (at : ℕ) → thread rt (all_spelled f d) at ≡ thread rt d at }
+    ensures { (rt : ℕ → ℕ) (f : ℕ → Bool) (d : Definition) (at : ℕ) → whole_code rt (all_spelled f d) at ≡ whole_code rt d at }
 {}
 
 /// The words of the same definition with forced names.
@@ -46,5 +46,5 @@ pub fn spelled_words()
 /// A plain definition is found again in its thread.
 pub fn found_again()
     ensures { (rt : ℕ → ℕ) → AreApart rt → (t : Definition) (at : ℕ) → IsPlainDefinition rt t →
-        found rt (thread rt t at) at ≡ Some t }
+        found rt (whole_code rt t at) at ≡ Some t }
 {}

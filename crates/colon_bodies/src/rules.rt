@@ -3,7 +3,7 @@
 ghost use Rattle.std.specs.Prelude.{◌≡◌, ◌≢◌, true, false, ◌↔◌, IsTrue, ◌+◌, ◌<◌, ◌≤◌, length, slice_index};
 ghost use Rattle.std.specs.Option.{option_map};
 ghost use Rattle.memory.specs.Controls.{number_of};
-ghost use Rattle.colon_bodies.specs.Tokens.{DOES, SEMI, IsShort, control};
+ghost use Rattle.colon_bodies.specs.Tokens.{DOES, SEMI, IsShort, control_written};
 ghost use Rattle.colon_bodies.specs.Rules.{IsKnown, HasCell, suits, half_after};
 ghost use Rattle.colon_bodies.specs.Open.{past_after};
 ghost use Rattle.colon_bodies.specs.Draft.{token, opener};
@@ -102,7 +102,7 @@ fn has_cell(runtime: &[u16], laid: Option<Control>) -> bool
 
 /// The control that a word writes.
 fn control_of(word: BodyWord) -> Option<Control>
-    ensures { option_map number_of result ≡ control (token word.entry) }
+    ensures { option_map number_of result ≡ control_written (token word.entry) }
 {
     match word {
         BodyWord::Number(_) | BodyWord::Double(_) | BodyWord::Tick => Some(Control::Literal),

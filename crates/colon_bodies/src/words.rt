@@ -33,7 +33,7 @@ pub enum BodyWord<'a> {
     Repeat,
     /// DO.
     Do,
-    /// LOOP, or +LOOP where this is true.
+    /// LOOP, or +LOOP if this is true.
     Loop(bool),
     /// `."` and its text, or ABORT" where the first is true.
     Text(bool, &'a [u8]),

@@ -15,9 +15,9 @@ use Rattle.dictionary.specs.Chain.{chain, is_longer}
 use Rattle.dictionary.specs.Search.{head_of, Found, Nowhere, comes_to, walked, or_else as or_forth, first_in, first_from, sought_in, sought_from, sought}
 use Rattle.memory.specs.declared.limit.TheConstants.{GREATEST_LIMIT}
 use Rattle.image_builder.specs.Places.{Place}
-use Rattle.image_builder.specs.Names.{Name, class_of, newest_of, newest_link, link_or_none, within, found, or_else}
+use Rattle.image_builder.specs.Names.{Name, class_of, newest_of, newest_link, link_or_none, within, found, or_older}
 use Rattle.image_builder.specs.declared.entry.Sign.TheVariants as s
-use Rattle.image_builder.specs.Items.{Header, Colon, Cell, Byte, Allot, Immediate, Items, Nothing, Then, end_of, current, names, mark, new_name, sign_of, head_size, link_of, heads_of, system, head, kind_size, code_of, count_byte as new_count, field, own, passes, bytes as item_bytes}
+use Rattle.image_builder.specs.Items.{Header, Colon, Cell, Byte, Allot, Immediate, Items, Nothing, Then, end_of, current, names, mark, new_name, sign_of, head_size, link_of, heads_of, system, head, kind_size, code_of, header_count as new_count, parameters, own, passes, items_bytes as item_bytes}
 use Rattle.image_builder.specs.Grammar.{AreSound, IsLimit}
 use Rattle.image_builder.specs.Headers.{Says, memory_of, IsTitled, IsVocabulary, chain_of, links_of, sought_name, titled_in, title_or, titled, IsMade}
 use Rattle.image_builder.proofs.Finding.{Every, heads_marked}
@@ -288,7 +288,7 @@ views_in m voc bs (Then t ws (Colon p b)) f =
 views_in m voc bs (Then t ws Immediate) f = views_marked m voc bs (titled_in voc bs t) (names t) (views_in m voc bs t (λ u q e. f u q (inr e)))
 views_in m voc bs (Then t ws _) f = views_in m voc bs t (λ u q e. f u q (inr e))
 
-views_or : (m : List ℕ) (o q : Option Place) (a b : Option Name) → Views m o a → Views m q b → Views m (title_or o q) (or_else a b)
+views_or : (m : List ℕ) (o q : Option Place) (a b : Option Name) → Views m o a → Views m q b → Views m (title_or o q) (or_older a b)
 views_or m o q a b g h = grind arith
 
 image_views : (limit : ℕ) → IsLimit limit → (t : Items) (bs : List ℕ) → AreSound limit t → Views (memory_of t) (titled bs t) (found (current t) bs (names t))
@@ -386,7 +386,7 @@ marks_say limit few t s = each (names t) (has_marks (heads_of t) limit t false s
 record HasFields (bs : List ℕ) (h : ℕ → ℕ → ℕ) (t : Items) (p : Place) (k : Kind) : Type 0 where
   before : List ℕ
   after : List ℕ
-  is : bs ≡ before ++ ((cell_bytes (code_of k) ++ field h t (end_of t + head_size p) k) ++ after)
+  is : bs ≡ before ++ ((cell_bytes (code_of k) ++ parameters h t (end_of t + head_size p) k) ++ after)
   place : length before + 256 ≡ end_of t + (5 + length p.name)
 
 abbrev front_of : Items → Place → Bool → List ℕ
@@ -403,9 +403,9 @@ has_fields h Nothing u imm p k e = absurd e
 has_fields h (Then t ws i) u imm p k (inl e) = grind (arith, in_header, length-append, length-front, length-bytes)
 has_fields h (Then t ws i) u imm p k (inr e) = grind (arith, append_assoc, has_fields h t u (passes i imm) p k e)
 
-pub fields_are : (t u : Items) (p : Place) (k : Kind) → IsMade t u p k → bytes (memory_of t) (end_of u + (5 + length p.name)) (2 + kind_size k) ≡ cell_bytes (code_of k) ++ field (heads_of t) u (end_of u + head_size p) k
+pub fields_are : (t u : Items) (p : Place) (k : Kind) → IsMade t u p k → bytes (memory_of t) (end_of u + (5 + length p.name)) (2 + kind_size k) ≡ cell_bytes (code_of k) ++ parameters (heads_of t) u (end_of u + head_size p) k
 fields_are t u p k e =
     let g = has_fields (heads_of t) t u false p k e in
-    let bs = cell_bytes (code_of k) ++ field (heads_of t) u (end_of u + head_size p) k in
-    let n : length bs ≡ 2 + kind_size k = omega (arith, length-append (cell_bytes (code_of k)) (field (heads_of t) u (end_of u + head_size p) k), length-cell (code_of k), length-field (heads_of t) u (end_of u + head_size p) k) in
+    let bs = cell_bytes (code_of k) ++ parameters (heads_of t) u (end_of u + head_size p) k in
+    let n : length bs ≡ 2 + kind_size k = omega (arith, length-append (cell_bytes (code_of k)) (parameters (heads_of t) u (end_of u + head_size p) k), length-cell (code_of k), length-field (heads_of t) u (end_of u + head_size p) k) in
     subst (λ x. bytes (memory_of t) (end_of u + (5 + length p.name)) x ≡ bs) n (stands_bytes (memory_of t) (end_of u + (5 + length p.name)) bs (items_stand t g.before bs g.after (end_of u + (5 + length p.name)) g.is g.place))

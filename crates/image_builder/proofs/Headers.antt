@@ -12,7 +12,7 @@ use Rattle.memory.proofs.Same.{Stands}
 use Rattle.dictionary.specs.Header.{view_of, count_byte, name_length, is_hidden, name_of, compilation_address}
 use Rattle.dictionary.proofs.CountBits.{all_below, and_left, and_right, below}
 use Rattle.image_builder.specs.Places.{Place}
-use Rattle.image_builder.specs.Items.{Item, Items, Nothing, Then, item_size, end_of, controls, head, head_size, count_byte as new_count, zeros, link_of, own, passes, bytes as item_bytes, heads_of, system, low, image}
+use Rattle.image_builder.specs.Items.{Item, Items, Nothing, Then, item_size, end_of, controls, head, head_size, header_count as new_count, zero_bytes, link_of, own, passes, items_bytes as item_bytes, heads_of, system, low, image}
 use Rattle.image_builder.specs.Headers.{Says, memory_of, sizes, title, IsTitled}
 use Rattle.image_builder.proofs.Imaging.{length-bytes, length-zeros}
 use Rattle.image_builder.proofs.Looping.{length-low}
@@ -23,7 +23,7 @@ pub length-image : (t : Items) → length (image t) ≡ end_of t
 length-image t =
     let a = low (system t) 0 32 in
     let b = low (λ x. controls t (x / 2)) 0 32 in
-    let z = zeros 128 in
+    let z = zero_bytes 128 in
     let v = item_bytes (heads_of t) t false in
     omega (arith, length-append a (b ++ (z ++ v)), length-append b (z ++ v), length-append z v, length-low (system t) 0 32, length-low (λ x. controls t (x / 2)) 0 32, length-zeros 128, length-bytes (heads_of t) t false)
 
@@ -56,7 +56,7 @@ unfolding front_put
 items_stand t before bs after at e p =
     let a = low (system t) 0 32 in
     let b = low (λ x. controls t (x / 2)) 0 32 in
-    let z = zeros 128 in
+    let z = zero_bytes 128 in
     record {
       before = a ++ (b ++ (z ++ before));
       after = after ++ drop (length (image t)) memory.zeros;
@@ -80,7 +80,7 @@ system_cell t i h =
     let r = low_cell (system t) 0 32 i (2 * i) h (omega arith) in
     let b = low (λ x. controls t (x / 2)) 0 32 in
     let v = item_bytes (heads_of t) t false in
-    let rest = b ++ (zeros 128 ++ v) in
+    let rest = b ++ (zero_bytes 128 ++ v) in
     let s : Stands (memory_of t) (2 * i) (cell_bytes (system t (2 * i)) ++ []) = record {
       before = r.0;
       after = r.1 ++ (rest ++ drop (length (image t)) memory.zeros);
@@ -98,7 +98,7 @@ control_cell t k h =
     let f = λ (a : ℕ). controls t (a / 2) in
     let l = low (system t) 0 32 in
     let r = low_cell f 0 32 k (2 * k) h (omega arith) in
-    let rest = zeros 128 ++ item_bytes (heads_of t) t false in
+    let rest = zero_bytes 128 ++ item_bytes (heads_of t) t false in
     let i : 2 * k / 2 ≡ k = omega arith in
     let s : Stands (memory_of t) (64 + 2 * k) (cell_bytes (f (2 * k)) ++ []) = record {
       before = l ++ r.0;

@@ -8,26 +8,26 @@ use Rattle.image_builder.specs.Places.{Place}
 use Rattle.image_builder.specs.Names.{Name}
 use Rattle.image_builder.specs.declared.entry.Kind.{Kind}
 use Rattle.image_builder.specs.declared.entry.Kind.TheVariants.{Vocabulary}
-use Rattle.image_builder.specs.Items.{Item, Header, Cell, Byte, Allot, Immediate, Definitions, Boot, Items, Nothing, Then, item_size, head_size, kind_size, end_of, names, mark, newest_record, head, record_bytes, field, zeros, link_of, own, passes, bytes}
+use Rattle.image_builder.specs.Items.{Item, Header, Cell, Byte, Allot, Immediate, Definitions, Boot, Items, Nothing, Then, item_size, head_size, kind_size, end_of, names, mark, newest_record, head, vocabulary_bytes, parameters, zero_bytes, link_of, own, passes, items_bytes}
 use Rattle.image_builder.specs.Built.{OwnRecord, IsRecord}
 
-pub length-zeros : (n : ℕ) → length (zeros n) ≡ n
+pub length-zeros : (n : ℕ) → length (zero_bytes n) ≡ n
 length-zeros zero = refl
 length-zeros (suc n) = ap suc (length-zeros n)
 
 pub length-head : (link : ℕ) (p : Place) (imm : Bool) (c : ℕ) → length (head link p imm c) ≡ head_size p
 length-head link p imm c = simp (length-append, length-cell) (omega arith)
 
-length-record : (h : ℕ → ℕ → ℕ) (at older : ℕ) → length (record_bytes h at older) ≡ 10
+length-record : (h : ℕ → ℕ → ℕ) (at older : ℕ) → length (vocabulary_bytes h at older) ≡ 10
 length-record h at older = simp (length-append, length-cell)
 
-pub length-field : (h : ℕ → ℕ → ℕ) (t : Items) (at : ℕ) (k : Kind) → length (field h t at k) ≡ kind_size k
+pub length-field : (h : ℕ → ℕ → ℕ) (t : Items) (at : ℕ) (k : Kind) → length (parameters h t at k) ≡ kind_size k
 length-field h t at k = grind (arith, length-cell, length-record)
 
 length-own : (h : ℕ → ℕ → ℕ) (t : Items) (i : Item) (imm : Bool) → length (own h t i imm) ≡ item_size i
 length-own h t i imm = grind (arith, length-append, length-head, length-field, length-all, length-cell, length-zeros)
 
-pub length-bytes : (h : ℕ → ℕ → ℕ) (t : Items) (imm : Bool) → length (bytes h t imm) + 256 ≡ end_of t
+pub length-bytes : (h : ℕ → ℕ → ℕ) (t : Items) (imm : Bool) → length (items_bytes h t imm) + 256 ≡ end_of t
 length-bytes h Nothing imm = refl
 length-bytes h (Then t ws i) imm = grind (arith, length-append, length-own, length-bytes h t (passes i imm))
 
@@ -46,7 +46,7 @@ record_below (Then t ws i) v (inr r) = let b = record_below t v r in (omega arit
 own_same : (h g : ℕ → ℕ → ℕ) (t : Items) (i : Item) (imm : Bool) → ((v : ℕ) → OwnRecord t i v → (c : ℕ) → h v c ≡ g v c) → own h t i imm ≡ own g t i imm
 own_same h g t i imm e = grind arith
 
-pub bytes_same : (h g : ℕ → ℕ → ℕ) (t : Items) (imm : Bool) → ((v : ℕ) → IsRecord t v → (c : ℕ) → h v c ≡ g v c) → bytes h t imm ≡ bytes g t imm
+pub bytes_same : (h g : ℕ → ℕ → ℕ) (t : Items) (imm : Bool) → ((v : ℕ) → IsRecord t v → (c : ℕ) → h v c ≡ g v c) → items_bytes h t imm ≡ items_bytes g t imm
 bytes_same h g Nothing imm e = refl
 bytes_same h g (Then t ws i) imm e = grind (arith, own_same, bytes_same h g t (passes i imm) (λ v r c. e v (inr r) c))
 
@@ -76,7 +76,7 @@ seam_left old new place x l m far e n s =
 seam_here : (w x : ℕ) (l m : List ℕ) → l ≡ m → Seam (cell_bytes w ++ l) (cell_bytes x ++ m) 0 x
 seam_here w x l m e = record { front = []; back = m; was = w; old_is = ap (λ z. cell_bytes w ++ z) e; new_is = refl; length_is = refl }
 
-record_seam : (h g : ℕ → ℕ → ℕ) (v older c : ℕ) → c < 4 → ((d : ℕ) → d ≢ c → h v d ≡ g v d) → Seam (record_bytes h v older) (record_bytes g v older) (2 * c) (g v c)
+record_seam : (h g : ℕ → ℕ → ℕ) (v older c : ℕ) → c < 4 → ((d : ℕ) → d ≢ c → h v d ≡ g v d) → Seam (vocabulary_bytes h v older) (vocabulary_bytes g v older) (2 * c) (g v c)
 record_seam h g v older (suc (suc zero)) lt e =
     let a = e 0 (omega arith) in let b = e 1 (omega arith) in let c = e 3 (omega arith) in
     seam_left _ _ 2 (g v 2) (cell_bytes (h v 0)) (cell_bytes (g v 0)) 4 (ap cell_bytes a) (omega (arith, length-cell (g v 0)))
@@ -98,16 +98,16 @@ own_seam : (h g : ℕ → ℕ → ℕ) (t : Items) (i : Item) (imm : Bool) (v c 
 own_seam h g t (Header p Vocabulary) imm v c r lt e place q =
     let at = end_of t + head_size p in
     let n : place ≡ length (head (link_of t p) p imm 4) + 2 * c = omega (arith, length-head (link_of t p) p imm 4) in
-    let s : Seam (record_bytes h at (newest_record t)) (record_bytes g at (newest_record t)) (2 * c) (g at c) = record_seam h g at (newest_record t) c lt (λ d ne. e at d (λ a b. ne b)) in
+    let s : Seam (vocabulary_bytes h at (newest_record t)) (vocabulary_bytes g at (newest_record t)) (2 * c) (g at c) = record_seam h g at (newest_record t) c lt (λ d ne. e at d (λ a b. ne b)) in
     grind (arith, seam_left)
 own_seam h g t _ imm v c r lt e place q = absurd r
 
-pub bytes_seam : (h g : ℕ → ℕ → ℕ) (t : Items) (imm : Bool) (v c : ℕ) → IsRecord t v → c < 4 → AreElse h g v c → (place : ℕ) → place + 256 ≡ v + 2 * c → Seam (bytes h t imm) (bytes g t imm) place (g v c)
+pub bytes_seam : (h g : ℕ → ℕ → ℕ) (t : Items) (imm : Bool) (v c : ℕ) → IsRecord t v → c < 4 → AreElse h g v c → (place : ℕ) → place + 256 ≡ v + 2 * c → Seam (items_bytes h t imm) (items_bytes g t imm) place (g v c)
 bytes_seam h g Nothing imm v c r lt e place q = absurd r
 bytes_seam h g (Then t ws i) imm v c (inl r) lt e place q =
     let b = own_record t i v r in
     let n = length-bytes g t (passes i imm) in
-    seam_left (own h t i imm) (own g t i imm) (place + 256 - end_of t) (g v c) (bytes h t (passes i imm)) (bytes g t (passes i imm)) place
+    seam_left (own h t i imm) (own g t i imm) (place + 256 - end_of t) (g v c) (items_bytes h t (passes i imm)) (items_bytes g t (passes i imm)) place
     (bytes_same h g t (passes i imm) (λ u z d. e u d (λ k _. let w = record_below t u z in omega (arith, k, w))))
     (omega arith)
     (own_seam h g t i imm v c r lt e (place + 256 - end_of t) (omega arith))
@@ -139,7 +139,7 @@ marked_head b link p at rest place e =
 mark_parts : (l : List Name) (n : Name) (ns : List Name) → mark l ≡ n ∷ ns → (m : Name) × (l ≡ m ∷ ns) × (m.name ≡ n.name) × (m.link ≡ n.link)
 mark_parts l n ns e = grind arith
 
-pub bytes_marked : (h : ℕ → ℕ → ℕ) (t : Items) (n : Name) (ns : List Name) → names t ≡ n ∷ ns → (place : ℕ) → place + 254 ≡ n.link → Marked (bytes h t false) (bytes h t true) place (192 + length n.name)
+pub bytes_marked : (h : ℕ → ℕ → ℕ) (t : Items) (n : Name) (ns : List Name) → names t ≡ n ∷ ns → (place : ℕ) → place + 254 ≡ n.link → Marked (items_bytes h t false) (items_bytes h t true) place (192 + length n.name)
 bytes_marked h (Then t ws Immediate) n ns e place q =
     let m = mark_parts (names t) n ns e in
     let l = m.3 in

@@ -14,7 +14,7 @@ use Rattle.image_builder.specs.declared.state.Begun.{Begun}
 use Rattle.image_builder.specs.Built.{Built}
 use Rattle.colon_bodies.specs.Meaning.{Sense}
 use Rattle.image_builder.specs.Places.{Place}
-use Rattle.image_builder.specs.Items.{Items, Nothing, item_words, controls, low, zeros, bytes, heads_of, image, system, end_of, last_link, names, current, newest_record}
+use Rattle.image_builder.specs.Items.{Items, Nothing, item_words, controls, low, zero_bytes, items_bytes, heads_of, image, system, end_of, last_link, names, current, newest_record}
 use Rattle.image_builder.specs.Names.{Name, newest_link}
 use Rattle.image_builder.specs.Meanings.{name_first, sense_of}
 use Rattle.image_builder.specs.Stages.{Stage, Whole, IsFront}
@@ -46,23 +46,23 @@ system_cells t end last voc record_at head0 head1 head2 head3 a b d e f g h i = 
 in_a_row : (p q z b n0 n1 n2 n3 n4 : List ℕ) → n0 ≡ [] → n1 ≡ n0 ++ p → n2 ≡ n1 ++ q → n3 ≡ n2 ++ z → n4 ≡ n3 ++ b → n4 ≡ p ++ (q ++ (z ++ b))
 in_a_row p q z b n0 n1 n2 n3 n4 e0 e1 e2 e3 e4 = grind (arith, append_assoc)
 
-pub image_laid : (t : Items) (n0 n1 n2 n3 n4 more : List ℕ) → n0 ≡ [] → n1 ≡ n0 ++ low (system t) 0 32 → n2 ≡ n1 ++ low (λ a. controls t (a / 2)) 0 32 → n3 ≡ n2 ++ zeros 128 → n4 ≡ n3 ++ more → more ≡ bytes (heads_of t) t false → n4 ≡ image t
+pub image_laid : (t : Items) (n0 n1 n2 n3 n4 more : List ℕ) → n0 ≡ [] → n1 ≡ n0 ++ low (system t) 0 32 → n2 ≡ n1 ++ low (λ a. controls t (a / 2)) 0 32 → n3 ≡ n2 ++ zero_bytes 128 → n4 ≡ n3 ++ more → more ≡ items_bytes (heads_of t) t false → n4 ≡ image t
 image_laid t n0 n1 n2 n3 n4 more e0 e1 e2 e3 e4 m =
-    in_a_row (low (system t) 0 32) (low (λ a. controls t (a / 2)) 0 32) (zeros 128) (bytes (heads_of t) t false) n0 n1 n2 n3 n4 e0 e1 e2 e3 (e4 ∙ ap (λ l. n3 ++ l) m)
+    in_a_row (low (system t) 0 32) (low (λ a. controls t (a / 2)) 0 32) (zero_bytes 128) (items_bytes (heads_of t) t false) n0 n1 n2 n3 n4 e0 e1 e2 e3 (e4 ∙ ap (λ l. n3 ++ l) m)
 
 -- nothing is built yet
-zero_at : (n i : ℕ) → slice_index (zeros n) i ≡ 0
+zero_at : (n i : ℕ) → slice_index (zero_bytes n) i ≡ 0
 zero_at (suc n) (suc i) = zero_at n i
 zero_at n i = grind arith
 
-pub no_runtime : (xs : List ℕ) → xs ≡ zeros 256 → slice_index xs ≡ controls Nothing
+pub no_runtime : (xs : List ℕ) → xs ≡ zero_bytes 256 → slice_index xs ≡ controls Nothing
 no_runtime xs e = ap slice_index e ∙ (λ i k. zero_at 256 k i)
 
-pub length-zeros : (n : ℕ) → length (zeros n) ≡ n
+pub length-zeros : (n : ℕ) → length (zero_bytes n) ≡ n
 length-zeros zero = refl
 length-zeros (suc n) = ap suc (length-zeros n)
 
-pub nothing_built : {limit : ℕ} (b : Build) → b.image.items ≡ [] → b.names.items ≡ [] → b.runtime.items ≡ zeros 256 → b.current ≡ 42 → b.newest_record ≡ 42 → b.boot ≡ None → b.limit ≡ limit → IsLimit limit → Built limit b Nothing
+pub nothing_built : {limit : ℕ} (b : Build) → b.image.items ≡ [] → b.names.items ≡ [] → b.runtime.items ≡ zero_bytes 256 → b.current ≡ 42 → b.newest_record ≡ 42 → b.boot ≡ None → b.limit ≡ limit → IsLimit limit → Built limit b Nothing
 nothing_built b i n r v w o l few = grind (arith, no_runtime, length-zeros)
 
 pub read_on : {limit : ℕ} (b new : Build) (x y : Begun) (done : List Place) (w : Place) (r : IsRead limit b x done) → Goes limit new y r.items r.words w → IsRead limit new y (done ++ w ∷ [])
@@ -126,8 +126,8 @@ pub image_size : (limit : ℕ) (t : Items) → 256 ≤ limit → AreSound limit 
 image_size limit t few h =
     let a = low (system t) 0 32 in
     let b = low (λ x. controls t (x / 2)) 0 32 in
-    let z = zeros 128 in
-    let v = bytes (heads_of t) t false in
+    let z = zero_bytes 128 in
+    let v = items_bytes (heads_of t) t false in
     let e = sound_end limit t few h in
     let l : length (image t) ≡ end_of t =
     omega (arith, length-append a (b ++ (z ++ v)), length-append b (z ++ v), length-append z v, length-low (system t) 0 32, length-low (λ x. controls t (x / 2)) 0 32, length-zeros 128, length-bytes (heads_of t) t false) in

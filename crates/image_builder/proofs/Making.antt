@@ -8,7 +8,7 @@ use Rattle.std.proofs.lemmas.List.{get_or-set_same, get_or-set_other, length-tak
 use Rattle.std.proofs.Math.Seq.{take-suc, take-length, set-append_seam}
 use Rattle.colon_bodies.specs.Tree.{Definition}
 use Rattle.memory.specs.Bytes.{cell_bytes}
-use Rattle.colon_bodies.specs.Code.{thread}
+use Rattle.colon_bodies.specs.Code.{whole_code}
 use Rattle.memory.specs.declared.limit.TheConstants.{GREATEST_LIMIT}
 use Rattle.image_builder.specs.declared.entry.Sign.TheVariants as s
 use Rattle.colon_bodies.specs.Draft.{Patches}
@@ -20,7 +20,7 @@ use Rattle.image_builder.specs.Places.{Place}
 use Rattle.image_builder.specs.Names.{Name, entry, stored, class_of, newest_link, newest_first, found}
 use Rattle.image_builder.specs.declared.entry.Kind.{Kind}
 use Rattle.image_builder.specs.declared.entry.Kind.TheVariants.{Primitive, Vocabulary}
-use Rattle.image_builder.specs.Items.{Item, Header, Colon, Immediate, Items, Then, end_of, current, names, new_name, head, head_size, link_of, bytes, heads_of, zeros, own, passes, field, code_of, sign_of, record_bytes, newest_record, mark, controls}
+use Rattle.image_builder.specs.Items.{Item, Header, Colon, Immediate, Items, Then, end_of, current, names, new_name, head, head_size, link_of, items_bytes, heads_of, zero_bytes, own, passes, parameters, code_of, sign_of, vocabulary_bytes, newest_record, mark, controls}
 use Rattle.image_builder.specs.Grammar.{AreSound}
 use Rattle.image_builder.specs.Meanings.{look}
 use Rattle.image_builder.specs.Built.{Built, Building, Headed}
@@ -41,7 +41,7 @@ pub class_small : (bs : List ℕ) → class_of bs < 4
 class_small bs = grind arith
 
 -- the bytes once the head of the chain is the new link field
-pub headed_bytes : (limit : ℕ) (t : Items) (p : Place) (sign : Sign) (old mid : List ℕ) (at : ℕ) → AreSound limit t → old ≡ bytes (heads_of t) t false → at ≡ current t → (at ≡ 42 → mid ≡ old) → (at ≢ 42 → Patches old mid (at + 2 * class_of p.name - 256) (end_of t + 2)) → mid ≡ bytes (newest_link (new_name t p sign ∷ names t)) t false
+pub headed_bytes : (limit : ℕ) (t : Items) (p : Place) (sign : Sign) (old mid : List ℕ) (at : ℕ) → AreSound limit t → old ≡ items_bytes (heads_of t) t false → at ≡ current t → (at ≡ 42 → mid ≡ old) → (at ≢ 42 → Patches old mid (at + 2 * class_of p.name - 256) (end_of t + 2)) → mid ≡ items_bytes (newest_link (new_name t p sign ∷ names t)) t false
 headed_bytes limit t p sign old mid at s o a f g =
     let n = new_name t p sign in
     let h = newest_link (n ∷ names t) in
@@ -58,7 +58,7 @@ headed_bytes limit t p sign old mid at s o a f g =
 pub named_more : (es new : List Named) (e : Named) (n : Name) (ns : List Name) → newest_first es ≡ ns → new ≡ es ++ e ∷ [] → stored e ≡ n → newest_first new ≡ n ∷ ns
 named_more es new e n ns h i j = ap newest_first i ∙ reverse_more stored es e ∙ ap (λ m. m ∷ newest_first es) j ∙ ap (λ l. n ∷ l) h
 
-pub headed_laid : {limit : ℕ} (b : Build) (t : Items) (p : Place) (sign : Sign) (code link older class : ℕ) (es : List Named) (mid new : List ℕ) → Built limit b t → AreSound limit t → link ≡ length b.image.items + 256 → class ≡ class_of p.name → es ≡ b.names.items → older ≡ newest_link (newest_first es) b.current class → (b.current ≡ 42 → mid ≡ b.image.items) → (b.current ≢ 42 → Patches b.image.items mid (b.current + 2 * class - 256) (link + 2)) → new ≡ mid ++ head older p false code → new ≡ bytes (newest_link (new_name t p sign ∷ names t)) t false ++ head (link_of t p) p false code
+pub headed_laid : {limit : ℕ} (b : Build) (t : Items) (p : Place) (sign : Sign) (code link older class : ℕ) (es : List Named) (mid new : List ℕ) → Built limit b t → AreSound limit t → link ≡ length b.image.items + 256 → class ≡ class_of p.name → es ≡ b.names.items → older ≡ newest_link (newest_first es) b.current class → (b.current ≡ 42 → mid ≡ b.image.items) → (b.current ≢ 42 → Patches b.image.items mid (b.current + 2 * class - 256) (link + 2)) → new ≡ mid ++ head older p false code → new ≡ items_bytes (newest_link (new_name t p sign ∷ names t)) t false ++ head (link_of t p) p false code
 headed_laid {limit} b t p sign code link older class es mid new h s l q r o f g n =
     let at : link ≡ end_of t = l ∙ built_end b t h in
     let k : older ≡ link_of t p = o ∙ ap (λ m. newest_link (newest_first m) b.current class) r ∙ ap (λ m. newest_link m b.current class) h.named ∙ ap (λ v. newest_link (names t) v class) h.current_is ∙ ap (λ d. newest_link (names t) (current t) d) q in
@@ -70,23 +70,23 @@ pub headed_named : {limit : ℕ} (b : Build) (t : Items) (p : Place) (sign : Sig
 headed_named b t p sign link es e h l i j = grind (arith, built_end, named_more)
 
 -- an item of which the state but the image is as before
-pub laid_more : (t : Items) (ws : List Place) (i : Item) (old new more : List ℕ) → old ≡ bytes (heads_of t) t false → passes i false ≡ false → heads_of (Then t ws i) ≡ heads_of t → new ≡ old ++ more → more ≡ own (heads_of t) t i false → new ≡ bytes (heads_of (Then t ws i)) (Then t ws i) false
+pub laid_more : (t : Items) (ws : List Place) (i : Item) (old new more : List ℕ) → old ≡ items_bytes (heads_of t) t false → passes i false ≡ false → heads_of (Then t ws i) ≡ heads_of t → new ≡ old ++ more → more ≡ own (heads_of t) t i false → new ≡ items_bytes (heads_of (Then t ws i)) (Then t ws i) false
 laid_more t ws i old new more o p h n m = grind arith
 
 -- a header's item, from the state after its code field
-pub field_laid : {limit : ℕ} (b : Build) (t : Items) (ws : List Place) (p : Place) (k : Kind) (new more : List ℕ) → Headed limit b t p (sign_of k) (code_of k) → new ≡ b.image.items ++ more → more ≡ field (heads_of (Then t ws (Header p k))) t (end_of t + head_size p) k → new ≡ bytes (heads_of (Then t ws (Header p k))) (Then t ws (Header p k)) false
+pub field_laid : {limit : ℕ} (b : Build) (t : Items) (ws : List Place) (p : Place) (k : Kind) (new more : List ℕ) → Headed limit b t p (sign_of k) (code_of k) → new ≡ b.image.items ++ more → more ≡ parameters (heads_of (Then t ws (Header p k))) t (end_of t + head_size p) k → new ≡ items_bytes (heads_of (Then t ws (Header p k))) (Then t ws (Header p k)) false
 field_laid b t ws p k new more h n m = grind (arith, append_assoc)
 
-pub zeros_more : (n : ℕ) → zeros n ++ 0 ∷ [] ≡ zeros (suc n)
+pub zeros_more : (n : ℕ) → zero_bytes n ++ 0 ∷ [] ≡ zero_bytes (suc n)
 zeros_more zero = refl
 zeros_more (suc n) = ap (λ l. 0 ∷ l) (zeros_more n)
 
 -- the heads of a vocabulary that is just made are 0
-zero_cell : cell_bytes 0 ≡ zeros 2
+zero_cell : cell_bytes 0 ≡ zero_bytes 2
 unfolding cell_bytes
 zero_cell = refl
 
-pub new_record : (limit : ℕ) (t : Items) (ws : List Place) (p : Place) → 256 ≤ limit → AreSound limit t → zeros 8 ++ cell_bytes (newest_record t) ≡ record_bytes (heads_of (Then t ws (Header p Vocabulary))) (end_of t + head_size p) (newest_record t)
+pub new_record : (limit : ℕ) (t : Items) (ws : List Place) (p : Place) → 256 ≤ limit → AreSound limit t → zero_bytes 8 ++ cell_bytes (newest_record t) ≡ vocabulary_bytes (heads_of (Then t ws (Header p Vocabulary))) (end_of t + head_size p) (newest_record t)
 new_record limit t ws p e s =
     let v = end_of t + head_size p in
     let ns = names (Then t ws (Header p Vocabulary)) in
@@ -121,11 +121,11 @@ marked_names es i y l h =
     let s : es ≡ front ++ y ∷ [] = last_of es i y l ∙ ap (λ x. front ++ x ∷ []) (sym h) in
     grind (arith, set-append_seam, reverse_more, length-take-le i es (omega arith))
 
-pub colon_laid : {limit : ℕ} (b : Build) (t : Items) (ws : List Place) (p : Place) (body : Definition) (new more : List ℕ) → Headed limit b t p s.Plain 1 → new ≡ b.image.items ++ more → more ≡ thread (controls t) body (end_of t + head_size p) → new ≡ bytes (heads_of (Then t ws (Colon p body))) (Then t ws (Colon p body)) false
+pub colon_laid : {limit : ℕ} (b : Build) (t : Items) (ws : List Place) (p : Place) (body : Definition) (new more : List ℕ) → Headed limit b t p s.Plain 1 → new ≡ b.image.items ++ more → more ≡ whole_code (controls t) body (end_of t + head_size p) → new ≡ items_bytes (heads_of (Then t ws (Colon p body))) (Then t ws (Colon p body)) false
 colon_laid b t ws p body new more h n m = grind (arith, append_assoc)
 
 -- IMMEDIATE's byte
-pub immediate_laid : {limit : ℕ} (b : Build) (t : Items) (ws : List Place) (n : Name) (ns : List Name) (place : ℕ) → Built limit b t → names t ≡ n ∷ ns → place + 254 ≡ n.link → set b.image.items place (192 + length n.name) ≡ bytes (heads_of (Then t ws Immediate)) (Then t ws Immediate) false
+pub immediate_laid : {limit : ℕ} (b : Build) (t : Items) (ws : List Place) (n : Name) (ns : List Name) (place : ℕ) → Built limit b t → names t ≡ n ∷ ns → place + 254 ≡ n.link → set b.image.items place (192 + length n.name) ≡ items_bytes (heads_of (Then t ws Immediate)) (Then t ws Immediate) false
 immediate_laid b t ws n ns place h e q = grind (arith, set-append_seam, bytes_same, heads_marked, append-nil, bytes_marked (heads_of t) t n ns e place q)
 
 pub immediate_within : {limit : ℕ} (b : Build) (t : Items) (n : Name) (ns : List Name) (place : ℕ) → Built limit b t → names t ≡ n ∷ ns → place + 254 ≡ n.link → place < length b.image.items

@@ -39,7 +39,7 @@ use Rattle.image_builder.specs.Built.{Building}
 use Rattle.std.proofs.lemmas.Bool.{cases_lt, le-ltb, ltb-true}
 use Rattle.image_builder.proofs.Readable.{readable_more, readable_stops, readable_least}
 use Rattle.source_words.specs.declared.scanner.Scanner.{Scanner}
-use Rattle.source_words.specs.Modes.{after}
+use Rattle.source_words.specs.Modes.{mode_after}
 use Rattle.std.specs.Result.{is_err}
 use Rattle.block_buffers.specs.Calls.{Reads, read_call}
 use Rattle.block_buffers.proofs.Failures.{succeeded, failed}
@@ -297,7 +297,7 @@ pub screen_more : {limit : ℕ} (d : Disk) (from s : ℕ) (m next : Mode) (old n
     Underway limit d from (s + 1) next new (record { disk = step.disk; before = done.before; after = step.after })
 screen_more d from s m next old new done step h t f = grind (arith, words-more, one_readable, after_append, reads-more)
 
--- where one is not, that is where it stops
+-- if one is not, that is where it stops
 pub screen_stops : {limit : ℕ} (d : Disk) (from s to : ℕ) (m : Mode) (e : Stop) (old new : Compilation) (done step : Done) → Underway limit d from s m old done → s ≤ to →
     TakesScreen limit (after_reads (s - from) d) s m (source_words from (screens d from (s - from))) (Err e) old new step → step.before ≡ done.after →
     Stopped limit d from to e (record { disk = step.disk; before = done.before; after = step.after })
@@ -370,13 +370,13 @@ none_taken m words k scanner e q = grind (arith, append-nil)
 
 -- one word more is taken
 pub one_taken : {limit : ℕ} (m : Mode) (words : List SourceWord) (w : SourceWord) (old mid new : Compilation) (scanner next : Scanner) → Midway limit m words old mid scanner →
-    words_left scanner ≡ w ∷ words_left next → next.mode ≡ after scanner.mode w.name → ((front : List SourceWord) → Holds limit mid front → Holds limit new (front ++ w ∷ [])) →
+    words_left scanner ≡ w ∷ words_left next → next.mode ≡ mode_after scanner.mode w.name → ((front : List SourceWord) → Holds limit mid front → Holds limit new (front ++ w ∷ [])) →
     Midway limit m words old new next
 one_taken {limit} m words w old mid new scanner next h e q t =
     record {
       done = h.done ++ w ∷ [];
       split = grind (arith, append_assoc);
-      mode = q ∙ ap (λ n. after n w.name) h.mode ∙ sym (after_snoc m h.done w);
+      mode = q ∙ ap (λ n. mode_after n w.name) h.mode ∙ sym (after_snoc m h.done w);
       took = grind (arith, append_assoc);
     }
 

@@ -5,13 +5,13 @@ use Rattle.image_builder.specs.declared.entry.Sign.{Sign}
 use Rattle.image_builder.specs.declared.entry.Kind.TheVariants.{Vocabulary}
 use Rattle.image_builder.specs.Places.{Place}
 use Rattle.image_builder.specs.Names.{newest_first, newest_link}
-use Rattle.image_builder.specs.Items.{Items, Nothing, Then, Item, Header, head, head_size, link_of, new_name, bytes, heads_of, names, controls, current, newest_record, boot, end_of}
+use Rattle.image_builder.specs.Items.{Items, Nothing, Then, Item, Header, head, head_size, link_of, new_name, items_bytes, heads_of, names, controls, current, newest_record, boot, end_of}
 use Rattle.image_builder.specs.Grammar.{IsLimit, AreSound}
 
 pub record Built (limit : ℕ) (b : Build) (t : Items) : Type 0 where
   pub limit_is : b.limit ≡ limit
   pub limited : IsLimit limit
-  pub laid : b.image.items ≡ bytes (heads_of t) t false
+  pub laid : b.image.items ≡ items_bytes (heads_of t) t false
   pub named : newest_first b.names.items ≡ names t
   pub runtime : slice_index b.runtime.items ≡ controls t
   pub all : length b.runtime.items ≡ 256
@@ -38,7 +38,7 @@ IsRecord (Then t ws i) v = OwnRecord t i v ⊎ IsRecord t v
 pub record Headed (limit : ℕ) (b : Build) (t : Items) (p : Place) (sign : Sign) (code : ℕ) : Type 0 where
   pub limit_is : b.limit ≡ limit
   pub limited : IsLimit limit
-  pub laid : b.image.items ≡ bytes (newest_link (new_name t p sign ∷ names t)) t false ++ head (link_of t p) p false code
+  pub laid : b.image.items ≡ items_bytes (newest_link (new_name t p sign ∷ names t)) t false ++ head (link_of t p) p false code
   pub named : newest_first b.names.items ≡ new_name t p sign ∷ names t
   pub runtime : slice_index b.runtime.items ≡ controls t
   pub all : length b.runtime.items ≡ 256

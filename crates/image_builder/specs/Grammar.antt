@@ -2,7 +2,7 @@
 use Rattle.std.proofs.Math.Dec.{ltb}
 use Rattle.std.specs.Prelude.{◌≡◌, ◌≢◌, ℕ, Bool, true, not, nat_le, nat_lt, ◌==◌, ◌||◌, ◌&&◌, ◌+◌, ◌<◌, ◌≤◌, List, [], ◌∷◌, ◌++◌, map, length, Some, None, Ok}
 use Rattle.colon_bodies.specs.Tokens.{SEMI}
-use Rattle.colon_bodies.specs.Tree.{all_words, all_depth}
+use Rattle.colon_bodies.specs.Tree.{all_words, all_nesting}
 use Rattle.colon_bodies.specs.declared.words.Half.TheVariants.{Free}
 use Rattle.memory.specs.Controls.{number_of}
 use Rattle.memory.specs.declared.controls.Control.TheVariants as ctl
@@ -67,7 +67,7 @@ Spells t ws (Boot w) = (front : List Place) × (p : Place) × (n : Name) × (ws 
 -- an item that may come after these
 abbrev pub Fits : Items → Item → Type 0
 Fits t (Header p k) = (length p.name < 32) × IsOpen t (Makes k)
-Fits t (Colon p b) = (length p.name < 32) × (all_depth b ≤ 64) × rules.AreKnown (controls t) (all_words b ++ SEMI ∷ []) × tokens.AreShort (all_words b)
+Fits t (Colon p b) = (length p.name < 32) × (all_nesting b ≤ 64) × rules.AreKnown (controls t) (all_words b ++ SEMI ∷ []) × tokens.AreShort (all_words b)
 Fits t (Allot n) = n < 32768
 Fits t Immediate = names t ≢ []
 Fits t (Boot w) = boot t ≡ None

@@ -1,7 +1,7 @@
 -- Items of a source, and the image that they define.
 use Rattle.std.specs.Prelude.{ℕ, Bool, true, false, ◌==◌, cond, if◌then◌else◌, ◌/◌, zero, suc, ◌+◌, ◌%◌, List, [], ◌∷◌, ◌++◌, length, Option, Some, None}
 use Rattle.colon_bodies.specs.Tree.{Definition}
-use Rattle.colon_bodies.specs.Code.{all_size, thread}
+use Rattle.colon_bodies.specs.Code.{all_size, whole_code}
 use Rattle.memory.specs.declared.system.TheConstants.{BASE, DP, LAST, CONTEXT, CURRENT, FORTH_VOC, VOC_LINK, FENCE}
 use Rattle.dictionary.specs.declared.code_fields.TheConstants.{COLON, CONSTANT, VARIABLE, VOCABULARY}
 use Rattle.memory.specs.Bytes.{cell_bytes}
@@ -86,7 +86,7 @@ names (Then t ws _) = names t
 abbrev pub record_of : Name → ℕ
 record_of n = address n + 2
 
--- the compilation address of each control primitive, 0 where it has no name
+-- the compilation address of each control primitive, 0 if it has no name
 abbrev pub controls : Items → ℕ → ℕ
 controls Nothing k = 0
 controls (Then t ws (Header p (Primitive n))) k = (if k == n then end_of t + (5 + length p.name) else controls t k)
@@ -104,14 +104,14 @@ boot (Then t ws (Boot w)) = Some w
 boot (Then t ws _) = boot t
 
 -- The bytes of a header up to its code field; those of items. heads is the whole image's chain heads.
-abbrev pub count_byte : Place → Bool → ℕ
-count_byte p immediate = length p.name + cond immediate 192 128
+abbrev pub header_count : Place → Bool → ℕ
+header_count p immediate = length p.name + cond immediate 192 128
 
 abbrev pub head : (link : ℕ) → Place → Bool → ℕ → List ℕ
-head link p immediate code = cell_bytes p.screen ++ (cell_bytes link ++ (count_byte p immediate ∷ (p.name ++ cell_bytes code)))
+head link p immediate code = cell_bytes p.screen ++ (cell_bytes link ++ (header_count p immediate ∷ (p.name ++ cell_bytes code)))
 
-abbrev pub record_bytes : (ℕ → ℕ → ℕ) → (at older : ℕ) → List ℕ
-record_bytes heads at older = cell_bytes (heads at 0) ++ (cell_bytes (heads at 1) ++ (cell_bytes (heads at 2) ++ (cell_bytes (heads at 3) ++ cell_bytes older)))
+abbrev pub vocabulary_bytes : (ℕ → ℕ → ℕ) → (at older : ℕ) → List ℕ
+vocabulary_bytes heads at older = cell_bytes (heads at 0) ++ (cell_bytes (heads at 1) ++ (cell_bytes (heads at 2) ++ (cell_bytes (heads at 3) ++ cell_bytes older)))
 
 abbrev pub code_of : Kind → ℕ
 code_of (Primitive n) = n
@@ -120,27 +120,27 @@ code_of Variable = VARIABLE
 code_of Create = VARIABLE
 code_of Vocabulary = VOCABULARY
 
-abbrev pub field : (ℕ → ℕ → ℕ) → Items → (at : ℕ) → Kind → List ℕ
-field heads t at (Primitive n) = []
-field heads t at (Constant n) = cell_bytes n
-field heads t at Variable = cell_bytes 0
-field heads t at Create = []
-field heads t at Vocabulary = record_bytes heads at (newest_record t)
+abbrev pub parameters : (ℕ → ℕ → ℕ) → Items → (at : ℕ) → Kind → List ℕ
+parameters heads t at (Primitive n) = []
+parameters heads t at (Constant n) = cell_bytes n
+parameters heads t at Variable = cell_bytes 0
+parameters heads t at Create = []
+parameters heads t at Vocabulary = vocabulary_bytes heads at (newest_record t)
 
-abbrev pub zeros : ℕ → List ℕ
-zeros zero = []
-zeros (suc n) = 0 ∷ zeros n
+abbrev pub zero_bytes : ℕ → List ℕ
+zero_bytes zero = []
+zero_bytes (suc n) = 0 ∷ zero_bytes n
 
 abbrev pub link_of : Items → Place → ℕ
 link_of t p = newest_link (names t) (current t) (class_of p.name)
 
 -- what an item writes; immediate says whether an IMMEDIATE after it means its header
 abbrev pub own : (ℕ → ℕ → ℕ) → Items → Item → (immediate : Bool) → List ℕ
-own heads t (Header p k) imm = head (link_of t p) p imm (code_of k) ++ field heads t (end_of t + head_size p) k
-own heads t (Colon p b) imm = head (link_of t p) p imm COLON ++ thread (controls t) b (end_of t + head_size p)
+own heads t (Header p k) imm = head (link_of t p) p imm (code_of k) ++ parameters heads t (end_of t + head_size p) k
+own heads t (Colon p b) imm = head (link_of t p) p imm COLON ++ whole_code (controls t) b (end_of t + head_size p)
 own heads t (Cell n) imm = cell_bytes n
 own heads t (Byte n) imm = n % 256 ∷ []
-own heads t (Allot n) imm = zeros n
+own heads t (Allot n) imm = zero_bytes n
 own heads t _ imm = []
 
 abbrev pub passes : Item → Bool → Bool
@@ -149,9 +149,9 @@ passes (Colon p b) imm = false
 passes Immediate imm = true
 passes _ imm = imm
 
-abbrev pub bytes : (ℕ → ℕ → ℕ) → Items → (immediate : Bool) → List ℕ
-bytes heads Nothing imm = []
-bytes heads (Then t ws i) imm = bytes heads t (passes i imm) ++ own heads t i imm
+abbrev pub items_bytes : (ℕ → ℕ → ℕ) → Items → (immediate : Bool) → List ℕ
+items_bytes heads Nothing imm = []
+items_bytes heads (Then t ws i) imm = items_bytes heads t (passes i imm) ++ own heads t i imm
 
 abbrev pub heads_of : Items → ℕ → ℕ → ℕ
 heads_of t = newest_link (names t)
@@ -182,4 +182,4 @@ low f at (suc n) = cell_bytes (f at) ++ low f (at + 2) n
 
 -- the image of items
 abbrev pub image : Items → List ℕ
-image t = low (system t) 0 32 ++ (low (λ a. controls t (a / 2)) 0 32 ++ (zeros 128 ++ bytes (heads_of t) t false))
+image t = low (system t) 0 32 ++ (low (λ a. controls t (a / 2)) 0 32 ++ (zero_bytes 128 ++ items_bytes (heads_of t) t false))

@@ -39,15 +39,15 @@ is_inner (g.Control n) = (nat_le (number_of ctl.Literal) n && nat_le n (number_o
 is_inner _ = false
 
 -- a name that can't come after what is half read
-abbrev pub is_barred : Half → Name → Bool
-is_barred h n = body.is_barred h (is_inner n.sign) n.immediate
+abbrev pub is_name_barred : Half → Name → Bool
+is_name_barred h n = body.is_barred h (is_inner n.sign) n.immediate
 
 -- what a word is in a body that isn't a name's
 abbrev pub unnamed : Sense → Result Token Cause
 unnamed s = by_spelling (λ w. Ok w) (Err c.Misplaced) (Err c.Unknown) s
 
 abbrev pub name_first : Half → Option Name → Sense → Result Token Cause
-name_first h (Some n) s = cond (is_barred h n) (Err c.Misplaced) (Ok (NAME (address n)))
+name_first h (Some n) s = cond (is_name_barred h n) (Err c.Misplaced) (Ok (NAME (address n)))
 name_first h None s = unnamed s
 
 -- after ['] and [COMPILE] a word is a name first, elsewhere a keyword

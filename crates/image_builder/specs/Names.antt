@@ -40,13 +40,13 @@ within voc bs names = find (λ n. (n.vocabulary == voc) && bytes_eq n.name bs) n
 abbrev pub IsLatest : Name → List Name → Type 0
 IsLatest n names = (newer older : List Name) × (names ≡ newer ++ n ∷ older) × (within n.vocabulary n.name newer ≡ None)
 
-abbrev pub or_else : Option Name → Option Name → Option Name
-or_else None b = b
-or_else (Some a) b = Some a
+abbrev pub or_older : Option Name → Option Name → Option Name
+or_older None b = b
+or_older (Some a) b = Some a
 
 -- the newest name in a vocabulary, else in FORTH
 abbrev pub found : (voc : ℕ) → List ℕ → List Name → Option Name
-found voc bs names = or_else (within voc bs names) (within FORTH_VOC bs names)
+found voc bs names = or_older (within voc bs names) (within FORTH_VOC bs names)
 
 -- the newest name of a vocabulary and class
 abbrev pub newest_of : (voc class : ℕ) → List Name → Option Name
@@ -56,6 +56,6 @@ abbrev pub link_or_none : Option Name → ℕ
 link_or_none None = 0
 link_or_none (Some n) = n.link
 
--- the head of a chain: its link field, 0 where there is none
+-- the head of a chain: its link field, 0 if there is none
 abbrev pub newest_link : List Name → (voc class : ℕ) → ℕ
 newest_link names voc class = link_or_none (newest_of voc class names)

@@ -7,7 +7,7 @@ use Rattle.image_builder.specs.declared.spot.Inner.{Inner}
 use Rattle.image_builder.specs.declared.spot.Inner.TheVariants as i
 use Rattle.image_builder.specs.declared.spot.Spot.{Spot}
 
--- what a word is in a body where it is no name, without where its text is in memory
+-- what a word is in a body if it is no name, without where its text is in memory
 abbrev pub sense : Inner → Sense
 sense i.Other = Plain
 sense (i.Keyword w) = Keyword (token w)

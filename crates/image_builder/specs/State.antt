@@ -8,7 +8,7 @@ use Rattle.colon_bodies.specs.Tokens.{AreShort, Token, SEMI}
 use Rattle.colon_bodies.specs.Open.{Outer, open_words}
 use Rattle.colon_bodies.specs.declared.fault.BodyCause.{BodyCause}
 use Rattle.image_builder.specs.Causes.{cause_of}
-use Rattle.colon_bodies.specs.Tree.{Body, Definition, all_words, all_depth}
+use Rattle.colon_bodies.specs.Tree.{Body, Definition, all_words, all_nesting}
 use Rattle.memory.specs.Bytes.{cell_bytes}
 use Rattle.colon_bodies.specs.declared.words.BodyWord.{BodyWord}
 use Rattle.image_builder.specs.Names.{Name, address}
@@ -26,7 +26,7 @@ use Rattle.image_builder.specs.declared.spot.Sort.TheVariants as s
 use Rattle.image_builder.specs.declared.cause.Cause.TheVariants as c
 use Rattle.image_builder.specs.Places.{Place, IsTitle}
 use Rattle.image_builder.specs.Items.{Items, Then, Colon, item_words, item_size, end_of, controls, image}
-use Rattle.image_builder.specs.Meanings.{is_barred}
+use Rattle.image_builder.specs.Meanings.{is_name_barred}
 use Rattle.image_builder.specs.Grammar.{may_name, AreSound}
 use Rattle.image_builder.specs.Stages.{Stage, Whole, Counted, Due, Chosen, Inside, body_at}
 use Rattle.image_builder.specs.Faults.{cause_at, IsGood}
@@ -79,8 +79,8 @@ Looks h None (Ok (Some a)) = ⊥
 Looks h None (Ok None) = Unit {0}
 Looks h None (Err e) = ⊥
 Looks h (Some n) (Ok None) = ⊥
-Looks h (Some n) (Ok (Some a)) = (is_barred h n ≡ false) × (a ≡ address n)
-Looks h (Some n) (Err e) = (is_barred h n ≡ true) × (e ≡ c.Misplaced)
+Looks h (Some n) (Ok (Some a)) = (is_name_barred h n ≡ false) × (a ≡ address n)
+Looks h (Some n) (Err e) = (is_name_barred h n ≡ true) × (e ≡ c.Misplaced)
 
 -- a definition is started
 pub record Somewhere (b : Build) (title : Title) : Type 0 where
@@ -113,7 +113,7 @@ pub record IsSame (old new : Build) : Type 0 where
 pub record Ends (limit : ℕ) (t : Items) (p : Place) (before : List Token) (b : Build) : Type 0 where
   pub body : Definition
   pub is : before ≡ all_words body
-  pub shallow : all_depth body ≤ 64
+  pub shallow : all_nesting body ≤ 64
   pub known : AreKnown (controls t) (all_words body ++ SEMI ∷ [])
   pub short : AreShort (all_words body)
   pub room : end_of t + item_size (Colon p body) ≤ limit

@@ -11,7 +11,7 @@ ghost use Rattle.image_builder.specs.Names.{entry};
 ghost use Rattle.image_builder.specs.Places.{Place, place, sense};
 ghost use Rattle.image_builder.specs.Items.{Items};
 ghost use Rattle.image_builder.specs.Stages.{Inside, body_at};
-ghost use Rattle.image_builder.specs.Meanings.{look, meaning, name_first, unnamed, is_barred, is_inner};
+ghost use Rattle.image_builder.specs.Meanings.{look, meaning, name_first, unnamed, is_name_barred, is_inner};
 ghost use Rattle.image_builder.specs.Built.{Built, Building};
 ghost use Rattle.image_builder.specs.State.{InBody, Taken, Means, Looks, Somewhere, TakenSo, EndsSo, IsSame};
 
@@ -40,7 +40,7 @@ fn is_inner_control(sign: Sign) -> bool
 
 /// Whether a name can't come after what is half read.
 fn is_barred_name(half: Half, e: Entry) -> bool
-    ensures { result ≡ is_barred half (entry e.entry) }
+    ensures { result ≡ is_name_barred half (entry e.entry) }
 {
     match half {
         Half::Free => is_inner_control(e.sign) || e.immediate,
@@ -66,7 +66,7 @@ fn address_of(b: &Build, w: Spot) -> Result<Option<u16>, Cause>
     }
 }
 
-/// What a word is in a body where it is no name.
+/// What a word is in a body if it is no name.
 fn unnamed_word<'a>(inner: Inner<'a>) -> Result<BodyWord<'a>, Cause>
     ensures { Means result (unnamed (sense inner.entry)) }
 {
@@ -115,8 +115,7 @@ fn draft_word(b: &mut Build, word: BodyWord, at: u16) -> Result<(), Cause>
         (token word.entry) result b.new }
     ensures kept { IsSame b.old b.new }
 {
-    let draft = mem::replace(&mut b.draft, Draft::new(b.alloc));
-    b.draft = take_word(draft, word, at, b.limit, b.runtime.as_slice())?;
+    take_word(&mut b.draft, word, at, b.limit, b.runtime.as_slice())?;
     Ok(())
 }
 
@@ -128,9 +127,9 @@ fn end_body(b: &mut Build, p: &Title, at: u16) -> Result<(), Cause>
         (at ≡ body_at t q → EndsSo b.old.limit t q before result b.new) }
 {
     let exit = cell_of(b.runtime.as_slice(), Control::Exit);
-    let draft = mem::replace(&mut b.draft, Draft::new(b.alloc));
-    let bytes = finish(draft, at, b.limit, exit)?;
-    make_colon(b, p, bytes.as_slice())?;
+    let mut draft = mem::replace(&mut b.draft, Draft::new(b.alloc));
+    finish(&mut draft, at, b.limit, exit)?;
+    make_colon(b, p, draft.image.as_slice())?;
     Ok(())
 }
 

@@ -81,8 +81,8 @@ fn begin(alloc: Global, limit: u16) -> Result<Compilation, Cause>
 ///
 /// One screen at a time is read and kept. Each is read once at most, in order, and none after the one that decides. Where
 /// the source isn't good the answer is its first fault: the first word that has a cause, with the first of its causes in the
-/// order of `Cause`. `EndsInside` and `NoBoot` are reported for the last screen, after its last byte, also where `from` is above
-/// `to`. `Device` is reported for byte 0 of a screen that isn't the device's, or that couldn't be read, and comes only where no
+/// order of `Cause`. `EndsInside` and `NoBoot` are reported for the last screen, after its last byte, also if `from` is above
+/// `to`. `Device` is reported for byte 0 of a screen that isn't the device's, or that couldn't be read, and comes only if no
 /// word of the screens before is at fault. `OutOfMemory` is reported for byte 0 of the first screen.
 pub fn build<D: Device>(
     alloc: Global,

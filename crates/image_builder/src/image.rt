@@ -3,7 +3,7 @@
 ghost use Rattle.std.specs.Prelude.{◌≡◌, ℕ, ◌+◌, ◌*◌, ◌/◌, ◌<◌, ◌++◌, OnOk, IfOk, IfErr};
 ghost use Rattle.colon_bodies.specs.Draft.{IsBlank};
 ghost use Rattle.image_builder.specs.Names.{newest_first};
-ghost use Rattle.image_builder.specs.Items.{Items, Nothing, controls, zeros, image, low, system, last_link};
+ghost use Rattle.image_builder.specs.Items.{Items, Nothing, controls, zero_bytes, image, low, system, last_link};
 ghost use Rattle.image_builder.specs.Grammar.{IsLimit};
 ghost use Rattle.image_builder.specs.Built.{Built, Building};
 ghost use Rattle.image_builder.specs.State.{all_cells};
@@ -28,7 +28,7 @@ fn lay_cells(bytes: &mut Vec<u8>, cells: &[u16]) -> Result<(), Cause>
     Ok(())
 }
 
-/// The newest link field, 0 where there is none.
+/// The newest link field, 0 if there is none.
 fn newest_link_of(names: &[Named]) -> u16
     ensures { result ≡ last_link (newest_first names.now) }
 {
@@ -89,7 +89,7 @@ pub fn whole_image(alloc: Global, b: &Build) -> Result<Vec<u8>, Cause>
 
 /// No control has a name yet.
 fn no_controls(alloc: Global) -> Result<Vec<u16>, Cause>
-    ensures zero { IfOk result (λ v. v.items ≡ zeros 256) }
+    ensures zero { IfOk result (λ v. v.items ≡ zero_bytes 256) }
     ensures memory { IfErr result (λ e. e ≡ OutOfMemory) }
 {
     let mut cells = Vec::new(alloc);

@@ -12,7 +12,7 @@ ghost use Rattle.dictionary.specs.Header.{is_immediate};
 ghost use Rattle.image_builder.specs.declared.source.TheConstants.{PRIMITIVES_END, CONTROLS_END};
 ghost use Rattle.image_builder.specs.Places.{Place};
 ghost use Rattle.image_builder.specs.declared.entry.Kind.{Kind};
-ghost use Rattle.image_builder.specs.Items.{Items, image, system, controls, names, current, code_of, end_of, field, head_size, heads_of, kind_size, link_of};
+ghost use Rattle.image_builder.specs.Items.{Items, image, system, controls, names, current, code_of, end_of, parameters, head_size, heads_of, kind_size, link_of};
 ghost use Rattle.image_builder.specs.Names.{Name, IsLatest, within, found};
 ghost use Rattle.dictionary.specs.Search.{Found, Nowhere, sought_in, sought};
 ghost use Rattle.image_builder.specs.Grammar.{MakeImage};
@@ -69,7 +69,7 @@ pub fn primitives_law()
 {}
 
 /// The cells of an image's memory below 64 are the system's, as its items make them; and each runtime cell is the compilation
-/// address of its control primitive, 0 where it has no name.
+/// address of its control primitive, 0 if it has no name.
 pub fn cells_law()
     ensures system { (t : Items) (i : ℕ) → i < 32 → cell (memory_of t) (2 * i) ≡ system t (2 * i) }
     ensures runtime { (t : Items) (k : ℕ) → k < 32 → cell (memory_of t) (RUNTIME_CELLS + 2 * k) ≡ controls t k }
@@ -83,7 +83,7 @@ pub fn chain_law()
 {}
 
 /// The header of each item that makes one is where the items before it end. Its view cell is the screen of the name, its
-/// link the newest earlier name of its vocabulary and class, 0 where there is none; and it isn't hidden.
+/// link the newest earlier name of its vocabulary and class, 0 if there is none; and it isn't hidden.
 pub fn header_law()
     ensures { (t before : Items) (p : Place) → MakeImage t → IsTitled t before p →
         Says (memory_of t) (end_of before + 2) p.screen (link_of before p) p.name }
@@ -100,10 +100,10 @@ pub fn immediate_law()
 pub fn field_law()
     ensures { (t before : Items) (p : Place) (k : Kind) → IsMade t before p k →
         bytes (memory_of t) (end_of before + (5 + length p.name)) (2 + kind_size k) ≡
-        cell_bytes (code_of k) ++ field (heads_of t) before (end_of before + head_size p) k }
+        cell_bytes (code_of k) ++ parameters (heads_of t) before (end_of before + head_size p) k }
 {}
 
-/// A search of an image's memory comes to the newest name of a vocabulary that is spelled so, and to none where there is
+/// A search of an image's memory comes to the newest name of a vocabulary that is spelled so, and to none if there is
 /// none: in one vocabulary alone, and the machine's own, in the last current vocabulary and then in FORTH. So each header
 /// is found by its name unless a later one of its vocabulary has it.
 pub fn search_law()
@@ -116,7 +116,7 @@ pub fn search_law()
 {}
 
 /// What the machine's search finds in an image's memory has the screen of its name in its view cell, that is of the newest
-/// item spelled so in the last current vocabulary, else in FORTH; where no item is, nothing is found.
+/// item spelled so in the last current vocabulary, else in FORTH; if no item is, nothing is found.
 pub fn view_law()
     ensures there { (t : Items) (name : List ℕ) (p : Place) → MakeImage t → 0 < length name → titled name t ≡ Some p →
         HasView (memory_of t) name p.screen }

@@ -3,10 +3,10 @@
 ghost use Rattle.std.specs.Prelude.{◌≡◌, ℕ, ◌+◌, ◌-◌, ◌<◌, ◌++◌, List, ◌∷◌, take, length, OnOk, IfErr};
 ghost use Rattle.colon_bodies.specs.Tree.{Definition};
 ghost use Rattle.memory.specs.Bytes.{cell_bytes};
-ghost use Rattle.colon_bodies.specs.Code.{thread};
+ghost use Rattle.colon_bodies.specs.Code.{whole_code};
 ghost use Rattle.image_builder.specs.Places.{Place, place, IsTitle};
 ghost use Rattle.image_builder.specs.Names.{entry, newest_first};
-ghost use Rattle.image_builder.specs.Items.{Items, Then, Header, Cell, Byte, Allot, Immediate, Definitions, Boot, Colon, mark, zeros, controls, end_of, head_size};
+ghost use Rattle.image_builder.specs.Items.{Items, Then, Header, Cell, Byte, Allot, Immediate, Definitions, Boot, Colon, mark, zero_bytes, controls, end_of, head_size};
 ghost use Rattle.image_builder.specs.Grammar.{AreSound};
 ghost use Rattle.image_builder.specs.Built.{Built, Building};
 ghost use Rattle.image_builder.specs.declared.cause.Cause.TheVariants.{OutOfMemory};
@@ -80,7 +80,7 @@ pub fn make_primitive(b: &mut Build, p: Spot, n: u16) -> Result<(), Cause>
 
 /// Writes the record of a vocabulary: four chain heads, and the link to the next older record.
 pub fn lay_record(image: &mut Vec<u8>, older: u16) -> Result<(), Cause>
-    ensures bytes { OnOk result (image.new.items ≡ image.old.items ++ (zeros 8 ++ cell_bytes older)) }
+    ensures bytes { OnOk result (image.new.items ≡ image.old.items ++ (zero_bytes 8 ++ cell_bytes older)) }
     ensures memory { IfErr result (λ e. e ≡ OutOfMemory) }
 {
     lay_zeros(image, 8)?;
@@ -128,7 +128,7 @@ pub fn char_comma(b: &mut Build, n: u16) -> Result<(), Cause>
 
 /// Writes zero bytes.
 pub fn lay_zeros(image: &mut Vec<u8>, n: u16) -> Result<(), Cause>
-    ensures bytes { OnOk result (image.new.items ≡ image.old.items ++ zeros n) }
+    ensures bytes { OnOk result (image.new.items ≡ image.old.items ++ zero_bytes n) }
     ensures memory { IfErr result (λ e. e ≡ OutOfMemory) }
 {
     for _ in 0..n {
@@ -202,7 +202,7 @@ pub fn make_colon(b: &mut Build, p: &Title, bytes: &[u8]) -> Result<(), Cause>
     requires short { length p.now.name.items < 32 }
     ensures built { (limit : ℕ) (t : Items) (ws : List Place) (body : Definition) (q : Place) →
         IsTitle p.now.screen p.now.name.items q → Built limit b.old t → AreSound limit t →
-        bytes.now ≡ thread (controls t) body (end_of t + head_size q) →
+        bytes.now ≡ whole_code (controls t) body (end_of t + head_size q) →
         OnOk result (Built limit b.new (Then t ws (Colon q body))) }
     ensures kept { OnOk result (b.new.draft ≡ b.old.draft) }
     ensures memory { IfErr result (λ e. e ≡ OutOfMemory) }

@@ -179,7 +179,7 @@ fn ending(name: &[u8]) -> Option<BodyWord<'_>>
     }
 }
 
-/// The keyword of bodies that a word is spelled as, with the text after it where it takes one.
+/// The keyword of bodies that a word is spelled as, with the text after it if it takes one.
 #[tactic(auto, unfolding(crate::specs::Spelled::keyword))]
 pub fn keyword<'a>(name: &'a [u8], text: &'a [u8]) -> Option<BodyWord<'a>>
     ensures { option_map token result ≡ keyword name.now text.now }
@@ -214,7 +214,7 @@ fn figure_of(name: &[u8]) -> Inner<'_>
     }
 }
 
-/// Whether the word begins a comment where no name is due.
+/// Whether the word begins a comment if no name is due.
 #[tactic(auto, unfolding(source_words::specs::Modes::begins_comment))]
 fn is_paren(name: &[u8]) -> bool
     ensures { result ≡ begins_comment name.now }
@@ -222,7 +222,7 @@ fn is_paren(name: &[u8]) -> bool
     name == b"(".as_slice()
 }
 
-/// What a word is in a body where it is no name.
+/// What a word is in a body if it is no name.
 #[tactic(auto, unfolding(crate::specs::Spelled::sense_of_word))]
 fn inner_of<'a>(name: &'a [u8], text: &'a [u8]) -> Inner<'a>
     ensures { sense result ≡ sense_of_word name.now text.now }

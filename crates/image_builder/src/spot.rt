@@ -37,7 +37,7 @@ pub enum Sort {
     Boot,
 }
 
-/// What a word is in a body where it is no name, by its spelling.
+/// What a word is in a body if it is no name, by its spelling.
 #[derive(Clone, Copy, Debug, PartialEq, Eq)]
 pub enum Inner<'a> {
     /// None of the others.
@@ -63,6 +63,6 @@ pub struct Spot<'a> {
     pub name: &'a [u8],
     /// What it is outside bodies.
     pub sort: Sort,
-    /// What it is in a body where it is no name.
+    /// What it is in a body if it is no name.
     pub inner: Inner<'a>,
 }

@@ -15,7 +15,7 @@ pub struct Build {
     pub image: Vec<u8>,
     /// The names, the newest last.
     pub names: Vec<Named>,
-    /// The compilation address of each control, 0 where it has no name.
+    /// The compilation address of each control, 0 if it has no name.
     pub runtime: Vec<u16>,
     /// The vocabulary that later headers go in.
     pub current: u16,

@@ -6,33 +6,33 @@ use Rattle.colon_bodies.proofs.Taking.{unsuited, ends_inside, end_ok, end_full, 
 use Rattle.colon_bodies.proofs.Opened.{first_is}
 use Rattle.colon_bodies.proofs.compiling.finish.Goals as goal
 
-pub returns-then-not-is_suited : goal.returns-then-not-is_suited
-returns-then-not-is_suited c = λ rt o t h r d k.
+pub returns-then-not-is_suited-clause-ended : goal.returns-then-not-is_suited-clause-ended
+returns-then-not-is_suited-clause-ended c = λ rt o t h r d k.
     inr (first_is rt c.args.at c.args.limit o t h SEMI _ k (omega arith) (unsuited rt c.args.at c.args.limit o t h SEMI (ap (λ g. suits g SEMI) (sym d.half_is) ∙ sym c.is_suited.ensures ∙ c.if-not-is_suited.true)))
 
-pub returns-then-not-is_all_closed : goal.returns-then-not-is_all_closed
-returns-then-not-is_all_closed c = λ rt o t h r d k.
+pub returns-then-not-is_all_closed-clause-ended : goal.returns-then-not-is_all_closed-clause-ended
+returns-then-not-is_all_closed-clause-ended c = λ rt o t h r d k.
     let m = drafted_marks rt c.args.at o t h _ _ d.is in
     let s = ap (λ g. suits g SEMI) (sym d.half_is) ∙ sym c.is_suited.ensures ∙ c.if-not-is_suited.false in
     let pos : 0 < frames o = open_some _ _ _ c.is_all_closed.ensures c.if-not-is_all_closed.true m in
     inr (first_is rt c.args.at c.args.limit o t h SEMI _ k (omega arith) (ends_inside rt c.args.at c.args.limit o t h s pos))
 
-pub returns-then-control-eq0 : goal.returns-then-control-eq0
-returns-then-control-eq0 c = λ rt o t h r d k.
+pub returns-then-control-eq0-clause-ended : goal.returns-then-control-eq0-clause-ended
+returns-then-control-eq0-clause-ended c = λ rt o t h r d k.
     let m = drafted_marks rt c.args.at o t h _ _ d.is in
     let s = ap (λ g. suits g SEMI) (sym d.half_is) ∙ sym c.is_suited.ensures ∙ c.if-not-is_suited.false in
     let z = c.is_all_closed.ensures.0 c.if-not-is_all_closed.false in
     inr (first_is rt c.args.at c.args.limit o t h SEMI _ k (omega arith) (end_unknown rt c.args.at c.args.limit o t h s (omega (arith, m, z)) k (λ n. n (r ∙ c.if-control-eq0.true))))
 
-pub returns-then-is_over : goal.returns-then-is_over
-returns-then-is_over c = λ rt o t h r d k.
+pub returns-then-is_over-clause-ended : goal.returns-then-is_over-clause-ended
+returns-then-is_over-clause-ended c = λ rt o t h r d k.
     let m = drafted_marks rt c.args.at o t h _ _ d.is in
     let s = ap (λ g. suits g SEMI) (sym d.half_is) ∙ sym c.is_suited.ensures ∙ c.if-not-is_suited.false in
     let z = c.is_all_closed.ensures.0 c.if-not-is_all_closed.false in
     inr (first_is rt c.args.at c.args.limit o t h SEMI _ k (omega arith) (end_full rt c.args.at c.args.limit o t h _ _ _ c.args.control s (omega (arith, m, z)) k (λ e. c.if-control-eq0.false (sym r ∙ e)) d.is c.in_ok-lay_cell.ensures.bytes (c.is_over.ensures.0 c.if-is_over.true)))
 
-pub returns : goal.returns
-returns c = λ rt o t h r d k.
+pub returns-clause-ended : goal.returns-clause-ended
+returns-clause-ended c = λ rt o t h r d k.
     let m = drafted_marks rt c.args.at o t h _ _ d.is in
     let s = ap (λ g. suits g SEMI) (sym d.half_is) ∙ sym c.is_suited.ensures ∙ c.if-not-is_suited.false in
     let z = c.is_all_closed.ensures.0 c.if-not-is_all_closed.false in

@@ -2,6 +2,6 @@ use Rattle.std.proofs.Common.{◌∙◌}
 use Rattle.colon_bodies.proofs.Laying.{opened_do}
 use Rattle.colon_bodies.proofs.steps.open_do.Goals as goal
 
-pub returns : goal.returns
-returns c = λ rt at o t r d.
+pub returns-clause-steps : goal.returns-clause-steps
+returns-clause-steps c = λ rt at o t r d.
     opened_do rt at o t _ _ _ _ _ c.args.control _ r c.in_ok-lay_cell.ensures.bytes (c.len.ensures ∙ c.lay_cell.new.image.ok.0) c.in_ok-lay_cell-2.ensures.bytes c.in_ok-push.ensures.items d
