@@ -86,7 +86,7 @@ pub unmarked : (w : World) → is_returned w.state ≡ false → traced_line at_
 unfolding traced_line is_met is_returned
 unmarked w e = grind arith
 
--- nor where a request waits
+-- nor if a request waits
 pub unmarked_wait : (w : World) (r : Request) → asked_by w.state.wait ≡ Some r → traced_line at_0 mark w ≡ []
 unfolding traced_line
 unmarked_wait w r e = grind arith

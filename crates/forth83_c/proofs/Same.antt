@@ -44,7 +44,7 @@ kept_kept k h = search rules
 pub some_state : (k : Forth83) → IsRecord k → (s : State) × IsKept k s
 some_state k h = (kept_state k, kept_kept k h)
 
--- its data stack, where that is full or empty
+-- its data stack, if that is full or empty
 pub full_stack : (k : Forth83) → IsRecord k → 256 ≤ length (slice_range k.values k.values_top 256) → (s : State) × IsKept k s × (256 ≤ length s.parts.values)
 unfolding kept_state
 full_stack k h l = (kept_state k, kept_kept k h, l)

@@ -59,7 +59,7 @@ span_of (stop.Span span) = span
 span_of (stop.Line span) = span
 span_of _ = record { at = 0; len = 0 }
 
--- by this number of the header no machine is reported exactly where the record is none
+-- by this number of the header no machine is reported exactly if the record is none
 abbrev pub TellsMachine : Forth83 → (code : ℕ) → Type 0
 TellsMachine k code = (code ≡ 1 → ¬ IsRecord k) × (code ≢ 1 → IsRecord k)
 

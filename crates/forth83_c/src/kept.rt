@@ -91,7 +91,7 @@ fn entries_of(buffers: &[Forth83Buffer]) -> ArrayVec<Entry, 16>
     entries
 }
 
-/// The buffers that a record keeps; `None` where it is no machine's.
+/// The buffers that a record keeps; `None` if it is no machine's.
 fn buffers_of(kept: &Forth83) -> Option<Buffers>
     ensures { MatchOption result (¬ IsRecord kept.now)
         (λ b. IsRecord kept.now × (b ≡ entries_of kept.now.buffers kept.now.buffer_count)) }
@@ -178,7 +178,7 @@ fn keep_buffers(buffers: &Buffers, kept: &mut [Forth83Buffer; 16])
     }
 }
 
-/// What a record keeps beside memory; `None` exactly where it keeps no machine.
+/// What a record keeps beside memory; `None` exactly if it keeps no machine.
 pub fn rest_of(kept: &Forth83) -> Option<Rest>
     ensures { MatchOption result (¬ IsRecord kept.now) (λ r. IsKept kept.now (state_of (stored kept.now.memory) r)) }
 {

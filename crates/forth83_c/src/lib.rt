@@ -29,7 +29,7 @@ mod unpacking;
 ghost use Rattle.std.specs.Prelude.{◌≡◌, ◌≢◌, ◌<◌, ◌≤◌, ◌⊎◌, ◌+◌, ◌%◌, ◌*◌, length, take, drop, true, IsTrue};
 ghost use Rattle.dictionary.specs.Adding.{is_name};
 ghost use Rattle.image_loader.specs.Files.{Contents, IsFile, IsCutShort, IsFollowed, HasBadMagic, HasBadVersion, HasBadBuffers, HasBadSize};
-ghost use Rattle.machine.specs.State.{start};
+ghost use Rattle.machine.specs.State.{loaded_state};
 ghost use Rattle.machine.specs.Answer.{InputEnd, ReadFault, ReadOk, WriteFault, WriteOk};
 ghost use Rattle.forth83_c.specs.Called.{AsksPage, HasAnswered, HasBegun, HasEntered, HasFound, HasPopped, HasPushed, HasRun, HasSaved, TellsByCode, TellsMachine, WhyNotAnswered, WhyNotEntered, WhyNotFound, WhyNoPage, WhyNotPushed, WhyNotPopped, WhyNotSaved};
 ghost use Rattle.forth83_c.specs.Kept.{IsKept, SameBeside};
@@ -57,7 +57,7 @@ use unpacking::Told;
 pub extern "C" fn forth83_load_3(image: &[u8], block_count: u32, machine: &mut Forth83) -> u32
     // What is kept then is the machine that the file's image starts with.
     ensures loaded { (contents : Contents) → IsFile image.now contents → result ≡ 0 →
-        IsKept machine.new (start contents block_count) }
+        IsKept machine.new (loaded_state contents block_count) }
     ensures begun { result ≡ 0 → HasBegun machine.new }
     ensures found { result ≡ 0 → (contents : Contents) × IsFile image.now contents }
 
@@ -73,7 +73,7 @@ pub extern "C" fn forth83_load_3(image: &[u8], block_count: u32, machine: &mut F
     ensures bad_buffers { HasBadBuffers image.now → result ≡ 8 }
     ensures bad_size { HasBadSize image.now → result ≡ 9 }
 
-    // Where it is refused the record is as it was.
+    // If it is refused the record is as it was.
     ensures stays { result ≢ 0 → machine.new ≡ machine.old }
 {
     running::load(image, block_count, machine).code()
@@ -94,7 +94,7 @@ pub extern "C" fn forth83_run(
     ensures ran { result ≡ 0 → HasRun machine.old machine.new typed.now shown.new limit end.new }
     ensures beyond { result ≡ 0 → drop end.new.shown shown.new ≡ drop end.new.shown shown.old }
 
-    // It is refused where there is no room, or where the record keeps no machine; all is then as it was.
+    // It is refused if there is no room, or if the record keeps no machine; all is then as it was.
     ensures refused { (result ≡ 0) ⊎ ((result ≡ 1) ⊎ (result ≡ 3)) }
     ensures room { length shown.old ≡ 0 → result ≡ 3 }
     ensures roomy { result ≡ 3 → length shown.old ≡ 0 }
@@ -236,7 +236,7 @@ pub extern "C" fn forth83_find(machine: &Forth83, name: &[u8], word: &mut u16) -
     // What is found has a name of 1 to 31 bytes.
     ensures named { result ≡ 0 → IsTrue (is_name name.now) }
 
-    // It isn't found where the search comes to no header, or gives up at a chain that is too long; nothing is shown then.
+    // It isn't found if the search comes to no header, or gives up at a chain that is too long; nothing is shown then.
     ensures no_machine { TellsMachine machine.now result }
     ensures why { TellsByCode (WhyNotFound name.now) machine.now result }
     ensures untold { result ≢ 0 → word.new ≡ word.old }
@@ -582,7 +582,7 @@ pub extern "C" fn forth83_serve(
     room: &mut [u8],
     size: &mut usize,
 ) -> u32
-    // The request is obeyed, also where the room is too small for the reply.
+    // The request is obeyed, also if the room is too small for the reply.
     ensures replied { result ≢ 1 → HasReplied machine.old machine.new (wished kind body.now) room.old room.new size.new }
 
     // 0: the reply is in the room; 22: it is longer than the room; 1: the record keeps no machine, and all is as it was.

@@ -23,7 +23,7 @@ fn is_return(byte: u8) -> bool
     byte == 10 || byte == 13
 }
 
-/// The line of at most `n` bytes; none where neither a return ends it nor so many bytes exist.
+/// The line of at most `n` bytes; none if neither a return ends it nor so many bytes exist.
 pub fn whole_line(typed: &[u8], n: u16) -> Option<Line>
     ensures line { IfSome result (λ line. (more : List ℕ) → line_of n (typed.now ++ more) ≡
         record { bytes = take line.count typed.now; returned = line.returned; rest = drop line.next typed.now ++ more }) }

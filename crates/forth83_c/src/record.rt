@@ -9,11 +9,11 @@ use memory::Memory;
 pub struct Forth83Buffer {
     /// Its slot, from 0 on.
     pub slot: u16,
-    /// 1 where it has a block.
+    /// 1 if it has a block.
     pub has_block: u16,
     /// That block.
     pub block: u16,
-    /// 1 where the block was updated since it was read or written.
+    /// 1 if the block was updated since it was read or written.
     pub updated: u16,
 }
 
@@ -23,7 +23,7 @@ pub struct Forth83Buffer {
 pub struct Forth83Faults {
     /// How many they are, modulo 65,536.
     pub count: u16,
-    /// The last of them; 0 where there is none.
+    /// The last of them; 0 if there is none.
     pub last: u16,
     /// The address of the next token in the thread, before the tick or the answer that met it.
     pub ip: u16,
@@ -35,7 +35,7 @@ pub struct Forth83Faults {
 pub struct Forth83Aside {
     /// The address of the next token in the thread.
     pub ip: u16,
-    /// 1 where another token came next.
+    /// 1 if another token came next.
     pub has_pending: u16,
     /// The address of that token.
     pub pending: u16,
@@ -63,7 +63,7 @@ pub struct Forth83 {
     pub block_count: u32,
     /// The address of the next token in the thread.
     pub ip: u16,
-    /// 1 where another token comes next.
+    /// 1 if another token comes next.
     pub has_pending: u16,
     /// The address of that token.
     pub pending: u16,
@@ -77,7 +77,7 @@ pub struct Forth83 {
     pub halts: u16,
     /// That fault.
     pub fault: u16,
-    /// Where the top of the data stack is among its cells; 256 where it is empty.
+    /// Where the top of the data stack is among its cells; 256 if it is empty.
     pub values_top: u16,
     /// The same of the return stack.
     pub returns_top: u16,
@@ -114,6 +114,6 @@ pub struct Forth83End {
     pub stop: u32,
     /// The address of these bytes; they go on at address 0 after memory's end.
     pub at: u16,
-    /// How many they are; 0 where it ended for another reason.
+    /// How many they are; 0 if it ended for another reason.
     pub len: u16,
 }

@@ -2,7 +2,7 @@
 
 ghost use Rattle.std.specs.Prelude.{◌≡◌, ◌≢◌, ◌<◌, ◌≤◌, ◌⊎◌, length, take, drop};
 ghost use Rattle.image_loader.specs.Files.{Contents, IsFile, IsCutShort, IsFollowed, HasBadMagic, HasBadVersion, HasBadBuffers, HasBadSize};
-ghost use Rattle.machine.specs.State.{start};
+ghost use Rattle.machine.specs.State.{loaded_state};
 ghost use Rattle.forth83_c.specs.declared.status.Status.TheVariants as status;
 ghost use Rattle.machine.specs.Answer.{seen};
 ghost use Rattle.forth83_c.specs.Called.{AsksPage, HasAnswered, HasBegun, HasEntered, HasPopped, HasPushed, HasRun, HasSaved, Tells, TellsMachine, WhyNotAnswered, WhyNotEntered, WhyNoPage, WhyNotPushed, WhyNotPopped, WhyNotSaved, code_of};
@@ -54,7 +54,7 @@ fn hold(memory: &mut Memory, bytes: &[u8])
 
 /// All but memory of the machine that an image starts with.
 fn rest_at_start(image: &BorrowedImage<'_>, block_count: u32) -> Rest
-    ensures { state_of (front_put image.now.bytes zeros) result ≡ start image.now block_count }
+    ensures { state_of (front_put image.now.bytes zeros) result ≡ loaded_state image.now block_count }
 {
     Rest::at_start(image.entry(), image.buffers(), block_count)
 }
@@ -88,7 +88,7 @@ fn begin(kept: &mut Forth83)
 /// Loads an image into a record.
 pub fn load(image: &[u8], block_count: u32, kept: &mut Forth83) -> Status
     ensures loaded { (contents : Contents) → IsFile image.now contents → result ≡ status.Done →
-        IsKept kept.new (start contents block_count) }
+        IsKept kept.new (loaded_state contents block_count) }
     ensures begun { result ≡ status.Done → HasBegun kept.new }
     ensures found { result ≡ status.Done → (contents : Contents) × IsFile image.now contents }
     ensures accepted { (contents : Contents) → IsFile image.now contents → result ≡ status.Done }
@@ -251,7 +251,7 @@ pub fn asked_page(kept: &Forth83, page: &mut [u8]) -> Status
     }
 }
 
-/// Pushes a number on the data stack of a record, where nothing is asked.
+/// Pushes a number on the data stack of a record, if nothing is asked.
 pub fn push(kept: &mut Forth83, x: u16) -> Status
     ensures pushed { result ≡ status.Done → HasPushed kept.old kept.new x }
     ensures beside { result ≡ status.Done → SameBeside kept.old kept.new }
@@ -276,7 +276,7 @@ pub fn push(kept: &mut Forth83, x: u16) -> Status
     }
 }
 
-/// Pops the number on top of the data stack of a record, where nothing is asked.
+/// Pops the number on top of the data stack of a record, if nothing is asked.
 pub fn pop(kept: &mut Forth83, x: &mut u16) -> Status
     ensures popped { result ≡ status.Done → HasPopped kept.old kept.new x.new }
     ensures beside { result ≡ status.Done → SameBeside kept.old kept.new }

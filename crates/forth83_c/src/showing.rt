@@ -13,7 +13,7 @@ use machine_parts::parts::Span;
 /// Room for what any act shows, and as much for what was shown before it.
 const ROOM: usize = 131072;
 
-/// The least room that is left before each act, by the room for all: for any act, or a byte where all is less than a large room.
+/// The least room that is left before each act, by the room for all: for any act, or a byte if all is less than a large room.
 #[tactic(auto, unfolding(crate::specs::Driven::least_room))]
 pub fn least_room(size: usize) -> usize
     ensures { result ≡ least_room size }

@@ -1,4 +1,4 @@
-//! The stacks of a record, in the cells in which they lie. A stack is the cells from the place of its top on, 256 where it is empty.
+//! The stacks of a record, in the cells in which they lie. A stack is the cells from the place of its top on, 256 if it is empty.
 
 ghost use Rattle.std.specs.Prelude.{◌≡◌, ◌≤◌, ◌<◌, ◌==◌, ◌∷◌, ◌++◌, [], length, take, drop, slice_range, if◌then◌else◌, IfSome, IsNone};
 ghost use Rattle.forth83_c.specs.Calls.{needs};

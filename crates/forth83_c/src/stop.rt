@@ -27,7 +27,7 @@ pub enum Stop {
 }
 
 impl Stop {
-    /// The bytes of memory that the host shows by itself; none where it need not.
+    /// The bytes of memory that the host shows by itself; none if it need not.
     pub fn span(self) -> Span
         ensures { result ≡ span_of self }
     {

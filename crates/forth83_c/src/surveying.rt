@@ -48,7 +48,7 @@ fn number_of(dialect: Dialect) -> u16 {
     }
 }
 
-/// The dialect that is to be loaded, the best one where it is undecided; 0 if none is needed.
+/// The dialect that is to be loaded, the best one if it is undecided; 0 if none is needed.
 fn number_of_first(dialects: &[Dialect]) -> u16 {
     match dialects {
         [first, ..] => number_of(*first),

@@ -7,3 +7,5 @@ pub mod Growing
 pub mod Turning
 pub mod Showing
 pub mod Loneness
+pub mod Rooms
+pub mod Offs

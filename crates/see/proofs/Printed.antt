@@ -1,19 +1,17 @@
 -- Words are printed one after another.
-use Rattle.std.proofs.Common.{◌≡◌, ℕ, Bool, true, List, [], ◌∷◌, ◌++◌, refl, sym, ap, subst, ◌∙◌, append_assoc, append-nil, map, length, drop, suc, ◌<◌, ◌≤◌, get_or, Option, Some, None, ◌⊎◌, arith}
+use Rattle.std.proofs.Common.{◌≡◌, ℕ, Bool, true, List, [], ◌∷◌, ◌++◌, refl, sym, ap, subst, ◌∙◌, append_assoc, append-nil, map, length, drop, suc, ◌+◌, ◌<◌, ◌≤◌, get_or, Option, Some, None, arith}
 use Rattle.std.proofs.Math.Seq.{drop-cons}
 use Rattle.std.proofs.Math.ListN.{drop_of_length-le}
-use Rattle.colon_bodies.specs.declared.words.BodyWord.{BodyWord}
-use Rattle.colon_bodies.specs.Draft.{token}
 use Rattle.std.proofs.lemmas.List.{map-append}
 use Rattle.source_words.specs.Spaced.{Spelling, bare, spaced, spaced_behind, quoted}
-use Rattle.std.specs.Prelude.{codes}
-use Rattle.colon_bodies.specs.Tokens.{Token, NAME}
+use Rattle.std.specs.Prelude.{codes, Result, Ok, Err}
+use Rattle.see.specs.Seeing.{IsWritten, IsPrinted}
+use Rattle.colon_bodies.specs.Tokens.{Token, NAME, laid, laid_by}
 use Rattle.colon_bodies.specs.Tree.{named}
 use Rattle.see.specs.Reading.{AreCells}
 use Rattle.see.specs.Printing.{is_forced, printed, called, all_printed, printed_text}
 use Rattle.see.specs.Naming.{is_word, name_at, word_fault, words_fault, first_fault, or_fault}
 use Rattle.see.specs.declared.refusal.SeeRefused.{SeeRefused}
-use Rattle.see.specs.declared.refusal.SeeRefused.TheVariants as r
 
 pub spaced_append : (a b : List Spelling) → spaced_behind (a ++ b) ≡ spaced_behind a ++ spaced_behind b
 unfolding spaced_behind
@@ -46,12 +44,12 @@ pub called_is : (m : List ℕ) (h : ℕ) (w : ℕ) → all_printed m h (NAME w �
 called_is m h w = called_as m w (is_forced m h w)
 
 -- the words from a place on
-pub step_written : (m : List ℕ) (h : ℕ) (ws : List BodyWord) (i : ℕ) (d : BodyWord) (old new all : List ℕ) → i < length ws → new ≡ old ++ spaced_behind (all_printed m h (token (get_or ws i d) ∷ [])) → old ++ spaced_behind (all_printed m h (map token (drop i ws))) ≡ all → new ++ spaced_behind (all_printed m h (map token (drop (suc i) ws))) ≡ all
-step_written m h ws i d old new all lt e k = grind (arith, drop-cons, append_assoc, first_spaced)
+pub step_written : {X : Type 0} (tok : X → Token) (m : List ℕ) (h : ℕ) (ws : List X) (i : ℕ) (d : X) (old new all : List ℕ) → i < length ws → new ≡ old ++ spaced_behind (all_printed m h (tok (get_or ws i d) ∷ [])) → old ++ spaced_behind (all_printed m h (map tok (drop i ws))) ≡ all → new ++ spaced_behind (all_printed m h (map tok (drop (suc i) ws))) ≡ all
+step_written tok m h ws i d old new all lt e k = grind (arith, drop-cons, append_assoc, first_spaced)
 
-pub end_written : (m : List ℕ) (h : ℕ) (ws : List BodyWord) (i : ℕ) (old all : List ℕ) → length ws ≤ i → old ++ spaced_behind (all_printed m h (map token (drop i ws))) ≡ all → old ≡ all
-end_written m h ws i old all le k =
-    sym (none_written m h old) ∙ ap (λ l. old ++ spaced_behind (all_printed m h (map token l))) (sym (drop_of_length-le ws le)) ∙ k
+pub end_written : {X : Type 0} (tok : X → Token) (m : List ℕ) (h : ℕ) (ws : List X) (i : ℕ) (old all : List ℕ) → length ws ≤ i → old ++ spaced_behind (all_printed m h (map tok (drop i ws))) ≡ all → old ≡ all
+end_written tok m h ws i old all le k =
+    sym (none_written m h old) ∙ ap (λ l. old ++ spaced_behind (all_printed m h (map tok l))) (sym (drop_of_length-le ws le)) ∙ k
 
 -- the words after `: NAME`
 pub shown_behind : (m : List ℕ) (h : ℕ) (name : List ℕ) (ws : List Token) (old new : List ℕ) → old ≡ spaced (bare (codes ":") ∷ bare name ∷ []) → new ≡ old ++ spaced_behind (all_printed m h ws) → new ≡ printed_text m h name ws
@@ -61,30 +59,36 @@ shown_behind m h name ws old new e f =
     ∙ ap (λ l. 58 ∷ l) (sym (spaced_append (bare name ∷ []) (all_printed m h ws)))
 
 -- no fault in some words, and one in the next
-pub fault_on : (m : List ℕ) (h : ℕ) (ws : List BodyWord) (i : ℕ) (d : BodyWord) (all : Option SeeRefused) → i < length ws → words_fault m h (token (get_or ws i d) ∷ []) ≡ None → words_fault m h (map token (drop i ws)) ≡ all → words_fault m h (map token (drop (suc i) ws)) ≡ all
-fault_on m h ws i d all lt e k = grind (arith, drop-cons)
+pub fault_on : {X : Type 0} (tok : X → Token) (m : List ℕ) (h : ℕ) (ws : List X) (i : ℕ) (d : X) (all : Option SeeRefused) → i < length ws → words_fault m h (tok (get_or ws i d) ∷ []) ≡ None → words_fault m h (map tok (drop i ws)) ≡ all → words_fault m h (map tok (drop (suc i) ws)) ≡ all
+fault_on tok m h ws i d all lt e k = grind (arith, drop-cons)
 
-pub fault_here : (m : List ℕ) (h : ℕ) (ws : List BodyWord) (i : ℕ) (d : BodyWord) (all : Option SeeRefused) (z : SeeRefused) → i < length ws → words_fault m h (token (get_or ws i d) ∷ []) ≡ Some z → words_fault m h (map token (drop i ws)) ≡ all → all ≡ Some z
-fault_here m h ws i d all z lt e k =
-    sym k ∙ ap (λ l. words_fault m h (map token l)) (drop-cons ws i d lt) ∙ or_left (word_fault m h (token (get_or ws i d))) (words_fault m h (map token (drop (suc i) ws))) e
+pub fault_here : {X : Type 0} (tok : X → Token) (m : List ℕ) (h : ℕ) (ws : List X) (i : ℕ) (d : X) (all : Option SeeRefused) (z : SeeRefused) → i < length ws → words_fault m h (tok (get_or ws i d) ∷ []) ≡ Some z → words_fault m h (map tok (drop i ws)) ≡ all → all ≡ Some z
+fault_here tok m h ws i d all z lt e k =
+    sym k ∙ ap (λ l. words_fault m h (map tok l)) (drop-cons ws i d lt) ∙ or_left (word_fault m h (tok (get_or ws i d))) (words_fault m h (map tok (drop (suc i) ws))) e
   where
     or_left : (x y : Option SeeRefused) → or_fault x None ≡ Some z → or_fault x y ≡ Some z
     or_left None y q = cc
     or_left (Some v) y q = q
 
-pub fault_none : (m : List ℕ) (h : ℕ) (ws : List BodyWord) (i : ℕ) (all : Option SeeRefused) → length ws ≤ i → words_fault m h (map token (drop i ws)) ≡ all → all ≡ None
-fault_none m h ws i all le k = sym k ∙ ap (λ l. words_fault m h (map token l)) (drop_of_length-le ws le)
-
-pub refused_here : (m : List ℕ) (h : ℕ) (ws : List BodyWord) (i : ℕ) (d : BodyWord) (z : SeeRefused) → i < length ws → (z ≡ r.OutOfMemory) ⊎ (words_fault m h (token (get_or ws i d) ∷ []) ≡ Some z) → words_fault m h (map token (drop i ws)) ≡ words_fault m h (map token ws) → (z ≡ r.OutOfMemory) ⊎ (words_fault m h (map token ws) ≡ Some z)
-refused_here m h ws i d z lt x7 k = search (arith, fault_here)
+pub fault_none : {X : Type 0} (tok : X → Token) (m : List ℕ) (h : ℕ) (ws : List X) (i : ℕ) (all : Option SeeRefused) → length ws ≤ i → words_fault m h (map tok (drop i ws)) ≡ all → all ≡ None
+fault_none tok m h ws i all le k = sym k ∙ ap (λ l. words_fault m h (map tok l)) (drop_of_length-le ws le)
 
 -- a whole definition is written
 pub all_shown : (m : List ℕ) (l : ℕ) (name : List ℕ) (ws : List Token) (old new : List ℕ) → is_word name ≡ true → words_fault m l ws ≡ None → AreCells ws → old ≡ spaced (bare (codes ":") ∷ bare name ∷ []) → new ≡ old ++ spaced_behind (all_printed m l ws) → (first_fault m l name ws ≡ None) × AreCells ws × (new ≡ printed_text m l name ws)
 all_shown m l name ws old new w f c e g = (rw w f, c, shown_behind m l name ws old new e g)
 
--- numbers that are cells
-pub cells_on : (ws : List BodyWord) (i : ℕ) (d : BodyWord) (all : Type 0) → i < length ws → AreCells (token (get_or ws i d) ∷ []) → (AreCells (map token (drop i ws)) → all) → AreCells (map token (drop (suc i) ws)) → all
-cells_on ws i d all lt c k rest = grind (arith, drop-cons)
+-- what was written or refused of the words is printed or refused of the definition
+pub written_printed : (m : List ℕ) (l : ℕ) (name : List ℕ) (ws : List Token) (old new : List ℕ) (x : Result (Unit {0}) SeeRefused) → is_word name ≡ true → old ≡ spaced (bare (codes ":") ∷ bare name ∷ []) → IsWritten m l ws old new x → IsPrinted m l name ws new x
+written_printed m l name ws old new (Ok u) w e p = all_shown m l name ws old new w p.0 p.1 e p.2
+written_printed m l name ws old new (Err z) w e p = rw w p
 
-pub cells_end : (ws : List BodyWord) (i : ℕ) (all : Type 0) → length ws ≤ i → (AreCells (map token (drop i ws)) → all) → all
-cells_end ws i all le k = k (subst (λ l. AreCells (map token l)) (sym (drop_of_length-le ws le)) tt)
+-- numbers that are cells
+pub cells_on : {X : Type 0} (tok : X → Token) (ws : List X) (i : ℕ) (d : X) (all : Type 0) → i < length ws → AreCells (tok (get_or ws i d) ∷ []) → (AreCells (map tok (drop i ws)) → all) → AreCells (map tok (drop (suc i) ws)) → all
+cells_on tok ws i d all lt c k rest = grind (arith, drop-cons)
+
+pub cells_end : {X : Type 0} (tok : X → Token) (ws : List X) (i : ℕ) (all : Type 0) → length ws ≤ i → (AreCells (map tok (drop i ws)) → all) → all
+cells_end tok ws i all le k = k (subst (λ l. AreCells (map tok l)) (sym (drop_of_length-le ws le)) tt)
+
+-- the room that the words from a place on take
+pub room_on : {X : Type 0} (tok : X → Token) (ws : List X) (i : ℕ) (d : X) → i < length ws → (length (drop i ws) ≡ 1 + length (drop (suc i) ws)) × (laid (map tok (drop i ws)) ≡ laid_by (tok (get_or ws i d)) + laid (map tok (drop (suc i) ws)))
+room_on tok ws i d lt = (ap length (drop-cons ws i d lt) ∙ omega arith, ap (λ l. laid (map tok l)) (drop-cons ws i d lt))

@@ -3,7 +3,7 @@ use Rattle.std.proofs.Common.{◌≡◌, false, ℕ, List, [], ◌∷◌, ◌++�
 use Rattle.colon_bodies.specs.declared.words.Half.{Half}
 use Rattle.colon_bodies.specs.declared.words.Half.TheVariants.{Free}
 use Rattle.colon_bodies.specs.Tokens.{Token, DOES, SEMI, laid, NAME, AreShort}
-use Rattle.colon_bodies.specs.Tree.{Body, Empty, Definition, Simple, Doing, words, all_words, named, depth, all_depth}
+use Rattle.colon_bodies.specs.Tree.{Body, Empty, Definition, Simple, Doing, words, all_words, named, nesting, all_nesting}
 use Rattle.colon_bodies.specs.Rules.{half_after, half_of, AreKnown}
 use Rattle.colon_bodies.specs.Open.{Top}
 use Rattle.colon_bodies.specs.Plain.{IsPlainBody, IsPlainDefinition, AreApart, spelled, all_spelled, respelled}
@@ -14,7 +14,7 @@ use Rattle.colon_bodies.proofs.Exact.{known_front, known_last, ends_alone, no_fa
 use Rattle.colon_bodies.proofs.Parts.{by_parts}
 use Rattle.colon_bodies.specs.declared.fault.BodyCause.{BodyCause}
 use Rattle.colon_bodies.specs.declared.fault.BodyCause.TheVariants as r
-use Rattle.colon_bodies.specs.Code.{thread}
+use Rattle.colon_bodies.specs.Code.{whole_code}
 use Rattle.colon_bodies.specs.Faults.{IsFault}
 use Rattle.colon_bodies.specs.Draft.{Compiled}
 use Rattle.see.specs.Shown.{Shown, Makes, Compiles, IsThread, IsWithinBounds}
@@ -96,13 +96,13 @@ made rt at limit source image bytes used c u e = grind (arith, length-append, no
 same_some : (t u : Definition) → ◌≡◌ {A = _} (Some t) (Some u) → t ≡ u
 same_some t u e = cc
 
-pub compiles_to : (rt : ℕ → ℕ) (at limit : ℕ) (source : List Token) (image : List ℕ) (used : ℕ) (d : Definition) → Compiled rt at limit source image used → source ≡ all_words d ++ SEMI ∷ [] → (used ≡ length source) × (image ≡ thread rt d at)
+pub compiles_to : (rt : ℕ → ℕ) (at limit : ℕ) (source : List Token) (image : List ℕ) (used : ℕ) (d : Definition) → Compiled rt at limit source image used → source ≡ all_words d ++ SEMI ∷ [] → (used ≡ length source) × (image ≡ whole_code rt d at)
 compiles_to rt at limit source image used d c e =
     let g = c.good in
     let all : all_words d ++ SEMI ∷ [] ≡ all_words c.body ++ (SEMI ∷ g.after) = sym e ∙ g.is ∙ append_assoc (all_words c.body) (SEMI ∷ []) g.after in
     let n = ends_alone c.body d g.after (ap (accept Top Empty Free) (sym all) ∙ accept_all d) in
     let same : c.body ≡ d = same_some c.body d (sym (accept_all c.body) ∙ ap (λ a. accept Top Empty Free (all_words c.body ++ (SEMI ∷ a))) (sym n) ∙ ap (accept Top Empty Free) (sym all) ∙ accept_all d) in
-    (g.used_is ∙ ap (λ b. length (all_words b ++ SEMI ∷ [])) same ∙ ap length (sym e), c.is ∙ ap (λ b. thread rt b at) same)
+    (g.used_is ∙ ap (λ b. length (all_words b ++ SEMI ∷ [])) same ∙ ap length (sym e), c.is ∙ ap (λ b. whole_code rt b at) same)
 
 -- they have no fault
 pub compiles_well : (rt : ℕ → ℕ) (at limit : ℕ) (source : List Token) (place : ℕ) (cause : BodyCause) (d : Definition) → Compiles rt at limit d → source ≡ all_words d ++ SEMI ∷ [] → IsFault rt at limit source place cause → cause ≡ r.Memory
@@ -126,16 +126,16 @@ shown rt at bytes ws p m = grind (arith, all_plain_is, known_last)
 pub plainly : (rt : ℕ → ℕ) (d : Definition) (ws : List Token) → IsPlainDefinition rt d → ws ≡ all_words d ++ SEMI ∷ [] → ArePlainWords rt Free ws
 plainly rt d ws h e = subst (λ l. ArePlainWords rt Free l) (sym e) (are_all_plain rt d h)
 
-pub thread_laid : (rt : ℕ → ℕ) (at : ℕ) (bytes : List ℕ) (d : Definition) (ws : List Token) → ws ≡ all_words d ++ SEMI ∷ [] → thread rt d at ≡ bytes → laid ws ≤ length bytes
+pub thread_laid : (rt : ℕ → ℕ) (at : ℕ) (bytes : List ℕ) (d : Definition) (ws : List Token) → ws ≡ all_words d ++ SEMI ∷ [] → whole_code rt d at ≡ bytes → laid ws ≤ length bytes
 thread_laid rt at bytes d ws e h = grind (arith, length-append, length-all, length-cell, laid-all, laid-append)
 
 -- Forced names leave a definition within its bounds.
 
 -- they are no structures
-spelled_depth : (f : ℕ → Bool) (t : Body) → depth (spelled f t) ≡ depth t
-spelled_depth f = by_parts (λ t. depth (spelled f t) ≡ depth t) (elim [ Empty ↦ λ ih. refl | t ↦ λ ih. grind (arith, ih) ])
+spelled_depth : (f : ℕ → Bool) (t : Body) → nesting (spelled f t) ≡ nesting t
+spelled_depth f = by_parts (λ t. nesting (spelled f t) ≡ nesting t) (elim [ Empty ↦ λ ih. refl | t ↦ λ ih. grind (arith, ih) ])
 
-all_spelled_depth : (f : ℕ → Bool) (d : Definition) → all_depth (all_spelled f d) ≡ all_depth d
+all_spelled_depth : (f : ℕ → Bool) (d : Definition) → all_nesting (all_spelled f d) ≡ all_nesting d
 all_spelled_depth f d = grind (arith, spelled_depth)
 
 -- they write no control, and are no texts

@@ -1,6 +1,6 @@
 -- A whole definition that is printed is read as it was.
 use Rattle.std.proofs.Common.{◌≡◌, ◌≢◌, ℕ, Bool, true, false, not, ◌&&◌, ◌==◌, List, [], ◌∷◌, ◌++◌, length, map, Some, refl, sym, ap, ◌∙◌, arith, append_assoc}
-use Rattle.std.specs.Prelude.{All, codes, slice_index, Result, IfOk, Vec}
+use Rattle.std.specs.Prelude.{All, codes, slice_index}
 use Rattle.std.specs.List.{list_all}
 use Rattle.std.proofs.lemmas.List.Elements.{All-nil, All-cons}
 use Rattle.std.proofs.lemmas.List.{map-append}
@@ -18,9 +18,7 @@ use Rattle.see.specs.Extent.{controls_of, parameter_field, extent}
 use Rattle.see.specs.Naming.{is_word, is_quotable, name_at, number_text, IsReadable, AreReadableWords}
 use Rattle.see.specs.Printing.{printed, called, all_printed, is_forced, is_keyword, its_words, text}
 use Rattle.see.specs.Reading.{tokens_of, AreCells}
-use Rattle.see.specs.Seeing.{IsAgain, IsDefined, IsSeen, IsReadBack}
-use Rattle.see.specs.declared.refusal.SeeRefused.{SeeRefused}
-use Rattle.std.specs.declared.alloc.Global.{Global}
+use Rattle.see.specs.Seeing.{IsAgain, IsDefined, IsShown, IsReadBack}
 use Rattle.see.proofs.Telling.{bare_is, bare_step, neither, number_bare, number_word, all_told}
 use Rattle.see.proofs.Showing.{are_all_plain, spelled_within}
 use Rattle.colon_bodies.proofs.Parts.{by_parts}
@@ -149,5 +147,5 @@ read_again m name l d h r c =
       },
     )
 
-pub seen_read : (m name : List ℕ) (x : Result (Vec ℕ Global) SeeRefused) → IsSeen m name x → IfOk x (λ v. IsReadBack m name v.items)
-seen_read m name x s = grind (arith, read_again)
+pub shown_read : (m name bytes : List ℕ) → IsShown m name bytes → IsReadBack m name bytes
+shown_read m name bytes s = grind (arith, read_again)

@@ -12,11 +12,11 @@ use Rattle.image_builder.specs.declared.source.TheConstants.{CONTROLS_END}
 unfoldable pub parameter_field : List ℕ → ℕ → ℕ
 parameter_field m l = wrap (compilation_address m l + 2)
 
--- the bytes from p to the next header of any vocabulary, or to DP; none where that isn't above it
+-- the bytes from p to the next header of any vocabulary, or to DP; none if that isn't above it
 unfoldable pub extent : List ℕ → ℕ → List ℕ
 extent m p = bytes m p (extent_end m (headers m) p - p)
 
--- the first n runtime cells: that of control primitive k holds its compilation address, 0 where it has none
+-- the first n runtime cells: that of control primitive k holds its compilation address, 0 if it has none
 unfoldable pub first_controls : List ℕ → ℕ → List ℕ
 first_controls m zero = []
 first_controls m (suc n) = first_controls m n ++ cell m (RUNTIME_CELLS + 2 * n) ∷ []

@@ -2,6 +2,8 @@ pub mod View
 pub mod PlainWords
 pub mod Seen
 pub mod Places
+pub mod Rooms
+pub mod Parts
 pub mod Apart
 pub mod Shown
 pub mod Extent

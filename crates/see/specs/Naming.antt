@@ -15,7 +15,7 @@ abbrev pub name_if : List ℕ → Option ℕ → List ℕ
 name_if m None = []
 name_if m (Some l) = name_of m l
 
--- what an address is called: by the name of the lowest header with this compilation address; the empty one where there is none
+-- what an address is called: by the name of the lowest header with this compilation address; the empty one if there is none
 unfoldable pub name_at : List ℕ → ℕ → List ℕ
 name_at m w = name_if m (header_at m (headers m) w)
 

@@ -58,7 +58,7 @@ abbrev pub called : (forced : Bool) → List ℕ → List Spelling
 called false name = bare name ∷ []
 called true name = bare (codes "[COMPILE]") ∷ bare name ∷ []
 
--- words as they are printed, with [COMPILE] where it is needed
+-- words as they are printed, with [COMPILE] if it is needed
 abbrev pub all_printed : List ℕ → (hidden : ℕ) → List Token → List Spelling
 all_printed m hidden ws = map (printed m) (respelled (is_forced m hidden) ws)
 

@@ -8,7 +8,7 @@ use Rattle.dictionary.specs.Search.{Found, Nowhere, TooLong, sought}
 use Rattle.colon_bodies.specs.Tree.{Definition}
 use Rattle.colon_bodies.specs.Tokens.{Token}
 use Rattle.colon_bodies.specs.Plain.{AreApart}
-use Rattle.colon_bodies.specs.Code.{thread}
+use Rattle.colon_bodies.specs.Code.{whole_code}
 use Rattle.see.specs.Shown.{IsThread, IsWithinBounds}
 use Rattle.see.specs.Extent.{parameter_field, extent, controls_of}
 use Rattle.see.specs.Naming.{words_fault, first_fault, IsReadable}
@@ -43,29 +43,42 @@ pub record IsDefined (m name : List ℕ) (l : ℕ) (d : Definition) : Type 0 whe
 -- words are written after what was written, or are refused for their first fault
 abbrev pub IsWritten : List ℕ → (hidden : ℕ) → List Token → (old new : List ℕ) → Result (Unit {0}) SeeRefused → Type 0
 IsWritten m hidden ws old new (Ok u) = (words_fault m hidden ws ≡ None) × AreCells ws × (new ≡ old ++ spaced_behind (all_printed m hidden ws))
-IsWritten m hidden ws old new (Err e) = (e ≡ r.OutOfMemory) ⊎ (words_fault m hidden ws ≡ Some e)
+IsWritten m hidden ws old new (Err e) = words_fault m hidden ws ≡ Some e
 
 -- these words printed, or the first fault of a definition of them
-abbrev pub IsPrinted : List ℕ → ℕ → List ℕ → List Token → Result (Vec ℕ Global) SeeRefused → Type 0
-IsPrinted m l name ws (Ok v) = (first_fault m l name ws ≡ None) × AreCells ws × (v.items ≡ printed_text m l name ws)
-IsPrinted m l name ws (Err e) = (e ≡ r.OutOfMemory) ⊎ (first_fault m l name ws ≡ Some e)
+abbrev pub IsPrinted : List ℕ → ℕ → List ℕ → List Token → (bytes : List ℕ) → Result (Unit {0}) SeeRefused → Type 0
+IsPrinted m l name ws bytes (Ok u) = (first_fault m l name ws ≡ None) × AreCells ws × (bytes ≡ printed_text m l name ws)
+IsPrinted m l name ws bytes (Err e) = first_fault m l name ws ≡ Some e
 
--- what is answered: the text of a readable definition, or why there is none
+-- the text of a readable definition
+abbrev pub IsShown : List ℕ → List ℕ → List ℕ → Type 0
+IsShown m name bytes =
+    (l : ℕ) × (d : Definition) × IsDefined m name l d × IsReadable m l name (its_words d) × AreCells (its_words d) × (bytes ≡ text m l name d)
+
+-- why there is none
+abbrev pub IsUnseen : List ℕ → List ℕ → SeeRefused → Type 0
+IsUnseen m name r.NotFound = sought m name ≡ Nowhere
+IsUnseen m name r.ChainTooLong = (sought m name ≡ TooLong) ⊎ ((l : ℕ) × (sought m name ≡ Found l) × (is_beyond_limit m ≡ true))
+IsUnseen m name r.NotColon = (l : ℕ) × IsHeader m name l × (cell m (compilation_address m l) ≢ 1)
+IsUnseen m name r.NotStructured = (l : ℕ) × IsColon m name l × (HasControlsApart m → (d : Definition) → IsCode m l d → ⊥)
+IsUnseen m name r.OutOfMemory = Unit {0}
+IsUnseen m name e = (l : ℕ) × (d : Definition) × IsDefined m name l d × (first_fault m l name (its_words d) ≡ Some e)
+
+-- what is answered
 abbrev pub IsSeen : List ℕ → List ℕ → Result (Vec ℕ Global) SeeRefused → Type 0
-IsSeen m name (Ok v) =
-    (l : ℕ) × (d : Definition) × IsDefined m name l d × IsReadable m l name (its_words d) × AreCells (its_words d) × (v.items ≡ text m l name d)
-IsSeen m name (Err r.NotFound) = sought m name ≡ Nowhere
-IsSeen m name (Err r.ChainTooLong) = (sought m name ≡ TooLong) ⊎ ((l : ℕ) × (sought m name ≡ Found l) × (is_beyond_limit m ≡ true))
-IsSeen m name (Err r.NotColon) = (l : ℕ) × IsHeader m name l × (cell m (compilation_address m l) ≢ 1)
-IsSeen m name (Err r.NotStructured) = (l : ℕ) × IsColon m name l × (HasControlsApart m → (d : Definition) → IsCode m l d → ⊥)
-IsSeen m name (Err r.OutOfMemory) = Unit {0}
-IsSeen m name (Err e) = (l : ℕ) × (d : Definition) × IsDefined m name l d × (first_fault m l name (its_words d) ≡ Some e)
+IsSeen m name (Ok v) = IsShown m name v.items
+IsSeen m name (Err e) = IsUnseen m name e
+
+-- the same of a text that lies in a room
+abbrev pub IsSeenIn : List ℕ → List ℕ → (bytes : List ℕ) → Result (Unit {0}) SeeRefused → Type 0
+IsSeenIn m name bytes (Ok u) = IsShown m name bytes
+IsSeenIn m name bytes (Err e) = IsUnseen m name e
 
 -- bytes that are read, as a source is, as this definition, which is within a source's bounds and written as the word's extent
 pub record IsAgain (m : List ℕ) (l : ℕ) (name : List ℕ) (bytes : List ℕ) (e : Definition) : Type 0 where
   pub read : IsReadAs m l name bytes e
   pub within : IsWithinBounds (slice_index (controls_of m)) e
-  pub is : thread (slice_index (controls_of m)) e (parameter_field m l) ≡ extent m (parameter_field m l)
+  pub is : whole_code (slice_index (controls_of m)) e (parameter_field m l) ≡ extent m (parameter_field m l)
 
 -- bytes that are read so as a definition of the colon word that the name means
 abbrev pub IsReadBack : List ℕ → List ℕ → List ℕ → Type 0

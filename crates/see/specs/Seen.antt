@@ -1,16 +1,15 @@
 -- What the decompiler keeps while it reads.
-use Rattle.std.specs.Prelude.{◌≡◌, Bool, true, ℕ, ◌+◌, ◌≤◌, List, [], ◌∷◌, ◌++◌, length, map, Option, Some, None, Result, IfOk, slice_index}
-use Rattle.std.specs.declared.alloc.AllocError.{AllocError}
-use Rattle.colon_bodies.specs.declared.words.BodyWord.{BodyWord}
+use Rattle.std.specs.Prelude.{◌≡◌, Bool, true, ℕ, ◌+◌, ◌≤◌, List, [], ◌∷◌, ◌++◌, length, map, Option, Some, None, slice_index}
+use Rattle.see.specs.declared.parts.Part.{Part}
 use Rattle.see.specs.declared.structures.Frame.{Frame}
 use Rattle.see.specs.declared.structures.Frame.TheVariants as k
 use Rattle.colon_bodies.specs.Tokens.{Token, IF, ELSE, DO, DOES}
 use Rattle.colon_bodies.specs.Tree.{Body, words}
 use Rattle.colon_bodies.specs.Code.{size}
-use Rattle.colon_bodies.specs.Draft.{token}
 use Rattle.colon_bodies.specs.Instructions.{Instr, len}
 use Rattle.colon_bodies.specs.Structures.{Frames, Shape, In, step, FTop, FPast, FIf, FElse, FDo}
 use Rattle.see.specs.Places.{without_begins, IsSketch, AreUnforced}
+use Rattle.see.specs.Parts.{token_in}
 
 -- the words of the open structures; no BEGIN is among them
 abbrev pub frame_words : Frames → List Token
@@ -43,18 +42,19 @@ pub record Seen (at : ℕ) (f : Frames) (c : Body) (here : ℕ) (seen : List Tok
   pub frames_are : frames ≡ frames_of at f
   pub here_is : here ≡ start at f + size c
 
--- one more instruction: where what was read leads on by it, the answer is yes, and what it leads to is read up to `next`
-abbrev pub Takes : (at here next : ℕ) → (Frames → Body → Option Shape) → List BodyWord → List ℕ → List Frame →
-    Result Bool AllocError → List BodyWord → List ℕ → List Frame → Type 0
-Takes at here next onward words begins frames result new_words new_begins new_frames =
-    (f g : Frames) (c d : Body) → Seen at f c here (map token words) begins frames → onward f c ≡ Some (In g d) →
-    IfOk result (λ ok. (ok ≡ true) × Seen at g d next (map token new_words) new_begins new_frames)
+-- one more instruction of a thread of these bytes: where what was read leads on by it, the answer is yes, and what it leads to is
+-- read up to `next`
+abbrev pub Takes : (bytes : List ℕ) → (at here next : ℕ) → (Frames → Body → Option Shape) → List Part → List ℕ → List Frame →
+    Bool → List Part → List ℕ → List Frame → Type 0
+Takes bytes at here next onward words begins frames ok new_words new_begins new_frames =
+    (f g : Frames) (c d : Body) → Seen at f c here (map (token_in bytes) words) begins frames → onward f c ≡ Some (In g d) →
+    (ok ≡ true) × Seen at g d next (map (token_in bytes) new_words) new_begins new_frames
 
 -- the same, of an instruction by itself
-abbrev pub TakesOne : (at here : ℕ) → Instr → List BodyWord → List ℕ → List Frame →
-    Result Bool AllocError → List BodyWord → List ℕ → List Frame → Type 0
-TakesOne at here i words begins frames result new_words new_begins new_frames =
-    Takes at here (here + len i) (λ f c. step f c here i) words begins frames result new_words new_begins new_frames
+abbrev pub TakesOne : (bytes : List ℕ) → (at here : ℕ) → Instr → List Part → List ℕ → List Frame →
+    Bool → List Part → List ℕ → List Frame → Type 0
+TakesOne bytes at here i words begins frames ok new_words new_begins new_frames =
+    Takes bytes at here (here + len i) (λ f c. step f c here i) words begins frames ok new_words new_begins new_frames
 
 abbrev pub top_frame : ℕ → Frames → Option Frame
 top_frame at FTop = None

@@ -3,8 +3,8 @@ use Rattle.std.specs.Prelude.{◌≡◌, ◌≢◌, ℕ, ◌+◌, ◌≤◌, Lis
 use Rattle.memory.specs.Controls.{number_of}
 use Rattle.memory.specs.declared.controls.Control.TheVariants as ctl
 use Rattle.colon_bodies.specs.Tokens.{Token, SEMI, laid, AreShort}
-use Rattle.colon_bodies.specs.Tree.{Definition, all_words, all_depth}
-use Rattle.colon_bodies.specs.Code.{thread}
+use Rattle.colon_bodies.specs.Tree.{Definition, all_words, all_nesting}
+use Rattle.colon_bodies.specs.Code.{whole_code}
 use Rattle.colon_bodies.specs.Rules.{AreKnown}
 use Rattle.colon_bodies.specs.Plain.{AreApart, IsPlainDefinition}
 
@@ -12,9 +12,9 @@ use Rattle.colon_bodies.specs.Plain.{AreApart, IsPlainDefinition}
 pub record IsThread (rt : ℕ → ℕ) (at : ℕ) (bytes : List ℕ) (d : Definition) : Type 0 where
   pub plain : IsPlainDefinition rt d
   pub exit : rt (number_of ctl.Exit) ≢ 0
-  pub shallow : all_depth d ≤ 64
+  pub shallow : all_nesting d ≤ 64
   pub short : AreShort (all_words d)
-  pub is : thread rt d at ≡ bytes
+  pub is : whole_code rt d at ≡ bytes
 
 -- and these are its words, and ;
 pub record Shown (rt : ℕ → ℕ) (at : ℕ) (bytes : List ℕ) (shown : List Token) : Type 0 where
@@ -30,21 +30,21 @@ OfThread rt at bytes P = AreApart rt → (d : Definition) → IsThread rt at byt
 pub record Makes (rt : ℕ → ℕ) (at : ℕ) (bytes : List ℕ) (words : List Token) : Type 0 where
   pub body : Definition
   pub words_are : words ≡ all_words body ++ SEMI ∷ []
-  pub bytes_are : bytes ≡ thread rt body at
-  pub shallow : all_depth body ≤ 64
+  pub bytes_are : bytes ≡ whole_code rt body at
+  pub shallow : all_nesting body ≤ 64
   pub known : AreKnown rt (all_words body ++ SEMI ∷ [])
   pub short : AreShort (all_words body)
 
 -- within the bounds of what a source may define: its structures lie at most 64 deep, each control that it writes is named, and its
 -- texts have at most 255 bytes
 pub record IsWithinBounds (rt : ℕ → ℕ) (d : Definition) : Type 0 where
-  pub shallow : all_depth d ≤ 64
+  pub shallow : all_nesting d ≤ 64
   pub known : AreKnown rt (all_words d ++ SEMI ∷ [])
   pub short : AreShort (all_words d)
 
 -- a definition that can be compiled
 pub record Compiles (rt : ℕ → ℕ) (at limit : ℕ) (d : Definition) : Type 0 where
-  pub shallow : all_depth d ≤ 64
+  pub shallow : all_nesting d ≤ 64
   pub known : AreKnown rt (all_words d ++ SEMI ∷ [])
   pub short : AreShort (all_words d)
   pub room : at + laid (all_words d ++ SEMI ∷ []) ≤ limit

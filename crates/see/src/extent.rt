@@ -1,15 +1,15 @@
 //! The thread of a word.
 
-ghost use Rattle.std.specs.Prelude.{◌≡◌, ◌<◌, ◌+◌, ◌^◌, length, IfOk};
-ghost use Rattle.memory.specs.Bytes.{bytes};
+ghost use Rattle.std.specs.Prelude.{◌≡◌, ◌≤◌, ◌<◌, ◌+◌, ◌-◌, ◌^◌, length, vec_capacity};
 ghost use Rattle.memory.specs.Mirrored.{stored};
+ghost use Rattle.dictionary.specs.Extents.{extent_end};
 ghost use Rattle.dictionary.specs.Order.{headers};
 ghost use Rattle.see.specs.Extent.{parameter_field, extent, controls_of};
 
+use crate::adding::copy_into;
 use dictionary::{compilation_address, extent_end};
 use memory::Memory;
 use memory::system::RUNTIME_CELLS;
-use std::alloc::{AllocError, Global};
 
 /// The address after a header's code field.
 #[tactic(auto, unfolding(crate::specs::Extent::parameter_field))]
@@ -19,38 +19,39 @@ pub fn parameter_field(memory: &Memory, l: u16) -> u16
     compilation_address(memory, l).wrapping_add(2)
 }
 
-/// Some bytes of memory.
-pub fn copied(alloc: Global, memory: &Memory, at: u16, n: u16) -> Result<Vec<u8>, AllocError>
-    ensures bytes { IfOk result (λ v. v.items ≡ bytes (stored memory.now) at n) }
-    ensures count { IfOk result (λ v. length v.items ≡ n) }
-{
-    let (head, tail) = memory.span(at, n);
-    let mut copy = Vec::new(alloc);
-    copy.extend_from_slice(head)?;
-    copy.extend_from_slice(tail)?;
-    Ok(copy)
-}
-
-/// The bytes of what is at `p`.
-#[tactic(auto, unfolding(crate::specs::Extent::extent))]
-pub fn extent(alloc: Global, memory: &Memory, listed: &[u16], p: u16) -> Result<Vec<u8>, AllocError>
+/// How many bytes what is at `p` has.
+pub fn extent_size(memory: &Memory, listed: &[u16], p: u16) -> u16
     requires { listed.now ≡ headers (stored memory.now) }
-    ensures bytes { IfOk result (λ v. v.items ≡ extent (stored memory.now) p) }
-    ensures within { IfOk result (λ v. p + length v.items < 2 ^ 16) }
+    ensures size { result ≡ extent_end (stored memory.now) (headers (stored memory.now)) p - p }
+    ensures count { length (extent (stored memory.now) p) ≡ result }
+    ensures within { p + result < 2 ^ 16 }
 {
-    let end = extent_end(memory, listed, p);
-    copied(alloc, memory, p, end.saturating_sub(p))
+    let _ = memory.len();
+    extent_end(memory, listed, p).saturating_sub(p)
 }
 
-/// The runtime cells: that of control primitive k holds its compilation address.
-#[tactic(auto, unfolding(crate::specs::Extent::controls_of, crate::specs::Extent::first_controls))]
-pub fn controls_of(alloc: Global, memory: &Memory) -> Result<Vec<u16>, AllocError>
-    ensures cells { IfOk result (λ v. v.items ≡ controls_of (stored memory.now)) }
-    ensures count { IfOk result (λ v. length v.items ≡ 28) }
+/// The bytes of what is at `p`, of which there are so many, in place of what there was.
+#[tactic(auto, unfolding(crate::specs::Extent::extent))]
+pub fn copy_extent(list: &mut Vec<u8>, memory: &Memory, p: u16, size: u16)
+    requires size { size ≡ extent_end (stored memory.now) (headers (stored memory.now)) p - p }
+    requires room { size ≤ vec_capacity list.old }
+    ensures bytes { list.new.items ≡ extent (stored memory.now) p }
+    ensures count { length list.new.items ≡ size }
+    ensures room { vec_capacity list.old ≤ vec_capacity list.new }
 {
-    let mut controls = Vec::new(alloc);
+    copy_into(list, memory, p, size);
+}
+
+/// The runtime cells, in place of what there was: that of control primitive k holds its compilation address.
+#[tactic(auto, unfolding(crate::specs::Extent::controls_of, crate::specs::Extent::first_controls))]
+pub fn list_controls(controls: &mut Vec<u16>, memory: &Memory)
+    requires { 28 ≤ vec_capacity controls.old }
+    ensures cells { controls.new.items ≡ controls_of (stored memory.now) }
+    ensures count { length controls.new.items ≡ 28 }
+    ensures room { vec_capacity controls.new ≡ vec_capacity controls.old }
+{
+    controls.clear();
     for k in 0_u16..28 {
-        controls.push(memory.cell(RUNTIME_CELLS + 2 * k))?;
+        controls.push_reserved(memory.cell(RUNTIME_CELLS + 2 * k));
     }
-    Ok(controls)
 }

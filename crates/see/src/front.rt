@@ -19,7 +19,7 @@ pub enum Instruction<'a> {
     Number(u16),
     /// COMPILE's control and a compilation address.
     Pair(u16),
-    /// (.") or, where this is true, (ABORT"), and a text.
+    /// (.") or, if this is true, (ABORT"), and a text.
     Text(bool, &'a [u8]),
     /// ?BRANCH and an address.
     Query(u16),
@@ -27,7 +27,7 @@ pub enum Instruction<'a> {
     Branch(u16),
     /// (DO) and an address.
     Do(u16),
-    /// (LOOP) or, where this is true, (+LOOP), and an address.
+    /// (LOOP) or, if this is true, (+LOOP), and an address.
     Loop(bool, u16),
     /// (DOES>).
     Does,
@@ -41,7 +41,7 @@ pub struct Taken<'a> {
 }
 
 /// What is after the first `n` bytes.
-fn tail(bytes: &[u8], n: usize) -> &[u8]
+pub fn tail(bytes: &[u8], n: usize) -> &[u8]
     ensures { result.now ≡ drop n bytes.now }
 {
     if n < bytes.len() {
@@ -52,7 +52,7 @@ fn tail(bytes: &[u8], n: usize) -> &[u8]
 }
 
 /// The first `n` bytes, or all.
-fn head(bytes: &[u8], n: usize) -> &[u8]
+pub fn head(bytes: &[u8], n: usize) -> &[u8]
     ensures { result.now ≡ take n bytes.now }
 {
     if n < bytes.len() { &bytes[..n] } else { bytes }

@@ -1,37 +1,46 @@
 //! What the cells of a thread are called, and what can't be printed.
 
-ghost use Rattle.std.specs.Prelude.{◌≡◌, ◌==◌, true, false, not, IfOk, MatchOption};
+ghost use Rattle.std.specs.Prelude.{◌≡◌, ◌==◌, ◌≤◌, true, false, not, length, vec_len, vec_capacity, MatchOption};
 ghost use Rattle.memory.specs.Mirrored.{stored};
 ghost use Rattle.std.specs.List.{list_all};
 ghost use Rattle.dictionary.specs.Header.{name_of};
 ghost use Rattle.dictionary.specs.Search.{Found, sought_hiding};
 ghost use Rattle.see.specs.Naming.{name_if, number_text, is_word, is_quotable, is_meant, is_free};
 
-use crate::extent::copied;
-use dictionary::{compilation_address, header, search_hiding};
+use crate::adding::copy_into;
+use dictionary::{compilation_address, name_length, search_hiding};
+use itoa::Buffer;
 use memory::Memory;
-use std::alloc::{AllocError, Global};
 
-/// The name of a header.
-#[tactic(auto, unfolding(dictionary::specs::Header::name_of))]
-fn name_of(alloc: Global, memory: &Memory, l: u16) -> Result<Vec<u8>, AllocError>
-    ensures { IfOk result (λ v. v.items ≡ name_of (stored memory.now) l) }
+/// The most bytes that a name has.
+pub const NAME_ROOM: usize = 31;
+
+/// The name of a header, in place of what there was.
+#[tactic(auto, using(crate::proofs::Rooms::short_name), unfolding(dictionary::specs::Header::name_of))]
+pub fn copy_name(name: &mut Vec<u8>, memory: &Memory, l: u16)
+    requires { 31 ≤ vec_capacity name.old }
+    ensures is { name.new.items ≡ name_of (stored memory.now) l }
+    ensures short { vec_len name.new ≤ 31 }
+    ensures room { vec_capacity name.old ≤ vec_capacity name.new }
 {
-    copied(
-        alloc,
+    copy_into(
+        name,
         memory,
         l.wrapping_add(3),
-        u16::from(header(memory, l).length),
-    )
+        u16::from(name_length(memory, l)),
+    );
 }
 
-/// The name of an address, by its header; the empty one where it has none.
-pub fn name_if(alloc: Global, memory: &Memory, header: Option<u16>) -> Result<Vec<u8>, AllocError>
-    ensures { IfOk result (λ v. v.items ≡ name_if (stored memory.now) header) }
+/// The name of an address, by its header; the empty one if it has none.
+pub fn copy_name_if(name: &mut Vec<u8>, memory: &Memory, header: Option<u16>)
+    requires { 31 ≤ vec_capacity name.old }
+    ensures is { name.new.items ≡ name_if (stored memory.now) header }
+    ensures short { vec_len name.new ≤ 31 }
+    ensures room { vec_capacity name.old ≤ vec_capacity name.new }
 {
     match header {
-        Some(l) => name_of(alloc, memory, l),
-        None => Ok(Vec::new(alloc)),
+        Some(l) => copy_name(name, memory, l),
+        None => name.clear(),
     }
 }
 
@@ -89,8 +98,9 @@ pub fn is_free(memory: &Memory, hidden: u16, name: &[u8]) -> bool
 
 /// A number as a signed decimal.
 #[tactic(auto, unfolding(crate::specs::Naming::number_text))]
-pub fn number_text(alloc: Global, n: u16) -> Result<String, AllocError>
-    ensures { IfOk result (λ s. s.bytes.items ≡ number_text n) }
+pub fn number_text(buffer: &mut Buffer, n: u16) -> &[u8]
+    ensures is { result.now ≡ number_text n }
+    ensures short { length result.now ≤ 40 }
 {
-    n.cast_signed().to_string(alloc)
+    buffer.format(n.cast_signed()).as_bytes()
 }

@@ -1,16 +1,16 @@
 //! Finds the structures again. The words have no BEGINs: how many of them belong at each place in the thread is counted.
 
-ghost use Rattle.std.specs.Prelude.{◌≡◌, ◌↔◌, IsTrue, IsSome, OnOk, true, ◌≤◌, ◌<◌, ◌^◌, ◌+◌, ◌-◌, ℕ, List, IfOk, length, map, Some};
+ghost use Rattle.std.specs.Prelude.{◌≡◌, ◌↔◌, IsTrue, IsSome, true, ◌≤◌, ◌<◌, ◌^◌, ◌+◌, ◌-◌, ℕ, List, length, map, sum, vec_len, vec_capacity, Some};
 ghost use Rattle.colon_bodies.specs.Tree.{Body};
-ghost use Rattle.colon_bodies.specs.Draft.{token};
 ghost use Rattle.colon_bodies.specs.Structures.{Frames, In, else_at, again_at, repeat_at, split, shut};
 ghost use Rattle.colon_bodies.specs.Instructions.{IQuery, IBranch, IDo, ILoop, IDoes};
+ghost use Rattle.see.specs.Parts.{token_in};
 ghost use Rattle.see.specs.Seen.{Seen, Takes, TakesOne, frames_of, top_frame, beneath, start, begins_at, EndsHere};
 ghost use Rattle.see.specs.declared.structures.Frame.{Frame};
 
+use crate::parts::Part;
 use crate::places::count_begin;
 use colon_bodies::BodyWord;
-use std::alloc::AllocError;
 
 /// A structure that is open: the addresses at which its innermost body starts, and after its last byte.
 #[derive(Clone, Copy)]
@@ -38,165 +38,180 @@ pub enum Frame {
 
 /// ?BRANCH: forward it is an IF, back an UNTIL.
 pub fn take_query(
-    words: &mut Vec<BodyWord>,
+    words: &mut Vec<Part>,
     begins: &mut [usize],
     frames: &mut Vec<Frame>,
     at: usize,
     here: usize,
     to: usize,
-) -> Result<bool, AllocError>
-    requires { here + 4 < 2 ^ 64 }
-    ensures { here < at + length begins.old → TakesOne at here (IQuery to)
+) -> bool
+    requires reach { here + 4 < 2 ^ 64 }
+    requires words { vec_len words.old < vec_capacity words.old }
+    requires frames { vec_len frames.old < vec_capacity frames.old }
+    ensures taken { (bytes : List ℕ) → here < at + length begins.old → TakesOne bytes at here (IQuery to)
         words.old.items begins.old frames.old.items result words.new.items begins.new frames.new.items }
+    ensures few { vec_len words.new + vec_len frames.new + sum begins.new ≤ vec_len words.old + vec_len frames.old + sum begins.old + 2 }
+    ensures words { vec_capacity words.new ≡ vec_capacity words.old }
+    ensures frames { vec_capacity frames.new ≡ vec_capacity frames.old }
 {
     if here < to {
-        frames.push(Frame::If {
+        frames.push_reserved(Frame::If {
             index: words.len(),
             end: to,
             start: here + 4,
-        })?;
-        words.push(BodyWord::If)?;
-        return Ok(true);
+        });
+        words.push_reserved(Part::Word(BodyWord::If));
+        return true;
     }
     if !count_begin(begins, at, to) {
-        return Ok(false);
+        return false;
     }
-    words.push(BodyWord::Until)?;
-    Ok(true)
+    words.push_reserved(Part::Word(BodyWord::Until));
+    true
 }
 
 /// Takes off the innermost open structure.
 fn pop_frame(frames: &mut Vec<Frame>) -> Option<Frame>
     ensures top { (at : ℕ) (f : Frames) → frames.old.items ≡ frames_of at f →
         (result ≡ top_frame at f) × (frames.new.items ≡ frames_of at (beneath f)) }
-    ensures shorter { IsSome result → length frames.new.items + 1 ≡ length frames.old.items }
+    ensures shorter { IsSome result → vec_len frames.new + 1 ≡ vec_len frames.old }
+    ensures few { vec_len frames.new ≤ vec_len frames.old }
     ensures some { 0 < length frames.old.items → IsSome result }
+    ensures room { vec_capacity frames.new ≡ vec_capacity frames.old }
 {
     frames.pop()
 }
 
 /// BRANCH forward: an ELSE.
-fn take_else(
-    words: &mut Vec<BodyWord>,
-    frames: &mut Vec<Frame>,
-    here: usize,
-    to: usize,
-) -> Result<bool, AllocError>
-    requires { here + 4 < 2 ^ 64 }
-    ensures { (at : ℕ) (begins : List ℕ) → Takes at here (here + 4) (λ f c. else_at f c to)
+fn take_else(words: &mut Vec<Part>, frames: &mut Vec<Frame>, here: usize, to: usize) -> bool
+    requires reach { here + 4 < 2 ^ 64 }
+    requires words { vec_len words.old < vec_capacity words.old }
+    ensures taken { (bytes : List ℕ) (at : ℕ) (begins : List ℕ) → Takes bytes at here (here + 4) (λ f c. else_at f c to)
         words.old.items begins frames.old.items result words.new.items begins frames.new.items }
+    ensures few { vec_len words.new + vec_len frames.new ≤ vec_len words.old + vec_len frames.old + 2 }
+    ensures words { vec_capacity words.new ≡ vec_capacity words.old }
+    ensures frames { vec_capacity frames.new ≡ vec_capacity frames.old }
 {
     match pop_frame(frames) {
         Some(Frame::If { .. }) => {
-            frames.push(Frame::Else {
+            frames.push_reserved(Frame::Else {
                 end: to,
                 start: here + 4,
-            })?;
-            words.push(BodyWord::Else)?;
-            Ok(true)
+            });
+            words.push_reserved(Part::Word(BodyWord::Else));
+            true
         }
-        _ => Ok(false),
+        _ => false,
     }
 }
 
 /// BRANCH back within the innermost body: an AGAIN.
 fn take_again(
-    words: &mut Vec<BodyWord>,
+    words: &mut Vec<Part>,
     begins: &mut [usize],
     at: usize,
     here: usize,
     to: usize,
-) -> Result<bool, AllocError>
-    requires room { here + 4 < 2 ^ 64 }
+) -> bool
+    requires reach { here + 4 < 2 ^ 64 }
     requires back { to ≤ here }
-    ensures { (frames : List Frame) → here < at + length begins.old →
-        Takes at here (here + 4) (λ f c. again_at f (split c (here - to)))
+    requires words { vec_len words.old < vec_capacity words.old }
+    ensures taken { (bytes : List ℕ) (frames : List Frame) → here < at + length begins.old →
+        Takes bytes at here (here + 4) (λ f c. again_at f (split c (here - to)))
         words.old.items begins.old frames result words.new.items begins.new frames }
+    ensures few { vec_len words.new + sum begins.new ≤ vec_len words.old + sum begins.old + 2 }
+    ensures words { vec_capacity words.new ≡ vec_capacity words.old }
 {
     if !count_begin(begins, at, to) {
-        return Ok(false);
+        return false;
     }
-    words.push(BodyWord::Again)?;
-    Ok(true)
+    words.push_reserved(Part::Word(BodyWord::Again));
+    true
 }
 
 /// BRANCH back over the start of the innermost body: a REPEAT, and what was read as IF is a WHILE. A jump into the bytes of
 /// that WHILE counts as one to it.
 fn take_repeat(
-    words: &mut Vec<BodyWord>,
+    words: &mut Vec<Part>,
     begins: &mut [usize],
     frames: &mut Vec<Frame>,
     at: usize,
     to: usize,
-) -> Result<bool, AllocError>
-    ensures { (here : ℕ) (f g : Frames) (c d : Body) →
-        Seen at f c here (map token words.old.items) begins.old frames.old.items → here < at + length begins.old →
+) -> bool
+    requires words { vec_len words.old < vec_capacity words.old }
+    ensures taken { (bytes : List ℕ) (here : ℕ) (f g : Frames) (c d : Body) →
+        Seen at f c here (map (token_in bytes) words.old.items) begins.old frames.old.items → here < at + length begins.old →
         here + 4 < 2 ^ 64 → to < start at f → repeat_at f c here to ≡ Some (In g d) →
-        IfOk result (λ ok. (ok ≡ true) × Seen at g d (here + 4)
-        (map token words.new.items) begins.new frames.new.items) }
+        (result ≡ true) × Seen at g d (here + 4)
+        (map (token_in bytes) words.new.items) begins.new frames.new.items }
+    ensures few { vec_len words.new + vec_len frames.new + sum begins.new ≤ vec_len words.old + vec_len frames.old + sum begins.old + 2 }
+    ensures words { vec_capacity words.new ≡ vec_capacity words.old }
+    ensures frames { vec_capacity frames.new ≡ vec_capacity frames.old }
 {
     match pop_frame(frames) {
         Some(Frame::If { index, start, .. }) => {
             if index >= words.len() {
-                return Ok(false);
+                return false;
             }
-            words[index] = BodyWord::While;
+            words[index] = Part::Word(BodyWord::While);
             if !count_begin(begins, at, to.min(start.saturating_sub(4))) {
-                return Ok(false);
+                return false;
             }
-            words.push(BodyWord::Repeat)?;
-            Ok(true)
+            words.push_reserved(Part::Word(BodyWord::Repeat));
+            true
         }
-        _ => Ok(false),
+        _ => false,
     }
 }
 
 /// (DO).
-pub fn take_do(
-    words: &mut Vec<BodyWord>,
-    frames: &mut Vec<Frame>,
-    here: usize,
-) -> Result<bool, AllocError>
-    requires { here + 4 < 2 ^ 64 }
-    ensures { (at to : ℕ) (begins : List ℕ) → TakesOne at here (IDo to)
+pub fn take_do(words: &mut Vec<Part>, frames: &mut Vec<Frame>, here: usize) -> bool
+    requires reach { here + 4 < 2 ^ 64 }
+    requires words { vec_len words.old < vec_capacity words.old }
+    requires frames { vec_len frames.old < vec_capacity frames.old }
+    ensures taken { (bytes : List ℕ) (at to : ℕ) (begins : List ℕ) → TakesOne bytes at here (IDo to)
         words.old.items begins frames.old.items result words.new.items begins frames.new.items }
+    ensures few { vec_len words.new + vec_len frames.new ≤ vec_len words.old + vec_len frames.old + 2 }
+    ensures words { vec_capacity words.new ≡ vec_capacity words.old }
+    ensures frames { vec_capacity frames.new ≡ vec_capacity frames.old }
 {
-    frames.push(Frame::Do { start: here + 4 })?;
-    words.push(BodyWord::Do)?;
-    Ok(true)
+    frames.push_reserved(Frame::Do { start: here + 4 });
+    words.push_reserved(Part::Word(BodyWord::Do));
+    true
 }
 
 /// (LOOP) or (+LOOP).
-pub fn take_loop(
-    words: &mut Vec<BodyWord>,
-    frames: &mut Vec<Frame>,
-    plus: bool,
-) -> Result<bool, AllocError>
-    ensures { (at here to : ℕ) (begins : List ℕ) → TakesOne at here (ILoop plus to)
+pub fn take_loop(words: &mut Vec<Part>, frames: &mut Vec<Frame>, plus: bool) -> bool
+    requires words { vec_len words.old < vec_capacity words.old }
+    ensures taken { (bytes : List ℕ) (at here to : ℕ) (begins : List ℕ) → TakesOne bytes at here (ILoop plus to)
         words.old.items begins frames.old.items result words.new.items begins frames.new.items }
+    ensures few { vec_len words.new + vec_len frames.new ≤ vec_len words.old + vec_len frames.old + 2 }
+    ensures words { vec_capacity words.new ≡ vec_capacity words.old }
+    ensures frames { vec_capacity frames.new ≡ vec_capacity frames.old }
 {
     match pop_frame(frames) {
         Some(Frame::Do { .. }) => {
-            words.push(BodyWord::Loop(plus))?;
-            Ok(true)
+            words.push_reserved(Part::Word(BodyWord::Loop(plus)));
+            true
         }
-        _ => Ok(false),
+        _ => false,
     }
 }
 
 /// (DOES>).
-pub fn take_does(
-    words: &mut Vec<BodyWord>,
-    frames: &mut Vec<Frame>,
-    here: usize,
-) -> Result<bool, AllocError>
-    requires { here + 2 < 2 ^ 64 }
-    ensures { (at : ℕ) (begins : List ℕ) → TakesOne at here IDoes
+pub fn take_does(words: &mut Vec<Part>, frames: &mut Vec<Frame>, here: usize) -> bool
+    requires reach { here + 2 < 2 ^ 64 }
+    requires words { vec_len words.old < vec_capacity words.old }
+    requires frames { vec_len frames.old < vec_capacity frames.old }
+    ensures taken { (bytes : List ℕ) (at : ℕ) (begins : List ℕ) → TakesOne bytes at here IDoes
         words.old.items begins frames.old.items result words.new.items begins frames.new.items }
+    ensures few { vec_len words.new + vec_len frames.new ≤ vec_len words.old + vec_len frames.old + 2 }
+    ensures words { vec_capacity words.new ≡ vec_capacity words.old }
+    ensures frames { vec_capacity frames.new ≡ vec_capacity frames.old }
 {
-    frames.push(Frame::Past { start: here + 2 })?;
-    words.push(BodyWord::Does)?;
-    Ok(true)
+    frames.push_reserved(Frame::Past { start: here + 2 });
+    words.push_reserved(Part::Word(BodyWord::Does));
+    true
 }
 
 /// The innermost open structure.
@@ -228,16 +243,20 @@ fn body_start(frames: &Vec<Frame>, at: usize) -> usize
 
 /// BRANCH.
 pub fn take_branch(
-    words: &mut Vec<BodyWord>,
+    words: &mut Vec<Part>,
     begins: &mut [usize],
     frames: &mut Vec<Frame>,
     at: usize,
     here: usize,
     to: usize,
-) -> Result<bool, AllocError>
-    requires { here + 4 < 2 ^ 64 }
-    ensures { here < at + length begins.old → TakesOne at here (IBranch to)
+) -> bool
+    requires reach { here + 4 < 2 ^ 64 }
+    requires words { vec_len words.old < vec_capacity words.old }
+    ensures taken { (bytes : List ℕ) → here < at + length begins.old → TakesOne bytes at here (IBranch to)
         words.old.items begins.old frames.old.items result words.new.items begins.new frames.new.items }
+    ensures few { vec_len words.new + vec_len frames.new + sum begins.new ≤ vec_len words.old + vec_len frames.old + sum begins.old + 2 }
+    ensures words { vec_capacity words.new ≡ vec_capacity words.old }
+    ensures frames { vec_capacity frames.new ≡ vec_capacity frames.old }
 {
     if here < to {
         return take_else(words, frames, here, to);
@@ -261,18 +280,17 @@ fn ends_here(frames: &Vec<Frame>, here: usize) -> bool
 }
 
 /// Ends the structures that end here.
-pub fn close_here(
-    words: &mut Vec<BodyWord>,
-    frames: &mut Vec<Frame>,
-    here: usize,
-) -> Result<(), AllocError>
-    ensures { (at : ℕ) (begins : List ℕ) (f g : Frames) (c d : Body) →
-        Seen at f c here (map token words.old.items) begins frames.old.items → shut f c here ≡ In g d →
-        OnOk result (Seen at g d here (map token words.new.items) begins frames.new.items) }
+pub fn close_here(words: &mut Vec<Part>, frames: &mut Vec<Frame>, here: usize)
+    requires { vec_len words.old + vec_len frames.old ≤ vec_capacity words.old }
+    ensures closed { (bytes : List ℕ) (at : ℕ) (begins : List ℕ) (f g : Frames) (c d : Body) →
+        Seen at f c here (map (token_in bytes) words.old.items) begins frames.old.items → shut f c here ≡ In g d →
+        Seen at g d here (map (token_in bytes) words.new.items) begins frames.new.items }
+    ensures few { vec_len words.new + vec_len frames.new ≡ vec_len words.old + vec_len frames.old }
+    ensures words { vec_capacity words.new ≡ vec_capacity words.old }
+    ensures frames { vec_capacity frames.new ≡ vec_capacity frames.old }
 {
     while ends_here(frames, here) {
         let _ = pop_frame(frames);
-        words.push(BodyWord::Then)?;
+        words.push_reserved(Part::Word(BodyWord::Then));
     }
-    Ok(())
 }

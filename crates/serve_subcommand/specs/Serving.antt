@@ -3,7 +3,7 @@ use Rattle.std.specs.Prelude.{◌≡◌, ℕ, List, ◌++◌, ◌==◌, if◌the
 use Rattle.block_buffers.specs.DeviceCalls.{DeviceCall}
 use Rattle.image_loader.specs.Files.{Contents}
 use Rattle.inner_interpreter.specs.Moves.{Logs}
-use Rattle.machine.specs.State.{State, start}
+use Rattle.machine.specs.State.{State, loaded_state}
 use Rattle.machine_parts.specs.Whole.{Whole}
 use Rattle.serving.specs.Saving.{AreSaved}
 use Rattle.serving.specs.Taking.{HasServed}
@@ -27,5 +27,5 @@ pub record ServesImage (image : Contents) (count : ℕ) (log log' : Logs) (statu
   pub how : Ending
   pub state : State
   pub calls : List DeviceCall
-  pub served : HasServed how count (start image 65536) state log.calls calls log.reads log'.reads log.sent log'.sent
+  pub served : HasServed how count (loaded_state image 65536) state log.calls calls log.reads log'.reads log.sent log'.sent
   pub saved : SavesAtEnd how count state.parts calls log'.calls status

@@ -64,15 +64,7 @@ fn sit<R: Input, W: Output, D: Device>(
     let memory: &mut Memory = &mut memory;
     let mut machine = LentMachine::load(alloc, memory, image, BLOCK_COUNT);
     let count = device.count();
-    let ending = serve(
-        alloc,
-        &mut machine,
-        device,
-        &mut room,
-        &mut body,
-        reader,
-        writer,
-    );
+    let ending = serve(&mut machine, device, &mut room, &mut body, reader, writer);
     Ok(finish(&machine, device, count, ending))
 }
 

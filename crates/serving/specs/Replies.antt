@@ -104,9 +104,9 @@ see_cause sr.BadText = 10 ∷ []
 see_cause sr.OutOfMemory = 11 ∷ []
 
 -- SEE's text: `z`, or why none
-unfoldable pub see_reply : Result (Vec ℕ Global) SeeRefused → List ℕ
-see_reply (Ok v) = long_reply 122 v.items
-see_reply (Err e) = frame 33 (see_cause e)
+unfoldable pub see_reply : (text : List ℕ) → Result (Unit {0}) SeeRefused → List ℕ
+see_reply text (Ok u) = long_reply 122 text
+see_reply text (Err e) = frame 33 (see_cause e)
 
 -- bytes of memory, at most 2,048 of them
 unfoldable pub memory_reply : List ℕ → (at n : ℕ) → List ℕ

@@ -1,5 +1,5 @@
 -- What a request leaves, what the device is given for it, and what it replies; and a list of requests as a fold.
-use Rattle.std.specs.Prelude.{◌≡◌, ◌⊎◌, ℕ, List, [], ◌∷◌, ◌++◌, Option, Bool, true, false, is_none, ◌&&◌, length, nat_le, Result, Vec, if◌then◌else◌}
+use Rattle.std.specs.Prelude.{◌≡◌, ◌⊎◌, ℕ, List, [], ◌∷◌, ◌++◌, Option, Bool, true, false, is_none, ◌&&◌, length, nat_le, Result, IfErr, ◌≢◌, if◌then◌else◌}
 use Rattle.std.specs.Io.KnownBytes.{Appends}
 use Rattle.block_buffers.specs.DeviceCalls.{DeviceCall}
 use Rattle.machine.specs.declared.act.Act.{Act}
@@ -9,11 +9,11 @@ use Rattle.machine.specs.Entering.{with_bytes, with_cell}
 use Rattle.inner_interpreter.specs.Moves.{Turn, Answer as AnswerTurn, Enter as EnterTurn, shown_bytes}
 use Rattle.inner_interpreter.specs.Histories.{acted, takes}
 use Rattle.inner_interpreter.specs.Sent.{AppendsPart}
-use Rattle.std.specs.declared.alloc.Global.{Global}
 use Rattle.debug_tracer.specs.Debugged.{debugged}
 use Rattle.dictionary.specs.Search.{by_address, sought}
 use Rattle.see.specs.declared.refusal.SeeRefused.{SeeRefused}
-use Rattle.see.specs.Seeing.{IsSeen}
+use Rattle.see.specs.declared.refusal.SeeRefused.TheVariants as see
+use Rattle.see.specs.Seeing.{IsSeenIn}
 use Rattle.see.specs.View.{viewed}
 use Rattle.serving.specs.Frames.{shown_reply}
 use Rattle.serving.specs.Replies.{standing_after, end_reply, refusal, cell_reply, extent_reply, found_reply, view_reply, see_reply, image_reply, listing_reply, memory_reply, registers_reply, state_reply}
@@ -90,7 +90,9 @@ PutsBack s body r =
 -- what a request may leave over a device of so many blocks; of a run, if it is not whole, as far as it came
 abbrev pub Serves : (count : ℕ) → State → Wish → (whole : Bool) → Served → Type 0
 Serves count s (Run limit) whole r = (p : Progress) × HasRunTo count limit s whole p × (r ≡ run_served p)
-Serves count s (See name) whole r = (v : Result (Vec ℕ Global) SeeRefused) × IsSeen s.parts.memory name v × (r ≡ told s (see_reply v))
+Serves count s (See name) whole r =
+    (text : List ℕ) × (seen : Result (Unit {0}) SeeRefused) × IsSeenIn s.parts.memory name text seen × IfErr seen (λ e. e ≢ see.OutOfMemory)
+    × (r ≡ told s (see_reply text seen))
 Serves count s (PutBack body) whole r = PutsBack s body r
 Serves count s Save whole r = Saves count 98 s r
 Serves count s Quit whole r = Saves count 113 s r
@@ -122,8 +124,9 @@ pub record HasSaved (count kind : ℕ) (whole : Bool) (s : State) (calls calls' 
   pub saves : Saves count kind s one
   pub served_is : IsServed one whole s calls calls' sent sent'
 
--- a request that needs room for a list of headers
+-- a request that needs room, for a list of headers or for SEE
 abbrev pub needs_room : Wish → Bool
+needs_room (See name) = true
 needs_room (Listed listing) = true
 needs_room (Extent name) = true
 needs_room _ = false
@@ -133,7 +136,7 @@ pub record LacksRoom (w : Wish) (whole : Bool) (old new : State) (calls calls' :
   pub needs : needs_room w ≡ true
   pub refused : IsServed (told old (refusal 11)) whole new calls calls' sent sent'
 
--- a request was obeyed where no room was taken before
+-- a request was obeyed if no room was taken before
 abbrev pub MayObey : (count : ℕ) → Wish → (whole : Bool) → (old new : State) → (calls calls' : List DeviceCall) → (sent sent' : Option (List ℕ)) → Type 0
 MayObey count w whole old new calls calls' sent sent' =
     HasObeyed count w whole old new calls calls' sent sent' ⊎ LacksRoom w whole old new calls calls' sent sent'

@@ -2,6 +2,7 @@
 //! them and what they reply is a fold over them.
 #![tactic(auto)]
 
+mod any_word;
 mod frames;
 pub mod laws;
 mod listing;
@@ -17,6 +18,7 @@ mod state;
 mod taking;
 mod text;
 
+pub use any_word::AnyWord;
 pub use listing::Room;
 pub use obeying::{obey, obey_in_place};
 pub use replies::Standing;

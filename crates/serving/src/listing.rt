@@ -14,6 +14,7 @@ ghost use Rattle.inner_interpreter.specs.Sent.{AppendsPart};
 ghost use Rattle.serving.specs.Replies.{extent_cause, extent_reply, field_bytes, header_bytes, listing_bytes, listing_kind, listing_reply, text_reply};
 ghost use Rattle.serving.specs.Texts.{Gathers};
 
+use crate::any_word::AnyWord;
 use crate::frames::{refuse, send_cells, send_list, send_text};
 use crate::requests::Listing;
 use crate::text::Text;
@@ -23,11 +24,12 @@ use inner_interpreter::{EndFault, LentMachine, Output, send_all};
 use memory::{Memory, OutOfMemory, cell_bytes};
 use std::alloc::Global;
 
-/// What the server needs memory for, beside a machine: a list of headers, and a text.
+/// What the server needs memory for, beside a machine: a list of headers, a text, and what SEE shows a word in.
 #[derive(Drop)]
 pub struct Room {
     pub headers: HeaderList,
     pub text: Text,
+    pub word: AnyWord,
 }
 
 impl Room {
@@ -38,6 +40,7 @@ impl Room {
         Ok(Room {
             headers: HeaderList::new(alloc)?,
             text: Text::new(alloc)?,
+            word: AnyWord::new(alloc)?,
         })
     }
 }

@@ -83,15 +83,16 @@ fn send_refused<W: Output>(refused: &SeeRefused, writer: &mut W) -> Result<(), E
 /// SEE's text, or why there is none.
 #[tactic(auto, unfolding(crate::specs::Replies::see_reply))]
 pub fn send_seen<W: Output>(
-    seen: &Result<Vec<u8>, SeeRefused>,
+    seen: &Result<(), SeeRefused>,
+    text: &[u8],
     writer: &mut W,
 ) -> Result<(), EndFault>
-    ensures ok { OnOk result (Appends (W.sent writer.old) (W.sent writer.new) (see_reply seen.now)) }
-    ensures err { OnErr result (AppendsPart (W.sent writer.old) (W.sent writer.new) (see_reply seen.now)) }
+    ensures ok { OnOk result (Appends (W.sent writer.old) (W.sent writer.new) (see_reply text.now seen.now)) }
+    ensures err { OnErr result (AppendsPart (W.sent writer.old) (W.sent writer.new) (see_reply text.now seen.now)) }
     ensures mark { Marks (W.failed writer.old) (W.failed writer.new) result }
 {
     match seen {
-        Ok(text) => send_text(writer, b'z', &text[..]),
+        Ok(()) => send_text(writer, b'z', text),
         Err(refused) => send_refused(refused, writer),
     }
 }

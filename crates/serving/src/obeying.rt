@@ -1,6 +1,6 @@
 //! A request is obeyed.
 
-ghost use Rattle.std.specs.Prelude.{◌≡◌, ℕ, List, Option, true, false, OnOk, OnErr, IfOk};
+ghost use Rattle.std.specs.Prelude.{◌≡◌, ◌≢◌, ℕ, List, Option, true, false, OnOk, OnErr, IfOk};
 ghost use Rattle.block_buffers.specs.DeviceCalls.{DeviceCall};
 ghost use Rattle.std.specs.Io.KnownBytes.{Appends};
 ghost use Rattle.inner_interpreter.specs.Sent.{AppendsPart};
@@ -8,10 +8,13 @@ ghost use Rattle.machine.specs.Answer.{seen};
 ghost use Rattle.inner_interpreter.specs.Ends.{Marks};
 ghost use Rattle.inner_interpreter.specs.Moves.{Answer as AnswerTurn, Enter as EnterTurn};
 ghost use Rattle.inner_interpreter.specs.Histories.{acted, takes};
+ghost use Rattle.see.specs.Seeing.{IsShown, IsUnseen};
+ghost use Rattle.see.specs.declared.refusal.SeeRefused.TheVariants.{OutOfMemory};
 ghost use Rattle.serving.specs.Requests.{Extent, Find, Image, Listed, Look, Memory as MemoryWish, PutBack as PutBackWish, Registers as RegistersWish, See, SetBytes as SetBytesWish, SetCell as SetCellWish, Unknown, Version, View, wish_of};
 ghost use Rattle.serving.specs.Room.{SendsFew, may_move, move_room};
 ghost use Rattle.serving.specs.Served.{HasObeyed, HasSaved, Looks, MayObey, act_reply, is_stretch, move_refusal, moved, needs_room, served};
 
+use crate::any_word::AnyWord;
 use crate::frames::{refuse, send_cells, send_memory, show, shown_len};
 use crate::listing::{Room, send_extent, send_listing};
 use crate::looking::{send_found, send_image, send_seen, send_view};
@@ -24,7 +27,7 @@ use crate::state::{send_registers, send_state};
 use block_buffers::Device;
 use dictionary::HeaderList;
 use inner_interpreter::{Act, Answer, EndFault, Event, LentMachine, Output, Refused, Shown};
-use see::see;
+use see::{SeeRefused, see};
 use std::alloc::Global;
 
 /// Enters a word, which shows nothing.
@@ -252,9 +255,9 @@ fn obey_unknown<W: Output>(_machine: &LentMachine, writer: &mut W) -> Result<(),
 
 /// The colon word that a name means, as text.
 fn obey_see<W: Output>(
-    alloc: Global,
     machine: &LentMachine,
     name: &[u8],
+    word: &mut AnyWord,
     writer: &mut W,
 ) -> Result<(), EndFault>
     ensures ok { (count : ℕ) (calls : List DeviceCall) → OnOk result (HasObeyed count (See name.now) true machine.now machine.now calls calls
@@ -263,8 +266,74 @@ fn obey_see<W: Output>(
         (W.sent writer.old) (W.sent writer.new)) }
     ensures mark { Marks (W.failed writer.old) (W.failed writer.new) result }
 {
-    let seen = see(alloc, machine.memory(), name);
-    send_seen(&seen, writer)
+    let seen = word.show(machine.memory(), name);
+    send_seen(&seen, word.text(), writer)
+}
+
+/// SEE's text, if memory for it was found.
+fn send_shown<W: Output>(
+    machine: &LentMachine,
+    name: &[u8],
+    text: &[u8],
+    writer: &mut W,
+) -> Result<(), EndFault>
+    requires { IsShown machine.now.parts.memory name.now text.now }
+    ensures ok { (count : ℕ) (calls : List DeviceCall) → OnOk result (MayObey count (See name.now) true machine.now machine.now calls calls
+        (W.sent writer.old) (W.sent writer.new)) }
+    ensures err { (count : ℕ) (calls : List DeviceCall) → OnErr result (MayObey count (See name.now) false machine.now machine.now calls calls
+        (W.sent writer.old) (W.sent writer.new)) }
+    ensures mark { Marks (W.failed writer.old) (W.failed writer.new) result }
+{
+    send_seen(&Ok(()), text, writer)
+}
+
+/// Why there is no text of SEE, if it isn't lack of memory.
+fn send_unseen<W: Output>(
+    machine: &LentMachine,
+    name: &[u8],
+    refused: SeeRefused,
+    writer: &mut W,
+) -> Result<(), EndFault>
+    requires unseen { IsUnseen machine.now.parts.memory name.now refused }
+    requires known { refused ≢ OutOfMemory }
+    ensures ok { (count : ℕ) (calls : List DeviceCall) → OnOk result (MayObey count (See name.now) true machine.now machine.now calls calls
+        (W.sent writer.old) (W.sent writer.new)) }
+    ensures err { (count : ℕ) (calls : List DeviceCall) → OnErr result (MayObey count (See name.now) false machine.now machine.now calls calls
+        (W.sent writer.old) (W.sent writer.new)) }
+    ensures mark { Marks (W.failed writer.old) (W.failed writer.new) result }
+{
+    send_seen(&Err(refused), &[], writer)
+}
+
+/// No memory for SEE was found.
+fn send_lack<W: Output>(machine: &LentMachine, name: &[u8], writer: &mut W) -> Result<(), EndFault>
+    ensures ok { (count : ℕ) (calls : List DeviceCall) → OnOk result (MayObey count (See name.now) true machine.now machine.now calls calls
+        (W.sent writer.old) (W.sent writer.new)) }
+    ensures err { (count : ℕ) (calls : List DeviceCall) → OnErr result (MayObey count (See name.now) false machine.now machine.now calls calls
+        (W.sent writer.old) (W.sent writer.new)) }
+    ensures mark { Marks (W.failed writer.old) (W.failed writer.new) result }
+{
+    refuse(writer, 11)
+}
+
+/// SEE's text in memory that is asked for.
+fn obey_see_in_place<W: Output>(
+    alloc: Global,
+    machine: &LentMachine,
+    name: &[u8],
+    writer: &mut W,
+) -> Result<(), EndFault>
+    ensures ok { (count : ℕ) (calls : List DeviceCall) → OnOk result (MayObey count (See name.now) true machine.now machine.now calls calls
+        (W.sent writer.old) (W.sent writer.new)) }
+    ensures err { (count : ℕ) (calls : List DeviceCall) → OnErr result (MayObey count (See name.now) false machine.now machine.now calls calls
+        (W.sent writer.old) (W.sent writer.new)) }
+    ensures mark { Marks (W.failed writer.old) (W.failed writer.new) result }
+{
+    match see(alloc, machine.memory(), name) {
+        Ok(text) => send_shown(machine, name, &text, writer),
+        Err(SeeRefused::OutOfMemory) => send_lack(machine, name, writer),
+        Err(refused) => send_unseen(machine, name, refused, writer),
+    }
 }
 
 /// What is made of the list of all headers.
@@ -313,9 +382,8 @@ fn obey_save<W: Output, D: Device>(
     send_cells(writer, kind, &[lost])
 }
 
-/// Does what a request asks that needs no room for a list of headers. One that needs it is refused.
+/// Does what a request asks that needs no room. One that needs it is refused.
 fn obey_plainly<W: Output, D: Device>(
-    alloc: Global,
     machine: &mut LentMachine,
     device: &mut D,
     count: u32,
@@ -341,7 +409,7 @@ fn obey_plainly<W: Output, D: Device>(
         Command::Memory { at, n } => obey_memory(machine, at, n, writer),
         Command::Find(name) => obey_find(machine, name, writer),
         Command::View(name) => obey_view(machine, name, writer),
-        Command::See(name) => obey_see(alloc, machine, name, writer),
+        Command::See(_) => refuse(writer, 11),
         Command::Listed(_) => refuse(writer, 11),
         Command::Extent(_) => refuse(writer, 11),
         Command::Image(entry) => obey_image(machine, entry, writer),
@@ -354,7 +422,6 @@ fn obey_plainly<W: Output, D: Device>(
 
 /// Does what a request asks over a device of `count` blocks, and replies. On a failed writer a front of the replies was sent: of a run, those of the moves that were made.
 pub fn obey<W: Output, D: Device>(
-    alloc: Global,
     machine: &mut LentMachine,
     device: &mut D,
     count: u32,
@@ -371,11 +438,12 @@ pub fn obey<W: Output, D: Device>(
     match command {
         Command::Listed(listing) => obey_listing(machine, listing, room, writer),
         Command::Extent(name) => obey_extent(machine, name, &mut room.headers, writer),
-        _ => obey_plainly(alloc, machine, device, count, command, writer),
+        Command::See(name) => obey_see(machine, name, &mut room.word, writer),
+        _ => obey_plainly(machine, device, count, command, writer),
     }
 }
 
-/// The same, where no room was taken before the first request: a request that needs room for a list of headers asks for it, and is refused if there
+/// The same, if no room was taken before the first request: a request that needs room asks for it, and is refused if there
 /// is none.
 pub fn obey_in_place<W: Output, D: Device>(
     alloc: Global,
@@ -401,6 +469,7 @@ pub fn obey_in_place<W: Output, D: Device>(
             Ok(mut headers) => obey_extent(machine, name, &mut headers, writer),
             Err(_) => refuse(writer, 11),
         },
-        _ => obey_plainly(alloc, machine, device, count, command, writer),
+        Command::See(name) => obey_see_in_place(alloc, machine, name, writer),
+        _ => obey_plainly(machine, device, count, command, writer),
     }
 }

@@ -11,7 +11,6 @@ use crate::requests::{command_of, is_quit};
 use crate::taking::{Taken, take_frame};
 use block_buffers::Device;
 use inner_interpreter::{Input, LentMachine, Output};
-use std::alloc::Global;
 
 /// Why no request comes any more.
 #[derive(Clone, Copy, Debug, PartialEq, Eq)]
@@ -30,7 +29,6 @@ pub enum Ending {
 
 /// Serves a request, and passes its replies on. Answers why none comes after it, if that is so.
 fn serve_one<W: Output, D: Device>(
-    alloc: Global,
     machine: &mut LentMachine,
     device: &mut D,
     count: u32,
@@ -46,7 +44,7 @@ fn serve_one<W: Output, D: Device>(
     ensures reader { (failed : Bool) → MarksReader result failed failed }
 {
     let command = command_of(kind, body);
-    match obey(alloc, machine, device, count, room, command, writer) {
+    match obey(machine, device, count, room, command, writer) {
         Ok(()) => {}
         Err(_) => return Some(Ending::OutputFault),
     }
@@ -62,7 +60,6 @@ fn serve_one<W: Output, D: Device>(
 
 /// Serves the next request, if there is one.
 fn serve_next<R: Input, W: Output, D: Device>(
-    alloc: Global,
     machine: &mut LentMachine,
     device: &mut D,
     count: u32,
@@ -80,9 +77,7 @@ fn serve_next<R: Input, W: Output, D: Device>(
     ensures room { 65535 ≤ vec_capacity body.new }
 {
     match take_frame(body, reader) {
-        Taken::Frame(kind) => {
-            serve_one(alloc, machine, device, count, room, kind, &body[..], writer)
-        },
+        Taken::Frame(kind) => { serve_one(machine, device, count, room, kind, &body[..], writer) },
         Taken::End => Some(Ending::End),
         Taken::Failed => Some(Ending::InputFault),
     }
@@ -93,7 +88,6 @@ fn serve_next<R: Input, W: Output, D: Device>(
 /// The machine is what the requests leave, one after another; the device is given just the calls that the runs ask for, and those that write
 /// updated buffers; and just the replies are sent, each passed on before the next frame is awaited.
 pub fn serve<R: Input, W: Output, D: Device>(
-    alloc: Global,
     machine: &mut LentMachine,
     device: &mut D,
     room: &mut Room,
@@ -110,7 +104,7 @@ pub fn serve<R: Input, W: Output, D: Device>(
 {
     let count = device.count();
     for _ in 0..u64::MAX {
-        match serve_next(alloc, machine, device, count, room, body, reader, writer) {
+        match serve_next(machine, device, count, room, body, reader, writer) {
             None => {}
             Some(ending) => return ending,
         }

@@ -1,7 +1,10 @@
+use Rattle.std.proofs.Common.{sym, map}
+use Rattle.see.specs.Parts.{token_in}
 use Rattle.memory.specs.Mirrored.{stored}
-use Rattle.see.proofs.Printed.{all_shown}
+use Rattle.see.proofs.Printed.{written_printed}
 use Rattle.see.proofs.seeing.show.Goals as goal
 
-pub returns : goal.returns
-returns c =
-    all_shown (stored c.args.memory.now) c.args.l c.args.name.now _ _ _ (let z = c.if-not-is_word.false in let e = c.is_word.ensures in cc) c.in_ok-show_words.ensures.0 c.in_ok-show_words.ensures.1 c.in_ok-out.ensures c.in_ok-show_words.ensures.2
+pub returns-clause-printed : goal.returns-clause-printed
+returns-clause-printed c =
+    rw (sym c.deref.ensures.value, sym c.deref-2.ensures.value)
+    (written_printed (stored c.args.memory.now) c.args.l c.args.name.now (map (token_in c.deref-2.result.now) c.deref.result.now) c.begin.new.out.items _ _ (let z = c.if-not-is_word.false in let e = c.is_word.ensures in cc) c.begin.ensures.begun c.show_words.ensures.written)
