@@ -4,7 +4,7 @@ from __future__ import annotations
 import os
 import pathlib
 import subprocess
-from typing import List, NamedTuple
+from typing import List, NamedTuple, Optional
 
 ROOT = pathlib.Path(__file__).resolve().parent.parent
 
@@ -16,10 +16,12 @@ class Ran(NamedTuple):
     text: str
 
 
-def program(words: List[str], is_heard: bool = True) -> Ran:
-    """Runs the program's own subcommand: the proved program, or the one without proofs if that is all there is."""
+def program(words: List[str], is_heard: bool = True, given: Optional[bytes] = None) -> Ran:
+    """Runs the program's own subcommand, with its standard input, if that is given: the proved program, or the one without proofs if that is all there
+    is."""
     unproved = ROOT / "build/out/unproved"
     is_proved = subprocess.run([ROOT / "build/is-proved"], check=False).returncode == 0
     command = unproved if not is_proved and unproved.exists() else ROOT / "forth83"
-    done = subprocess.run([command, *words], env={**os.environ, "FORTH83_PLAIN": "1"}, check=False, stdout=subprocess.PIPE if is_heard else None)
+    done = subprocess.run([command, *words], env={**os.environ, "FORTH83_PLAIN": "1"}, check=False, input=given,
+                          stdout=subprocess.PIPE if is_heard else None)
     return Ran(done.returncode, (done.stdout or b"").decode(errors="replace"))

@@ -1,4 +1,5 @@
-// Addresses in the memory of a machine, which the system keeps for itself. tools/make-words writes this file from crates/memory/src/system.rt.
+// Numbers of the machine that the terminal and the page know. tools/make-words writes this file from the crates.
+// Addresses in the memory of a machine, which the system keeps for itself (crates/memory/src/system.rt).
 export const SYSTEM = {
   state: 16,
   base: 18,
@@ -18,4 +19,30 @@ export const SYSTEM = {
   fence: 54,
   runtimeCells: 64,
   tib: 128,
+};
+// What a word's code field has that a defining word made (crates/dictionary/src/code_fields.rt).
+export const CODES = {
+  colon: 1,
+  variable: 2,
+  constant: 3,
+  vocabulary: 4,
+};
+// Faults of the machine (crates/machine_parts/src/faults.rt).
+export const MACHINE_FAULTS = {
+  dataUnderflow: 1,
+  dataOverflow: 2,
+  returnUnderflow: 3,
+  returnOverflow: 4,
+  division: 5,
+  unknownCode: 6,
+  noBlock: 7,
+  dictionaryFull: 8,
+  readFailed: 9,
+  writeFailed: 10,
+  chainTooLong: 11,
+  badBase: 12,
+  notFound: 13,
+  badLength: 15,
+  blockZero: 16,
+  aborted: 17,
 };

@@ -5,6 +5,7 @@ import html
 import pathlib
 import re
 import sys
+import tempfile
 from typing import Dict, List, Optional
 
 ROOT = pathlib.Path(__file__).resolve().parent.parent
@@ -14,13 +15,13 @@ import canvas  # noqa: E402
 import glossary  # noqa: E402
 import judged  # noqa: E402
 import rows as numbers  # noqa: E402
-from served import faults as messages, image, paging, table  # noqa: E402
+from served import faults as messages, image, table  # noqa: E402
 
 # Chapters of docs/WORDS.md whose words the page doesn't need: it edits lines and screens itself, and has no host and no files.
 CHAPTERS_LEFT_OUT = (
     "Editing the line", "The screen editor", "Starting", "Text files", "Numbers with their base",
 )  # fmt: skip
-SCREENS, PAGE, WIDTH = 64, 1024, 64
+SCREENS, PAGE = 64, 1024
 EXAMPLES = ("kiln", "life", "gold", "sieve")
 OF_FAULTS = ("own", "large", "unknown", "unquoted", "follows", "quit")  # what the judging of lessons takes, and the session
 KERNEL, COURSE, FIRST = "forth.blk", "course.blk", 20
@@ -147,11 +148,12 @@ def rows() -> Dict[str, object]:
     }  # fmt: skip
 
 
-def of_forth(layout: Dict[str, object], version: str, image: bytes, own: Dict[str, str]) -> Dict[str, object]:
-    """What a Forth in a page needs, with a person or without: OWN are texts by their names, beside those that come with the Forth."""
+def of_forth(layout: Dict[str, object], version: str, made: bytes, images: str, own: Dict[str, str]) -> Dict[str, object]:
+    """What a Forth in a page needs, with a person or without: MADE is the image that it runs, IMAGES the folder of those that sessions start with, and OWN
+    are texts by their names, beside those that come with the Forth."""
     return {
-        "layout": layout, "version": {"text": version, "image": hashlib.sha256(image).hexdigest()}, "rows": rows(), "door": door(),
-        "manual": manual(), "system": system(), "disks": {KERNEL: kernel()}, **texts(own),
+        "layout": layout, "version": {"text": version, "image": hashlib.sha256(made).hexdigest()}, "rows": rows(), "door": door(),
+        "manual": manual(), "system": system(images), "disks": {KERNEL: kernel()}, **texts(own),
     }  # fmt: skip
 
 
@@ -174,10 +176,9 @@ def door() -> Dict[str, object]:
     return {"names": table.NAMES, "service": table.SERVICE, "first": table.FIRST, "second": table.SECOND, "mark": table.MARK, "host": table.HOST, "own": table.OWN}
 
 
-def system() -> Dict[str, str]:
-    """The texts of the system's own words, except the kernel's, which are a disk."""
-    screens = image.screens()
-    return {path: paging.text_of([it for it in screens if it.path == path]) for path in sorted({it.path for it in screens})}
+def system(images: str) -> Dict[str, List[str]]:
+    """The screens of the system's own words, by their numbers, except the kernel's, which are a disk: of each the file that has it, and its lines."""
+    return {number: found for number, found in image.system(images).items() if ROOT / found[0] != pathlib.Path(image.KERNEL_TEXT)}
 
 
 def text_of(name: str) -> str:
@@ -188,20 +189,14 @@ def disk_of_text(text: str, count: int = SCREENS) -> Dict[str, object]:
     return {"count": count, "text": text}
 
 
-def disk_of_blocks(content: bytes) -> Dict[str, object]:
-    """A disk of these blocks: as a text of its screens where that has all of it, since it is shorter, or else as bytes."""
-    if any(not 32 <= byte <= 126 for byte in content):
-        return {"bytes": base64.b64encode(content).decode()}
-    text = content.decode("ascii")
-    blocks = [text[at:at + PAGE] for at in range(0, len(text), PAGE)]
-    screens = [f"% screen {number}\n{lines_of(block)}" for number, block in enumerate(blocks) if block.strip()]
-    return disk_of_text("".join(screens) or "% screen 0\n", len(blocks))
-
-
-def lines_of(block: str) -> str:
-    """A block's lines as a text of screens has them."""
-    lines = [block[at:at + WIDTH].rstrip() for at in range(0, PAGE, WIDTH)]
-    return re.sub("^%", "%%", "\n".join(lines).rstrip(), flags=re.M) + "\n"
+def disk_of_blocks(content: bytes, forth83: pathlib.Path) -> Dict[str, object]:
+    """A disk of these blocks: as the program's text of its screens, or else, if that is longer, as bytes."""
+    with tempfile.TemporaryDirectory() as room:
+        blocks, last = pathlib.Path(room, "blocks"), len(content) // PAGE - 1
+        blocks.write_bytes(content)
+        text = image.run(str(forth83), "text", str(blocks), "0", str(last))
+    as_bytes = base64.b64encode(content).decode()
+    return disk_of_text(text, last + 1) if len(text) <= len(as_bytes) else {"bytes": as_bytes}
 
 
 def kernel() -> Dict[str, object]:

@@ -1,8 +1,9 @@
 // The places of faults, as commands/served/{faults,reports}.py have them.
 
+import { MACHINE_FAULTS } from "./cells.js";
 import { COLUMNS } from "./disk.js";
 
-export const FAULTS = { unknown: 13, missing: 15, said: 17 };
+export const FAULTS = { unknown: MACHINE_FAULTS.notFound, missing: MACHINE_FAULTS.badLength, said: MACHINE_FAULTS.aborted };
 const WIDEST_MARKED = 100, LAST = 1023, BLANK_CODE = 32;
 const SPACES = /(?! )[\p{C}\p{Z}]/gu;
 

@@ -7,6 +7,7 @@ import { Disk } from "./disk.js";
 import { Filming } from "./filming.js";
 import { Host, Shown } from "./host.js";
 import { Machine } from "./machine.js";
+import { useLibrary } from "./screens.js";
 
 const by = (id) => document.getElementById(id), { asked } = DATA;
 
@@ -27,6 +28,7 @@ function said(text) { by("source").textContent = text; }
 async function begin() {
   const { instance } = await WebAssembly.instantiate(DATA.wasm, {}), view = Object.assign(new Shown(), { history: [] });
   const machine = new Machine(instance.exports, DATA.layout), session = new Host(machine, view, new Disk(asked.disk, DATA.blocks));
+  useLibrary(machine);
   session.load(DATA.image);
   const film = new Filming(new Machine(instance.exports, DATA.layout), session, asked.line, machine.copy(), asked);
   await film.make(() => said(`The line runs: ${counted(film.ticks, "ticks")} so far, ${counted(film.calls.steps.length, "steps")} of ${asked.name}.`));

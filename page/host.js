@@ -12,7 +12,7 @@ import { OWN_SERVICES } from "./own.js";
 import { MOVED, Refusal, SERVICES, visible, WAITS } from "./services.js";
 import { FIRST_TEXT, Texts, Unreadable } from "./texts.js";
 
-const HERE = "this line", TIB_AT = 128, QUOTE = 34, LINE_ROOM = 127, MOST_NOTED = 20000, MOST_LOADS = 16, PROMPT = 1;
+const HERE = "this line", QUOTE = 34, LINE_ROOM = 127, MOST_NOTED = 20000, MOST_LOADS = 16, PROMPT = 1;
 export const DOOR = DATA.door;
 // The words of the image that a host uses: the name of each among the places, and what is added to its compilation address.
 const OWN = { BREAK: ["break", 0], COLD: ["cold", 0], TELL: ["handler", 2], DOOR: ["door", 2], "#LOADS": ["loads", 2], LOADERS: ["loaders", 2], "HIDDEN-TOOL": ["hidden", 2],
@@ -113,7 +113,7 @@ export class Host {
     this.set(DOOR.second, second);
   }
 
-  // A line for the prompt begins: one that TIB_AT has no room for is a block.
+  // A line for the prompt begins: one that the buffer of typed lines has no room for is a block.
   begin(bytes) {
     Object.assign(this, this.fresh(), { before: this.machine.copy() });
     this.catching.caught = [];
@@ -286,7 +286,7 @@ export class Host {
   // What is being interpreted: BLK, >IN, and a copy of the bytes, since memory may move with each call.
   input() {
     const { machine } = this, block = machine.cell(SYSTEM.blk), offset = machine.cell(SYSTEM.toIn);
-    const text = block ? (this.page(block) || new Uint8Array(0)).slice() : machine.memory.slice(TIB_AT, TIB_AT + Math.min(machine.cell(SYSTEM.numberTib), 128));
+    const text = block ? (this.page(block) || new Uint8Array(0)).slice() : machine.memory.slice(SYSTEM.tib, SYSTEM.tib + Math.min(machine.cell(SYSTEM.numberTib), 128));
     return { block, offset, text };
   }
 

@@ -2,13 +2,14 @@
 // calls of include/forth83.h.
 
 import { decode, encode } from "./bytes.js";
+import { CODES } from "./cells.js";
 
 export const ASKS = { NOTHING: 0, KEY: 1, LINE: 2, READ: 3, WRITE: 4 };
 export const PAGE_SIZE = 1024, MEMORY = 65536, STACK = 256;
 // How many blocks a machine has: those of its disk are answered, and lines of texts are the others.
 const ALL_BLOCKS = 65536, ROOM = 131072, BODY = 2048, REPORT = 16384, SAID = 512, TEXT = 4096, SHORT_ROOM = 3, LONG_REPLY = 22, NOT_READ = 23, REFUSED = "!".charCodeAt(0), SHOWN = "s".charCodeAt(0);
 // What is wrong with a text of screens, by the numbers of include/forth83.h; other numbers are that of a byte.
-const TEXT_CAUSES = ["OutOfMemory", "BadEscape", "LongLine", "FullScreen", "BadHeading", "LateHeading", "NamedTwice", "NoScreen"], BAD_BYTE = "BadByte", PERCENT = 37;
+const TEXT_CAUSES = ["OutOfMemory", "BadEscape", "LongLine", "FullScreen", "BadHeading", "LateHeading", "NamedTwice", "NoScreen"], BAD_BYTE = "BadByte";
 // A request that was refused, and why.
 export class Refused extends Error {
   constructor(cause) { super(`cause ${cause} of docs/FORMATS.md`).cause = cause; }
@@ -16,7 +17,7 @@ export class Refused extends Error {
 
 export const cellsOf = (bytes) => Array.from({ length: bytes.length >> 1 }, (_, at) => bytes[2 * at] + 256 * bytes[2 * at + 1]);
 // Whether a word has a thread: `:` or DOES> made it.
-export const hasThread = ({ code }) => code === 1 || code > 255;
+export const hasThread = ({ code }) => code === CODES.colon || code > 255;
 export const cellBytes = (...cells) => Uint8Array.from(cells.flatMap((cell) => [cell & 255, (cell >> 8) & 255]));
 
 // A record as the calls want it. Pages of versions 1.0.0 and 2.0.0 kept records of layouts 1 and 2, which end soon after memory; later ones also of
@@ -126,15 +127,15 @@ export class Machine {
   }
 
   // The screens of a text, { block, page }; or { line, cause, byte }, what is wrong with it and where.
-  screens(text) {
-    const lines = text.filter((byte) => byte === 10).length, headings = text.filter((byte, at) => byte === PERCENT && (!at || text[at - 1] === 10)).length;
-    const bytes = this.lent(text), most = headings + Math.ceil(lines / 16) + 1, sizes = [2 * most, PAGE_SIZE * most, 8, 2];
+  screens(text, most = 2 + (text.filter((byte) => byte === 10).length >> 4)) {
+    const bytes = this.lent(text), sizes = [2 * most, PAGE_SIZE * most, 8, 2];
     const [numbers, pages, line, cause] = sizes.map((size) => this.calls.malloc(size));
     const status = this.calls.forth83_screens(...bytes, numbers, BigInt(most), pages, BigInt(PAGE_SIZE * most), this.size, line, cause);
     const count = status ? 0 : this.sized(), blocks = cellsOf(this.bytes(numbers, 2 * count));
     const read = blocks.map((block, at) => ({ block, page: this.bytes(pages + PAGE_SIZE * at, PAGE_SIZE).slice() }));
     const number = this.view().getUint16(cause, true), wrong = { line: this.sized(line), cause: TEXT_CAUSES[number] || BAD_BYTE, byte: number & 255 };
     for (const at of [bytes[0], numbers, pages, line, cause]) this.calls.free(at);
+    if (status === SHORT_ROOM) return this.screens(text, 4 * most);
     if (status !== NOT_READ) this.must(status, "screens");
     return status ? wrong : read;
   }

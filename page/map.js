@@ -1,11 +1,11 @@
 // The map of the machine's memory: its parts from address 0 up, your words with their sizes, and the block buffers.
 
 import { element, hexadecimal } from "./bytes.js";
-import { SYSTEM } from "./cells.js";
+import { CODES, SYSTEM } from "./cells.js";
 import { MEMORY, PAGE_SIZE } from "./machine.js";
 
-const TIB = 128, DICTIONARY = 256, FIRST_LESSON = 21;
-const KINDS = { 1: "colon word", 2: "variable", 3: "constant", 4: "vocabulary" };
+const DICTIONARY = 256, FIRST_LESSON = 21;
+const KINDS = { [CODES.colon]: "colon word", [CODES.variable]: "variable", [CODES.constant]: "constant", [CODES.vocabulary]: "vocabulary" };
 
 export class MemoryMap {
   constructor(page, parts) {
@@ -38,7 +38,7 @@ export class MemoryMap {
   regions() {
     const { machine } = this, here = machine.cell(SYSTEM.dp), { fence } = this.page.session.places;
     const buffers = machine.buffers.sort((a, b) => a.place - b.place), limit = buffers.length ? buffers[0].place : MEMORY;
-    const rows = [["system cells", 0, TIB, "system"], ["the line that is typed (TIB)", TIB, DICTIONARY, "system"],
+    const rows = [["system cells", 0, SYSTEM.tib, "system"], ["the line that is typed (TIB)", SYSTEM.tib, DICTIONARY, "system"],
       ["the Forth's own words", DICTIONARY, fence, "own"], ["your words", fence, Math.max(fence, here), "yours"], ["free", Math.max(fence, here), limit, "free"]];
     for (const one of buffers) {
       const what = one.block === null ? "empty" : `block ${one.block}${one.updated ? ", changed" : ""}`;

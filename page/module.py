@@ -1,4 +1,4 @@
-"""Makes the machine's WebAssembly module, as targets/make makes it for the target wasm32, and keeps it in build/out/page. As a program, it
+"""Makes the machine's WebAssembly module, as build/targets/make makes it for the target wasm32, and keeps it in build/out/page. As a program, it
 makes and keeps that of the proved library."""
 import hashlib
 import json
@@ -9,7 +9,7 @@ import tempfile
 from typing import Dict, NamedTuple, Optional
 
 ROOT = pathlib.Path(__file__).resolve().parent.parent
-sys.path[:0] = [str(ROOT / "targets"), str(ROOT / "commands")]
+sys.path[:0] = [str(ROOT / "build/targets"), str(ROOT / "commands")]
 
 import libraries  # noqa: E402
 import lowering  # noqa: E402
@@ -40,7 +40,7 @@ class Module(NamedTuple):
 
     def version(self) -> str:
         """What a page with it is called."""
-        return f"forth83 {(ROOT / 'VERSION').read_text(encoding='utf-8').strip()} in a page, {'proved' if self.is_proved else 'unproved'}"
+        return f"forth83 {(ROOT / 'data/VERSION').read_text(encoding='utf-8').strip()} in a page, {'proved' if self.is_proved else 'unproved'}"
 
     def claim(self) -> str:
         """What is proved of it, in sentences."""

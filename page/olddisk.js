@@ -3,6 +3,7 @@
 import { DATA } from "./data.js";
 import { linesOf } from "./disk.js";
 import { Machine, PAGE_SIZE } from "./machine.js";
+import { screensOf } from "./screens.js";
 
 // By their numbers in include/forth83.h, the texts of screens/dialects.
 const DIALECTS = [null, "fig", "f79", "f83", "poly"], BLANK = 32;
@@ -102,9 +103,9 @@ export class OldDisk {
 
   // Loads the words of the dialect from its disk.
   async load() {
-    const name = `dialect ${this.best}.blk`, [, first] = /% screen (\d+)/.exec(DATA.disks[name].text);
+    const name = `dialect ${this.best}.blk`, [first] = screensOf(DATA.disks[name].text).screens;
     if (this.page.session.disk.name !== name && !(await this.page.work.putIn(name))) return;
-    this.page.enter(`${first} LOAD`);
+    this.page.enter(`${first.block} LOAD`);
     await this.page.idle();
   }
 

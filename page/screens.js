@@ -14,12 +14,17 @@ export function useLibrary(machine) { library = machine; }
 const escaped = (byte) => (byte < 127 && byte !== 126 ? String.fromCharCode(byte) : `~${byte.toString(16).toUpperCase()}`);
 const withEscapes = (line) => (/^%~|^[\0-\x7f]*$/.test(line) ? line : `%~${Array.from(encode(line.replace(/^%%/, "%")), escaped).join("")}`);
 
-export const isScreens = (text) => /^% screen \d+/.test(text);
 
 // The screens of a text, { block, page }; or what is wrong with it, and where.
 export function screensOf(text) {
   const read = library.screens(encode(text.split("\n").map(withEscapes).join("\n")));
   return read.cause ? { wrong: `line ${read.line} of the file ${fill(DATA.textCauses[read.cause], read)}` } : { screens: read };
+}
+
+// Whether a text begins with a line like: % screen 30. Read alone, it begins a screen, and puts nothing into it.
+export function isScreens(text) {
+  const [first] = text.trimStart().split("\n", 1), { screens: [screen] = [] } = screensOf(`${first}\n`);
+  return first !== "" && Boolean(screen) && screen.page.every((byte) => byte === 32);
 }
 
 // All screens of a disk as text.

@@ -3,9 +3,10 @@
 
 import { decode, signed } from "./bytes.js";
 import { DATA } from "./data.js";
-import { COLUMNS } from "./disk.js";
+import { COLUMNS, linesOf } from "./disk.js";
+import { builtIn } from "./editions.js";
 import { FAULTS, named, placeLines, plain, trimmedEnd } from "./faults.js";
-import { SYSTEM } from "./cells.js";
+import { CODES, SYSTEM } from "./cells.js";
 import { hasThread, PAGE_SIZE, Refused } from "./machine.js";
 import { endOfComment, FIRST_TEXT, skipping } from "./texts.js";
 
@@ -52,9 +53,9 @@ function foundWord(host) {
 // What a word is that is no colon word.
 function kindOfWord({ machine }, name) {
   const token = machine.token(name), code = machine.cell(token), body = machine.cell(token + 2);
-  if (code === 2) return `a variable at ${token + 2}, holding ${body}`;
-  if (code === 3) return `a constant, ${body}`;
-  if (code === 4) return `a vocabulary at ${token + 2}`;
+  if (code === CODES.variable) return `a variable at ${token + 2}, holding ${body}`;
+  if (code === CODES.constant) return `a constant, ${body}`;
+  if (code === CODES.vocabulary) return `a vocabulary at ${token + 2}`;
   if (code >= PRIMITIVES[0] && code <= PRIMITIVES[1]) return `primitive ${code}`;
   const maker = machine.words().filter((one) => one.word < code).pop();
   return maker ? `made by ${maker.name}, with ${body} first` : `code ${code}`;
@@ -64,11 +65,9 @@ const isOfSystem = ({ machine }, word) => word < machine.cell(SYSTEM.fence);
 
 // A screen of the system, or its lines that have a name.
 function systemSource(block, part = "") {
-  for (const [path, text] of [...Object.entries(DATA.system), ["screens/kernel.txt", DATA.disks["forth.blk"].text]]) {
-    const found = text.split(/^% screen /m).find((one) => one.startsWith(`${block}\n`));
-    if (found) return `${[`${path}, screen ${block}`, ...found.trimEnd().split("\n").slice(1).filter((line) => line.includes(part))].join("\n")}\n`;
-  }
-  return "a word of the system\n";
+  const [path, text] = DATA.system[block] || ["screens/kernel.txt", linesOf(builtIn("forth.blk").page(block)).join("\n").trimEnd()];
+  const lines = text.split("\n").filter((line) => line.includes(part));
+  return text ? `${[`${path}, screen ${block}`, ...lines].join("\n")}\n` : "a word of the system\n";
 }
 
 // Where a word was made.

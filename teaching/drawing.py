@@ -4,7 +4,7 @@ The words after FENCE, which are the user's, come first. Each map is drawn twice
 style shows one of them, as wide as the window. On paper the Forth's own words are left out if there are others.
 """
 import pathlib
-from typing import Iterator, List, Tuple
+from typing import Iterator, List, Optional, Tuple
 from html import escape
 
 import images
@@ -21,7 +21,9 @@ class Canvas:
     """The parts of a drawing, and how far down they reach."""
 
     def __init__(self, width: int) -> None:
-        self.width, self.y, self.parts, self.on_paper = width, 8, [], None
+        self.width, self.y = width, 8
+        self.parts: List[str] = []
+        self.on_paper: Optional[int] = None
 
     def add(self, text: str) -> None:
         self.parts.append(text)
@@ -97,13 +99,13 @@ class Grid:
             return ""
         x, y = self.spot(header.link_field)
         to_x, to_y = self.spot(header.link - 2)
-        x, to_x = x + BYTE, to_x + BYTE / 2
+        x, middle = x + BYTE, to_x + BYTE / 2
         if y == to_y:
-            way = f"M{x} {y + ROW - 4}v2H{to_x}v-2"
+            way = f"M{x} {y + ROW - 4}v2H{middle}v-2"
         else:
             gutter, is_between = self.x + GUTTER - 3, header.link - 2 < self.split <= header.link_field
             gap = f"V{self.own + self.own_rows() * ROW}M{gutter} {self.system - 4}" if is_between else ""
-            way = f"M{x} {y + ROW - 4}v2H{gutter}{gap}V{to_y + ROW - 2}H{to_x}v-2"
+            way = f"M{x} {y + ROW - 4}v2H{gutter}{gap}V{to_y + ROW - 2}H{middle}v-2"
         return f'<path class="link c{header.chain()}" data-from="{header.link_field}" d="{way}"/>'
 
 
@@ -207,7 +209,8 @@ def split_of(one: regions.Map) -> int:
 def draw_key(canvas: Canvas, heading: str) -> None:
     """What the colors are."""
     canvas.line(heading, "heading")
-    x, y = 8, canvas.y + 4
+    x: float = 8
+    y = canvas.y + 4
     for kind, text in COLOURS:
         width = 20 + (len(text) + 2) * LETTER
         if x + width > canvas.width:

@@ -34,7 +34,7 @@ class Desk:
 
     def __init__(self, forth83: program.Program, room: pathlib.Path, course: pathlib.Path, ticks: int, seconds: float) -> None:
         self.forth83, self.room, self.ticks, self.seconds = forth83, room, ticks, seconds
-        self.course, self.image = blocks_of(course, room), room / "course.img"
+        self.course, self.image = blocks_of(forth83, course, room), room / "course.img"
         self.lessons = lessons_of(forth83, self.course)
         forth83.text(["load", "--where", program.session_image(forth83), self.course, "1", "1", self.image])
 
@@ -90,12 +90,12 @@ def plain(path: pathlib.Path, made: pathlib.Path) -> pathlib.Path:
     return made
 
 
-def blocks_of(course: pathlib.Path, room: pathlib.Path) -> pathlib.Path:
+def blocks_of(forth83: program.Program, course: pathlib.Path, room: pathlib.Path) -> pathlib.Path:
     """A course as a file of blocks, which are made if it is a text of screens."""
     made = room / "course.blk"
-    with course.open("rb") as file:
-        if not file.read(64).lstrip().startswith(b"% screen "):
-            return plain(course, made)
+    blocks = plain(course, made)
+    if blocks == made or not forth83.text(["headings", "--", course]):
+        return blocks
     done = subprocess.run([program.ROOT / "commands/blocks", course, made], stdout=subprocess.PIPE, stderr=subprocess.PIPE, check=False)
     if done.returncode:
         raise program.Refusal(after("forth: ", program.said_by(done)))

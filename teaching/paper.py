@@ -3,7 +3,7 @@ import base64
 import hashlib
 import pathlib
 from html import escape
-from typing import Iterator, List, Tuple
+from typing import Dict, Iterator, List, Tuple
 
 import screens
 from references import References
@@ -23,8 +23,8 @@ def figure(read: screens.Screens, number: int) -> str:
 
 def row(read: screens.Screens, number: int, shadow: int) -> str:
     """A screen, and beside it its shadow, if there is one that isn't blank."""
-    beside = number + shadow if shadow else None
-    has_one = beside is not None and beside in read.numbers() and not read.is_blank(beside)
+    beside = number + shadow
+    has_one = shadow != 0 and beside in read.numbers() and not read.is_blank(beside)
     return f'<div class="row">{figure(read, number)}{figure(read, beside) if has_one else ""}</div>'
 
 
@@ -48,7 +48,7 @@ def index(read: screens.Screens, numbers: List[int]) -> str:
 
 def short_places(places: List[Tuple[int, int]]) -> str:
     """Places in short: 21.3 is screen 21, line 3; 21.3.5 is its lines 3 and 5."""
-    found = {}
+    found: Dict[int, List[str]] = {}
     for number, line in places:
         found.setdefault(number, []).append(str(line))
     return ", ".join(f"{number}.{'.'.join(lines)}" for number, lines in found.items())

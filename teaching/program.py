@@ -1,9 +1,10 @@
 """The program forth83: which one runs, and what it says."""
+import io
 import os
 import pathlib
 import subprocess
 import sys
-from typing import Any, Callable, List, Union
+from typing import Any, Callable, List, Optional, Union
 
 ROOT = pathlib.Path(__file__).resolve().parent.parent
 KEPT = ROOT / "build/out"
@@ -26,6 +27,12 @@ Parser = quiet_end.Parser
 
 def say(text: str) -> None:
     print(f"forth: {text}", file=sys.stderr)
+
+
+def printing(encoding: Optional[str] = None, newline: Optional[str] = None) -> None:
+    """Sets how standard output spells its text; what it can't spell is escaped."""
+    if isinstance(sys.stdout, io.TextIOWrapper):
+        sys.stdout.reconfigure(encoding=encoding, errors="backslashreplace", newline=newline)
 
 
 def guarded(act: Callable[[], int]) -> int:

@@ -4,7 +4,7 @@ A comment goes up to its `)`, a text up to its quote, `\\` to the end of its lin
 begin these are names like others. A word defines the next one where it is `:`, one of the Forth's defining words outside a
 definition, or a word of these screens whose definition uses such a word.
 """
-from typing import Iterator, List, Tuple
+from typing import Dict, Iterator, List, Optional, Tuple
 
 import screens
 
@@ -51,8 +51,10 @@ class References:
     """The places of each word: where it is defined, and where it is used. A place is a screen and a line."""
 
     def __init__(self, read: screens.Screens, numbers: List[int]) -> None:
-        self.defined, self.used = {}, {}
-        self.defining, self.open, self.before = set(DEFINING), None, ""
+        self.defined: Dict[str, List[Tuple[int, int]]] = {}
+        self.used: Dict[str, List[Tuple[int, int]]] = {}
+        self.defining, self.before = set(DEFINING), ""
+        self.open: Optional[str] = None
         self.wants_name = False
         for number in numbers:
             self.wants_name = False

@@ -21,7 +21,7 @@ class Row(NamedTuple):
     results: List[Result]
     refused: str
 
-    def count(self) -> int:
+    def right(self) -> int:
         """How many lessons are right."""
         return sum(result.mark == RIGHT for result in self.results)
 
@@ -48,7 +48,7 @@ def as_text(lessons: List[Lesson], rows: List[Row], signs: dict) -> str:
     made = [" ".join([padded("pupil", columns), *heads, "right"])]
     for row in rows:
         cells = [signs[result.mark].rjust(len(head)) for result, head in zip(row.results, heads)]
-        end = [f"{row.count()} of {len(lessons)}"] if not row.refused else [f"not checked: {readable(row.refused)}"]
+        end = [f"{row.right()} of {len(lessons)}"] if not row.refused else [f"not checked: {readable(row.refused)}"]
         made.append(" ".join([padded(readable(row.name), columns), *cells, *end]))
     made += ["", ", ".join(f"{signs[mark]} {meaning}" for mark, meaning in MEANINGS.items())]
     for row in rows:
@@ -76,7 +76,7 @@ def as_csv(lessons: List[Lesson], rows: List[Row]) -> str:
     writer.writerow(["pupil", *(f"lesson {lesson.number}" for lesson in lessons), "right", "remark"])
     for row in rows:
         cells = [cell(result) for result in row.results] or [""] * len(lessons)
-        fields = [row.name, *cells, str(row.count()) if not row.refused else "", row.refused]
+        fields = [row.name, *cells, str(row.right()) if not row.refused else "", row.refused]
         writer.writerow([harmless(readable(field)) for field in fields])
     return made.getvalue()
 
@@ -117,7 +117,7 @@ def page_row(lessons: List[Lesson], row: Row) -> str:
         return f'<tr>{name}<td colspan="{len(lessons) + 1}">not checked: {html.escape(readable(row.refused))}</td></tr>'
     cells = "".join(f'<td class="{one.mark}" aria-label="{one.mark}" title="{html.escape(readable(one.text))}">{SIGNS[one.mark]}</td>'
                     for one in row.results)
-    return f"<tr>{name}{cells}<td>{row.count()}</td></tr>"
+    return f"<tr>{name}{cells}<td>{row.right()}</td></tr>"
 
 
 def page_notes(lessons: List[Lesson], row: Row) -> str:

@@ -25,9 +25,9 @@ def is_ours(path: pathlib.Path, mark: str) -> bool:
         return mark.encode() in file.read(400)
 
 
-def check_target(path: str, mark: str, what: str) -> None:
+def check_target(named: str, mark: str, what: str) -> None:
     """Refuses a place where the tool can't write, or where something else is."""
-    path = pathlib.Path(path)
+    path = pathlib.Path(named)
     folder = path.parent
     if path.is_dir():
         raise program.Refusal(f"{path} is a folder; name a file with -o")

@@ -4,7 +4,9 @@ from __future__ import annotations
 import os
 from typing import NamedTuple
 
-UNKNOWN, MISSING, SAID = 13, 15, 17
+from system_cells import ABORTED, BAD_LENGTH, NOT_FOUND
+
+UNKNOWN, MISSING, SAID = NOT_FOUND, BAD_LENGTH, ABORTED
 WIDTH = 100  # columns of a line that a message shows
 TEXTS = os.path.join(os.path.dirname(os.path.dirname(os.path.dirname(os.path.realpath(__file__)))), "data", "faults.txt")
 

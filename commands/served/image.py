@@ -9,7 +9,7 @@ import hashlib
 import os
 import re
 import textwrap
-from typing import Callable
+from typing import Any, Callable
 
 import glossary
 from served import paging
@@ -21,7 +21,9 @@ ORDER = os.path.join(ROOT, "screens", "order.txt")  # is loaded over the image, 
 LISTS = [os.fspath(glossary.WORDS), os.path.realpath(glossary.__file__)]  # have the inner words
 LIBRARY = os.path.join(ROOT, "screens", "library")  # texts that INCLUDE finds from any folder
 DIALECT = os.path.join(ROOT, "screens", "tools", "dialect.txt")
-OF_DIALECTS = re.compile(r"^% screen \d+\n\( Order: what dialects need.*?(?=^% screen)", re.M | re.S)
+OF_DIALECTS = "( Order: what dialects need"  # how the screen of the order begins that images of programs lack
+KERNEL_TEXT = os.path.join(ROOT, "screens", "kernel.txt")
+SYSTEM = "system.json"  # the screens of the system's words, by their numbers
 BLOCK = 1024
 NEW = "kernel.blk"
 KERNEL = "1", "20"  # its screens
@@ -110,13 +112,13 @@ def find(program: str, kernel: str = "") -> str:
         raise NotMade(f"{kernel}: it does not exist, or cannot be read: name a file of blocks")
     if not kernel and os.path.isdir(beside(program)):
         return beside(program)
-    made_of = [program, *TEXTS, ORDER, *LISTS, *([kernel] if kernel else [])]
+    made_of = [program, *TEXTS, ORDER, KERNEL_TEXT, *LISTS, *([kernel] if kernel else [])]
     return kept("served", made_of, lambda room: make(program, kernel, room))
 
 
 def sum_beside() -> str:
     """The name of the folder that has images beside a program: a sum of what they are made of, except the program."""
-    return sum_of([*TEXTS, ORDER, *LISTS])
+    return sum_of([*TEXTS, ORDER, KERNEL_TEXT, *LISTS])
 
 
 def beside(program: str) -> str:
@@ -124,13 +126,14 @@ def beside(program: str) -> str:
     return os.path.join(os.path.dirname(os.path.realpath(program)), "images", sum_beside())
 
 
-def run(*words: str) -> None:
-    """Runs the program; NotMade if it refuses."""
+def run(*words: str) -> str:
+    """Runs the program, and returns what it prints; NotMade if it refuses."""
     import subprocess
 
     done = subprocess.run(words, stdin=subprocess.DEVNULL, capture_output=True, check=False)
     if done.returncode:
         raise NotMade((done.stdout + done.stderr).decode(errors="replace").strip() or f"{words[1]} ended with {done.returncode}")
+    return done.stdout.decode(errors="replace")
 
 
 def read(path: str) -> str:
@@ -162,9 +165,31 @@ def make_kernel(program: str, kernel: str, room: str, blocks: str) -> None:
                       f"forth: then: dd if=new.blk of={kernel} bs=1024 skip=1 seek=1 count=20 conv=notrunc") from error
 
 
-def screens() -> list[paging.Screen]:
+def parts_of(program: str, path: str, text: str) -> list[paging.Screen]:
+    """What is below each heading of the text in a file."""
+    return paging.parts_of(os.path.relpath(path, ROOT), text, paging.headings_in(run(program, "headings", "--", path)))
+
+
+def screens(program: str) -> list[paging.Screen]:
     """The screens of the tools."""
-    return paging.paged([(os.path.relpath(path, ROOT), read(path)) for path in TEXTS])
+    return paging.paged([part for path in TEXTS for part in parts_of(program, path, read(path))])
+
+
+def order_of(program: str) -> list[paging.Screen]:
+    """The screens that put the words into their order."""
+    import tempfile
+
+    with tempfile.TemporaryDirectory() as room:
+        text = with_lists(read(ORDER))
+        return parts_of(program, write(os.path.join(room, "order"), text), text)
+
+
+def system(images: str) -> dict[str, Any]:
+    """The screens of the system's words, by their numbers: of each the file that has it, and its lines as a text. IMAGES is a folder of images."""
+    import json  # few sessions want it
+
+    found: dict[str, Any] = json.loads(read(os.path.join(images, SYSTEM)))
+    return found
 
 
 def run_over(tools: list[paging.Screen], *words: str) -> None:
@@ -177,7 +202,7 @@ def run_over(tools: list[paging.Screen], *words: str) -> None:
         raise NotMade("\n".join([f"{paging.place_of(tools, first)}: {first}", *mark])) from error
 
 
-def make_served(program: str, kernel: bytes, tools: list[paging.Screen], order: str, made: str) -> None:
+def make_served(program: str, kernel: bytes, tools: list[paging.Screen], order: list[paging.Screen], made: str) -> None:
     """Makes an image of the kernel's screens and these, with its words in their order."""
     import tempfile
 
@@ -185,22 +210,27 @@ def make_served(program: str, kernel: bytes, tools: list[paging.Screen], order: 
         text, blocks, orders, first = (os.path.join(room, name) for name in ("text", "all.blk", "order.blk", "made.img"))
         with open(blocks, "wb") as file:
             file.write(kernel[:BLOCK] + re.sub(rb"BOOT COLD *", lambda found: b" " * len(found[0]), kernel[BLOCK : 21 * BLOCK]))
-        last = str(tools[-1].number + 1)
-        run_over(tools, program, "screens", write(text, f"{with_numbers(paging.text_of(tools))}% screen {last}\nBOOT COLD\n"), blocks)
-        run_over(tools, program, "build", "--where", blocks, "1", last, first)
-        run(program, "screens", write(text, order), orders)
-        run(program, "load", first, orders, "1", re.findall(r"^% screen (\d+)$", order, re.M)[-1], made)
+        last = paging.Screen(tools[-1].number + 1, "", [(1, "BOOT COLD")])
+        run_over(tools, program, "screens", write(text, with_numbers(paging.text_of([*tools, last]))), blocks)
+        run_over(tools, program, "build", "--where", blocks, "1", str(last.number), first)
+        run(program, "screens", write(text, paging.text_of(order)), orders)
+        run(program, "load", first, orders, "1", str(order[-1].number), made)
 
 
 def make(program: str, kernel: str, room: str) -> None:
-    """Makes the images of a session in a folder, and a new file of blocks, which has the kernel's screens."""
-    blocks, order = os.path.join(room, NEW), with_lists(read(ORDER))
+    """Makes the images of a session in a folder, a new file of blocks, which has the kernel's screens, and a list of the system's screens."""
+    import json
+
+    blocks = os.path.join(room, NEW)
     make_kernel(program, kernel, room, blocks)
     with open(blocks, "rb") as file:
         kernel_screens = file.read()
     if kernel:
         os.unlink(blocks)
-    tools = screens()
+    tools, order = screens(program), order_of(program)
     make_served(program, kernel_screens, tools, order, os.path.join(room, "served.img"))
     small = [screen for screen in tools if screen.path != os.path.relpath(DIALECT, ROOT)]
-    make_served(program, kernel_screens, small, re.sub(OF_DIALECTS, "", order), os.path.join(room, "small.img"))
+    order = [screen for screen in order if not any(line.startswith(OF_DIALECTS) for _, line in screen.lines)]
+    make_served(program, kernel_screens, small, order, os.path.join(room, "small.img"))
+    listed = {it.number: (it.path, "\n".join(line for _, line in it.lines)) for it in [*parts_of(program, KERNEL_TEXT, read(KERNEL_TEXT)), *tools]}
+    write(os.path.join(room, SYSTEM), json.dumps(listed))

@@ -4,7 +4,6 @@ from __future__ import annotations
 import re
 from typing import NamedTuple
 
-HEADING = re.compile(r"% screen (\d+)$")
 LINES, WIDTH = 16, 64
 
 
@@ -16,16 +15,16 @@ class Screen(NamedTuple):
     lines: list[tuple[int, str]]
 
 
-def parts_of(path: str, text: str) -> list[Screen]:
-    """What is below each heading of a text, with the heading's number."""
-    found: list[Screen] = []
-    for number, line in enumerate(text.splitlines(), 1):
-        heading = HEADING.match(line)
-        if heading:
-            found.append(Screen(int(heading[1]), path, []))
-        elif found:
-            found[-1].lines.append((number, line))
-    return found
+def headings_in(listing: str) -> list[tuple[int, int]]:
+    """What `forth83 headings` printed of a text: the number of each screen, and that of its heading's line."""
+    return [(int(number), int(line)) for number, line in map(str.split, listing.splitlines())]
+
+
+def parts_of(path: str, text: str, headings: list[tuple[int, int]]) -> list[Screen]:
+    """What is below each heading of a text: the headings are numbers of screens, each with the number of its line."""
+    lines = list(enumerate(text.splitlines(), 1))
+    ends = [line - 1 for _, line in headings[1:]] + [len(lines)]
+    return [Screen(number, path, lines[line:end]) for (number, line), end in zip(headings, ends)]
 
 
 def begins(lines: list[tuple[int, str]], at: int) -> bool:
@@ -43,10 +42,10 @@ def pages_of(lines: list[tuple[int, str]]) -> list[list[tuple[int, str]]]:
     return [*pages, lines]
 
 
-def paged(texts: list[tuple[str, str]]) -> list[Screen]:
-    """The screens of these texts, in the order of their numbers. One whose number is taken, since those before it run on, gets the next."""
+def paged(parts: list[Screen]) -> list[Screen]:
+    """The screens of these parts of texts, in the order of their numbers. One whose number is taken, since those before it run on, gets the next."""
     screens, number = [], 0
-    for part in sorted((part for path, text in texts for part in parts_of(path, text)), key=lambda part: part.number):
+    for part in sorted(parts, key=lambda part: part.number):
         number = max(number, part.number)
         for lines in pages_of(part.lines):
             screens.append(Screen(number, part.path, lines))

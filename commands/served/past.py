@@ -5,6 +5,7 @@ from typing import NamedTuple, Optional
 
 from served.target import TOP, Target
 from served.wire import Header, Refused, State
+from system_cells import COLON
 
 MOST = 100  # machines that are kept
 SLICE = 1_000_000
@@ -123,4 +124,4 @@ def callers(state: State, headers: list[Header], memory: bytes) -> list[Header]:
 
 def is_thread(header: Header) -> bool:
     """Whether a word has a thread: `:` or DOES> made it."""
-    return header.code == 1 or header.code > 255
+    return header.code == COLON or header.code > 255

@@ -1,4 +1,4 @@
-"""Screens as text, which RELOAD takes into a session: the program itself makes blocks of them, as `forth83 screens` does."""
+"""Texts of screens, as the program reads them; RELOAD takes their screens into a session."""
 from __future__ import annotations
 
 import os
@@ -6,19 +6,11 @@ import re
 import subprocess
 
 from served.faults import section
+from served.paging import headings_in
 from served.target import BLOCK
-from served.texts import read_file
+from served.texts import read_file, Unreadable
 
 REFUSED = re.compile(r"line (\d+): (\w+) ?(\d*)")
-HEADING = re.compile(rb"^% screen ([0-9]+)$", re.M)
-
-
-def numbers_of(text: bytes) -> list[int]:
-    """The screens that a text names, in order; with lines before its first heading, screen 1 as well."""
-    named = {int(number) for number in HEADING.findall(text)}
-    if named and not HEADING.match(text):
-        named.add(1)
-    return sorted(named)
 
 
 def why(said: str) -> str:
@@ -27,32 +19,32 @@ def why(said: str) -> str:
     return f"line {found[1]} {dict(section('texts'))[found[2]].format(byte=found[3])}" if found else said
 
 
-def run(words: list[str]) -> str:
-    """Runs the program; what it said if it refused."""
+def run(name: str, *words: str) -> str:
+    """Runs the program over the text of this name, and returns what it prints; Unreadable if it refuses the text."""
     done = subprocess.run(words, stdin=subprocess.DEVNULL, capture_output=True, check=False)
-    said = (done.stdout + done.stderr).decode(errors="replace").strip()
-    return why(said) or f"status {done.returncode}" if done.returncode else ""
+    said = (done.stdout + done.stderr).decode(errors="replace")
+    if done.returncode:
+        raise Unreadable(f"{name}: {why(said.strip()) or f'status {done.returncode}'}")
+    return said
 
 
-def read_screens(forth83: str, name: str, count: int, room: str) -> tuple[list[tuple[int, bytes]], str]:
-    """The screens of a text, each with its number, for a file of so many blocks; or why they cannot be read."""
+def read_screens(forth83: str, name: str, count: int, room: str) -> list[tuple[int, bytes]]:
+    """The screens of a text, each with its number, for a file of so many blocks; Unreadable says why they cannot be read."""
     if not name:
-        return [], "RELOAD needs the name of a file"
-    made = os.path.join(room, "text.blk")
+        raise Unreadable("RELOAD needs the name of a file")
+    text, made = os.path.join(room, "text"), os.path.join(room, "made.blk")
     try:
-        numbers = numbers_of(read_file(name))
+        content = read_file(name)
     except OSError as error:
-        return [], f"cannot read {name}: {error.strerror}"
+        raise Unreadable(f"cannot read {name}: {error.strerror}") from error
+    with open(text, "wb") as copy:
+        copy.write(content)
+    numbers = sorted(number for number, _ in headings_in(run(name, forth83, "headings", text)))
     if not numbers:
-        return [], f"{name} has no line like: % screen 30; INCLUDE {name} loads a text of Forth"
+        raise Unreadable(f"{name} has no line like: % screen 30; INCLUDE {name} loads a text of Forth")
     if numbers[-1] >= count:
-        return [], f"{name} has screen {numbers[-1]}, but the block file has screens 0 to {count - 1} only"
-    said = run([forth83, "new", made, str(count)]) or run([forth83, "screens", "--", name, made])
-    pages: list[tuple[int, bytes]] = []
-    if not said:
-        with open(made, "rb") as file:
-            blocks = file.read()
-        pages = [(number, blocks[number * BLOCK : (number + 1) * BLOCK]) for number in numbers]
-    if os.path.exists(made):
-        os.unlink(made)
-    return pages, f"{name}: {said}" if said else ""
+        raise Unreadable(f"{name} has screen {numbers[-1]}, but the block file has screens 0 to {count - 1} only")
+    run(name, forth83, "screens", text, made)
+    with open(made, "rb") as file:
+        blocks = file.read()
+    return [(number, blocks[number * BLOCK : (number + 1) * BLOCK]) for number in numbers]

@@ -219,10 +219,11 @@ def do_reload(session: Session) -> None:
     from served.screens import read_screens
 
     name = session.target.word()
-    with tempfile.TemporaryDirectory() as room:
-        pages, said = read_screens(session.program, os.path.expanduser(name), session.target.count(), room)
-    if said:
-        raise Refusal(said)
+    try:
+        with tempfile.TemporaryDirectory() as room:
+            pages = read_screens(session.program, os.path.expanduser(name), session.target.count(), room)
+    except Unreadable as error:
+        raise Refusal(str(error)) from error
     for number, page in pages:
         put(session, number, page)
 
@@ -412,7 +413,7 @@ def do_view(session: Session) -> None:
     if place:
         session.say_line(f"{place.name}:{place.number}\n{plain(place.text)}\n")
     elif session.target.look_up(typed) and session.target.wire.token(name) < session.target.wire.cell(FENCE):
-        session.say_line(words.system_source(view))
+        session.say_line(words.system_source(session.images, view))
     elif not view:
         session.say("typed, not on a screen ")
     else:
@@ -431,7 +432,7 @@ def do_locate(session: Session) -> None:
     elif place:
         session.say_line(f"{place.name}:{place.number}: {plain(place.text)}\n")
     elif session.target.wire.token(name) < session.target.wire.cell(FENCE):
-        session.say_line(words.system_source(view, name.decode(errors="replace")))
+        session.say_line(words.system_source(session.images, view, name.decode(errors="replace")))
     elif not view:
         session.say("typed, not on a screen ")
     else:

@@ -1,6 +1,7 @@
 """A session: it runs the machine, answers what it asks, and reports its faults."""
 from __future__ import annotations
 
+import os
 from typing import Any, Callable, Optional, Union
 
 from served import faults, reports, services, words as words_of
@@ -29,7 +30,7 @@ class Session(Output):
     def __init__(self, words: list[str], blocks: Optional[str], signals: Signals, script: Optional[Script], arguments: list[str],
                  wire: Callable[[list[str], Callable[[bytes], None]], Wire] = Wire) -> None:
         """The machine is that of the server that these words start, or that of a board."""
-        self.program, self.signals, self.arguments = words[0], signals, arguments
+        self.program, self.images, self.signals, self.arguments = words[0], os.path.dirname(words[2]), signals, arguments
         super().__init__(script is not None, signals)
         self.wire = wire(words, self.show)
         self.target = Target(self.wire, Texts(), blocks, words[0])

@@ -2,7 +2,7 @@
 
 A text of screens/tools names a service between two @, as in `@SEE@ SERVE`; `image` puts the number there. A word that asks stores the
 number in the cell SERVICE and executes KEY; the host answers with 0, or with the fault that it refuses by, and may put two numbers into
-the cells FIRST and SECOND. Images that were saved have these numbers: a new name comes last. `tools/check-served --sources` holds this table
+the cells FIRST and SECOND. Images that were saved have these numbers: a new name comes last. `tests/sessions/check-served --sources` holds this table
 against the texts and against the functions of `services`.
 """
 from __future__ import annotations

@@ -1,14 +1,13 @@
 """What is known of words and memory: lists of words, the kinds of those that SEE has no source for, and the system's sources."""
 from __future__ import annotations
 
-import os
 from typing import Iterable, Iterator, Sequence
 
-from served import image, paging
+from served import image
 from served.faults import plain, section
-from served.image import ROOT
 from served.target import CONTEXT, FENCE, FORTH_VOC, TOP, Target, plain_name
 from served.wire import Header
+from system_cells import CONSTANT, VARIABLE, VOCABULARY
 
 WIDTH = 64
 LONGEST_CHAIN = 32768
@@ -63,11 +62,11 @@ def kind(target: Target, name: bytes) -> str:
     """What a word is that is no colon word."""
     token = target.wire.token(name)
     code, body = target.wire.cells_at(token, 2)
-    if code == 2:
+    if code == VARIABLE:
         return f"a variable at {token + 2}, holding {body}"
-    if code == 3:
+    if code == CONSTANT:
         return f"a constant, {body}"
-    if code == 4:
+    if code == VOCABULARY:
         return f"a vocabulary at {token + 2}"
     if PRIMITIVES <= code <= 255:
         return f"primitive {code}"
@@ -85,19 +84,10 @@ def place_of(target: Target, view: int, token: int) -> str:
     return f"screen {view}" if view else "typed"
 
 
-def system_screen(number: int) -> tuple[str, list[str]]:
-    """The text that has a screen of the system, and its lines."""
-    kernel = os.path.join("screens", "kernel.txt")
-    for screen in [*image.screens(), *paging.parts_of(kernel, image.read(os.path.join(ROOT, kernel)))]:
-        if screen.number == number:
-            return screen.path, [line for _, line in screen.lines]
-    return "", []
-
-
-def system_source(number: int, part: str = "") -> str:
-    """A screen of the system, or its lines that have a name."""
-    path, lines = system_screen(number)
-    shown = [line for line in lines if part in line] if part else lines
+def system_source(images: str, number: int, part: str = "") -> str:
+    """A screen of the system, or its lines that have a name: IMAGES is the folder of the image that runs."""
+    path, text = image.system(images).get(str(number), ("", ""))
+    shown = [line for line in text.splitlines() if part in line]
     return "\n".join([f"{path}, screen {number}", *shown]) + "\n" if path else "a word of the system\n"
 
 

@@ -45,7 +45,7 @@ none_there : (k : ℕ) (o : Option Text) (x : Result (Option ℕ) ParseIntError)
 none_there k None x is value = refl
 none_there k (Some t) x is value = absurd (subst (TriesOne (gives k) t) is (value t refl))
 
--- nothing was read where there is no text
+-- nothing was read if there is no text
 pub none_lacking : (k : ℕ) (f : Found) (name : Text) (x : Result (Option ℕ) ParseIntError) → x ≡ Ok None
     → ((t : Text) → one_text f name ≡ Some t → TriesOne (gives k) t x) → one_of name (rows_of f) ≡ None
 none_lacking k f name x is value = sym (one_text-rows f name) ∙ none_there k (one_text f name) x is value

@@ -152,8 +152,11 @@ guess = sub (codes "guess") (word (codes "DISK") ∷ flag (codes "better") ∷ f
 abbrev pub advise : Shape
 advise = sub (codes "advise") (word (codes "CASE") ∷ [])
 
+abbrev pub headings : Shape
+headings = sub (codes "headings") (word (codes "TEXT") ∷ [])
+
 abbrev pub subcommands : List Shape
-subcommands = kernel ∷ build ∷ load ∷ upgrade ∷ text ∷ screens ∷ new ∷ import ∷ export ∷ run ∷ see ∷ debug ∷ view ∷ serve ∷ survey ∷ judge ∷ unpack ∷ pack ∷ guess ∷ advise ∷ []
+subcommands = kernel ∷ build ∷ load ∷ upgrade ∷ text ∷ screens ∷ new ∷ import ∷ export ∷ run ∷ see ∷ debug ∷ view ∷ serve ∷ survey ∷ judge ∷ unpack ∷ pack ∷ guess ∷ advise ∷ headings ∷ []
 
 abbrev pub forth83 : App
 forth83 = record {
@@ -171,7 +174,7 @@ abbrev pub with_rules : List Rule → App → App
 with_rules [] a = a
 with_rules (rule ∷ rules) a = with_rules rules (with_rule a rule)
 
--- clap reads words by this command, of whose arguments none is global but where `globals` says so
+-- clap reads words by this command, of whose arguments none is global but if `globals` says so
 pub record IsRead (a : App) (globals : Bool) (c : Command) : Type 0 where
   pub app : app_of c ≡ a
   pub local : (fields_of c).has_globals ≡ globals

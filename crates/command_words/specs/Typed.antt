@@ -122,6 +122,7 @@ Says rows (words.Unpack w) = IsUnpack rows w
 Says rows (words.Pack w) = IsDisk rows w
 Says rows (words.Guess w) = IsGuess rows w
 Says rows (words.Advise case) = IsText rows (codes "CASE") case
+Says rows (words.Headings text) = IsText rows (codes "TEXT") text
 
 -- the subcommand of this name
 abbrev pub name_of : Words → Text
@@ -145,6 +146,7 @@ name_of (words.Unpack w) = codes "unpack"
 name_of (words.Pack w) = codes "pack"
 name_of (words.Guess w) = codes "guess"
 name_of (words.Advise case) = codes "advise"
+name_of (words.Headings text) = codes "headings"
 
 -- w is of the subcommand of this name, and says what was found for its arguments
 pub record AreOf (name : Text) (rows : List Row) (w : Words) : Type 0 where
@@ -160,7 +162,7 @@ Means (Some (name, rows)) w = AreOf name rows w
 abbrev pub IsTyped : (typed : List Text) → Words → Type 0
 IsTyped typed w = Means (subcommand_of forth83 typed) w
 
--- an argument that the words of a subcommand are made of: a text, a number of so many bits, or such a number where one was typed
+-- an argument that the words of a subcommand are made of: a text, a number of so many bits, or such a number if one was typed
 pub data Part : Type 0 where
   Word : Text → Part
   Number : ℕ → Text → Part
@@ -227,7 +229,7 @@ parts =
     ∷ (codes "run", Word (codes "IMAGE") ∷ limit_part ∷ []) ∷ (codes "debug", debug_parts) ∷ (codes "see", seen_parts) ∷ (codes "view", seen_parts)
     ∷ (codes "serve", Word (codes "IMAGE") ∷ []) ∷ (codes "survey", survey_parts) ∷ (codes "judge", judge_parts)
     ∷ (codes "unpack", unpack_parts) ∷ (codes "pack", disk_parts) ∷ (codes "guess", Word (codes "DISK") ∷ [])
-    ∷ (codes "advise", Word (codes "CASE") ∷ []) ∷ []
+    ∷ (codes "advise", Word (codes "CASE") ∷ []) ∷ (codes "headings", Word (codes "TEXT") ∷ []) ∷ []
 
 -- of the subcommand of this name one part is lacking, or none has this name
 abbrev pub LacksIn : List (Text × List Part) → (name : Text) → List Row → Type 0

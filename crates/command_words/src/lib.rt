@@ -32,7 +32,7 @@ pub enum Words {
     Upgrade {
         image: String,
         out: String,
-        /// How many block buffers, 2 to 16; the image's own number where none is given.
+        /// How many block buffers, 2 to 16; the image's own number if none is given.
         buffers: Option<u16>,
     },
     Load(LoadWords),
@@ -79,6 +79,9 @@ pub enum Words {
     Advise {
         case: String,
     },
+    Headings {
+        text: String,
+    },
 }
 
 /// Screens of a file of blocks, one after another.
@@ -107,7 +110,7 @@ pub struct LoadWords {
     pub screens: ScreenRange,
     pub out: String,
     pub limit: u64,
-    /// Whether it is shown where the screens stopped, also if standard error is no terminal.
+    /// Whether it is shown if the screens stopped, also if standard error is no terminal.
     pub shows_place: bool,
 }
 
@@ -225,7 +228,7 @@ pub fn typed(rt: &HostRuntime) -> Result<Vec<String>, Parsed>
     }
 }
 
-/// Reads a command line, of which the first word is the program's name. Where no words come of it, that is printed, and how the
+/// Reads a command line, of which the first word is the program's name. If no words come of it, that is printed, and how the
 /// program ends is the answer.
 pub fn parse<R: Print>(rt: &R, alloc: Global, typed: &[String]) -> Parsed
     ensures { refused.IsParsed (map string_bytes typed.now) result }

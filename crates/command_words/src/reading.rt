@@ -345,6 +345,15 @@ fn advise_words(alloc: Global, matches: &ArgMatches<'_>) -> Result<Words, Unread
     })
 }
 
+fn headings_words(alloc: Global, matches: &ArgMatches<'_>) -> Result<Words, Unread>
+    ensures typed { IfOk result (typed.AreOf (codes "headings") (rows_of (found_of matches.now))) }
+    ensures lacks { IfErr result (λ why. why ≡ Unread.Missing → typed.LacksOne (rows_of (found_of matches.now)) (typed.Word (codes "TEXT") ∷ [])) }
+{
+    Ok(Words::Headings {
+        text: text(alloc, matches, "TEXT")?,
+    })
+}
+
 fn kernel_words(alloc: Global, matches: &ArgMatches<'_>) -> Result<Words, Unread>
     ensures typed { IfOk result (typed.AreOf (codes "kernel") (rows_of (found_of matches.now))) }
     ensures lacks { IfErr result (λ why. why ≡ Unread.Missing → typed.LacksOne (rows_of (found_of matches.now)) (typed.Word (codes "BLOCKS") ∷ [])) }
@@ -383,6 +392,7 @@ fn words_of(alloc: Global, name: &str, matches: &ArgMatches<'_>) -> Result<Words
         "pack" => Ok(Words::Pack(disk_words(alloc, matches, false)?)),
         "guess" => Ok(Words::Guess(guess_words(alloc, matches)?)),
         "advise" => advise_words(alloc, matches),
+        "headings" => headings_words(alloc, matches),
         _ => Err(Unread::Missing),
     }
 }

@@ -315,6 +315,14 @@ fn advise_command<'a>(alloc: Global) -> Result<Command<'a>, AllocError>
         .arg(word(alloc, "CASE", "A text that says what happened"))
 }
 
+fn headings_command<'a>(alloc: Global) -> Result<Command<'a>, AllocError>
+    ensures { IfOk result (line.IsSubcommand line.headings) }
+{
+    Command::new(alloc, "headings")
+        .about("Print which lines of a text begin screens")
+        .arg(word(alloc, "TEXT", "The text file"))
+}
+
 /// The program's command line.
 pub fn command<'a>(alloc: Global) -> Result<Command<'a>, AllocError>
     ensures { IfOk result (λ c. app_of c ≡ line.forth83) }
@@ -343,5 +351,6 @@ pub fn command<'a>(alloc: Global) -> Result<Command<'a>, AllocError>
         .subcommand(unpack_command(alloc)?)?
         .subcommand(pack_command(alloc)?)?
         .subcommand(guess_command(alloc)?)?
-        .subcommand(advise_command(alloc)?)
+        .subcommand(advise_command(alloc)?)?
+        .subcommand(headings_command(alloc)?)
 }

@@ -27,7 +27,7 @@ use Rattle.subcommands.specs.Ends.{IsRefusal}
 use Rattle.subcommands.specs.Images.{IsFileOfRead}
 use Rattle.subcommands.specs.Kernel.{blanks, blocks_of, filled}
 use Rattle.subcommands.specs.Lines.{EndsSeen, EndsUnbuilt, EndsViewed, HasRoom, IsTold, IsTooLarge, IsUpgraded, OfImageFile, PrintsNoImage, PrintsOutOfMemory, PrintsTooLarge, upgraded}
-use Rattle.subcommands.specs.Texts.{EndsText, EndsUnwritten, HasPrinted, HasScreens}
+use Rattle.subcommands.specs.Texts.{EndsHeadings, EndsText, EndsUnwritten, HasPrinted, HasScreens}
 use Rattle.subcommands.specs.declared.kernel_text.TheConstants.{TEXT}
 
 -- what a subcommand that ended with this status printed before its file was written: nothing, or that memory ran out
@@ -120,6 +120,17 @@ pub record MakesScreens (text blocks : List ℕ) (status : ℕ) (failed : Bool) 
   pub silent : ended ≡ 0 → new.sent ≡ old.sent
   pub refused : failed ≡ false → 0 < ended → EndsUnwritten (read typed) ended old.sent new.sent
 
+abbrev pub headings_steps : (text : List ℕ) → List Step
+headings_steps text = step deed.Read (text ∷ []) ∷ []
+
+-- `headings TEXT`
+pub record ListsHeadings (text : List ℕ) (status : ℕ) (failed : Bool) (old new : Done) : Type 0 where
+  pub asks : Asks (headings_steps text) 0 old.asked new.asked
+  pub bytes : List ℕ
+  pub reads : Reads text bytes old new
+  pub unwritten : new.written ≡ old.written
+  pub listed : failed ≡ false → EndsHeadings bytes status old.sent new.sent
+
 abbrev pub text_steps : (blocks : List ℕ) → List Step
 text_steps blocks = step deed.KeepBlocks (blocks ∷ []) ∷ step deed.OpenToRead (blocks ∷ []) ∷ []
 
@@ -158,7 +169,7 @@ pub record Builds (blocks : List ℕ) (from to : ℕ) (image : List ℕ) (buffer
   pub refused : failed ≡ false → 0 < ended → (d e : Blocks) → DidAs d e count [] calls
       → EndsUnbuilt buffers d from to (done_of (Some e) [] calls) ended old.sent new.sent
 
--- the numbers of a text that separates them with commas; none where there is no text
+-- the numbers of a text that separates them with commas; none if there is no text
 abbrev pub numbers_in : Option (List ℕ) → List ℕ
 numbers_in None = []
 numbers_in (Some text) = map (λ number. digits_value 10 (without_leading_plus number)) (slice_split (λ b. eqb b 44) text)

@@ -30,7 +30,7 @@ fn may_be_wanted(buffers: Option<u16>) -> bool
 }
 
 /// Says on standard error where and why the source in the screens from the first to the last is refused, with that line of
-/// the screen and a mark below the place: a copy of the blocks is built again. Where it can't be found out, or can't be said, nothing is.
+/// the screen and a mark below the place: a copy of the blocks is built again. If it can't be found out, or can't be said, nothing is.
 fn show_place<F: Files>(
     files: &F,
     name: &str,

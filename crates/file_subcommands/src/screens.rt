@@ -1,12 +1,12 @@
-//! `kernel`, `text`, `screens` and `new`.
+//! `kernel`, `text`, `screens`, `headings` and `new`.
 
 ghost use Rattle.std.specs.Prelude.{◌≡◌, true, false, IfErr, IfOk};
-ghost use Rattle.file_subcommands.specs.Filed.{MakesKernel, MakesNew, MakesScreens, Prints, RefusesNew, kernel_steps, screens_steps, text_steps};
+ghost use Rattle.file_subcommands.specs.Filed.{ListsHeadings, MakesKernel, MakesNew, MakesScreens, Prints, RefusesNew, headings_steps, kernel_steps, screens_steps, text_steps};
 ghost use Rattle.named_files.specs.Done.{IsPassedOn, Refuses, done, status_of};
 
 use inner_interpreter::Output;
 use named_files::{Files, write_made};
-use subcommands::{Ended, do_kernel, do_new, do_screens, do_text};
+use subcommands::{Ended, do_headings, do_kernel, do_new, do_screens, do_text};
 
 /// How many blocks a file has at most.
 pub const MOST_BLOCKS: u32 = 65536;
@@ -80,6 +80,23 @@ pub fn write_screens<F: Files, W: Output>(
     let old = files.old_blocks(blocks)?;
     let Ended { status, file } = do_screens(files.alloc(), old, bytes.as_slice(), writer);
     Ok(write_made(files, status, file, blocks))
+}
+
+/// Prints the headings of the text that `headings` names. If it cannot begin, that is printed, and the status is the error.
+pub fn print_headings<F: Files, W: Output>(
+    files: &mut F,
+    writer: &mut W,
+    text: &str,
+) -> Result<u8, u8>
+    ensures listed { IfOk result (λ status. ListsHeadings text.now status (W.failed writer.new)
+        (done (F.log files.old) (W.sent writer.old)) (done (F.log files.new) (W.sent writer.new))) }
+    ensures refused { IfErr result (λ status. Refuses (headings_steps text.now) status
+        (done (F.log files.old) (W.sent writer.old)) (done (F.log files.new) (W.sent writer.new))) }
+    ensures cut { W.failed writer.old ≡ false → W.failed writer.new ≡ true → status_of result ≡ 5 }
+    ensures passed { IsPassedOn (status_of result) (W.failed writer.new) (W.passed writer.new) (W.sent writer.old) (W.sent writer.new) }
+{
+    let bytes = files.file_bytes(text)?;
+    Ok(do_headings(files.alloc(), bytes.as_slice(), writer).status)
 }
 
 /// Writes the new file that `new` names; one that exists is left alone. If it cannot begin, that is printed, and the status is the

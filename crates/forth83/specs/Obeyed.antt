@@ -10,7 +10,7 @@ use Rattle.command_words.specs.declared.Words.{Words}
 use Rattle.command_words.specs.declared.Words.TheVariants as words
 use Rattle.command_words.specs.declared.containers.ContainerWords.{ContainerWords}
 use Rattle.debug_subcommand.specs.Files.{Debugs, RefusesDebug}
-use Rattle.file_subcommands.specs.Filed.{Builds, Exports, Imports, MakesKernel, MakesNew, MakesScreens, Prints, RefusesBuild, RefusesExport, RefusesImport, RefusesNew, RefusesUpgrade, Sees, Upgrades, Views, Wanted, image_steps, kernel_steps, screens_steps, text_steps}
+use Rattle.file_subcommands.specs.Filed.{Builds, Exports, Imports, ListsHeadings, MakesKernel, MakesNew, MakesScreens, Prints, RefusesBuild, RefusesExport, RefusesImport, RefusesNew, RefusesUpgrade, Sees, Upgrades, Views, Wanted, headings_steps, image_steps, kernel_steps, screens_steps, text_steps}
 use Rattle.judge_subcommand.specs.Judged.{Judges, judge_steps}
 use Rattle.load_subcommand.specs.Files.{Loads, load_steps}
 use Rattle.named_files.specs.Asking.{step}
@@ -64,6 +64,7 @@ Obeys (words.Unpack w) status failed old new =
 Obeys (words.Pack w) status failed old new = Packs (string_bytes w.container.blocks) (string_bytes w.container.container) status failed old new
 Obeys (words.Guess w) status failed old new = Guesses (string_bytes w.disk) status failed old new
 Obeys (words.Advise case) status failed old new = Advises (string_bytes case) status failed old new
+Obeys (words.Headings text) status failed old new = ListsHeadings (string_bytes text) status failed old new
 
 -- the subcommand could not begin: a step that it must take was refused, or what was typed can't be used
 abbrev pub RefusesWords : Words → (status : ℕ) → (failed : Bool) → (old new : Done) → Type 0
@@ -92,6 +93,7 @@ RefusesWords (words.Pack w) status failed old new =
     RefusesPack (string_bytes w.container.blocks) (string_bytes w.container.container) (string_bytes w.container.format) status old new
 RefusesWords (words.Guess w) status failed old new = Refuses (guess_steps (string_bytes w.disk)) status old new
 RefusesWords (words.Advise case) status failed old new = Refuses (advise_steps (string_bytes case)) status old new
+RefusesWords (words.Headings text) status failed old new = Refuses (headings_steps (string_bytes text)) status old new
 
 -- what the program does with a command line. It obeys the words that were typed, or one of their steps is refused; if a line can't be printed
 -- meanwhile, the status is 5. Or no words come of the command line: it is printed why, or memory ran out.

@@ -13,8 +13,8 @@ use command_words::{
 };
 use debug_subcommand::debug_word;
 use file_subcommands::{
-    Disk, Screens, build_image, export_screens, import_screens, print_text, see_word,
-    upgrade_image, view_word, write_kernel, write_new, write_screens,
+    Disk, Screens, build_image, export_screens, import_screens, print_headings, print_text,
+    see_word, upgrade_image, view_word, write_kernel, write_new, write_screens,
 };
 use inner_interpreter::Output;
 use judge_subcommand::{Judged, judge_pupil};
@@ -226,10 +226,11 @@ fn obey<F: Files, W: Output>(files: &mut F, writer: &mut W, words: Words) -> Res
         Words::Pack(words) => pack_disk(files, writer, old_disk_of(&words)),
         Words::Guess(words) => guess_order(files, writer, guess_of(&words)),
         Words::Advise { case } => advise_case(files, writer, case.as_str()),
+        Words::Headings { text } => print_headings(files, writer, text.as_str()),
     }
 }
 
-/// Runs a command line, of which the first word is the program's name, and answers the status. Where no words come of it, that is printed.
+/// Runs a command line, of which the first word is the program's name, and answers the status. If no words come of it, that is printed.
 fn run_line<R: Print, F: Files, W: Output>(
     rt: &R,
     files: &mut F,

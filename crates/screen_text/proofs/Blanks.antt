@@ -60,7 +60,7 @@ pub spread_other : (xs rest : List ℕ) (b : ℕ) → b ≢ 9 → (xs ++ b ∷ [
 unfolding spread
 spread_other xs rest b h = grind (arith, length-append, append_assoc)
 
--- where the whole line is spread
+-- if the whole line is spread
 pub spread_all : (plain line all : List ℕ) (i : ℕ) → length line ≤ i → plain ++ spread (length plain) (drop i line) ≡ all → plain ≡ all
 unfolding spread
 spread_all plain line all i within e = grind (arith, drop_all, append-nil)

@@ -3,10 +3,11 @@ use Rattle.std.proofs.lemmas.List.{drop-drop, drop_all, take_all}
 use Rattle.screen_text.specs.declared.cause.Cause.{Cause}
 use Rattle.screen_text.specs.declared.cause.TextFault.{TextFault}
 use Rattle.screen_text.specs.Bytes.{is_blank, trimmed}
+use Rattle.screen_text.specs.Headings.{listed_line, listed_lines}
 use Rattle.screen_text.specs.Screens.{line_text, screen_lines}
 use Rattle.screen_text.specs.Reading.{State, Refuses, RefusesText, with_text, with_texts, then_read}
 
--- where the rest of a screen is blank no line comes any more, and else the next
+-- if the rest of a screen is blank no line comes any more, and else the next
 pub lines_end : (n : ℕ) (bytes : List ℕ) → is_blank bytes ≡ true → flat_map line_text (screen_lines n bytes) ≡ []
 unfolding screen_lines
 lines_end n bytes e = grind arith
@@ -63,3 +64,17 @@ takes_end r s cause bs i d below e x8 = grind (arith, fronted, texts_end)
 pub takes_all : (r : Result State TextFault) (s : State) (bs : List (Bor (List ℕ))) (i : ℕ) → length bs ≤ i → r ≡ with_texts (i + 1) s (map (λ x. x.now) (drop i bs)) → r ≡ Ok s
 unfolding with_texts
 takes_all r s bs i end e = e ∙ ap (λ l. with_texts (i + 1) s (map (λ x. x.now) l)) (drop_all i bs end)
+
+-- what is listed of all lines is what is listed already, and what is listed of the others
+lines_listed : (line : ℕ) (text : List ℕ) (texts : List (List ℕ)) → listed_lines line (text ∷ texts) ≡ listed_line line text ++ listed_lines (line + 1) texts
+unfolding listed_lines
+lines_listed line text texts = refl
+
+pub lists_more : (all listing : List ℕ) (bs : List (Bor (List ℕ))) (i : ℕ) (d : Bor (List ℕ)) → i < length bs → listing ++ listed_lines (i + 1) (map (λ x. x.now) (drop i bs)) ≡ all →
+    (listing ++ listed_line (i + 1) (get_or bs i d).now) ++ listed_lines (i + 1 + 1) (map (λ x. x.now) (drop (i + 1) bs)) ≡ all
+lists_more all listing bs i d below e = grind (arith, fronted, lines_listed, append_assoc)
+
+pub lists_all : (all listing : List ℕ) (bs : List (Bor (List ℕ))) (i : ℕ) → length bs ≤ i → listing ++ listed_lines (i + 1) (map (λ x. x.now) (drop i bs)) ≡ all → listing ≡ all
+unfolding listed_lines
+lists_all all listing bs i end e =
+    sym (append-nil listing) ∙ ap (λ l. listing ++ listed_lines (i + 1) (map (λ x. x.now) l)) (sym (drop_all i bs end)) ∙ e

@@ -22,7 +22,7 @@ trimmed (b ∷ bs) = if is_blank (b ∷ bs) then [] else b ∷ trimmed bs
 unfoldable pub is_text : ℕ → Bool
 is_text b = nat_le 32 b && nat_le b 126
 
--- a line's first byte that is neither a tab nor text, 0 where there is none
+-- a line's first byte that is neither a tab nor text, 0 if there is none
 unfoldable pub bad_byte : List ℕ → ℕ
 bad_byte [] = 0
 bad_byte (b ∷ bs) = if b == 9 || is_text b then bad_byte bs else b

@@ -3,3 +3,4 @@ pub mod Screens
 pub mod Reading
 pub mod Escapes
 pub mod Blocks
+pub mod Headings

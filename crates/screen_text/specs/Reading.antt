@@ -37,7 +37,7 @@ with_screen s number =
     else if not (nat_lt (length s.numbers) 65536) then Err NoScreen
     else Ok (record { headed = true; numbers = s.numbers ++ number ∷ []; bytes = whole s })
 
--- a line goes into the last screen; where that has sixteen, or there is none, it begins the next, if there are no headings
+-- a line goes into the last screen; if that has sixteen, or there is none, it begins the next, if there are no headings
 unfoldable pub with_line : State → List ℕ → Result State Cause
 with_line s line =
     if nat_lt 64 (length line) then Err LongLine
@@ -46,7 +46,7 @@ with_line s line =
     else if nat_lt (length s.numbers) 65535 then Ok (record s { numbers = s.numbers ++ (length s.numbers + 1) ∷ []; bytes = s.bytes ++ padded 64 line })
     else Err NoScreen
 
--- a line with escapes, where these are good
+-- a line with escapes, if these are good
 unfoldable pub with_escapes : State → Unescaped → Result State Cause
 with_escapes s u = if is_whole u then with_line s u.bytes else Err BadEscape
 

@@ -25,7 +25,7 @@ fn put_at(bytes: &mut [u8], start: usize, part: &[u8])
     put_first(&mut bytes[start..], part);
 }
 
-/// Writes a screen into a block file, which grows with blanks where it must.
+/// Writes a screen into a block file, which grows with blanks if it must.
 fn put_screen(file: &mut Vec<u8>, number: u16, bytes: &[u8]) -> Result<(), AllocError>
     requires { length bytes.now ≡ 1024 }
     ensures { OnOk result

@@ -38,7 +38,7 @@ fn may_stand(byte: u8) -> bool
     byte == b'\t' || is_text(byte)
 }
 
-/// A line's first byte that is neither a tab nor text, 0 where there is none.
+/// A line's first byte that is neither a tab nor text, 0 if there is none.
 pub fn bad_byte(line: &[u8]) -> u8
     ensures { result ≡ bad_byte line.now }
 {
@@ -73,7 +73,7 @@ pub fn trimmed(line: &[u8]) -> &[u8]
     &[]
 }
 
-/// The first line of a screen: 64 bytes, or all where there are fewer.
+/// The first line of a screen: 64 bytes, or all if there are fewer.
 #[tactic(auto, using(crate::proofs::Lines::taken_front, crate::proofs::Lines::taken_all))]
 pub fn first_line(bytes: &[u8]) -> &[u8]
     ensures { result.now ≡ take 64 bytes.now }

@@ -28,7 +28,7 @@ pub fn has_mark(line: &[u8]) -> bool
     }
 }
 
-/// What digits come to, or 65,536 where that is above.
+/// What digits come to, or 65,536 if that is above.
 #[tactic(auto, unfolding(crate::specs::Reading::number_of))]
 fn number_of(digits: &[u8]) -> u32
     ensures value { result ≡ number_of digits.now }

@@ -20,7 +20,7 @@ pub const SCREEN: usize = 1024;
 /// The last screen that a block file can have.
 const LAST_SCREEN: usize = 65535;
 
-/// Lack of memory, where no line is at fault.
+/// Lack of memory, if no line is at fault.
 const OUT_OF_MEMORY: TextFault = TextFault {
     line: 0,
     cause: Cause::OutOfMemory,
@@ -268,7 +268,7 @@ fn without_end(line: &[u8]) -> &[u8]
 
 /// The lines of a text.
 #[tactic(auto, unfolding(crate::specs::Reading::text_lines), using(crate::proofs::Splitting::first_line, crate::proofs::Splitting::takes_some))]
-fn lines_of(alloc: Global, text: &[u8]) -> Result<Vec<&[u8]>, AllocError>
+pub fn lines_of(alloc: Global, text: &[u8]) -> Result<Vec<&[u8]>, AllocError>
     ensures { IfOk result (λ v. map (λ x. x.now) v.items ≡ text_lines text.now) }
 {
     let mut lines = Vec::new(alloc);

@@ -1,4 +1,4 @@
--- What is printed where a container isn't read or written.
+-- What is printed if a container isn't read or written.
 use Rattle.std.proofs.Common.{◌≡◌, ◌≢◌, ℕ, List, Option, Some, codes, unwrap_or, refl, sym, subst}
 use Rattle.containers.specs.declared.cause.Cause.{Cause}
 use Rattle.containers.specs.declared.cause.Cause.TheVariants as container

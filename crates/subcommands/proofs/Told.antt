@@ -3,7 +3,7 @@ use Rattle.std.proofs.Common.{◌≡◌, ◌≢◌, ◌↔◌, ◌⊎◌, ◌∙
 use Rattle.std.specs.declared.alloc.Global.{Global}
 use Rattle.dictionary.specs.Search.{sought}
 use Rattle.subcommands.specs.Causes.{IsNoFile, image_cause}
-use Rattle.subcommands.specs.Lines.{memory_of, line, EndsSeen, EndsViewed, Prints, PrintsOutOfMemory, PrintsRefusal, PrintsSeen, PrintsViewed}
+use Rattle.subcommands.specs.Lines.{memory_of, as_line, EndsSeen, EndsViewed, Prints, PrintsOutOfMemory, PrintsRefusal, PrintsSeen, PrintsViewed}
 use Rattle.image_loader.specs.Files.{Contents, IsCutShort, IsFollowed, HasBadMagic, HasBadVersion, HasBadBuffers, HasBadSize}
 use Rattle.image_loader.specs.declared.fault.ImageFault.{ImageFault}
 use Rattle.image_loader.specs.declared.fault.ImageFault.TheVariants as fault
@@ -28,8 +28,8 @@ pub seen_none : (file : Contents) (name : List ℕ) (status : ℕ) (old new : Op
 seen_none file name status old new printed = record { answer = Err OutOfMemory; is_seen = tt; printed = printed }
 
 -- the text that SEE answered was printed on a line
-pub said : (text : Vec ℕ Global) (bytes name : List ℕ) (status : ℕ) (old new : Option (List ℕ)) → bytes ≡ text.items → Prints (line bytes) 0 status old new → PrintsSeen name (Ok text) status old new
-said text bytes name status old new same printed = subst (λ (b : List ℕ). Prints (line b) 0 status old new) same printed
+pub said : (text : Vec ℕ Global) (bytes name : List ℕ) (status : ℕ) (old new : Option (List ℕ)) → bytes ≡ text.items → Prints (as_line bytes) 0 status old new → PrintsSeen name (Ok text) status old new
+said text bytes name status old new same printed = subst (λ (b : List ℕ). Prints (as_line b) 0 status old new) same printed
 
 pub told : (file : Contents) (m name typed : List ℕ) (answer : Result ℕ ViewRefused) (status : ℕ) (old new : Option (List ℕ))
     → m ≡ memory_of file → typed ≡ name → answer ≡ viewed m (sought m typed) → PrintsViewed name answer status old new ⊎ PrintsOutOfMemory status old new

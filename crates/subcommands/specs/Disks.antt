@@ -26,7 +26,7 @@ PrintsCause cause status old new = PrintsRefusal (codes "container") (container_
 abbrev pub PrintsUnread : Option Cause → (status : ℕ) → (old new : Option (List ℕ)) → Type 0
 PrintsUnread why status old new = PrintsCause (unwrap_or why container.OutOfMemory) status old new
 
--- these bytes are the screens that lie in the container, made text where that is wanted
+-- these bytes are the screens that lie in the container, made text if that is wanted
 pub record IsImported (l : Layout) (container : List ℕ) (cleans : Bool) (bytes : List ℕ) : Type 0 where
   pub screens : List ℕ
   pub read : IsRead l container screens

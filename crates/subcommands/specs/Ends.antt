@@ -3,7 +3,7 @@ use Rattle.std.specs.Prelude.{◌≡◌, ◌⊎◌, ℕ, Bool, true, false, List
 use Rattle.block_buffers.specs.DeviceCalls.{DeviceCall}
 use Rattle.subcommands.specs.Lines.{PrintsOutOfMemory}
 
--- status 1, or 5 where the writer failed
+-- status 1, or 5 if the writer failed
 abbrev pub IsRefusal : (status : ℕ) → (failed : Bool) → Type 0
 IsRefusal status failed = (status ≡ 1) ⊎ ((status ≡ 5) × (failed ≡ true))
 

@@ -2,7 +2,7 @@
 use Rattle.std.specs.Prelude.{◌⊎◌, ℕ, List, Vec}
 use Rattle.std.specs.declared.alloc.Global.{Global}
 use Rattle.memory.specs.Bytes.{IsCount, limit_of}
-use Rattle.machine.specs.State.{start}
+use Rattle.machine.specs.State.{loaded_state}
 use Rattle.image_builder.specs.Items.{Items}
 use Rattle.block_buffers.specs.DeviceCalls.{DeviceCall}
 use Rattle.block_buffers.specs.Disks.{Disk}
@@ -31,4 +31,4 @@ IsBuilding count d from to done =
 abbrev pub OfBuilt : (Items → List ℕ → Type 0) → Type 0
 OfBuilt Of =
     (buffers : ℕ) → IsCount buffers → (d : Disk) (from to count : ℕ) (image : Contents) (done : Done)
-    (b : IsBuiltOf buffers d from to image done) → Of b.items (start image count).parts.memory
+    (b : IsBuiltOf buffers d from to image done) → Of b.items (loaded_state image count).parts.memory

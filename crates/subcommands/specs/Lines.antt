@@ -20,25 +20,25 @@ use Rattle.see.specs.declared.refusal.SeeRefused.TheVariants as see
 use Rattle.see.specs.declared.refusal.ViewRefused.{ViewRefused}
 
 -- a text and a line feed
-abbrev pub line : List ℕ → List ℕ
-line text = text ++ 10 ∷ []
+abbrev pub as_line : List ℕ → List ℕ
+as_line text = text ++ 10 ∷ []
 
 -- just this line was printed, and the program's status is the wanted one
 abbrev pub Prints : List ℕ → (wanted status : ℕ) → (old new : Option (List ℕ)) → Type 0
 Prints bytes wanted status old new = (status ≡ wanted) × Appends old new bytes
 
 abbrev pub PrintsOutOfMemory : (status : ℕ) → (old new : Option (List ℕ)) → Type 0
-PrintsOutOfMemory status old new = Prints (line (codes "out of memory")) 1 status old new
+PrintsOutOfMemory status old new = Prints (as_line (codes "out of memory")) 1 status old new
 
 -- `WHAT: CAUSE`
 abbrev pub refusal : (what cause : List ℕ) → List ℕ
-refusal what cause = what ++ (codes ": " ++ line cause)
+refusal what cause = what ++ (codes ": " ++ as_line cause)
 
 -- status 1, and `WHAT: CAUSE` was printed
 abbrev pub PrintsRefusal : (what cause : List ℕ) → (status : ℕ) → (old new : Option (List ℕ)) → Type 0
 PrintsRefusal what cause status old new = Prints (refusal what cause) 1 status old new
 
--- where the bytes are no image's file, it was printed why
+-- if the bytes are no image's file, it was printed why
 abbrev pub PrintsNoImage : List ℕ → (status : ℕ) → (old new : Option (List ℕ)) → Type 0
 PrintsNoImage bytes status old new =
     (fault : ImageFault) → IsNoFile bytes fault → PrintsRefusal (codes "image") (image_cause fault) status old new
@@ -47,7 +47,7 @@ PrintsNoImage bytes status old new =
 abbrev pub IsOfImage : List ℕ → Type 0
 IsOfImage bytes = (image : Contents) × IsFile bytes image
 
--- where the bytes are an image's file: of the image
+-- if the bytes are an image's file: of the image
 abbrev pub OfImageFile : List ℕ → (Contents → Type 0) → Type 0
 OfImageFile bytes Of = (image : Contents) → IsFile bytes image → Of image
 
@@ -57,7 +57,7 @@ memory_of image = front_put image.bytes zeros
 
 -- `screen S offset O: CAUSE`, with some spelling of the cause
 abbrev pub fault_line : (screen offset : ℕ) → List ℕ → List ℕ
-fault_line screen offset cause = codes "screen " ++ (decimal screen ++ (codes " offset " ++ (decimal offset ++ (codes ": " ++ line cause))))
+fault_line screen offset cause = codes "screen " ++ (decimal screen ++ (codes " offset " ++ (decimal offset ++ (codes ": " ++ as_line cause))))
 
 -- status 1, and where and why a source is refused was printed
 abbrev pub PrintsFault : (screen offset : ℕ) → Cause → (status : ℕ) → (old new : Option (List ℕ)) → Type 0
@@ -77,7 +77,7 @@ EndsUnbuilt count d from to done status old new =
 
 -- `size S entry E`
 abbrev pub image_line : Contents → List ℕ
-image_line image = codes "size " ++ (decimal (length image.bytes) ++ (codes " entry " ++ line (decimal image.entry)))
+image_line image = codes "size " ++ (decimal (length image.bytes) ++ (codes " entry " ++ as_line (decimal image.entry)))
 
 -- these bytes are the file that is written of this image, and this was printed
 pub record IsFileOf (image : Contents) (said : List ℕ) (bytes : List ℕ) (old new : Option (List ℕ)) : Type 0 where
@@ -91,7 +91,7 @@ pub record IsTold (bytes : List ℕ) (old new : Option (List ℕ)) : Type 0 wher
 
 -- `size S buffers N`
 abbrev pub upgrade_line : Contents → List ℕ
-upgrade_line image = codes "size " ++ (decimal (length image.bytes) ++ (codes " buffers " ++ line (decimal image.buffers)))
+upgrade_line image = codes "size " ++ (decimal (length image.bytes) ++ (codes " buffers " ++ as_line (decimal image.buffers)))
 
 -- how many buffers an image is upgraded for: as many as are given, or as many as it has
 abbrev pub new_buffers : Contents → Option ℕ → ℕ
@@ -119,12 +119,12 @@ IsUpgraded bytes image old new = IsFileOf image (upgrade_line image) bytes old n
 
 -- the number of a screen was printed, or why there is none
 abbrev pub PrintsViewed : (name : List ℕ) → Result ℕ ViewRefused → (status : ℕ) → (old new : Option (List ℕ)) → Type 0
-PrintsViewed name (Ok screen) status old new = Prints (line (decimal screen)) 0 status old new
+PrintsViewed name (Ok screen) status old new = Prints (as_line (decimal screen)) 0 status old new
 PrintsViewed name (Err why) status old new = PrintsRefusal name (view_cause why) status old new
 
 -- the text of a word was printed, or why there is none
 abbrev pub PrintsSeen : (name : List ℕ) → Result (Vec ℕ Global) SeeRefused → (status : ℕ) → (old new : Option (List ℕ)) → Type 0
-PrintsSeen name (Ok text) status old new = Prints (line text.items) 0 status old new
+PrintsSeen name (Ok text) status old new = Prints (as_line text.items) 0 status old new
 PrintsSeen name (Err see.OutOfMemory) status old new = PrintsOutOfMemory status old new
 PrintsSeen name (Err why) status old new = PrintsRefusal name (see_cause why) status old new
 

@@ -3,7 +3,7 @@ use Rattle.std.specs.Prelude.{ℕ}
 use Rattle.inner_interpreter.specs.declared.stop.Stop.{Stop}
 use Rattle.inner_interpreter.specs.declared.stop.Stop.TheVariants as stop
 
--- 0 where the program ended, 3 a fault, 4 the limit, 5 an end that failed
+-- 0 if the program ended, 3 a fault, 4 the limit, 5 an end that failed
 abbrev pub status_of : Stop → ℕ
 status_of stop.Bye = 0
 status_of stop.InputEnded = 0

@@ -8,12 +8,13 @@ use Rattle.device_text.specs.declared.pages.PageCause.{PageCause}
 use Rattle.device_text.specs.declared.pages.PageCause.TheVariants as page
 use Rattle.device_text.specs.declared.pages.Unprinted.{Unprinted}
 use Rattle.screen_text.specs.Blocks.{with_screens}
+use Rattle.screen_text.specs.Headings.{listed_headings}
 use Rattle.screen_text.specs.Reading.{State, whole}
 use Rattle.screen_text.specs.Screens.{screens_of}
 use Rattle.screen_text.specs.declared.cause.Cause.{Cause}
 use Rattle.screen_text.specs.declared.cause.Cause.TheVariants as text
 use Rattle.screen_text.specs.declared.cause.TextFault.{TextFault}
-use Rattle.subcommands.specs.Lines.{Prints, PrintsOutOfMemory, line}
+use Rattle.subcommands.specs.Lines.{Prints, PrintsOutOfMemory, as_line}
 
 abbrev pub page_cause : PageCause → List ℕ
 page_cause page.Device = codes "Device"
@@ -32,7 +33,7 @@ text_cause text.OutOfMemory = codes "out of memory"
 
 -- `screen S line L: CAUSE`
 abbrev pub screen_line : (screen place : ℕ) → List ℕ → List ℕ
-screen_line screen place cause = codes "screen " ++ (decimal screen ++ (codes " line " ++ (decimal place ++ (codes ": " ++ line cause))))
+screen_line screen place cause = codes "screen " ++ (decimal screen ++ (codes " line " ++ (decimal place ++ (codes ": " ++ as_line cause))))
 
 -- the text was printed, or why there is none
 abbrev pub PrintsText : Result (List ℕ) Unprinted → (status : ℕ) → (old new : Option (List ℕ)) → Type 0
@@ -60,7 +61,7 @@ file_of blocks = flat_map (λ b. b) blocks
 
 -- `line L: CAUSE`
 abbrev pub numbered_line : (place : ℕ) → List ℕ → List ℕ
-numbered_line place cause = codes "line " ++ (decimal place ++ (codes ": " ++ line cause))
+numbered_line place cause = codes "line " ++ (decimal place ++ (codes ": " ++ as_line cause))
 
 -- why a text isn't written was printed
 abbrev pub PrintsUnwritten : Result State TextFault → (status : ℕ) → (old new : Option (List ℕ)) → Type 0
@@ -70,3 +71,7 @@ PrintsUnwritten (Err fault) status old new = Prints (numbered_line fault.line (t
 -- the same, or that memory ran out
 abbrev pub EndsUnwritten : Result State TextFault → (status : ℕ) → (old new : Option (List ℕ)) → Type 0
 EndsUnwritten reading status old new = PrintsUnwritten reading status old new ⊎ PrintsOutOfMemory status old new
+
+-- the headings of a text were printed, or that memory ran out
+abbrev pub EndsHeadings : (text : List ℕ) → (status : ℕ) → (old new : Option (List ℕ)) → Type 0
+EndsHeadings text status old new = Prints (listed_headings text) 0 status old new ⊎ PrintsOutOfMemory status old new

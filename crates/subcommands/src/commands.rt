@@ -9,7 +9,7 @@ ghost use Rattle.subcommands.specs.Kernel.{filled, blocks_of};
 ghost use Rattle.subcommands.specs.Images.{IsBuilding, IsBuiltFile, IsFileOfRead};
 ghost use Rattle.subcommands.specs.Causes.{build_cause, image_cause};
 ghost use Rattle.subcommands.specs.Ends.{IsRefusal};
-ghost use Rattle.subcommands.specs.Lines.{EndsUnbuilt, EndsViewed, IsFileOf, IsTold, OfImageFile, Prints, PrintsNoImage, PrintsFault, PrintsOutOfMemory, PrintsRefusal, fault_line, image_line, line};
+ghost use Rattle.subcommands.specs.Lines.{EndsUnbuilt, EndsViewed, IsFileOf, IsTold, OfImageFile, Prints, PrintsNoImage, PrintsFault, PrintsOutOfMemory, PrintsRefusal, fault_line, image_line, as_line};
 ghost use Rattle.subcommands.specs.Statuses.{status_of};
 ghost use Rattle.image_loader.specs.Files.{IsWritten};
 ghost use Rattle.image_loader.specs.declared.fault.ImageFault.{ImageFault};
@@ -66,7 +66,7 @@ pub fn status_of(stop: Stop) -> u8
     }
 }
 
-/// Prints a text, and ends with the status, or with 5 where the text can't be written.
+/// Prints a text, and ends with the status, or with 5 if the text can't be written.
 pub fn print<W: Output>(writer: &mut W, text: &[u8], status: u8) -> Ended
     ensures printed { W.failed writer.new ≡ false →
         Prints text.now status result.status (W.sent writer.old) (W.sent writer.new) }
@@ -123,12 +123,12 @@ pub fn refuse_image<W: Output>(fault: ImageFault, writer: &mut W) -> Ended
     refuse("image", fault, writer)
 }
 
-/// Makes the block file with the kernel's sources, of 64 blocks. Status 0; without a file 1, where memory ran out, or 5,
-/// where that can't be printed.
+/// Makes the block file with the kernel's sources, of 64 blocks. Status 0; without a file 1, if memory ran out, or 5,
+/// if that can't be printed.
 pub fn do_kernel<W: Output>(alloc: Global, writer: &mut W) -> Ended
     ensures file { MatchOption result.file (0 < result.status)
         (λ file. (result.status ≡ 0) × (file.items ≡ filled 65536 (blocks_of TEXT.now))) }
-    // Beside the file nothing is printed; where there is none, that memory ran out.
+    // Beside the file nothing is printed; if there is none, that memory ran out.
     ensures silent { IsSome result.file → writer.new ≡ writer.old }
     ensures wanting { W.failed writer.new ≡ false → IsNone result.file →
         PrintsOutOfMemory result.status (W.sent writer.old) (W.sent writer.new) }
@@ -231,13 +231,13 @@ pub fn do_build<W: Output, D: Device>(
     // A device that reports its disk did as that disk.
     ensures like { (d : Disk) → D.disk device.old ≡ Some d →
         IsLike d (D.disk device.new) (D.block_count device.old) (D.calls device.old) (D.calls device.new) }
-    // Where there is a file, its line is printed; where there is none, it is printed why.
+    // If there is a file, its line is printed; if there is none, it is printed why.
     ensures told { W.failed writer.new ≡ false →
         IfSome result.file (λ file. IsTold file.items (W.sent writer.old) (W.sent writer.new)) }
     ensures refused { W.failed writer.new ≡ false → IsNone result.file →
         ForDisks (D.block_count device.old) (D.calls device.old) (D.calls device.new) (λ d done.
         EndsUnbuilt buffers d from to done result.status (W.sent writer.old) (W.sent writer.new)) }
-    // Where a line can't be printed, there is no file.
+    // If a line can't be printed, there is no file.
     ensures passed { W.failed writer.new ≡ false → W.passed writer.new ≡ true }
     ensures cut { W.failed writer.old ≡ false → W.failed writer.new ≡ true → (result.status ≡ 5) × IsNone result.file }
 {
@@ -250,7 +250,7 @@ pub fn do_build<W: Output, D: Device>(
 /// Sends a number on a line.
 #[tactic(auto, using(inner_interpreter::proofs::Sending::appends_both))]
 fn send_number<W: Output>(writer: &mut W, number: u16) -> Result<(), EndFault>
-    ensures sent { OnOk result (Appends (W.sent writer.old) (W.sent writer.new) (line (decimal number))) }
+    ensures sent { OnOk result (Appends (W.sent writer.old) (W.sent writer.new) (as_line (decimal number))) }
     ensures passed { OnOk result (W.passed writer.new ≡ true) }
     ensures mark { Marks (W.failed writer.old) (W.failed writer.new) result }
 {
@@ -261,7 +261,7 @@ fn send_number<W: Output>(writer: &mut W, number: u16) -> Result<(), EndFault>
 /// Prints a number on a line.
 fn print_number<W: Output>(number: u16, writer: &mut W) -> Ended
     ensures printed { W.failed writer.new ≡ false →
-        Prints (line (decimal number)) 0 result.status (W.sent writer.old) (W.sent writer.new) }
+        Prints (as_line (decimal number)) 0 result.status (W.sent writer.old) (W.sent writer.new) }
     ensures passed { W.failed writer.new ≡ false → W.passed writer.new ≡ true }
     ensures cut { W.failed writer.old ≡ false → W.failed writer.new ≡ true → result.status ≡ 5 }
     ensures file { IsNone result.file }
@@ -273,11 +273,11 @@ fn print_number<W: Output>(number: u16, writer: &mut W) -> Ended
 /// Prints the number of the screen in which an image's word was made. Status 0; 1: the bytes are no image (`image: CAUSE` is
 /// printed), the name isn't found (`NAME: CAUSE`) or memory ran out; 5: the line can't be printed.
 pub fn do_view<W: Output>(alloc: Global, image: &[u8], name: &str, writer: &mut W) -> Ended
-    // Where the bytes are an image's file, the word's screen is printed, or why there is none.
+    // If the bytes are an image's file, the word's screen is printed, or why there is none.
     ensures viewed { W.failed writer.new ≡ false →
         OfImageFile image.now
         (λ file. EndsViewed file name.now result.status (W.sent writer.old) (W.sent writer.new)) }
-    // Where they are none, it is printed why.
+    // If they are none, it is printed why.
     ensures refused { W.failed writer.new ≡ false →
         PrintsNoImage image.now result.status (W.sent writer.old) (W.sent writer.new) }
     ensures passed { W.failed writer.new ≡ false → W.passed writer.new ≡ true }

@@ -46,7 +46,7 @@ pub fn refuse_container<W: Output>(why: Cause, writer: &mut W) -> Ended
     refuse("container", why, writer)
 }
 
-/// The screens of a container, made text where that is wanted.
+/// The screens of a container, made text if that is wanted.
 fn imported(
     alloc: Global,
     layout: &Layout,
@@ -63,7 +63,7 @@ fn imported(
     Ok(screens)
 }
 
-/// Reads the screens of a container as the bytes of a file of blocks, made text where that is wanted. Status 0, with these bytes. Without a file 1: the
+/// Reads the screens of a container as the bytes of a file of blocks, made text if that is wanted. Status 0, with these bytes. Without a file 1: the
 /// container isn't read (`container: CAUSE` is printed) or memory ran out; 5: that can't be printed.
 #[tactic(auto, using(crate::proofs::Refusing::unread_printed))]
 pub fn do_import<W: Output>(
@@ -75,7 +75,7 @@ pub fn do_import<W: Output>(
 ) -> Ended
     ensures file { MatchOption result.file (0 < result.status)
         (λ file. (result.status ≡ 0) × IsImported layout.now container.now cleans file.items) }
-    // Beside the file nothing is printed; where there is none, it is printed why.
+    // Beside the file nothing is printed; if there is none, it is printed why.
     ensures silent { IsSome result.file → writer.new ≡ writer.old }
     ensures refused { W.failed writer.new ≡ false → IsNone result.file →
         PrintsUnread (unread layout.now container.now) result.status (W.sent writer.old) (W.sent writer.new) }
@@ -88,7 +88,7 @@ pub fn do_import<W: Output>(
     }
 }
 
-/// Writes the bytes of a file of blocks into those of a container, where all else stays. Status 0, with the bytes of the
+/// Writes the bytes of a file of blocks into those of a container, if all else stays. Status 0, with the bytes of the
 /// container. Without a file 1: they aren't written (`container: CAUSE` is printed); 5: that can't be printed.
 #[tactic(auto, using(crate::proofs::Refusing::unwritten_printed))]
 pub fn do_export<W: Output>(
@@ -102,7 +102,7 @@ pub fn do_export<W: Output>(
         (λ file. (result.status ≡ 0) × IsWritten layout.now screens.now container.items file.items) }
     // A file is made unless something is wrong.
     ensures done { unwritten layout.now screens.now container.items ≡ None → IsSome result.file }
-    // Beside the file nothing is printed; where there is none, it is printed why.
+    // Beside the file nothing is printed; if there is none, it is printed why.
     ensures silent { IsSome result.file → writer.new ≡ writer.old }
     ensures refused { W.failed writer.new ≡ false → IsNone result.file →
         PrintsUnread (unwritten layout.now screens.now container.items) result.status (W.sent writer.old) (W.sent writer.new) }

@@ -14,7 +14,7 @@ ghost use Rattle.see.specs.View.{viewed};
 ghost use Rattle.see.specs.declared.refusal.ViewRefused.TheVariants.{NotFound};
 
 /// In the memory that an image is loaded to which `build` answers, `view` says the screen of a name: of the newest item
-/// that is spelled so in the last current vocabulary, else in FORTH. Where there is none the name isn't found.
+/// that is spelled so in the last current vocabulary, else in FORTH. If there is none the name isn't found.
 pub fn view_law()
     ensures there { OfBuilt (λ items m. (name : List ℕ) (p : Place) → 0 < length name → titled name items ≡ Some p →
         viewed m (sought m name) ≡ Ok p.screen) }

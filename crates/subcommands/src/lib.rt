@@ -21,5 +21,5 @@ pub use container_command::{do_export, do_import, refuse_container};
 pub use kernel_text::TEXT;
 pub use see_command::do_see;
 pub use sends::send_numbered;
-pub use text_command::{do_new, do_screens, do_text};
+pub use text_command::{do_headings, do_new, do_screens, do_text};
 pub use upgrade_command::do_upgrade;

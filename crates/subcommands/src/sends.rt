@@ -60,7 +60,7 @@ pub fn send_refusal<C: Reason, W: Output>(
     end_line(writer)
 }
 
-/// The end of a subcommand that printed a line, and makes no file: with this status, or with 5 where the line couldn't be
+/// The end of a subcommand that printed a line, and makes no file: with this status, or with 5 if the line couldn't be
 /// written.
 pub fn ended(sent: Result<(), EndFault>, status: u8) -> Ended
     ensures ok { OnOk sent (result.status ≡ status) }

@@ -13,7 +13,7 @@ ghost use Rattle.screen_text.specs.declared.cause.Cause.{Cause};
 ghost use Rattle.inner_interpreter.specs.Ends.{Marks};
 ghost use Rattle.subcommands.specs.Ends.{IsRefusal};
 ghost use Rattle.subcommands.specs.Lines.{Prints, PrintsOutOfMemory};
-ghost use Rattle.subcommands.specs.Texts.{EndsText, EndsUnwritten, HasPrinted, HasScreens, numbered_line, page_cause, screen_line, text_cause};
+ghost use Rattle.subcommands.specs.Texts.{EndsHeadings, EndsText, EndsUnwritten, HasPrinted, HasScreens, numbered_line, page_cause, screen_line, text_cause};
 
 use crate::causes::Reason;
 use crate::commands::{Ended, end_with_file, print, print_out_of_memory};
@@ -21,7 +21,7 @@ use crate::sends::{end_line, ended, send_decimal, send_numbered};
 use block_buffers::{BLOCK_SIZE, Device};
 use device_text::{PageCause, Unprinted, pages_text};
 use inner_interpreter::{EndFault, Output, send_all};
-use screen_text::{Cause, TextFault, put_screens, read_text};
+use screen_text::{Cause, TextFault, list_headings, put_screens, read_text};
 use std::alloc::{AllocError, Global};
 
 impl Reason for PageCause {
@@ -155,12 +155,12 @@ fn refuse_text<W: Output>(fault: TextFault, writer: &mut W) -> Ended
 }
 
 /// Writes the screens of a text into the bytes of a block file: those that the text names, and no other; it grows with
-/// blanks where it must. Status 0, with the bytes of the new file. Without a file 1: the text is refused (`line L: CAUSE` is
+/// blanks if it must. Status 0, with the bytes of the new file. Without a file 1: the text is refused (`line L: CAUSE` is
 /// printed) or memory ran out; 5: that can't be printed.
 pub fn do_screens<W: Output>(alloc: Global, blocks: Vec<u8>, text: &[u8], writer: &mut W) -> Ended
     ensures file { MatchOption result.file (0 < result.status)
         (λ file. (result.status ≡ 0) × HasScreens (read text.now) blocks.items file.items) }
-    // Beside the file nothing is printed; where there is none, it is printed why.
+    // Beside the file nothing is printed; if there is none, it is printed why.
     ensures silent { IsSome result.file → writer.new ≡ writer.old }
     ensures refused { W.failed writer.new ≡ false → IsNone result.file →
         EndsUnwritten (read text.now) result.status (W.sent writer.old) (W.sent writer.new) }
@@ -177,6 +177,20 @@ pub fn do_screens<W: Output>(alloc: Global, blocks: Vec<u8>, text: &[u8], writer
     }
 }
 
+/// Prints the headings of a text, each as a line: the number of its screen, and that of its line. Status 0; 1: memory ran out; 5: they can't be printed.
+pub fn do_headings<W: Output>(alloc: Global, text: &[u8], writer: &mut W) -> Ended
+    ensures printed { W.failed writer.new ≡ false →
+        EndsHeadings text.now result.status (W.sent writer.old) (W.sent writer.new) }
+    ensures passed { W.failed writer.new ≡ false → W.passed writer.new ≡ true }
+    ensures cut { W.failed writer.old ≡ false → W.failed writer.new ≡ true → result.status ≡ 5 }
+    ensures file { IsNone result.file }
+{
+    match list_headings(alloc, text) {
+        Ok(listing) => print(writer, listing.as_slice(), 0),
+        Err(_) => print_out_of_memory(writer),
+    }
+}
+
 /// Blank blocks.
 #[tactic(auto, unfolding(crate::specs::Kernel::blanks))]
 fn blank_blocks(alloc: Global, count: u32) -> Result<Vec<u8>, AllocError>
@@ -186,13 +200,13 @@ fn blank_blocks(alloc: Global, count: u32) -> Result<Vec<u8>, AllocError>
     vec![in alloc; b' '; BLOCK_SIZE * count as usize]
 }
 
-/// Makes a block file of `count` blank screens. Status 0; without a file 1, where memory ran out, or 5, where that can't be
+/// Makes a block file of `count` blank screens. Status 0; without a file 1, if memory ran out, or 5, if that can't be
 /// printed.
 pub fn do_new<W: Output>(alloc: Global, count: u32, writer: &mut W) -> Ended
     requires { count ≤ 65536 }
     ensures file { MatchOption result.file (0 < result.status)
         (λ file. (result.status ≡ 0) × (file.items ≡ blanks (1024 * count))) }
-    // Beside the file nothing is printed; where there is none, that memory ran out.
+    // Beside the file nothing is printed; if there is none, that memory ran out.
     ensures silent { IsSome result.file → writer.new ≡ writer.old }
     ensures wanting { W.failed writer.new ≡ false → IsNone result.file →
         PrintsOutOfMemory result.status (W.sent writer.old) (W.sent writer.new) }

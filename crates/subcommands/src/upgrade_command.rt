@@ -118,7 +118,7 @@ pub fn do_upgrade<W: Output>(
 ) -> Ended
     requires { IfSome buffers (λ count. IsCount count) }
     ensures status { MatchOption result.file (0 < result.status) (λ _. result.status ≡ 0) }
-    // Where the bytes are an image's file, the new one is that of the same entry and bytes; where these reach too far, that
+    // If the bytes are an image's file, the new one is that of the same entry and bytes; if these reach too far, that
     // is printed; and else that memory ran out.
     ensures upgraded { W.failed writer.new ≡ false →
         OfImageFile image.now
@@ -131,7 +131,7 @@ pub fn do_upgrade<W: Output>(
     ensures wanting { W.failed writer.new ≡ false → IsNone result.file →
         OfImageFile image.now (λ old. HasRoom old buffers →
         PrintsOutOfMemory result.status (W.sent writer.old) (W.sent writer.new)) }
-    // Where they are none, it is printed why.
+    // If they are none, it is printed why.
     ensures refused { W.failed writer.new ≡ false →
         PrintsNoImage image.now result.status (W.sent writer.old) (W.sent writer.new) }
     ensures passed { W.failed writer.new ≡ false → W.passed writer.new ≡ true }

@@ -27,4 +27,5 @@ returns c =
     let s17 = joined _ line.unpack _ _ _ s16 c.in_ok-unpack_command.ensures c.in_ok-subcommand-17.ensures in
     let s18 = joined _ line.pack _ _ _ s17 c.in_ok-pack_command.ensures c.in_ok-subcommand-18.ensures in
     let s19 = joined _ line.guess _ _ _ s18 c.in_ok-guess_command.ensures c.in_ok-subcommand-19.ensures in
-    if_ok_then c.subcommand-20.result _ _ (λ d h. (joined _ line.advise _ _ d s19 c.in_ok-advise_command.ensures h).app) c.subcommand-20.ensures
+    let s20 = joined _ line.advise _ _ _ s19 c.in_ok-advise_command.ensures c.in_ok-subcommand-20.ensures in
+    if_ok_then c.subcommand-21.result _ _ (λ d h. (joined _ line.headings _ _ d s20 c.in_ok-headings_command.ensures h).app) c.subcommand-21.ensures
