@@ -1,4 +1,4 @@
-"""The worked cases of tools/conformance/data, done by the definitions; tools/conformance/data/words.txt says how a case is written."""
+"""The worked cases of tests/cases/conformance/data, done by the definitions; tests/cases/conformance/data/words.txt says how a case is written."""
 import itertools
 import pathlib
 import re
@@ -8,7 +8,7 @@ import definition_machine as machines
 import runnable
 from definition_machine import NONE, Machine, defined
 
-DATA = pathlib.Path(__file__).resolve().parent / "conformance" / "data"
+DATA = pathlib.Path(__file__).resolve().parent.parent / "tests/cases/conformance/data"
 Line = Tuple[int, bool, str]
 
 

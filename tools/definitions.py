@@ -48,7 +48,7 @@ def imports_of(text: str) -> Dict[str, Tuple[str, str]]:
     for path, names, alias in IMPORT.findall(text):
         if alias:
             found[alias] = (path, "")
-        for name in filter(None, (part.strip() for part in names.split(","))):
+        for name in (part.strip() for part in names.split(",") if part.strip()):
             there, _, here = name.partition(" as ")
             found[here or there] = (path, there)
     return found

@@ -11,7 +11,7 @@ import tokenize
 from typing import Dict, Iterable, List, NamedTuple
 
 ROOT = pathlib.Path(__file__).resolve().parent.parent
-LIMITS = ROOT / "tools/english_limits.txt"
+LIMITS = ROOT / "tests/sources/english_limits.txt"
 
 
 class Word(NamedTuple):
@@ -57,7 +57,7 @@ ALLOWED = (
 )
 
 SUFFIXES = (".md", ".rt", ".unproved", ".antt", ".py", ".js", ".html", ".css", ".txt", ".h", ".c")
-NOT_READ = ("tools/english.py", "tools/english_cases.py", "tools/english_limits.txt", "docs/definitions.html")  # the last is made of files that are
+NOT_READ = ("tools/english.py", "tests/sources/english_cases.py", "tests/sources/english_limits.txt", "docs/definitions.html")  # the last is made of files that are
 
 
 def pattern_of(words: str) -> "re.Pattern[str]":
@@ -158,6 +158,6 @@ def limits_of(text: str) -> Dict[str, int]:
 
 def too_many(sums: Dict[str, int], limits: Dict[str, int]) -> List[str]:
     """The folders that have more than their limit; one that has no limit may have none."""
-    listed = "tools/check-english --files lists them"
+    listed = "tests/sources/check-english --files lists them"
     return [f"{folder} has {number} words of the idiom, and may have {limits.get(folder, 0)}; {listed}"
             for folder, number in sums.items() if number > limits.get(folder, 0)]

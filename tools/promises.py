@@ -91,7 +91,7 @@ GUIDE: List[Tuple[str, str, str]] = [
     ("what compiling words write, and the editor",
      "compiling_words/Code compiling_words/Laying compiling_words/Definitions primitives/Defining primitives/Compiling primitives/Editor", "the Standard, : to WHILE; EDITOR"),
     ("which number is which row", "plain_rows/Table primitives/Table",
-     "`row`; its tables are made of the headings (`tools/check-definitions --write`), which are those of [primitives.txt](primitives.txt)"),
+     "`row`; its tables are made of the headings (`tests/sources/check-definitions --write`), which are those of [primitives.txt](primitives.txt)"),
     ("a tick, an answer, lists of them",
      "machine/Tick machine/Answer machine/Entering inner_interpreter/Moves inner_interpreter/Histories inner_interpreter/Hosts inner_interpreter/Runs",
      "MACHINE.md, \"Tokens\", \"Faults\", \"Blocks\", \"Keys and lines\""),

@@ -1,4 +1,4 @@
-"""The worked states of rows in tools/conformance/data/examples.txt, with what is given and left as the fields of records."""
+"""The worked states of rows in tests/cases/conformance/data/examples.txt, with what is given and left as the fields of records."""
 import functools
 import re
 from typing import Dict, Iterator, List, NamedTuple, Set
