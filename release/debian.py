@@ -160,7 +160,7 @@ def python(source: Source) -> Package:
     """The Python module over the shared library."""
     root, name = source.root("python3-forth83"), "python3-forth83"
     for file in ("__init__.py", "py.typed"):
-        put(root / "usr/lib/python3/dist-packages/forth83" / file, (source.tree / "targets/python/forth83" / file).read_bytes())
+        put(root / "usr/lib/python3/dist-packages/forth83" / file, (source.tree / "build/targets/python/forth83" / file).read_bytes())
     for script, tool in SCRIPTS.items():
         put(root / "DEBIAN" / script, SCRIPT.format(tool=tool, package=name).encode(), 0o755)
     text = LIBRARY.format(what="This package has a Python module, with types, over the shared library.", state=source.state)

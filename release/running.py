@@ -10,7 +10,7 @@ import lowering
 from lowering import called
 
 ROOT = pathlib.Path(__file__).resolve().parent.parent
-sys.path[:0] = [str(ROOT / "tools"), str(ROOT / "commands"), str(ROOT / "targets/python")]
+sys.path[:0] = [str(ROOT / "tests/targets"), str(ROOT / "commands"), str(ROOT / "build/targets/python")]
 
 import forth83  # noqa: E402
 import target_runs  # noqa: E402

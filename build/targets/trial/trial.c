@@ -5,7 +5,7 @@
  *   trial IMAGE --measure TICKS        how deep the stack gets, and how many ticks a second an endless loop makes
  *
  * SCRIPTS has scripts, each with a byte 0 after it. All choices are made by a generator of its own, so that two builds make the same.
- * tools/check-targets runs this on each target. With BARE, as WebAssembly, there is no C library: the host calls the functions below. */
+ * tests/targets/check-targets runs this on each target. With BARE, as WebAssembly, there is no C library: the host calls the functions below. */
 #include "forth83.h"
 #ifdef BARE
 #define memset __builtin_memset

@@ -3,7 +3,7 @@ import pathlib
 import re
 from typing import Dict, List, NamedTuple, Tuple
 
-ROOT = pathlib.Path(__file__).resolve().parent.parent
+ROOT = pathlib.Path(__file__).resolve().parents[2]
 LIBRARY = ROOT / "crates/forth83_c"
 MEMORY = "memory"
 SIZES = {"u8": 1, "u16": 2, "u32": 4, "u64": 8, "usize": 8}
@@ -14,7 +14,7 @@ class Field(NamedTuple):
 
     name: str
     element: str
-    count: int
+    many: int
     place: int
 
 
@@ -76,7 +76,7 @@ def zero(element: str, known: Dict[str, Record]) -> str:
     """The value of a type that has only zeros, as Rattle's source has it."""
     if element not in known:
         return "0"
-    fields = (f"{it.name}: {array_of(zero(it.element, known), it.count)}" for it in known[element].fields)
+    fields = (f"{it.name}: {array_of(zero(it.element, known), it.many)}" for it in known[element].fields)
     return f"{MEMORY if element == 'Memory' else 'record'}::{element} {{ {', '.join(fields)} }}"
 
 

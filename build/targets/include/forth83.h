@@ -15,7 +15,7 @@
 extern "C" {
 #endif
 
-/* The version of the library, as the file VERSION has it. */
+/* The version of the library, as the file data/VERSION has it. */
 #define FORTH83_VERSION "2.0.0"
 
 /* The layout of the records below; each record that was loaded has it as `abi`. */

@@ -1,7 +1,7 @@
 """Makes the LLVM text of the machine's C library, which the libraries for other targets and the page's module are made from.
 
 The Rattle toolchain lowers the library to one LLVM module. With proofs `rt lib` does that; without them `rt try` does it, for a
-program that calls each function of the library once. Both times `rt` is one of links to the toolchain's (build/kit) whose clang
+program that calls each function of the library once. Both times `rt` is one of links to the toolchain's (build/toolchain.py) whose clang
 keeps the module. The text is kept in build/out/targets with the sum of all that it was made of.
 """
 import hashlib
@@ -17,8 +17,12 @@ from typing import Dict, List, Optional
 
 import records
 
-ROOT = pathlib.Path(__file__).resolve().parent.parent
-HERE = ROOT / "targets"
+ROOT = pathlib.Path(__file__).resolve().parents[2]
+sys.path.insert(0, str(ROOT / "build"))
+
+import toolchain  # noqa: E402
+
+HERE = ROOT / "build/targets"
 KEPT = ROOT / "build/out/targets"
 MAKERS = (HERE / "lowering.py", HERE / "records.py")
 # The prefix of the library's functions in the module of a program without proofs.
@@ -33,7 +37,7 @@ case " $* " in
       {then}
     fi ;;
 esac
-exec "{kit}/toolchain/bin/clang" "$@"
+exec "{clang}" "$@"
 """
 
 
@@ -95,23 +99,22 @@ def called(words: List[str], **how: object) -> str:
     return done.stdout
 
 
-def toolchain() -> pathlib.Path:
+def linked_rt(room: pathlib.Path, then: str) -> pathlib.Path:
+    """The `rt` of links to the toolchain whose clang keeps the module as ROOM/module.bc."""
+    try:
+        rt = toolchain.linked(room)
+        toolchain.replaced(room, toolchain.CLANG, KEEPER.format(kept=room / "module.bc", clang=toolchain.folder() / toolchain.CLANG, then=then))
+    except toolchain.Unknown as error:
+        raise Refused(str(error)) from None
+    return rt
+
+
+def folder_of_toolchain() -> pathlib.Path:
     """The folder of the Rattle toolchain."""
-    found = shutil.which("rt")
-    if not found:
-        raise Refused("there is no command rt; install the Rattle toolchain, or put its rt on PATH")
-    return pathlib.Path(os.path.realpath(found)).parent.parent
-
-
-def linked_toolchain(room: pathlib.Path, then: str) -> None:
-    """Makes links to the toolchain whose clang keeps the module as ROOM/module.bc."""
-    kit = pathlib.Path(called([str(ROOT / "build/kit"), str(room / "kit")]).strip())
-    (room / "kit/toolchain").unlink()
-    called(["cp", "-rs", str(kit / "toolchain"), str(room / "kit/toolchain")])
-    clang = room / "kit/toolchain/bin/clang"
-    clang.unlink()
-    clang.write_text(KEEPER.format(kept=room / "module.bc", kit=kit, then=then), encoding="utf-8")
-    clang.chmod(0o755)
+    try:
+        return toolchain.folder()
+    except toolchain.Unknown as error:
+        raise Refused(str(error)) from None
 
 
 def kept_module(room: pathlib.Path, said: str) -> pathlib.Path:
@@ -139,19 +142,19 @@ def copy_sources(tree: pathlib.Path) -> None:
 
 def lower_unproved(room: pathlib.Path) -> pathlib.Path:
     """The LLVM module without proofs, with all checks at run time."""
-    linked_toolchain(room, "exit 1")
+    rt = linked_rt(room, "exit 1")
     copy_sources(room / "tree")
     (room / "tried").mkdir()
     how = {**os.environ, "TMPDIR": str(room / "tried")}
-    done = subprocess.run([str(room / "kit/bin/rt"), "try"], cwd=room / "tree/crates/forth83_c", env=how, stdin=subprocess.DEVNULL,
+    done = subprocess.run([str(rt), "try"], cwd=room / "tree/crates/forth83_c", env=how, stdin=subprocess.DEVNULL,
                           capture_output=True, text=True, errors="replace", check=False)
     return kept_module(room, done.stderr)
 
 
 def lower_proved(room: pathlib.Path) -> pathlib.Path:
     """The LLVM module of the library, which is proved first where it isn't."""
-    linked_toolchain(room, ":")
-    done = subprocess.run([str(room / "kit/bin/rt"), "lib"], cwd=ROOT / "crates/forth83_c", stdin=subprocess.DEVNULL,
+    rt = linked_rt(room, ":")
+    done = subprocess.run([str(rt), "lib"], cwd=ROOT / "crates/forth83_c", stdin=subprocess.DEVNULL,
                           stdout=subprocess.PIPE, stderr=subprocess.STDOUT, text=True, errors="replace", check=False)
     if done.returncode:
         raise Refused(f"the library could not be proved and built; {kept_log(done.stdout)}")
@@ -204,7 +207,7 @@ def text_of_library(is_proved: bool) -> str:
     with tempfile.TemporaryDirectory(prefix="forth83-lowering-") as folder:
         room = pathlib.Path(folder)
         module = lower_proved(room) if is_proved else lower_unproved(room)
-        text = called([str(toolchain() / "toolchain/bin/clang"), "-Wno-override-module", "-x", "ir", str(module), "-S", "-emit-llvm", "-O0",
+        text = called([str(folder_of_toolchain() / toolchain.CLANG), "-Wno-override-module", "-x", "ir", str(module), "-S", "-emit-llvm", "-O0",
                        "-Xclang", "-disable-llvm-passes", "-o", "-"])
     # The first line names a temporary file.
     text = re.sub(r"\A; ModuleID = .*\n", "", text)
@@ -249,7 +252,7 @@ def archive_for(triple: str) -> bytes:
 
 def layout_of(triple: str) -> str:
     """The data layout that the toolchain's clang has for a target."""
-    text = called([str(toolchain() / "toolchain/bin/clang"), f"--target={triple}", "-S", "-emit-llvm", "-x", "c", "/dev/null", "-o", "-"])
+    text = called([str(folder_of_toolchain() / toolchain.CLANG), f"--target={triple}", "-S", "-emit-llvm", "-x", "c", "/dev/null", "-o", "-"])
     found = re.search(r'target datalayout = "(.*)"', text)
     if not found:
         raise Refused(f"clang says no data layout for {triple}")

@@ -1,4 +1,4 @@
-"""The targets of the machine's C library, and how the library is made for each of them: see `targets/make --help`.
+"""The targets of the machine's C library, and how the library is made for each of them: see `build/targets/make --help`.
 
 The Rattle toolchain itself compiles a proved library for Linux on x86-64 and on ARM of 64 bits. For any other target the library's
 LLVM text (lowering.py) is rewritten (retarget.py), and the toolchain's own clang compiles it. So a library needs no other compiler;
@@ -16,6 +16,7 @@ import in_c
 import lowering
 import records
 import retarget
+import toolchain
 from lowering import Refused, called
 
 HERE = lowering.HERE
@@ -49,7 +50,7 @@ TARGETS: Dict[str, Target] = {
 
 def tool(name: str) -> str:
     """A tool of the Rattle toolchain."""
-    return str(lowering.toolchain() / "toolchain/bin" / name)
+    return str(lowering.folder_of_toolchain() / toolchain.TOOLS / name)
 
 
 def sum_of(name: str, text: str) -> str:
@@ -101,7 +102,7 @@ def compile_text(room: pathlib.Path, name: str, text: str, is_proved: bool, made
         with open(other, "w", encoding="utf-8") as out:
             retarget.retarget(text.splitlines(), out, lowering.layout_of(target.triple), target.triple, None if is_proved else lowering.PREFIX, machine)
     except retarget.Unknown as error:
-        raise Refused(f"targets/retarget.py: {error}") from None
+        raise Refused(f"build/targets/retarget.py: {error}") from None
     # The text's name is in what clang makes, so it is the same in every folder.
     called([tool("clang"), f"--target={target.triple}", *target.options, "-ffunction-sections", "-fdata-sections", "-Wno-override-module",
             "-x", "ir", other.name, "-c", "-o", str(made.resolve())], cwd=room)
@@ -114,7 +115,7 @@ def portable(made: pathlib.Path, is_proved: bool) -> None:
         with open(made, "w", encoding="ascii") as out:
             in_c.write(lowering.text_of_library(is_proved), out, None if is_proved else lowering.PREFIX)
     except retarget.Unknown as error:
-        raise Refused(f"targets/in_c.py: {error}") from None
+        raise Refused(f"build/targets/in_c.py: {error}") from None
 
 
 def compile_all(names: Sequence[str], is_proved: bool) -> None:
@@ -150,7 +151,7 @@ def web_module(room: pathlib.Path, library: pathlib.Path, calls: Sequence[str] =
 
 def native(room: pathlib.Path, is_proved: bool) -> pathlib.Path:
     """The library of this computer with nothing rewritten: the archive that `rt lib` makes, or the module without proofs as it is."""
-    plain, made, runtime = room / "native.a", room / "libnative.a", lowering.toolchain() / "c/liblibc_c.a"
+    plain, made, runtime = room / "native.a", room / "libnative.a", lowering.folder_of_toolchain() / toolchain.RUNTIME
     if is_proved:
         plain.write_bytes(lowering.archive_of_toolchain())
     else:

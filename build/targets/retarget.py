@@ -16,7 +16,7 @@ processors. With `--exports` the functions whose name is PREFIX and `forth83_..`
 import argparse
 import re
 import sys
-from typing import Iterable, Iterator, List, Optional, Sequence, TextIO
+from typing import Iterable, Iterator, List, Optional, Sequence, TextIO, Union
 
 NAME = r'[%@](?:"[^"]*"|[\w.$+-]+)'
 INTEGER = r"i\d+"
@@ -222,7 +222,7 @@ def without_main(lines: Iterable[str], prefix: str) -> Iterator[str]:
 def rewritten(lines: Iterable[str], layout: str, triple: str, fast: Optional[Sequence[str]] = None) -> Iterator[str]:
     """The module's lines for the target. Where FAST names crates, others are compiled to few bytes."""
     width = width_of(layout)
-    pointers = Narrowing() if width == 32 else Widening()
+    pointers: Union[Narrowing, Widening] = Narrowing() if width == 32 else Widening()
     for number, line in enumerate(lines, 1):
         if line.startswith("target datalayout"):
             yield f'target datalayout = "{layout}"'
